@@ -1,0 +1,8 @@
+-- The words of the contracts.
+pub mod Ranges
+pub mod Table
+pub mod Spells
+pub mod Decoded
+pub mod Names
+pub mod Signed
+pub mod Vectors

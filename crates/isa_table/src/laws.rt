@@ -1,0 +1,44 @@
+//! Laws of the table, each a function with an empty body whose contract is the law.
+ghost use Rattle.std.specs.Prelude.{◌≡◌, ◌↔◌, ◌<◌, ◌^◌, ℕ, Option, Some, None};
+ghost use Rattle.std.specs.Prelude.{slice_get, map, IsTrue};
+ghost use Rattle.std.specs.List.{list_all};
+ghost use Rattle.isa_table.specs.Spells.{Spells};
+ghost use Rattle.isa_table.specs.Decoded.{decoded};
+ghost use Rattle.isa_table.specs.Table.{rows, row_of, has_fields_apart};
+ghost use Rattle.isa_table.specs.Vectors.{instr_of};
+ghost use Rattle.isa_table.specs.declared.mnemonic.Mnemonic.{Mnemonic};
+ghost use Rattle.isa_table.specs.declared.instr.Instr.{Instr};
+ghost use Rattle.isa_table.specs.declared.vectors.TheConstants.{VECTORS, UNASSIGNED};
+
+/// No word spells two instructions.
+pub fn one_instruction()
+    ensures { (word : ℕ) (i j : Instr) → Spells word i → Spells word j → i ≡ j }
+{}
+
+/// A word decodes to the instruction that it spells, and to none where it spells none.
+pub fn decoded_is_spelled()
+    ensures { (word : ℕ) (i : Instr) → word < 2 ^ 32 → (decoded word ≡ Some i) ↔ Spells word i }
+{}
+
+/// Each mnemonic has a row.
+pub fn each_mnemonic_has_a_row()
+    ensures { (m : Mnemonic) → (k : ℕ) × (slice_get rows k ≡ Some (row_of m)) }
+{}
+
+/// In each row the fields lie inside the word, apart from one another and from the fixed bits that
+/// are set.
+pub fn fields_apart()
+    ensures { IsTrue (list_all has_fields_apart rows) }
+{}
+
+/// The definitions give each word of another assembler the instruction of its text.
+#[tactic(auto, unfolding(crate::specs::Decoded::decoded))]
+pub fn vectors_met()
+    ensures { map (λ v. decoded v.word) VECTORS ≡ map (λ v. Some (instr_of v)) VECTORS }
+{}
+
+/// The definitions give no instruction to a word of the unassigned ones.
+#[tactic(auto, unfolding(crate::specs::Decoded::decoded))]
+pub fn unassigned_met()
+    ensures { map decoded UNASSIGNED ≡ map (λ w. None) UNASSIGNED }
+{}

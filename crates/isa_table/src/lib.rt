@@ -1,0 +1,21 @@
+//! The instructions of RV32IA: their operands, their mnemonics and the table of their encodings.
+//! Unprivileged ISA, "RV32I Base Integer Instruction Set" and "A Extension for Atomic
+//! Instructions".
+#![tactic(auto)]
+
+pub mod codes;
+pub mod fields;
+pub mod instr;
+pub mod laws;
+pub mod mnemonic;
+mod names;
+pub mod signed;
+pub mod table;
+pub mod vectors;
+
+pub use fields::{
+    BranchOffset, FenceSet, Immediate12, JumpOffset, Reg, ShiftAmount, UpperImmediate,
+};
+pub use instr::Instr;
+pub use mnemonic::{AmoOp, BranchOp, ImmediateOp, LoadOp, Mnemonic, RegisterOp, ShiftOp, StoreOp};
+pub use table::{Field, Operand, Row, rows};
