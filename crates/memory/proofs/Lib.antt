@@ -1,0 +1,4 @@
+pub mod OrderLemmas
+pub mod ReadLemmas
+pub mod WriteLemmas
+pub mod BuildLemmas

@@ -1,0 +1,4 @@
+pub mod Memory
+pub mod Access
+pub mod Image
+pub mod Blocks
