@@ -1,0 +1,9 @@
+pub mod Bits
+pub mod Words
+pub mod StoreLemmas
+pub mod AmoLemmas
+pub mod Kept
+pub mod HartLemmas
+pub mod SignedLemmas
+pub mod AccessLemmas
+pub mod LocalityLemmas

@@ -1,0 +1,9 @@
+pub mod Hart
+pub mod Values
+pub mod Fault
+pub mod Effect
+pub mod Step
+pub mod Laws
+pub mod Numbers
+pub mod Examples
+pub mod Locality

@@ -1,0 +1,20 @@
+//! What each step keeps, whatever the instruction.
+ghost use Rattle.std.specs.Prelude.{ℕ, Bool};
+ghost use Rattle.hart_step.specs.Effect.{Site};
+ghost use Rattle.hart_step.specs.Step.{stepped};
+ghost use Rattle.hart_step.specs.Laws.{Keeps, IsAligned, HasZero};
+
+/// A step keeps all rights, and each byte that may not be written.
+pub fn step_keeps_unwritable()
+    ensures { (h : ℕ) (refuse : Bool) (s : Site) → Keeps s.memory (stepped h refuse s).memory }
+{}
+
+/// A hart whose `pc` is a multiple of 4 has such a `pc` after a step: a jump elsewhere is a fault.
+pub fn step_keeps_alignment()
+    ensures { (h : ℕ) (refuse : Bool) (s : Site) → IsAligned s.hart → IsAligned (stepped h refuse s).hart }
+{}
+
+/// A hart whose `x0` is 0 has 0 there after a step.
+pub fn step_keeps_zero()
+    ensures { (h : ℕ) (refuse : Bool) (s : Site) → HasZero s.hart → HasZero (stepped h refuse s).hart }
+{}

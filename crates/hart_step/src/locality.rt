@@ -1,0 +1,22 @@
+//! What a step depends on.
+ghost use Rattle.std.specs.Prelude.{◌≡◌, ℕ, Bool, None};
+ghost use Rattle.memory.specs.Memory.{Memory};
+ghost use Rattle.isa_table.specs.declared.instr.Instr.{Instr};
+ghost use Rattle.hart_step.specs.Hart.{Registers};
+ghost use Rattle.hart_step.specs.Fault.{fault};
+ghost use Rattle.hart_step.specs.Effect.{Site};
+ghost use Rattle.hart_step.specs.Locality.{access_by, IsInOneWord, Agrees, StepsAlike};
+
+/// A step depends on nothing but its hart, the rights, its own reservation, the word that it fetches and the bytes of its
+/// one access; and it changes no byte outside that access.
+#[tactic(auto, using(crate::proofs::LocalityLemmas::steps_alike))]
+pub fn step_is_local()
+    ensures { (h : ℕ) (refuse : Bool) (s t : Site) → Agrees h s t → StepsAlike h refuse s t }
+{}
+
+/// An instruction without a fault accesses bytes of one aligned word at most.
+#[tactic(auto, using(crate::proofs::AccessLemmas::in_one_word))]
+pub fn access_is_in_one_word()
+    ensures { (i : Instr) (m : Memory) (x : Registers) (pc : ℕ) → fault i m x pc ≡ None
+        → IsInOneWord (access_by i x) }
+{}

@@ -1,0 +1,183 @@
+//! The instructions that touch memory, each with its fault.
+ghost use Rattle.std.specs.Prelude.{◌≡◌, ◌+◌, ◌<◌, ◌%◌, ◌^◌, ◌&&◌, not, ℕ, None, Some, Option, OnOk, OnErr, IsTrue};
+ghost use Rattle.memory.specs.Memory.{number_at};
+ghost use Rattle.reservations.specs.Marks.{Marks, with_mark, names, ended};
+ghost use Rattle.reservations.specs.Reserve.{marks};
+ghost use Rattle.hart_step.specs.Hart.{hart_of, registers_of, put};
+ghost use Rattle.hart_step.specs.Values.{wrap, extended, load_size, store_size, amo_result};
+ghost use Rattle.hart_step.specs.Fault.{load_fault, store_fault, store_cause_of};
+ghost use Rattle.hart_step.specs.Effect.{site, site_of, goes_on, next, stores, conditional, amo};
+ghost use Rattle.hart_step.specs.Step.{unless};
+ghost use Rattle.reservations.specs.declared.reserve.TheConstants.{MAX_HARTS};
+
+use crate::access::{load, store_value};
+use crate::hart::{Cause, Hart};
+use crate::registers::{advance, fault, get, give};
+use crate::values::amo_result;
+use isa_table::fields::Reg;
+use isa_table::mnemonic::{AmoOp, LoadOp, StoreOp};
+use memory::{AccessFault, Store};
+use reservations::Reserve;
+use std::alloc::AllocError;
+
+/// The registers that an instruction with three of them names.
+#[derive(Clone, Copy, Debug)]
+pub struct Operands {
+    pub rd: Reg,
+    pub rs1: Reg,
+    pub rs2: Reg,
+}
+
+/// A load. Unprivileged ISA, "Load and Store Instructions".
+pub fn execute_load<S: Store>(hart: &mut Hart, store: &S, op: LoadOp, rd: Reg, address: u32)
+    ensures { (r : Marks) → let m = S.memory store.now in
+        let s = site (hart_of hart.old) m r in
+        site (hart_of hart.new) m r ≡ unless (load_fault m (load_size op) address) s
+        (goes_on s (put (registers_of hart.old.registers) rd
+        (extended op (number_at m.bytes (load_size op) address))) (next hart.old.pc)) }
+{
+    match load(store, op, address) {
+        Ok(value) => give(hart, rd, value),
+        Err(cause) => fault(hart, cause),
+    }
+}
+
+/// A store. Unprivileged ISA, "Load and Store Instructions".
+pub fn execute_store<S: Store>(
+    hart: &mut Hart,
+    id: usize,
+    store: &mut S,
+    reserve: &mut Reserve,
+    op: StoreOp,
+    address: u32,
+    value: u32,
+) -> Result<(), AllocError>
+    ensures ok { OnOk result (let m = S.memory store.old in
+        let s = site_of hart.old m reserve.old in
+        site_of hart.new (S.memory store.new) reserve.new
+        ≡ unless (store_fault m (store_size op) address) s
+        (goes_on (stores s id (store_size op) address value)
+        (registers_of hart.old.registers) (next hart.old.pc))) }
+    ensures err { OnErr result (IsTrue S.grows × (site_of hart.new (S.memory store.new) reserve.new
+        ≡ site_of hart.old (S.memory store.old) reserve.old)) }
+{
+    match store_value(id, store, reserve, op, address, value)? {
+        Ok(()) => advance(hart),
+        Err(cause) => fault(hart, cause),
+    }
+    Ok(())
+}
+
+/// LR.W: loads a word and reserves it for the hart. Unprivileged ISA, "Load-Reserved/Store-Conditional Instructions".
+pub fn load_reserved<S: Store>(
+    hart: &mut Hart,
+    id: usize,
+    store: &S,
+    reserve: &mut Reserve,
+    rd: Reg,
+    address: u32,
+)
+    requires { id < MAX_HARTS }
+    ensures { let m = S.memory store.now in
+        site_of hart.new m reserve.new
+        ≡ unless (load_fault m 4 address) (site_of hart.old m reserve.old)
+        (goes_on (site (hart_of hart.old) m (with_mark (marks reserve.old) id address))
+        (put (registers_of hart.old.registers) rd (number_at m.bytes 4 address))
+        (next hart.old.pc)) }
+{
+    match load(store, LoadOp::Lw, address) {
+        Ok(value) => {
+            reserve.set(id, address);
+            give(hart, rd, value);
+        }
+        Err(cause) => fault(hart, cause),
+    }
+}
+
+/// The fault of a store that was refused, or of an AMO whose word cannot be loaded.
+fn store_cause(fault: AccessFault) -> Cause
+    ensures { result ≡ store_cause_of fault }
+{
+    match fault {
+        AccessFault::Misaligned => Cause::StoreMisaligned,
+        AccessFault::Access => Cause::StoreAccess,
+    }
+}
+
+/// SC.W: stores a word if the hart still has it reserved and `refuse` does not hold; `rd` gets 0, or 1 where nothing
+/// is stored. Both ways the reservation is over, but a fault leaves it. Alignment and the right to write are looked at
+/// also where nothing is stored. Unprivileged ISA, "Load-Reserved/Store-Conditional Instructions".
+pub fn store_conditional<S: Store>(
+    hart: &mut Hart,
+    id: usize,
+    store: &mut S,
+    reserve: &mut Reserve,
+    operands: Operands,
+    refuse: bool,
+) -> Result<(), AllocError>
+    requires { id < MAX_HARTS }
+    ensures ok { OnOk result (let x = registers_of hart.old.registers in
+        let s = site_of hart.old (S.memory store.old) reserve.old in
+        site_of hart.new (S.memory store.new) reserve.new
+        ≡ unless (store_fault (S.memory store.old) 4 (x operands.rs1)) s
+        (conditional (names (marks reserve.old id) (x operands.rs1) && not refuse) s id x
+        hart.old.pc operands.rd (x operands.rs1) (x operands.rs2))) }
+    ensures err { OnErr result (IsTrue S.grows × (site_of hart.new (S.memory store.new) reserve.new
+        ≡ site_of hart.old (S.memory store.old) reserve.old)) }
+{
+    let address = get(hart, operands.rs1);
+    if refuse || !reserve.holds(id, address) {
+        match store.may_store32(address) {
+            Ok(()) => {
+                reserve.clear(id);
+                give(hart, operands.rd, 1);
+            }
+            Err(why) => fault(hart, store_cause(why)),
+        }
+        return Ok(());
+    }
+    let value = get(hart, operands.rs2);
+    match store_value(id, store, reserve, StoreOp::Sw, address, value)? {
+        Ok(()) => {
+            reserve.clear(id);
+            give(hart, operands.rd, 0);
+        }
+        Err(cause) => fault(hart, cause),
+    }
+    Ok(())
+}
+
+/// An AMO: `rd` gets the word that was there, and memory the operation's result, with no step of another hart between.
+/// Unprivileged ISA, "Atomic Memory Operations".
+pub fn execute_amo<S: Store>(
+    hart: &mut Hart,
+    id: usize,
+    store: &mut S,
+    reserve: &mut Reserve,
+    op: AmoOp,
+    operands: Operands,
+) -> Result<(), AllocError>
+    ensures ok { OnOk result (let x = registers_of hart.old.registers in
+        let s = site_of hart.old (S.memory store.old) reserve.old in
+        site_of hart.new (S.memory store.new) reserve.new
+        ≡ unless (store_fault (S.memory store.old) 4 (x operands.rs1)) s
+        (amo s id x hart.old.pc operands.rd (x operands.rs1)
+        (λ old. amo_result op old (x operands.rs2)))) }
+    ensures err { OnErr result (IsTrue S.grows × (site_of hart.new (S.memory store.new) reserve.new
+        ≡ site_of hart.old (S.memory store.old) reserve.old)) }
+{
+    let address = get(hart, operands.rs1);
+    let old = match store.load32(address) {
+        Ok(old) => old,
+        Err(why) => {
+            fault(hart, store_cause(why));
+            return Ok(());
+        }
+    };
+    let value = amo_result(op, old, get(hart, operands.rs2));
+    match store_value(id, store, reserve, StoreOp::Sw, address, value)? {
+        Ok(()) => give(hart, operands.rd, old),
+        Err(cause) => fault(hart, cause),
+    }
+    Ok(())
+}
