@@ -1,0 +1,4 @@
+pub mod WorldLemmas
+pub mod StepLemmas
+pub mod StartLemmas
+pub mod RunLaws

@@ -1,0 +1,4 @@
+pub mod World
+pub mod Machine
+pub mod Start
+pub mod Example

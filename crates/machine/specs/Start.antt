@@ -1,0 +1,38 @@
+-- How a machine starts.
+use Rattle.std.specs.Prelude.{◌≡◌, ℕ, ◌+◌, ◌<◌, ◌==◌, List, [], ◌∷◌, None, length, if◌then◌else◌}
+use Rattle.loader.specs.Image.{ImageValue}
+use Rattle.memory.specs.Image.{image_memory}
+use Rattle.reservations.specs.declared.reserve.TheConstants.{MAX_HARTS}
+use Rattle.hart_step.specs.Hart.{HartValue, Registers}
+use Rattle.hart_step.specs.declared.hart.HartState.TheVariants.{Running}
+use Rattle.machine.specs.World.{World}
+use Rattle.machine.specs.declared.start.StartFault.{StartFault}
+use Rattle.machine.specs.declared.start.StartFault.TheVariants.{NoHarts, TooManyHarts, Memory}
+
+-- register 10, a0, is the hart's number, register 11, a1, its input, and register 12, a2, the number of harts
+abbrev pub first_registers : ℕ → ℕ → ℕ → Registers
+first_registers h input n r = if r == 10 then h else if r == 11 then input else if r == 12 then n else 0
+
+-- hart h of n, with its input, at the entry
+abbrev pub first_hart : ℕ → ℕ → ℕ → ℕ → HartValue
+first_hart entry n h input =
+    record { registers = first_registers h input n; pc = entry; state = Running }
+
+-- the harts of n from number h on, one an input
+abbrev pub first_harts : ℕ → ℕ → ℕ → List ℕ → List HartValue
+first_harts entry n h [] = []
+first_harts entry n h (input ∷ inputs) = first_hart entry n h input ∷ first_harts entry n (h + 1) inputs
+
+-- the world in which a program begins: its image in memory, a hart for each input, and no reservation
+unfoldable pub started : ImageValue → List ℕ → World
+started image inputs = record {
+  harts = first_harts image.entry (length inputs) 0 inputs;
+  memory = image_memory image;
+  reserved = λ h. None;
+}
+
+-- why these inputs can't be started with
+abbrev pub Refuses : List ℕ → StartFault → Type 0
+Refuses inputs NoHarts = length inputs ≡ 0
+Refuses inputs TooManyHarts = MAX_HARTS < length inputs
+Refuses inputs Memory = Unit {0}

@@ -1,0 +1,25 @@
+//! What holds in every run.
+ghost use Rattle.std.specs.Prelude.{◌≡◌, ℕ, ◌%◌, List};
+ghost use Rattle.std.specs.List.{All};
+ghost use Rattle.loader.specs.Image.{ImageValue};
+ghost use Rattle.hart_step.specs.Laws.{Keeps, IsAligned, HasZero};
+ghost use Rattle.machine.specs.World.{World, run};
+ghost use Rattle.machine.specs.Start.{started};
+ghost use Rattle.machine.specs.declared.choice.Choice.{Choice};
+
+/// No run changes a right, or a byte that may not be written.
+pub fn run_keeps_unwritable()
+    ensures { (w : World) (choices : List Choice) → Keeps w.memory (run w choices).memory }
+{}
+
+/// In every run of a program `x0` reads 0 in each hart.
+pub fn run_keeps_zero()
+    ensures { (image : ImageValue) (inputs : List ℕ) (choices : List Choice)
+        → All HasZero (run (started image inputs) choices).harts }
+{}
+
+/// In every run of a program each hart's `pc` is a multiple of 4.
+pub fn run_keeps_alignment()
+    ensures { (image : ImageValue) (inputs : List ℕ) (choices : List Choice) → image.entry % 4 ≡ 0
+        → All IsAligned (run (started image inputs) choices).harts }
+{}

@@ -1,0 +1,16 @@
+//! Several harts over one memory.
+#![tactic(auto)]
+
+pub use choice::Choice;
+pub use example::run_in_an_example;
+pub use laws::{run_keeps_alignment, run_keeps_unwritable, run_keeps_zero};
+pub use machine::Machine;
+pub use run::Stopped;
+pub use start::StartFault;
+
+mod choice;
+mod example;
+mod laws;
+mod machine;
+mod run;
+mod start;

@@ -1,0 +1,17 @@
+//! What a machine consists of.
+ghost use Rattle.std.specs.Prelude.{◌≤◌, vec_len};
+ghost use Rattle.reservations.specs.declared.reserve.TheConstants.{MAX_HARTS};
+
+use hart_step::Hart;
+use reservations::Reserve;
+use std::alloc::Allocator;
+
+/// Harts that share a memory and its reservations. Each event is one step of one hart, and all harts see its effect
+/// before the next: sequential consistency.
+#[derive(Drop)]
+pub struct Machine<S, A: Allocator> {
+    pub(crate) harts: Vec<Hart, A>,
+    pub(crate) store: S,
+    pub(crate) reserve: Reserve,
+    ghost few: { vec_len harts ≤ MAX_HARTS },
+}

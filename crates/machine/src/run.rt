@@ -1,0 +1,99 @@
+//! Steps and runs.
+ghost use Rattle.std.specs.Prelude.{◌≡◌, ℕ, ◌<◌, ◌≤◌, OnOk, OnErr, IfErr, IsTrue, All, map, take, length, vec_len, slice_get, Some};
+ghost use Rattle.hart_step.specs.Hart.{hart_of};
+ghost use Rattle.reservations.specs.Reserve.{marks};
+ghost use Rattle.machine.specs.World.{step, run};
+ghost use Rattle.machine.specs.Machine.{world};
+
+use crate::choice::Choice;
+use crate::machine::Machine;
+use hart_step::{Hart, step_hart};
+use memory::Store;
+use reservations::Reserve;
+use std::alloc::{AllocError, Allocator};
+
+/// The host refused memory in a run.
+#[derive(Clone, Copy, Debug, PartialEq, Eq)]
+pub struct Stopped {
+    /// How many choices were done before.
+    pub done: usize,
+}
+
+impl<S: Store, A: Allocator> Machine<S, A> {
+    /// How many harts there are: 1 to `MAX_HARTS` in a machine that was started.
+    pub fn harts(&self) -> usize
+        ensures { result ≡ length (world S.memory self.now).harts }
+    {
+        self.harts.len()
+    }
+
+    /// One hart.
+    pub fn hart(&self, number: usize) -> &Hart
+        requires { number < length (world S.memory self.now).harts }
+        ensures { slice_get (world S.memory self.now).harts number ≡ Some (hart_of result.now) }
+    {
+        &self.harts[number]
+    }
+
+    /// All harts, in order.
+    pub fn ends(&self) -> &[Hart]
+        ensures { map hart_of result.now ≡ (world S.memory self.now).harts }
+    {
+        &self.harts
+    }
+
+    /// The memory that the harts share.
+    pub fn store(&self) -> &S
+        ensures { S.memory result.now ≡ (world S.memory self.now).memory }
+    {
+        &self.store
+    }
+
+    /// The word that each hart has reserved.
+    pub fn reserve(&self) -> &Reserve
+        ensures { marks result.now ≡ (world S.memory self.now).reserved }
+    {
+        &self.reserve
+    }
+
+    /// One event: the chosen hart takes its step. Only the memory of the host may refuse, and then nothing has changed.
+    pub fn step(&mut self, choice: Choice) -> Result<(), AllocError>
+        requires { choice.hart < length (world S.memory self.old).harts }
+        ensures ok { OnOk result (world S.memory self.new ≡ step (world S.memory self.old) choice) }
+        ensures err { OnErr result (world S.memory self.new ≡ world S.memory self.old) }
+        ensures refused { OnErr result (IsTrue S.grows) }
+        ensures harts { length (world S.memory self.new).harts
+            ≡ length (world S.memory self.old).harts }
+    {
+        let number = choice.hart as usize;
+        step_hart(
+            &mut self.harts[number],
+            number,
+            &mut self.store,
+            &mut self.reserve,
+            choice.refuse,
+        )
+    }
+
+    /// One event after another. Only the memory of the host may refuse; then the machine stands after the choices that
+    /// were done.
+    #[tactic(auto, using(crate::proofs::WorldLemmas::run_more, crate::proofs::WorldLemmas::run_none))]
+    pub fn run(&mut self, choices: &[Choice]) -> Result<(), Stopped>
+        requires { All (λ c. c.hart < length (world S.memory self.old).harts) choices.now }
+        ensures ok { OnOk result (world S.memory self.new
+            ≡ run (world S.memory self.old) choices.now) }
+        ensures err { IfErr result (λ stopped. (stopped.done < length choices.now)
+            × (world S.memory self.new
+            ≡ run (world S.memory self.old) (take stopped.done choices.now))) }
+        ensures refused { OnErr result (IsTrue S.grows) }
+        ensures harts { length (world S.memory self.new).harts
+            ≡ length (world S.memory self.old).harts }
+    {
+        for (done, choice) in choices.iter().enumerate() {
+            if self.step(*choice).is_err() {
+                return Err(Stopped { done });
+            }
+        }
+        Ok(())
+    }
+}
