@@ -1,0 +1,4 @@
+pub mod NumberLemmas
+pub mod ItemLemmas
+pub mod Numbers
+pub mod Agreement

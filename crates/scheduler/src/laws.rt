@@ -1,0 +1,19 @@
+//! Laws of choice texts.
+
+ghost use Rattle.std.specs.Prelude.{◌≡◌, ℕ, ◌^◌, ◌<◌, ◌↔◌, List};
+ghost use Rattle.std.specs.declared.result.Result.TheVariants.{Ok};
+ghost use Rattle.machine.specs.declared.choice.Choice.{Choice};
+ghost use Rattle.scheduler.specs.Grammar.{Spells};
+ghost use Rattle.scheduler.specs.Reading.{choices_of};
+
+/// Reading gives the list that a text spells, and no list where it spells none.
+pub fn read_as_spelled()
+    ensures { (harts : ℕ) (text : List ℕ) (choices : List Choice) → harts < 2 ^ 32
+        → (choices_of harts text ≡ Ok choices) ↔ Spells harts text choices }
+{}
+
+/// No text spells two lists.
+pub fn one_list()
+    ensures { (harts : ℕ) (text : List ℕ) (one other : List Choice) → harts < 2 ^ 32
+        → Spells harts text one → Spells harts text other → one ≡ other }
+{}
