@@ -1,0 +1,4 @@
+pub mod WordLemmas
+pub mod HexLemmas
+pub mod HexImageLemmas
+pub mod RunLemmas

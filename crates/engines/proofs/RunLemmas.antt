@@ -1,0 +1,80 @@
+-- What a run's answer and its parts say of one another.
+use Rattle.std.proofs.Common.{◌≡◌, ◌≢◌, ℕ, ◌<◌, Bool, true, false, eqb, cond, ltb, List, length, map, Result, Ok, Err, refl, ap, sym, subst, ◌∙◌}
+use Rattle.std.specs.List.{All}
+use Rattle.reservations.specs.declared.reserve.TheConstants.{MAX_HARTS}
+use Rattle.loader.specs.Image.{ImageValue}
+use Rattle.hart_step.specs.Hart.{hart_of}
+use Rattle.hart_step.specs.declared.hart.Hart.{Hart}
+use Rattle.machine.specs.World.{World}
+use Rattle.machine.specs.Start.{started}
+use Rattle.machine.proofs.RunLaws.{length-started}
+use Rattle.machine.specs.declared.choice.Choice.{Choice}
+use Rattle.scheduler.specs.Reading.{choices_of}
+use Rattle.scheduler.specs.declared.choice_text.ChoiceFault.{ChoiceFault}
+use Rattle.scheduler.specs.declared.choice_text.ChoiceFault.TheVariants as choice
+use Rattle.engines.specs.HexText.{words_of}
+use Rattle.engines.specs.Run.{Answer, after_words, after_choices, run_answer, IfReads}
+use Rattle.engines.specs.declared.hex.HexFault.{HexFault}
+use Rattle.engines.specs.declared.hex.HexFault.TheVariants as hex
+use Rattle.engines.specs.declared.run_fault.Input.{Input}
+use Rattle.engines.specs.declared.run_fault.RunFault.{RunFault}
+use Rattle.engines.specs.declared.run_fault.RunFault.TheVariants as fault
+
+-- ---- a machine that was started has a hart for each input
+pub harts-started : (harts : List Hart) (w : World) (image : ImageValue) (inputs : List ℕ)
+    → w.harts ≡ map hart_of harts → w ≡ started image inputs → length (map hart_of harts) ≡ length inputs
+harts-started harts w image inputs here begun =
+    ap length (sym here) ∙ ap (λ (v : World). length v.harts) begun ∙ length-started image inputs
+
+-- ---- an answer names no device
+pub NamesNoDevice : RunFault → Type 0
+NamesNoDevice (fault.Read input) = ⊥
+NamesNoDevice fault.Write = ⊥
+NamesNoDevice why = Unit {0}
+
+AnswersAlone : Answer → Type 0
+AnswersAlone (Ok answer) = Unit {0}
+AnswersAlone (Err why) = NamesNoDevice why
+
+alone-choices : (words inputs : List ℕ) (r : Result (List Choice) ChoiceFault) → AnswersAlone (after_choices words inputs r)
+unfolding NamesNoDevice AnswersAlone
+alone-choices words inputs (Ok choices) = tt
+alone-choices words inputs (Err (choice.BadChoice offset)) = tt
+alone-choices words inputs (Err (choice.NoHart offset)) = tt
+alone-choices words inputs (Err choice.Memory) = tt
+
+alone-words : (inputs text : List ℕ) (r : Result (List ℕ) HexFault) → AnswersAlone (after_words inputs text r)
+unfolding NamesNoDevice AnswersAlone
+alone-words inputs text (Ok words) = go (eqb (length inputs) 0) (ltb MAX_HARTS (length inputs))
+  where
+    go : (none many : Bool) → AnswersAlone (cond none (Err fault.NoHarts) (cond many (Err fault.TooManyHarts)
+        (after_choices words inputs (choices_of (length inputs) text))))
+    go true many = tt
+    go false true = tt
+    go false false = alone-choices words inputs (choices_of (length inputs) text)
+alone-words inputs text (Err (hex.BadWord item)) = tt
+alone-words inputs text (Err (hex.TooMany item)) = tt
+alone-words inputs text (Err hex.Memory) = tt
+
+alone : (inputs program text : List ℕ) (why : RunFault) → run_answer inputs program text ≡ Err why → NamesNoDevice why
+unfolding run_answer AnswersAlone
+alone inputs program text why e = subst AnswersAlone e (alone-words inputs text (words_of program))
+
+-- a fault of the run of texts names no device
+pub no_device : (inputs program text : List ℕ) (why : RunFault)
+    → (why ≢ fault.Memory → run_answer inputs program text ≡ Err why) → NamesNoDevice why
+unfolding NamesNoDevice
+no_device inputs program text fault.Memory h = tt
+no_device inputs program text (fault.Read input) h = alone inputs program text (fault.Read input) (h (λ e. cc))
+no_device inputs program text fault.Write h = alone inputs program text fault.Write (h (λ e. cc))
+no_device inputs program text why h = tt
+
+pub reads_none : (why : RunFault) (P Q : Type 0) → NamesNoDevice why → IfReads why P Q
+unfolding NamesNoDevice
+reads_none (fault.Read input) P Q h = absurd h
+reads_none why P Q h = tt
+
+pub writes_none : (why : RunFault) → NamesNoDevice why → why ≢ fault.Write
+unfolding NamesNoDevice
+writes_none fault.Write h e = h
+writes_none why h e = cc

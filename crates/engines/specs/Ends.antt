@@ -1,0 +1,70 @@
+-- The printed lines of harts' ends.
+use Rattle.std.specs.Prelude.{ℕ, zero, suc, ◌/◌, ◌%◌, ◌+◌, Bool, true, false, ◌||◌, List, [], ◌∷◌, ◌++◌, codes, if◌then◌else◌}
+use Rattle.std.specs.Fmt.{decimal, digit_glyph}
+use Rattle.hart_step.specs.declared.hart.Cause.{Cause}
+use Rattle.hart_step.specs.declared.hart.Cause.TheVariants.{FetchAccess, Illegal, LoadMisaligned, LoadAccess, StoreMisaligned, StoreAccess, JumpMisaligned, BadCall, Break}
+use Rattle.hart_step.specs.declared.hart.HartState.{HartState}
+use Rattle.hart_step.specs.declared.hart.HartState.TheVariants.{Running, Exited, Faulted}
+use Rattle.hart_step.specs.Hart.{HartValue}
+use Rattle.engines.specs.declared.status.Status.{Status}
+use Rattle.engines.specs.declared.status.Status.TheVariants as status
+
+-- a cause's name
+abbrev pub cause_name : Cause → List ℕ
+cause_name FetchAccess = codes "FetchAccess"
+cause_name Illegal = codes "Illegal"
+cause_name LoadMisaligned = codes "LoadMisaligned"
+cause_name LoadAccess = codes "LoadAccess"
+cause_name StoreMisaligned = codes "StoreMisaligned"
+cause_name StoreAccess = codes "StoreAccess"
+cause_name JumpMisaligned = codes "JumpMisaligned"
+cause_name BadCall = codes "BadCall"
+cause_name Break = codes "Break"
+
+-- the last k hexadecimal digits of n, with zeros in front, and then a text
+abbrev pub hex_onto : ℕ → ℕ → List ℕ → List ℕ
+hex_onto zero n text = text
+hex_onto (suc k) n text = hex_onto k (n / 16) (digit_glyph false (n % 16) ∷ text)
+
+-- a word as eight lower-case hexadecimal digits
+abbrev pub word_text : ℕ → List ℕ
+word_text n = hex_onto 8 n []
+
+-- the registers that a result is left in: a0 is x10, a1 is x11
+abbrev pub a0_of : HartValue → ℕ
+a0_of hart = hart.registers 10
+
+abbrev pub a1_of : HartValue → ℕ
+a1_of hart = hart.registers 11
+
+-- what a hart does, with the registers or the place that tell more of it
+abbrev pub state_text : HartState → HartValue → List ℕ
+state_text Running hart = codes " running pc " ++ word_text hart.pc
+state_text (Exited status) hart =
+    codes " exited a0 " ++ (word_text (a0_of hart) ++ (codes " a1 " ++ word_text (a1_of hart)))
+state_text (Faulted cause) hart =
+    codes " faulted " ++ (cause_name cause ++ (codes " pc " ++ word_text hart.pc))
+
+-- a hart's line, without its end
+abbrev pub end_line : ℕ → HartValue → List ℕ
+end_line number hart = codes "hart " ++ (decimal number ++ state_text hart.state hart)
+
+-- the lines of harts that are numbered from a number on, each ended by LF
+abbrev pub ends_of : ℕ → List HartValue → List ℕ
+ends_of number [] = []
+ends_of number (hart ∷ harts) = end_line number hart ++ 10 ∷ ends_of (number + 1) harts
+
+-- whether a hart was stopped by its instruction
+abbrev pub has_faulted : HartState → Bool
+has_faulted Running = false
+has_faulted (Exited status) = false
+has_faulted (Faulted cause) = true
+
+-- whether some hart was stopped by its instruction
+abbrev pub any_faulted : List HartValue → Bool
+any_faulted [] = false
+any_faulted (hart ∷ harts) = has_faulted hart.state || any_faulted harts
+
+-- the status of a run without a rule
+abbrev pub status_of : List HartValue → Status
+status_of harts = if any_faulted harts then status.Faulted else status.Done

@@ -1,0 +1,108 @@
+//! `run`: a program, inputs and a list of choices in; the harts' ends out.
+
+ghost use Rattle.std.specs.Prelude.{◌≡◌, ◌≢◌, ◌^◌, ◌-◌, ◌<◌, Ok, Err, IfOk, IfErr, IfSome, string_bytes};
+ghost use Rattle.std.specs.Io.KnownBytes.{Keeps};
+ghost use Rattle.engines.specs.Run.{run_answer, IsRefusal, Prints, BeginsToPrint, IfReads};
+
+use crate::device::{Sink, Source};
+use crate::ends::ends_text;
+use crate::hex::read_hex;
+use crate::hex_program::hex_image;
+use crate::run_fault::{Input, RunFault};
+use crate::status::Status;
+use crate::transfer::{ReadFault, read_all, write_all};
+use machine::Machine;
+use memory::FlatStore;
+use scheduler::read_choices;
+use std::alloc::Allocator;
+
+/// What a run of a program of hexadecimal words prints and its status, or why it is refused. Checked are, in this order,
+/// the program, the number of inputs and the choice text.
+#[tactic(auto, unfolding(crate::specs::Run::run_answer))]
+pub fn run_text<A: Allocator + Copy>(
+    alloc: A,
+    inputs: &[u32],
+    hex: &[u8],
+    text: &[u8],
+) -> Result<(String<A>, Status), RunFault>
+    ensures ok { IfOk result (λ answer.
+        run_answer inputs.now hex.now text.now ≡ Ok (string_bytes answer.0, answer.1)) }
+    ensures err { IfErr result (λ fault. fault ≢ RunFault.Memory
+        → run_answer inputs.now hex.now text.now ≡ Err fault) }
+{
+    let words = match read_hex(alloc, hex) {
+        Ok(words) => words,
+        Err(fault) => return Err(RunFault::from(fault)),
+    };
+    let Ok(image) = hex_image(alloc, &words) else {
+        return Err(RunFault::Memory);
+    };
+    let mut machine: Machine<FlatStore<A>, A> = match Machine::start(alloc, &image, inputs) {
+        Ok(machine) => machine,
+        Err(fault) => return Err(RunFault::from(fault)),
+    };
+    let choices = match read_choices(alloc, text, inputs.len() as u32) {
+        Ok(choices) => choices,
+        Err(fault) => return Err(RunFault::from(fault)),
+    };
+    let Ok(()) = machine.run(&choices) else {
+        // A flat store needs no memory of the host for a step.
+        unreachable!()
+    };
+    match ends_text(alloc, machine.ends()) {
+        Ok(answer) => Ok(answer),
+        Err(_) => Err(RunFault::Memory),
+    }
+}
+
+/// `run --hex`: reads the program's hexadecimal words and then the choice text, each to its end, and writes how the harts
+/// end. Nothing is written where what was read is refused.
+pub fn run_engine<A: Allocator + Copy, H: Source, C: Source, K: Sink>(
+    alloc: A,
+    inputs: &[u32],
+    hex: &mut H,
+    choices: &mut C,
+    sink: &mut K,
+) -> Result<Status, RunFault>
+    requires hex_counts { H.failures hex.old < 2 ^ 64 - 1 }
+    requires choices_count { C.failures choices.old < 2 ^ 64 - 1 }
+    requires sink_counts { K.failures sink.old < 2 ^ 64 - 1 }
+    // The printed world of the run was appended, and this is its status.
+    ensures done { IfOk result (λ status.
+        IfSome (H.left hex.old) (λ h. IfSome (C.left choices.old) (λ c.
+        Prints (run_answer inputs.now h c) status (K.held sink.old) (K.held sink.new)))) }
+    // What was read is refused, and nothing is written.
+    ensures refused { IfErr result (λ fault. IsRefusal fault
+        → IfSome (H.left hex.old) (λ h. IfSome (C.left choices.old) (λ c.
+        run_answer inputs.now h c ≡ Err fault))) }
+    ensures unwritten { IfErr result (λ fault. fault ≢ RunFault.Write
+        → Keeps (K.held sink.old) (K.held sink.new)) }
+    // A device is named only where it failed.
+    ensures read { IfErr result (λ fault. IfReads fault
+        (H.failures hex.old < H.failures hex.new)
+        (C.failures choices.old < C.failures choices.new)) }
+    ensures write { result ≡ Err RunFault.Write → K.failures sink.old < K.failures sink.new }
+    // After a failed write a beginning of the output stands there.
+    ensures begun { result ≡ Err RunFault.Write
+        → IfSome (H.left hex.old) (λ h. IfSome (C.left choices.old) (λ c.
+        BeginsToPrint (run_answer inputs.now h c) (K.held sink.old) (K.held sink.new))) }
+{
+    let program = match read_all(alloc, hex) {
+        Ok(bytes) => bytes,
+        Err(ReadFault::Device) => return Err(RunFault::Read(Input::File)),
+        Err(ReadFault::Memory) => return Err(RunFault::Memory),
+    };
+    let text = match read_all(alloc, choices) {
+        Ok(bytes) => bytes,
+        Err(ReadFault::Device) => return Err(RunFault::Read(Input::Choices)),
+        Err(ReadFault::Memory) => return Err(RunFault::Memory),
+    };
+    let (lines, status) = match run_text(alloc, inputs, &program, &text) {
+        Ok(answer) => answer,
+        Err(fault) => return Err(fault),
+    };
+    match write_all(sink, lines.as_bytes()) {
+        Ok(()) => Ok(status),
+        Err(_) => Err(RunFault::Write),
+    }
+}
