@@ -1,0 +1,4 @@
+pub mod Arguments
+pub mod RunLine
+pub mod Line
+pub mod Inputs
