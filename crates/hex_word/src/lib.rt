@@ -1,0 +1,8 @@
+//! Words and bytes as hexadecimal digits.
+#![tactic(auto)]
+
+pub use word::{Byte, Word};
+
+#[cfg(test)]
+mod tests;
+mod word;
