@@ -1,0 +1,30 @@
+-- Numbers and references.
+use Rattle.std.specs.Prelude.{ℕ, ◌+◌, ◌-◌, ◌*◌, ◌&&◌, ◌==◌, nat_lt, nat_le, if◌then◌else◌, List, [], ◌∷◌, Option, Some, None, fold, length}
+use Rattle.std.specs.List.{list_all}
+
+-- the value of a digit of either case, or 16
+abbrev pub digit_of : ℕ → ℕ
+digit_of b =
+    if nat_le 48 b && nat_le b 57 then b - 48
+    else (if nat_le 97 b && nat_le b 102 then b - 97 + 10
+    else (if nat_le 65 b && nat_le b 70 then b - 65 + 10
+    else 16))
+
+-- what the digits are worth, behind the value of those before them
+abbrev pub value_after : ℕ → ℕ → List ℕ → ℕ
+value_after base before digits = fold (λ n b. n * base + digit_of b) before digits
+
+-- some digits of the base, worth less than 2^32
+unfoldable pub number_in : ℕ → List ℕ → Option ℕ
+number_in base digits =
+    if nat_lt 0 (length digits) && list_all (λ b. nat_lt (digit_of b) base) digits && nat_lt (value_after base 0 digits) 4294967296
+    then Some (value_after base 0 digits)
+    else None
+
+-- `0x` and `0b` begin hexadecimal and binary numbers, another 0 with digits behind it an octal one
+unfoldable pub number_of : List ℕ → Option ℕ
+number_of [] = number_in 10 []
+number_of (a ∷ []) = number_in 10 (a ∷ [])
+number_of (a ∷ b ∷ digits) =
+    if a == 48 then (if b == 120 then number_in 16 digits else (if b == 98 then number_in 2 digits else number_in 8 (b ∷ digits)))
+    else number_in 10 (a ∷ b ∷ digits)

@@ -1,0 +1,19 @@
+//! Cuts an assembler text into tokens.
+#![tactic(auto)]
+
+pub use fault::TextFault;
+pub use laws::{one_reading, spans_do_not_matter};
+pub use lexeme::{Lexed, Lexeme, lexemes};
+pub use read::{Scan, scan_text, tokens};
+pub use token::{Kind, Token, text_of};
+
+mod bytes;
+mod fault;
+mod laws;
+mod lexeme;
+mod number;
+mod piece;
+mod read;
+#[cfg(test)]
+mod tests;
+mod token;
