@@ -1,0 +1,3 @@
+pub mod Fault
+pub mod Statement
+pub mod Answer
