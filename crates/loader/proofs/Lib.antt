@@ -1,2 +1,7 @@
 pub mod Overlap
 pub mod Sound
+pub mod HeaderLemmas
+pub mod FileLemmas
+pub mod NameLemmas
+pub mod SectionLemmas
+pub mod SymbolLemmas

@@ -15,7 +15,7 @@ use Rattle.loader.specs.Spans.{has_address, Shares, is_filled, is_over_mem, is_p
 use Rattle.loader.specs.Image.{span_of, is_mapped, is_sound, IsSound}
 use Rattle.loader.proofs.Overlap.{shared_decides, filled_counts}
 
-passed : (b : Bool) (fault : ElfFault) (later : Option ElfFault) → fault_if b fault later ≡ None → (b ≡ false) × (later ≡ None)
+pub passed : (b : Bool) (fault : ElfFault) (later : Option ElfFault) → fault_if b fault later ≡ None → (b ≡ false) × (later ≡ None)
 passed true fault later e = cc
 passed false fault later e = (refl, e)
 

@@ -51,10 +51,21 @@ image_or_fault entry segments =
 
 -- a fault is the expected answer; want of memory may stand in any answer's place
 abbrev pub Fails : ElfFault → Result ImageValue ElfFault → Type 0
+Fails faults.Short expected = expected ≡ Err faults.Short
+Fails faults.Magic expected = expected ≡ Err faults.Magic
+Fails faults.Class expected = expected ≡ Err faults.Class
+Fails faults.Encoding expected = expected ≡ Err faults.Encoding
+Fails faults.Version expected = expected ≡ Err faults.Version
+Fails faults.FileType expected = expected ≡ Err faults.FileType
+Fails faults.Machine expected = expected ≡ Err faults.Machine
+Fails faults.Compressed expected = expected ≡ Err faults.Compressed
+Fails faults.HeaderSize expected = expected ≡ Err faults.HeaderSize
+Fails faults.OutsideFile expected = expected ≡ Err faults.OutsideFile
 Fails faults.FileOverMem expected = expected ≡ Err faults.FileOverMem
 Fails faults.PastEnd expected = expected ≡ Err faults.PastEnd
 Fails faults.Overlap expected = expected ≡ Err faults.Overlap
 Fails faults.TooLarge expected = expected ≡ Err faults.TooLarge
+Fails faults.Dynamic expected = expected ≡ Err faults.Dynamic
 Fails faults.EntryAlign expected = expected ≡ Err faults.EntryAlign
 Fails faults.Memory expected = Unit {0}
 

@@ -1,4 +1,12 @@
+pub mod Number
 pub mod Fault
 pub mod Spans
 pub mod Segment
 pub mod Image
+pub mod Header
+pub mod ProgramHeader
+pub mod File
+pub mod Name
+pub mod Section
+pub mod Symbol
+pub mod SymbolTable

@@ -73,7 +73,7 @@ impl<A: Allocator> Image<A> {
 }
 
 /// An image of what is known to be sound.
-fn image_of<A: Allocator>(entry: u32, segments: Vec<Segment<A>, A>) -> Image<A>
+pub(crate) fn image_of<A: Allocator>(entry: u32, segments: Vec<Segment<A>, A>) -> Image<A>
     requires { IsSound entry segments.items }
     ensures { result ≡ record { entry = entry; segments = segments.items } }
 {

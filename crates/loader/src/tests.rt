@@ -122,10 +122,21 @@ fn an_image_keeps_its_segments(rt: HostRuntime) -> Result<(), ElfFault> {
 #[test]
 fn faults_are_named(rt: HostRuntime) -> Result<(), AllocError> {
     let rows = [
+        (ElfFault::Short, Some(1), "elf fault 1 Short"),
+        (ElfFault::Magic, Some(2), "elf fault 2 Magic"),
+        (ElfFault::Class, Some(3), "elf fault 3 Class"),
+        (ElfFault::Encoding, Some(4), "elf fault 4 Encoding"),
+        (ElfFault::Version, Some(5), "elf fault 5 Version"),
+        (ElfFault::FileType, Some(6), "elf fault 6 FileType"),
+        (ElfFault::Machine, Some(7), "elf fault 7 Machine"),
+        (ElfFault::Compressed, Some(8), "elf fault 8 Compressed"),
+        (ElfFault::HeaderSize, Some(9), "elf fault 9 HeaderSize"),
+        (ElfFault::OutsideFile, Some(10), "elf fault 10 OutsideFile"),
         (ElfFault::FileOverMem, Some(11), "elf fault 11 FileOverMem"),
         (ElfFault::PastEnd, Some(12), "elf fault 12 PastEnd"),
         (ElfFault::Overlap, Some(13), "elf fault 13 Overlap"),
         (ElfFault::TooLarge, Some(14), "elf fault 14 TooLarge"),
+        (ElfFault::Dynamic, Some(15), "elf fault 15 Dynamic"),
         (ElfFault::EntryAlign, Some(16), "elf fault 16 EntryAlign"),
         (ElfFault::Memory, None, "out of memory"),
     ];
