@@ -1,0 +1,5 @@
+pub mod LayoutLemmas
+pub mod SectionLemmas
+pub mod TableLemmas
+pub mod ReadLemmas
+pub mod LoadLemmas
