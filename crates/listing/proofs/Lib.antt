@@ -1,0 +1,2 @@
+mod ListingLemmas
+mod SegmentLemmas

@@ -1,0 +1,18 @@
+//! The listing of a program.
+
+ghost use Rattle.std.specs.Prelude.{◌≡◌, IfOk, string_bytes};
+ghost use Rattle.assembler.specs.declared.program.TheConstants.{TEXT_BASE};
+ghost use Rattle.listing.specs.Listing.{listing};
+
+use crate::lines::push_listing;
+use assembler::{Program, TEXT_BASE};
+use std::alloc::{AllocError, Allocator};
+
+/// The listing of a program's text: a line for each word, and for each byte behind the last whole word.
+pub fn list<A: Allocator + Copy>(alloc: A, program: &Program<A>) -> Result<String<A>, AllocError>
+    ensures { IfOk result (λ text. string_bytes text ≡ listing TEXT_BASE program.now.text) }
+{
+    let mut text = String::new(alloc);
+    push_listing(&mut text, u64::from(TEXT_BASE), program.text())?;
+    Ok(text)
+}
