@@ -2,3 +2,5 @@ pub mod NumberLemmas
 pub mod ItemLemmas
 pub mod Numbers
 pub mod Agreement
+pub mod PrintLemmas
+pub mod ScheduleLemmas

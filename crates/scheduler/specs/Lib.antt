@@ -1,3 +1,5 @@
 pub mod Items
 pub mod Grammar
 pub mod Reading
+pub mod Printing
+pub mod Schedules
