@@ -1,0 +1,3 @@
+pub mod SeedLemmas
+pub mod DrawLemmas
+pub mod RunLemmas

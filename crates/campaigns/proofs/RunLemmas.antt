@@ -1,0 +1,66 @@
+-- The plain runs of seeds, one by one and as a list.
+use Rattle.std.proofs.Common.{◌≡◌, ℕ, zero, suc, ◌+◌, List, [], ◌∷◌, map, length, Ok, Err, IfOk, refl, arith, ap, ap₂, sym, ◌∙◌, subst}
+use Rattle.std.specs.Prelude.{MatchResult}
+use Rattle.std.specs.List.{AllZip, Contains, range_with_len}
+use Rattle.std.specs.declared.result.Result.{Result}
+use Rattle.std.specs.declared.vec.Vec.{Vec}
+use Rattle.std.specs.declared.alloc.AllocError.{AllocError}
+use Rattle.loader.specs.Image.{ImageValue}
+use Rattle.hart_step.specs.Hart.{hart_of}
+use Rattle.hart_step.specs.declared.hart.Hart.{Hart}
+use Rattle.machine.specs.World.{World, run}
+use Rattle.machine.specs.Start.{started}
+use Rattle.machine.proofs.RunLaws.{length-started}
+use Rattle.scheduler.specs.Schedules.{seeded_choices}
+use Rattle.campaigns.specs.Campaign.{SeedEnds, ends_of, plain_run, seed_ends, plain_runs}
+use Rattle.campaigns.specs.declared.seed_run.SeedRun.{SeedRun}
+
+-- a machine that was started has a hart for each input
+pub harts-started : (harts : List Hart) (w : World) (image : ImageValue) (inputs : List ℕ)
+    → w.harts ≡ map hart_of harts → w ≡ started image inputs → length (map hart_of harts) ≡ length inputs
+harts-started harts w image inputs here begun =
+    ap length (sym here) ∙ ap (λ (v : World). length v.harts) begun ∙ length-started image inputs
+
+-- what a machine's harts are after the run over a seed's list
+pub ends-plain : (image : ImageValue) (inputs : List ℕ) (steps seed : ℕ) (v w : World) (harts : List Hart)
+    → v ≡ started image inputs → w ≡ run v (seeded_choices (length inputs) steps seed) → map hart_of harts ≡ w.harts
+    → record { seed = seed; harts = map hart_of harts } ≡ seed_ends image inputs steps seed
+unfolding plain_run
+ends-plain image inputs steps seed v w harts begun done left =
+    ap (λ hs. record { seed = seed; harts = hs })
+    (left ∙ ap (λ (x : World). x.harts) done
+    ∙ ap (λ x. (run x (seeded_choices (length inputs) steps seed)).harts) begun)
+
+-- places that are counted from 0, and numbers that are counted from a first one
+map-shifted : {X : Type 0} (f : ℕ → X) (a b n : ℕ) → map (λ place. f (a + place)) (range_with_len b n) ≡ map f (range_with_len (a + b) n)
+map-shifted f a b zero = refl
+map-shifted f a b (suc n) =
+    let next : a + (b + 1) ≡ a + b + 1 = omega arith in
+    ap (λ xs. f (a + b) ∷ xs) (map-shifted f a (b + 1) n ∙ ap (λ k. map f (range_with_len k n)) next)
+
+abbrev all_ok : {Z : Type 0} → List (SeedRun Z) → List (Result (SeedRun Z) AllocError)
+all_ok ys = map Ok ys
+
+module _ {Z : Type 0} (f : ℕ → SeedEnds) (first : ℕ) where
+  listed : (zs : List ℕ) (ys : List (SeedRun Z))
+      → AllZip (λ place r. IfOk r (λ (run : SeedRun Z). ends_of run ≡ f (first + place))) zs (all_ok ys)
+      → map ends_of ys ≡ map (λ place. f (first + place)) zs
+  listed [] [] h = refl
+  listed [] (y ∷ ys) h = absurd h
+  listed (z ∷ zs) [] h = absurd h
+  listed (z ∷ zs) (y ∷ ys) h = ap₂ (λ x xs. x ∷ xs) h.0 (listed zs ys h.1)
+
+  -- where each place has the run of its seed, the list has those of all seeds
+  pub all-listed : (count : ℕ) (r : Result (Vec (SeedRun Z) Z) AllocError) (zs : List ℕ) (xs : List (Result (SeedRun Z) AllocError))
+      → zs ≡ range_with_len 0 count
+      → AllZip (λ place r. IfOk r (λ (run : SeedRun Z). ends_of run ≡ f (first + place))) zs xs
+      → MatchResult r (λ v. (ys : List (SeedRun Z)) × (xs ≡ all_ok ys) × (v.items ≡ ys)) (λ e. Contains xs (Err e))
+      → IfOk r (λ v. map ends_of v.items ≡ map f (range_with_len first count))
+  all-listed count (Ok v) zs xs places each whole =
+      let here : first + 0 ≡ first = omega arith in
+      ap (map ends_of) whole.2
+      ∙ listed zs whole.0 (subst (AllZip (λ place r. IfOk r (λ (run : SeedRun Z). ends_of run ≡ f (first + place))) zs) whole.1 each)
+      ∙ ap (map (λ place. f (first + place))) places
+      ∙ map-shifted f first 0 count
+      ∙ ap (λ k. map f (range_with_len k count)) here
+  all-listed count (Err e) zs xs places each whole = tt

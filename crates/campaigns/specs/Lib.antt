@@ -1,0 +1,2 @@
+pub mod Campaign
+pub mod Seeds

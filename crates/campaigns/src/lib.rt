@@ -1,0 +1,12 @@
+//! Campaigns: one program run under the schedule of each seed of a range, on all processors.
+#![tactic(auto)]
+
+pub use runs::{campaign, check_inputs, next_runs};
+pub use seed_run::SeedRun;
+pub use seeds::{Block, LEAST_SEEDS, MOST_SEEDS, Seeds};
+
+mod runs;
+mod seed_run;
+mod seeds;
+#[cfg(test)]
+mod tests;

@@ -1,0 +1,111 @@
+//! All seeds of a range on all processors.
+
+ghost use Rattle.std.specs.Prelude.{◌≡◌, ◌≢◌, ◌+◌, ◌<◌, ◌≤◌, ◌^◌, [], ◌++◌, IfOk, IfSome, IfNone, OnErr, MatchResult, length, map};
+ghost use Rattle.campaigns.specs.Campaign.{ends_of, seed_ends, runs_of, plain_runs, IsStartable, RefusesCampaign};
+ghost use Rattle.campaigns.specs.Seeds.{seeds_left};
+
+use crate::seed_run::{SeedRun, run_seed};
+use crate::seeds::Seeds;
+use loader::Image;
+use machine::StartFault;
+use rayon::prelude::*;
+use reservations::MAX_HARTS;
+use std::alloc::{AllocError, Allocator};
+use std::thread::Threads;
+
+/// Whether a campaign can start with these inputs, one for each hart.
+pub fn check_inputs(inputs: &[u32]) -> Result<(), StartFault>
+    ensures { MatchResult result (λ _. IsStartable inputs.now)
+        (λ fault. RefusesCampaign inputs.now fault × (fault ≢ StartFault.Memory)) }
+{
+    if inputs.is_empty() {
+        return Err(StartFault::NoHarts);
+    }
+    if inputs.len() > MAX_HARTS {
+        return Err(StartFault::TooManyHarts);
+    }
+    Ok(())
+}
+
+/// For each of `count` seeds from `first` on, in order, the harts as the run of so many steps under the seed's schedule
+/// leaves them. The runs are shared among all processors. The inputs are checked also where `count` is 0.
+pub fn campaign<A: Allocator + Copy + Send + Sync, B: Allocator + Sync>(
+    rt: &(impl Threads + Sync),
+    alloc: A,
+    image: &Image<B>,
+    inputs: &[u32],
+    first: u64,
+    count: u64,
+    steps: u64,
+) -> Result<Vec<SeedRun<A>, A>, StartFault>
+    requires { first + count ≤ 2 ^ 64 }
+    ensures { MatchResult result
+        (λ runs. IsStartable inputs.now
+        × (map ends_of runs.items ≡ plain_runs image.now inputs.now steps first count))
+        (λ fault. RefusesCampaign inputs.now fault) }
+{
+    match check_inputs(inputs) {
+        Ok(()) => {}
+        Err(fault) => return Err(fault),
+    }
+    match run_seeds(rt, alloc, image, inputs, first, count, steps) {
+        Ok(runs) => Ok(runs),
+        Err(AllocError) => Err(StartFault::Memory),
+    }
+}
+
+/// The runs of the next block of seeds, in order, or none where no seed is left; then these seeds are done. A block's
+/// runs are all that is held at a time. Where memory is refused, no seed is done.
+pub fn next_runs<A: Allocator + Copy + Send + Sync, B: Allocator + Sync>(
+    rt: &(impl Threads + Sync),
+    alloc: A,
+    image: &Image<B>,
+    inputs: &[u32],
+    seeds: &mut Seeds,
+    steps: u64,
+) -> Result<Option<Vec<SeedRun<A>, A>>, AllocError>
+    requires { IsStartable inputs.now }
+    ensures runs { IfOk result (λ block. IfSome block (λ runs.
+        runs_of image.now inputs.now steps (seeds_left seeds.old)
+        ≡ map ends_of runs.items ++ runs_of image.now inputs.now steps (seeds_left seeds.new))) }
+    ensures some { IfOk result (λ block. IfSome block (λ runs. 0 < length runs.items)) }
+    ensures none { IfOk result (λ block. IfNone block (seeds_left seeds.old ≡ [])) }
+    ensures unchanged { OnErr result (seeds.new ≡ seeds.old) }
+{
+    let mut after = *seeds;
+    let Some(block) = after.next_block(steps) else {
+        return Ok(None);
+    };
+    let runs = run_seeds(rt, alloc, image, inputs, block.first, block.count, steps)?;
+    *seeds = after;
+    Ok(Some(runs))
+}
+
+// The plain runs of seeds, in pieces of one seed at least: a run is worth a thread's time.
+fn run_seeds<A: Allocator + Copy + Send + Sync, B: Allocator + Sync>(
+    rt: &(impl Threads + Sync),
+    alloc: A,
+    image: &Image<B>,
+    inputs: &[u32],
+    first: u64,
+    count: u64,
+    steps: u64,
+) -> Result<Vec<SeedRun<A>, A>, AllocError>
+    requires startable { IsStartable inputs.now }
+    requires fits { first + count ≤ 2 ^ 64 }
+    ensures { IfOk result (λ runs.
+        map ends_of runs.items ≡ plain_runs image.now inputs.now steps first count) }
+{
+    let runs: Result<Vec<SeedRun<A>, A>, AllocError> = (0..count)
+        .into_par_iter()
+        .with_min_len(1)
+        .map(
+            |place: u64| -> Result<SeedRun<A>, AllocError>
+                requires { IsStartable inputs.now × (first + place < 2 ^ 64) }
+                ensures { IfOk result (λ run. ends_of run
+                    ≡ seed_ends image.entry.now inputs.entry.now steps (first + place)) }
+            { run_seed(alloc, image, inputs, steps, first + place) },
+        )
+        .collect(rt, alloc)?;
+    runs
+}
