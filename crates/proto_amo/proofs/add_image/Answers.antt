@@ -1,0 +1,8 @@
+use Rattle.proto_amo.proofs.Race.{add_made}
+use Rattle.proto_amo.proofs.add_image.Goals as goal
+
+pub returns-clause-agreed : goal.returns-clause-agreed
+returns-clause-agreed g c = (add_made c.in_ok-image.image c.in_ok-image.ensures).0
+
+pub returns-clause-ended : goal.returns-clause-ended
+returns-clause-ended g c = (add_made c.in_ok-image.image c.in_ok-image.ensures).1

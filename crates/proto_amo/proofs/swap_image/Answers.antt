@@ -1,0 +1,8 @@
+use Rattle.proto_amo.proofs.Race.{swap_made}
+use Rattle.proto_amo.proofs.swap_image.Goals as goal
+
+pub returns-clause-agreed : goal.returns-clause-agreed
+returns-clause-agreed g c = (swap_made c.in_ok-image.image c.in_ok-image.ensures).0
+
+pub returns-clause-ended : goal.returns-clause-ended
+returns-clause-ended g c = (swap_made c.in_ok-image.image c.in_ok-image.ensures).1

@@ -1,0 +1,8 @@
+use Rattle.proto_amo.proofs.Race.{swap_agrees_in, swap_ends_in}
+use Rattle.proto_amo.proofs.swap_in_every_run.Goals as goal
+
+pub returns-clause-agreed : goal.returns-clause-agreed
+returns-clause-agreed c = swap_agrees_in
+
+pub returns-clause-ended : goal.returns-clause-ended
+returns-clause-ended c = swap_ends_in
