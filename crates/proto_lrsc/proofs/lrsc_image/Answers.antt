@@ -1,0 +1,8 @@
+use Rattle.proto_lrsc.proofs.Race.{made}
+use Rattle.proto_lrsc.proofs.lrsc_image.Goals as goal
+
+pub returns-clause-agreed : goal.returns-clause-agreed
+returns-clause-agreed g c = (made c.in_ok-image.image c.in_ok-image.ensures).0
+
+pub returns-clause-ended : goal.returns-clause-ended
+returns-clause-ended g c = (made c.in_ok-image.image c.in_ok-image.ensures).1
