@@ -1,0 +1,8 @@
+use Rattle.proto_adopt.proofs.Alone.{made}
+use Rattle.proto_adopt.proofs.adopt_image.Goals as goal
+
+pub returns-clause-agreed : goal.returns-clause-agreed
+returns-clause-agreed g c = (made c.in_ok-image.image c.in_ok-image.ensures).0
+
+pub returns-clause-ended : goal.returns-clause-ended
+returns-clause-ended g c = (made c.in_ok-image.image c.in_ok-image.ensures).1

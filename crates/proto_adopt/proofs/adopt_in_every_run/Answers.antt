@@ -1,0 +1,8 @@
+use Rattle.proto_adopt.proofs.Alone.{agrees_in, ends_in}
+use Rattle.proto_adopt.proofs.adopt_in_every_run.Goals as goal
+
+pub returns-clause-agreed : goal.returns-clause-agreed
+returns-clause-agreed c = agrees_in
+
+pub returns-clause-ended : goal.returns-clause-ended
+returns-clause-ended c = ends_in
