@@ -1,6 +1,6 @@
 -- No check of an image refuses a program of few words.
-use Rattle.std.proofs.Common.{◌≡◌, ℕ, ◌+◌, ◌*◌, ◌<◌, ◌≤◌, Bool, false, List, [], ◌∷◌, ◌++◌, length, Ok, refl, arith, ap, sym, ◌∙◌, length-append, le-ltb}
-use Rattle.std.specs.Prelude.{nat_lt, nat_le}
+use Rattle.std.proofs.Common.{◌≡◌, ℕ, ◌*◌, ◌≤◌, false, List, [], ◌∷◌, length, Ok, refl, arith, length-append, le-ltb}
+use Rattle.std.specs.Prelude.{nat_lt}
 use Rattle.loader.specs.Image.{image_or_fault, image_fault}
 use Rattle.loader.specs.Spans.{space_fault}
 use Rattle.engines.specs.HexImage.{bytes_of, word_bytes, hex_segment, hex_image_of}

@@ -1,8 +1,8 @@
 -- How the words of a text go on from its front.
-use Rattle.std.proofs.Common.{zero, suc, ◌≡◌, ℕ, ◌+◌, ◌^◌, ◌*◌, ◌<◌, ◌≤◌, false, true, List, [], ◌∷◌, ◌++◌, length, Option, Some, None, Ok, Err, refl, arith, ap, sym, ◌∙◌, append_assoc, append-nil, eq-eqb, ne_eqb}
+use Rattle.std.proofs.Common.{zero, suc, ◌≡◌, ℕ, ◌+◌, ◌^◌, ◌<◌, List, [], ◌∷◌, ◌++◌, Option, Some, None, Ok, Err, refl, arith, ap, sym, ◌∙◌, append_assoc, append-nil, eq-eqb, ne_eqb}
 use Rattle.std.specs.Prelude.{◌==◌, if◌then◌else◌}
 use Rattle.std.specs.declared.result.Result.{Result}
-use Rattle.scheduler.specs.Items.{Item, items_from, span_of, IsFirstItem}
+use Rattle.scheduler.specs.Items.{items_from, span_of, IsFirstItem}
 use Rattle.engines.specs.declared.hex.HexFault.{HexFault}
 use Rattle.engines.specs.declared.hex.HexFault.TheVariants.{BadWord, TooMany}
 use Rattle.engines.specs.declared.hex.TheConstants.{MOST_WORDS}

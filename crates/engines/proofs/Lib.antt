@@ -1,4 +1,5 @@
-pub mod WordLemmas
 pub mod HexLemmas
 pub mod HexImageLemmas
 pub mod RunLemmas
+pub mod ProgramLemmas
+pub mod CampaignLemmas

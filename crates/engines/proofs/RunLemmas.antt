@@ -1,6 +1,5 @@
 -- What a run's answer and its parts say of one another.
-use Rattle.std.proofs.Common.{◌≡◌, ◌≢◌, ℕ, ◌<◌, Bool, true, false, eqb, cond, ltb, List, length, map, Result, Ok, Err, refl, ap, sym, subst, ◌∙◌}
-use Rattle.std.specs.List.{All}
+use Rattle.std.proofs.Common.{◌≡◌, ◌≢◌, ℕ, Bool, true, false, eqb, cond, ltb, List, length, map, Result, Ok, Err, ap, sym, subst, ◌∙◌}
 use Rattle.reservations.specs.declared.reserve.TheConstants.{MAX_HARTS}
 use Rattle.loader.specs.Image.{ImageValue}
 use Rattle.hart_step.specs.Hart.{hart_of}
@@ -12,11 +11,17 @@ use Rattle.machine.specs.declared.choice.Choice.{Choice}
 use Rattle.scheduler.specs.Reading.{choices_of}
 use Rattle.scheduler.specs.declared.choice_text.ChoiceFault.{ChoiceFault}
 use Rattle.scheduler.specs.declared.choice_text.ChoiceFault.TheVariants as choice
+use Rattle.loader.specs.File.{loaded}
+use Rattle.loader.specs.declared.fault.ElfFault.{ElfFault}
+use Rattle.loader.specs.declared.fault.ElfFault.TheVariants as elf
 use Rattle.engines.specs.HexText.{words_of}
-use Rattle.engines.specs.Run.{Answer, after_words, after_choices, run_answer, IfReads}
+use Rattle.engines.specs.Program.{image_of_file, image_of_hex, program_of}
+use Rattle.engines.specs.RunFaults.{fault_of_elf}
+use Rattle.engines.specs.Run.{Answer, after_program, after_choices, run_answer, IfReads}
 use Rattle.engines.specs.declared.hex.HexFault.{HexFault}
 use Rattle.engines.specs.declared.hex.HexFault.TheVariants as hex
-use Rattle.engines.specs.declared.run_fault.Input.{Input}
+use Rattle.engines.specs.declared.program.ProgramForm.{ProgramForm}
+use Rattle.engines.specs.declared.program.ProgramForm.TheVariants as form
 use Rattle.engines.specs.declared.run_fault.RunFault.{RunFault}
 use Rattle.engines.specs.declared.run_fault.RunFault.TheVariants as fault
 
@@ -36,38 +41,62 @@ AnswersAlone : Answer → Type 0
 AnswersAlone (Ok answer) = Unit {0}
 AnswersAlone (Err why) = NamesNoDevice why
 
-alone-choices : (words inputs : List ℕ) (r : Result (List Choice) ChoiceFault) → AnswersAlone (after_choices words inputs r)
+alone-choices : (image : ImageValue) (inputs : List ℕ) (r : Result (List Choice) ChoiceFault) → AnswersAlone (after_choices image inputs r)
 unfolding NamesNoDevice AnswersAlone
-alone-choices words inputs (Ok choices) = tt
-alone-choices words inputs (Err (choice.BadChoice offset)) = tt
-alone-choices words inputs (Err (choice.NoHart offset)) = tt
-alone-choices words inputs (Err choice.Memory) = tt
+alone-choices image inputs (Ok choices) = tt
+alone-choices image inputs (Err (choice.BadChoice offset)) = tt
+alone-choices image inputs (Err (choice.NoHart offset)) = tt
+alone-choices image inputs (Err choice.Memory) = tt
 
-alone-words : (inputs text : List ℕ) (r : Result (List ℕ) HexFault) → AnswersAlone (after_words inputs text r)
-unfolding NamesNoDevice AnswersAlone
-alone-words inputs text (Ok words) = go (eqb (length inputs) 0) (ltb MAX_HARTS (length inputs))
+-- what is no fault of a device, where a program isn't read
+ReadsAlone : Result ImageValue RunFault → Type 0
+ReadsAlone (Ok image) = Unit {0}
+ReadsAlone (Err why) = NamesNoDevice why
+
+alone-elf : (why : ElfFault) → NamesNoDevice (fault_of_elf why)
+unfolding NamesNoDevice
+alone-elf elf.Memory = tt
+alone-elf why = tt
+
+alone-file : (r : Result ImageValue ElfFault) → ReadsAlone (image_of_file r)
+unfolding ReadsAlone
+alone-file (Ok image) = tt
+alone-file (Err why) = alone-elf why
+
+alone-hex : (r : Result (List ℕ) HexFault) → ReadsAlone (image_of_hex r)
+unfolding NamesNoDevice ReadsAlone
+alone-hex (Ok words) = tt
+alone-hex (Err (hex.BadWord item)) = tt
+alone-hex (Err (hex.TooMany item)) = tt
+alone-hex (Err hex.Memory) = tt
+
+alone-read : (written : ProgramForm) (bytes : List ℕ) → ReadsAlone (program_of written bytes)
+alone-read form.Hex bytes = alone-hex (words_of bytes)
+alone-read form.Elf bytes = alone-file (loaded bytes)
+
+alone-program : (inputs text : List ℕ) (r : Result ImageValue RunFault) → ReadsAlone r → AnswersAlone (after_program inputs text r)
+unfolding NamesNoDevice AnswersAlone ReadsAlone
+alone-program inputs text (Ok image) read = go (eqb (length inputs) 0) (ltb MAX_HARTS (length inputs))
   where
     go : (none many : Bool) → AnswersAlone (cond none (Err fault.NoHarts) (cond many (Err fault.TooManyHarts)
-        (after_choices words inputs (choices_of (length inputs) text))))
+        (after_choices image inputs (choices_of (length inputs) text))))
     go true many = tt
     go false true = tt
-    go false false = alone-choices words inputs (choices_of (length inputs) text)
-alone-words inputs text (Err (hex.BadWord item)) = tt
-alone-words inputs text (Err (hex.TooMany item)) = tt
-alone-words inputs text (Err hex.Memory) = tt
+    go false false = alone-choices image inputs (choices_of (length inputs) text)
+alone-program inputs text (Err why) read = read
 
-alone : (inputs program text : List ℕ) (why : RunFault) → run_answer inputs program text ≡ Err why → NamesNoDevice why
+alone : (written : ProgramForm) (inputs program text : List ℕ) (why : RunFault) → run_answer written inputs program text ≡ Err why → NamesNoDevice why
 unfolding run_answer AnswersAlone
-alone inputs program text why e = subst AnswersAlone e (alone-words inputs text (words_of program))
+alone written inputs program text why e = subst AnswersAlone e (alone-program inputs text (program_of written program) (alone-read written program))
 
 -- a fault of the run of texts names no device
-pub no_device : (inputs program text : List ℕ) (why : RunFault)
-    → (why ≢ fault.Memory → run_answer inputs program text ≡ Err why) → NamesNoDevice why
+pub no_device : (written : ProgramForm) (inputs program text : List ℕ) (why : RunFault)
+    → (why ≢ fault.Memory → run_answer written inputs program text ≡ Err why) → NamesNoDevice why
 unfolding NamesNoDevice
-no_device inputs program text fault.Memory h = tt
-no_device inputs program text (fault.Read input) h = alone inputs program text (fault.Read input) (h (λ e. cc))
-no_device inputs program text fault.Write h = alone inputs program text fault.Write (h (λ e. cc))
-no_device inputs program text why h = tt
+no_device written inputs program text fault.Memory h = tt
+no_device written inputs program text (fault.Read input) h = alone written inputs program text (fault.Read input) (h (λ e. cc))
+no_device written inputs program text fault.Write h = alone written inputs program text fault.Write (h (λ e. cc))
+no_device written inputs program text why h = tt
 
 pub reads_none : (why : RunFault) (P Q : Type 0) → NamesNoDevice why → IfReads why P Q
 unfolding NamesNoDevice

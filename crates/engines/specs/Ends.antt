@@ -1,11 +1,12 @@
 -- The printed lines of harts' ends.
-use Rattle.std.specs.Prelude.{ℕ, zero, suc, ◌/◌, ◌%◌, ◌+◌, Bool, true, false, ◌||◌, List, [], ◌∷◌, ◌++◌, codes, if◌then◌else◌}
-use Rattle.std.specs.Fmt.{decimal, digit_glyph}
+use Rattle.std.specs.Prelude.{ℕ, ◌+◌, Bool, true, false, ◌||◌, List, [], ◌∷◌, ◌++◌, codes, if◌then◌else◌}
+use Rattle.std.specs.Fmt.{decimal}
 use Rattle.hart_step.specs.declared.hart.Cause.{Cause}
 use Rattle.hart_step.specs.declared.hart.Cause.TheVariants.{FetchAccess, Illegal, LoadMisaligned, LoadAccess, StoreMisaligned, StoreAccess, JumpMisaligned, BadCall, Break}
 use Rattle.hart_step.specs.declared.hart.HartState.{HartState}
 use Rattle.hart_step.specs.declared.hart.HartState.TheVariants.{Running, Exited, Faulted}
 use Rattle.hart_step.specs.Hart.{HartValue}
+use Rattle.hex_word.specs.Digits.{word_text}
 use Rattle.engines.specs.declared.status.Status.{Status}
 use Rattle.engines.specs.declared.status.Status.TheVariants as status
 
@@ -20,15 +21,6 @@ cause_name StoreAccess = codes "StoreAccess"
 cause_name JumpMisaligned = codes "JumpMisaligned"
 cause_name BadCall = codes "BadCall"
 cause_name Break = codes "Break"
-
--- the last k hexadecimal digits of n, with zeros in front, and then a text
-abbrev pub hex_onto : ℕ → ℕ → List ℕ → List ℕ
-hex_onto zero n text = text
-hex_onto (suc k) n text = hex_onto k (n / 16) (digit_glyph false (n % 16) ∷ text)
-
--- a word as eight lower-case hexadecimal digits
-abbrev pub word_text : ℕ → List ℕ
-word_text n = hex_onto 8 n []
 
 -- the registers that a result is left in: a0 is x10, a1 is x11
 abbrev pub a0_of : HartValue → ℕ

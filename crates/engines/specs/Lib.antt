@@ -4,4 +4,8 @@ pub mod HexText
 pub mod Status
 pub mod RunFaults
 pub mod HexImage
+pub mod Program
 pub mod Run
+pub mod Info
+pub mod File
+pub mod Campaign

@@ -5,8 +5,8 @@ ghost use Rattle.hart_step.specs.Hart.{hart_of};
 ghost use Rattle.engines.specs.Ends.{cause_name, end_line, ends_of, any_faulted, status_of};
 
 use crate::status::Status;
-use crate::word::Word;
 use hart_step::{Cause, Hart, HartState};
+use hex_word::Word;
 use std::alloc::{AllocError, Allocator};
 use std::fmt;
 
@@ -67,7 +67,7 @@ impl fmt::Display for EndLine {
 }
 
 // Whether some hart was stopped by its instruction.
-fn has_faulted(harts: &[Hart]) -> bool
+pub(crate) fn has_faulted(harts: &[Hart]) -> bool
     ensures { result ≡ any_faulted (map hart_of harts.now) }
 {
     'harts: for hart in harts {

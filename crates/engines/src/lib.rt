@@ -1,25 +1,35 @@
 //! What the program's commands do, over any source of bytes and any sink.
 #![tactic(auto)]
 
+pub use campaign::{End, Plan, Progress, Unheard, campaign_engine};
 pub use device::{DeviceFault, Sink, Source};
 pub use ends::{EndLine, ends_text};
 pub use failing::{Failing, FullSink};
+pub use file::{FileView, file_engine, file_text};
 pub use hex::{HexFault, MOST_WORDS, read_hex};
 pub use hex_program::{HEX_BASE, HEX_SIZE, hex_image};
+pub use hex_word::Word;
 pub use in_memory::{MemorySink, MemorySource};
+pub use info::info_text;
+pub use program::{ProgramForm, read_program};
 pub use run::{run_engine, run_text};
 pub use run_fault::{Input, RunFault};
 pub use status::Status;
 pub use stream::{ReaderSource, WriterSink};
 pub use transfer::{ReadFault, read_all, write_all};
-pub use word::Word;
 
+mod campaign;
 mod device;
 mod ends;
 mod failing;
+mod file;
+#[cfg(test)]
+mod file_tests;
 mod hex;
 mod hex_program;
 mod in_memory;
+mod info;
+mod program;
 mod run;
 mod run_fault;
 #[cfg(test)]
@@ -29,4 +39,3 @@ mod stream;
 #[cfg(test)]
 mod tests;
 mod transfer;
-mod word;

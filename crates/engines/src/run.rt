@@ -6,8 +6,7 @@ ghost use Rattle.engines.specs.Run.{run_answer, IsRefusal, Prints, BeginsToPrint
 
 use crate::device::{Sink, Source};
 use crate::ends::ends_text;
-use crate::hex::read_hex;
-use crate::hex_program::hex_image;
+use crate::program::{ProgramForm, read_program};
 use crate::run_fault::{Input, RunFault};
 use crate::status::Status;
 use crate::transfer::{ReadFault, read_all, write_all};
@@ -16,26 +15,24 @@ use memory::FlatStore;
 use scheduler::read_choices;
 use std::alloc::Allocator;
 
-/// What a run of a program of hexadecimal words prints and its status, or why it is refused. Checked are, in this order,
-/// the program, the number of inputs and the choice text.
+/// What a run of a program in this form prints and its status, or why it is refused. Checked are, in this order, the
+/// program, the number of inputs and the choice text.
 #[tactic(auto, unfolding(crate::specs::Run::run_answer))]
 pub fn run_text<A: Allocator + Copy>(
     alloc: A,
+    form: ProgramForm,
     inputs: &[u32],
-    hex: &[u8],
+    program: &[u8],
     text: &[u8],
 ) -> Result<(String<A>, Status), RunFault>
     ensures ok { IfOk result (λ answer.
-        run_answer inputs.now hex.now text.now ≡ Ok (string_bytes answer.0, answer.1)) }
+        run_answer form inputs.now program.now text.now ≡ Ok (string_bytes answer.0, answer.1)) }
     ensures err { IfErr result (λ fault. fault ≢ RunFault.Memory
-        → run_answer inputs.now hex.now text.now ≡ Err fault) }
+        → run_answer form inputs.now program.now text.now ≡ Err fault) }
 {
-    let words = match read_hex(alloc, hex) {
-        Ok(words) => words,
-        Err(fault) => return Err(RunFault::from(fault)),
-    };
-    let Ok(image) = hex_image(alloc, &words) else {
-        return Err(RunFault::Memory);
+    let image = match read_program(alloc, form, program) {
+        Ok(image) => image,
+        Err(fault) => return Err(fault),
     };
     let mut machine: Machine<FlatStore<A>, A> = match Machine::start(alloc, &image, inputs) {
         Ok(machine) => machine,
@@ -55,39 +52,39 @@ pub fn run_text<A: Allocator + Copy>(
     }
 }
 
-/// `run --hex`: reads the program's hexadecimal words and then the choice text, each to its end, and writes how the harts
-/// end. Nothing is written where what was read is refused.
-pub fn run_engine<A: Allocator + Copy, H: Source, C: Source, K: Sink>(
+/// `run`: reads the program in this form and then the choice text, each to its end, and writes how the harts end. Nothing is written where what was read is refused.
+pub fn run_engine<A: Allocator + Copy, P: Source, C: Source, K: Sink>(
     alloc: A,
+    form: ProgramForm,
     inputs: &[u32],
-    hex: &mut H,
+    program: &mut P,
     choices: &mut C,
     sink: &mut K,
 ) -> Result<Status, RunFault>
-    requires hex_counts { H.failures hex.old < 2 ^ 64 - 1 }
+    requires program_counts { P.failures program.old < 2 ^ 64 - 1 }
     requires choices_count { C.failures choices.old < 2 ^ 64 - 1 }
     requires sink_counts { K.failures sink.old < 2 ^ 64 - 1 }
     // The printed world of the run was appended, and this is its status.
     ensures done { IfOk result (λ status.
-        IfSome (H.left hex.old) (λ h. IfSome (C.left choices.old) (λ c.
-        Prints (run_answer inputs.now h c) status (K.held sink.old) (K.held sink.new)))) }
+        IfSome (P.left program.old) (λ p. IfSome (C.left choices.old) (λ c.
+        Prints (run_answer form inputs.now p c) status (K.held sink.old) (K.held sink.new)))) }
     // What was read is refused, and nothing is written.
     ensures refused { IfErr result (λ fault. IsRefusal fault
-        → IfSome (H.left hex.old) (λ h. IfSome (C.left choices.old) (λ c.
-        run_answer inputs.now h c ≡ Err fault))) }
+        → IfSome (P.left program.old) (λ p. IfSome (C.left choices.old) (λ c.
+        run_answer form inputs.now p c ≡ Err fault))) }
     ensures unwritten { IfErr result (λ fault. fault ≢ RunFault.Write
         → Keeps (K.held sink.old) (K.held sink.new)) }
     // A device is named only where it failed.
     ensures read { IfErr result (λ fault. IfReads fault
-        (H.failures hex.old < H.failures hex.new)
+        (P.failures program.old < P.failures program.new)
         (C.failures choices.old < C.failures choices.new)) }
     ensures write { result ≡ Err RunFault.Write → K.failures sink.old < K.failures sink.new }
     // After a failed write a beginning of the output stands there.
     ensures begun { result ≡ Err RunFault.Write
-        → IfSome (H.left hex.old) (λ h. IfSome (C.left choices.old) (λ c.
-        BeginsToPrint (run_answer inputs.now h c) (K.held sink.old) (K.held sink.new))) }
+        → IfSome (P.left program.old) (λ p. IfSome (C.left choices.old) (λ c.
+        BeginsToPrint (run_answer form inputs.now p c) (K.held sink.old) (K.held sink.new))) }
 {
-    let program = match read_all(alloc, hex) {
+    let bytes = match read_all(alloc, program) {
         Ok(bytes) => bytes,
         Err(ReadFault::Device) => return Err(RunFault::Read(Input::File)),
         Err(ReadFault::Memory) => return Err(RunFault::Memory),
@@ -97,7 +94,7 @@ pub fn run_engine<A: Allocator + Copy, H: Source, C: Source, K: Sink>(
         Err(ReadFault::Device) => return Err(RunFault::Read(Input::Choices)),
         Err(ReadFault::Memory) => return Err(RunFault::Memory),
     };
-    let (lines, status) = match run_text(alloc, inputs, &program, &text) {
+    let (lines, status) = match run_text(alloc, form, inputs, &bytes, &text) {
         Ok(answer) => answer,
         Err(fault) => return Err(fault),
     };

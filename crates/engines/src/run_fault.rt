@@ -1,10 +1,11 @@
 //! Why a run gives no answer.
 
 ghost use Rattle.std.specs.Prelude.{◌≡◌};
-ghost use Rattle.engines.specs.RunFaults.{status_of_fault, fault_of_hex, fault_of_start, fault_of_choices};
+ghost use Rattle.engines.specs.RunFaults.{status_of_fault, fault_of_elf, fault_of_hex, fault_of_start, fault_of_choices};
 
 use crate::hex::HexFault;
 use crate::status::Status;
+use loader::ElfFault;
 use machine::StartFault;
 use scheduler::ChoiceFault;
 use thiserror::Error;
@@ -28,6 +29,9 @@ pub enum RunFault {
     /// The hexadecimal program has more items than words are taken.
     #[error("hex fault TooMany at {0}")]
     TooMany(usize),
+    /// The file is refused by this check of the loader's.
+    #[error("{0}")]
+    Elf(ElfFault),
     /// No input is given, so there would be no hart.
     #[error("start fault 1 NoHarts")]
     NoHarts,
@@ -59,6 +63,7 @@ impl RunFault {
         match self {
             RunFault::BadWord(_)
             | RunFault::TooMany(_)
+            | RunFault::Elf(_)
             | RunFault::NoHarts
             | RunFault::TooManyHarts
             | RunFault::BadChoice(_)
@@ -78,6 +83,17 @@ impl From<HexFault> for RunFault {
             HexFault::BadWord(item) => RunFault::BadWord(item),
             HexFault::TooMany(item) => RunFault::TooMany(item),
             HexFault::Memory => RunFault::Memory,
+        }
+    }
+}
+
+impl From<ElfFault> for RunFault {
+    ghost from_gives = { λ fault answer. answer ≡ fault_of_elf fault };
+
+    fn from(fault: ElfFault) -> RunFault {
+        match fault {
+            ElfFault::Memory => RunFault::Memory,
+            fault => RunFault::Elf(fault),
         }
     }
 }

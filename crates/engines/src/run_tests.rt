@@ -1,5 +1,7 @@
 //! What no clause says: worked programs, run to their printed ends.
-use crate::{Failing, FullSink, Input, MemorySink, MemorySource, RunFault, Status, run_engine};
+use crate::{
+    Failing, FullSink, Input, MemorySink, MemorySource, ProgramForm, RunFault, Status, run_engine,
+};
 use refusing::Refusing;
 
 // A program in hexadecimal, the inputs, the choices, and what is printed or why not.
@@ -212,6 +214,7 @@ fn worked_programs_end_as_worked(rt: HostRuntime) {
         let mut sink = MemorySink::new(rt.alloc());
         let result = run_engine(
             rt.alloc(),
+            ProgramForm::Hex,
             row.inputs,
             &mut program,
             &mut choices,
@@ -243,7 +246,14 @@ fn a_run_survives_each_refused_request(rt: HostRuntime) {
         let mut program = MemorySource::new(PROGRAM);
         let mut choices = MemorySource::new(CHOICES);
         let mut sink = MemorySink::new(rt.alloc());
-        let result = run_engine(&heap, &[7, 9], &mut program, &mut choices, &mut sink);
+        let result = run_engine(
+            &heap,
+            ProgramForm::Hex,
+            &[7, 9],
+            &mut program,
+            &mut choices,
+            &mut sink,
+        );
         if result == Ok(Status::Done) {
             assert_eq!(rt; sink.bytes(), ENDS.as_bytes());
         } else {
@@ -266,13 +276,27 @@ fn a_failing_input_is_named(rt: HostRuntime) {
         let mut program = Failing::new(MemorySource::new(PROGRAM), passed);
         let mut choices = MemorySource::new(CHOICES);
         let mut sink = MemorySink::new(rt.alloc());
-        let result = run_engine(rt.alloc(), &[7, 9], &mut program, &mut choices, &mut sink);
+        let result = run_engine(
+            rt.alloc(),
+            ProgramForm::Hex,
+            &[7, 9],
+            &mut program,
+            &mut choices,
+            &mut sink,
+        );
         assert_eq!(rt; result, Err(RunFault::Read(Input::File)));
         assert_eq!(rt; sink.bytes().len(), 0);
         let mut program = MemorySource::new(PROGRAM);
         let mut choices = Failing::new(MemorySource::new(CHOICES), passed);
         let mut sink = MemorySink::new(rt.alloc());
-        let result = run_engine(rt.alloc(), &[7, 9], &mut program, &mut choices, &mut sink);
+        let result = run_engine(
+            rt.alloc(),
+            ProgramForm::Hex,
+            &[7, 9],
+            &mut program,
+            &mut choices,
+            &mut sink,
+        );
         assert_eq!(rt; result, Err(RunFault::Read(Input::Choices)));
         assert_eq!(rt; sink.bytes().len(), 0);
     }
@@ -283,12 +307,26 @@ fn a_failing_output_is_told(rt: HostRuntime) {
     let mut program = MemorySource::new(PROGRAM);
     let mut choices = MemorySource::new(CHOICES);
     let mut sink = Failing::new(MemorySink::new(rt.alloc()), 0);
-    let result = run_engine(rt.alloc(), &[7, 9], &mut program, &mut choices, &mut sink);
+    let result = run_engine(
+        rt.alloc(),
+        ProgramForm::Hex,
+        &[7, 9],
+        &mut program,
+        &mut choices,
+        &mut sink,
+    );
     assert_eq!(rt; result, Err(RunFault::Write));
     assert_eq!(rt; sink.device().bytes().len(), 0);
     let mut program = MemorySource::new(PROGRAM);
     let mut choices = MemorySource::new(CHOICES);
     let mut sink = FullSink::new();
-    let result = run_engine(rt.alloc(), &[7, 9], &mut program, &mut choices, &mut sink);
+    let result = run_engine(
+        rt.alloc(),
+        ProgramForm::Hex,
+        &[7, 9],
+        &mut program,
+        &mut choices,
+        &mut sink,
+    );
     assert_eq!(rt; result, Err(RunFault::Write));
 }

@@ -1,4 +1,4 @@
-use Rattle.std.proofs.Common.{◌≡◌, ◌+◌, ◌∷◌, ◌++◌, [], vec_len, arith, ap, sym, ◌∙◌}
+use Rattle.std.proofs.Common.{◌≡◌, ◌+◌, vec_len, arith, ap, sym, ◌∙◌}
 use Rattle.scheduler.specs.Items.{items_from}
 use Rattle.engines.specs.HexText.{words_named, followed_by}
 use Rattle.engines.specs.declared.hex.TheConstants.{MOST_WORDS}

@@ -1,10 +1,9 @@
-use Rattle.std.proofs.Common.{◌≡◌, ◌<◌, length, map, refl, sym, subst}
+use Rattle.std.proofs.Common.{◌≡◌, length, map, refl}
 use Rattle.hart_step.specs.Hart.{hart_of}
-use Rattle.machine.proofs.RunLaws.{length-started}
 use Rattle.engines.proofs.RunLemmas.{harts-started}
 use Rattle.engines.proofs.run.run_text.Goals as goal
 
 pub run-requires : goal.run-requires
 run-requires g c =
     let count : length (map hart_of c.in-Ok-start.machine.harts.items) ≡ length c.args.inputs.now = harts-started _ _ _ _ refl c.in-Ok-start.ensures.2 in
-    rw (c.deref-2.ensures.value, count) c.in-Ok-read_choices.ensures.within
+    rw (c.deref.ensures.value, count) c.in-Ok-read_choices.ensures.within

@@ -1,0 +1,189 @@
+-- How far a campaign has come, block by block.
+use Rattle.std.proofs.Common.{⊎_elim, ◌≡◌, ◌≢◌, ℕ, ◌+◌, ◌<◌, ◌≤◌, true, false, cond, eqb, ltb, List, [], ◌∷◌, ◌++◌, length, take, Option, Result, Ok, Err, IfOk, IfErr, append-nil, append_assoc, arith, refl, rules, ap, sym, subst, ◌∙◌}
+use Rattle.std.proofs.KnownBytes.{Appends-nil, Appends-trans}
+use Rattle.std.proofs.Math.Seq.{take-append-add, take-append_seam}
+use Rattle.std.proofs.lemmas.Grind.{common_steps, flat_map-append}
+use Rattle.std.proofs.lemmas.Bool.{cases_lt}
+use Rattle.std.proofs.lemmas.List.{take-append-le}
+use Rattle.std.specs.Io.KnownBytes.{Appends}
+use Rattle.loader.specs.Image.{ImageValue}
+use Rattle.reservations.specs.declared.reserve.TheConstants.{MAX_HARTS}
+use Rattle.campaigns.specs.Campaign.{SeedEnds, IsStartable, RefusesCampaign, plain_runs}
+use Rattle.machine.specs.declared.start.StartFault.{StartFault}
+use Rattle.machine.specs.declared.start.StartFault.TheVariants as start
+use Rattle.engines.specs.RunFaults.{fault_of_start}
+use Rattle.engines.specs.Campaign.{Begins, after_image, campaign_answer, faulted_runs, one_if, seed_entry, seed_lines, shown_runs}
+use Rattle.engines.specs.Program.{program_of}
+use Rattle.engines.specs.Run.{Answer, BeginsToPrint, Prints}
+use Rattle.engines.specs.declared.status.Status.{Status}
+use Rattle.engines.specs.declared.program.ProgramForm.TheVariants as form
+use Rattle.engines.specs.declared.run_fault.RunFault.{RunFault}
+use Rattle.engines.specs.declared.run_fault.RunFault.TheVariants as fault
+use Rattle.engines.specs.Ends.{any_faulted}
+
+-- what is appended is also a beginning of anything that goes on after it
+pub begins_at : (old now : Option (List ℕ)) (xs rest : List ℕ) → Appends old now xs → Begins (xs ++ rest) old now
+begins_at old now xs rest h =
+    (length xs, subst (λ bytes. Appends old now bytes) (sym (take-append_seam xs rest)) h)
+
+take_within : (n : ℕ) (ys : List ℕ) → (m : ℕ) × ((m ≤ length ys) × (take m ys ≡ take n ys))
+take_within n ys = ⊎_elim
+    (λ (lt : n < length ys). (n, (omega arith, refl)))
+    (λ (ge : length ys ≤ n). (length ys, (omega arith, whole ge)))
+    (cases_lt n (length ys))
+  where
+    whole : length ys ≤ n → take (length ys) ys ≡ take n ys
+    whole ge = search (rules, common_steps, ge)
+
+-- a beginning of what comes next, after what was appended before
+pub begins_in : (old now new : Option (List ℕ)) (xs ys rest : List ℕ) (n : ℕ)
+    → Appends old now xs → Appends now new (take n ys) → Begins (xs ++ (ys ++ rest)) old new
+begins_in old now new xs ys rest n before more =
+    let within = take_within n ys in
+    let m = within.0 in
+    let part : take (length xs + m) (xs ++ (ys ++ rest)) ≡ xs ++ take n ys
+    = take-append-add xs (ys ++ rest) m ∙ ap (λ bytes. xs ++ bytes) (take-append-le m ys rest within.1.0 ∙ within.1.1) in
+    (length xs + m, subst (λ bytes. Appends old new bytes) (sym part) (Appends-trans old now new xs (take n ys) before more))
+
+pub lines-append : (runs more : List SeedEnds) → seed_lines (runs ++ more) ≡ seed_lines runs ++ seed_lines more
+lines-append runs more = flat_map-append seed_entry runs more
+
+pub faulted-append : (runs more : List SeedEnds) → faulted_runs (runs ++ more) ≡ faulted_runs runs + faulted_runs more
+faulted-append [] more = omega arith
+faulted-append (run ∷ runs) more =
+    ap (λ n. one_if (any_faulted run.harts) + n) (faulted-append runs more) ∙ omega arith
+
+-- the lines of the runs that are done were appended; those of the others are to come
+pub record SoFar (all left : List SeedEnds) (old now : Option (List ℕ)) (faulted : ℕ) : Type 0 where
+  pub done : List SeedEnds
+  pub order : all ≡ done ++ left
+  pub text : Appends old now (seed_lines done)
+  pub count : ltb 0 faulted ≡ ltb 0 (faulted_runs done)
+
+pub at_start : (all : List SeedEnds) (old : Option (List ℕ)) → SoFar all all old old 0
+at_start all old = record { done = []; order = refl; text = Appends-nil old; count = refl }
+
+-- one block later
+pub one_more : (all block left : List SeedEnds) (old now new : Option (List ℕ)) (faulted total : ℕ)
+    → SoFar all (block ++ left) old now faulted → Appends now new (seed_lines block)
+    → ltb 0 total ≡ ltb 0 (faulted + faulted_runs block)
+    → SoFar all left old new total
+one_more all block left old now new faulted total before more sum = record {
+  done = before.done ++ block;
+  order = before.order ∙ sym (append_assoc before.done block left);
+  text = subst (λ bytes. Appends old new bytes) (sym (lines-append before.done block))
+      (Appends-trans old now new (seed_lines before.done) (seed_lines block) before.text more);
+  count = sum ∙ positive faulted (faulted_runs before.done) (faulted_runs block) before.count ∙ ap (ltb 0) (sym (faulted-append before.done block));
+}
+  where
+    positive : (m n k : ℕ) → ltb 0 m ≡ ltb 0 n → ltb 0 (m + k) ≡ ltb 0 (n + k)
+    positive m n k h = search (rules, common_steps, h)
+
+-- all is done
+pub at_end : (all : List SeedEnds) (old now : Option (List ℕ)) (faulted : ℕ) → SoFar all [] old now faulted
+    → Appends old now (seed_lines all) × (ltb 0 faulted ≡ ltb 0 (faulted_runs all))
+at_end all old now faulted h =
+    let whole : all ≡ h.done = h.order ∙ append-nil h.done in
+    (subst (λ runs. Appends old now (seed_lines runs)) (sym whole) h.text, h.count ∙ ap (λ runs. ltb 0 (faulted_runs runs)) (sym whole))
+
+-- a halt between two blocks
+pub halts_between : (all left : List SeedEnds) (old now : Option (List ℕ)) (faulted : ℕ) → SoFar all left old now faulted
+    → Begins (seed_lines all) old now
+halts_between all left old now faulted h =
+    subst (λ bytes. Begins bytes old now) (sym (ap seed_lines h.order ∙ lines-append h.done left))
+    (begins_at old now (seed_lines h.done) (seed_lines left) h.text)
+
+-- a halt within a block
+pub halts_within : (all block left : List SeedEnds) (old now new : Option (List ℕ)) (faulted n : ℕ) → SoFar all (block ++ left) old now faulted
+    → Appends now new (take n (seed_lines block)) → Begins (seed_lines all) old new
+halts_within all block left old now new faulted n h more =
+    let lines : seed_lines all ≡ seed_lines h.done ++ (seed_lines block ++ seed_lines left)
+    = ap seed_lines h.order ∙ lines-append h.done (block ++ left) ∙ ap (λ bytes. seed_lines h.done ++ bytes) (lines-append block left) in
+    subst (λ bytes. Begins bytes old new) (sym lines)
+    (begins_in old now new (seed_lines h.done) (seed_lines block) (seed_lines left) n h.text more)
+
+-- a halt within a block, by what is known of the block's text
+pub halts_in_block : (all runs block left : List SeedEnds) (old now new : Option (List ℕ)) (faulted : ℕ) (bytes : List ℕ)
+    → runs ≡ block ++ left → bytes ≡ seed_lines block → SoFar all runs old now faulted
+    → (n : ℕ) × Appends now new (take n bytes) → Begins (seed_lines all) old new
+halts_in_block all runs block left old now new faulted bytes split lines before more =
+    halts_within all block left old now new faulted more.0
+    (subst (λ rest. SoFar all rest old now faulted) split before)
+    (subst (λ text. Appends now new (take more.0 text)) lines more.1)
+
+-- one block later, by what is known of the block's text and of its faults
+pub goes_on : (all runs block left : List SeedEnds) (old now new : Option (List ℕ)) (faulted total stopped : ℕ) (bytes : List ℕ)
+    → runs ≡ block ++ left → bytes ≡ seed_lines block → stopped ≡ faulted_runs block → SoFar all runs old now faulted
+    → Appends now new bytes → ltb 0 total ≡ ltb 0 (faulted + stopped) → SoFar all left old new total
+goes_on all runs block left old now new faulted total stopped bytes split lines count before more sum =
+    one_more all block left old now new faulted total
+    (subst (λ rest. SoFar all rest old now faulted) split before)
+    (subst (λ text. Appends now new text) lines more)
+    (sum ∙ ap (λ n. ltb 0 (faulted + n)) count)
+
+-- ---- what is answered once the program is read
+
+-- runs that may start
+pub answer_of_runs : (inputs : List ℕ) (first count steps : ℕ) (bytes : List ℕ) (image : ImageValue) → program_of form.Elf bytes ≡ Ok image → IsStartable inputs
+    → campaign_answer inputs first count steps bytes ≡ Ok (shown_runs (plain_runs image inputs steps first count))
+unfolding campaign_answer
+answer_of_runs inputs first count steps bytes image read startable =
+    ap (after_image inputs first count steps) read
+    ∙ ap (λ none. cond none (Err fault.NoHarts) (cond (ltb MAX_HARTS (length inputs)) (Err fault.TooManyHarts) (Ok (shown_runs (plain_runs image inputs steps first count)))))
+    (some (length inputs) startable.0)
+    ∙ ap (λ many. cond many (Err fault.TooManyHarts) (Ok (shown_runs (plain_runs image inputs steps first count)))) (few (length inputs) startable.1)
+  where
+    some : (n : ℕ) → 0 < n → eqb n 0 ≡ false
+    some n h = search (rules, common_steps, h)
+
+    few : (n : ℕ) → n ≤ MAX_HARTS → ltb MAX_HARTS n ≡ false
+    few n h = search (rules, common_steps, h)
+
+-- a program that isn't read
+pub answer_of_unread : (inputs : List ℕ) (first count steps : ℕ) (bytes : List ℕ) (why : RunFault) → program_of form.Elf bytes ≡ Err why
+    → campaign_answer inputs first count steps bytes ≡ Err why
+unfolding campaign_answer
+answer_of_unread inputs first count steps bytes why read = ap (after_image inputs first count steps) read
+
+-- inputs that no run can start with
+pub answer_of_none : (inputs : List ℕ) (first count steps : ℕ) (bytes : List ℕ) (image : ImageValue) → program_of form.Elf bytes ≡ Ok image → length inputs ≡ 0
+    → campaign_answer inputs first count steps bytes ≡ Err fault.NoHarts
+unfolding campaign_answer
+answer_of_none inputs first count steps bytes image read none =
+    ap (after_image inputs first count steps) read
+    ∙ ap (λ n. cond (eqb n 0) (Err fault.NoHarts) (cond (ltb MAX_HARTS n) (Err fault.TooManyHarts) (Ok (shown_runs (plain_runs image inputs steps first count))))) none
+
+pub answer_of_many : (inputs : List ℕ) (first count steps : ℕ) (bytes : List ℕ) (image : ImageValue) → program_of form.Elf bytes ≡ Ok image → MAX_HARTS < length inputs
+    → campaign_answer inputs first count steps bytes ≡ Err fault.TooManyHarts
+unfolding campaign_answer
+answer_of_many inputs first count steps bytes image read many =
+    ap (after_image inputs first count steps) read
+    ∙ ap (λ none. cond none (Err fault.NoHarts) (cond (ltb MAX_HARTS (length inputs)) (Err fault.TooManyHarts) (Ok (shown_runs (plain_runs image inputs steps first count)))))
+    (some (length inputs) many)
+    ∙ ap (λ many. cond many (Err fault.TooManyHarts) (Ok (shown_runs (plain_runs image inputs steps first count)))) (much (length inputs) many)
+  where
+    some : (n : ℕ) → MAX_HARTS < n → eqb n 0 ≡ false
+    some n h = search (rules, common_steps, h)
+
+    much : (n : ℕ) → MAX_HARTS < n → ltb MAX_HARTS n ≡ true
+    much n h = search (rules, common_steps, h)
+
+-- a refusal of the inputs
+pub answer_of_refused : (inputs : List ℕ) (first count steps : ℕ) (bytes : List ℕ) (image : ImageValue) (why : StartFault) → program_of form.Elf bytes ≡ Ok image
+    → RefusesCampaign inputs why → why ≢ start.Memory → campaign_answer inputs first count steps bytes ≡ Err (fault_of_start why)
+answer_of_refused inputs first count steps bytes image start.NoHarts read none other = answer_of_none inputs first count steps bytes image read none
+answer_of_refused inputs first count steps bytes image start.TooManyHarts read many other = answer_of_many inputs first count steps bytes image read many
+answer_of_refused inputs first count steps bytes image start.Memory read startable other = absurd (other refl)
+
+-- a beginning of the lines, after a fault that halted the runs
+pub begins_answer : (r : Result Status RunFault) (why : RunFault) (answer : Answer) (lines : List ℕ) (status : Status) (old new : Option (List ℕ))
+    → answer ≡ Ok (lines, status) → IfErr r (λ _. Begins lines old new) → r ≡ Err why → BeginsToPrint answer old new
+begins_answer r why answer lines status old new shown begun is =
+    subst (λ a. BeginsToPrint a old new) (sym shown) (subst (λ x. IfErr x (λ _. Begins lines old new)) is begun)
+
+-- all lines, where the runs came to their end
+pub done_answer : (r : Result Status RunFault) (answer : Answer) (lines : List ℕ) (wanted : Status) (old new : Option (List ℕ))
+    → answer ≡ Ok (lines, wanted) → IfOk r (λ status. Appends old new lines × (status ≡ wanted)) → IfOk r (λ status. Prints answer status old new)
+done_answer (Ok status) answer lines wanted old new shown done =
+    subst (λ a. Prints a status old new) (sym shown) (sym done.1, done.0)
+done_answer (Err why) answer lines wanted old new shown done = done

@@ -1,0 +1,36 @@
+-- What is shown of a file that loads.
+use Rattle.std.specs.Prelude.{◌≡◌, ℕ, List, take, Option}
+use Rattle.std.specs.Io.KnownBytes.{Appends}
+use Rattle.std.specs.declared.result.Result.TheVariants.{Ok}
+use Rattle.loader.specs.Image.{ImageValue}
+use Rattle.loader.specs.SymbolTable.{symbols_of}
+use Rattle.listing.specs.Segments.{ListsSegments}
+use Rattle.engines.specs.Info.{info_of}
+use Rattle.engines.specs.Program.{program_of}
+use Rattle.engines.specs.declared.file.FileView.{FileView}
+use Rattle.engines.specs.declared.file.FileView.TheVariants as view
+use Rattle.engines.specs.declared.program.ProgramForm.TheVariants as form
+
+-- the text is what is shown of an image and its file's bytes
+abbrev pub ShowsImage : FileView → ImageValue → List ℕ → List ℕ → Type 0
+ShowsImage view.Listing image bytes text = ListsSegments image.segments text
+ShowsImage view.Facts image bytes text = text ≡ info_of image (symbols_of bytes)
+
+-- a file loads, and the text is what is shown of it
+pub record ShowsFile (view : FileView) (bytes text : List ℕ) : Type 0 where
+  pub image : ImageValue
+  pub loads : program_of form.Elf bytes ≡ Ok image
+  pub shows : ShowsImage view image bytes text
+
+-- what is shown of a file was appended
+pub record Shows (view : FileView) (bytes : List ℕ) (old new : Option (List ℕ)) : Type 0 where
+  pub text : List ℕ
+  pub shows : ShowsFile view bytes text
+  pub appends : Appends old new text
+
+-- a beginning of what is shown of a file was appended
+pub record BeginsToShow (view : FileView) (bytes : List ℕ) (old new : Option (List ℕ)) : Type 0 where
+  pub text : List ℕ
+  pub shows : ShowsFile view bytes text
+  pub count : ℕ
+  pub appends : Appends old new (take count text)

@@ -1,0 +1,300 @@
+//! `campaign`: a program and a range of seeds in; a line for the run of each seed out.
+
+ghost use Rattle.std.specs.Prelude.{◌≡◌, ◌≢◌, ◌+◌, ◌++◌, ◌-◌, ◌^◌, ◌<◌, ◌≤◌, ◌⊎◌, Ok, Err, IfOk, IfErr, IfSome, map, string_bytes};
+ghost use Rattle.std.specs.Io.KnownBytes.{Appends, Keeps};
+ghost use Rattle.hart_step.specs.Hart.{hart_of};
+ghost use Rattle.campaigns.specs.Campaign.{ends_of, plain_runs, IsStartable};
+ghost use Rattle.engines.specs.Campaign.{campaign_answer, counted, counts, faulted_runs, seed_entry, seed_line, seed_lines, status_of_runs, Begins, IfHalts};
+ghost use Rattle.engines.specs.Run.{BeginsToPrint, IfReads, IsRefusal, Prints};
+
+use crate::device::{Sink, Source};
+use crate::ends::has_faulted;
+use crate::program::{ProgramForm, read_program};
+use crate::run_fault::{Input, RunFault};
+use crate::status::Status;
+use crate::transfer::{ReadFault, read_all, write_all};
+use campaigns::{Block, SeedRun, Seeds, campaign, check_inputs};
+use hart_step::{Hart, HartState};
+use loader::Image;
+use std::alloc::{AllocError, Allocator};
+use std::fmt;
+use std::thread::Threads;
+
+/// Which runs a campaign does: one for each of `count` seeds from `first` on, each of so many steps.
+#[derive(Clone, Copy, Debug, PartialEq, Eq)]
+pub struct Plan {
+    /// The first seed.
+    pub first: u64,
+    /// How many seeds.
+    pub count: u64,
+    /// How many steps for each seed.
+    pub steps: u64,
+}
+
+/// What is told how far a campaign is.
+pub trait Progress {
+    /// So many seeds are done, and with so many of them a hart was stopped by its instruction.
+    fn seeds_done(&mut self, done: u64, faulted: u64);
+}
+
+/// Tells nobody.
+#[derive(Clone, Copy, Debug)]
+pub struct Unheard;
+
+impl Progress for Unheard {
+    fn seeds_done(&mut self, _done: u64, _faulted: u64) {}
+}
+
+/// A kind of state in which a run may leave a hart.
+#[derive(Clone, Copy, Debug, PartialEq, Eq)]
+pub enum End {
+    /// The hart has exited.
+    Exited,
+    /// The hart was stopped by its instruction.
+    Faulted,
+    /// The hart still runs.
+    Running,
+}
+
+// 1 where a state is of this kind, else 0.
+fn counts(wanted: End, state: HartState) -> usize
+    ensures value { result ≡ counts wanted state }
+    ensures small { result ≤ 1 }
+{
+    match (wanted, state) {
+        (End::Exited, HartState::Exited(_)) => 1,
+        (End::Faulted, HartState::Faulted(_)) => 1,
+        (End::Running, HartState::Running) => 1,
+        _ => 0,
+    }
+}
+
+// How many harts have a state of this kind.
+fn count(wanted: End, harts: &[Hart]) -> usize
+    ensures { result ≡ counted wanted (map hart_of harts.now) }
+{
+    let mut count = 0;
+    'harts: for hart in harts {
+        count += counts(wanted, hart.state);
+    }
+    count
+}
+
+// How many harts of a seed's run ended in each way, shown as a line without its end.
+#[derive(Clone, Copy, Debug)]
+struct SeedLine {
+    seed: u64,
+    exited: usize,
+    faulted: usize,
+    running: usize,
+}
+
+impl fmt::Display for SeedLine {
+    ghost use Rattle.std.specs.Prelude.{Some};
+
+    ghost output = { λ l. Some (seed_line l.seed l.exited l.faulted l.running) };
+
+    fn fmt<W: fmt::Write>(&self, f: &mut fmt::Formatter<W>) -> fmt::Result {
+        let seed = self.seed;
+        let exited = self.exited;
+        let faulted = self.faulted;
+        let running = self.running;
+        write!(
+            f,
+            "seed {seed} exited {exited} faulted {faulted} running {running}"
+        )
+    }
+}
+
+// Appends the line of a run.
+fn push_run<A: Allocator>(text: &mut String<A>, run: &SeedRun<A>) -> Result<(), AllocError>
+    ensures { IfOk result (λ _.
+        string_bytes text.new ≡ string_bytes text.old ++ seed_entry (ends_of run.now)) }
+{
+    let line = SeedLine {
+        seed: run.seed,
+        exited: count(End::Exited, &run.harts),
+        faulted: count(End::Faulted, &run.harts),
+        running: count(End::Running, &run.harts),
+    };
+    writeln!(text, "{line}")?;
+    Ok(())
+}
+
+// Appends the lines of runs.
+fn push_runs<A: Allocator>(text: &mut String<A>, runs: &[SeedRun<A>]) -> Result<(), AllocError>
+    ensures { IfOk result (λ _.
+        string_bytes text.new ≡ string_bytes text.old ++ seed_lines (map ends_of runs.now)) }
+{
+    'runs: for run in runs {
+        push_run(text, run)?;
+    }
+    Ok(())
+}
+
+// How many runs left a hart that was stopped by its instruction.
+fn count_faulted<A: Allocator>(runs: &[SeedRun<A>]) -> usize
+    ensures { result ≡ faulted_runs (map ends_of runs.now) }
+{
+    let mut count = 0;
+    'runs: for run in runs {
+        count += usize::from(has_faulted(&run.harts));
+    }
+    count
+}
+
+// The lines of a block of seeds, and with how many of them a hart was stopped by its instruction.
+fn block_text<A: Allocator + Copy + Send + Sync>(
+    rt: &(impl Threads + Sync),
+    alloc: A,
+    image: &Image<A>,
+    inputs: &[u32],
+    block: Block,
+    steps: u64,
+) -> Result<(String<A>, usize), AllocError>
+    requires startable { IsStartable inputs.now }
+    requires fits { block.first + block.count ≤ 2 ^ 64 }
+    ensures lines { IfOk result (λ answer. string_bytes answer.0
+        ≡ seed_lines (plain_runs image.now inputs.now steps block.first block.count)) }
+    ensures faulted { IfOk result (λ answer. answer.1
+        ≡ faulted_runs (plain_runs image.now inputs.now steps block.first block.count)) }
+{
+    let Ok(runs) = campaign(rt, alloc, image, inputs, block.first, block.count, steps) else {
+        return Err(AllocError);
+    };
+    let mut text = String::new(alloc);
+    push_runs(&mut text, &runs)?;
+    Ok((text, count_faulted(&runs)))
+}
+
+// Writes the lines of all seeds, block by block, and answers the campaign's status. After a fault a beginning of them has
+// been written.
+fn write_blocks<A: Allocator + Copy + Send + Sync, K: Sink>(
+    rt: &(impl Threads + Sync),
+    alloc: A,
+    image: &Image<A>,
+    inputs: &[u32],
+    plan: Plan,
+    sink: &mut K,
+    progress: &mut impl Progress,
+) -> Result<Status, RunFault>
+    requires startable { IsStartable inputs.now }
+    requires fits { plan.first + plan.count ≤ 2 ^ 64 }
+    requires sink_counts { K.failures sink.old < 2 ^ 64 - 1 }
+    ensures done { IfOk result (λ status.
+        Appends (K.held sink.old) (K.held sink.new)
+        (seed_lines (plain_runs image.now inputs.now plan.steps plan.first plan.count))
+        × (status ≡ status_of_runs (plain_runs image.now inputs.now plan.steps plan.first plan.count))) }
+    ensures begun { IfErr result (λ _. Begins
+        (seed_lines (plain_runs image.now inputs.now plan.steps plan.first plan.count))
+        (K.held sink.old) (K.held sink.new)) }
+    ensures fault { IfErr result (λ fault.
+        IfHalts fault (K.failures sink.old < K.failures sink.new)) }
+{
+    let mut seeds = Seeds::new(plan.first, plan.count);
+    let mut done = 0u64;
+    let mut faulted = 0u64;
+    'blocks: while let Some(block) = seeds.next_block(plan.steps) {
+        let (text, stopped) = match block_text(rt, alloc, image, inputs, block, plan.steps) {
+            Ok(answer) => answer,
+            Err(AllocError) => return Err(RunFault::Memory),
+        };
+        match write_all(sink, text.as_bytes()) {
+            Ok(()) => {}
+            Err(_) => return Err(RunFault::Write),
+        }
+        done = done.saturating_add(block.count);
+        faulted = faulted.saturating_add(stopped as u64);
+        progress.seeds_done(done, faulted);
+    }
+    if faulted > 0 {
+        Ok(Status::Faulted)
+    } else {
+        Ok(Status::Done)
+    }
+}
+
+// Writes the lines of a file's campaign. Nothing is written where the file or the inputs are refused; after another fault a
+// beginning of the lines may have been written.
+fn write_campaign<A: Allocator + Copy + Send + Sync, K: Sink>(
+    rt: &(impl Threads + Sync),
+    alloc: A,
+    inputs: &[u32],
+    plan: Plan,
+    bytes: &[u8],
+    sink: &mut K,
+    progress: &mut impl Progress,
+) -> Result<Status, RunFault>
+    requires fits { plan.first + plan.count ≤ 2 ^ 64 }
+    requires sink_counts { K.failures sink.old < 2 ^ 64 - 1 }
+    ensures done { IfOk result (λ status.
+        Prints (campaign_answer inputs.now plan.first plan.count plan.steps bytes.now) status
+        (K.held sink.old) (K.held sink.new)) }
+    ensures refused { IfErr result (λ fault. IsRefusal fault
+        → campaign_answer inputs.now plan.first plan.count plan.steps bytes.now ≡ Err fault) }
+    ensures unwritten { IfErr result (λ fault. fault ≢ RunFault.Write → fault ≢ RunFault.Memory
+        → Keeps (K.held sink.old) (K.held sink.new)) }
+    ensures read { IfErr result (λ fault. fault ≢ RunFault.Read Input.File) }
+    ensures write { result ≡ Err RunFault.Write → K.failures sink.old < K.failures sink.new }
+    ensures begun { result ≡ Err RunFault.Write →
+        BeginsToPrint (campaign_answer inputs.now plan.first plan.count plan.steps bytes.now)
+        (K.held sink.old) (K.held sink.new) }
+    ensures halted { result ≡ Err RunFault.Memory → Keeps (K.held sink.old) (K.held sink.new)
+        ⊎ BeginsToPrint (campaign_answer inputs.now plan.first plan.count plan.steps bytes.now)
+        (K.held sink.old) (K.held sink.new) }
+{
+    let image = match read_program(alloc, ProgramForm::Elf, bytes) {
+        Ok(image) => image,
+        Err(fault) => return Err(fault),
+    };
+    match check_inputs(inputs) {
+        Ok(()) => {}
+        Err(fault) => return Err(RunFault::from(fault)),
+    }
+    write_blocks(rt, alloc, &image, inputs, plan, sink, progress)
+}
+
+/// `campaign`: reads an ELF file to its end, and writes a line for each seed of the plan, in order, while the runs go on.
+/// Nothing is written where what was read is refused; after another fault a beginning of the lines may stand there.
+pub fn campaign_engine<A: Allocator + Copy + Send + Sync, P: Source, K: Sink>(
+    rt: &(impl Threads + Sync),
+    alloc: A,
+    inputs: &[u32],
+    plan: Plan,
+    program: &mut P,
+    sink: &mut K,
+    progress: &mut impl Progress,
+) -> Result<Status, RunFault>
+    requires fits { plan.first + plan.count ≤ 2 ^ 64 }
+    requires program_counts { P.failures program.old < 2 ^ 64 - 1 }
+    requires sink_counts { K.failures sink.old < 2 ^ 64 - 1 }
+    // The lines of all runs were appended, and this is their status.
+    ensures done { IfOk result (λ status. IfSome (P.left program.old) (λ p.
+        Prints (campaign_answer inputs.now plan.first plan.count plan.steps p) status
+        (K.held sink.old) (K.held sink.new))) }
+    // What was read is refused, and nothing is written.
+    ensures refused { IfErr result (λ fault. IsRefusal fault
+        → IfSome (P.left program.old) (λ p.
+        campaign_answer inputs.now plan.first plan.count plan.steps p ≡ Err fault)) }
+    ensures unwritten { IfErr result (λ fault. fault ≢ RunFault.Write → fault ≢ RunFault.Memory
+        → Keeps (K.held sink.old) (K.held sink.new)) }
+    // A device is named only where it failed.
+    ensures read { result ≡ Err (RunFault.Read Input.File)
+        → P.failures program.old < P.failures program.new }
+    ensures write { result ≡ Err RunFault.Write → K.failures sink.old < K.failures sink.new }
+    // After a failed write, and where memory is refused to a later run, a beginning of the lines stands there.
+    ensures begun { result ≡ Err RunFault.Write → IfSome (P.left program.old) (λ p.
+        BeginsToPrint (campaign_answer inputs.now plan.first plan.count plan.steps p)
+        (K.held sink.old) (K.held sink.new)) }
+    ensures halted { result ≡ Err RunFault.Memory → IfSome (P.left program.old) (λ p.
+        Keeps (K.held sink.old) (K.held sink.new)
+        ⊎ BeginsToPrint (campaign_answer inputs.now plan.first plan.count plan.steps p)
+        (K.held sink.old) (K.held sink.new)) }
+{
+    let bytes = match read_all(alloc, program) {
+        Ok(bytes) => bytes,
+        Err(ReadFault::Device) => return Err(RunFault::Read(Input::File)),
+        Err(ReadFault::Memory) => return Err(RunFault::Memory),
+    };
+    write_campaign(rt, alloc, inputs, plan, &bytes, sink, progress)
+}

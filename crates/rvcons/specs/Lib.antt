@@ -1,4 +1,0 @@
-pub mod Arguments
-pub mod RunLine
-pub mod Line
-pub mod Inputs
