@@ -1,0 +1,40 @@
+-- Arguments of the command line, as clap's own matching function takes them.
+use Rattle.std.specs.Prelude.{◌≡◌, Bool, true, false, ◌&&◌, List, [], ◌∷◌, Option, Some, None, codes}
+use Rattle.clap.specs.Words.{Row, Rule, Text, first_of, new_rule}
+use Rattle.clap.specs.declared.builder.ArgAction.TheVariants.{SetTrue, Append}
+
+-- a word that has to stand
+abbrev pub needed : Text → Rule
+needed id = record (new_rule id) { required = true }
+
+-- words, of which one at least has to stand
+abbrev pub many : Text → Rule
+many id = record (new_rule id) { required = true; action = Some Append }
+
+-- an option with a value that may be left out
+abbrev pub optional : Text → Rule
+optional id = record (new_rule id) { long = Some id }
+
+-- an option with a value that has to stand
+abbrev pub needed_option : Text → Rule
+needed_option id = record (new_rule id) { required = true; long = Some id }
+
+-- an option without a value
+abbrev pub flag : Text → Rule
+flag id = record (new_rule id) { long = Some id; action = Some SetTrue }
+
+-- whether a flag is set, by the text that clap holds of it
+pub record IsSet (text : Option Text) (set : Bool) : Type 0 where
+  pub absent : text ≡ None → set ≡ false
+  pub present : text ≡ Some (codes "true") → set ≡ true
+  pub unused : text ≡ Some (codes "false") → set ≡ false
+
+-- whether there is a text
+abbrev pub is_there : Option Text → Bool
+is_there None = false
+is_there (Some text) = true
+
+-- whether clap holds a text under each of the names
+abbrev pub holds_all : List Text → List Row → Bool
+holds_all [] rows = true
+holds_all (id ∷ ids) rows = is_there (first_of id rows) && holds_all ids rows

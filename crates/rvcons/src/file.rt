@@ -1,0 +1,26 @@
+//! Doing `list` and `info`.
+
+use crate::file_line::FileOrder;
+use crate::report::{cannot_open, cannot_read, say};
+use engines::{FileView, ReaderSource, RunFault, Status, WriterSink, file_engine};
+use std::rt::Files;
+use std::{fs, io};
+
+/// Shows a view of an ELF file.
+pub(crate) fn show<R: Files + AllocGlobal + Print + Eprint>(
+    rt: &R,
+    view: FileView,
+    order: &FileOrder,
+) -> Status {
+    let file = match fs::open(rt, order.file) {
+        Ok(file) => file,
+        Err(error) => return cannot_open(rt, order.file, &error),
+    };
+    let mut file = ReaderSource::new(file);
+    let mut sink = WriterSink::new(io::writer(rt));
+    match file_engine(rt.alloc(), view, &mut file, &mut sink) {
+        Ok(status) => status,
+        Err(RunFault::Read(_)) => cannot_read(rt, order.file),
+        Err(fault) => say(rt, fault),
+    }
+}

@@ -1,0 +1,47 @@
+//! Doing `run`.
+
+use crate::inputs::read_inputs;
+use crate::line::LineFault;
+use crate::report::{bad_line, cannot_open, cannot_read, out_of_memory, say};
+use crate::run_line::RunOrder;
+use engines::{Input, ProgramForm, ReaderSource, RunFault, Status, WriterSink, run_engine};
+use std::rt::Files;
+use std::{fs, io};
+
+/// Runs a program under a schedule. Both files are opened before either is read.
+pub(crate) fn run<R: Files + AllocGlobal + Print + Eprint>(rt: &R, order: &RunOrder) -> Status {
+    let inputs = match read_inputs(rt.alloc(), order.inputs) {
+        Ok(inputs) => inputs,
+        Err(LineFault::Memory) => return out_of_memory(rt),
+        Err(_) => return bad_line(rt, "the inputs aren't numbers below 2^32 between commas"),
+    };
+    let form = if order.hex {
+        ProgramForm::Hex
+    } else {
+        ProgramForm::Elf
+    };
+    let program = match fs::open(rt, order.file) {
+        Ok(program) => program,
+        Err(error) => return cannot_open(rt, order.file, &error),
+    };
+    let choices = match fs::open(rt, order.choices) {
+        Ok(choices) => choices,
+        Err(error) => return cannot_open(rt, order.choices, &error),
+    };
+    let mut program = ReaderSource::new(program);
+    let mut choices = ReaderSource::new(choices);
+    let mut sink = WriterSink::new(io::writer(rt));
+    match run_engine(
+        rt.alloc(),
+        form,
+        inputs.as_slice(),
+        &mut program,
+        &mut choices,
+        &mut sink,
+    ) {
+        Ok(status) => status,
+        Err(RunFault::Read(Input::File)) => cannot_read(rt, order.file),
+        Err(RunFault::Read(Input::Choices)) => cannot_read(rt, order.choices),
+        Err(fault) => say(rt, fault),
+    }
+}
