@@ -1,22 +1,19 @@
 -- Names and numbers are ASCII.
-use Rattle.std.proofs.Common.{◌≡◌, ℕ, ◌-◌, ◌<◌, true, List, [], ◌∷◌, length, take, drop, map, Option, refl, sym, subst, ◌∙◌, arith, inl, inr, length-drop}
+use Rattle.std.proofs.Common.{◌≡◌, ℕ, ◌+◌, ◌-◌, ◌<◌, ◌≤◌, true, List, [], ◌∷◌, ◌++◌, length, take, drop, subst, ◌∙◌, arith, inl, inr, length-drop}
 use Rattle.std.specs.Prelude.{slice_index}
 use Rattle.std.specs.Str.{IsAscii}
 use Rattle.std.proofs.lemmas.Str.{IsAscii-take}
 use Rattle.std.proofs.lemmas.List.{get_or_past}
 use Rattle.std.proofs.lemmas.Bool.{cases_lt}
-use Rattle.asm_text.specs.declared.fault.TextFault.{TextFault}
 use Rattle.asm_text.specs.declared.token.Token.{Token}
 use Rattle.asm_text.specs.declared.token.Kind.{Kind}
 use Rattle.asm_text.specs.declared.token.Kind.TheVariants as kinds
 use Rattle.asm_text.specs.declared.piece.Piece.TheVariants as pieces
-use Rattle.asm_text.specs.declared.lexeme.Lexeme as l
 use Rattle.asm_text.specs.Bytes.{is_name_byte}
 use Rattle.asm_text.specs.Grammar.{IsRun, IsLexeme}
 use Rattle.asm_text.specs.Pieces.{front}
-use Rattle.asm_text.specs.Reading.{IsPieceOf, reading}
-use Rattle.asm_text.specs.Lexemes.{without_last, text_in, seen, lexemes_in, lexed, is_none}
-use Rattle.asm_text.proofs.Spans.{spans_from}
+use Rattle.asm_text.specs.Reading.{IsPieceOf}
+use Rattle.asm_text.specs.Lexemes.{without_last, text_in, Lexeme}
 use Rattle.asm_text.proofs.Found.{IsPiece, front_found}
 
 name_byte_small : (b : ℕ) → is_name_byte b ≡ true → b < 128
@@ -63,9 +60,3 @@ back_is_ascii source t piece e = IsAscii-take (text_in source t) (length (text_i
 
 pub ahead_is_ascii : (source : List ℕ) (t : Token) → IsPieceOf source t → t.kind ≡ kinds.Ahead → IsAscii (without_last (text_in source t))
 ahead_is_ascii source t piece e = IsAscii-take (text_in source t) (length (text_in source t) - 1) (token_is_ascii source t piece (rw e tt))
-
--- the tokens read are the lexemes, seen by their bytes
-pub all_seen : (source : List ℕ) (tokens : List Token) (fault : Option TextFault) (lexemes : List l.Lexeme)
-    → reading 0 0 source ≡ record { tokens = tokens; fault = fault } → map seen lexemes ≡ lexemes_in source tokens
-    → lexed 0 source ≡ record { lexemes = map seen lexemes; whole = is_none fault }
-all_seen source tokens fault lexemes e same = sym (spans_from source) ∙ rw (e, same) refl

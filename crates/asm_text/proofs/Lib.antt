@@ -4,3 +4,4 @@ pub mod Unique
 pub mod Found
 pub mod Spans
 pub mod Ascii
+pub mod LexemeSteps

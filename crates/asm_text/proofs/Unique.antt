@@ -33,7 +33,7 @@ differs : (p : ℕ → Bool) (b k : ℕ) → p b ≡ true → p k ≡ false → 
 differs p b k passes other = ne_eqb b k (λ e. true≢false (sym passes ∙ (ap p e ∙ other)))
 
 -- what stands at the front where a name byte does
-word_front : (word rest : List ℕ) → 0 < length word → IsRun is_name_byte word rest → front (word ++ rest) ≡ word_piece word
+pub word_front : (word rest : List ℕ) → 0 < length word → IsRun is_name_byte word rest → front (word ++ rest) ≡ word_piece word
 unfolding front run_of_names
 word_front [] rest pos run = absurd (omega arith)
 word_front (b ∷ w) rest pos run =
@@ -42,7 +42,7 @@ word_front (b ∷ w) rest pos run =
     rw (differs is_name_byte b 32 yes refl, differs is_name_byte b 9 yes refl, differs is_name_byte b 10 yes refl, differs is_name_byte b 13 yes refl, differs is_name_byte b 35 yes refl, differs is_name_byte b 34 yes refl)
     (rw yes (ap word_piece (ap (λ n. take n (b ∷ (w ++ rest))) len ∙ take_at (b ∷ w) rest (length (b ∷ w)) refl)))
 
-sign_front : (b : ℕ) (rest : List ℕ) → is_printable b ≡ true → is_name_byte b ≡ false → (b ≡ 34 → ⊥) → (b ≡ 35 → ⊥) → front (b ∷ rest) ≡ pieces.Lexeme (sign_of b) 1
+pub sign_front : (b : ℕ) (rest : List ℕ) → is_printable b ≡ true → is_name_byte b ≡ false → (b ≡ 34 → ⊥) → (b ≡ 35 → ⊥) → front (b ∷ rest) ≡ pieces.Lexeme (sign_of b) 1
 unfolding front
 sign_front b rest printable name quote hash =
     rw (differs is_printable b 32 printable refl, differs is_printable b 9 printable refl, differs is_printable b 10 printable refl, differs is_printable b 13 printable refl, ne_eqb b 35 hash, ne_eqb b 34 quote, name, printable) refl
@@ -70,7 +70,7 @@ lexeme_front kinds.Ahead word rest h = (word_front word rest h.0 h.2 ∙ rw (h.1
 lexeme_front kinds.Text word rest h = text_front word rest h
 lexeme_front sign word rest h = lexeme_sign sign word rest h
 
-comment_front : (comment rest : List ℕ) → IsComment comment rest → front (comment ++ rest) ≡ pieces.Gap (length comment)
+pub comment_front : (comment rest : List ℕ) → IsComment comment rest → front (comment ++ rest) ≡ pieces.Gap (length comment)
 unfolding front comment_len
 comment_front [] rest h = absurd (omega arith)
 comment_front (b ∷ comment) rest h = rw (h.1, run_len is_in_line comment rest (tail_run is_in_line b comment rest h.2), one-add) refl

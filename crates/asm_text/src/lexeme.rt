@@ -1,11 +1,10 @@
 //! Tokens by their bytes.
-ghost use Rattle.std.specs.Prelude.{◌≡◌, All, IfOk, map};
+ghost use Rattle.std.specs.Prelude.{◌≡◌, IfOk, map};
 ghost use Rattle.std.specs.Str.{IsAscii};
-ghost use Rattle.asm_text.specs.Lexemes.{is_none, lexeme_in, lexemes_in, lexed, seen, without_last};
+ghost use Rattle.asm_text.specs.Lexemes.{lexeme_in, lexed, seen, without_last};
 ghost use Rattle.asm_text.specs.Reading.{IsPieceOf};
 
-use crate::fault::TextFault;
-use crate::read::scan_text;
+use crate::piece::{Piece, front};
 use crate::token::{Kind, Token, text_of};
 use std::alloc::{AllocError, Allocator};
 use std::str;
@@ -88,30 +87,8 @@ fn without_last(bytes: &[u8]) -> &[u8]
     front
 }
 
-// Whether a text without or with a fault is whole.
-fn is_whole(fault: Option<TextFault>) -> bool
-    ensures { result ≡ is_none fault }
-{
-    fault.is_none()
-}
-
-// What the tokens of this source say.
-fn all_lexemes<'a, A: Allocator + Copy>(
-    alloc: A,
-    source: &'a [u8],
-    tokens: &[Token],
-) -> Result<Vec<Lexeme<'a>, A>, AllocError>
-    requires { All (IsPieceOf source.now) tokens.now }
-    ensures { IfOk result (λ all. map seen all.items ≡ lexemes_in source.now tokens.now) }
-{
-    let mut lexemes = Vec::new(alloc);
-    'tokens: for token in tokens {
-        lexemes.push(lexeme_of(source, *token))?;
-    }
-    Ok(lexemes)
-}
-
 /// The lexemes of a text up to its first fault. Fails only for want of memory.
+#[tactic(auto, using(crate::proofs::LexemeSteps::gap_step, crate::proofs::LexemeSteps::lexeme_step, crate::proofs::LexemeSteps::bad_char, crate::proofs::LexemeSteps::bad_number, crate::proofs::LexemeSteps::open_text, crate::proofs::LexemeSteps::at_end))]
 pub fn lexemes<'a, A: Allocator + Copy>(
     alloc: A,
     source: &'a str,
@@ -119,10 +96,38 @@ pub fn lexemes<'a, A: Allocator + Copy>(
     ensures { IfOk result (λ all.
         lexed 0 source.now ≡ record { lexemes = map seen all.lexemes.items; whole = all.whole }) }
 {
-    let scan = scan_text(alloc, source)?;
-    let lexemes = all_lexemes(alloc, source.as_bytes(), &scan.tokens)?;
+    let bytes = source.as_bytes();
+    let mut lexemes = Vec::new(alloc);
+    let mut at = 0;
+    'pieces: while at < bytes.len() {
+        let (_, rest) = bytes.split_at(at);
+        match front(rest) {
+            Piece::Gap(len) => {
+                at += len;
+                continue;
+            }
+            Piece::Lexeme(kind, len) => {
+                let end = at + len;
+                let token = Token {
+                    kind,
+                    start: at,
+                    end,
+                };
+                lexemes.push(lexeme_of(bytes, token))?;
+                at = end;
+                continue;
+            }
+            Piece::BadChar => {}
+            Piece::BadNumber => {}
+            Piece::OpenText => {}
+        }
+        return Ok(Lexed {
+            lexemes,
+            whole: false,
+        });
+    }
     Ok(Lexed {
         lexemes,
-        whole: is_whole(scan.fault),
+        whole: true,
     })
 }
