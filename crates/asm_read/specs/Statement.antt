@@ -1,5 +1,5 @@
 -- Statements as contracts see them.
-use Rattle.std.specs.Prelude.{ℕ, List}
+use Rattle.std.specs.Prelude.{ℕ}
 use Rattle.asm_read.specs.declared.statement.Body.{Body}
 use Rattle.asm_read.specs.declared.statement.Body.TheVariants as body
 use Rattle.asm_read.specs.declared.statement.Directive.{Directive}

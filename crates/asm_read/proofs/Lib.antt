@@ -1,0 +1,5 @@
+pub mod TextSteps
+pub mod Parts
+pub mod Labels
+pub mod Lines
+pub mod Sources

@@ -1,0 +1,418 @@
+//! What a statement's first name says.
+ghost use Rattle.std.specs.Prelude.{◌≡◌};
+ghost use Rattle.asm_read.specs.Heads.{head_of};
+
+use crate::names::find;
+use crate::statement::Section;
+use isa_table::{AmoOp, BranchOp, ImmediateOp, LoadOp, RegisterOp, ShiftOp, StoreOp};
+
+/// A pseudo-instruction of two registers, rd and rs.
+#[derive(Clone, Copy, Debug, PartialEq, Eq)]
+pub enum Unary {
+    /// rd gets rs.
+    Move,
+    /// rd gets the complement of rs.
+    Not,
+    /// rd gets the negative of rs.
+    Negate,
+    /// rd gets 1 where rs is 0, else 0.
+    IsZero,
+    /// rd gets 1 where rs is not 0, else 0.
+    IsNotZero,
+    /// rd gets 1 where rs is below 0, else 0.
+    IsNegative,
+    /// rd gets 1 where rs is above 0, else 0.
+    IsPositive,
+}
+
+/// An instruction, or a pseudo-instruction that is one instruction wherever it stands. Two truth values are acquire and
+/// release.
+#[derive(Clone, Copy, Debug, PartialEq, Eq)]
+pub enum Operation {
+    Lui,
+    Auipc,
+    /// With one operand, rd is ra.
+    Jal,
+    /// With one operand, rd is ra.
+    Jalr,
+    Branch(BranchOp),
+    Load(LoadOp),
+    Store(StoreOp),
+    Immediate(ImmediateOp),
+    Shift(ShiftOp),
+    Register(RegisterOp),
+    /// Without operands, of all accesses.
+    Fence,
+    FenceTso,
+    Ecall,
+    Ebreak,
+    LoadReserved(bool, bool),
+    StoreConditional(bool, bool),
+    Amo(AmoOp, bool, bool),
+    /// `addi zero, zero, 0`
+    Nop,
+    /// `jalr zero, 0(ra)`
+    Ret,
+    Unary(Unary),
+    /// A branch that compares a register with zero.
+    BranchZero(BranchOp),
+    /// A branch that compares zero with a register.
+    ZeroBranch(BranchOp),
+    /// A branch whose registers stand the other way round.
+    SwappedBranch(BranchOp),
+    /// `jal zero, t`
+    Jump,
+    /// `jalr zero, 0(rs)`
+    JumpRegister,
+}
+
+/// What a statement's first name says.
+#[derive(Clone, Copy, Debug, PartialEq, Eq)]
+pub enum Head {
+    Operation(Operation),
+    Li,
+    La,
+    Call,
+    Tail,
+    /// `.text`, `.data`, `.bss`
+    Section(Section),
+    /// `.section`
+    NamedSection,
+    Words,
+    Halves,
+    Bytes,
+    /// Texts, with a zero byte after each where it is ended.
+    Ascii { ended: bool },
+    Zero,
+    Align,
+    Global,
+    /// A directive that says nothing.
+    Skipped,
+}
+
+const HEADS: [(&str, Head); 133] = [
+    ("lui", Head::Operation(Operation::Lui)),
+    ("auipc", Head::Operation(Operation::Auipc)),
+    ("jal", Head::Operation(Operation::Jal)),
+    ("jalr", Head::Operation(Operation::Jalr)),
+    ("beq", Head::Operation(Operation::Branch(BranchOp::Beq))),
+    ("bne", Head::Operation(Operation::Branch(BranchOp::Bne))),
+    ("blt", Head::Operation(Operation::Branch(BranchOp::Blt))),
+    ("bge", Head::Operation(Operation::Branch(BranchOp::Bge))),
+    ("bltu", Head::Operation(Operation::Branch(BranchOp::Bltu))),
+    ("bgeu", Head::Operation(Operation::Branch(BranchOp::Bgeu))),
+    ("lb", Head::Operation(Operation::Load(LoadOp::Lb))),
+    ("lh", Head::Operation(Operation::Load(LoadOp::Lh))),
+    ("lw", Head::Operation(Operation::Load(LoadOp::Lw))),
+    ("lbu", Head::Operation(Operation::Load(LoadOp::Lbu))),
+    ("lhu", Head::Operation(Operation::Load(LoadOp::Lhu))),
+    ("sb", Head::Operation(Operation::Store(StoreOp::Sb))),
+    ("sh", Head::Operation(Operation::Store(StoreOp::Sh))),
+    ("sw", Head::Operation(Operation::Store(StoreOp::Sw))),
+    (
+        "addi",
+        Head::Operation(Operation::Immediate(ImmediateOp::Addi)),
+    ),
+    (
+        "slti",
+        Head::Operation(Operation::Immediate(ImmediateOp::Slti)),
+    ),
+    (
+        "sltiu",
+        Head::Operation(Operation::Immediate(ImmediateOp::Sltiu)),
+    ),
+    (
+        "xori",
+        Head::Operation(Operation::Immediate(ImmediateOp::Xori)),
+    ),
+    (
+        "ori",
+        Head::Operation(Operation::Immediate(ImmediateOp::Ori)),
+    ),
+    (
+        "andi",
+        Head::Operation(Operation::Immediate(ImmediateOp::Andi)),
+    ),
+    ("slli", Head::Operation(Operation::Shift(ShiftOp::Slli))),
+    ("srli", Head::Operation(Operation::Shift(ShiftOp::Srli))),
+    ("srai", Head::Operation(Operation::Shift(ShiftOp::Srai))),
+    ("add", Head::Operation(Operation::Register(RegisterOp::Add))),
+    ("sub", Head::Operation(Operation::Register(RegisterOp::Sub))),
+    ("sll", Head::Operation(Operation::Register(RegisterOp::Sll))),
+    ("slt", Head::Operation(Operation::Register(RegisterOp::Slt))),
+    (
+        "sltu",
+        Head::Operation(Operation::Register(RegisterOp::Sltu)),
+    ),
+    ("xor", Head::Operation(Operation::Register(RegisterOp::Xor))),
+    ("srl", Head::Operation(Operation::Register(RegisterOp::Srl))),
+    ("sra", Head::Operation(Operation::Register(RegisterOp::Sra))),
+    ("or", Head::Operation(Operation::Register(RegisterOp::Or))),
+    ("and", Head::Operation(Operation::Register(RegisterOp::And))),
+    ("fence", Head::Operation(Operation::Fence)),
+    ("fence.tso", Head::Operation(Operation::FenceTso)),
+    ("ecall", Head::Operation(Operation::Ecall)),
+    ("ebreak", Head::Operation(Operation::Ebreak)),
+    (
+        "lr.w",
+        Head::Operation(Operation::LoadReserved(false, false)),
+    ),
+    (
+        "lr.w.aq",
+        Head::Operation(Operation::LoadReserved(true, false)),
+    ),
+    (
+        "lr.w.rl",
+        Head::Operation(Operation::LoadReserved(false, true)),
+    ),
+    (
+        "lr.w.aqrl",
+        Head::Operation(Operation::LoadReserved(true, true)),
+    ),
+    (
+        "sc.w",
+        Head::Operation(Operation::StoreConditional(false, false)),
+    ),
+    (
+        "sc.w.aq",
+        Head::Operation(Operation::StoreConditional(true, false)),
+    ),
+    (
+        "sc.w.rl",
+        Head::Operation(Operation::StoreConditional(false, true)),
+    ),
+    (
+        "sc.w.aqrl",
+        Head::Operation(Operation::StoreConditional(true, true)),
+    ),
+    (
+        "amoswap.w",
+        Head::Operation(Operation::Amo(AmoOp::Amoswap, false, false)),
+    ),
+    (
+        "amoswap.w.aq",
+        Head::Operation(Operation::Amo(AmoOp::Amoswap, true, false)),
+    ),
+    (
+        "amoswap.w.rl",
+        Head::Operation(Operation::Amo(AmoOp::Amoswap, false, true)),
+    ),
+    (
+        "amoswap.w.aqrl",
+        Head::Operation(Operation::Amo(AmoOp::Amoswap, true, true)),
+    ),
+    (
+        "amoadd.w",
+        Head::Operation(Operation::Amo(AmoOp::Amoadd, false, false)),
+    ),
+    (
+        "amoadd.w.aq",
+        Head::Operation(Operation::Amo(AmoOp::Amoadd, true, false)),
+    ),
+    (
+        "amoadd.w.rl",
+        Head::Operation(Operation::Amo(AmoOp::Amoadd, false, true)),
+    ),
+    (
+        "amoadd.w.aqrl",
+        Head::Operation(Operation::Amo(AmoOp::Amoadd, true, true)),
+    ),
+    (
+        "amoxor.w",
+        Head::Operation(Operation::Amo(AmoOp::Amoxor, false, false)),
+    ),
+    (
+        "amoxor.w.aq",
+        Head::Operation(Operation::Amo(AmoOp::Amoxor, true, false)),
+    ),
+    (
+        "amoxor.w.rl",
+        Head::Operation(Operation::Amo(AmoOp::Amoxor, false, true)),
+    ),
+    (
+        "amoxor.w.aqrl",
+        Head::Operation(Operation::Amo(AmoOp::Amoxor, true, true)),
+    ),
+    (
+        "amoand.w",
+        Head::Operation(Operation::Amo(AmoOp::Amoand, false, false)),
+    ),
+    (
+        "amoand.w.aq",
+        Head::Operation(Operation::Amo(AmoOp::Amoand, true, false)),
+    ),
+    (
+        "amoand.w.rl",
+        Head::Operation(Operation::Amo(AmoOp::Amoand, false, true)),
+    ),
+    (
+        "amoand.w.aqrl",
+        Head::Operation(Operation::Amo(AmoOp::Amoand, true, true)),
+    ),
+    (
+        "amoor.w",
+        Head::Operation(Operation::Amo(AmoOp::Amoor, false, false)),
+    ),
+    (
+        "amoor.w.aq",
+        Head::Operation(Operation::Amo(AmoOp::Amoor, true, false)),
+    ),
+    (
+        "amoor.w.rl",
+        Head::Operation(Operation::Amo(AmoOp::Amoor, false, true)),
+    ),
+    (
+        "amoor.w.aqrl",
+        Head::Operation(Operation::Amo(AmoOp::Amoor, true, true)),
+    ),
+    (
+        "amomin.w",
+        Head::Operation(Operation::Amo(AmoOp::Amomin, false, false)),
+    ),
+    (
+        "amomin.w.aq",
+        Head::Operation(Operation::Amo(AmoOp::Amomin, true, false)),
+    ),
+    (
+        "amomin.w.rl",
+        Head::Operation(Operation::Amo(AmoOp::Amomin, false, true)),
+    ),
+    (
+        "amomin.w.aqrl",
+        Head::Operation(Operation::Amo(AmoOp::Amomin, true, true)),
+    ),
+    (
+        "amomax.w",
+        Head::Operation(Operation::Amo(AmoOp::Amomax, false, false)),
+    ),
+    (
+        "amomax.w.aq",
+        Head::Operation(Operation::Amo(AmoOp::Amomax, true, false)),
+    ),
+    (
+        "amomax.w.rl",
+        Head::Operation(Operation::Amo(AmoOp::Amomax, false, true)),
+    ),
+    (
+        "amomax.w.aqrl",
+        Head::Operation(Operation::Amo(AmoOp::Amomax, true, true)),
+    ),
+    (
+        "amominu.w",
+        Head::Operation(Operation::Amo(AmoOp::Amominu, false, false)),
+    ),
+    (
+        "amominu.w.aq",
+        Head::Operation(Operation::Amo(AmoOp::Amominu, true, false)),
+    ),
+    (
+        "amominu.w.rl",
+        Head::Operation(Operation::Amo(AmoOp::Amominu, false, true)),
+    ),
+    (
+        "amominu.w.aqrl",
+        Head::Operation(Operation::Amo(AmoOp::Amominu, true, true)),
+    ),
+    (
+        "amomaxu.w",
+        Head::Operation(Operation::Amo(AmoOp::Amomaxu, false, false)),
+    ),
+    (
+        "amomaxu.w.aq",
+        Head::Operation(Operation::Amo(AmoOp::Amomaxu, true, false)),
+    ),
+    (
+        "amomaxu.w.rl",
+        Head::Operation(Operation::Amo(AmoOp::Amomaxu, false, true)),
+    ),
+    (
+        "amomaxu.w.aqrl",
+        Head::Operation(Operation::Amo(AmoOp::Amomaxu, true, true)),
+    ),
+    ("nop", Head::Operation(Operation::Nop)),
+    ("ret", Head::Operation(Operation::Ret)),
+    ("mv", Head::Operation(Operation::Unary(Unary::Move))),
+    ("not", Head::Operation(Operation::Unary(Unary::Not))),
+    ("neg", Head::Operation(Operation::Unary(Unary::Negate))),
+    ("seqz", Head::Operation(Operation::Unary(Unary::IsZero))),
+    ("snez", Head::Operation(Operation::Unary(Unary::IsNotZero))),
+    ("sltz", Head::Operation(Operation::Unary(Unary::IsNegative))),
+    ("sgtz", Head::Operation(Operation::Unary(Unary::IsPositive))),
+    (
+        "beqz",
+        Head::Operation(Operation::BranchZero(BranchOp::Beq)),
+    ),
+    (
+        "bnez",
+        Head::Operation(Operation::BranchZero(BranchOp::Bne)),
+    ),
+    (
+        "bgez",
+        Head::Operation(Operation::BranchZero(BranchOp::Bge)),
+    ),
+    (
+        "bltz",
+        Head::Operation(Operation::BranchZero(BranchOp::Blt)),
+    ),
+    (
+        "blez",
+        Head::Operation(Operation::ZeroBranch(BranchOp::Bge)),
+    ),
+    (
+        "bgtz",
+        Head::Operation(Operation::ZeroBranch(BranchOp::Blt)),
+    ),
+    (
+        "bgt",
+        Head::Operation(Operation::SwappedBranch(BranchOp::Blt)),
+    ),
+    (
+        "ble",
+        Head::Operation(Operation::SwappedBranch(BranchOp::Bge)),
+    ),
+    (
+        "bgtu",
+        Head::Operation(Operation::SwappedBranch(BranchOp::Bltu)),
+    ),
+    (
+        "bleu",
+        Head::Operation(Operation::SwappedBranch(BranchOp::Bgeu)),
+    ),
+    ("j", Head::Operation(Operation::Jump)),
+    ("jr", Head::Operation(Operation::JumpRegister)),
+    ("li", Head::Li),
+    ("la", Head::La),
+    ("call", Head::Call),
+    ("tail", Head::Tail),
+    (".text", Head::Section(Section::Text)),
+    (".data", Head::Section(Section::Data)),
+    (".bss", Head::Section(Section::Zeros)),
+    (".section", Head::NamedSection),
+    (".word", Head::Words),
+    (".half", Head::Halves),
+    (".byte", Head::Bytes),
+    (".zero", Head::Zero),
+    (".space", Head::Zero),
+    (".skip", Head::Zero),
+    (".align", Head::Align),
+    (".p2align", Head::Align),
+    (".globl", Head::Global),
+    (".global", Head::Global),
+    (".ascii", Head::Ascii { ended: false }),
+    (".asciz", Head::Ascii { ended: true }),
+    (".string", Head::Ascii { ended: true }),
+    (".file", Head::Skipped),
+    (".option", Head::Skipped),
+    (".attribute", Head::Skipped),
+    (".type", Head::Skipped),
+    (".size", Head::Skipped),
+    (".ident", Head::Skipped),
+];
+
+/// What a name at the front of a statement says, if it says anything.
+#[tactic(auto, unfolding(crate::specs::Heads::head_of))]
+pub fn head_of(name: &str) -> Option<Head>
+    ensures { result ≡ head_of name.now }
+{
+    find(&HEADS, name)
+}
