@@ -1,1 +1,12 @@
 pub mod Program
+pub mod Numbers
+pub mod Operands
+pub mod Instructions
+pub mod Cursors
+pub mod Locals
+pub mod Ahead
+pub mod Placing
+pub mod Valuing
+pub mod Assembled
+pub mod Sources
+pub mod Placed

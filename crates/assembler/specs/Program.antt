@@ -17,7 +17,7 @@ pub record ProgramValue : Type 0 where
   pub entry : ℕ
 
 -- the entries of a map by the bytes of their names
-unfoldable pub symbol_list : {A : Type 0} → List (String A × Symbol) → SymbolList
+unfoldable pub symbol_list : {A V : Type 0} → List (String A × V) → List (List ℕ × V)
 symbol_list entries = map (λ e. (string_bytes e.0, e.1)) entries
 
 -- the least multiple of the unit not below an address

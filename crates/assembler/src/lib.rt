@@ -1,6 +1,28 @@
 //! Places statements, values their operands, and makes a program of them.
 #![tactic(auto)]
 
-pub use program::{PROGRAM_LIMIT, Program, Symbol, TEXT_BASE};
+pub use laws::{
+    assembled_is_placed, faulty_is_unplaced, high_and_low_parts, one_program, placed_is_assembled,
+};
+pub use phases::assemble_statements;
+pub use program::{PROGRAM_LIMIT, Program, Symbol, Symbols, TEXT_BASE};
+pub use sources::assemble;
+pub use table::Table;
 
+mod ahead;
+mod cursor;
+mod instruction;
+mod laws;
+mod locals;
+mod number;
+mod operand;
+mod phases;
+mod placing;
 mod program;
+mod push;
+mod sections;
+mod sources;
+mod table;
+#[cfg(test)]
+mod tests;
+mod valuing;

@@ -1,0 +1,12 @@
+use Rattle.std.proofs.Common.{◌≡◌, ℕ, ◌-◌, List, drop}
+use Rattle.std.specs.Prelude.{reverse}
+use Rattle.assembler.specs.Program.{symbol_list}
+use Rattle.assembler.specs.Operands.{found}
+use Rattle.assembler.specs.Ahead.{ahead_in, references}
+use Rattle.assembler.proofs.ahead.references_of.Given as goal
+
+abbrev pub invariant-statements : goal.invariant-statements
+invariant-statements g l = record {
+  labels : (q : List ℕ) → found (symbol_list l.after.entries) q ≡ ahead_in (drop (l.count - l.done) l.cursors) (drop (l.count - l.done) l.statements) q;
+  made : reverse l.all.items ≡ references (drop (l.count - l.done) l.cursors) (drop (l.count - l.done) l.statements);
+}

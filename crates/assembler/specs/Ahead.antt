@@ -1,0 +1,57 @@
+-- Where references ahead lead, found from the last statement to the first.
+use Rattle.std.specs.Prelude.{ℕ, List, [], ◌∷◌, Option, Some, None, if◌then◌else◌}
+use Rattle.asm_read.specs.Statement.{StatementValue, BodyValue}
+use Rattle.asm_read.specs.declared.operand.Target.{Target}
+use Rattle.asm_read.specs.declared.operand.Target.TheVariants as targets
+use Rattle.asm_read.specs.declared.statement.Body.TheVariants as body
+use Rattle.asm_read.specs.declared.statement.Instruction.TheVariants as read
+use Rattle.assembler.specs.declared.cursor.Cursor.{Cursor}
+use Rattle.assembler.specs.declared.locals.Place.{Place}
+use Rattle.assembler.specs.Cursors.{address, step}
+use Rattle.assembler.specs.Locals.{Local, in_source, place_of, is_local, back_of}
+
+-- the cursor before each statement
+unfoldable pub cursors : Cursor → List StatementValue → List Cursor
+cursors c [] = []
+cursors c (s ∷ ss) = c ∷ cursors (step c s.body) ss
+
+-- the next local label of these digits among statements with these cursors
+unfoldable pub ahead_in : List Cursor → List StatementValue → List ℕ → Option Place
+ahead_in [] ss digits = None
+ahead_in (c ∷ cs) [] digits = None
+ahead_in (c ∷ cs) (s ∷ ss) digits =
+    if is_local digits s.body then Some (place_of s.source (address c)) else ahead_in cs ss digits
+
+-- the address of a target that is a reference ahead, by the next label of its digits
+unfoldable pub target_ahead : (List ℕ → Option Place) → ℕ → Target → Option ℕ
+target_ahead next source (targets.Ahead digits) = in_source source (next digits)
+target_ahead next source (targets.Back digits) = None
+target_ahead next source (targets.Address n) = None
+target_ahead next source (targets.Symbol name) = None
+
+-- the address of a statement's reference ahead
+unfoldable pub reference : (List ℕ → Option Place) → ℕ → BodyValue → Option ℕ
+reference next source (body.Instruction (read.Jal rd target)) = target_ahead next source target
+reference next source (body.Instruction (read.Branch op rs1 rs2 target)) = target_ahead next source target
+reference next source b = None
+
+-- those of all statements
+unfoldable pub references : List Cursor → List StatementValue → List (Option ℕ)
+references [] ss = []
+references (c ∷ cs) [] = []
+references (c ∷ cs) (s ∷ ss) = reference (ahead_in cs ss) s.source s.body ∷ references cs ss
+
+-- the address of a target that is a local reference, where one ahead has this address
+unfoldable pub target_by : List Local → Option ℕ → ℕ → Target → Option ℕ
+target_by before ahead source (targets.Back digits) = back_of before source digits
+target_by before ahead source (targets.Ahead digits) = ahead
+target_by before ahead source (targets.Address n) = None
+target_by before ahead source (targets.Symbol name) = None
+
+-- the address of a statement's local reference, where one ahead has this address
+unfoldable pub local_by : List Local → Option ℕ → ℕ → BodyValue → Option ℕ
+local_by before ahead source (body.Instruction (read.Jal rd target)) =
+    target_by before ahead source target
+local_by before ahead source (body.Instruction (read.Branch op rs1 rs2 target)) =
+    target_by before ahead source target
+local_by before ahead source b = None

@@ -1,0 +1,11 @@
+-- The program of sources.
+use Rattle.std.specs.Prelude.{ℕ, List, Result}
+use Rattle.asm_read.specs.Answer.{◌>>=◌}
+use Rattle.asm_read.specs.Statements.{statements_of}
+use Rattle.asm_read.specs.declared.fault.Fault.{Fault}
+use Rattle.assembler.specs.Program.{ProgramValue}
+use Rattle.assembler.specs.Assembled.{assembled}
+
+-- the program of sources by their bytes, or the fault that decides: all are read before any statement is placed
+unfoldable pub assembled_texts : List (List ℕ) → Result ProgramValue Fault
+assembled_texts texts = statements_of texts >>= assembled

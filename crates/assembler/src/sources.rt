@@ -1,0 +1,25 @@
+//! Sources as a program.
+ghost use Rattle.std.specs.Prelude.{IfOk};
+ghost use Rattle.asm_read.specs.Answer.{Gives};
+ghost use Rattle.asm_read.specs.Statements.{texts_of};
+ghost use Rattle.assembler.specs.Sources.{assembled_texts};
+ghost use Rattle.assembler.specs.Placed.{IsProgramOf};
+
+use crate::phases::assemble_statements;
+use crate::program::Program;
+use asm_read::{AsmFault, statements};
+use std::alloc::Allocator;
+
+/// The program of sources, or the fault that decides.
+///
+/// All sources are read, then all statements are placed, then all operands are valued: the first of these phases with a
+/// fault decides, in it the earliest statement, in a statement the lowest number. `Memory` is answered where the
+/// allocator refuses. After a refusal nothing is kept.
+#[tactic(auto, using(crate::proofs::PlacedSources::is_program), unfolding(crate::specs::Sources::assembled_texts))]
+pub fn assemble<A: Allocator + Copy>(alloc: A, sources: &[&str]) -> Result<Program<A>, AsmFault>
+    ensures value { Gives (λ program. program) result (assembled_texts (texts_of sources.now)) }
+    ensures placed { IfOk result (λ program. IsProgramOf (texts_of sources.now) program) }
+{
+    let statements = statements(alloc, sources)?;
+    assemble_statements(alloc, statements.as_slice())
+}
