@@ -1,0 +1,13 @@
+pub mod Atoms
+pub mod Digits
+pub mod Apart
+pub mod Numerals
+pub mod Names
+pub mod Found
+pub mod Signs
+pub mod Stands
+pub mod Phases
+pub mod Back
+pub mod Shapes
+pub mod LineBack
+pub mod Whole
