@@ -22,7 +22,7 @@ isnt-decides : (b : Bool) → Decides (not b) (b ≡ false)
 isnt-decides true = (λ e. absurd (cc), λ e. absurd (cc))
 isnt-decides false = (λ e. refl, λ e. refl)
 
-eqb-decides : (a b : ℕ) → Decides (a == b) (a ≡ b)
+pub eqb-decides : (a b : ℕ) → Decides (a == b) (a ≡ b)
 eqb-decides a b = (λ e. eqb-true a b e, λ e. eq-eqb a b e)
 
 if-decides : {P Q : Type 0} (x y : Bool) → Decides x P → Decides y Q → Decides (not x || y) (P → Q)

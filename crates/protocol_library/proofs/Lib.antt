@@ -5,3 +5,4 @@ pub mod TableLemmas
 pub mod CellLemmas
 pub mod Runs
 pub mod JudgeLemmas
+pub mod ChosenLemmas

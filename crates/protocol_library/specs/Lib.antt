@@ -4,3 +4,5 @@ pub mod Rules
 pub mod Counts
 pub mod Sources
 pub mod Judging
+pub mod Names
+pub mod Chosen

@@ -3,7 +3,7 @@ ghost use Rattle.std.specs.Prelude.{◌≡◌, ◌||◌, ◌&&◌, ◌==◌, not
 ghost use Rattle.std.specs.List.{list_all};
 ghost use Rattle.hart_step.specs.Hart.{hart_of};
 ghost use Rattle.protocol_library.specs.Rules.{Keeps, is_exited, is_faulted};
-ghost use Rattle.protocol_library.specs.Judging.{first_hart, is_kept, is_consensus, is_adopt_commit, is_proposed, are_alike, agrees, decides, adopts_or_commits, holds, is_like};
+ghost use Rattle.protocol_library.specs.Judging.{first_hart, is_kept, verdict_of, is_consensus, is_adopt_commit, is_proposed, are_alike, agrees, decides, adopts_or_commits, holds, is_like};
 ghost use Rattle.protocol_library.specs.declared.verdict.Verdict.TheVariants as verdict;
 
 use crate::kind::Kind;
@@ -16,6 +16,7 @@ use machine::Choice;
 pub fn judge(kind: Kind, inputs: &[u32], choices: &[Choice], harts: &[Hart]) -> Verdict
     ensures kept { result ≡ verdict.Kept → Keeps kind inputs.now choices.now (map hart_of harts.now) }
     ensures broken { result ≡ verdict.Broken → Keeps kind inputs.now choices.now (map hart_of harts.now) → ⊥ }
+    ensures verdict { result ≡ verdict_of kind inputs.now choices.now (map hart_of harts.now) }
 {
     if keeps(kind, inputs, choices, harts) {
         Verdict::Kept

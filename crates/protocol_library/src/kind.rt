@@ -1,5 +1,8 @@
 //! The kinds of objects.
 
+ghost use Rattle.std.specs.Prelude.{◌≡◌, ◌↔◌, Some};
+ghost use Rattle.protocol_library.specs.Names.{name_of};
+
 /// A consensus object: harts that run its program come out with one value of those that they went in with.
 #[derive(Clone, Copy, Debug, PartialEq, Eq)]
 pub enum Kind {
@@ -16,4 +19,29 @@ pub enum Kind {
 impl Kind {
     /// All kinds, in order.
     pub const ALL: [Kind; 4] = [Kind::Swap, Kind::Add, Kind::LrSc, Kind::AdoptCommit];
+
+    /// The name that a command line has for the kind.
+    pub fn name(self) -> &'static str
+        ensures { result.now ≡ name_of self }
+    {
+        match self {
+            Kind::Swap => "swap",
+            Kind::Add => "add",
+            Kind::LrSc => "lrsc",
+            Kind::AdoptCommit => "adopt",
+        }
+    }
+
+    /// The kind of such a name, or `None` where no kind has it.
+    pub fn of_name(name: &str) -> Option<Kind>
+        ensures { (kind : Kind) → (result ≡ Some kind) ↔ (name.now ≡ name_of kind) }
+    {
+        match name {
+            "swap" => Some(Kind::Swap),
+            "add" => Some(Kind::Add),
+            "lrsc" => Some(Kind::LrSc),
+            "adopt" => Some(Kind::AdoptCommit),
+            _ => None,
+        }
+    }
 }

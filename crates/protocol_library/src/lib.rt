@@ -14,7 +14,11 @@ mod certifying;
 mod images;
 mod judging;
 mod kind;
+#[cfg(test)]
+mod schedule_tests;
 mod tables;
+#[cfg(test)]
+mod tests;
 mod text;
 mod texts;
 mod verdict;

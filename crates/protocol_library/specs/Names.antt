@@ -1,0 +1,18 @@
+-- The names of kinds and of verdicts.
+use Rattle.std.specs.Prelude.{ℕ, List, codes}
+use Rattle.protocol_library.specs.declared.kind.Kind.{Kind}
+use Rattle.protocol_library.specs.declared.kind.Kind.TheVariants.{Swap, Add, LrSc, AdoptCommit}
+use Rattle.protocol_library.specs.declared.verdict.Verdict.{Verdict}
+use Rattle.protocol_library.specs.declared.verdict.Verdict.TheVariants.{Kept, Broken}
+
+-- a kind's name
+abbrev pub name_of : Kind → List ℕ
+name_of Swap = codes "swap"
+name_of Add = codes "add"
+name_of LrSc = codes "lrsc"
+name_of AdoptCommit = codes "adopt"
+
+-- a verdict's name
+abbrev pub verdict_name : Verdict → List ℕ
+verdict_name Kept = codes "kept"
+verdict_name Broken = codes "broken"
