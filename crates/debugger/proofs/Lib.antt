@@ -1,0 +1,6 @@
+pub mod TrackLemmas
+pub mod ElsewhereLemmas
+pub mod StopLemmas
+pub mod PointLemmas
+pub mod ViewLemmas
+pub mod SearchLemmas

@@ -1,0 +1,16 @@
+-- Where a step accesses data.
+use Rattle.std.specs.Prelude.{ℕ, Option, Some, None}
+use Rattle.hart_step.specs.Hart.{HartValue}
+use Rattle.hart_step.specs.Effect.{site}
+use Rattle.hart_step.specs.Locality.{Access, access_of}
+use Rattle.machine.specs.World.{World}
+
+-- the first address of an access, if there is one
+abbrev pub address_of : Option Access → Option ℕ
+address_of None = None
+address_of (Some c) = Some c.address
+
+-- the first address that the next step of a hart of a world accesses, if it does
+abbrev pub accessed : World → Option HartValue → Option ℕ
+accessed w None = None
+accessed w (Some h) = address_of (access_of (site h w.memory w.reserved))

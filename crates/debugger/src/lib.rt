@@ -1,0 +1,24 @@
+//! A debugger over a list of choices: it goes to any position, forward and back.
+#![tactic(auto)]
+
+pub use debugger::Debugger;
+pub use fault::MoveFault;
+pub use laws::{going_back_finds_the_greatest, going_on_finds_the_least};
+pub use seeking::Target;
+pub use step_view::{Event, StepView};
+pub use stop::Stop;
+pub use words::{byte_at, word_at};
+
+mod access;
+mod debugger;
+mod fault;
+mod laws;
+mod moves;
+mod new;
+mod points;
+mod seeking;
+mod step_view;
+mod stepping;
+mod stop;
+mod track;
+mod words;

@@ -1,0 +1,118 @@
+//! Steps that are counted, and where they stop.
+ghost use Rattle.std.specs.Prelude.{◌≡◌, ◌<◌, ◌+◌, ◌%◌, ◌^◌, ℕ, All, length, OnOk, OnErr, IfOk, IfSome, Some, slice_get};
+ghost use Rattle.machine.specs.World.{step, run};
+ghost use Rattle.debugger.specs.State.{state};
+ghost use Rattle.debugger.specs.Accessed.{accessed};
+ghost use Rattle.debugger.specs.Words.{word_if};
+ghost use Rattle.debugger.specs.Stops.{stop_after, watched};
+
+use crate::access::accessed;
+use crate::stop::Stop;
+use crate::words::word_at;
+use machine::{Choice, Machine};
+use memory::FlatStore;
+use std::alloc::{AllocError, Allocator};
+use std::collections::BTreeSet;
+
+/// One step, which is counted.
+pub fn tick<A: Allocator>(
+    machine: &mut Machine<FlatStore<A>, A>,
+    cost: &mut u64,
+    choice: Choice,
+) -> Result<(), AllocError>
+    requires hart { choice.hart < length (state machine.old).harts }
+    requires room { cost.old + 1 < 2 ^ 64 }
+    ensures ok { OnOk result (state machine.new ≡ step (state machine.old) choice) }
+    ensures counted { cost.new ≡ cost.old + 1 }
+    ensures harts { length (state machine.new).harts ≡ length (state machine.old).harts }
+{
+    *cost += 1;
+    machine.step(choice)
+}
+
+/// One counted step after another.
+#[tactic(auto, using(machine::proofs::WorldLemmas::run_more, machine::proofs::WorldLemmas::run_none))]
+pub fn walk<A: Allocator>(
+    machine: &mut Machine<FlatStore<A>, A>,
+    cost: &mut u64,
+    choices: &[Choice],
+) -> Result<(), AllocError>
+    requires harts { All (λ c. c.hart < length (state machine.old).harts) choices.now }
+    requires room { cost.old + length choices.now < 2 ^ 64 }
+    ensures ok { OnOk result (state machine.new ≡ run (state machine.old) choices.now) }
+    ensures counted { OnOk result (cost.new ≡ cost.old + length choices.now) }
+    ensures harts { length (state machine.new).harts ≡ length (state machine.old).harts }
+{
+    'choices: for choice in choices {
+        tick(machine, cost, *choice)?;
+    }
+    Ok(())
+}
+
+// The watched word that a hart's next step may change, if there is one.
+fn watched_word<A: Allocator>(
+    machine: &Machine<FlatStore<A>, A>,
+    hart: u32,
+    watches: &BTreeSet<u32, A>,
+) -> Option<u32>
+    requires hart { hart < length (state machine.now).harts }
+    ensures word { result ≡ watched watches.now.keys
+        (accessed (state machine.now) (slice_get (state machine.now).harts hart)) }
+    ensures aligned { IfSome result (λ a. a % 4 ≡ 0) }
+{
+    let address = accessed(machine, hart)?;
+    let word = address - address % 4;
+    if watches.contains(&word) {
+        Some(word)
+    } else {
+        None
+    }
+}
+
+// The word at an address, or 0 where there is no address.
+fn word_if<A: Allocator>(machine: &Machine<FlatStore<A>, A>, address: Option<u32>) -> u32
+    requires { IfSome address (λ a. a % 4 ≡ 0) }
+    ensures { result ≡ word_if (state machine.now).memory address }
+{
+    match address {
+        Some(address) => word_at(machine.store(), address),
+        None => 0,
+    }
+}
+
+/// One step, which is counted, and why to stop after it, if one has to. Whether a watched word differs is looked at only
+/// where the step accesses one: no other word can change.
+pub fn step_to_stop<A: Allocator>(
+    machine: &mut Machine<FlatStore<A>, A>,
+    cost: &mut u64,
+    choice: Choice,
+    breaks: &BTreeSet<u32, A>,
+    watches: &BTreeSet<u32, A>,
+) -> Result<Option<Stop>, AllocError>
+    requires hart { choice.hart < length (state machine.old).harts }
+    requires room { cost.old + 1 < 2 ^ 64 }
+    requires aligned { All (λ a. a % 4 ≡ 0) watches.now.keys }
+    ensures world { OnOk result (state machine.new ≡ step (state machine.old) choice) }
+    ensures stop { IfOk result (λ stop. stop ≡ stop_after breaks.now.keys watches.now.keys
+        (state machine.old) (state machine.new) choice.hart) }
+    ensures counted { cost.new ≡ cost.old + 1 }
+    ensures harts { length (state machine.new).harts ≡ length (state machine.old).harts }
+{
+    let watched = watched_word(machine, choice.hart, watches);
+    let before = word_if(machine, watched);
+    tick(machine, cost, choice)?;
+    let pc = machine.hart(choice.hart as usize).pc;
+    if breaks.contains(&pc) {
+        return Ok(Some(Stop::Break {
+            hart: choice.hart,
+            address: pc,
+        }));
+    }
+    if word_if(machine, watched) == before {
+        return Ok(None);
+    }
+    match watched {
+        Some(address) => Ok(Some(Stop::Watch { address })),
+        None => Ok(None),
+    }
+}
