@@ -12,14 +12,14 @@ use Rattle.campaigns.specs.Campaign.{SeedEnds, IsStartable, RefusesCampaign, pla
 use Rattle.machine.specs.declared.start.StartFault.{StartFault}
 use Rattle.machine.specs.declared.start.StartFault.TheVariants as start
 use Rattle.engines.specs.RunFaults.{fault_of_start}
-use Rattle.engines.specs.Campaign.{Begins, after_image, campaign_answer, faulted_runs, one_if, seed_entry, seed_lines, shown_runs}
+use Rattle.protocol_library.specs.declared.kind.Kind.{Kind}
+use Rattle.engines.specs.Campaign.{Begins, after_image, bad_runs, campaign_answer, is_bad, one_if, run_verdict, seed_entry, seed_lines, shown_runs}
 use Rattle.engines.specs.Program.{program_of}
 use Rattle.engines.specs.Run.{Answer, BeginsToPrint, Prints}
 use Rattle.engines.specs.declared.status.Status.{Status}
 use Rattle.engines.specs.declared.program.ProgramForm.TheVariants as form
 use Rattle.engines.specs.declared.run_fault.RunFault.{RunFault}
 use Rattle.engines.specs.declared.run_fault.RunFault.TheVariants as fault
-use Rattle.engines.specs.Ends.{any_faulted}
 
 -- what is appended is also a beginning of anything that goes on after it
 pub begins_at : (old now : Option (List ℕ)) (xs rest : List ℕ) → Appends old now xs → Begins (xs ++ rest) old now
@@ -45,93 +45,93 @@ begins_in old now new xs ys rest n before more =
     = take-append-add xs (ys ++ rest) m ∙ ap (λ bytes. xs ++ bytes) (take-append-le m ys rest within.1.0 ∙ within.1.1) in
     (length xs + m, subst (λ bytes. Appends old new bytes) (sym part) (Appends-trans old now new xs (take n ys) before more))
 
-pub lines-append : (runs more : List SeedEnds) → seed_lines (runs ++ more) ≡ seed_lines runs ++ seed_lines more
-lines-append runs more = flat_map-append seed_entry runs more
+pub lines-append : (rule : Option Kind) (inputs : List ℕ) (steps : ℕ) (runs more : List SeedEnds) → seed_lines rule inputs steps (runs ++ more) ≡ seed_lines rule inputs steps runs ++ seed_lines rule inputs steps more
+lines-append rule inputs steps runs more = flat_map-append (seed_entry rule inputs steps) runs more
 
-pub faulted-append : (runs more : List SeedEnds) → faulted_runs (runs ++ more) ≡ faulted_runs runs + faulted_runs more
-faulted-append [] more = omega arith
-faulted-append (run ∷ runs) more =
-    ap (λ n. one_if (any_faulted run.harts) + n) (faulted-append runs more) ∙ omega arith
+pub bad-append : (rule : Option Kind) (inputs : List ℕ) (steps : ℕ) (runs more : List SeedEnds) → bad_runs rule inputs steps (runs ++ more) ≡ bad_runs rule inputs steps runs + bad_runs rule inputs steps more
+bad-append rule inputs steps [] more = omega arith
+bad-append rule inputs steps (run ∷ runs) more =
+    ap (λ n. one_if (is_bad (run_verdict rule inputs steps run) run.harts) + n) (bad-append rule inputs steps runs more) ∙ omega arith
 
 -- the lines of the runs that are done were appended; those of the others are to come
-pub record SoFar (all left : List SeedEnds) (old now : Option (List ℕ)) (faulted : ℕ) : Type 0 where
+pub record SoFar (rule : Option Kind) (inputs : List ℕ) (steps : ℕ) (all left : List SeedEnds) (old now : Option (List ℕ)) (faulted : ℕ) : Type 0 where
   pub done : List SeedEnds
   pub order : all ≡ done ++ left
-  pub text : Appends old now (seed_lines done)
-  pub count : ltb 0 faulted ≡ ltb 0 (faulted_runs done)
+  pub text : Appends old now (seed_lines rule inputs steps done)
+  pub count : ltb 0 faulted ≡ ltb 0 (bad_runs rule inputs steps done)
 
-pub at_start : (all : List SeedEnds) (old : Option (List ℕ)) → SoFar all all old old 0
-at_start all old = record { done = []; order = refl; text = Appends-nil old; count = refl }
+pub at_start : (rule : Option Kind) (inputs : List ℕ) (steps : ℕ) (all : List SeedEnds) (old : Option (List ℕ)) → SoFar rule inputs steps all all old old 0
+at_start rule inputs steps all old = record { done = []; order = refl; text = Appends-nil old; count = refl }
 
 -- one block later
-pub one_more : (all block left : List SeedEnds) (old now new : Option (List ℕ)) (faulted total : ℕ)
-    → SoFar all (block ++ left) old now faulted → Appends now new (seed_lines block)
-    → ltb 0 total ≡ ltb 0 (faulted + faulted_runs block)
-    → SoFar all left old new total
-one_more all block left old now new faulted total before more sum = record {
+pub one_more : (rule : Option Kind) (inputs : List ℕ) (steps : ℕ) (all block left : List SeedEnds) (old now new : Option (List ℕ)) (faulted total : ℕ)
+    → SoFar rule inputs steps all (block ++ left) old now faulted → Appends now new (seed_lines rule inputs steps block)
+    → ltb 0 total ≡ ltb 0 (faulted + bad_runs rule inputs steps block)
+    → SoFar rule inputs steps all left old new total
+one_more rule inputs steps all block left old now new faulted total before more sum = record {
   done = before.done ++ block;
   order = before.order ∙ sym (append_assoc before.done block left);
-  text = subst (λ bytes. Appends old new bytes) (sym (lines-append before.done block))
-      (Appends-trans old now new (seed_lines before.done) (seed_lines block) before.text more);
-  count = sum ∙ positive faulted (faulted_runs before.done) (faulted_runs block) before.count ∙ ap (ltb 0) (sym (faulted-append before.done block));
+  text = subst (λ bytes. Appends old new bytes) (sym (lines-append rule inputs steps before.done block))
+      (Appends-trans old now new (seed_lines rule inputs steps before.done) (seed_lines rule inputs steps block) before.text more);
+  count = sum ∙ positive faulted (bad_runs rule inputs steps before.done) (bad_runs rule inputs steps block) before.count ∙ ap (ltb 0) (sym (bad-append rule inputs steps before.done block));
 }
   where
     positive : (m n k : ℕ) → ltb 0 m ≡ ltb 0 n → ltb 0 (m + k) ≡ ltb 0 (n + k)
     positive m n k h = search (rules, common_steps, h)
 
 -- all is done
-pub at_end : (all : List SeedEnds) (old now : Option (List ℕ)) (faulted : ℕ) → SoFar all [] old now faulted
-    → Appends old now (seed_lines all) × (ltb 0 faulted ≡ ltb 0 (faulted_runs all))
-at_end all old now faulted h =
+pub at_end : (rule : Option Kind) (inputs : List ℕ) (steps : ℕ) (all : List SeedEnds) (old now : Option (List ℕ)) (faulted : ℕ) → SoFar rule inputs steps all [] old now faulted
+    → Appends old now (seed_lines rule inputs steps all) × (ltb 0 faulted ≡ ltb 0 (bad_runs rule inputs steps all))
+at_end rule inputs steps all old now faulted h =
     let whole : all ≡ h.done = h.order ∙ append-nil h.done in
-    (subst (λ runs. Appends old now (seed_lines runs)) (sym whole) h.text, h.count ∙ ap (λ runs. ltb 0 (faulted_runs runs)) (sym whole))
+    (subst (λ runs. Appends old now (seed_lines rule inputs steps runs)) (sym whole) h.text, h.count ∙ ap (λ runs. ltb 0 (bad_runs rule inputs steps runs)) (sym whole))
 
 -- a halt between two blocks
-pub halts_between : (all left : List SeedEnds) (old now : Option (List ℕ)) (faulted : ℕ) → SoFar all left old now faulted
-    → Begins (seed_lines all) old now
-halts_between all left old now faulted h =
-    subst (λ bytes. Begins bytes old now) (sym (ap seed_lines h.order ∙ lines-append h.done left))
-    (begins_at old now (seed_lines h.done) (seed_lines left) h.text)
+pub halts_between : (rule : Option Kind) (inputs : List ℕ) (steps : ℕ) (all left : List SeedEnds) (old now : Option (List ℕ)) (faulted : ℕ) → SoFar rule inputs steps all left old now faulted
+    → Begins (seed_lines rule inputs steps all) old now
+halts_between rule inputs steps all left old now faulted h =
+    subst (λ bytes. Begins bytes old now) (sym (ap (seed_lines rule inputs steps) h.order ∙ lines-append rule inputs steps h.done left))
+    (begins_at old now (seed_lines rule inputs steps h.done) (seed_lines rule inputs steps left) h.text)
 
 -- a halt within a block
-pub halts_within : (all block left : List SeedEnds) (old now new : Option (List ℕ)) (faulted n : ℕ) → SoFar all (block ++ left) old now faulted
-    → Appends now new (take n (seed_lines block)) → Begins (seed_lines all) old new
-halts_within all block left old now new faulted n h more =
-    let lines : seed_lines all ≡ seed_lines h.done ++ (seed_lines block ++ seed_lines left)
-    = ap seed_lines h.order ∙ lines-append h.done (block ++ left) ∙ ap (λ bytes. seed_lines h.done ++ bytes) (lines-append block left) in
+pub halts_within : (rule : Option Kind) (inputs : List ℕ) (steps : ℕ) (all block left : List SeedEnds) (old now new : Option (List ℕ)) (faulted n : ℕ) → SoFar rule inputs steps all (block ++ left) old now faulted
+    → Appends now new (take n (seed_lines rule inputs steps block)) → Begins (seed_lines rule inputs steps all) old new
+halts_within rule inputs steps all block left old now new faulted n h more =
+    let lines : seed_lines rule inputs steps all ≡ seed_lines rule inputs steps h.done ++ (seed_lines rule inputs steps block ++ seed_lines rule inputs steps left)
+    = ap (seed_lines rule inputs steps) h.order ∙ lines-append rule inputs steps h.done (block ++ left) ∙ ap (λ bytes. seed_lines rule inputs steps h.done ++ bytes) (lines-append rule inputs steps block left) in
     subst (λ bytes. Begins bytes old new) (sym lines)
-    (begins_in old now new (seed_lines h.done) (seed_lines block) (seed_lines left) n h.text more)
+    (begins_in old now new (seed_lines rule inputs steps h.done) (seed_lines rule inputs steps block) (seed_lines rule inputs steps left) n h.text more)
 
 -- a halt within a block, by what is known of the block's text
-pub halts_in_block : (all runs block left : List SeedEnds) (old now new : Option (List ℕ)) (faulted : ℕ) (bytes : List ℕ)
-    → runs ≡ block ++ left → bytes ≡ seed_lines block → SoFar all runs old now faulted
-    → (n : ℕ) × Appends now new (take n bytes) → Begins (seed_lines all) old new
-halts_in_block all runs block left old now new faulted bytes split lines before more =
-    halts_within all block left old now new faulted more.0
-    (subst (λ rest. SoFar all rest old now faulted) split before)
+pub halts_in_block : (rule : Option Kind) (inputs : List ℕ) (steps : ℕ) (all runs block left : List SeedEnds) (old now new : Option (List ℕ)) (faulted : ℕ) (bytes : List ℕ)
+    → runs ≡ block ++ left → bytes ≡ seed_lines rule inputs steps block → SoFar rule inputs steps all runs old now faulted
+    → (n : ℕ) × Appends now new (take n bytes) → Begins (seed_lines rule inputs steps all) old new
+halts_in_block rule inputs steps all runs block left old now new faulted bytes split lines before more =
+    halts_within rule inputs steps all block left old now new faulted more.0
+    (subst (λ rest. SoFar rule inputs steps all rest old now faulted) split before)
     (subst (λ text. Appends now new (take more.0 text)) lines more.1)
 
 -- one block later, by what is known of the block's text and of its faults
-pub goes_on : (all runs block left : List SeedEnds) (old now new : Option (List ℕ)) (faulted total stopped : ℕ) (bytes : List ℕ)
-    → runs ≡ block ++ left → bytes ≡ seed_lines block → stopped ≡ faulted_runs block → SoFar all runs old now faulted
-    → Appends now new bytes → ltb 0 total ≡ ltb 0 (faulted + stopped) → SoFar all left old new total
-goes_on all runs block left old now new faulted total stopped bytes split lines count before more sum =
-    one_more all block left old now new faulted total
-    (subst (λ rest. SoFar all rest old now faulted) split before)
+pub goes_on : (rule : Option Kind) (inputs : List ℕ) (steps : ℕ) (all runs block left : List SeedEnds) (old now new : Option (List ℕ)) (faulted total stopped : ℕ) (bytes : List ℕ)
+    → runs ≡ block ++ left → bytes ≡ seed_lines rule inputs steps block → stopped ≡ bad_runs rule inputs steps block → SoFar rule inputs steps all runs old now faulted
+    → Appends now new bytes → ltb 0 total ≡ ltb 0 (faulted + stopped) → SoFar rule inputs steps all left old new total
+goes_on rule inputs steps all runs block left old now new faulted total stopped bytes split lines count before more sum =
+    one_more rule inputs steps all block left old now new faulted total
+    (subst (λ rest. SoFar rule inputs steps all rest old now faulted) split before)
     (subst (λ text. Appends now new text) lines more)
     (sum ∙ ap (λ n. ltb 0 (faulted + n)) count)
 
 -- ---- what is answered once the program is read
 
 -- runs that may start
-pub answer_of_runs : (inputs : List ℕ) (first count steps : ℕ) (bytes : List ℕ) (image : ImageValue) → program_of form.Elf bytes ≡ Ok image → IsStartable inputs
-    → campaign_answer inputs first count steps bytes ≡ Ok (shown_runs (plain_runs image inputs steps first count))
+pub answer_of_runs : (rule : Option Kind) (inputs : List ℕ) (first count steps : ℕ) (bytes : List ℕ) (image : ImageValue) → program_of form.Elf bytes ≡ Ok image → IsStartable inputs
+    → campaign_answer rule inputs first count steps bytes ≡ Ok (shown_runs rule inputs steps (plain_runs image inputs steps first count))
 unfolding campaign_answer
-answer_of_runs inputs first count steps bytes image read startable =
-    ap (after_image inputs first count steps) read
-    ∙ ap (λ none. cond none (Err fault.NoHarts) (cond (ltb MAX_HARTS (length inputs)) (Err fault.TooManyHarts) (Ok (shown_runs (plain_runs image inputs steps first count)))))
+answer_of_runs rule inputs first count steps bytes image read startable =
+    ap (after_image rule inputs first count steps) read
+    ∙ ap (λ none. cond none (Err fault.NoHarts) (cond (ltb MAX_HARTS (length inputs)) (Err fault.TooManyHarts) (Ok (shown_runs rule inputs steps (plain_runs image inputs steps first count)))))
     (some (length inputs) startable.0)
-    ∙ ap (λ many. cond many (Err fault.TooManyHarts) (Ok (shown_runs (plain_runs image inputs steps first count)))) (few (length inputs) startable.1)
+    ∙ ap (λ many. cond many (Err fault.TooManyHarts) (Ok (shown_runs rule inputs steps (plain_runs image inputs steps first count)))) (few (length inputs) startable.1)
   where
     some : (n : ℕ) → 0 < n → eqb n 0 ≡ false
     some n h = search (rules, common_steps, h)
@@ -140,27 +140,27 @@ answer_of_runs inputs first count steps bytes image read startable =
     few n h = search (rules, common_steps, h)
 
 -- a program that isn't read
-pub answer_of_unread : (inputs : List ℕ) (first count steps : ℕ) (bytes : List ℕ) (why : RunFault) → program_of form.Elf bytes ≡ Err why
-    → campaign_answer inputs first count steps bytes ≡ Err why
+pub answer_of_unread : (rule : Option Kind) (inputs : List ℕ) (first count steps : ℕ) (bytes : List ℕ) (why : RunFault) → program_of form.Elf bytes ≡ Err why
+    → campaign_answer rule inputs first count steps bytes ≡ Err why
 unfolding campaign_answer
-answer_of_unread inputs first count steps bytes why read = ap (after_image inputs first count steps) read
+answer_of_unread rule inputs first count steps bytes why read = ap (after_image rule inputs first count steps) read
 
 -- inputs that no run can start with
-pub answer_of_none : (inputs : List ℕ) (first count steps : ℕ) (bytes : List ℕ) (image : ImageValue) → program_of form.Elf bytes ≡ Ok image → length inputs ≡ 0
-    → campaign_answer inputs first count steps bytes ≡ Err fault.NoHarts
+pub answer_of_none : (rule : Option Kind) (inputs : List ℕ) (first count steps : ℕ) (bytes : List ℕ) (image : ImageValue) → program_of form.Elf bytes ≡ Ok image → length inputs ≡ 0
+    → campaign_answer rule inputs first count steps bytes ≡ Err fault.NoHarts
 unfolding campaign_answer
-answer_of_none inputs first count steps bytes image read none =
-    ap (after_image inputs first count steps) read
-    ∙ ap (λ n. cond (eqb n 0) (Err fault.NoHarts) (cond (ltb MAX_HARTS n) (Err fault.TooManyHarts) (Ok (shown_runs (plain_runs image inputs steps first count))))) none
+answer_of_none rule inputs first count steps bytes image read none =
+    ap (after_image rule inputs first count steps) read
+    ∙ ap (λ n. cond (eqb n 0) (Err fault.NoHarts) (cond (ltb MAX_HARTS n) (Err fault.TooManyHarts) (Ok (shown_runs rule inputs steps (plain_runs image inputs steps first count))))) none
 
-pub answer_of_many : (inputs : List ℕ) (first count steps : ℕ) (bytes : List ℕ) (image : ImageValue) → program_of form.Elf bytes ≡ Ok image → MAX_HARTS < length inputs
-    → campaign_answer inputs first count steps bytes ≡ Err fault.TooManyHarts
+pub answer_of_many : (rule : Option Kind) (inputs : List ℕ) (first count steps : ℕ) (bytes : List ℕ) (image : ImageValue) → program_of form.Elf bytes ≡ Ok image → MAX_HARTS < length inputs
+    → campaign_answer rule inputs first count steps bytes ≡ Err fault.TooManyHarts
 unfolding campaign_answer
-answer_of_many inputs first count steps bytes image read many =
-    ap (after_image inputs first count steps) read
-    ∙ ap (λ none. cond none (Err fault.NoHarts) (cond (ltb MAX_HARTS (length inputs)) (Err fault.TooManyHarts) (Ok (shown_runs (plain_runs image inputs steps first count)))))
+answer_of_many rule inputs first count steps bytes image read many =
+    ap (after_image rule inputs first count steps) read
+    ∙ ap (λ none. cond none (Err fault.NoHarts) (cond (ltb MAX_HARTS (length inputs)) (Err fault.TooManyHarts) (Ok (shown_runs rule inputs steps (plain_runs image inputs steps first count)))))
     (some (length inputs) many)
-    ∙ ap (λ many. cond many (Err fault.TooManyHarts) (Ok (shown_runs (plain_runs image inputs steps first count)))) (much (length inputs) many)
+    ∙ ap (λ many. cond many (Err fault.TooManyHarts) (Ok (shown_runs rule inputs steps (plain_runs image inputs steps first count)))) (much (length inputs) many)
   where
     some : (n : ℕ) → MAX_HARTS < n → eqb n 0 ≡ false
     some n h = search (rules, common_steps, h)
@@ -169,11 +169,11 @@ answer_of_many inputs first count steps bytes image read many =
     much n h = search (rules, common_steps, h)
 
 -- a refusal of the inputs
-pub answer_of_refused : (inputs : List ℕ) (first count steps : ℕ) (bytes : List ℕ) (image : ImageValue) (why : StartFault) → program_of form.Elf bytes ≡ Ok image
-    → RefusesCampaign inputs why → why ≢ start.Memory → campaign_answer inputs first count steps bytes ≡ Err (fault_of_start why)
-answer_of_refused inputs first count steps bytes image start.NoHarts read none other = answer_of_none inputs first count steps bytes image read none
-answer_of_refused inputs first count steps bytes image start.TooManyHarts read many other = answer_of_many inputs first count steps bytes image read many
-answer_of_refused inputs first count steps bytes image start.Memory read startable other = absurd (other refl)
+pub answer_of_refused : (rule : Option Kind) (inputs : List ℕ) (first count steps : ℕ) (bytes : List ℕ) (image : ImageValue) (why : StartFault) → program_of form.Elf bytes ≡ Ok image
+    → RefusesCampaign inputs why → why ≢ start.Memory → campaign_answer rule inputs first count steps bytes ≡ Err (fault_of_start why)
+answer_of_refused rule inputs first count steps bytes image start.NoHarts read none other = answer_of_none rule inputs first count steps bytes image read none
+answer_of_refused rule inputs first count steps bytes image start.TooManyHarts read many other = answer_of_many rule inputs first count steps bytes image read many
+answer_of_refused rule inputs first count steps bytes image start.Memory read startable other = absurd (other refl)
 
 -- a beginning of the lines, after a fault that halted the runs
 pub begins_answer : (r : Result Status RunFault) (why : RunFault) (answer : Answer) (lines : List ℕ) (status : Status) (old new : Option (List ℕ))

@@ -3,3 +3,6 @@ pub mod HexImageLemmas
 pub mod RunLemmas
 pub mod ProgramLemmas
 pub mod CampaignLemmas
+pub mod InfoLemmas
+pub mod CertifiedLemmas
+pub mod ChosenLemmas

@@ -14,6 +14,8 @@ use Rattle.scheduler.specs.declared.choice_text.ChoiceFault.TheVariants as choic
 use Rattle.loader.specs.File.{loaded}
 use Rattle.loader.specs.declared.fault.ElfFault.{ElfFault}
 use Rattle.loader.specs.declared.fault.ElfFault.TheVariants as elf
+use Rattle.std.proofs.Common.{Option}
+use Rattle.protocol_library.specs.declared.kind.Kind.{Kind}
 use Rattle.engines.specs.HexText.{words_of}
 use Rattle.engines.specs.Program.{image_of_file, image_of_hex, program_of}
 use Rattle.engines.specs.RunFaults.{fault_of_elf}
@@ -41,12 +43,12 @@ AnswersAlone : Answer → Type 0
 AnswersAlone (Ok answer) = Unit {0}
 AnswersAlone (Err why) = NamesNoDevice why
 
-alone-choices : (image : ImageValue) (inputs : List ℕ) (r : Result (List Choice) ChoiceFault) → AnswersAlone (after_choices image inputs r)
+alone-choices : (rule : Option Kind) (image : ImageValue) (inputs : List ℕ) (r : Result (List Choice) ChoiceFault) → AnswersAlone (after_choices rule image inputs r)
 unfolding NamesNoDevice AnswersAlone
-alone-choices image inputs (Ok choices) = tt
-alone-choices image inputs (Err (choice.BadChoice offset)) = tt
-alone-choices image inputs (Err (choice.NoHart offset)) = tt
-alone-choices image inputs (Err choice.Memory) = tt
+alone-choices rule image inputs (Ok choices) = tt
+alone-choices rule image inputs (Err (choice.BadChoice offset)) = tt
+alone-choices rule image inputs (Err (choice.NoHart offset)) = tt
+alone-choices rule image inputs (Err choice.Memory) = tt
 
 -- what is no fault of a device, where a program isn't read
 ReadsAlone : Result ImageValue RunFault → Type 0
@@ -74,29 +76,30 @@ alone-read : (written : ProgramForm) (bytes : List ℕ) → ReadsAlone (program_
 alone-read form.Hex bytes = alone-hex (words_of bytes)
 alone-read form.Elf bytes = alone-file (loaded bytes)
 
-alone-program : (inputs text : List ℕ) (r : Result ImageValue RunFault) → ReadsAlone r → AnswersAlone (after_program inputs text r)
+alone-program : (rule : Option Kind) (inputs text : List ℕ) (r : Result ImageValue RunFault) → ReadsAlone r → AnswersAlone (after_program rule inputs text r)
 unfolding NamesNoDevice AnswersAlone ReadsAlone
-alone-program inputs text (Ok image) read = go (eqb (length inputs) 0) (ltb MAX_HARTS (length inputs))
+alone-program rule inputs text (Ok image) read = go (eqb (length inputs) 0) (ltb MAX_HARTS (length inputs))
   where
     go : (none many : Bool) → AnswersAlone (cond none (Err fault.NoHarts) (cond many (Err fault.TooManyHarts)
-        (after_choices image inputs (choices_of (length inputs) text))))
+        (after_choices rule image inputs (choices_of (length inputs) text))))
     go true many = tt
     go false true = tt
-    go false false = alone-choices image inputs (choices_of (length inputs) text)
-alone-program inputs text (Err why) read = read
+    go false false = alone-choices rule image inputs (choices_of (length inputs) text)
+alone-program rule inputs text (Err why) read = read
 
-alone : (written : ProgramForm) (inputs program text : List ℕ) (why : RunFault) → run_answer written inputs program text ≡ Err why → NamesNoDevice why
+alone : (written : ProgramForm) (inputs : List ℕ) (rule : Option Kind) (program text : List ℕ) (why : RunFault)
+    → run_answer written inputs rule program text ≡ Err why → NamesNoDevice why
 unfolding run_answer AnswersAlone
-alone written inputs program text why e = subst AnswersAlone e (alone-program inputs text (program_of written program) (alone-read written program))
+alone written inputs rule program text why e = subst AnswersAlone e (alone-program rule inputs text (program_of written program) (alone-read written program))
 
 -- a fault of the run of texts names no device
-pub no_device : (written : ProgramForm) (inputs program text : List ℕ) (why : RunFault)
-    → (why ≢ fault.Memory → run_answer written inputs program text ≡ Err why) → NamesNoDevice why
+pub no_device : (written : ProgramForm) (inputs : List ℕ) (rule : Option Kind) (program text : List ℕ) (why : RunFault)
+    → (why ≢ fault.Memory → run_answer written inputs rule program text ≡ Err why) → NamesNoDevice why
 unfolding NamesNoDevice
-no_device written inputs program text fault.Memory h = tt
-no_device written inputs program text (fault.Read input) h = alone written inputs program text (fault.Read input) (h (λ e. cc))
-no_device written inputs program text fault.Write h = alone written inputs program text fault.Write (h (λ e. cc))
-no_device written inputs program text why h = tt
+no_device written inputs rule program text fault.Memory h = tt
+no_device written inputs rule program text (fault.Read input) h = alone written inputs rule program text (fault.Read input) (h (λ e. cc))
+no_device written inputs rule program text fault.Write h = alone written inputs rule program text fault.Write (h (λ e. cc))
+no_device written inputs rule program text why h = tt
 
 pub reads_none : (why : RunFault) (P Q : Type 0) → NamesNoDevice why → IfReads why P Q
 unfolding NamesNoDevice

@@ -1,5 +1,5 @@
--- What is shown of a file: its entry, its segments and its symbols.
-use Rattle.std.specs.Prelude.{ℕ, ◌==◌, List, [], ◌∷◌, ◌++◌, Ok, Err, codes, if◌then◌else◌}
+-- What is shown of a file: its entry, its segments, its symbols, and which object it is.
+use Rattle.std.specs.Prelude.{◌≡◌, ℕ, ◌==◌, List, [], ◌∷◌, ◌++◌, Ok, Err, codes, if◌then◌else◌, Option, Some, None}
 use Rattle.std.specs.Fmt.{decimal}
 use Rattle.std.specs.List.{flat_map}
 use Rattle.std.specs.Int.RustNames.{bit_and}
@@ -9,6 +9,9 @@ use Rattle.loader.specs.Symbol.{SymbolValue}
 use Rattle.loader.specs.SymbolTable.{Symbols}
 use Rattle.loader.specs.declared.symbol.SymFault.TheVariants as symbols
 use Rattle.hex_word.specs.Digits.{word_text}
+use Rattle.protocol_library.specs.declared.kind.Kind.{Kind}
+use Rattle.protocol_library.specs.Images.{image_of, IsSame}
+use Rattle.protocol_library.specs.Names.{name_of}
 
 -- a letter where a right is given, else a dash
 abbrev pub right_text : ℕ → ℕ → List ℕ → List ℕ
@@ -43,8 +46,24 @@ symbols_text (Err symbols.NoTable) = codes "symbols none" ++ 10 ∷ []
 symbols_text (Err symbols.BadTable) = codes "symbols bad" ++ 10 ∷ []
 symbols_text (Err symbols.Memory) = []
 
--- the facts of an image with these symbols
-unfoldable pub info_of : ImageValue → Symbols → List ℕ
-info_of image symbols =
+-- an image is the object of a kind, or of none
+abbrev pub NamesLibrary : ImageValue → Option Kind → Type 0
+NamesLibrary image (Some kind) = IsSame image (image_of kind)
+NamesLibrary image None = (kind : Kind) → IsSame image (image_of kind) → ⊥
+
+-- the name of a kind, or `none`
+abbrev pub library_name : Option Kind → List ℕ
+library_name None = codes "none"
+library_name (Some kind) = name_of kind
+
+-- the facts of an image with these symbols, which is the object of this kind, or of none
+unfoldable pub info_of : ImageValue → Symbols → Option Kind → List ℕ
+info_of image symbols library =
     codes "entry " ++ (word_text image.entry ++ 10 ∷ (flat_map segment_entry image.segments
-    ++ (symbols_text symbols ++ (codes "library none" ++ 10 ∷ []))))
+    ++ (symbols_text symbols ++ (codes "library " ++ (library_name library ++ 10 ∷ [])))))
+
+-- a text is the facts of an image with these symbols
+pub record ShowsFacts (image : ImageValue) (symbols : Symbols) (text : List ℕ) : Type 0 where
+  pub library : Option Kind
+  pub named : NamesLibrary image library
+  pub text_is : text ≡ info_of image symbols library

@@ -9,3 +9,4 @@ pub mod Run
 pub mod Info
 pub mod File
 pub mod Campaign
+pub mod Certified

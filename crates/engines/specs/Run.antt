@@ -1,4 +1,4 @@
--- What a run answers: the printed world after the choices, or the first fault of what was read.
+-- What a run answers: the printed world after the choices with the verdict on it, or the first fault of what was read.
 use Rattle.std.specs.Prelude.{◌≡◌, ℕ, ◌==◌, nat_lt, List, length, take, Option, if◌then◌else◌}
 use Rattle.std.specs.Io.KnownBytes.{Appends}
 use Rattle.std.specs.declared.result.Result.{Result}
@@ -10,7 +10,10 @@ use Rattle.machine.specs.Start.{started}
 use Rattle.machine.specs.declared.choice.Choice.{Choice}
 use Rattle.scheduler.specs.Reading.{choices_of}
 use Rattle.scheduler.specs.declared.choice_text.ChoiceFault.{ChoiceFault}
-use Rattle.engines.specs.Ends.{ends_of, status_of}
+use Rattle.hart_step.specs.Hart.{HartValue}
+use Rattle.protocol_library.specs.declared.kind.Kind.{Kind}
+use Rattle.protocol_library.specs.declared.verdict.Verdict.{Verdict}
+use Rattle.engines.specs.Ends.{text_of, status_of, verdict_on}
 use Rattle.engines.specs.Program.{program_of}
 use Rattle.engines.specs.RunFaults.{fault_of_choices}
 use Rattle.engines.specs.declared.program.ProgramForm.{ProgramForm}
@@ -23,30 +26,34 @@ use Rattle.engines.specs.declared.status.Status.{Status}
 abbrev pub Answer : Type 0
 Answer = Result (List ℕ × Status) RunFault
 
--- a world as it is printed
-abbrev pub shown : World → List ℕ × Status
-shown w = (ends_of 0 w.harts, status_of w.harts)
+-- harts as they are printed with a verdict, and their status
+abbrev pub shown_with : Option Verdict → List HartValue → List ℕ × Status
+shown_with verdict harts = (text_of verdict harts, status_of verdict harts)
+
+-- the world that a list of choices leads to, as it is printed with the verdict on it
+abbrev pub shown : Option Kind → List ℕ → List Choice → World → List ℕ × Status
+shown rule inputs choices w = shown_with (verdict_on rule inputs choices w.harts) w.harts
 
 -- the world after a list of choices, from an image's start
 abbrev pub world_after : ImageValue → List ℕ → List Choice → World
 world_after image inputs choices = run (started image inputs) choices
 
 -- what is answered once the choice text is read
-abbrev pub after_choices : ImageValue → List ℕ → Result (List Choice) ChoiceFault → Answer
-after_choices image inputs (Ok choices) = Ok (shown (world_after image inputs choices))
-after_choices image inputs (Err why) = Err (fault_of_choices why)
+abbrev pub after_choices : Option Kind → ImageValue → List ℕ → Result (List Choice) ChoiceFault → Answer
+after_choices rule image inputs (Ok choices) = Ok (shown rule inputs choices (world_after image inputs choices))
+after_choices rule image inputs (Err why) = Err (fault_of_choices why)
 
 -- what is answered once the program is read: the number of inputs is looked at before the choice text
-abbrev pub after_program : List ℕ → List ℕ → Result ImageValue RunFault → Answer
-after_program inputs text (Ok image) =
+abbrev pub after_program : Option Kind → List ℕ → List ℕ → Result ImageValue RunFault → Answer
+after_program rule inputs text (Ok image) =
     if length inputs == 0 then Err fault.NoHarts
     else (if nat_lt MAX_HARTS (length inputs) then Err fault.TooManyHarts
-    else after_choices image inputs (choices_of (length inputs) text))
-after_program inputs text (Err why) = Err why
+    else after_choices rule image inputs (choices_of (length inputs) text))
+after_program rule inputs text (Err why) = Err why
 
--- what a run of a program and a choice text answers
-unfoldable pub run_answer : ProgramForm → List ℕ → List ℕ → List ℕ → Answer
-run_answer form inputs program text = after_program inputs text (program_of form program)
+-- what a run of a program and a choice text answers, under a rule if there is one
+unfoldable pub run_answer : ProgramForm → List ℕ → Option Kind → List ℕ → List ℕ → Answer
+run_answer form inputs rule program text = after_program rule inputs text (program_of form program)
 
 -- a fault of what was read, and of no device or memory
 abbrev pub IsRefusal : RunFault → Type 0

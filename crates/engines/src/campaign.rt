@@ -1,26 +1,34 @@
 //! `campaign`: a program and a range of seeds in; a line for the run of each seed out.
 
-ghost use Rattle.std.specs.Prelude.{◌≡◌, ◌≢◌, ◌+◌, ◌++◌, ◌-◌, ◌^◌, ◌<◌, ◌≤◌, ◌⊎◌, Ok, Err, IfOk, IfErr, IfSome, map, string_bytes};
+ghost use Rattle.std.specs.Prelude.{◌≡◌, ◌≢◌, ◌+◌, ◌++◌, ◌-◌, ◌^◌, ◌<◌, ◌≤◌, ◌⊎◌, ◌||◌, ◌==◌, ℕ, Ok, Err, IfOk, IfErr, IfSome, map, string_bytes};
 ghost use Rattle.std.specs.Io.KnownBytes.{Appends, Keeps};
 ghost use Rattle.hart_step.specs.Hart.{hart_of};
 ghost use Rattle.campaigns.specs.Campaign.{ends_of, plain_runs, IsStartable};
-ghost use Rattle.engines.specs.Campaign.{campaign_answer, counted, counts, faulted_runs, seed_entry, seed_line, seed_lines, status_of_runs, Begins, IfHalts};
+ghost use Rattle.engines.specs.Campaign.{bad_runs, bad_status, campaign_answer, counted, counts, entry_with, is_bad, run_verdict, seed_line, seed_lines, status_of_runs, Begins, IfHalts};
+ghost use Rattle.scheduler.specs.Schedules.{seeded_choices};
+ghost use Rattle.protocol_library.specs.Chosen.{is_chosen, ChooseAlike};
+ghost use Rattle.engines.specs.Certified.{IsCertified};
 ghost use Rattle.engines.specs.Run.{BeginsToPrint, IfReads, IsRefusal, Prints};
 
 use crate::device::{Sink, Source};
 use crate::ends::has_faulted;
 use crate::program::{ProgramForm, read_program};
+use crate::run::see_words;
 use crate::run_fault::{Input, RunFault};
 use crate::status::Status;
 use crate::transfer::{ReadFault, read_all, write_all};
 use campaigns::{Block, SeedRun, Seeds, campaign, check_inputs};
 use hart_step::{Hart, HartState};
 use loader::Image;
+use machine::Choice;
+use protocol_library::{Kind, Verdict, judge};
+use scheduler::{draw_choice, seeded_generator};
 use std::alloc::{AllocError, Allocator};
 use std::fmt;
 use std::thread::Threads;
 
-/// Which runs a campaign does: one for each of `count` seeds from `first` on, each of so many steps.
+/// Which runs a campaign does: one for each of `count` seeds from `first` on, each of so many steps, and each judged by a
+/// rule, if there is one.
 #[derive(Clone, Copy, Debug, PartialEq, Eq)]
 pub struct Plan {
     /// The first seed.
@@ -29,12 +37,15 @@ pub struct Plan {
     pub count: u64,
     /// How many steps for each seed.
     pub steps: u64,
+    /// The kind whose rule is judged.
+    pub rule: Option<Kind>,
 }
 
 /// What is told how far a campaign is.
 pub trait Progress {
-    /// So many seeds are done, and with so many of them a hart was stopped by its instruction.
-    fn seeds_done(&mut self, done: u64, faulted: u64);
+    /// So many seeds are done, and so many of them are bad: their rule is broken, or without a rule a hart was stopped by its
+    /// instruction.
+    fn seeds_done(&mut self, done: u64, bad: u64);
 }
 
 /// Tells nobody.
@@ -42,7 +53,7 @@ pub trait Progress {
 pub struct Unheard;
 
 impl Progress for Unheard {
-    fn seeds_done(&mut self, _done: u64, _faulted: u64) {}
+    fn seeds_done(&mut self, _done: u64, _bad: u64) {}
 }
 
 /// A kind of state in which a run may leave a hart.
@@ -106,10 +117,93 @@ impl fmt::Display for SeedLine {
     }
 }
 
+// Whether some choice is that of a hart.
+fn is_chosen(choices: &[Choice], hart: u32) -> bool
+    ensures { result ≡ is_chosen choices.now hart }
+{
+    choices.iter().any(|choice| choice.hart == hart)
+}
+
+// Adds a choice, unless one of its hart is there.
+#[tactic(auto, using(crate::proofs::ChosenLemmas::added, crate::proofs::ChosenLemmas::there))]
+fn add_choice<A: Allocator>(chosen: &mut Vec<Choice, A>, choice: Choice) -> Result<(), AllocError>
+    ensures { IfOk result (λ _. (k : ℕ) → is_chosen chosen.new.items k
+        ≡ (is_chosen chosen.old.items k || (choice.hart == k))) }
+{
+    if is_chosen(chosen, choice.hart) {
+        return Ok(());
+    }
+    chosen.push(choice)?;
+    Ok(())
+}
+
+// A choice of each hart that a seed's schedule chooses. A judge asks for no more of a schedule, which may be too long to be
+// held.
+fn chosen_harts<A: Allocator>(
+    alloc: A,
+    harts: u32,
+    steps: u64,
+    seed: u64,
+) -> Result<Vec<Choice, A>, AllocError>
+    requires { 0 < harts }
+    ensures { IfOk result (λ choices. ChooseAlike choices.items (seeded_choices harts steps seed)) }
+{
+    let mut chosen = Vec::new(alloc);
+    let mut generator = seeded_generator(seed);
+    'steps: for _ in 0..steps {
+        let choice = draw_choice(&mut generator, harts);
+        add_choice(&mut chosen, choice)?;
+    }
+    Ok(chosen)
+}
+
+// What a judge says of a run, where there is a rule.
+fn judge_run<A: Allocator + Copy>(
+    alloc: A,
+    inputs: &[u32],
+    plan: Plan,
+    run: &SeedRun<A>,
+) -> Result<Option<Verdict>, AllocError>
+    requires { IsStartable inputs.now }
+    ensures { IfOk result (λ verdict.
+        verdict ≡ run_verdict plan.rule inputs.now plan.steps (ends_of run.now)) }
+{
+    let Some(kind) = plan.rule else {
+        return Ok(None);
+    };
+    let choices = chosen_harts(alloc, inputs.len() as u32, plan.steps, run.seed)?;
+    Ok(Some(judge(kind, inputs, &choices, &run.harts)))
+}
+
+// Whether a run is bad: by the verdict, or without one by whether some hart was stopped by its instruction.
+fn is_bad(verdict: Option<Verdict>, harts: &[Hart]) -> bool
+    ensures { result ≡ is_bad verdict (map hart_of harts.now) }
+{
+    match verdict {
+        None => has_faulted(harts),
+        Some(Verdict::Kept) => false,
+        Some(Verdict::Broken) => true,
+    }
+}
+
+// The status of a campaign with a bad run.
+fn bad_status(rule: Option<Kind>) -> Status
+    ensures { result ≡ bad_status rule }
+{
+    match rule {
+        None => Status::Faulted,
+        Some(_) => Status::Broken,
+    }
+}
+
 // Appends the line of a run.
-fn push_run<A: Allocator>(text: &mut String<A>, run: &SeedRun<A>) -> Result<(), AllocError>
+fn push_run<A: Allocator>(
+    text: &mut String<A>,
+    run: &SeedRun<A>,
+    verdict: Option<Verdict>,
+) -> Result<(), AllocError>
     ensures { IfOk result (λ _.
-        string_bytes text.new ≡ string_bytes text.old ++ seed_entry (ends_of run.now)) }
+        string_bytes text.new ≡ string_bytes text.old ++ entry_with verdict (ends_of run.now)) }
 {
     let line = SeedLine {
         seed: run.seed,
@@ -117,54 +211,68 @@ fn push_run<A: Allocator>(text: &mut String<A>, run: &SeedRun<A>) -> Result<(), 
         faulted: count(End::Faulted, &run.harts),
         running: count(End::Running, &run.harts),
     };
-    writeln!(text, "{line}")?;
-    Ok(())
-}
-
-// Appends the lines of runs.
-fn push_runs<A: Allocator>(text: &mut String<A>, runs: &[SeedRun<A>]) -> Result<(), AllocError>
-    ensures { IfOk result (λ _.
-        string_bytes text.new ≡ string_bytes text.old ++ seed_lines (map ends_of runs.now)) }
-{
-    'runs: for run in runs {
-        push_run(text, run)?;
+    match verdict {
+        None => writeln!(text, "{line}")?,
+        Some(verdict) => writeln!(text, "{line} {verdict}")?,
     }
     Ok(())
 }
 
-// How many runs left a hart that was stopped by its instruction.
-fn count_faulted<A: Allocator>(runs: &[SeedRun<A>]) -> usize
-    ensures { result ≡ faulted_runs (map ends_of runs.now) }
+// Appends the lines of runs, and counts those that are bad.
+pub(crate) fn push_runs<A: Allocator + Copy>(
+    alloc: A,
+    text: &mut String<A>,
+    inputs: &[u32],
+    plan: Plan,
+    runs: &[SeedRun<A>],
+) -> Result<usize, AllocError>
+    requires { IsStartable inputs.now }
+    ensures lines { IfOk result (λ _. string_bytes text.new
+        ≡ string_bytes text.old ++ seed_lines plan.rule inputs.now plan.steps (map ends_of runs.now)) }
+    ensures bad { IfOk result (λ bad.
+        bad ≡ bad_runs plan.rule inputs.now plan.steps (map ends_of runs.now)) }
 {
-    let mut count = 0;
+    let mut bad = 0;
     'runs: for run in runs {
-        count += usize::from(has_faulted(&run.harts));
+        let verdict = judge_run(alloc, inputs, plan, run)?;
+        push_run(text, run, verdict)?;
+        bad += usize::from(is_bad(verdict, &run.harts));
     }
-    count
+    Ok(bad)
 }
 
-// The lines of a block of seeds, and with how many of them a hart was stopped by its instruction.
+// The lines of a block of seeds, and how many of them are bad.
 fn block_text<A: Allocator + Copy + Send + Sync>(
     rt: &(impl Threads + Sync),
     alloc: A,
     image: &Image<A>,
     inputs: &[u32],
     block: Block,
-    steps: u64,
+    plan: Plan,
 ) -> Result<(String<A>, usize), AllocError>
     requires startable { IsStartable inputs.now }
     requires fits { block.first + block.count ≤ 2 ^ 64 }
     ensures lines { IfOk result (λ answer. string_bytes answer.0
-        ≡ seed_lines (plain_runs image.now inputs.now steps block.first block.count)) }
-    ensures faulted { IfOk result (λ answer. answer.1
-        ≡ faulted_runs (plain_runs image.now inputs.now steps block.first block.count)) }
+        ≡ seed_lines plan.rule inputs.now plan.steps
+        (plain_runs image.now inputs.now plan.steps block.first block.count)) }
+    ensures bad { IfOk result (λ answer. answer.1
+        ≡ bad_runs plan.rule inputs.now plan.steps
+        (plain_runs image.now inputs.now plan.steps block.first block.count)) }
 {
-    let Ok(runs) = campaign(rt, alloc, image, inputs, block.first, block.count, steps) else {
+    let Ok(runs) = campaign(
+        rt,
+        alloc,
+        image,
+        inputs,
+        block.first,
+        block.count,
+        plan.steps,
+    ) else {
         return Err(AllocError);
     };
     let mut text = String::new(alloc);
-    push_runs(&mut text, &runs)?;
-    Ok((text, count_faulted(&runs)))
+    let bad = push_runs(alloc, &mut text, inputs, plan, &runs)?;
+    Ok((text, bad))
 }
 
 // Writes the lines of all seeds, block by block, and answers the campaign's status. After a fault a beginning of them has
@@ -183,19 +291,19 @@ fn write_blocks<A: Allocator + Copy + Send + Sync, K: Sink>(
     requires sink_counts { K.failures sink.old < 2 ^ 64 - 1 }
     ensures done { IfOk result (λ status.
         Appends (K.held sink.old) (K.held sink.new)
-        (seed_lines (plain_runs image.now inputs.now plan.steps plan.first plan.count))
-        × (status ≡ status_of_runs (plain_runs image.now inputs.now plan.steps plan.first plan.count))) }
+        (seed_lines plan.rule inputs.now plan.steps (plain_runs image.now inputs.now plan.steps plan.first plan.count))
+        × (status ≡ status_of_runs plan.rule inputs.now plan.steps (plain_runs image.now inputs.now plan.steps plan.first plan.count))) }
     ensures begun { IfErr result (λ _. Begins
-        (seed_lines (plain_runs image.now inputs.now plan.steps plan.first plan.count))
+        (seed_lines plan.rule inputs.now plan.steps (plain_runs image.now inputs.now plan.steps plan.first plan.count))
         (K.held sink.old) (K.held sink.new)) }
     ensures fault { IfErr result (λ fault.
         IfHalts fault (K.failures sink.old < K.failures sink.new)) }
 {
     let mut seeds = Seeds::new(plan.first, plan.count);
     let mut done = 0u64;
-    let mut faulted = 0u64;
+    let mut bad = 0u64;
     'blocks: while let Some(block) = seeds.next_block(plan.steps) {
-        let (text, stopped) = match block_text(rt, alloc, image, inputs, block, plan.steps) {
+        let (text, spoiled) = match block_text(rt, alloc, image, inputs, block, plan) {
             Ok(answer) => answer,
             Err(AllocError) => return Err(RunFault::Memory),
         };
@@ -204,11 +312,11 @@ fn write_blocks<A: Allocator + Copy + Send + Sync, K: Sink>(
             Err(_) => return Err(RunFault::Write),
         }
         done = done.saturating_add(block.count);
-        faulted = faulted.saturating_add(stopped as u64);
-        progress.seeds_done(done, faulted);
+        bad = bad.saturating_add(spoiled as u64);
+        progress.seeds_done(done, bad);
     }
-    if faulted > 0 {
-        Ok(Status::Faulted)
+    if bad > 0 {
+        Ok(bad_status(plan.rule))
     } else {
         Ok(Status::Done)
     }
@@ -228,21 +336,25 @@ fn write_campaign<A: Allocator + Copy + Send + Sync, K: Sink>(
     requires fits { plan.first + plan.count ≤ 2 ^ 64 }
     requires sink_counts { K.failures sink.old < 2 ^ 64 - 1 }
     ensures done { IfOk result (λ status.
-        Prints (campaign_answer inputs.now plan.first plan.count plan.steps bytes.now) status
+        Prints (campaign_answer plan.rule inputs.now plan.first plan.count plan.steps bytes.now) status
         (K.held sink.old) (K.held sink.new)) }
     ensures refused { IfErr result (λ fault. IsRefusal fault
-        → campaign_answer inputs.now plan.first plan.count plan.steps bytes.now ≡ Err fault) }
+        → campaign_answer plan.rule inputs.now plan.first plan.count plan.steps bytes.now ≡ Err fault) }
     ensures unwritten { IfErr result (λ fault. fault ≢ RunFault.Write → fault ≢ RunFault.Memory
         → Keeps (K.held sink.old) (K.held sink.new)) }
     ensures read { IfErr result (λ fault. fault ≢ RunFault.Read Input.File) }
     ensures write { result ≡ Err RunFault.Write → K.failures sink.old < K.failures sink.new }
     ensures begun { result ≡ Err RunFault.Write →
-        BeginsToPrint (campaign_answer inputs.now plan.first plan.count plan.steps bytes.now)
+        BeginsToPrint (campaign_answer plan.rule inputs.now plan.first plan.count plan.steps bytes.now)
         (K.held sink.old) (K.held sink.new) }
     ensures halted { result ≡ Err RunFault.Memory → Keeps (K.held sink.old) (K.held sink.new)
-        ⊎ BeginsToPrint (campaign_answer inputs.now plan.first plan.count plan.steps bytes.now)
+        ⊎ BeginsToPrint (campaign_answer plan.rule inputs.now plan.first plan.count plan.steps bytes.now)
         (K.held sink.old) (K.held sink.new) }
+    // No verdict on an object is broken.
+    ensures certified { IfOk result (λ status.
+        IsCertified ProgramForm.Elf bytes.now inputs.now plan.rule → status ≡ Status.Done) }
 {
+    see_words(inputs);
     let image = match read_program(alloc, ProgramForm::Elf, bytes) {
         Ok(image) => image,
         Err(fault) => return Err(fault),
@@ -254,7 +366,8 @@ fn write_campaign<A: Allocator + Copy + Send + Sync, K: Sink>(
     write_blocks(rt, alloc, &image, inputs, plan, sink, progress)
 }
 
-/// `campaign`: reads an ELF file to its end, and writes a line for each seed of the plan, in order, while the runs go on.
+/// `campaign`: reads an ELF file to its end, and writes a line for each seed of the plan, in order, while the runs go on;
+/// under a rule each line ends with its verdict.
 /// Nothing is written where what was read is refused; after another fault a beginning of the lines may stand there.
 pub fn campaign_engine<A: Allocator + Copy + Send + Sync, P: Source, K: Sink>(
     rt: &(impl Threads + Sync),
@@ -270,12 +383,12 @@ pub fn campaign_engine<A: Allocator + Copy + Send + Sync, P: Source, K: Sink>(
     requires sink_counts { K.failures sink.old < 2 ^ 64 - 1 }
     // The lines of all runs were appended, and this is their status.
     ensures done { IfOk result (λ status. IfSome (P.left program.old) (λ p.
-        Prints (campaign_answer inputs.now plan.first plan.count plan.steps p) status
+        Prints (campaign_answer plan.rule inputs.now plan.first plan.count plan.steps p) status
         (K.held sink.old) (K.held sink.new))) }
     // What was read is refused, and nothing is written.
     ensures refused { IfErr result (λ fault. IsRefusal fault
         → IfSome (P.left program.old) (λ p.
-        campaign_answer inputs.now plan.first plan.count plan.steps p ≡ Err fault)) }
+        campaign_answer plan.rule inputs.now plan.first plan.count plan.steps p ≡ Err fault)) }
     ensures unwritten { IfErr result (λ fault. fault ≢ RunFault.Write → fault ≢ RunFault.Memory
         → Keeps (K.held sink.old) (K.held sink.new)) }
     // A device is named only where it failed.
@@ -284,12 +397,15 @@ pub fn campaign_engine<A: Allocator + Copy + Send + Sync, P: Source, K: Sink>(
     ensures write { result ≡ Err RunFault.Write → K.failures sink.old < K.failures sink.new }
     // After a failed write, and where memory is refused to a later run, a beginning of the lines stands there.
     ensures begun { result ≡ Err RunFault.Write → IfSome (P.left program.old) (λ p.
-        BeginsToPrint (campaign_answer inputs.now plan.first plan.count plan.steps p)
+        BeginsToPrint (campaign_answer plan.rule inputs.now plan.first plan.count plan.steps p)
         (K.held sink.old) (K.held sink.new)) }
     ensures halted { result ≡ Err RunFault.Memory → IfSome (P.left program.old) (λ p.
         Keeps (K.held sink.old) (K.held sink.new)
-        ⊎ BeginsToPrint (campaign_answer inputs.now plan.first plan.count plan.steps p)
+        ⊎ BeginsToPrint (campaign_answer plan.rule inputs.now plan.first plan.count plan.steps p)
         (K.held sink.old) (K.held sink.new)) }
+    // A file that is an object, run by as many harts as it is for, never has a broken verdict of its kind's rule.
+    ensures certified { IfOk result (λ status. IfSome (P.left program.old) (λ p.
+        IsCertified ProgramForm.Elf p inputs.now plan.rule → status ≡ Status.Done)) }
 {
     let bytes = match read_all(alloc, program) {
         Ok(bytes) => bytes,

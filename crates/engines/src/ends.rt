@@ -1,12 +1,14 @@
-//! The printed lines of harts' ends.
+//! The printed lines of harts' ends, and of the verdict on them.
 
 ghost use Rattle.std.specs.Prelude.{◌≡◌, Some, IfOk, map, string_bytes};
 ghost use Rattle.hart_step.specs.Hart.{hart_of};
-ghost use Rattle.engines.specs.Ends.{cause_name, end_line, ends_of, any_faulted, status_of};
+ghost use Rattle.engines.specs.Ends.{cause_name, end_line, any_faulted, verdict_on, text_of, status_of};
 
 use crate::status::Status;
 use hart_step::{Cause, Hart, HartState};
 use hex_word::Word;
+use machine::Choice;
+use protocol_library::{Kind, Verdict, judge};
 use std::alloc::{AllocError, Allocator};
 use std::fmt;
 
@@ -78,15 +80,52 @@ pub(crate) fn has_faulted(harts: &[Hart]) -> bool
     false
 }
 
-/// The harts' lines in order, each ended by LF, and the status of their run: `Faulted` where some hart was stopped by its
-/// instruction, else `Done`.
+// What a judge says of harts, where there is a rule.
+pub(crate) fn verdict_on(
+    rule: Option<Kind>,
+    inputs: &[u32],
+    choices: &[Choice],
+    harts: &[Hart],
+) -> Option<Verdict>
+    ensures { result ≡ verdict_on rule inputs.now choices.now (map hart_of harts.now) }
+{
+    match rule {
+        None => None,
+        Some(kind) => Some(judge(kind, inputs, choices, harts)),
+    }
+}
+
+// The status of a run: a verdict decides it, and without one whether some hart was stopped by its instruction.
+fn status_of(verdict: Option<Verdict>, harts: &[Hart]) -> Status
+    ensures { result ≡ status_of verdict (map hart_of harts.now) }
+{
+    match verdict {
+        None => {
+            if has_faulted(harts) {
+                Status::Faulted
+            } else {
+                Status::Done
+            }
+        }
+        Some(Verdict::Kept) => Status::Done,
+        Some(Verdict::Broken) => Status::Broken,
+    }
+}
+
+/// The harts' lines in order, each ended by LF, and the status of their run. Under a rule the line of the verdict follows,
+/// by the inputs and the choices of the run, and the status is `Broken` or `Done`. Without one it is `Faulted` where some
+/// hart was stopped by its instruction, else `Done`.
 pub fn ends_text<A: Allocator + Copy>(
     alloc: A,
+    inputs: &[u32],
+    choices: &[Choice],
     harts: &[Hart],
+    rule: Option<Kind>,
 ) -> Result<(String<A>, Status), AllocError>
-    ensures text { IfOk result (λ answer.
-        string_bytes answer.0 ≡ ends_of 0 (map hart_of harts.now)) }
-    ensures status { IfOk result (λ answer. answer.1 ≡ status_of (map hart_of harts.now)) }
+    ensures text { IfOk result (λ answer. string_bytes answer.0
+        ≡ text_of (verdict_on rule inputs.now choices.now (map hart_of harts.now)) (map hart_of harts.now)) }
+    ensures status { IfOk result (λ answer. answer.1
+        ≡ status_of (verdict_on rule inputs.now choices.now (map hart_of harts.now)) (map hart_of harts.now)) }
 {
     let mut text = String::new(alloc);
     for (number, hart) in harts.iter().enumerate() {
@@ -96,10 +135,9 @@ pub fn ends_text<A: Allocator + Copy>(
         };
         writeln!(text, "{line}")?;
     }
-    let status = if has_faulted(harts) {
-        Status::Faulted
-    } else {
-        Status::Done
-    };
-    Ok((text, status))
+    let verdict = verdict_on(rule, inputs, choices, harts);
+    if let Some(verdict) = verdict {
+        writeln!(text, "verdict {verdict}")?;
+    }
+    Ok((text, status_of(verdict, harts)))
 }

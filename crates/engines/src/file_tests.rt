@@ -25,6 +25,7 @@ const PLAN: Plan = Plan {
     first: 5,
     count: 3,
     steps: 2,
+    rule: None,
 };
 
 #[test]
@@ -47,6 +48,7 @@ fn a_file_is_run(rt: HostRuntime) {
         rt.alloc(),
         ProgramForm::Elf,
         &[7],
+        None,
         &mut program,
         &mut choices,
         &mut sink,
@@ -86,6 +88,7 @@ fn a_campaign_without_harts_is_refused(rt: HostRuntime) {
         first: 0,
         count: 0,
         steps: 0,
+        rule: None,
     };
     let result = campaign_engine(
         &rt,

@@ -3,10 +3,11 @@
 ghost use Rattle.std.specs.Prelude.{◌≡◌, ◌++◌, IfOk, string_bytes, Result};
 ghost use Rattle.std.specs.List.{flat_map};
 ghost use Rattle.loader.specs.SymbolTable.{symbols_of};
-ghost use Rattle.engines.specs.Info.{info_of, rights_text, segment_entry, segment_line, symbol_entry, symbol_line, symbols_text};
+ghost use Rattle.engines.specs.Info.{info_of, library_name, rights_text, segment_entry, segment_line, symbol_entry, symbol_line, symbols_text, NamesLibrary, ShowsFacts};
 
 use hex_word::Word;
 use loader::{Image, Rights, Segment, SymFault, Symbol, symbols};
+use protocol_library::{Kind, certify};
 use std::alloc::{AllocError, Allocator};
 use std::fmt;
 
@@ -150,21 +151,68 @@ fn push_symbols_of<A: Allocator + Copy>(
     Ok(())
 }
 
-/// The facts of a file's image: its entry, its segments in the file's order with their sizes in bytes and their rights, and
-/// the symbols of the file's bytes.
+// The kind of the object that an image is, or none.
+#[tactic(auto, using(crate::proofs::InfoLemmas::names_none))]
+fn library_of<A: Allocator>(image: &Image<A>) -> Option<Kind>
+    ensures { NamesLibrary image.now result }
+{
+    if certify(Kind::Swap, image) {
+        return Some(Kind::Swap);
+    }
+    if certify(Kind::Add, image) {
+        return Some(Kind::Add);
+    }
+    if certify(Kind::LrSc, image) {
+        return Some(Kind::LrSc);
+    }
+    if certify(Kind::AdoptCommit, image) {
+        return Some(Kind::AdoptCommit);
+    }
+    None
+}
+
+// The name of a kind, or `none`.
+fn library_name(library: Option<Kind>) -> &'static str
+    ensures { result.now ≡ library_name library }
+{
+    match library {
+        Some(kind) => kind.name(),
+        None => "none",
+    }
+}
+
+// The facts of an image that is the object of a kind, or of none.
 #[tactic(auto, unfolding(crate::specs::Info::info_of))]
-pub fn info_text<A: Allocator + Copy>(
+fn facts_text<A: Allocator + Copy>(
     alloc: A,
     image: &Image<A>,
     bytes: &[u8],
+    library: Option<Kind>,
 ) -> Result<String<A>, AllocError>
-    ensures { IfOk result (λ text. string_bytes text ≡ info_of image.now (symbols_of bytes.now)) }
+    ensures { IfOk result (λ text.
+        string_bytes text ≡ info_of image.now (symbols_of bytes.now) library) }
 {
     let mut text = String::new(alloc);
     let entry = Word(image.entry());
     writeln!(text, "entry {entry}")?;
     push_segments(&mut text, image.segments())?;
     push_symbols_of(alloc, &mut text, bytes)?;
-    writeln!(text, "library none")?;
+    let name = library_name(library);
+    writeln!(text, "library {name}")?;
+    Ok(text)
+}
+
+/// The facts of a file's image: its entry, its segments in the file's order with their sizes in bytes and their rights, the
+/// symbols of the file's bytes, and the kind of the object that it is.
+pub fn info_text<A: Allocator + Copy>(
+    alloc: A,
+    image: &Image<A>,
+    bytes: &[u8],
+) -> Result<String<A>, AllocError>
+    ensures { IfOk result (λ text.
+        ShowsFacts image.now (symbols_of bytes.now) (string_bytes text)) }
+{
+    let library = library_of(image);
+    let text = facts_text(alloc, image, bytes, library)?;
     Ok(text)
 }

@@ -11,6 +11,7 @@ pub use hex_program::{HEX_BASE, HEX_SIZE, hex_image};
 pub use hex_word::Word;
 pub use in_memory::{MemorySink, MemorySource};
 pub use info::info_text;
+pub use library::source_engine;
 pub use program::{ProgramForm, read_program};
 pub use run::{run_engine, run_text};
 pub use run_fault::{Input, RunFault};
@@ -29,7 +30,10 @@ mod hex;
 mod hex_program;
 mod in_memory;
 mod info;
+mod library;
 mod program;
+#[cfg(test)]
+mod rule_tests;
 mod run;
 mod run_fault;
 #[cfg(test)]

@@ -1,7 +1,9 @@
-//! `run`: a program, inputs and a list of choices in; the harts' ends out.
+//! `run`: a program, inputs and a list of choices in; the harts' ends and the verdict on them out.
 
 ghost use Rattle.std.specs.Prelude.{◌≡◌, ◌≢◌, ◌^◌, ◌-◌, ◌<◌, Ok, Err, IfOk, IfErr, IfSome, string_bytes};
+ghost use Rattle.std.specs.List.{All};
 ghost use Rattle.std.specs.Io.KnownBytes.{Keeps};
+ghost use Rattle.engines.specs.Certified.{AnswersKept, IsCertified};
 ghost use Rattle.engines.specs.Run.{run_answer, IsRefusal, Prints, BeginsToPrint, IfReads};
 
 use crate::device::{Sink, Source};
@@ -12,24 +14,39 @@ use crate::status::Status;
 use crate::transfer::{ReadFault, read_all, write_all};
 use machine::Machine;
 use memory::FlatStore;
+use protocol_library::Kind;
 use scheduler::read_choices;
 use std::alloc::Allocator;
 
+// Looks at each input, so that it is known to be a word.
+pub(crate) fn see_words(inputs: &[u32])
+    ensures { All (λ x. x < 2 ^ 32) inputs.now }
+{
+    'inputs: for input in inputs {
+        let _word = *input;
+    }
+}
+
 /// What a run of a program in this form prints and its status, or why it is refused. Checked are, in this order, the
-/// program, the number of inputs and the choice text.
+/// program, the number of inputs and the choice text. Under a rule the verdict follows the harts' lines.
 #[tactic(auto, unfolding(crate::specs::Run::run_answer))]
 pub fn run_text<A: Allocator + Copy>(
     alloc: A,
     form: ProgramForm,
     inputs: &[u32],
+    rule: Option<Kind>,
     program: &[u8],
     text: &[u8],
 ) -> Result<(String<A>, Status), RunFault>
     ensures ok { IfOk result (λ answer.
-        run_answer form inputs.now program.now text.now ≡ Ok (string_bytes answer.0, answer.1)) }
+        run_answer form inputs.now rule program.now text.now ≡ Ok (string_bytes answer.0, answer.1)) }
     ensures err { IfErr result (λ fault. fault ≢ RunFault.Memory
-        → run_answer form inputs.now program.now text.now ≡ Err fault) }
+        → run_answer form inputs.now rule program.now text.now ≡ Err fault) }
+    // An object keeps the rule of its kind.
+    ensures certified { IfOk result (λ _. IsCertified form program.now inputs.now rule
+        → AnswersKept (run_answer form inputs.now rule program.now text.now)) }
 {
+    see_words(inputs);
     let image = match read_program(alloc, form, program) {
         Ok(image) => image,
         Err(fault) => return Err(fault),
@@ -46,17 +63,19 @@ pub fn run_text<A: Allocator + Copy>(
         // A flat store needs no memory of the host for a step.
         unreachable!()
     };
-    match ends_text(alloc, machine.ends()) {
+    match ends_text(alloc, inputs, &choices, machine.ends(), rule) {
         Ok(answer) => Ok(answer),
         Err(_) => Err(RunFault::Memory),
     }
 }
 
-/// `run`: reads the program in this form and then the choice text, each to its end, and writes how the harts end. Nothing is written where what was read is refused.
+/// `run`: reads the program in this form and then the choice text, each to its end, and writes how the harts end, and under
+/// a rule the verdict. Nothing is written where what was read is refused.
 pub fn run_engine<A: Allocator + Copy, P: Source, C: Source, K: Sink>(
     alloc: A,
     form: ProgramForm,
     inputs: &[u32],
+    rule: Option<Kind>,
     program: &mut P,
     choices: &mut C,
     sink: &mut K,
@@ -67,11 +86,11 @@ pub fn run_engine<A: Allocator + Copy, P: Source, C: Source, K: Sink>(
     // The printed world of the run was appended, and this is its status.
     ensures done { IfOk result (λ status.
         IfSome (P.left program.old) (λ p. IfSome (C.left choices.old) (λ c.
-        Prints (run_answer form inputs.now p c) status (K.held sink.old) (K.held sink.new)))) }
+        Prints (run_answer form inputs.now rule p c) status (K.held sink.old) (K.held sink.new)))) }
     // What was read is refused, and nothing is written.
     ensures refused { IfErr result (λ fault. IsRefusal fault
         → IfSome (P.left program.old) (λ p. IfSome (C.left choices.old) (λ c.
-        run_answer form inputs.now p c ≡ Err fault))) }
+        run_answer form inputs.now rule p c ≡ Err fault))) }
     ensures unwritten { IfErr result (λ fault. fault ≢ RunFault.Write
         → Keeps (K.held sink.old) (K.held sink.new)) }
     // A device is named only where it failed.
@@ -82,7 +101,11 @@ pub fn run_engine<A: Allocator + Copy, P: Source, C: Source, K: Sink>(
     // After a failed write a beginning of the output stands there.
     ensures begun { result ≡ Err RunFault.Write
         → IfSome (P.left program.old) (λ p. IfSome (C.left choices.old) (λ c.
-        BeginsToPrint (run_answer form inputs.now p c) (K.held sink.old) (K.held sink.new))) }
+        BeginsToPrint (run_answer form inputs.now rule p c) (K.held sink.old) (K.held sink.new))) }
+    // A file that is an object, run by as many harts as it is for, never has a broken verdict of its kind's rule.
+    ensures certified { IfOk result (λ _.
+        IfSome (P.left program.old) (λ p. IfSome (C.left choices.old) (λ c.
+        IsCertified form p inputs.now rule → AnswersKept (run_answer form inputs.now rule p c)))) }
 {
     let bytes = match read_all(alloc, program) {
         Ok(bytes) => bytes,
@@ -94,7 +117,7 @@ pub fn run_engine<A: Allocator + Copy, P: Source, C: Source, K: Sink>(
         Err(ReadFault::Device) => return Err(RunFault::Read(Input::Choices)),
         Err(ReadFault::Memory) => return Err(RunFault::Memory),
     };
-    let (lines, status) = match run_text(alloc, form, inputs, &bytes, &text) {
+    let (lines, status) = match run_text(alloc, form, inputs, rule, &bytes, &text) {
         Ok(answer) => answer,
         Err(fault) => return Err(fault),
     };

@@ -115,14 +115,20 @@ fn ends_are_printed(rt: HostRuntime) {
         assert!(rt; harts.push(hart(a0, a1, pc, state)).is_ok());
         assert!(rt; wanted.push_str(line).is_ok());
     }
-    match ends_text(rt.alloc(), harts.as_slice()) {
+    match ends_text(rt.alloc(), &[], &[], harts.as_slice(), None) {
         Ok((text, status)) => {
             assert_eq!(rt; text.as_str(), wanted.as_str());
             assert_eq!(rt; status.code(), 3);
         }
         Err(_) => assert!(rt; false, "no memory"),
     }
-    match ends_text(rt.alloc(), &[hart(1, 2, 4, HartState::Running)]) {
+    match ends_text(
+        rt.alloc(),
+        &[],
+        &[],
+        &[hart(1, 2, 4, HartState::Running)],
+        None,
+    ) {
         Ok((_, status)) => assert_eq!(rt; status.code(), 0),
         Err(_) => assert!(rt; false, "no memory"),
     }
@@ -244,7 +250,7 @@ fn each_refused_request_is_told(rt: HostRuntime) {
             assert_eq!(rt; fault, HexFault::Memory);
         }
         let _ = hex_image(&heap, &[19; 20]);
-        let _ = ends_text(&heap, &harts);
+        let _ = ends_text(&heap, &[], &[], &harts, None);
         let mut source = MemorySource::new(&[7; 1300]);
         if let Err(fault) = read_all(&heap, &mut source) {
             assert_eq!(rt; fault, ReadFault::Memory);

@@ -6,9 +6,9 @@ use Rattle.engines.proofs.campaign.write_blocks.Given as goal
 
 abbrev pub invariant-blocks-2 : goal.invariant-blocks-2
 invariant-blocks-2 g l =
-    SoFar (plain_runs l.image l.inputs l.plan.steps l.plan.first l.plan.count)
+    SoFar l.plan.rule l.inputs l.plan.steps (plain_runs l.image l.inputs l.plan.steps l.plan.first l.plan.count)
     (map (seed_ends l.image l.inputs l.plan.steps) (seeds_left l.seeds))
-    (g.K.Sink.held l.initial.sink) (g.K.Sink.held l.sink) l.faulted
+    (g.K.Sink.held l.initial.sink) (g.K.Sink.held l.sink) l.bad
     × (g.K.Sink.failures l.sink ≡ g.K.Sink.failures l.initial.sink)
 
 -- each block takes seeds from those that are left

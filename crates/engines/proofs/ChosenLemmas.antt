@@ -1,0 +1,44 @@
+-- The harts that a seed's schedule chooses, as its choices are drawn one by one.
+use Rattle.std.proofs.Common.{◌≡◌, ℕ, ◌+◌, Bool, true, false, ◌||◌, ◌==◌, List, [], ◌∷◌, ◌++◌, refl, ap, sym, ◌∙◌}
+use Rattle.rand_pcg.specs.Lcg.{Lcg}
+use Rattle.rand_pcg.specs.Pcg.{pcg32}
+use Rattle.machine.specs.declared.choice.Choice.{Choice}
+use Rattle.scheduler.specs.Schedules.{choice_of_word, choices_drawn}
+use Rattle.scheduler.proofs.ScheduleLemmas.{drawn-more, drawn-none}
+use Rattle.protocol_library.specs.Chosen.{is_chosen}
+use Rattle.protocol_library.proofs.ChosenLemmas.{chosen-again, chosen-more}
+
+or-assoc : (x y z : Bool) → ((x || y) || z) ≡ (x || (y || z))
+or-assoc true y z = refl
+or-assoc false y z = refl
+
+or-none : (x : Bool) → (x || false) ≡ x
+or-none true = refl
+or-none false = refl
+
+-- a hart's choice is added
+pub added : (old new : List Choice) (c : Choice) → new ≡ old ++ c ∷ [] → (k : ℕ) → is_chosen new k ≡ (is_chosen old k || (c.hart == k))
+added old new c e k = ap (λ choices. is_chosen choices k) e ∙ chosen-more old c k
+
+-- a hart's choice is there
+pub there : (old : List Choice) (c : Choice) → is_chosen old c.hart ≡ true → (k : ℕ) → is_chosen old k ≡ (is_chosen old k || (c.hart == k))
+there old c among k = chosen-again old c k among
+
+module _ (harts n : ℕ) (g : Lcg) (a : List Choice) (k : ℕ) (whole : Bool)
+    (so_far : (is_chosen a k || is_chosen (choices_drawn harts n g) k) ≡ whole) where
+  -- one choice was drawn, and is among those before
+  pub drawn_one : (m : ℕ) (h : Lcg) (c : Choice) (b : List Choice) → n ≡ m + 1 → c ≡ choice_of_word harts (pcg32 g).0
+      → h ≡ (pcg32 g).1 → is_chosen b k ≡ (is_chosen a k || (c.hart == k))
+      → (is_chosen b k || is_chosen (choices_drawn harts m h) k) ≡ whole
+  drawn_one m h c b more choice state added =
+      ap (λ x. x || is_chosen (choices_drawn harts m h) k) added
+      ∙ or-assoc (is_chosen a k) (c.hart == k) (is_chosen (choices_drawn harts m h) k)
+      ∙ ap (λ i. is_chosen a k || is_chosen (c ∷ choices_drawn harts m i) k) state
+      ∙ ap (λ d. is_chosen a k || is_chosen (d ∷ choices_drawn harts m (pcg32 g).1) k) choice
+      ∙ ap (λ cs. is_chosen a k || is_chosen cs k) (sym (drawn-more harts n m g more))
+      ∙ so_far
+
+  -- no choice is left
+  pub drawn_all : n ≡ 0 → is_chosen a k ≡ whole
+  drawn_all none =
+      sym (ap (λ cs. is_chosen a k || is_chosen cs k) (drawn-none harts n g none) ∙ or-none (is_chosen a k)) ∙ so_far

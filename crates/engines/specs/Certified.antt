@@ -1,0 +1,42 @@
+-- Runs of files that are objects, under the rule of their kind.
+use Rattle.std.specs.Prelude.{◌≡◌, ℕ, ◌≤◌, ◌++◌, List, length, Option, Some}
+use Rattle.std.specs.declared.result.Result.TheVariants.{Ok, Err}
+use Rattle.reservations.specs.declared.reserve.TheConstants.{MAX_HARTS}
+use Rattle.loader.specs.Image.{ImageValue}
+use Rattle.protocol_library.specs.declared.kind.Kind.{Kind}
+use Rattle.protocol_library.specs.declared.kind.Kind.TheVariants.{Swap, Add, LrSc, AdoptCommit}
+use Rattle.protocol_library.specs.declared.verdict.Verdict.TheVariants.{Kept}
+use Rattle.protocol_library.specs.Images.{image_of, IsSame}
+use Rattle.engines.specs.Ends.{verdict_line}
+use Rattle.engines.specs.Program.{program_of}
+use Rattle.engines.specs.Run.{Answer}
+use Rattle.engines.specs.declared.program.ProgramForm.{ProgramForm}
+use Rattle.engines.specs.declared.status.Status.{Status}
+use Rattle.engines.specs.declared.status.Status.TheVariants as status
+
+-- an object is for so many harts
+abbrev pub IsMeantFor : Kind → ℕ → Type 0
+IsMeantFor Swap harts = harts ≡ 2
+IsMeantFor Add harts = harts ≡ 2
+IsMeantFor LrSc harts = harts ≤ MAX_HARTS
+IsMeantFor AdoptCommit harts = harts ≤ MAX_HARTS
+
+-- a program is the object of the rule's kind, which is for as many harts as there are inputs
+pub record IsCertified (form : ProgramForm) (program inputs : List ℕ) (rule : Option Kind) : Type 0 where
+  pub image : ImageValue
+  pub kind : Kind
+  pub reads : program_of form program ≡ Ok image
+  pub same : IsSame image (image_of kind)
+  pub meant : IsMeantFor kind (length inputs)
+  pub ruled : rule ≡ Some kind
+
+-- a text ends with `verdict kept`, and the status is 0
+pub record EndsKept (text : List ℕ) (code : Status) : Type 0 where
+  pub ends : List ℕ
+  pub text_is : text ≡ ends ++ verdict_line (Some Kept)
+  pub done : code ≡ status.Done
+
+-- where a run answers, its text ends with `verdict kept`, and the status is 0
+abbrev pub AnswersKept : Answer → Type 0
+AnswersKept (Ok answer) = EndsKept answer.0 answer.1
+AnswersKept (Err why) = Unit {0}
