@@ -1,0 +1,21 @@
+//! The debugger's commands: a line of text in, its answer's text out.
+#![tactic(auto)]
+
+pub use answer::Answer;
+pub use commands::Command;
+pub use fault::DebugFault;
+pub use line::{command, read_command};
+pub use replies::obey;
+
+mod answer;
+mod commands;
+mod fault;
+mod line;
+mod memory_text;
+mod number;
+mod registers_text;
+mod replies;
+mod steps_text;
+#[cfg(test)]
+mod tests;
+mod texts;
