@@ -1,0 +1,2 @@
+pub mod SourcesLemmas
+pub mod AssemblyLemmas

@@ -1,0 +1,69 @@
+-- What sources give: their program, its listing and its file, or the first fault.
+use Rattle.std.specs.Prelude.{◌≡◌, ℕ, List, [], ◌∷◌, take, Option, Some, None}
+use Rattle.std.specs.Io.KnownBytes.{Appends}
+use Rattle.std.specs.declared.result.Result.{Result}
+use Rattle.std.specs.declared.result.Result.TheVariants.{Ok, Err}
+use Rattle.asm_read.specs.declared.fault.Fault.{Fault}
+use Rattle.assembler.specs.Program.{ProgramValue}
+use Rattle.assembler.specs.Sources.{assembled_texts}
+use Rattle.assembler.specs.declared.program.TheConstants.{TEXT_BASE}
+use Rattle.elf_writer.specs.File.{file}
+use Rattle.listing.specs.Listing.{listing}
+use Rattle.round_trip.specs.TextAlone.{text_alone}
+use Rattle.asm_engine.specs.Sources.{first_other}
+use Rattle.asm_engine.specs.declared.fault.AssemblyFault.{AssemblyFault}
+use Rattle.asm_engine.specs.declared.fault.AssemblyFault.TheVariants as faults
+
+-- the program, or the statement that is wrong
+abbrev pub from_statements : Result ProgramValue Fault → Result ProgramValue AssemblyFault
+from_statements (Ok program) = Ok program
+from_statements (Err why) = Err (faults.Wrong why)
+
+-- the program of sources, of which the first that is no text is at this place
+abbrev pub program_unless : List (List ℕ) → Option ℕ → Result ProgramValue AssemblyFault
+program_unless sources None = from_statements (assembled_texts sources)
+program_unless sources (Some place) = Err (faults.NotText place)
+
+-- the program of sources, or why there is none
+abbrev pub program_of : List (List ℕ) → Result ProgramValue AssemblyFault
+program_of sources = program_unless sources (first_other 0 sources)
+
+-- the bytes that a program gives
+abbrev pub bytes_by : (ProgramValue → List ℕ) → Result ProgramValue AssemblyFault → Result (List ℕ) AssemblyFault
+bytes_by bytes (Ok program) = Ok (bytes program)
+bytes_by bytes (Err why) = Err why
+
+-- the listing of sources' program
+abbrev pub listing_of : List (List ℕ) → Result (List ℕ) AssemblyFault
+listing_of sources = bytes_by (λ program. listing TEXT_BASE program.text) (program_of sources)
+
+-- the listing of a program, as the one source, gives a program of the same text and nothing else
+abbrev pub ComesBack : Result ProgramValue AssemblyFault → Type 0
+ComesBack (Ok program) = assembled_texts (listing TEXT_BASE program.text ∷ []) ≡ Ok (text_alone program.text)
+ComesBack (Err why) = Unit {0}
+
+-- the ELF file of sources' program
+abbrev pub file_of : List (List ℕ) → Result (List ℕ) AssemblyFault
+file_of sources = bytes_by file (program_of sources)
+
+-- a fault of what was read, and of no device or memory
+abbrev pub IsRefusal : AssemblyFault → Type 0
+IsRefusal (faults.Wrong why) = Unit {0}
+IsRefusal (faults.Read place) = ⊥
+IsRefusal (faults.NotText place) = Unit {0}
+IsRefusal faults.Write = ⊥
+IsRefusal faults.Memory = ⊥
+
+-- the bytes were appended
+abbrev pub Writes : Result (List ℕ) AssemblyFault → Option (List ℕ) → Option (List ℕ) → Type 0
+Writes (Ok bytes) old new = Appends old new bytes
+Writes (Err why) old new = ⊥
+
+-- a beginning of these bytes was appended
+abbrev pub Begins : Option (List ℕ) → Option (List ℕ) → List ℕ → Type 0
+Begins old new bytes = (n : ℕ) × Appends old new (take n bytes)
+
+-- a beginning of the bytes was appended
+abbrev pub BeginsToWrite : Result (List ℕ) AssemblyFault → Option (List ℕ) → Option (List ℕ) → Type 0
+BeginsToWrite (Ok bytes) old new = Begins old new bytes
+BeginsToWrite (Err why) old new = ⊥

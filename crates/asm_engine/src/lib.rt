@@ -1,0 +1,12 @@
+//! What `asm` does, over any sources of bytes and any sink.
+#![tactic(auto)]
+
+pub use assembling::{assembled_file, listing_engine, write_file};
+pub use fault::AssemblyFault;
+pub use sources::read_sources;
+
+mod assembling;
+mod fault;
+mod sources;
+#[cfg(test)]
+mod tests;
