@@ -1,0 +1,4 @@
+pub mod LineLemmas
+pub mod OpeningLemmas
+pub mod OutcomeLemmas
+pub mod TalkLemmas

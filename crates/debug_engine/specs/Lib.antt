@@ -1,0 +1,3 @@
+pub mod Lines
+pub mod Opening
+pub mod Talk

@@ -1,0 +1,37 @@
+-- Lines that were taken off the front of a source.
+use Rattle.std.specs.Prelude.{◌≡◌, ℕ, ◌+◌, ◌<◌, ◌==◌, ◌++◌, ◌⊎◌, Bool, true, not, List, [], ◌∷◌, Option, length, take}
+use Rattle.std.specs.List.{list_all}
+use Rattle.std.specs.Io.KnownBytes.{Consumes, IsAtEnd}
+use Rattle.std.specs.Str.Lines.{strip_carriage_return}
+use Rattle.debug_engine.specs.declared.line.TheConstants.{MOST_LINE}
+
+-- no byte ends a line
+abbrev pub has_no_end : List ℕ → Bool
+has_no_end = list_all (λ b. not (b == 10))
+
+-- no byte was left
+abbrev pub TakesNone : Option (List ℕ) → Option (List ℕ) → Type 0
+TakesNone old new = Consumes old new [] × IsAtEnd new
+
+-- the first bytes of a line, of which two more than the most are kept
+abbrev pub kept : List ℕ → List ℕ
+kept bytes = take (MOST_LINE + 2) bytes
+
+-- the bytes up to an LF and the LF were taken, and the line is what was kept of them, less a carriage return
+pub record TakesEnded (old new : Option (List ℕ)) (line : List ℕ) : Type 0 where
+  pub bytes : List ℕ
+  pub plain : has_no_end bytes ≡ true
+  pub took : Consumes old new (bytes ++ 10 ∷ [])
+  pub is : line ≡ strip_carriage_return (kept bytes)
+
+-- all bytes that were left were taken, none of which ends a line
+pub record TakesLast (old new : Option (List ℕ)) (line : List ℕ) : Type 0 where
+  pub bytes : List ℕ
+  pub plain : has_no_end bytes ≡ true
+  pub took : Consumes old new bytes
+  pub some : 0 < length bytes
+  pub end : IsAtEnd new
+  pub is : line ≡ kept bytes
+
+abbrev pub TakesLine : Option (List ℕ) → Option (List ℕ) → List ℕ → Type 0
+TakesLine old new line = TakesEnded old new line ⊎ TakesLast old new line

@@ -1,0 +1,75 @@
+-- The session that a file, inputs and a choice text begin, or the first fault of what was read, and what it leaves in a sink.
+use Rattle.std.specs.Prelude.{ℕ, ◌==◌, nat_lt, List, [], length, Option, if◌then◌else◌}
+use Rattle.std.specs.Io.KnownBytes.{Appends}
+use Rattle.std.specs.Str.Lines.{lines}
+use Rattle.std.specs.declared.result.Result.{Result}
+use Rattle.std.specs.declared.result.Result.TheVariants.{Ok, Err}
+use Rattle.reservations.specs.declared.reserve.TheConstants.{MAX_HARTS}
+use Rattle.loader.specs.Image.{ImageValue}
+use Rattle.machine.specs.declared.choice.Choice.{Choice}
+use Rattle.scheduler.specs.Reading.{choices_of}
+use Rattle.scheduler.specs.declared.choice_text.ChoiceFault.{ChoiceFault}
+use Rattle.debugger.specs.Session.{Session}
+use Rattle.engines.specs.Program.{program_of}
+use Rattle.engines.specs.RunFaults.{fault_of_choices, status_of_fault}
+use Rattle.engines.specs.declared.program.ProgramForm.TheVariants as form
+use Rattle.engines.specs.declared.run_fault.RunFault.{RunFault}
+use Rattle.engines.specs.declared.run_fault.RunFault.TheVariants as fault
+use Rattle.engines.specs.declared.status.Status.{Status}
+use Rattle.engines.specs.declared.status.Status.TheVariants as status
+use Rattle.debug_engine.specs.Talk.{answers, Begins}
+use Rattle.debug_engine.specs.declared.fault.DebugEngineFault.{DebugEngineFault}
+use Rattle.debug_engine.specs.declared.fault.DebugEngineFault.TheVariants as engine
+
+-- a session, or why there is none
+abbrev pub Opening : Type 0
+Opening = Result Session RunFault
+
+-- a session at the start, without breakpoints and watches
+abbrev pub first_session : ImageValue → List ℕ → List Choice → Session
+first_session image inputs choices =
+    record { image = image; inputs = inputs; choices = choices; position = 0; breaks = []; watches = [] }
+
+-- the session once the choice text is read
+abbrev pub after_choices : ImageValue → List ℕ → Result (List Choice) ChoiceFault → Opening
+after_choices image inputs (Ok choices) = Ok (first_session image inputs choices)
+after_choices image inputs (Err why) = Err (fault_of_choices why)
+
+-- the session once the program is read: the number of inputs is looked at before the choice text
+abbrev pub after_program : List ℕ → List ℕ → Result ImageValue RunFault → Opening
+after_program inputs text (Ok image) =
+    if length inputs == 0 then Err fault.NoHarts
+    else (if nat_lt MAX_HARTS (length inputs) then Err fault.TooManyHarts
+    else after_choices image inputs (choices_of (length inputs) text))
+after_program inputs text (Err why) = Err why
+
+-- the session of inputs, a file's bytes and a choice text
+unfoldable pub opened : List ℕ → List ℕ → List ℕ → Opening
+opened inputs program text = after_program inputs text (program_of form.Elf program)
+
+-- the answers to the lines of the commands were appended
+abbrev pub Answers : Opening → List ℕ → Option (List ℕ) → Option (List ℕ) → Type 0
+Answers (Ok s) commands old new = Appends old new (answers s (lines commands))
+Answers (Err why) commands old new = ⊥
+
+-- a beginning of them was appended
+abbrev pub BeginsToAnswer : Opening → List ℕ → Option (List ℕ) → Option (List ℕ) → Type 0
+BeginsToAnswer (Ok s) commands old new = Begins old new (answers s (lines commands))
+BeginsToAnswer (Err why) commands old new = ⊥
+
+-- a fact that holds where no session was begun
+abbrev pub IfUnopened : DebugEngineFault → (RunFault → Type 0) → Type 0
+IfUnopened (engine.Refused why) P = P why
+IfUnopened why P = Unit {0}
+
+-- a fact that holds where a session was begun and did not end
+abbrev pub IfCut : DebugEngineFault → Type 0 → Type 0
+IfCut (engine.Refused why) P = Unit {0}
+IfCut why P = P
+
+-- the status of a fault
+abbrev pub status_of : DebugEngineFault → Status
+status_of (engine.Refused why) = status_of_fault why
+status_of engine.Commands = status.Refused
+status_of engine.Answers = status.Refused
+status_of engine.Memory = status.NoMemory

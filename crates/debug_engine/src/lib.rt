@@ -1,0 +1,16 @@
+//! What `debug` does, over any source of commands and any sink.
+#![tactic(auto)]
+
+pub use conversation::{TalkFault, talk};
+pub use engine::debug_engine;
+pub use fault::DebugEngineFault;
+pub use line::MOST_LINE;
+pub use opening::open_session;
+
+mod conversation;
+mod engine;
+mod fault;
+mod line;
+mod opening;
+#[cfg(test)]
+mod tests;
