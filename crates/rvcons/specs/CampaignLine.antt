@@ -1,13 +1,14 @@
 -- The command `campaign`.
-use Rattle.std.specs.Prelude.{◌≡◌, List, [], ◌∷◌, Some, codes}
+use Rattle.std.specs.Prelude.{◌≡◌, List, [], ◌∷◌, Some, codes, option_map}
 use Rattle.clap.specs.Words.{App, Row, Text, first_of, new_app, with_rule}
-use Rattle.rvcons.specs.Arguments.{needed, needed_option}
+use Rattle.rvcons.specs.Arguments.{needed, needed_option, optional}
 use Rattle.rvcons.specs.declared.campaign_line.CampaignOrder.{CampaignOrder}
 
--- `campaign FILE --inputs L --first S --count C --steps N`
+-- `campaign FILE --inputs L --first S --count C --steps N [--rule K]`
 abbrev pub campaign_app : App
 campaign_app =
     with_rule
+    (with_rule
     (with_rule
     (with_rule
     (with_rule
@@ -15,7 +16,8 @@ campaign_app =
     (needed_option (codes "inputs")))
     (needed_option (codes "first")))
     (needed_option (codes "count")))
-    (needed_option (codes "steps"))
+    (needed_option (codes "steps")))
+    (optional (codes "rule"))
 
 -- the names of the texts that have to stand
 abbrev pub campaign_names : List Text
@@ -29,3 +31,4 @@ IsCampaign rows order =
     × (first_of (codes "first") rows ≡ Some order.first.now)
     × (first_of (codes "count") rows ≡ Some order.count.now)
     × (first_of (codes "steps") rows ≡ Some order.steps.now)
+    × (first_of (codes "rule") rows ≡ option_map (λ s. s.now) order.rule)

@@ -38,4 +38,5 @@ RefusesInputs text (faults.Told error) = ⊥
 RefusesInputs text faults.NoCommand = ⊥
 RefusesInputs text faults.BadInputs = inputs_of text ≡ None
 RefusesInputs text faults.BadNumber = ⊥
+RefusesInputs text faults.BadObject = ⊥
 RefusesInputs text faults.Memory = Unit {0}

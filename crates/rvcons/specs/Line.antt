@@ -4,6 +4,8 @@ use Rattle.clap.specs.Words.{App, Row, Text, all_of, new_app, with_subcommand}
 use Rattle.rvcons.specs.Arguments.{holds_all}
 use Rattle.rvcons.specs.AsmLine.{asm_app, sources_name, IsAsm}
 use Rattle.rvcons.specs.CampaignLine.{campaign_app, campaign_names, IsCampaign}
+use Rattle.rvcons.specs.DebugLine.{debug_app, debug_names, IsDebug}
+use Rattle.rvcons.specs.LibLine.{lib_app, lib_names, IsLib}
 use Rattle.rvcons.specs.FileLine.{file_app, file_names, IsFile}
 use Rattle.rvcons.specs.RunLine.{run_app, run_names, IsRun}
 use Rattle.rvcons.specs.declared.line.Order.{Order}
@@ -22,10 +24,14 @@ program_app =
     (with_subcommand
     (with_subcommand
     (with_subcommand
+    (with_subcommand
+    (with_subcommand
     (with_subcommand bare_app asm_app.top)
     (file_app (codes "list")).top)
     (file_app (codes "info")).top)
     run_app.top)
+    debug_app.top)
+    lib_app.top)
     campaign_app.top
 
 -- the order is the command that clap met, with its matches
@@ -35,6 +41,8 @@ IsOrder (Some found) (order.Asm o) = (found.0 ≡ codes "asm") × IsAsm found.1 
 IsOrder (Some found) (order.List o) = (found.0 ≡ codes "list") × IsFile found.1 o
 IsOrder (Some found) (order.Info o) = (found.0 ≡ codes "info") × IsFile found.1 o
 IsOrder (Some found) (order.Run o) = (found.0 ≡ codes "run") × IsRun found.1 o
+IsOrder (Some found) (order.Debug o) = (found.0 ≡ codes "debug") × IsDebug found.1 o
+IsOrder (Some found) (order.Lib o) = (found.0 ≡ codes "lib") × IsLib found.1 o
 IsOrder (Some found) (order.Campaign o) = (found.0 ≡ codes "campaign") × IsCampaign found.1 o
 
 -- the matches are of no command of plain texts, or lack a text of it
@@ -42,6 +50,8 @@ pub record IsNoPlain (name : Text) (rows : List Row) : Type 0 where
   pub of_list : name ≡ codes "list" → holds_all file_names rows ≡ false
   pub of_info : name ≡ codes "info" → holds_all file_names rows ≡ false
   pub of_run : name ≡ codes "run" → holds_all run_names rows ≡ false
+  pub of_debug : name ≡ codes "debug" → holds_all debug_names rows ≡ false
+  pub of_lib : name ≡ codes "lib" → holds_all lib_names rows ≡ false
   pub of_campaign : name ≡ codes "campaign" → holds_all campaign_names rows ≡ false
 
 -- clap met no command, or one that lacks a text that has to stand
@@ -62,4 +72,5 @@ IsTold taken (faults.Told error) = taken ≡ true → ⊥
 IsTold taken faults.NoCommand = Unit {0}
 IsTold taken faults.BadInputs = ⊥
 IsTold taken faults.BadNumber = ⊥
+IsTold taken faults.BadObject = ⊥
 IsTold taken faults.Memory = Unit {0}

@@ -2,51 +2,70 @@
 
 ghost use Rattle.std.specs.Prelude.{◌≡◌, false, IfOk, map, option_map};
 ghost use Rattle.clap.specs.Walk.{one_of};
-ghost use Rattle.clap.specs.Words.{all_of, app_of, first_of, with_rule, with_subcommand, rows_of, found_of, rule_of};
+ghost use Rattle.clap.specs.Words.{all_of, app_of, first_of, new_app, with_rule, with_subcommand, rows_of, found_of, rule_of};
 ghost use Rattle.clap.specs.declared.builder.command.Command.TheViews.{out-Command};
 ghost use Rattle.rvcons.specs.Arguments.{flag, many, needed, needed_option, optional, IsSet};
 
 use clap::{Arg, ArgAction, ArgMatches, Command};
 use std::alloc::{AllocError, Global};
 
+/// A command of this name, with what it does and an example of its use for its help.
+pub(crate) fn headed<'a>(
+    alloc: Global,
+    name: &'a str,
+    does: &'a str,
+    example: &'a str,
+) -> Command<'a>
+    ensures app { app_of result ≡ new_app name.entry.now }
+    ensures globals { (out-Command result).has_globals ≡ false }
+{
+    Command::new(alloc, name).about(does).after_help(example)
+}
+
 /// A word that has to stand.
-pub(crate) fn needed<'a>(alloc: Global, id: &'a str) -> Arg<'a>
+pub(crate) fn needed<'a>(alloc: Global, id: &'a str, help: &'a str) -> Arg<'a>
     ensures rule { rule_of result ≡ needed id.entry.now }
     ensures local { result.global ≡ false }
 {
-    Arg::new(alloc, id).required(true)
+    Arg::new(alloc, id).required(true).help(help)
 }
 
 /// Words, of which one at least has to stand.
-pub(crate) fn many<'a>(alloc: Global, id: &'a str) -> Arg<'a>
+pub(crate) fn many<'a>(alloc: Global, id: &'a str, help: &'a str) -> Arg<'a>
     ensures rule { rule_of result ≡ many id.entry.now }
     ensures local { result.global ≡ false }
 {
-    Arg::new(alloc, id).required(true).action(ArgAction::Append)
+    Arg::new(alloc, id)
+        .required(true)
+        .action(ArgAction::Append)
+        .help(help)
 }
 
 /// An option with a value that may be left out.
-pub(crate) fn optional<'a>(alloc: Global, id: &'a str) -> Arg<'a>
+pub(crate) fn optional<'a>(alloc: Global, id: &'a str, help: &'a str) -> Arg<'a>
     ensures rule { rule_of result ≡ optional id.entry.now }
     ensures local { result.global ≡ false }
 {
-    Arg::new(alloc, id).long(id)
+    Arg::new(alloc, id).long(id).help(help)
 }
 
 /// An option with a value that has to stand.
-pub(crate) fn needed_option<'a>(alloc: Global, id: &'a str) -> Arg<'a>
+pub(crate) fn needed_option<'a>(alloc: Global, id: &'a str, help: &'a str) -> Arg<'a>
     ensures rule { rule_of result ≡ needed_option id.entry.now }
     ensures local { result.global ≡ false }
 {
-    Arg::new(alloc, id).long(id).required(true)
+    Arg::new(alloc, id).long(id).required(true).help(help)
 }
 
 /// An option without a value.
-pub(crate) fn flag<'a>(alloc: Global, id: &'a str) -> Arg<'a>
+pub(crate) fn flag<'a>(alloc: Global, id: &'a str, help: &'a str) -> Arg<'a>
     ensures rule { rule_of result ≡ flag id.entry.now }
     ensures local { result.global ≡ false }
 {
-    Arg::new(alloc, id).long(id).action(ArgAction::SetTrue)
+    Arg::new(alloc, id)
+        .long(id)
+        .action(ArgAction::SetTrue)
+        .help(help)
 }
 
 /// A command with one argument more.

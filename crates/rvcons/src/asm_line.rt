@@ -5,7 +5,7 @@ ghost use Rattle.clap.specs.Words.{all_of, app_of, rows_of, found_of};
 ghost use Rattle.clap.specs.declared.builder.command.Command.TheViews.{out-Command};
 ghost use Rattle.rvcons.specs.AsmLine.{asm_app, sources_name, IsAsm};
 
-use crate::arguments::{add, many, optional, text_of, texts_of};
+use crate::arguments::{add, headed, many, optional, text_of, texts_of};
 use clap::{ArgMatches, Command};
 use std::alloc::{AllocError, Global};
 
@@ -23,8 +23,17 @@ pub(crate) fn asm_command<'a>(alloc: Global) -> Result<Command<'a>, AllocError>
     ensures app { IfOk result (λ c. app_of c ≡ asm_app) }
     ensures local { IfOk result (λ c. (out-Command c).has_globals ≡ false) }
 {
-    let command = add(Command::new(alloc, "asm"), optional(alloc, "out"))?;
-    add(command, many(alloc, "IN"))
+    let command = headed(
+        alloc,
+        "asm",
+        "Assembles sources; prints the listing or writes an ELF file",
+        "Example: rvcons asm --out swap.elf swap.s",
+    );
+    let command = add(
+        command,
+        optional(alloc, "out", "the ELF file that is written"),
+    )?;
+    add(command, many(alloc, "IN", "the sources, in order"))
 }
 
 /// The order that clap's matches hold.

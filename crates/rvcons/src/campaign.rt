@@ -1,13 +1,15 @@
 //! Doing `campaign`.
 
-ghost use Rattle.std.specs.Prelude.{◌+◌, ◌^◌, ◌≤◌, IfSome};
+ghost use Rattle.std.specs.Prelude.{◌≡◌};
+ghost use Rattle.rvcons.specs.Plans.{plan_of};
 
 use crate::campaign_line::CampaignOrder;
 use crate::inputs::read_inputs;
-use crate::line::LineFault;
 use crate::numbers::read_number;
-use crate::report::{bad_line, cannot_open, cannot_read, out_of_memory, say};
+use crate::objects::read_rule;
+use crate::report::{bad_line, cannot_open, cannot_read, refuse, say};
 use engines::{Plan, Progress, ReaderSource, RunFault, Status, WriterSink, campaign_engine};
+use protocol_library::Kind;
 use std::rt::Files;
 use std::thread::Threads;
 use std::{fs, io};
@@ -17,24 +19,34 @@ use std::{fs, io};
 struct Line<'a, R> {
     rt: &'a R,
     is_terminal: bool,
+    // What a bad seed is.
+    bad: &'a str,
 }
 
 impl<'a, R: Eprint> Progress for Line<'a, R> {
-    fn seeds_done(&mut self, done: u64, faulted: u64) {
+    fn seeds_done(&mut self, done: u64, bad: u64) {
         if self.is_terminal {
             // Where standard error is closed there is nobody to tell.
-            let _ = eprint!(self.rt; "\r{done} seeds done, {faulted} with a fault");
+            let what = self.bad;
+            let _ = eprint!(self.rt; "\r{done} seeds done, {bad} {what}");
         }
     }
 }
 
-// The seeds and the steps of an order, if the seeds end by 2^64.
-fn read_plan(order: &CampaignOrder) -> Option<Plan>
-    ensures { IfSome result (λ plan. plan.first + plan.count ≤ 2 ^ 64) }
+// The plan that three numbers write: the first seed, how many seeds and how many steps for each. The seeds end by 2^64, and
+// the steps are below 2^32.
+fn read_plan(rule: Option<Kind>, first: &str, count: &str, steps: &str) -> Option<Plan>
+    ensures { result ≡ plan_of rule first.now count.now steps.now }
 {
-    let first = read_number(order.first, u64::MAX).ok()?;
-    let count = read_number(order.count, u64::MAX).ok()?;
-    let steps = read_number(order.steps, u64::from(u32::MAX)).ok()?;
+    let Ok(first) = read_number(first, u64::MAX) else {
+        return None;
+    };
+    let Ok(count) = read_number(count, u64::MAX) else {
+        return None;
+    };
+    let Ok(steps) = read_number(steps, u64::from(u32::MAX)) else {
+        return None;
+    };
     if count > 0 && first > u64::MAX - (count - 1) {
         return None;
     }
@@ -42,6 +54,7 @@ fn read_plan(order: &CampaignOrder) -> Option<Plan>
         first,
         count,
         steps,
+        rule,
     })
 }
 
@@ -53,13 +66,17 @@ pub(crate) fn run_campaign<R: Files + AllocGlobal + Print + Eprint + Threads + S
 ) -> Status {
     let inputs = match read_inputs(rt.alloc(), order.inputs) {
         Ok(inputs) => inputs,
-        Err(LineFault::Memory) => return out_of_memory(rt),
-        Err(_) => return bad_line(rt, "the inputs aren't numbers below 2^32 between commas"),
+        Err(fault) => return refuse(rt, &fault),
     };
-    let Some(plan) = read_plan(order) else {
+    let rule = match read_rule(order.rule) {
+        Ok(rule) => rule,
+        Err(fault) => return refuse(rt, &fault),
+    };
+    let Some(plan) = read_plan(rule, order.first, order.count, order.steps) else {
         return bad_line(
             rt,
-            "--first and --count are numbers whose sum is at most 2^64, --steps is one below 2^32",
+            "--first, --count and --steps take decimal numbers, first and count together at most 2^64, steps below 2^32, \
+             as --first 0 --count 1000 --steps 40",
         );
     };
     let program = match fs::open(rt, order.file) {
@@ -68,7 +85,16 @@ pub(crate) fn run_campaign<R: Files + AllocGlobal + Print + Eprint + Threads + S
     };
     let mut program = ReaderSource::new(program);
     let mut sink = WriterSink::new(io::writer(rt));
-    let mut line = Line { rt, is_terminal };
+    let bad = if plan.rule.is_some() {
+        "with a broken rule"
+    } else {
+        "with a fault"
+    };
+    let mut line = Line {
+        rt,
+        is_terminal,
+        bad,
+    };
     match campaign_engine(
         rt,
         rt.alloc(),

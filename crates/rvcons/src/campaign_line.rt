@@ -6,12 +6,13 @@ ghost use Rattle.clap.specs.declared.builder.command.Command.TheViews.{out-Comma
 ghost use Rattle.rvcons.specs.Arguments.{holds_all};
 ghost use Rattle.rvcons.specs.CampaignLine.{campaign_app, campaign_names, IsCampaign};
 
-use crate::arguments::{add, needed, needed_option, text_of};
+use crate::arguments::{add, headed, needed, needed_option, optional, text_of};
+use crate::help::{INPUTS, RULE};
 use clap::{ArgMatches, Command};
 use std::alloc::{AllocError, Global};
 
-/// `campaign FILE --inputs L --first S --count C --steps N`: runs a program under a random schedule for each of C seeds from
-/// S on, and prints a line for each.
+/// `campaign FILE --inputs L --first S --count C --steps N [--rule K]`: runs a program under a random schedule for each of C
+/// seeds from S on, and prints a line for each, with a rule also its verdict.
 #[derive(Debug, Drop)]
 pub struct CampaignOrder<'a> {
     /// The program's path.
@@ -24,6 +25,8 @@ pub struct CampaignOrder<'a> {
     pub count: &'a str,
     /// How many steps for each seed.
     pub steps: &'a str,
+    /// The name of the object whose rule is judged.
+    pub rule: Option<&'a str>,
 }
 
 /// The command as clap takes it.
@@ -31,11 +34,21 @@ pub(crate) fn campaign_command<'a>(alloc: Global) -> Result<Command<'a>, AllocEr
     ensures app { IfOk result (λ c. app_of c ≡ campaign_app) }
     ensures local { IfOk result (λ c. (out-Command c).has_globals ≡ false) }
 {
-    let command = add(Command::new(alloc, "campaign"), needed(alloc, "FILE"))?;
-    let command = add(command, needed_option(alloc, "inputs"))?;
-    let command = add(command, needed_option(alloc, "first"))?;
-    let command = add(command, needed_option(alloc, "count"))?;
-    add(command, needed_option(alloc, "steps"))
+    let command = headed(
+        alloc,
+        "campaign",
+        "Runs a program under random schedules and prints a line for each seed",
+        "Example: rvcons campaign swap.elf --inputs 7,9 --first 0 --count 1000 --steps 40 --rule swap",
+    );
+    let command = add(command, needed(alloc, "FILE", "the program, an ELF file"))?;
+    let command = add(command, needed_option(alloc, "inputs", INPUTS))?;
+    let command = add(command, needed_option(alloc, "first", "the first seed"))?;
+    let command = add(command, needed_option(alloc, "count", "how many seeds"))?;
+    let command = add(
+        command,
+        needed_option(alloc, "steps", "how many steps for each seed"),
+    )?;
+    add(command, optional(alloc, "rule", RULE))
 }
 
 /// The order that clap's matches hold.
@@ -50,5 +63,6 @@ pub(crate) fn campaign_order<'a>(matches: &ArgMatches<'a>) -> Option<CampaignOrd
         first: text_of(matches, "first")?,
         count: text_of(matches, "count")?,
         steps: text_of(matches, "steps")?,
+        rule: text_of(matches, "rule"),
     })
 }

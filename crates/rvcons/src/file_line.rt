@@ -1,12 +1,12 @@
 //! The commands of one file: `list` and `info`.
 
-ghost use Rattle.std.specs.Prelude.{◌≡◌, false, None, IfOk, IfSome};
+ghost use Rattle.std.specs.Prelude.{◌≡◌, false, None, IfOk, IfSome, codes};
 ghost use Rattle.clap.specs.Words.{app_of, rows_of, found_of};
 ghost use Rattle.clap.specs.declared.builder.command.Command.TheViews.{out-Command};
 ghost use Rattle.rvcons.specs.Arguments.{holds_all};
 ghost use Rattle.rvcons.specs.FileLine.{file_app, file_names, IsFile};
 
-use crate::arguments::{add, needed, text_of};
+use crate::arguments::{add, headed, needed, text_of};
 use clap::{ArgMatches, Command};
 use std::alloc::{AllocError, Global};
 
@@ -17,12 +17,46 @@ pub struct FileOrder<'a> {
     pub file: &'a str,
 }
 
-/// A command of this name, as clap takes it.
-pub(crate) fn file_command<'a>(alloc: Global, name: &'a str) -> Result<Command<'a>, AllocError>
+// A command of this name, as clap takes it.
+fn file_command<'a>(
+    alloc: Global,
+    name: &'a str,
+    does: &'a str,
+    example: &'a str,
+) -> Result<Command<'a>, AllocError>
     ensures app { IfOk result (λ c. app_of c ≡ file_app name.entry.now) }
     ensures local { IfOk result (λ c. (out-Command c).has_globals ≡ false) }
 {
-    add(Command::new(alloc, name), needed(alloc, "FILE"))
+    add(
+        headed(alloc, name, does, example),
+        needed(alloc, "FILE", "an ELF file"),
+    )
+}
+
+/// `list` as clap takes it.
+pub(crate) fn list_command<'a>(alloc: Global) -> Result<Command<'a>, AllocError>
+    ensures app { IfOk result (λ c. app_of c ≡ file_app (codes "list")) }
+    ensures local { IfOk result (λ c. (out-Command c).has_globals ≡ false) }
+{
+    file_command(
+        alloc,
+        "list",
+        "Lists the executable segments of an ELF file",
+        "Example: rvcons list swap.elf",
+    )
+}
+
+/// `info` as clap takes it.
+pub(crate) fn info_command<'a>(alloc: Global) -> Result<Command<'a>, AllocError>
+    ensures app { IfOk result (λ c. app_of c ≡ file_app (codes "info")) }
+    ensures local { IfOk result (λ c. (out-Command c).has_globals ≡ false) }
+{
+    file_command(
+        alloc,
+        "info",
+        "Shows the entry, the segments, the symbols and the library's object of an ELF file",
+        "Example: rvcons info swap.elf",
+    )
 }
 
 /// The order that clap's matches hold.

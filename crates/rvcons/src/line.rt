@@ -7,7 +7,9 @@ ghost use Rattle.rvcons.specs.Line.{bare_app, program_app, HasNoOrder, IfNoComma
 use crate::arguments::add_command;
 use crate::asm_line::{AsmOrder, asm_command, asm_order};
 use crate::campaign_line::{CampaignOrder, campaign_command, campaign_order};
-use crate::file_line::{FileOrder, file_command, file_order};
+use crate::debug_line::{DebugOrder, debug_command, debug_order};
+use crate::file_line::{FileOrder, file_order, info_command, list_command};
+use crate::lib_line::{LibOrder, lib_command, lib_order};
 use crate::run_line::{RunOrder, run_command, run_order};
 use clap::error::ErrorKind;
 use clap::{ArgMatches, Command};
@@ -24,6 +26,10 @@ pub enum Order<'a> {
     Info(FileOrder<'a>),
     /// `run`
     Run(RunOrder<'a>),
+    /// `debug`
+    Debug(DebugOrder<'a>),
+    /// `lib`
+    Lib(LibOrder<'a>),
     /// `campaign`
     Campaign(CampaignOrder<'a>),
 }
@@ -39,6 +45,8 @@ pub enum LineFault {
     BadInputs,
     /// A number isn't written in decimal digits, or is too large.
     BadNumber,
+    /// No object of the library has this name.
+    BadObject,
     /// Memory was refused.
     Memory,
 }
@@ -47,16 +55,21 @@ pub enum LineFault {
 fn bare_program<'a>(alloc: Global) -> Command<'a>
     ensures { app_of result ≡ bare_app }
 {
-    Command::new(alloc, "rvcons").version("0.1.0")
+    Command::new(alloc, "rvcons")
+        .version("0.1.0")
+        .about("Shows what RISC-V machine code of several harts does under a named schedule")
+        .after_help("`rvcons run --help` shows a command's options and an example; so for each.")
 }
 
 fn program<'a>(alloc: Global) -> Result<Command<'a>, AllocError>
     ensures { IfOk result (λ c. app_of c ≡ program_app) }
 {
     let program = add_command(bare_program(alloc), asm_command(alloc)?)?;
-    let program = add_command(program, file_command(alloc, "list")?)?;
-    let program = add_command(program, file_command(alloc, "info")?)?;
+    let program = add_command(program, list_command(alloc)?)?;
+    let program = add_command(program, info_command(alloc)?)?;
     let program = add_command(program, run_command(alloc)?)?;
+    let program = add_command(program, debug_command(alloc)?)?;
+    let program = add_command(program, lib_command(alloc)?)?;
     add_command(program, campaign_command(alloc)?)
 }
 
@@ -70,6 +83,8 @@ fn plain_order<'a>(name: &str, found: &ArgMatches<'a>) -> Option<Order<'a>>
         "list" => Some(Order::List(file_order(found)?)),
         "info" => Some(Order::Info(file_order(found)?)),
         "run" => Some(Order::Run(run_order(found)?)),
+        "debug" => Some(Order::Debug(debug_order(found)?)),
+        "lib" => Some(Order::Lib(lib_order(found)?)),
         "campaign" => Some(Order::Campaign(campaign_order(found)?)),
         _ => None,
     }

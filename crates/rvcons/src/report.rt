@@ -1,5 +1,6 @@
 //! What the program says on standard error.
 
+use crate::line::LineFault;
 use engines::{RunFault, Status};
 use std::io;
 
@@ -21,12 +22,51 @@ pub(crate) fn cannot_read(rt: &impl Eprint, path: &str) -> Status {
     Status::Refused
 }
 
+/// A file can't be written.
+pub(crate) fn cannot_write(rt: &impl Eprint, path: &str) -> Status {
+    let _ = eprintln!(rt; "rvcons: cannot write {path}");
+    Status::Refused
+}
+
 /// A file can't be opened, for want of memory or for another reason.
 pub(crate) fn cannot_open(rt: &impl Eprint, path: &str, error: &io::Error) -> Status {
     if error.kind() == io::ErrorKind::OutOfMemory {
         out_of_memory(rt)
     } else {
         cannot_read(rt, path)
+    }
+}
+
+/// Says why a command line gives no order, or prints the help or the version that it asks for.
+pub(crate) fn refuse(rt: &(impl Print + Eprint), fault: &LineFault) -> Status {
+    match fault {
+        LineFault::Told(error) => {
+            let printed = error.print(rt);
+            if error.use_stderr() {
+                Status::BadLine
+            } else if printed.is_err() {
+                say(rt, RunFault::Write)
+            } else {
+                Status::Done
+            }
+        }
+        LineFault::NoCommand => bad_line(
+            rt,
+            "no command is given; write one, as rvcons run, or see --help",
+        ),
+        LineFault::BadInputs => bad_line(
+            rt,
+            "--inputs takes a decimal number below 2^32 for each hart, with commas between, as 7,9",
+        ),
+        LineFault::BadNumber => bad_line(
+            rt,
+            "a number is not written in decimal digits, or is too large",
+        ),
+        LineFault::BadObject => bad_line(
+            rt,
+            "there is no such object; write swap, add, lrsc or adopt",
+        ),
+        LineFault::Memory => out_of_memory(rt),
     }
 }
 

@@ -1,8 +1,8 @@
 //! Doing `run`.
 
 use crate::inputs::read_inputs;
-use crate::line::LineFault;
-use crate::report::{bad_line, cannot_open, cannot_read, out_of_memory, say};
+use crate::objects::read_rule;
+use crate::report::{cannot_open, cannot_read, refuse, say};
 use crate::run_line::RunOrder;
 use engines::{Input, ProgramForm, ReaderSource, RunFault, Status, WriterSink, run_engine};
 use std::rt::Files;
@@ -12,8 +12,11 @@ use std::{fs, io};
 pub(crate) fn run<R: Files + AllocGlobal + Print + Eprint>(rt: &R, order: &RunOrder) -> Status {
     let inputs = match read_inputs(rt.alloc(), order.inputs) {
         Ok(inputs) => inputs,
-        Err(LineFault::Memory) => return out_of_memory(rt),
-        Err(_) => return bad_line(rt, "the inputs aren't numbers below 2^32 between commas"),
+        Err(fault) => return refuse(rt, &fault),
+    };
+    let rule = match read_rule(order.rule) {
+        Ok(rule) => rule,
+        Err(fault) => return refuse(rt, &fault),
     };
     let form = if order.hex {
         ProgramForm::Hex
@@ -35,6 +38,7 @@ pub(crate) fn run<R: Files + AllocGlobal + Print + Eprint>(rt: &R, order: &RunOr
         rt.alloc(),
         form,
         inputs.as_slice(),
+        rule,
         &mut program,
         &mut choices,
         &mut sink,

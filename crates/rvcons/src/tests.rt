@@ -2,6 +2,8 @@
 use crate::inputs::read_inputs;
 use crate::line::{LineFault, Order, read_line};
 use crate::numbers::read_number;
+use crate::objects::read_object;
+use protocol_library::Kind;
 use refusing::Refusing;
 use std::alloc::Global;
 
@@ -135,6 +137,70 @@ fn campaigns_are_read(rt: HostRuntime) {
             assert_eq!(rt; order.steps, "8");
         }
         _ => assert!(rt; false, "campaign"),
+    }
+}
+
+#[test]
+fn lib_is_read(rt: HostRuntime) {
+    match read_line(rt.alloc(), &["rvcons", "lib", "swap"]) {
+        Ok(Order::Lib(order)) => assert_eq!(rt; order.object, "swap"),
+        _ => assert!(rt; false, "lib"),
+    }
+}
+
+#[test]
+fn debug_is_read(rt: HostRuntime) {
+    match read_line(
+        rt.alloc(),
+        &["rvcons", "debug", "p", "--inputs", "7,9", "--choices", "c"],
+    ) {
+        Ok(Order::Debug(order)) => {
+            assert_eq!(rt; order.file, "p");
+            assert_eq!(rt; order.inputs, "7,9");
+            assert_eq!(rt; order.choices, "c");
+        }
+        _ => assert!(rt; false, "debug"),
+    }
+}
+
+#[test]
+fn a_rule_is_read(rt: HostRuntime) {
+    match read_line(
+        rt.alloc(),
+        &[
+            "rvcons",
+            "run",
+            "p",
+            "--inputs",
+            "7",
+            "--choices",
+            "c",
+            "--rule",
+            "lrsc",
+        ],
+    ) {
+        Ok(Order::Run(order)) => assert_eq!(rt; order.rule.unwrap_or(""), "lrsc"),
+        _ => assert!(rt; false, "rule"),
+    }
+}
+
+#[test]
+fn objects_are_read(rt: HostRuntime) {
+    let rows: [(&str, Option<Kind>); 7] = [
+        ("swap", Some(Kind::Swap)),
+        ("add", Some(Kind::Add)),
+        ("lrsc", Some(Kind::LrSc)),
+        ("adopt", Some(Kind::AdoptCommit)),
+        ("Swap", None),
+        ("swap ", None),
+        ("", None),
+    ];
+    for (text, wanted) in rows {
+        match (read_object(text), wanted) {
+            (Ok(kind), Some(wanted)) => assert!(rt; kind == wanted, "{text}"),
+            (Err(LineFault::BadObject), None) => {}
+            _ => assert!(rt; false, "{text}"),
+        }
     }
 }
 

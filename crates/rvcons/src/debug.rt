@@ -1,0 +1,62 @@
+//! Doing `debug`.
+
+use crate::debug_line::DebugOrder;
+use crate::inputs::read_inputs;
+use crate::report::{cannot_open, cannot_read, out_of_memory, refuse};
+use debug_engine::{DebugEngineFault, debug_engine};
+use engines::{Input as InputFile, ReaderSource, RunFault, Status, WriterSink};
+use std::fs;
+use std::io::{self, BufReader, Input};
+use std::rt::Files;
+
+/// Answers the commands of standard input, each as it comes. Both files are opened before either is read.
+pub(crate) fn converse<R: Files + AllocGlobal + Print + Eprint + Input>(
+    rt: &R,
+    order: &DebugOrder,
+) -> Status {
+    let inputs = match read_inputs(rt.alloc(), order.inputs) {
+        Ok(inputs) => inputs,
+        Err(fault) => return refuse(rt, &fault),
+    };
+    let program = match fs::open(rt, order.file) {
+        Ok(program) => program,
+        Err(error) => return cannot_open(rt, order.file, &error),
+    };
+    let choices = match fs::open(rt, order.choices) {
+        Ok(choices) => choices,
+        Err(error) => return cannot_open(rt, order.choices, &error),
+    };
+    let Ok(reader) = BufReader::new(rt.alloc(), rt.reader()) else {
+        return out_of_memory(rt);
+    };
+    let mut program = ReaderSource::new(program);
+    let mut choices = ReaderSource::new(choices);
+    let mut commands = ReaderSource::new(reader);
+    let mut sink = WriterSink::new(io::writer(rt));
+    match debug_engine(
+        rt.alloc(),
+        inputs.as_slice(),
+        &mut program,
+        &mut choices,
+        &mut commands,
+        &mut sink,
+    ) {
+        Ok(status) => status,
+        Err(fault) => tell(rt, order, fault),
+    }
+}
+
+// Says why the conversation wasn't held, or ended early.
+fn tell(rt: &impl Eprint, order: &DebugOrder, fault: DebugEngineFault) -> Status {
+    match fault {
+        DebugEngineFault::Refused(RunFault::Read(InputFile::File)) => cannot_read(rt, order.file),
+        DebugEngineFault::Refused(RunFault::Read(InputFile::Choices)) => {
+            cannot_read(rt, order.choices)
+        }
+        fault => {
+            // Where standard error is closed, the status alone tells.
+            let _ = eprintln!(rt; "rvcons: {fault}");
+            fault.status()
+        }
+    }
+}

@@ -1,0 +1,11 @@
+//! What help says of arguments that several commands take.
+
+/// Of `--inputs`.
+pub(crate) const INPUTS: &str = "one decimal input below 2^32 for each hart, as 7,9";
+
+/// Of `--choices`.
+pub(crate) const CHOICES: &str =
+    "a file of hart numbers, one for each step, as 0 1 0!; ! refuses a store-conditional";
+
+/// Of `--rule`.
+pub(crate) const RULE: &str = "also judge the rule of an object: swap, add, lrsc or adopt";

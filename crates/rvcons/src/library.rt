@@ -1,0 +1,20 @@
+//! Doing `lib`.
+
+use crate::lib_line::LibOrder;
+use crate::objects::read_object;
+use crate::report::{refuse, say};
+use engines::{Status, WriterSink, source_engine};
+use std::io;
+
+/// Prints the source of an object.
+pub(crate) fn print_source<R: AllocGlobal + Print + Eprint>(rt: &R, order: &LibOrder) -> Status {
+    let kind = match read_object(order.object) {
+        Ok(kind) => kind,
+        Err(fault) => return refuse(rt, &fault),
+    };
+    let mut sink = WriterSink::new(io::writer(rt));
+    match source_engine(kind, &mut sink) {
+        Ok(status) => status,
+        Err(fault) => say(rt, fault),
+    }
+}

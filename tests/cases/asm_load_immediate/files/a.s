@@ -1,0 +1,3 @@
+li a0, 0x800
+li a0, 0x12345FFF
+li a0, 0xFFFFFFFF
