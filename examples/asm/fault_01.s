@@ -1,0 +1,1 @@
+li a0, 08               # no octal digit

@@ -1,0 +1,1 @@
+mul a0, a0, a1          # no instruction of RV32I or A

@@ -1,0 +1,1 @@
+addi a0, a0             # an operand is missing

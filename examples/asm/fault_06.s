@@ -1,0 +1,1 @@
+j nowhere               # no label has this name

@@ -1,0 +1,3 @@
+here:
+nop
+here:                   # the second of this name

@@ -1,0 +1,2 @@
+.bss
+.word 1                 # .bss has no bytes of its own

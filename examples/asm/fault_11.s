@@ -1,0 +1,1 @@
+.zero 16777217          # one more than 2^24

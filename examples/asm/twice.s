@@ -1,0 +1,4 @@
+.globl twice
+twice:
+    add a0, a1, a1
+    ret
