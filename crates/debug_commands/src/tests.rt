@@ -3,6 +3,7 @@ use crate::{Answer, DebugFault, command};
 use debugger::Debugger;
 use engines::{hex_image, read_hex};
 use refusing::Refusing;
+use reservations::MAX_HARTS;
 use scheduler::read_choices;
 use std::alloc::{AllocError, Allocator};
 
@@ -166,6 +167,9 @@ fn begin<A: Allocator + Copy>(alloc: A, session: &Session) -> Option<Debugger<A>
     let Ok(inputs) = Vec::from_slice(alloc, session.inputs) else {
         return None;
     };
+    if inputs.len() > MAX_HARTS {
+        return None;
+    }
     let Ok(choices) = read_choices(alloc, session.choices.as_bytes(), inputs.len() as u32) else {
         return None;
     };
