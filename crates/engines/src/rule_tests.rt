@@ -236,7 +236,8 @@ fn lines_of<A: Allocator + Copy>(alloc: A) -> Result<String<A>, AllocError> {
         state: HartState::Running,
     };
     let harts = Vec::from_slice(alloc, &[hart, hart])?;
-    let runs = [SeedRun { seed: 5, harts }];
+    let mut runs = Vec::new(alloc);
+    runs.push(SeedRun { seed: 5, harts })?;
     let plan = Plan {
         first: 5,
         count: 1,
