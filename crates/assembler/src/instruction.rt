@@ -23,7 +23,7 @@ pub struct Pair {
 // The register numbers of ra and t1.
 const RA: u8 = 1;
 
-const T1: u8 = 6;
+const TEMPORARY: u8 = 6;
 
 /// The offset of a branch at an address to a target.
 #[tactic(auto, unfolding(crate::specs::Instructions::offset_to))]
@@ -230,7 +230,7 @@ pub fn pair_of<A: Allocator>(
         }
         Pseudo::Tail { name } => {
             let to = symbol_value(symbols, name.as_str(), 0)?;
-            Ok(jump_pair(Reg::new(T1), Reg::new(0), distance(at, to)))
+            Ok(jump_pair(Reg::new(TEMPORARY), Reg::new(0), distance(at, to)))
         }
     }
 }
