@@ -291,10 +291,13 @@ fn write_blocks<A: Allocator + Copy + Send + Sync, K: Sink>(
     requires sink_counts { K.failures sink.old < 2 ^ 64 - 1 }
     ensures done { IfOk result (λ status.
         Appends (K.held sink.old) (K.held sink.new)
-        (seed_lines plan.rule inputs.now plan.steps (plain_runs image.now inputs.now plan.steps plan.first plan.count))
-        × (status ≡ status_of_runs plan.rule inputs.now plan.steps (plain_runs image.now inputs.now plan.steps plan.first plan.count))) }
+        (seed_lines plan.rule inputs.now plan.steps
+        (plain_runs image.now inputs.now plan.steps plan.first plan.count))
+        × (status ≡ status_of_runs plan.rule inputs.now plan.steps
+        (plain_runs image.now inputs.now plan.steps plan.first plan.count))) }
     ensures begun { IfErr result (λ _. Begins
-        (seed_lines plan.rule inputs.now plan.steps (plain_runs image.now inputs.now plan.steps plan.first plan.count))
+        (seed_lines plan.rule inputs.now plan.steps
+        (plain_runs image.now inputs.now plan.steps plan.first plan.count))
         (K.held sink.old) (K.held sink.new)) }
     ensures fault { IfErr result (λ fault.
         IfHalts fault (K.failures sink.old < K.failures sink.new)) }

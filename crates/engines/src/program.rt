@@ -1,11 +1,14 @@
 //! Programs, as words in hexadecimal or as ELF files.
 
-ghost use Rattle.std.specs.Prelude.{◌≡◌, ◌≢◌, Ok, Err, IfOk, IfErr};
+ghost use Rattle.std.specs.Prelude.{◌≡◌, ◌≢◌, ◌^◌, ◌-◌, ◌<◌, Ok, Err, IfOk, IfErr, IfSome};
 ghost use Rattle.engines.specs.Program.{program_of};
+ghost use Rattle.engines.specs.Run.{IfReads, IsRefusal};
 
+use crate::device::Source;
 use crate::hex::read_hex;
 use crate::hex_program::hex_image;
-use crate::run_fault::RunFault;
+use crate::run_fault::{Input, RunFault};
+use crate::transfer::{ReadFault, read_all};
 use loader::{Image, load};
 use std::alloc::Allocator;
 
@@ -32,6 +35,29 @@ pub fn read_program<A: Allocator + Copy>(
         ProgramForm::Hex => read_hex_program(alloc, bytes),
         ProgramForm::Elf => read_file(alloc, bytes),
     }
+}
+
+/// Reads a program in this form to its end and makes its image, or says why there is none. The bytes are given back, so
+/// that they are not held while the image is used.
+pub fn read_image<A: Allocator + Copy, P: Source>(
+    alloc: A,
+    form: ProgramForm,
+    program: &mut P,
+) -> Result<Image<A>, RunFault>
+    requires { P.failures program.old < 2 ^ 64 - 1 }
+    ensures ok { IfOk result (λ image. IfSome (P.left program.old) (λ p. program_of form p ≡ Ok image)) }
+    ensures refused { IfErr result (λ fault. IsRefusal fault
+        → IfSome (P.left program.old) (λ p. program_of form p ≡ Err fault)) }
+    ensures read { IfErr result (λ fault. IfReads fault
+        (P.failures program.old < P.failures program.new) ⊥) }
+    ensures sink_unnamed { IfErr result (λ fault. fault ≢ RunFault.Write) }
+{
+    let bytes = match read_all(alloc, program) {
+        Ok(bytes) => bytes,
+        Err(ReadFault::Device) => return Err(RunFault::Read(Input::File)),
+        Err(ReadFault::Memory) => return Err(RunFault::Memory),
+    };
+    read_program(alloc, form, &bytes)
 }
 
 // The image of words in hexadecimal.

@@ -1,17 +1,20 @@
 //! `run`: a program, inputs and a list of choices in; the harts' ends and the verdict on them out.
 
-ghost use Rattle.std.specs.Prelude.{◌≡◌, ◌≢◌, ◌^◌, ◌-◌, ◌<◌, Ok, Err, IfOk, IfErr, IfSome, string_bytes};
+ghost use Rattle.std.specs.Prelude.{ℕ, List, ◌≡◌, ◌≢◌, ◌^◌, ◌-◌, ◌<◌, Ok, Err, IfOk, IfErr, IfSome, string_bytes};
 ghost use Rattle.std.specs.List.{All};
 ghost use Rattle.std.specs.Io.KnownBytes.{Keeps};
 ghost use Rattle.engines.specs.Certified.{AnswersKept, IsCertified};
-ghost use Rattle.engines.specs.Run.{run_answer, IsRefusal, Prints, BeginsToPrint, IfReads};
+ghost use Rattle.engines.specs.Program.{program_of};
+ghost use Rattle.engines.specs.Run.{after_program, run_answer, IsRefusal, Prints, BeginsToPrint, IfReads};
+ghost use Rattle.loader.specs.Image.{ImageValue};
 
 use crate::device::{Sink, Source};
 use crate::ends::ends_text;
-use crate::program::{ProgramForm, read_program};
+use crate::program::{ProgramForm, read_image};
 use crate::run_fault::{Input, RunFault};
 use crate::status::Status;
 use crate::transfer::{ReadFault, read_all, write_all};
+use loader::Image;
 use machine::Machine;
 use memory::FlatStore;
 use protocol_library::Kind;
@@ -27,31 +30,26 @@ pub(crate) fn see_words(inputs: &[u32])
     }
 }
 
-/// What a run of a program in this form prints and its status, or why it is refused. Checked are, in this order, the
-/// program, the number of inputs and the choice text. Under a rule the verdict follows the harts' lines.
-#[tactic(auto, unfolding(crate::specs::Run::run_answer))]
-pub fn run_text<A: Allocator + Copy>(
+/// What a run of an image prints and its status, or why it is refused. Checked are, in this order, the number of inputs and
+/// the choice text. Under a rule the verdict follows the harts' lines.
+pub fn run_image<A: Allocator + Copy>(
     alloc: A,
-    form: ProgramForm,
+    image: &Image<A>,
     inputs: &[u32],
     rule: Option<Kind>,
-    program: &[u8],
     text: &[u8],
 ) -> Result<(String<A>, Status), RunFault>
     ensures ok { IfOk result (λ answer.
-        run_answer form inputs.now rule program.now text.now ≡ Ok (string_bytes answer.0, answer.1)) }
+        after_program rule inputs.now text.now (Ok image.now) ≡ Ok (string_bytes answer.0, answer.1)) }
     ensures err { IfErr result (λ fault. fault ≢ RunFault.Memory
-        → run_answer form inputs.now rule program.now text.now ≡ Err fault) }
-    // An object keeps the rule of its kind.
-    ensures certified { IfOk result (λ _. IsCertified form program.now inputs.now rule
-        → AnswersKept (run_answer form inputs.now rule program.now text.now)) }
+        → after_program rule inputs.now text.now (Ok image.now) ≡ Err fault) }
+    // With these choices an object keeps the rule of its kind.
+    ensures certified { IfOk result (λ _. (form : ProgramForm) (program : List ℕ)
+        → IsCertified form program inputs.now rule
+        → AnswersKept (run_answer form inputs.now rule program text.now)) }
 {
     see_words(inputs);
-    let image = match read_program(alloc, form, program) {
-        Ok(image) => image,
-        Err(fault) => return Err(fault),
-    };
-    let mut machine: Machine<FlatStore<A>, A> = match Machine::start(alloc, &image, inputs) {
+    let mut machine: Machine<FlatStore<A>, A> = match Machine::start(alloc, image, inputs) {
         Ok(machine) => machine,
         Err(fault) => return Err(RunFault::from(fault)),
     };
@@ -69,8 +67,9 @@ pub fn run_text<A: Allocator + Copy>(
     }
 }
 
-/// `run`: reads the program in this form and then the choice text, each to its end, and writes how the harts end, and under
-/// a rule the verdict. Nothing is written where what was read is refused.
+/// `run`: reads the program in this form to its end, and where it is one, the choice text to its end; writes how the harts
+/// end, and under a rule the verdict. Nothing is written where what was read is refused.
+#[tactic(auto, unfolding(crate::specs::Run::run_answer))]
 pub fn run_engine<A: Allocator + Copy, P: Source, C: Source, K: Sink>(
     alloc: A,
     form: ProgramForm,
@@ -97,6 +96,9 @@ pub fn run_engine<A: Allocator + Copy, P: Source, C: Source, K: Sink>(
     ensures read { IfErr result (λ fault. IfReads fault
         (P.failures program.old < P.failures program.new)
         (C.failures choices.old < C.failures choices.new)) }
+    // A fault of the program comes before one of the device that the choices are read from.
+    ensures program_first { result ≡ Err (RunFault.Read Input.Choices)
+        → IfSome (P.left program.old) (λ p. (image : ImageValue) × (program_of form p ≡ Ok image)) }
     ensures write { result ≡ Err RunFault.Write → K.failures sink.old < K.failures sink.new }
     // After a failed write a beginning of the output stands there.
     ensures begun { result ≡ Err RunFault.Write
@@ -107,17 +109,16 @@ pub fn run_engine<A: Allocator + Copy, P: Source, C: Source, K: Sink>(
         IfSome (P.left program.old) (λ p. IfSome (C.left choices.old) (λ c.
         IsCertified form p inputs.now rule → AnswersKept (run_answer form inputs.now rule p c)))) }
 {
-    let bytes = match read_all(alloc, program) {
-        Ok(bytes) => bytes,
-        Err(ReadFault::Device) => return Err(RunFault::Read(Input::File)),
-        Err(ReadFault::Memory) => return Err(RunFault::Memory),
+    let image = match read_image(alloc, form, program) {
+        Ok(image) => image,
+        Err(fault) => return Err(fault),
     };
     let text = match read_all(alloc, choices) {
         Ok(bytes) => bytes,
         Err(ReadFault::Device) => return Err(RunFault::Read(Input::Choices)),
         Err(ReadFault::Memory) => return Err(RunFault::Memory),
     };
-    let (lines, status) = match run_text(alloc, form, inputs, rule, &bytes, &text) {
+    let (lines, status) = match run_image(alloc, &image, inputs, rule, &text) {
         Ok(answer) => answer,
         Err(fault) => return Err(fault),
     };
