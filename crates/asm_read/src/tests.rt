@@ -1,9 +1,10 @@
 //! What no clause says: worked texts, each fault, and refused memory.
+use crate::names::register_of;
 use crate::{
     AsmFault, Body, Directive, FaultKind, Immediate, Instruction, Section, Target, statements,
 };
 use refusing::Refusing;
-use std::alloc::Global;
+use std::alloc::{AllocError, Global};
 
 // The number of statements, or the fault's number, source and line.
 fn outcome(alloc: Global, sources: &[&str]) -> Result<usize, (u8, usize, usize)> {
@@ -121,7 +122,7 @@ fn each_form_is_taken(rt: HostRuntime) {
 
 #[test]
 fn the_lowest_fault_of_the_earliest_statement_is_told(rt: HostRuntime) {
-    let rows: [(&[&str], (u8, usize, usize)); 50] = [
+    let rows: [(&[&str], (u8, usize, usize)); 54] = [
         (&["addi a0, a0, 4096\nfoo"], (2, 0, 2)),
         (&["addi a0, a0"], (3, 0, 1)),
         (&["addi a0, q9, 1"], (4, 0, 1)),
@@ -148,6 +149,10 @@ fn the_lowest_fault_of_the_earliest_statement_is_told(rt: HostRuntime) {
         (&[".word 1,"], (3, 0, 1)),
         (&[".half x"], (3, 0, 1)),
         (&[".zero -1"], (3, 0, 1)),
+        (&[".space -1"], (3, 0, 1)),
+        (&[".skip -1"], (3, 0, 1)),
+        (&[".align -1"], (3, 0, 1)),
+        (&[".p2align -1"], (3, 0, 1)),
         (&[".align"], (3, 0, 1)),
         (&[".globl 5"], (3, 0, 1)),
         (&[".ascii \"\\x\""], (3, 0, 1)),
@@ -176,6 +181,34 @@ fn the_lowest_fault_of_the_earliest_statement_is_told(rt: HostRuntime) {
     for (sources, wanted) in rows {
         assert_eq!(rt; outcome(rt.alloc(), sources), Err(wanted), "{sources:?}");
     }
+}
+
+// The number of a register's name; 32 where it is none.
+fn number_of(name: &str) -> u8 {
+    match register_of(name) {
+        Some(register) => register.number(),
+        None => 32,
+    }
+}
+
+#[test]
+fn registers_have_their_numbers(rt: HostRuntime) -> Result<(), AllocError> {
+    // By the calling convention, x0 to x31.
+    let names = [
+        "zero", "ra", "sp", "gp", "tp", "t0", "t1", "t2", "s0", "s1", "a0", "a1", "a2", "a3", "a4",
+        "a5", "a6", "a7", "s2", "s3", "s4", "s5", "s6", "s7", "s8", "s9", "s10", "s11", "t3", "t4",
+        "t5", "t6",
+    ];
+    for (number, name) in names.iter().enumerate() {
+        let plain = format!(in rt.alloc(); "x{number}")?;
+        assert_eq!(rt; usize::from(number_of(name)), number, "{name}");
+        assert_eq!(rt; usize::from(number_of(&plain)), number, "{plain}");
+    }
+    assert_eq!(rt; number_of("fp"), 8);
+    for name in ["x32", "x00", "x", "X1", "a8", "t7", "s12", "s", ""] {
+        assert_eq!(rt; number_of(name), 32, "{name}");
+    }
+    Ok(())
 }
 
 #[test]

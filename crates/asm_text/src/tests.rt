@@ -1,5 +1,5 @@
 //! What no clause says: worked texts, the faults' own texts, and refused memory.
-use crate::{Kind, TextFault, scan_text, tokens};
+use crate::{Kind, TextFault, lexemes, scan_text, tokens};
 use refusing::Refusing;
 use std::alloc::{AllocError, Global};
 
@@ -197,6 +197,51 @@ fn each_refused_request_is_told(rt: HostRuntime) {
                 assert_eq!(rt; fault, TextFault::Memory, "at request {passed}");
                 assert!(rt; heap.refused(), "at request {passed}");
             }
+        }
+        if !heap.refused() {
+            assert!(rt; passed > 0, "no memory is asked for");
+            return;
+        }
+    }
+    assert!(rt; false, "memory is asked for without end");
+}
+
+// A lexeme of each kind, and then a fault.
+const EACH_LEXEME: &str = "a 1 1b 1f \"b\" , ( ) + - % : ; @\n08";
+
+#[test]
+fn each_refused_request_of_a_scan_is_told(rt: HostRuntime) {
+    for passed in 0..100u64 {
+        let heap = Refusing::new(rt.alloc(), passed);
+        match scan_text(&heap, EACH_LEXEME) {
+            Ok(scan) => {
+                assert_eq!(rt; scan.tokens.len(), 15, "at request {passed}");
+                assert_eq!(rt;
+                    scan.fault,
+                    Some(TextFault::BadNumber(32)),
+                    "at request {passed}"
+                );
+            }
+            Err(AllocError) => assert!(rt; heap.refused(), "at request {passed}"),
+        }
+        if !heap.refused() {
+            assert!(rt; passed > 0, "no memory is asked for");
+            return;
+        }
+    }
+    assert!(rt; false, "memory is asked for without end");
+}
+
+#[test]
+fn each_refused_request_of_lexemes_is_told(rt: HostRuntime) {
+    for passed in 0..100u64 {
+        let heap = Refusing::new(rt.alloc(), passed);
+        match lexemes(&heap, EACH_LEXEME) {
+            Ok(all) => {
+                assert_eq!(rt; all.lexemes.len(), 15, "at request {passed}");
+                assert!(rt; !all.whole, "at request {passed}");
+            }
+            Err(AllocError) => assert!(rt; heap.refused(), "at request {passed}"),
         }
         if !heap.refused() {
             assert!(rt; passed > 0, "no memory is asked for");

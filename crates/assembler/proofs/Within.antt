@@ -39,7 +39,3 @@ within_next n i c h = within_more (n + i + 1) (n + (i + 1)) c h (omega arith)
 -- fewer than 2^61 statements from a lower start
 pub within_far : (i count : ℕ) (c : Cursor) → IsWithin (2 ^ 62 + 2 ^ 60 + i) c → i < count → count < 2 ^ 61 → IsWithin (2 ^ 63 + 2 ^ 61) c
 within_far i count c h below small = within_more (2 ^ 62 + 2 ^ 60 + i) (2 ^ 63 + 2 ^ 61) c h (omega (arith, below, small))
-
--- and one more
-pub within_mid : (i count : ℕ) (c : Cursor) → IsWithin (2 ^ 62 + 2 ^ 60 + i + 1) c → i < count → count < 2 ^ 61 → IsWithin (2 ^ 63) c
-within_mid i count c h below small = within_more (2 ^ 62 + 2 ^ 60 + i + 1) (2 ^ 63) c h (omega (arith, below, small))
