@@ -1,43 +1,25 @@
 -- The AdoptCommit object: one object, and its first and last instructions.
-use Rattle.std.proofs.Common.{◌≡◌, ◌≢◌, ℕ, zero, suc, ◌+◌, ◌-◌, ◌*◌, ◌/◌, ◌%◌, ◌^◌, ◌<◌, ◌≤◌, Bool, true, false, not, if◌then◌else◌, ◌==◌, ◌&&◌, List, [], ◌∷◌, length, get_or, set, Option, Some, None, refl, sym, ap, ◌∙◌, ◌⊎◌, inl, inr, arith, eq-eqb, ne_eqb, subst, map}
-use Rattle.std.specs.List.{AllByRecursion, All, Contains, slice_get}
-use Rattle.std.proofs.lemmas.List.Elements.{recursion_from_All}
-use Rattle.std.proofs.lemmas.List.{get_or-map, length-map}
-use Rattle.std.proofs.lemmas.Option.{slice_get-get_or}
+use Rattle.std.proofs.Common.{◌≡◌, ℕ, ◌+◌, ◌-◌, ◌*◌, ◌<◌, ◌≤◌, Bool, true, false, List, length, Some, refl, ap, ◌⊎◌, inl, inr, arith, eq-eqb}
 use Rattle.loader.specs.Image.{ImageValue}
-use Rattle.memory.specs.Memory.{Memory}
 use Rattle.memory.specs.Access.{fetched}
 use Rattle.reservations.specs.Marks.{Marks}
 use Rattle.isa_table.specs.Decoded.{decoded}
-use Rattle.isa_table.specs.declared.instr.Instr.{Instr}
-use Rattle.isa_table.specs.declared.instr.Instr.TheVariants.{Branch, Load, Store}
-use Rattle.isa_table.specs.declared.mnemonic.BranchOp.{BranchOp}
-use Rattle.isa_table.specs.declared.mnemonic.BranchOp.TheVariants.{Beq, Bne}
-use Rattle.isa_table.specs.declared.mnemonic.LoadOp.TheVariants.{Lw}
-use Rattle.isa_table.specs.declared.mnemonic.StoreOp.TheVariants.{Sw}
 use Rattle.hart_step.specs.Hart.{HartValue, Registers, put}
-use Rattle.hart_step.specs.Values.{wrap, is_taken}
-use Rattle.hart_step.specs.Effect.{Site, goes_on}
-use Rattle.hart_step.specs.Step.{at_word, executed}
-use Rattle.hart_step.specs.declared.hart.HartState.{HartState}
-use Rattle.hart_step.specs.declared.hart.HartState.TheVariants.{Running, Exited}
-use Rattle.machine.specs.World.{World, placed, step, run}
-use Rattle.machine.specs.Start.{started, first_harts, first_registers}
-use Rattle.machine.specs.declared.choice.Choice.{Choice}
+use Rattle.hart_step.specs.Values.{wrap}
+use Rattle.hart_step.specs.declared.hart.HartState.TheVariants.{Exited}
+use Rattle.machine.specs.World.{World}
 use Rattle.reservations.specs.declared.reserve.TheConstants.{MAX_HARTS}
 use Rattle.protocol_library.specs.declared.kind.Kind.TheVariants.{AdoptCommit}
-use Rattle.protocol_library.specs.Images.{object_image, adopt_words, adopt_image, image_of, IsSame}
-use Rattle.protocol_library.specs.Counts.{chosen, own}
-use Rattle.protocol_library.specs.Rules.{KeepsAdoptCommit, AreAlike, IsProposed, HasExited, EndsAfter, EveryRun, is_exited, is_faulted, value_of, flag_of}
+use Rattle.protocol_library.specs.Images.{adopt_words, adopt_image, image_of, IsSame}
+use Rattle.protocol_library.specs.Rules.{KeepsAdoptCommit, EndsAfter, EveryRun, is_exited, is_faulted}
 use Rattle.protocol_library.proofs.Runs.{same_runs, equal_runs}
-use Rattle.protocol_library.proofs.Shape.{on, sight, shaped, shaped_bytes, shaped_memory, word, word_at, may_load, with_word, stores_word, stored_by, first_memory}
-use Rattle.protocol_library.proofs.Harts.{hart_at, nobody, turn, step-turn, same_or_not, each_set, all_harts, same_default, first_at, first_count, bump, bump_same, bump_other, spent_after, spent_own}
+use Rattle.protocol_library.proofs.Shape.{on, shaped_memory}
+use Rattle.protocol_library.proofs.Harts.{hart_at, turn}
 use Rattle.proto_adopt.proofs.Flat.{flat}
-use Rattle.proto_adopt.proofs.Records.{Ghost, Valued, Good}
 use Rattle.proto_adopt.proofs.Instructions.{Point, At1, At2, At3, At4, At5, At6, At7, At8, At9, At10, At11, At12, At13, At14, At15, At16, At17, At18, At19, At20, At21, At22, At23, At24, At25, At26, At27, At28, At29, At30, place, code, stand}
 use Rattle.proto_adopt.proofs.Object.{View, New}
-use Rattle.proto_adopt.proofs.Chain.{Program, Ghosts, Was, Inv, Result, FactsAt, obj, view_at, world, quiet}
-use Rattle.proto_adopt.proofs.Rule.{Closed, End, first_ghost, chain_agrees, chain_ends, small_value, small_good}
+use Rattle.proto_adopt.proofs.Chain.{Program, Ghosts, Inv, Result, FactsAt, obj, view_at, world, quiet}
+use Rattle.proto_adopt.proofs.Rule.{Closed, End, chain_agrees, chain_ends, small_value, small_good}
 
 data Rest : Type 0 where
   At0 At31 At32 At33 Out : Rest

@@ -1,30 +1,15 @@
 -- A chain of adopt-commit objects that the harts go through one after another: its invariant, and the forms of its changes.
-use Rattle.std.proofs.Common.{◌≡◌, ◌≢◌, ℕ, zero, suc, ◌+◌, ◌-◌, ◌*◌, ◌/◌, ◌%◌, ◌^◌, ◌<◌, ◌≤◌, Bool, true, false, not, if◌then◌else◌, ◌==◌, ◌&&◌, List, [], ◌∷◌, length, get_or, set, Option, Some, None, refl, sym, ap, ◌∙◌, ◌⊎◌, inl, inr, arith, eq-eqb, ne_eqb, subst, map}
+use Rattle.std.proofs.Common.{◌≡◌, ◌≢◌, ℕ, suc, ◌+◌, ◌-◌, ◌*◌, ◌%◌, ◌^◌, ◌<◌, ◌≤◌, if◌then◌else◌, ◌==◌, List, length, set, Some, refl, sym, ap, ◌∙◌, ◌⊎◌, inl, inr, arith, eq-eqb, ne_eqb, subst}
 use Rattle.std.proofs.lemmas.List.{length-set}
-use Rattle.memory.specs.Memory.{Memory}
 use Rattle.memory.specs.Access.{fetched}
 use Rattle.reservations.specs.Marks.{Marks}
-use Rattle.isa_table.specs.Decoded.{decoded}
-use Rattle.isa_table.specs.declared.instr.Instr.{Instr}
-use Rattle.isa_table.specs.declared.instr.Instr.TheVariants.{Branch, Load, Store}
-use Rattle.isa_table.specs.declared.mnemonic.BranchOp.{BranchOp}
-use Rattle.isa_table.specs.declared.mnemonic.BranchOp.TheVariants.{Beq, Bne}
-use Rattle.isa_table.specs.declared.mnemonic.LoadOp.TheVariants.{Lw}
-use Rattle.isa_table.specs.declared.mnemonic.StoreOp.TheVariants.{Sw}
-use Rattle.hart_step.specs.Hart.{HartValue, Registers, put}
-use Rattle.hart_step.specs.Values.{wrap, is_taken}
-use Rattle.hart_step.specs.Effect.{Site, goes_on}
-use Rattle.hart_step.specs.Step.{at_word, executed}
-use Rattle.hart_step.specs.declared.hart.HartState.{HartState}
-use Rattle.hart_step.specs.declared.hart.HartState.TheVariants.{Running, Exited}
-use Rattle.machine.specs.World.{World, placed, step, run}
-use Rattle.machine.specs.Start.{started, first_harts, first_registers}
-use Rattle.machine.specs.declared.choice.Choice.{Choice}
-use Rattle.protocol_library.proofs.Shape.{on, sight, shaped, shaped_bytes, shaped_memory, word, word_at, may_load, with_word, stores_word, stored_by, first_memory}
-use Rattle.protocol_library.proofs.Harts.{hart_at, nobody, turn, step-turn, same_or_not, each_set, all_harts, same_default, first_at, first_count, bump, bump_same, bump_other, spent_after, spent_own}
+use Rattle.hart_step.specs.Hart.{HartValue, Registers}
+use Rattle.machine.specs.World.{World}
+use Rattle.protocol_library.proofs.Shape.{shaped, shaped_memory}
+use Rattle.protocol_library.proofs.Harts.{hart_at, same_or_not, each_set, bump, bump_same, bump_other}
 use Rattle.proto_adopt.proofs.Flat.{flat, at_round}
-use Rattle.proto_adopt.proofs.Records.{Ghost, Sound, with_ghost, value_of, presence_of, mark_of, enters, widens, Valued, Marked}
-use Rattle.proto_adopt.proofs.Instructions.{Point, At1, At30, place, code, stand}
+use Rattle.proto_adopt.proofs.Records.{Ghost, Sound, with_ghost, presence_of, mark_of, enters, widens, Marked}
+use Rattle.proto_adopt.proofs.Instructions.{Point, At1, place, code, stand}
 use Rattle.proto_adopt.proofs.Object.{Obj, View, Facts, Frame, Stable, then_is, keeps}
 
 -- a program that has the object's instructions from `first` on, for n harts: how many objects it chains, what a hart has spent that comes to

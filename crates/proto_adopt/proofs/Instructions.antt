@@ -1,26 +1,20 @@
 -- The 29 instructions of an adopt-commit object, from its first one's place on (At30 is the place past them), and what the step of a hart at each of them comes to.
-use Rattle.std.proofs.Common.{◌≡◌, ◌≢◌, ℕ, zero, suc, ◌+◌, ◌-◌, ◌*◌, ◌/◌, ◌%◌, ◌^◌, ◌<◌, ◌≤◌, Bool, true, false, not, if◌then◌else◌, ◌==◌, ◌&&◌, List, [], ◌∷◌, length, get_or, set, Option, Some, None, refl, sym, ap, ◌∙◌, ◌⊎◌, inl, inr, arith, eq-eqb, ne_eqb, subst, map}
-use Rattle.memory.specs.Memory.{Memory}
+use Rattle.std.proofs.Common.{◌≡◌, ℕ, ◌+◌, ◌-◌, ◌*◌, ◌%◌, ◌≤◌, Bool, true, false, List, length, set, Option, Some, ap, ◌∙◌, eq-eqb}
 use Rattle.memory.specs.Access.{fetched}
 use Rattle.reservations.specs.Marks.{Marks}
 use Rattle.isa_table.specs.Decoded.{decoded}
 use Rattle.isa_table.specs.declared.instr.Instr.{Instr}
 use Rattle.isa_table.specs.declared.instr.Instr.TheVariants.{Branch, Load, Store}
 use Rattle.isa_table.specs.declared.mnemonic.BranchOp.{BranchOp}
-use Rattle.isa_table.specs.declared.mnemonic.BranchOp.TheVariants.{Beq, Bne}
 use Rattle.isa_table.specs.declared.mnemonic.LoadOp.TheVariants.{Lw}
 use Rattle.isa_table.specs.declared.mnemonic.StoreOp.TheVariants.{Sw}
 use Rattle.hart_step.specs.Hart.{HartValue, Registers, put}
 use Rattle.hart_step.specs.Values.{wrap, is_taken}
 use Rattle.hart_step.specs.Effect.{Site, goes_on}
 use Rattle.hart_step.specs.Step.{at_word, executed}
-use Rattle.hart_step.specs.declared.hart.HartState.{HartState}
-use Rattle.hart_step.specs.declared.hart.HartState.TheVariants.{Running, Exited}
-use Rattle.machine.specs.World.{World, placed, step, run}
-use Rattle.machine.specs.Start.{started, first_harts, first_registers}
-use Rattle.machine.specs.declared.choice.Choice.{Choice}
-use Rattle.protocol_library.proofs.Shape.{on, sight, shaped, shaped_bytes, shaped_memory, word, word_at, may_load, with_word, stores_word, stored_by, first_memory}
-use Rattle.protocol_library.proofs.Harts.{hart_at, nobody, turn, step-turn, same_or_not, each_set, all_harts, same_default, first_at, first_count, bump, bump_same, bump_other, spent_after, spent_own}
+use Rattle.machine.specs.World.{World, placed}
+use Rattle.protocol_library.proofs.Shape.{on, sight, shaped, shaped_bytes, shaped_memory, word, may_load, with_word, stores_word, stored_by}
+use Rattle.protocol_library.proofs.Harts.{hart_at, turn}
 
 pub data Point : Type 0 where
   At1 At2 At3 At4 At5 At6 At7 At8 At9 At10 At11 At12 At13 At14 At15 At16 At17 At18 At19 At20 At21 At22 At23 At24 At25 At26 At27 At28 At29 At30 : Point

@@ -1,7 +1,5 @@
 -- The steps of a hart at the instructions of an adopt-commit object.
-use Rattle.std.proofs.Common.{◌≡◌, ◌≢◌, ℕ, zero, suc, ◌+◌, ◌-◌, ◌*◌, ◌/◌, ◌%◌, ◌^◌, ◌<◌, ◌≤◌, Bool, true, false, not, if◌then◌else◌, ◌==◌, ◌&&◌, List, [], ◌∷◌, length, get_or, set, Option, Some, None, refl, sym, ap, ◌∙◌, ◌⊎◌, inl, inr, arith, eq-eqb, ne_eqb, subst, map}
-use Rattle.memory.specs.Memory.{Memory}
-use Rattle.memory.specs.Access.{fetched}
+use Rattle.std.proofs.Common.{◌≡◌, ◌≢◌, ℕ, ◌+◌, ◌-◌, ◌*◌, ◌%◌, ◌^◌, ◌<◌, ◌≤◌, Bool, true, false, not, List, set, Option, Some, refl, sym, ap, ◌∙◌, ◌⊎◌, inl, inr, arith, eq-eqb, ne_eqb}
 use Rattle.reservations.specs.Marks.{Marks}
 use Rattle.isa_table.specs.Decoded.{decoded}
 use Rattle.isa_table.specs.declared.instr.Instr.{Instr}
@@ -12,19 +10,15 @@ use Rattle.isa_table.specs.declared.mnemonic.LoadOp.TheVariants.{Lw}
 use Rattle.isa_table.specs.declared.mnemonic.StoreOp.TheVariants.{Sw}
 use Rattle.hart_step.specs.Hart.{HartValue, Registers, put}
 use Rattle.hart_step.specs.Values.{wrap, is_taken}
-use Rattle.hart_step.specs.Effect.{Site, goes_on}
-use Rattle.hart_step.specs.Step.{at_word, executed}
-use Rattle.hart_step.specs.declared.hart.HartState.{HartState}
-use Rattle.hart_step.specs.declared.hart.HartState.TheVariants.{Running, Exited}
-use Rattle.machine.specs.World.{World, placed, step, run}
-use Rattle.machine.specs.Start.{started, first_harts, first_registers}
-use Rattle.machine.specs.declared.choice.Choice.{Choice}
-use Rattle.protocol_library.proofs.Shape.{on, sight, shaped, shaped_bytes, shaped_memory, word, word_at, may_load, with_word, stores_word, stored_by, first_memory}
-use Rattle.protocol_library.proofs.Harts.{hart_at, nobody, turn, step-turn, same_or_not, each_set, all_harts, same_default, first_at, first_count, bump, bump_same, bump_other, spent_after, spent_own}
+use Rattle.hart_step.specs.Effect.{goes_on}
+use Rattle.hart_step.specs.Step.{executed}
+use Rattle.machine.specs.World.{World}
+use Rattle.protocol_library.proofs.Shape.{shaped_bytes, word, word_at, with_word, stored_by}
+use Rattle.protocol_library.proofs.Harts.{hart_at, turn, same_or_not}
 use Rattle.proto_adopt.proofs.Flat.{flat, flat_at, flat_with, at_round}
-use Rattle.proto_adopt.proofs.Records.{Ghost, Sound, with_ghost, value_of, presence_of, mark_of, Shown, Signed, Marked, Valued, Good, Mixed, Agree, Follow, twos, clears, passes, writes_value, writes_presence, writes_mark, other_word, this_word}
+use Rattle.proto_adopt.proofs.Records.{Ghost, Sound, with_ghost, presence_of, mark_of, Shown, Signed, Marked, Valued, Good, Mixed, Agree, twos, clears, passes, writes_value, writes_presence, writes_mark, other_word, this_word}
 use Rattle.proto_adopt.proofs.Instructions.{Point, At1, At2, At3, At4, At5, At6, At7, At8, At9, At10, At11, At12, At13, At14, At15, At16, At17, At18, At19, At20, At21, At22, At23, At24, At25, At26, At27, At28, At29, At30, place, code, stand, sees, goes, taken, passed_by, gets, puts}
-use Rattle.proto_adopt.proofs.Object.{Obj, View, Facts}
+use Rattle.proto_adopt.proofs.Object.{Facts}
 use Rattle.proto_adopt.proofs.Chain.{Program, Ghosts, Was, Inv, Result, obj, view_at, world, quiet, inside, ghostly, Aside, Held, after, obj_after}
 
 module _ (n : ℕ) (c : Program n) (now : ℕ → Type 0) (input : ℕ → ℕ) (spent : ℕ → ℕ) (harts : List HartValue) (reserved : Marks) (g : Ghosts) (inv : Inv n c now input spent harts g) (h : ℕ) (lt : h < n)

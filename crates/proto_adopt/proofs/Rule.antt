@@ -1,39 +1,26 @@
 -- Every run of a program that chains adopt-commit objects meets the rule.
-use Rattle.std.proofs.Common.{◌≡◌, ◌≢◌, ℕ, zero, suc, ◌+◌, ◌-◌, ◌*◌, ◌/◌, ◌%◌, ◌^◌, ◌<◌, ◌≤◌, Bool, true, false, not, if◌then◌else◌, ◌==◌, ◌&&◌, List, [], ◌∷◌, length, get_or, set, Option, Some, None, refl, sym, ap, ◌∙◌, ◌⊎◌, inl, inr, arith, eq-eqb, ne_eqb, subst, map}
+use Rattle.std.proofs.Common.{◌≡◌, ◌≢◌, ℕ, zero, suc, ◌+◌, ◌-◌, ◌*◌, ◌^◌, ◌<◌, ◌≤◌, Bool, true, false, List, [], ◌∷◌, length, get_or, Option, Some, None, refl, sym, ap, ◌∙◌, ◌⊎◌, inl, inr, arith, subst}
 use Rattle.std.specs.List.{AllByRecursion, All, Contains, slice_get}
 use Rattle.std.proofs.lemmas.List.Elements.{recursion_from_All}
 use Rattle.std.proofs.lemmas.List.{get_or-map, length-map}
 use Rattle.std.proofs.lemmas.Option.{slice_get-get_or}
 use Rattle.loader.specs.Image.{ImageValue}
 use Rattle.memory.specs.Memory.{Memory}
-use Rattle.memory.specs.Access.{fetched}
 use Rattle.reservations.specs.Marks.{Marks}
-use Rattle.isa_table.specs.Decoded.{decoded}
-use Rattle.isa_table.specs.declared.instr.Instr.{Instr}
-use Rattle.isa_table.specs.declared.instr.Instr.TheVariants.{Branch, Load, Store}
-use Rattle.isa_table.specs.declared.mnemonic.BranchOp.{BranchOp}
-use Rattle.isa_table.specs.declared.mnemonic.BranchOp.TheVariants.{Beq, Bne}
-use Rattle.isa_table.specs.declared.mnemonic.LoadOp.TheVariants.{Lw}
-use Rattle.isa_table.specs.declared.mnemonic.StoreOp.TheVariants.{Sw}
-use Rattle.hart_step.specs.Hart.{HartValue, Registers, put}
-use Rattle.hart_step.specs.Values.{wrap, is_taken}
-use Rattle.hart_step.specs.Effect.{Site, goes_on}
-use Rattle.hart_step.specs.Step.{at_word, executed}
-use Rattle.hart_step.specs.declared.hart.HartState.{HartState}
-use Rattle.hart_step.specs.declared.hart.HartState.TheVariants.{Running, Exited}
-use Rattle.machine.specs.World.{World, placed, step, run}
+use Rattle.hart_step.specs.Hart.{HartValue, Registers}
+use Rattle.machine.specs.World.{World, step, run}
 use Rattle.machine.specs.Start.{started, first_harts, first_registers}
 use Rattle.machine.specs.declared.choice.Choice.{Choice}
-use Rattle.protocol_library.specs.Images.{object_image, adopt_words, adopt_image}
+use Rattle.protocol_library.specs.Images.{object_image}
 use Rattle.protocol_library.specs.Counts.{chosen, own}
-use Rattle.protocol_library.specs.Rules.{KeepsAdoptCommit, AreAlike, IsProposed, HasExited, EndsAfter, EveryRun, is_exited, is_faulted, value_of, flag_of}
-use Rattle.protocol_library.proofs.Shape.{on, sight, shaped, shaped_bytes, shaped_memory, word, word_at, may_load, with_word, stores_word, stored_by, first_memory}
-use Rattle.protocol_library.proofs.Harts.{hart_at, nobody, turn, step-turn, same_or_not, each_set, all_harts, same_default, first_at, first_count, bump, bump_same, bump_other, spent_after, spent_own}
+use Rattle.protocol_library.specs.Rules.{KeepsAdoptCommit, AreAlike, IsProposed, HasExited, is_exited, is_faulted, value_of, flag_of}
+use Rattle.protocol_library.proofs.Shape.{on, first_memory}
+use Rattle.protocol_library.proofs.Harts.{hart_at, turn, step-turn, all_harts, same_default, first_at, first_count, bump, spent_after, spent_own}
 use Rattle.proto_adopt.proofs.Flat.{flat}
-use Rattle.proto_adopt.proofs.Records.{Ghost, Sound, Chain, later, Marked, Valued, Good, Mixed, mark_of}
+use Rattle.proto_adopt.proofs.Records.{Ghost, Chain, later, Marked, Valued, Good, mark_of}
 use Rattle.proto_adopt.proofs.Instructions.{Point, At30, place, stand}
-use Rattle.proto_adopt.proofs.Object.{View, Past, at_most}
-use Rattle.proto_adopt.proofs.Chain.{Program, Ghosts, Was, Global, Local, Inv, Reached, Result, FactsAt, obj, view_at, stands, world}
+use Rattle.proto_adopt.proofs.Object.{View, at_most}
+use Rattle.proto_adopt.proofs.Chain.{Program, Ghosts, Was, Global, Inv, Reached, Result, FactsAt, obj, view_at, stands, world}
 use Rattle.proto_adopt.proofs.Moves.{moves}
 
 -- what holds of a hart that has exited

@@ -1,29 +1,28 @@
 -- Every run of the race by load-reserved and store-conditional, with any number of harts: an invariant by program point, and the
 -- bound on own steps.
-use Rattle.std.proofs.Common.{◌≡◌, ◌≢◌, ℕ, zero, suc, ◌+◌, ◌*◌, ◌/◌, ◌%◌, ◌^◌, ◌<◌, ◌≤◌, Bool, true, false, not, if◌then◌else◌, ◌==◌, ◌&&◌, List, [], ◌∷◌, length, get_or, set, Option, Some, None, refl, sym, ap, ◌∙◌, ◌⊎◌, inl, inr, arith, eq-eqb, ne_eqb, map, subst}
+use Rattle.std.proofs.Common.{◌≡◌, ◌≢◌, ℕ, ◌+◌, ◌*◌, ◌%◌, ◌^◌, ◌<◌, ◌≤◌, Bool, true, false, not, ◌&&◌, List, [], ◌∷◌, length, get_or, set, Option, Some, None, refl, sym, ap, ◌∙◌, ◌⊎◌, inl, inr, arith, eq-eqb, ne_eqb, subst}
 use Rattle.std.specs.List.{AllByRecursion, All, Contains}
 use Rattle.std.proofs.lemmas.List.Elements.{recursion_from_All}
 use Rattle.std.proofs.lemmas.List.{length-set, get_or-map, length-map}
 use Rattle.std.proofs.lemmas.Option.{slice_get-get_or}
 use Rattle.loader.specs.Image.{ImageValue}
 use Rattle.memory.specs.Memory.{Memory}
-use Rattle.reservations.specs.Marks.{Marks, names, word_of, with_mark, without_mark}
+use Rattle.reservations.specs.Marks.{names, word_of, with_mark, without_mark}
 use Rattle.isa_table.specs.Decoded.{decoded}
 use Rattle.hart_step.specs.Hart.{HartValue, Registers, put}
 use Rattle.hart_step.specs.Values.{wrap}
-use Rattle.hart_step.specs.declared.hart.HartState.{HartState}
-use Rattle.hart_step.specs.declared.hart.HartState.TheVariants.{Running, Exited}
+use Rattle.hart_step.specs.declared.hart.HartState.TheVariants.{Exited}
 use Rattle.machine.specs.World.{World, step, run}
 use Rattle.machine.specs.Start.{started, first_harts, first_registers}
 use Rattle.machine.specs.declared.choice.Choice.{Choice}
 use Rattle.reservations.specs.declared.reserve.TheConstants.{MAX_HARTS}
 use Rattle.protocol_library.specs.declared.kind.Kind.TheVariants.{LrSc}
 use Rattle.protocol_library.specs.Images.{lrsc_words, lrsc_image, image_of, IsSame}
-use Rattle.protocol_library.specs.Counts.{chosen, own, refusals}
+use Rattle.protocol_library.specs.Counts.{chosen}
 use Rattle.protocol_library.specs.Rules.{KeepsConsensus, HasExited, IsProposed, EndsAfter, EveryRun, is_exited, is_faulted, value_of, flag_of}
 use Rattle.protocol_library.proofs.Runs.{same_runs, equal_runs}
-use Rattle.protocol_library.proofs.Shape.{on, sight, shaped, shaped_bytes, shaped_rights, shaped_memory, word, word_at, may_load, may_store, stored_at, with_word, stores_word, stored_by, first_memory}
-use Rattle.protocol_library.proofs.Harts.{hart_at, nobody, turn, step-turn, same_or_not, each_set, all_harts, same_default, first_at, first_count, bump, bump_if, bump_same, bump_other, bump_if_other, spent_after, refused_after, spent_own, refused_own, lost, lost_same, lost_other}
+use Rattle.protocol_library.proofs.Shape.{on, shaped, shaped_bytes, shaped_rights, word, word_at, may_load, may_store, stored_at, with_word, stores_word, stored_by, first_memory}
+use Rattle.protocol_library.proofs.Harts.{hart_at, turn, step-turn, same_or_not, each_set, all_harts, same_default, first_at, first_count, bump, bump_if, bump_same, bump_other, bump_if_other, spent_after, refused_after, spent_own, refused_own, lost, lost_same, lost_other}
 
 data Point : Type 0 where
   At0 At1 At2 At3 At4 At5 At6 At7 At8 At9 At10 At11 At12 At13 At14 At15 Out : Point
