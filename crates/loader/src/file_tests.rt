@@ -41,7 +41,10 @@ const WORDS: [u32; 32] = [
 ];
 
 /// The file of `WORDS`, with other words at some places.
-fn patched(alloc: Global, patches: &[(usize, u32)]) -> Result<Vec<u8, Global>, AllocError> {
+pub(crate) fn patched(
+    alloc: Global,
+    patches: &[(usize, u32)],
+) -> Result<Vec<u8, Global>, AllocError> {
     let mut file = Vec::new(alloc);
     for (number, given) in WORDS.iter().enumerate() {
         let mut word = *given;
@@ -58,7 +61,7 @@ fn patched(alloc: Global, patches: &[(usize, u32)]) -> Result<Vec<u8, Global>, A
 #[test]
 fn each_check_refuses_its_files_alone(rt: HostRuntime) -> Result<(), AllocError> {
     // For each check what it refuses, and the nearest files that it takes.
-    let rows: [(usize, u32, Option<ElfFault>); 48] = [
+    let rows: [(usize, u32, Option<ElfFault>); 58] = [
         (8, 0xffff_ffff, None),
         (0, 0x464c_457e, Some(ElfFault::Magic)),
         (0, 0x464c_447f, Some(ElfFault::Magic)),
@@ -95,18 +98,28 @@ fn each_check_refuses_its_files_alone(rt: HostRuntime) -> Result<(), AllocError>
         (56, 120, None),
         (56, 121, Some(ElfFault::OutsideFile)),
         (56, 0xffff_ffff, Some(ElfFault::OutsideFile)),
+        (68, 12, None),
+        (68, 13, Some(ElfFault::OutsideFile)),
+        (68, 0xffff_ffff, Some(ElfFault::OutsideFile)),
         (72, 8, None),
         (72, 7, Some(ElfFault::FileOverMem)),
+        (104, 0, Some(ElfFault::FileOverMem)),
         (60, 0xffff_fff4, None),
         (60, 0xffff_fff5, Some(ElfFault::PastEnd)),
+        (72, 0xffff_ffff, Some(ElfFault::PastEnd)),
         (92, 0x0001_000b, Some(ElfFault::Overlap)),
         (92, 0x0000_fffc, None),
         (104, 0x00ff_fff4, None),
         (104, 0x00ff_fff5, Some(ElfFault::TooLarge)),
+        (84, 0, None),
         (84, 2, Some(ElfFault::Dynamic)),
         (84, 3, Some(ElfFault::Dynamic)),
+        (84, 4, None),
+        (24, 0x0001_0001, Some(ElfFault::EntryAlign)),
         (24, 0x0001_0002, Some(ElfFault::EntryAlign)),
+        (24, 0x0001_0003, Some(ElfFault::EntryAlign)),
         (24, 0x0001_0004, None),
+        (24, 0xffff_fffc, None),
     ];
     for (place, word, want) in rows {
         let file = patched(rt.alloc(), &[(place, word)])?;
@@ -116,44 +129,83 @@ fn each_check_refuses_its_files_alone(rt: HostRuntime) -> Result<(), AllocError>
 }
 
 #[test]
-fn the_earlier_check_wins(rt: HostRuntime) -> Result<(), AllocError> {
-    // Files that a check refuses, and the one after it too; then what is not looked at where there is nothing to see.
-    let rows: [((usize, u32), (usize, u32), Option<ElfFault>); 17] = [
-        ((0, 0), (4, 2), Some(ElfFault::Magic)),
-        ((4, 0x0001_0202), (16, 0), Some(ElfFault::Class)),
-        ((4, 0x0002_0201), (16, 0), Some(ElfFault::Encoding)),
-        ((4, 0x0002_0101), (16, 0), Some(ElfFault::Version)),
-        ((16, 0x003e_0001), (36, 1), Some(ElfFault::FileType)),
-        ((16, 0x003e_0002), (36, 1), Some(ElfFault::Machine)),
-        ((36, 1), (40, 64), Some(ElfFault::Compressed)),
-        ((40, 64), (28, 65), Some(ElfFault::HeaderSize)),
-        ((56, 121), (72, 7), Some(ElfFault::OutsideFile)),
-        ((72, 7), (92, 0xffff_fffd), Some(ElfFault::FileOverMem)),
+fn fields_are_looked_at_where_they_count(rt: HostRuntime) -> Result<(), AllocError> {
+    let rows: [(&str, &[(usize, u32)], Option<ElfFault>); 14] = [
         (
-            (60, 0x0001_0008),
-            (104, 0xffff_0000),
+            "no headers, and their size is 0",
+            &[(40, 52), (44, 0x0028_0000)],
+            None,
+        ),
+        (
+            "no headers, and the file's header has another size",
+            &[(40, 51), (44, 0x0028_0000)],
+            Some(ElfFault::HeaderSize),
+        ),
+        (
+            "no headers, and their place is outside",
+            &[(28, 0xffff_ffff), (44, 0x0028_0000)],
+            None,
+        ),
+        ("no file bytes", &[(56, 0xffff_ffff), (68, 0)], None),
+        (
+            "another header's bytes outside",
+            &[(84, 0x7000_0003), (88, 0xffff_ffff)],
+            None,
+        ),
+        (
+            "another header's larger file size",
+            &[(84, 4), (104, 3)],
+            None,
+        ),
+        (
+            "another header past the end",
+            &[(84, 4), (92, 0xffff_ffff)],
+            None,
+        ),
+        (
+            "another header inside a segment",
+            &[(84, 6), (92, 0x0001_0000)],
+            None,
+        ),
+        (
+            "another header's large size",
+            &[(84, 6), (104, 0xffff_ffff)],
+            None,
+        ),
+        (
+            "an empty segment inside another",
+            &[(92, 0x0001_0004), (100, 0), (104, 0)],
+            None,
+        ),
+        (
+            "an empty segment at the last address",
+            &[(92, 0xffff_ffff), (100, 0), (104, 0)],
+            None,
+        ),
+        (
+            "the last address",
+            &[(92, 0xffff_ffff), (100, 1), (104, 1)],
+            None,
+        ),
+        (
+            "past the last address",
+            &[(92, 0xffff_ffff), (100, 1), (104, 2)],
             Some(ElfFault::PastEnd),
         ),
         (
-            (92, 0x0001_0000),
-            (104, 0x0100_0001),
-            Some(ElfFault::Overlap),
+            "sizes that are 2^32 together",
+            &[
+                (60, 0),
+                (72, 0x8000_0000),
+                (92, 0x8000_0000),
+                (104, 0x8000_0000),
+            ],
+            Some(ElfFault::TooLarge),
         ),
-        ((52, 3), (104, 0x0100_0001), Some(ElfFault::TooLarge)),
-        ((52, 3), (24, 2), Some(ElfFault::Dynamic)),
-        ((40, 52), (44, 0x0028_0000), None),
-        ((28, 0xffff_ffff), (44, 0x0028_0000), None),
-        ((56, 0xffff_ffff), (68, 0), None),
     ];
-    for (one, other, want) in rows {
-        let file = patched(rt.alloc(), &[one, other])?;
-        assert_eq!(rt;
-            load(rt.alloc(), &file).err(),
-            want,
-            "at {} and {}",
-            one.0,
-            other.0
-        );
+    for (name, patches, want) in rows {
+        let file = patched(rt.alloc(), patches)?;
+        assert_eq!(rt; load(rt.alloc(), &file).err(), want, "{name}");
     }
     Ok(())
 }

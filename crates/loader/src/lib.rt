@@ -19,6 +19,8 @@ mod header;
 mod image;
 mod name;
 mod number;
+#[cfg(test)]
+mod order_tests;
 mod program_header;
 mod rights;
 mod section;
