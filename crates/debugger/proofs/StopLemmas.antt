@@ -76,23 +76,36 @@ find_watched p (Some b) ws all leaves = find_at p (word_of b) ws all leaves ∙ 
     either false = refl
 
 -- ---- a step's stop
--- the hart stands on a breakpoint
-pub break_here : (bs ws : List ℕ) (v w : World) (h : ℕ) (hart : HartValue) → slice_get w.harts h ≡ Some hart
-    → list_any (λ k. is_eq (nat_cmp hart.pc k)) bs ≡ true → Some (Break h hart.pc) ≡ stop_after bs ws v w h
-unfolding stop_after
-break_here bs ws v w h hart there on =
+-- a hart stands on a breakpoint
+pub stands : (bs : List ℕ) (h : ℕ) (o : Option HartValue) (hart : HartValue) → o ≡ Some hart
+    → list_any (λ k. is_eq (nat_cmp hart.pc k)) bs ≡ true → Some (Break h hart.pc) ≡ break_of bs h o
+stands bs h o hart there on =
     let e : has bs hart.pc ≡ true = sym (contains-has bs hart.pc) ∙ on in
     rw (there, e) refl
 
--- it does not: then a watched word that was accessed decides
-watch_left : (bs ws : List ℕ) (v w : World) (c : Choice) (hart : HartValue) → w ≡ step v c → slice_get w.harts c.hart ≡ Some hart
-    → All (λ a. a % 4 ≡ 0) ws → list_any (λ k. is_eq (nat_cmp hart.pc k)) bs ≡ false
+-- it does not
+pub stands_not : (bs : List ℕ) (h : ℕ) (o : Option HartValue) (hart : HartValue) → o ≡ Some hart
+    → list_any (λ k. is_eq (nat_cmp hart.pc k)) bs ≡ false → None ≡ break_of bs h o
+stands_not bs h o hart there off =
+    let e : has bs hart.pc ≡ false = sym (contains-has bs hart.pc) ∙ off in
+    rw (there, e) refl
+
+-- a breakpoint that the hart stands on comes first
+pub break_here : (bs ws : List ℕ) (v w : World) (h : ℕ) (o : Option Stop) (stop : Stop) → o ≡ break_of bs h (slice_get w.harts h) → o ≡ Some stop
+    → Some stop ≡ stop_after bs ws v w h
+unfolding stop_after
+break_here bs ws v w h o stop is some =
+    ap (λ (p : Option Stop). either_stop p (watch_of (find (differs v w) ws))) (sym some ∙ is)
+
+-- where there is none, a watched word that was accessed decides
+watch_left : (bs ws : List ℕ) (v w : World) (c : Choice) → w ≡ step v c
+    → All (λ a. a % 4 ≡ 0) ws → None ≡ break_of bs c.hart (slice_get w.harts c.hart)
     → stop_after bs ws v w c.hart ≡ watch_of (found_in (differs v w) (watched ws (accessed v (slice_get v.harts c.hart))))
 unfolding stop_after
-watch_left bs ws v w c hart is there all off =
-    let e : has bs hart.pc ≡ false = sym (contains-has bs hart.pc) ∙ off in
-    rw (there, e) (ap watch_of (find_watched (differs v w) (accessed v (slice_get v.harts c.hart)) ws all
-    (λ a aligned other. ap (λ (u : World). differs v u a) is ∙ same_elsewhere v c a aligned other)))
+watch_left bs ws v w c is all off =
+    ap (λ (p : Option Stop). either_stop p (watch_of (find (differs v w) ws))) (sym off)
+    ∙ ap watch_of (find_watched (differs v w) (accessed v (slice_get v.harts c.hart)) ws all
+    (λ a aligned other. ap (λ (u : World). differs v u a) is ∙ same_elsewhere v c a aligned other))
 
 same-differs : (v w : World) (a : ℕ) → word_at w.memory a ≡ word_at v.memory a → differs v w a ≡ false
 same-differs v w a e =
@@ -109,20 +122,20 @@ same-found v w None e = refl
 same-found v w (Some a) e = rw (same-differs v w a e) refl
 
 -- the word that was accessed is as before
-pub no_stop : (bs ws : List ℕ) (v w : World) (c : Choice) (hart : HartValue) (o : Option ℕ) → w ≡ step v c → slice_get w.harts c.hart ≡ Some hart
-    → All (λ a. a % 4 ≡ 0) ws → list_any (λ k. is_eq (nat_cmp hart.pc k)) bs ≡ false
+pub no_stop : (bs ws : List ℕ) (v w : World) (c : Choice) (o : Option ℕ) → w ≡ step v c
+    → All (λ a. a % 4 ≡ 0) ws → None ≡ break_of bs c.hart (slice_get w.harts c.hart)
     → o ≡ watched ws (accessed v (slice_get v.harts c.hart)) → word_if w.memory o ≡ word_if v.memory o → None ≡ stop_after bs ws v w c.hart
-no_stop bs ws v w c hart o is there all off seen same =
-    sym (watch_left bs ws v w c hart is there all off ∙ ap (λ (p : Option ℕ). watch_of (found_in (differs v w) p)) (sym seen)
+no_stop bs ws v w c o is all off seen same =
+    sym (watch_left bs ws v w c is all off ∙ ap (λ (p : Option ℕ). watch_of (found_in (differs v w) p)) (sym seen)
     ∙ ap watch_of (same-found v w o same))
 
 -- it differs
-pub watch_here : (bs ws : List ℕ) (v w : World) (c : Choice) (hart : HartValue) (o : Option ℕ) (a : ℕ) → w ≡ step v c → slice_get w.harts c.hart ≡ Some hart
-    → All (λ a. a % 4 ≡ 0) ws → list_any (λ k. is_eq (nat_cmp hart.pc k)) bs ≡ false
+pub watch_here : (bs ws : List ℕ) (v w : World) (c : Choice) (o : Option ℕ) (a : ℕ) → w ≡ step v c
+    → All (λ a. a % 4 ≡ 0) ws → None ≡ break_of bs c.hart (slice_get w.harts c.hart)
     → o ≡ watched ws (accessed v (slice_get v.harts c.hart)) → o ≡ Some a → word_if w.memory o ≢ word_if v.memory o
     → Some (Watch a) ≡ stop_after bs ws v w c.hart
-watch_here bs ws v w c hart o a is there all off seen some other =
-    sym (watch_left bs ws v w c hart is there all off ∙ ap (λ (p : Option ℕ). watch_of (found_in (differs v w) p)) (sym seen)
+watch_here bs ws v w c o a is all off seen some other =
+    sym (watch_left bs ws v w c is all off ∙ ap (λ (p : Option ℕ). watch_of (found_in (differs v w) p)) (sym seen)
     ∙ ap (λ (p : Option ℕ). watch_of (found_in (differs v w) p)) some
     ∙ ap (λ (b : Bool). watch_of (cond b (Some a) None)) (other-differs v w a (rw some at other)))
 

@@ -6,3 +6,4 @@ pub mod Stops
 pub mod Session
 pub mod Steps
 pub mod Searches
+pub mod Lending

@@ -41,6 +41,18 @@ length_of s = length s.choices
 abbrev pub moved : Session → ℕ → Session
 moved s k = record s { position = k }
 
+-- how many steps a move to position k executes: it replays the run from its start
+abbrev pub steps_to : ℕ → ℕ
+steps_to k = k
+
+-- how many steps `go` executes where it goes to position k: those from its own position on
+abbrev pub steps_on : Session → ℕ → ℕ
+steps_on s k = k - s.position
+
+-- how many steps `rgo` executes where it goes to position k: those that lead to the positions before its own, and a move to k
+abbrev pub steps_back : Session → ℕ → ℕ
+steps_back s k = s.position - 1 + steps_to k
+
 -- why to stop at the position after choice i, counted from 0, if one has to
 unfoldable pub stop_behind : Session → ℕ → Option Stop
 stop_behind s i = stop_on s.breaks s.watches (world_at s i) (slice_get s.choices i)

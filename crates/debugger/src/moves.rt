@@ -1,7 +1,9 @@
 //! Moves to a position.
-ghost use Rattle.std.specs.Prelude.{◌≡◌, ◌<◌, ◌≤◌, ◌+◌, ◌-◌, length, vec_len, OnOk, OnErr, IfOk, IfErr};
+ghost use Rattle.std.specs.Prelude.{◌≡◌, ◌<◌, ◌≤◌, ◌+◌, ◌-◌, length, vec_len, Err, OnOk, OnErr, IfOk, IfErr};
+ghost use Rattle.std.specs.Borrow.{sem};
 ghost use Rattle.debugger.specs.State.{state, reached};
-ghost use Rattle.debugger.specs.Session.{session, moved, world_at, length_of};
+ghost use Rattle.debugger.specs.Session.{session, moved, world_at, length_of, steps_to};
+ghost use Rattle.debugger.specs.Lending.{EndsMoved};
 ghost use Rattle.debugger.specs.declared.fault.MoveFault.TheVariants.{PastEnd};
 
 use crate::debugger::Debugger;
@@ -22,7 +24,7 @@ impl<A: Allocator + Copy> Track<A> {
         requires { k ≤ vec_len self.now.choices }
         ensures world { IfOk result (λ r. state r.0
             ≡ reached self.now.image self.now.inputs.items self.now.choices.items k) }
-        ensures cost { IfOk result (λ r. r.1 ≤ vec_len self.now.choices) }
+        ensures cost { IfOk result (λ r. r.1 ≡ steps_to k) }
     {
         let mut machine = self.first.copy(alloc)?;
         let mut cost = 0;
@@ -68,9 +70,11 @@ impl<A: Allocator + Copy> Debugger<A> {
     pub fn goto(&mut self, alloc: A, k: usize) -> Result<(), MoveFault>
         ensures ok { OnOk result ((k ≤ length_of (session self.old))
             × (session self.new ≡ moved (session self.old) k)) }
+        ensures cost { OnOk result (self.new.cost ≡ steps_to k) }
         ensures err { OnErr result ((session self.new ≡ session self.old)
             × (self.new.cost ≡ self.old.cost)) }
         ensures past { IfErr result (λ e. e ≡ PastEnd → length_of (session self.old) < k) }
+        ensures far { length_of (session self.old) < k → result ≡ Err PastEnd }
     {
         if k > self.track.choices.len() {
             return Err(MoveFault::PastEnd);
@@ -89,6 +93,9 @@ impl<A: Allocator + Copy> Debugger<A> {
         ensures world { IfOk result (λ m. state m.now ≡ world_at (session self.old) k) }
         ensures inside { OnOk result (k ≤ length_of (session self.old)) }
         ensures past { IfErr result (λ e. e ≡ PastEnd → length_of (session self.old) < k) }
+        ensures far { length_of (session self.old) < k → result ≡ Err PastEnd }
+        // What the debugger is once the machine is no longer looked at.
+        ensures* after { sem 𝓛 (EndsMoved A.row A.Allocator self.entry k result) }
     {
         self.goto(alloc, k)?;
         Ok(&self.machine)
@@ -99,10 +106,13 @@ impl<A: Allocator + Copy> Debugger<A> {
         ensures ok { OnOk result (
             ((session self.old).position + n ≤ length_of (session self.old))
             × (session self.new ≡ moved (session self.old) ((session self.old).position + n))) }
+        ensures cost { OnOk result (self.new.cost ≡ steps_to ((session self.old).position + n)) }
         ensures err { OnErr result ((session self.new ≡ session self.old)
             × (self.new.cost ≡ self.old.cost)) }
         ensures past { IfErr result (λ e. e ≡ PastEnd
             → length_of (session self.old) < (session self.old).position + n) }
+        ensures far { length_of (session self.old) < (session self.old).position + n
+            → result ≡ Err PastEnd }
     {
         if n > self.track.choices.len() - self.position {
             return Err(MoveFault::PastEnd);
@@ -114,9 +124,11 @@ impl<A: Allocator + Copy> Debugger<A> {
     pub fn back(&mut self, alloc: A, n: usize) -> Result<(), MoveFault>
         ensures ok { OnOk result ((n ≤ (session self.old).position)
             × (session self.new ≡ moved (session self.old) ((session self.old).position - n))) }
+        ensures cost { OnOk result (self.new.cost ≡ steps_to ((session self.old).position - n)) }
         ensures err { OnErr result ((session self.new ≡ session self.old)
             × (self.new.cost ≡ self.old.cost)) }
         ensures past { IfErr result (λ e. e ≡ PastEnd → (session self.old).position < n) }
+        ensures far { (session self.old).position < n → result ≡ Err PastEnd }
     {
         if n > self.position {
             return Err(MoveFault::PastEnd);

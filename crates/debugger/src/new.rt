@@ -1,5 +1,5 @@
 //! How a debugger is made.
-ghost use Rattle.std.specs.Prelude.{◌≡◌, ◌<◌, ◌≤◌, [], All, length, MatchResult};
+ghost use Rattle.std.specs.Prelude.{◌≡◌, ◌<◌, ◌≤◌, [], All, length, IfOk, MatchResult};
 ghost use Rattle.machine.specs.Start.{Refuses};
 ghost use Rattle.debugger.specs.Session.{session};
 ghost use Rattle.reservations.specs.declared.reserve.TheConstants.{MAX_HARTS as most};
@@ -21,7 +21,7 @@ impl<A: Allocator + Copy> Debugger<A> {
         choices: Vec<Choice, A>,
     ) -> Result<Debugger<A>, StartFault>
         requires { All (λ c. c.hart < length inputs.items) choices.items }
-        ensures { MatchResult result
+        ensures start { MatchResult result
             (λ d. (0 < length inputs.items) × (length inputs.items ≤ most) × (session d ≡ record {
               image = image;
               inputs = inputs.items;
@@ -31,6 +31,7 @@ impl<A: Allocator + Copy> Debugger<A> {
               watches = [];
             }))
             (λ fault. Refuses inputs.items fault) }
+        ensures unmoved { IfOk result (λ d. d.cost ≡ 0) }
     {
         let first = match Machine::start(alloc, &image, &inputs) {
             Ok(machine) => machine,

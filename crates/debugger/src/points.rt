@@ -14,6 +14,7 @@ impl<A: Allocator + Copy> Debugger<A> {
           breaks = with_address (session self.old).breaks address;
         }) }
         ensures err { OnErr result (session self.new ≡ session self.old) }
+        ensures cost { self.new.cost ≡ self.old.cost }
     {
         match self.breaks.insert(address) {
             Ok(_) => Ok(()),
@@ -22,11 +23,13 @@ impl<A: Allocator + Copy> Debugger<A> {
     }
 
     /// Watches the aligned word that holds an address, if it is not watched yet.
+    #[tactic(auto, using(crate::proofs::PointLemmas::aligned_after))]
     pub fn add_watch(&mut self, address: u32) -> Result<(), AllocError>
         ensures ok { OnOk result (session self.new ≡ record (session self.old) {
           watches = with_address (session self.old).watches (word_of address);
         }) }
         ensures err { OnErr result (session self.new ≡ session self.old) }
+        ensures cost { self.new.cost ≡ self.old.cost }
     {
         match self.watches.insert(address - address % 4) {
             Ok(_) => Ok(()),

@@ -1,7 +1,7 @@
 //! Going on and back to where one has to stop.
-ghost use Rattle.std.specs.Prelude.{◌≡◌, ◌<◌, ◌≤◌, ◌+◌, ◌-◌, vec_len, OnErr, IfOk};
+ghost use Rattle.std.specs.Prelude.{◌≡◌, ◌<◌, ◌≤◌, ◌+◌, ◌-◌, vec_len, OnOk, OnErr, IfOk};
 ghost use Rattle.debugger.specs.State.{state};
-ghost use Rattle.debugger.specs.Session.{session, moved, length_of, world_at, next_found, earlier_found};
+ghost use Rattle.debugger.specs.Session.{session, moved, length_of, world_at, next_found, earlier_found, steps_on, steps_back};
 
 use crate::debugger::Debugger;
 use crate::stepping::step_to_stop;
@@ -55,6 +55,7 @@ impl<A: Allocator + Copy> Debugger<A> {
         ensures world { IfOk result (λ t.
             state t.machine ≡ world_at (session self.now) t.position) }
         ensures inside { IfOk result (λ t. t.position ≤ length_of (session self.now)) }
+        ensures cost { IfOk result (λ t. t.cost ≡ steps_on (session self.now) t.position) }
     {
         let mut machine = self.machine.copy(alloc)?;
         let mut cost = 0;
@@ -84,7 +85,7 @@ impl<A: Allocator + Copy> Debugger<A> {
         ensures found { IfOk result (λ place.
             (place.position, place.stop) ≡ earlier_found (session self.now)) }
         ensures inside { IfOk result (λ place. place.position ≤ length_of (session self.now)) }
-        ensures cost { IfOk result (λ place. place.cost ≤ length_of (session self.now)) }
+        ensures cost { IfOk result (λ place. place.cost ≡ (session self.now).position - 1) }
     {
         let mut machine = self.track.first.copy(alloc)?;
         let mut place = Place {
@@ -116,6 +117,7 @@ impl<A: Allocator + Copy> Debugger<A> {
         ensures world { IfOk result (λ t.
             state t.machine ≡ world_at (session self.now) t.position) }
         ensures inside { IfOk result (λ t. t.position ≤ length_of (session self.now)) }
+        ensures cost { IfOk result (λ t. t.cost ≡ steps_back (session self.now) t.position) }
     {
         let place = self.earlier_place(alloc)?;
         let (machine, cost) = self.track.machine_at(alloc, place.position)?;
@@ -131,7 +133,8 @@ impl<A: Allocator + Copy> Debugger<A> {
     pub fn settle(&mut self, target: Target<A>)
         requires inside { target.position ≤ length_of (session self.old) }
         requires world { state target.machine ≡ world_at (session self.old) target.position }
-        ensures { session self.new ≡ moved (session self.old) target.position }
+        ensures moved { session self.new ≡ moved (session self.old) target.position }
+        ensures cost { self.new.cost ≡ target.cost }
     {
         self.machine = target.machine;
         self.position = target.position;
@@ -145,6 +148,8 @@ impl<A: Allocator + Copy> Debugger<A> {
         ensures ok { IfOk result (λ stop.
             (session self.new ≡ moved (session self.old) (next_found (session self.old)).0)
             × (stop ≡ (next_found (session self.old)).1)) }
+        ensures cost { OnOk result (self.new.cost
+            ≡ steps_on (session self.old) (session self.new).position) }
         ensures err { OnErr result ((session self.new ≡ session self.old)
             × (self.new.cost ≡ self.old.cost)) }
     {
@@ -160,6 +165,8 @@ impl<A: Allocator + Copy> Debugger<A> {
         ensures ok { IfOk result (λ stop.
             (session self.new ≡ moved (session self.old) (earlier_found (session self.old)).0)
             × (stop ≡ (earlier_found (session self.old)).1)) }
+        ensures cost { OnOk result (self.new.cost
+            ≡ steps_back (session self.old) (session self.new).position) }
         ensures err { OnErr result ((session self.new ≡ session self.old)
             × (self.new.cost ≡ self.old.cost)) }
     {

@@ -1,5 +1,5 @@
 //! The steps of a run, one after the other.
-ghost use Rattle.std.specs.Prelude.{◌≡◌, ◌<◌, ◌≤◌, ◌+◌, ◌^◌, [], ◌∷◌, IfOk, OnOk, IfErr, All, max, length, slice_get};
+ghost use Rattle.std.specs.Prelude.{◌≡◌, ◌<◌, ◌≤◌, ◌+◌, ◌^◌, [], ◌∷◌, Err, IfOk, OnOk, IfErr, All, max, length, slice_get};
 ghost use Rattle.debugger.specs.State.{state};
 ghost use Rattle.debugger.specs.Steps.{event_of, view_of, steps_from, shown_steps};
 ghost use Rattle.debugger.specs.Session.{session, length_of};
@@ -99,6 +99,7 @@ impl<A: Allocator + Copy> Debugger<A> {
             × (to ≤ length_of (session self.now))) }
         ensures past { IfErr result (λ e. e ≡ PastEnd
             → length_of (session self.now) < max from to) }
+        ensures far { length_of (session self.now) < max from to → result ≡ Err PastEnd }
     {
         let length = self.track.choices.len();
         if from > length || to > length {

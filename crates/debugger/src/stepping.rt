@@ -4,7 +4,7 @@ ghost use Rattle.machine.specs.World.{step, run};
 ghost use Rattle.debugger.specs.State.{state};
 ghost use Rattle.debugger.specs.Accessed.{accessed};
 ghost use Rattle.debugger.specs.Words.{word_if};
-ghost use Rattle.debugger.specs.Stops.{stop_after, watched};
+ghost use Rattle.debugger.specs.Stops.{break_of, stop_after, watched};
 
 use crate::access::accessed;
 use crate::stop::Stop;
@@ -80,6 +80,23 @@ fn word_if<A: Allocator>(machine: &Machine<FlatStore<A>, A>, address: Option<u32
     }
 }
 
+// The breakpoint that a hart stands on, as a reason to stop, if it does.
+fn break_of<A: Allocator>(
+    machine: &Machine<FlatStore<A>, A>,
+    hart: u32,
+    breaks: &BTreeSet<u32, A>,
+) -> Option<Stop>
+    requires { hart < length (state machine.now).harts }
+    ensures { result ≡ break_of breaks.now.keys hart (slice_get (state machine.now).harts hart) }
+{
+    let pc = machine.hart(hart as usize).pc;
+    if breaks.contains(&pc) {
+        Some(Stop::Break { hart, address: pc })
+    } else {
+        None
+    }
+}
+
 /// One step, which is counted, and why to stop after it, if one has to. Whether a watched word differs is looked at only
 /// where the step accesses one: no other word can change.
 pub fn step_to_stop<A: Allocator>(
@@ -101,12 +118,8 @@ pub fn step_to_stop<A: Allocator>(
     let watched = watched_word(machine, choice.hart, watches);
     let before = word_if(machine, watched);
     tick(machine, cost, choice)?;
-    let pc = machine.hart(choice.hart as usize).pc;
-    if breaks.contains(&pc) {
-        return Ok(Some(Stop::Break {
-            hart: choice.hart,
-            address: pc,
-        }));
+    if let Some(stop) = break_of(machine, choice.hart, breaks) {
+        return Ok(Some(stop));
     }
     if word_if(machine, watched) == before {
         return Ok(None);
