@@ -113,7 +113,7 @@ fn references_have_their_words(rt: HostRuntime) -> Result<(), Fail> {
 
 #[test]
 fn each_directive_has_its_bytes(rt: HostRuntime) {
-    let rows: [(&str, &[u8]); 12] = [
+    let rows: [(&str, &[u8]); 16] = [
         (
             "x: .data\n.word 1, -1, x + 4",
             &[1, 0, 0, 0, 255, 255, 255, 255, 4, 0, 1, 0],
@@ -133,6 +133,22 @@ fn each_directive_has_its_bytes(rt: HostRuntime) {
         (".data\n.byte 1\n.p2align 1\n.byte 2", &[1, 0, 2]),
         (
             ".data\n.byte 1\n.globl x, y\n.global z\n.file \"f\"\n.size x, 4",
+            &[1],
+        ),
+        (
+            ".option norvc\n.attribute 5\n.type x, @function\n.ident \"i\"\n.data\n.byte 1",
+            &[1],
+        ),
+        (
+            ".data\n.ascii \"\\t\\r\\\\\\\"\\0\\377\"",
+            &[9, 13, 92, 34, 0, 255],
+        ),
+        (
+            ".text\nnop\n.section .data\n.byte 1\n.section .text.x, \"ax\"\nnop\n.data\n.byte 2",
+            &[1, 2],
+        ),
+        (
+            ".section .bss\n.zero 4\n.section .rodata.y\n.byte 1\n.bss\n.align 3\n.section .bss.z",
             &[1],
         ),
     ];
@@ -158,13 +174,41 @@ fn each_fault_has_its_boundary(rt: HostRuntime) {
     let rows = [
         (".data\n.byte 07", 0, 0),
         (".data\n.byte 08", 1, 2),
+        (".ascii \"a", 1, 1),
+        (".ascii \"a\"", 0, 0),
+        ("nop @\u{7f}", 1, 1),
         ("addi a0, a0, 4096\nfoo", 2, 2),
         ("addi a0, a0", 3, 1),
+        (".data\n.ascii \"\\377\"", 0, 0),
+        (".data\n.ascii \"\\400\"", 3, 2),
         ("addi a0, q9, 1", 4, 1),
+        ("addi a0, x31, 1", 0, 0),
+        ("addi a0, x32, 1", 4, 1),
         ("addi a0, a0, -2049", 5, 1),
         ("addi a0, a0, -2048", 0, 0),
         ("addi a0, a0, 2047", 0, 0),
         ("addi a0, a0, 2048", 5, 1),
+        ("lw a0, -2049(a1)", 5, 1),
+        ("lw a0, -2048(a1)", 0, 0),
+        ("lw a0, 2047(a1)", 0, 0),
+        ("lw a0, 2048(a1)", 5, 1),
+        ("sw a0, -2049(a1)", 5, 1),
+        ("sw a0, -2048(a1)", 0, 0),
+        ("sw a0, 2047(a1)", 0, 0),
+        ("sw a0, 2048(a1)", 5, 1),
+        ("jalr a0, -2049(a1)", 5, 1),
+        ("jalr a0, -2048(a1)", 0, 0),
+        ("jalr a0, a1, 2047", 0, 0),
+        ("jalr a0, a1, 2048", 5, 1),
+        ("lui a0, 0", 0, 0),
+        ("auipc a0, -1", 5, 1),
+        ("auipc a0, 0", 0, 0),
+        ("auipc a0, 1048575", 0, 0),
+        ("auipc a0, 1048576", 5, 1),
+        ("srai a0, a0, -1", 5, 1),
+        ("srai a0, a0, 0", 0, 0),
+        ("srai a0, a0, 31", 0, 0),
+        ("srai a0, a0, 32", 5, 1),
         ("lui a0, 1048575", 0, 0),
         ("lui a0, 1048576", 5, 1),
         ("lui a0, -1", 5, 1),
@@ -172,14 +216,19 @@ fn each_fault_has_its_boundary(rt: HostRuntime) {
         ("slli a0, a0, 32", 5, 1),
         ("li a0, -2147483648", 0, 0),
         ("li a0, -2147483649", 5, 1),
+        ("li a0, 4294967295", 0, 0),
+        ("li a0, 4294967296", 1, 1),
         (".word -2147483648", 0, 0),
         (".word -2147483649", 5, 1),
+        (".word 4294967295", 0, 0),
+        (".word 4294967296", 1, 1),
         (".half 65535, -32768", 0, 0),
         (".half 65536", 5, 1),
         (".half -32769", 5, 1),
         (".byte 255, -128", 0, 0),
         (".byte 256", 5, 1),
         (".byte -129", 5, 1),
+        ("nowhere: j nowhere", 0, 0),
         ("j nowhere", 6, 1),
         ("j 1f", 6, 1),
         ("1: nop\nj 1f", 6, 2),
@@ -198,19 +247,31 @@ fn each_fault_has_its_boundary(rt: HostRuntime) {
         ("j 0x110000", 8, 1),
         ("j 0xfff10000", 0, 0),
         ("j 0xfff0fffe", 8, 1),
+        ("j 0x10003", 8, 1),
         (".bss\n.word 1", 9, 2),
         (".bss\n.zero 1", 0, 0),
+        (".bss\nx: .align 2\n.space 1\n.skip 1", 0, 0),
+        (".bss\nnop", 9, 2),
+        (".bss\n.ascii \"\"", 9, 2),
         (".equ a, 1", 9, 1),
         (".byte 1\nnop", 10, 2),
+        (".half 1\nli a0, 1", 10, 2),
+        (".byte 1, 2, 3\nnop", 10, 2),
+        (".byte 1, 2, 3, 4\nnop", 0, 0),
         (".byte 1\n.align 2\nnop", 0, 0),
         (".data\n.align 12", 0, 0),
         (".data\n.align 13", 10, 2),
+        (".bss\n.p2align 12", 0, 0),
+        (".bss\n.p2align 13", 10, 2),
         (".bss\n.zero 16777216\nx:", 0, 0),
         (".bss\n.zero 16777217\nx:\n.zero 0", 11, 2),
         (".zero 16777217", 11, 1),
         ("nop\n.bss\n.zero 16777212", 0, 0),
         ("nop\n.bss\n.zero 16777213", 11, 3),
         (".byte 1\n.bss\n.zero 16777215", 0, 0),
+        // Zeros begin at a multiple of 4: what lies before it counts.
+        (".data\n.byte 1\n.bss\n.zero 16777212", 0, 0),
+        (".data\n.byte 1\n.bss\n.zero 16777213", 11, 4),
     ];
     for (source, number, line) in rows {
         let fault = fault_of(assemble(rt.alloc(), [source].as_slice()));
@@ -295,34 +356,56 @@ ecall
 .zero 12
 ";
 
+const ADD: &str = ".globl _start
+_start:
+lui s0, 0x11
+slli t0, a0, 2
+add t0, t0, s0
+sw a1, 4(t0)
+addi t1, zero, 1
+amoadd.w t2, t1, (s0)
+beq t2, zero, win
+xori t0, a0, 1
+slli t0, t0, 2
+add t0, t0, s0
+lw a1, 4(t0)
+win:
+addi a0, a1, 0
+addi a1, zero, 1
+addi a7, zero, 93
+ecall
+.bss
+.zero 12
+";
+
 #[test]
-fn swap_has_its_words(rt: HostRuntime) -> Result<(), Fail> {
-    let words = [
-        0x0001_1437,
-        0x0025_1293,
-        0x0082_82b3,
-        0x00b2_a223,
-        0x0010_0313,
-        0x0864_23af,
-        0x0003_8a63,
-        0x0015_4293,
-        0x0022_9293,
-        0x0082_82b3,
-        0x0042_a583,
-        0x0005_8513,
-        0x0010_0593,
-        0x05d0_0893,
-        0x0000_0073,
-    ];
-    let program = assemble(rt.alloc(), [SWAP].as_slice())?;
-    assert_eq!(rt;
-        program.text(),
-        bytes_of(rt.alloc(), words.as_slice())?.as_slice()
-    );
-    assert_eq!(rt;
-        (program.bytes().len(), program.zeros(), program.entry()),
-        (0, 12, TEXT_BASE)
-    );
+fn swap_and_add_have_their_words(rt: HostRuntime) -> Result<(), Fail> {
+    for (source, operation) in [(SWAP, 0x0864_23af), (ADD, 0x0064_23af)] {
+        let words = [
+            0x0001_1437,
+            0x0025_1293,
+            0x0082_82b3,
+            0x00b2_a223,
+            0x0010_0313,
+            operation,
+            0x0003_8a63,
+            0x0015_4293,
+            0x0022_9293,
+            0x0082_82b3,
+            0x0042_a583,
+            0x0005_8513,
+            0x0010_0593,
+            0x05d0_0893,
+            0x0000_0073,
+        ];
+        let wanted = bytes_of(rt.alloc(), words.as_slice())?;
+        let program = assemble(rt.alloc(), [source].as_slice())?;
+        assert_eq!(rt; program.text(), wanted.as_slice());
+        assert_eq!(rt;
+            (program.bytes().len(), program.zeros(), program.entry()),
+            (0, 12, TEXT_BASE)
+        );
+    }
     Ok(())
 }
 

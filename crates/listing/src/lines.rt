@@ -1,11 +1,25 @@
 //! The lines of bytes.
 
-ghost use Rattle.std.specs.Prelude.{◌≡◌, ◌≤◌, ◌<◌, ◌^◌, ◌+◌, ◌%◌, ◌*◌, ◌/◌, ◌++◌, [], OnOk, length, drop, string_bytes};
-ghost use Rattle.listing.specs.Listing.{byte_lines, listing, lines_from};
+ghost use Rattle.std.specs.Prelude.{◌≡◌, ◌≤◌, ◌<◌, ◌^◌, ◌+◌, ◌%◌, ◌*◌, ◌/◌, ◌++◌, [], OnOk, length, drop, slice_index, string_bytes};
+ghost use Rattle.listing.specs.Listing.{byte_lines, listing, lines_from, word_of_bytes};
 
 use crate::line::Line;
 use hex_word::{Byte, Word};
 use std::alloc::{AllocError, Allocator};
+
+/// The word of the four bytes at a place, the lowest first.
+fn word_at(bytes: &[u8], place: usize) -> u32
+    requires { place + 3 < length bytes.now }
+    ensures { result ≡ word_of_bytes (slice_index bytes.now place) (slice_index bytes.now (place + 1))
+        (slice_index bytes.now (place + 2)) (slice_index bytes.now (place + 3)) }
+{
+    u32::from_le_bytes([
+        bytes[place],
+        bytes[place + 1],
+        bytes[place + 2],
+        bytes[place + 3],
+    ])
+}
 
 /// Adds the lines of the words that bytes from an aligned address on begin with, of each four bytes one.
 #[tactic(auto, using(crate::proofs::ListingLemmas::next_word))]
@@ -17,12 +31,7 @@ fn push_words<A: Allocator>(text: &mut String<A>, base: u64, bytes: &[u8]) -> Re
 {
     'words: for index in 0..bytes.len() / 4 {
         let place = 4 * index;
-        let word = u32::from_le_bytes([
-            bytes[place],
-            bytes[place + 1],
-            bytes[place + 2],
-            bytes[place + 3],
-        ]);
+        let word = word_at(bytes, place);
         let address = (base + place as u64) as u32;
         let line = Line { address, word };
         let (address, word) = (Word(address), Word(word));

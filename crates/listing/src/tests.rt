@@ -1,6 +1,7 @@
 //! What no clause says: lines that another assembler takes for their words, listings written out by hand, and refused memory.
 use crate::lines::{push_lines, push_listing};
-use crate::{line_of, list_image};
+use crate::{line_of, list, list_image};
+use assembler::assemble;
 use loader::{Image, Rights, Segment};
 use refusing::Refusing;
 use std::alloc::{AllocError, Allocator};
@@ -265,6 +266,28 @@ fn each_refused_request_of_an_image_is_told(rt: HostRuntime) {
         match listed {
             Ok(text) => assert_eq!(rt; text.as_str(), IMAGE_LISTING),
             Err(_) => assert!(rt; heap.refused(), "at request {passed}"),
+        }
+        if !heap.refused() {
+            assert!(rt; passed > 0, "no memory is asked for");
+            return;
+        }
+    }
+    assert!(rt; false, "memory is asked for without end");
+}
+
+#[test]
+fn each_refused_request_of_a_program_is_told(rt: HostRuntime) {
+    for passed in 0..200u64 {
+        let heap = Refusing::new(rt.alloc(), passed);
+        let Ok(program) = assemble(&heap, ["nop\n.byte 1"].as_slice()) else {
+            continue;
+        };
+        match list(&heap, &program) {
+            Ok(text) => {
+                let wanted = "addi zero, zero, 0  # 00010000 00000013\n.byte 0x01  # 00010004\n";
+                assert_eq!(rt; text.as_str(), wanted);
+            }
+            Err(AllocError) => assert!(rt; heap.refused(), "at request {passed}"),
         }
         if !heap.refused() {
             assert!(rt; passed > 0, "no memory is asked for");
