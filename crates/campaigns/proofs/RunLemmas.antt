@@ -1,6 +1,8 @@
 -- The plain runs of seeds, one by one and as a list.
 use Rattle.std.proofs.Common.{◌≡◌, ℕ, zero, suc, ◌+◌, List, [], ◌∷◌, map, length, Ok, Err, IfOk, refl, arith, ap, ap₂, sym, ◌∙◌, subst}
 use Rattle.std.specs.Prelude.{MatchResult}
+use Rattle.std.proofs.lemmas.List.FromFn.{length-range_with_len}
+use lib.ListN.{length-map}
 use Rattle.std.specs.List.{AllZip, Contains, range_with_len}
 use Rattle.std.specs.declared.result.Result.{Result}
 use Rattle.std.specs.declared.vec.Vec.{Vec}
@@ -64,3 +66,10 @@ module _ {Z : Type 0} (f : ℕ → SeedEnds) (first : ℕ) where
       ∙ map-shifted f first 0 count
       ∙ ap (λ k. map f (range_with_len k count)) here
   all-listed count (Err e) zs xs places each whole = tt
+
+-- there are as many runs as seeds
+pub runs_size : {Z : Type 0} (f : ℕ → SeedEnds) (first count size : ℕ) (runs : List (SeedRun Z))
+    → map ends_of runs ≡ map f (range_with_len first count) → count ≡ size → length runs ≡ size
+runs_size f first count size runs all e =
+    sym (length-map runs ends_of) ∙ ap length all ∙ length-map (range_with_len first count) f
+    ∙ length-range_with_len first count ∙ e

@@ -1,5 +1,7 @@
 -- Ranges of seeds, cut.
-use Rattle.std.proofs.Common.{◌≡◌, ℕ, zero, suc, ◌+◌, ◌-◌, ◌≤◌, List, [], ◌∷◌, ◌++◌, refl, arith, ap, sym, ◌∙◌}
+use Rattle.std.proofs.Common.{◌≡◌, ℕ, zero, suc, ◌+◌, ◌-◌, ◌≤◌, List, [], ◌∷◌, ◌++◌, length, refl, arith, ap, sym, ◌∙◌}
+use Rattle.std.proofs.lemmas.List.FromFn.{length-range_with_len}
+use Rattle.std.specs.Prelude.{min}
 use Rattle.std.specs.List.{range_with_len}
 
 -- a range is its front and the rest
@@ -22,3 +24,7 @@ seeds_none a n e = ap (range_with_len a) e
 pub seeds_split : (a n m all b : ℕ) → all ≡ n + m → b ≡ a + n → range_with_len a all ≡ range_with_len a n ++ range_with_len b m
 seeds_split a n m all b e f =
     ap (range_with_len a) e ∙ sym (range-append a n m) ∙ ap (λ k. range_with_len a n ++ range_with_len k m) (sym f)
+
+-- the size of a block, by how many seeds are left
+pub seeds_size : (a left most size : ℕ) → size ≡ min left most → size ≡ min (length (range_with_len a left)) most
+seeds_size a left most size e = e ∙ ap (λ n. min n most) (sym (length-range_with_len a left))

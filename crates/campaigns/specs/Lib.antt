@@ -1,2 +1,3 @@
 pub mod Campaign
 pub mod Seeds
+pub mod Blocks

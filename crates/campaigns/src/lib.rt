@@ -3,7 +3,7 @@
 
 pub use runs::{campaign, check_inputs, next_runs};
 pub use seed_run::SeedRun;
-pub use seeds::{Block, LEAST_SEEDS, MOST_SEEDS, Seeds};
+pub use seeds::{BLOCK_STEPS, Block, LEAST_SEEDS, MOST_SEEDS, Seeds};
 
 mod runs;
 mod seed_run;

@@ -1,7 +1,8 @@
 //! All seeds of a range on all processors.
 
-ghost use Rattle.std.specs.Prelude.{◌≡◌, ◌≢◌, ◌+◌, ◌<◌, ◌≤◌, ◌^◌, [], ◌++◌, IfOk, IfSome, IfNone, OnErr, MatchResult, length, map};
+ghost use Rattle.std.specs.Prelude.{◌≡◌, ◌≢◌, ◌+◌, ◌<◌, ◌≤◌, ◌^◌, [], ◌++◌, IfOk, IfSome, IfNone, OnErr, MatchResult, length, map, min};
 ghost use Rattle.campaigns.specs.Campaign.{ends_of, seed_ends, runs_of, plain_runs, IsStartable, RefusesCampaign};
+ghost use Rattle.campaigns.specs.Blocks.{block_seeds};
 ghost use Rattle.campaigns.specs.Seeds.{seeds_left};
 
 use crate::seed_run::{SeedRun, run_seed};
@@ -69,6 +70,8 @@ pub fn next_runs<A: Allocator + Copy + Send + Sync, B: Allocator + Sync>(
         runs_of image.now inputs.now steps (seeds_left seeds.old)
         ≡ map ends_of runs.items ++ runs_of image.now inputs.now steps (seeds_left seeds.new))) }
     ensures some { IfOk result (λ block. IfSome block (λ runs. 0 < length runs.items)) }
+    ensures size { IfOk result (λ block. IfSome block (λ runs. length runs.items
+        ≡ min (length (seeds_left seeds.old)) (block_seeds steps))) }
     ensures none { IfOk result (λ block. IfNone block (seeds_left seeds.old ≡ [])) }
     ensures unchanged { OnErr result (seeds.new ≡ seeds.old) }
 {

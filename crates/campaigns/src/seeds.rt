@@ -1,8 +1,8 @@
 //! The seeds of a campaign, in blocks.
 
-ghost use Rattle.std.specs.Prelude.{◌≡◌, ◌++◌, ◌+◌, ◌<◌, ◌≤◌, ◌^◌, [], MatchOption};
+ghost use Rattle.std.specs.Prelude.{◌≡◌, ◌++◌, ◌+◌, ◌<◌, ◌≤◌, ◌^◌, [], MatchOption, IfSome, length, min};
 ghost use Rattle.std.specs.List.{range_with_len};
-ghost use Rattle.campaigns.specs.declared.seeds.TheConstants.{MOST_SEEDS, LEAST_SEEDS};
+ghost use Rattle.campaigns.specs.Blocks.{block_seeds};
 
 /// The most seeds of a block: the harts of their ends take less than 2 MB.
 pub const MOST_SEEDS: u64 = 1024;
@@ -10,8 +10,8 @@ pub const MOST_SEEDS: u64 = 1024;
 /// The fewest seeds of a block, where so many are left: enough to keep the processors at work.
 pub const LEAST_SEEDS: u64 = 64;
 
-// About how many steps the runs of a block take together.
-const BLOCK_STEPS: u64 = 1 << 24;
+/// About how many steps the runs of a block take together, within these limits.
+pub const BLOCK_STEPS: u64 = 1 << 24;
 
 /// Seeds that follow one another.
 #[derive(Clone, Copy, Debug, PartialEq, Eq)]
@@ -48,12 +48,14 @@ impl Seeds {
 
     /// The next block of seeds for runs of so many steps, or none where no seed is left. The longer the runs, the
     /// smaller the block, so that results come early.
-    #[tactic(auto, using(crate::proofs::SeedLemmas::seeds_none, crate::proofs::SeedLemmas::seeds_split))]
+    #[tactic(auto, using(crate::proofs::SeedLemmas::seeds_none, crate::proofs::SeedLemmas::seeds_split, crate::proofs::SeedLemmas::seeds_size))]
     pub fn next_block(&mut self, steps: u64) -> Option<Block>
         ensures order { MatchOption result (seeds_left self.old ≡ [])
             (λ block. seeds_left self.old ≡ range_with_len block.first block.count ++ seeds_left self.new) }
         ensures block { MatchOption result (seeds_left self.new ≡ [])
             (λ block. (0 < block.count) × (block.first + block.count ≤ 2 ^ 64)) }
+        ensures size { IfSome result (λ block. block.count
+            ≡ min (length (seeds_left self.old)) (block_seeds steps)) }
     {
         let left = self.count - self.done;
         if left == 0 {
@@ -66,9 +68,10 @@ impl Seeds {
     }
 }
 
-// How many seeds a block has.
+// How many seeds a block has, where so many are left.
 fn block_seeds(steps: u64) -> u64
-    ensures { (LEAST_SEEDS ≤ result) × (result ≤ MOST_SEEDS) }
+    ensures value { result ≡ block_seeds steps }
+    ensures some { 0 < result }
 {
     (BLOCK_STEPS / steps.max(1)).clamp(LEAST_SEEDS, MOST_SEEDS)
 }

@@ -2,17 +2,23 @@
 
 ghost use Rattle.std.specs.Prelude.{◌≡◌, ◌≢◌, ◌^◌, ◌-◌, ◌<◌, Ok, Err, IfOk, IfErr, IfSome};
 ghost use Rattle.std.specs.Io.KnownBytes.{Keeps};
+ghost use Rattle.engines.specs.Program.{program_of};
 ghost use Rattle.engines.specs.Run.{IfReads, IsRefusal};
+ghost use Rattle.loader.specs.Image.{ImageValue};
 ghost use Rattle.debug_engine.specs.Opening.{opened, Answers, BeginsToAnswer, IfCut, IfUnopened};
 
 use crate::conversation::{TalkFault, talk};
 use crate::fault::DebugEngineFault;
 use crate::opening::open_session;
-use engines::{Input, ReadFault, RunFault, Sink, Source, Status, read_all};
+use engines::{
+    Input, ProgramForm, ReadFault, RunFault, Sink, Source, Status, read_all, read_image,
+};
 use std::alloc::Allocator;
 
-/// `debug`: reads the file and then the choice text, each to its end, and answers each line of the commands before it reads
-/// the next, until one ends the session or none is left. No command is read where the session can't be begun.
+/// `debug`: reads the file to its end, and where it is a program, the choice text to its end; then answers each line of the
+/// commands before it reads the next, until one ends the session or none is left. No command is read where the session
+/// can't be begun.
+#[tactic(auto, unfolding(crate::specs::Opening::opened))]
 pub fn debug_engine<A: Allocator + Copy, P: Source, C: Source, S: Source, K: Sink>(
     alloc: A,
     inputs: &[u32],
@@ -28,7 +34,8 @@ pub fn debug_engine<A: Allocator + Copy, P: Source, C: Source, S: Source, K: Sin
     ensures status { IfOk result (λ status. status ≡ Status.Done) }
     // The answers of the session to the lines of the commands were appended.
     ensures done { IfOk result (λ _.
-        IfSome (P.left program.old) (λ p. IfSome (C.left choices.old) (λ c. IfSome (S.left commands.old) (λ s.
+        IfSome (P.left program.old) (λ p. IfSome (C.left choices.old) (λ c.
+        IfSome (S.left commands.old) (λ s.
         Answers (opened inputs.now p c) s (K.held sink.old) (K.held sink.new))))) }
     // What was read is refused, and no command is read and nothing written.
     ensures refused { IfErr result (λ fault. IfUnopened fault (λ why. IsRefusal why
@@ -42,6 +49,10 @@ pub fn debug_engine<A: Allocator + Copy, P: Source, C: Source, S: Source, K: Sin
     ensures read { IfErr result (λ fault. IfUnopened fault (λ why. IfReads why
         (P.failures program.old < P.failures program.new)
         (C.failures choices.old < C.failures choices.new))) }
+    // A fault of the program comes before one of the device that the choices are read from.
+    ensures program_first { result ≡ Err (DebugEngineFault.Refused (RunFault.Read Input.Choices))
+        → IfSome (P.left program.old) (λ p.
+        (image : ImageValue) × (program_of ProgramForm.Elf p ≡ Ok image)) }
     ensures sink_unnamed { IfErr result (λ fault. IfUnopened fault (λ why. why ≢ RunFault.Write)) }
     ensures commands { result ≡ Err DebugEngineFault.Commands
         → S.failures commands.old < S.failures commands.new }
@@ -49,15 +60,13 @@ pub fn debug_engine<A: Allocator + Copy, P: Source, C: Source, S: Source, K: Sin
         → K.failures sink.old < K.failures sink.new }
     // After a fault within the session a beginning of its answers stands there.
     ensures begun { IfErr result (λ fault. IfCut fault
-        (IfSome (P.left program.old) (λ p. IfSome (C.left choices.old) (λ c. IfSome (S.left commands.old) (λ s.
+        (IfSome (P.left program.old) (λ p. IfSome (C.left choices.old) (λ c.
+        IfSome (S.left commands.old) (λ s.
         BeginsToAnswer (opened inputs.now p c) s (K.held sink.old) (K.held sink.new)))))) }
 {
-    let bytes = match read_all(alloc, program) {
-        Ok(bytes) => bytes,
-        Err(ReadFault::Device) => return Err(DebugEngineFault::Refused(RunFault::Read(
-            Input::File,
-        ))),
-        Err(ReadFault::Memory) => return Err(DebugEngineFault::Refused(RunFault::Memory)),
+    let image = match read_image(alloc, ProgramForm::Elf, program) {
+        Ok(image) => image,
+        Err(fault) => return Err(DebugEngineFault::Refused(fault)),
     };
     let text = match read_all(alloc, choices) {
         Ok(bytes) => bytes,
@@ -66,7 +75,7 @@ pub fn debug_engine<A: Allocator + Copy, P: Source, C: Source, S: Source, K: Sin
         ))),
         Err(ReadFault::Memory) => return Err(DebugEngineFault::Refused(RunFault::Memory)),
     };
-    let mut debugger = match open_session(alloc, inputs, &bytes, &text) {
+    let mut debugger = match open_session(alloc, image, inputs, &text) {
         Ok(debugger) => debugger,
         Err(fault) => return Err(DebugEngineFault::Refused(fault)),
     };

@@ -2,32 +2,28 @@
 
 ghost use Rattle.std.specs.Prelude.{◌≡◌, ◌≢◌, Ok, Err, IfOk, IfErr};
 ghost use Rattle.debugger.specs.Session.{session};
-ghost use Rattle.debug_engine.specs.Opening.{opened};
+ghost use Rattle.debug_engine.specs.Opening.{after_program};
 
 use debugger::Debugger;
-use engines::{ProgramForm, RunFault, read_program};
+use engines::RunFault;
+use loader::Image;
 use reservations::MAX_HARTS;
 use scheduler::read_choices;
 use std::alloc::Allocator;
 
-/// A debugger at the start of the run of a file's bytes, of inputs, one a hart, and of a choice text, or why a run is
-/// refused. Checked are, in this order, the program, the number of inputs and the choice text.
-#[tactic(auto, unfolding(crate::specs::Opening::opened))]
+/// A debugger at the start of the run of an image, of inputs, one a hart, and of a choice text, or why a run is refused.
+/// Checked are, in this order, the number of inputs and the choice text.
 pub fn open_session<A: Allocator + Copy>(
     alloc: A,
+    image: Image<A>,
     inputs: &[u32],
-    program: &[u8],
     text: &[u8],
 ) -> Result<Debugger<A>, RunFault>
     ensures ok { IfOk result (λ debugger.
-        opened inputs.now program.now text.now ≡ Ok (session debugger)) }
+        after_program inputs.now text.now (Ok image) ≡ Ok (session debugger)) }
     ensures err { IfErr result (λ fault. fault ≢ RunFault.Memory
-        → opened inputs.now program.now text.now ≡ Err fault) }
+        → after_program inputs.now text.now (Ok image) ≡ Err fault) }
 {
-    let image = match read_program(alloc, ProgramForm::Elf, program) {
-        Ok(image) => image,
-        Err(fault) => return Err(fault),
-    };
     if inputs.is_empty() {
         return Err(RunFault::NoHarts);
     }

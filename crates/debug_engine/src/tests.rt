@@ -1,6 +1,7 @@
 //! What no clause says: a transcript, lines that are no text, devices that fail, and refused memory.
 use crate::{DebugEngineFault, MOST_LINE, debug_engine};
 use engines::{Failing, Input, MemorySink, MemorySource, RunFault, Status};
+use loader::ElfFault;
 use refusing::Refusing;
 use std::alloc::{AllocError, Allocator};
 
@@ -152,6 +153,27 @@ fn a_failing_device_is_named(rt: HostRuntime) {
     );
     assert_eq!(rt; result, Err(DebugEngineFault::Answers));
     assert_eq!(rt; sink.device().bytes(), b"step 0 of 4\n".as_slice());
+}
+
+#[test]
+fn a_refused_program_is_told_before_the_choices_fail(rt: HostRuntime) {
+    let mut program = MemorySource::new(b"no program");
+    let mut choices = Failing::new(MemorySource::new(CHOICES), 0);
+    let mut commands = MemorySource::new(COMMANDS);
+    let mut sink = MemorySink::new(rt.alloc());
+    let result = debug_engine(
+        rt.alloc(),
+        &[7, 9],
+        &mut program,
+        &mut choices,
+        &mut commands,
+        &mut sink,
+    );
+    assert_eq!(rt;
+        result,
+        Err(DebugEngineFault::Refused(RunFault::Elf(ElfFault::Short)))
+    );
+    assert_eq!(rt; sink.bytes().len(), 0);
 }
 
 #[test]

@@ -1,6 +1,6 @@
 -- What a debugger is once a machine that it lends is given back.
 use Rattle.std.specs.Prelude.{◌≡◌, ℕ, Result, MatchResult, ⊤}
-use Rattle.std.specs.Borrow.{follows_so, Bor, Fml, MutBor, RattleType}
+use Rattle.std.specs.Borrow.{follows_so, Fml, MutBor, RattleType}
 use Rattle.std.specs.declared.alloc.Allocator as alloc
 use mathlib.Core.Option.{none}
 use Rattle.debugger.specs.Session.{session, moved, steps_to}

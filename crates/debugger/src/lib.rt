@@ -20,5 +20,7 @@ mod seeking;
 mod step_view;
 mod stepping;
 mod stop;
+#[cfg(test)]
+mod tests;
 mod track;
 mod words;

@@ -1,42 +1,32 @@
 use Rattle.debugger.specs.Session.{session}
 use Rattle.debug_engine.specs.Opening.{Answers, BeginsToAnswer}
-use Rattle.debug_engine.proofs.OpeningLemmas.{of_devices, reads_none, writes_none}
+use Rattle.debug_engine.proofs.OpeningLemmas.{in_session}
 use Rattle.debug_engine.proofs.engine.debug_engine.Goals as goal
-
-pub returns-in-Err-clause-read : goal.returns-in-Err-clause-read
-returns-in-Err-clause-read g c = reads_none c.args.inputs.now c.deref.result.now c.deref-2.result.now c.in-Err.fault _ _ c.in-Err.ensures.err
-
-pub returns-in-Err-clause-sink_unnamed : goal.returns-in-Err-clause-sink_unnamed
-returns-in-Err-clause-sink_unnamed g c e = writes_none c.args.inputs.now c.deref.result.now c.deref-2.result.now c.in-Err.fault c.in-Err.ensures.err e
 
 pub returns-in-Ok-talk-clause-done : goal.returns-in-Ok-talk-clause-done
 returns-in-Ok-talk-clause-done g c =
-    of_devices (λ r xs. Answers r xs (g.K.Sink.held c.args.sink.now) (g.K.Sink.held c.talk.new.sink))
-    c.args.inputs.now c.in-Ok.bytes.items c.in-Ok-read_all.bytes.items c.deref.result.now c.deref-2.result.now
-    (session c.in-Ok-open_session.debugger) _ _ _ _ (g.S.Source.left c.args.commands.now)
-    c.in-Ok.ensures.bytes c.in-Ok.ensures.end c.in-Ok-read_all.ensures.bytes c.in-Ok-read_all.ensures.end
-    c.deref.ensures.value c.deref-2.ensures.value c.in-Ok-open_session.ensures.ok c.in-Ok-talk.ensures.done
+    in_session (λ r xs. Answers r xs (g.K.Sink.held c.args.sink.now) (g.K.Sink.held c.talk.new.sink))
+    c.args.inputs.now _ _ _ (session c.in-Ok-open_session.debugger) _ _ _ (g.S.Source.left c.args.commands.now)
+    c.in-Ok.ensures.ok c.in-Ok-read_all.ensures.bytes c.in-Ok-read_all.ensures.end
+    c.deref.ensures.value c.in-Ok-open_session.ensures.ok c.in-Ok-talk.ensures.done
 
 pub returns-in-Err-Read-clause-begun : goal.returns-in-Err-Read-clause-begun
 returns-in-Err-Read-clause-begun g c =
-    of_devices (λ r xs. BeginsToAnswer r xs (g.K.Sink.held c.args.sink.now) (g.K.Sink.held c.talk.new.sink))
-    c.args.inputs.now c.in-Ok.bytes.items c.in-Ok-read_all.bytes.items c.deref.result.now c.deref-2.result.now
-    (session c.in-Ok-open_session.debugger) _ _ _ _ (g.S.Source.left c.args.commands.now)
-    c.in-Ok.ensures.bytes c.in-Ok.ensures.end c.in-Ok-read_all.ensures.bytes c.in-Ok-read_all.ensures.end
-    c.deref.ensures.value c.deref-2.ensures.value c.in-Ok-open_session.ensures.ok c.in-Err-Read.ensures.begun
+    in_session (λ r xs. BeginsToAnswer r xs (g.K.Sink.held c.args.sink.now) (g.K.Sink.held c.talk.new.sink))
+    c.args.inputs.now _ _ _ (session c.in-Ok-open_session.debugger) _ _ _ (g.S.Source.left c.args.commands.now)
+    c.in-Ok.ensures.ok c.in-Ok-read_all.ensures.bytes c.in-Ok-read_all.ensures.end
+    c.deref.ensures.value c.in-Ok-open_session.ensures.ok c.in-Err-Read.ensures.begun
 
 pub returns-in-Err-Write-clause-begun : goal.returns-in-Err-Write-clause-begun
 returns-in-Err-Write-clause-begun g c =
-    of_devices (λ r xs. BeginsToAnswer r xs (g.K.Sink.held c.args.sink.now) (g.K.Sink.held c.talk.new.sink))
-    c.args.inputs.now c.in-Ok.bytes.items c.in-Ok-read_all.bytes.items c.deref.result.now c.deref-2.result.now
-    (session c.in-Ok-open_session.debugger) _ _ _ _ (g.S.Source.left c.args.commands.now)
-    c.in-Ok.ensures.bytes c.in-Ok.ensures.end c.in-Ok-read_all.ensures.bytes c.in-Ok-read_all.ensures.end
-    c.deref.ensures.value c.deref-2.ensures.value c.in-Ok-open_session.ensures.ok c.in-Err-Write.ensures.begun
+    in_session (λ r xs. BeginsToAnswer r xs (g.K.Sink.held c.args.sink.now) (g.K.Sink.held c.talk.new.sink))
+    c.args.inputs.now _ _ _ (session c.in-Ok-open_session.debugger) _ _ _ (g.S.Source.left c.args.commands.now)
+    c.in-Ok.ensures.ok c.in-Ok-read_all.ensures.bytes c.in-Ok-read_all.ensures.end
+    c.deref.ensures.value c.in-Ok-open_session.ensures.ok c.in-Err-Write.ensures.begun
 
 pub returns-clause-begun : goal.returns-clause-begun
 returns-clause-begun g c =
-    of_devices (λ r xs. BeginsToAnswer r xs (g.K.Sink.held c.args.sink.now) (g.K.Sink.held c.talk.new.sink))
-    c.args.inputs.now c.in-Ok.bytes.items c.in-Ok-read_all.bytes.items c.deref.result.now c.deref-2.result.now
-    (session c.in-Ok-open_session.debugger) _ _ _ _ (g.S.Source.left c.args.commands.now)
-    c.in-Ok.ensures.bytes c.in-Ok.ensures.end c.in-Ok-read_all.ensures.bytes c.in-Ok-read_all.ensures.end
-    c.deref.ensures.value c.deref-2.ensures.value c.in-Ok-open_session.ensures.ok c.in-Err-Memory-talk.ensures.begun
+    in_session (λ r xs. BeginsToAnswer r xs (g.K.Sink.held c.args.sink.now) (g.K.Sink.held c.talk.new.sink))
+    c.args.inputs.now _ _ _ (session c.in-Ok-open_session.debugger) _ _ _ (g.S.Source.left c.args.commands.now)
+    c.in-Ok.ensures.ok c.in-Ok-read_all.ensures.bytes c.in-Ok-read_all.ensures.end
+    c.deref.ensures.value c.in-Ok-open_session.ensures.ok c.in-Err-Memory-talk.ensures.begun
