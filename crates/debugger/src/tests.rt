@@ -98,7 +98,7 @@ fn make<A: Allocator + Copy>(
         },
         Call::Steps => {
             let views = debugger.steps(alloc, 1, 3)?;
-            Ok(Some(views.len() as u32))
+            Ok(u32::try_from(views.len()).ok())
         }
     }
 }
