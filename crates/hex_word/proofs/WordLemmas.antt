@@ -1,5 +1,8 @@
-use Rattle.std.proofs.Common.{◌≡◌, ℕ, zero, suc, ◌+◌, ◌-◌, ◌*◌, ◌/◌, ◌%◌, ◌^◌, ◌<◌, ◌≤◌, false, List, [], ◌∷◌, ◌++◌, length, replicate, refl, arith, rules, ap, sym, subst, ◌∙◌, ⊎_elim}
+use Rattle.std.proofs.Common.{◌≡◌, ℕ, zero, suc, ◌+◌, ◌-◌, ◌*◌, ◌/◌, ◌%◌, ◌^◌, ◌<◌, ◌≤◌, false, List, [], ◌∷◌, ◌++◌, length, replicate, drop, slice_set, refl, arith, rules, ap, sym, subst, ◌∙◌, ⊎_elim}
 use Rattle.std.specs.Prelude.{◌==◌}
+use Rattle.std.specs.Str.{IsAscii}
+use Rattle.std.proofs.lemmas.List.{drop-set}
+use Rattle.std.proofs.lemmas.Str.Ascii.{IsAscii-cons, IsAscii-nil}
 use Rattle.std.proofs.lemmas.Bool.{cases_lt}
 use Rattle.std.proofs.lemmas.Grind.{common_steps}
 use Rattle.std.specs.Fmt.{digits, digits_onto, digit_glyph, padded_integral, char_count, format_spec}
@@ -59,14 +62,30 @@ digits_are : (n : ℕ) → digits 16 false n ≡ digits_onto 64 16 false n []
 unfolding digits
 digits_are n = refl
 
-pub padded_word : (n : ℕ) → n < 2 ^ 32 → padded_integral (format_spec 32 0 4 8 (2 ^ 64 - 1)) false [] (digits 16 false n) ≡ word_text n
-unfolding word_text
-padded_word n small =
-    padded_form 8 (digits 16 false n) ∙ ap (λ ds. replicate (8 - length ds) 48 ++ ds) (digits_are n)
-    ∙ sym (pads 8 64 n [] (omega arith) (omega arith) small)
-
 pub padded_byte : (n : ℕ) → n < 2 ^ 8 → padded_integral (format_spec 32 0 4 2 (2 ^ 64 - 1)) false [] (digits 16 false n) ≡ byte_text n
 unfolding byte_text
 padded_byte n small =
     padded_form 2 (digits 16 false n) ∙ ap (λ ds. replicate (2 - length ds) 48 ++ ds) (digits_are n)
     ∙ sym (pads 2 64 n [] (omega arith) (omega arith) small)
+
+-- the digit before a place, in front of the digits from there on
+pub digit_step : (all : List ℕ) (place n : ℕ) → 0 < place → place ≤ length all
+    → hex_onto (place - 1) (n / 16) (drop (place - 1) (slice_set all (place - 1) (digit_glyph false (n % 16)))) ≡ hex_onto place n (drop place all)
+digit_step all zero n some within = absurd (omega arith)
+digit_step all (suc place) n some within =
+    let digit = digit_glyph false (n % 16) in
+    let before : suc place - 1 ≡ place = omega arith in
+    let behind : place + 1 ≡ suc place = omega arith in
+    ap (λ p. hex_onto p (n / 16) (drop p (slice_set all p digit))) before
+    ∙ ap (hex_onto place (n / 16)) (drop-set all place digit (omega arith) ∙ ap (λ p. digit ∷ drop p all) behind)
+
+glyph_small : (d : ℕ) → d < 16 → digit_glyph false d < 128
+glyph_small d lt = grind (arith, lt)
+
+IsAscii-hex : (k n : ℕ) (text : List ℕ) → IsAscii text → IsAscii (hex_onto k n text)
+IsAscii-hex zero n text h = h
+IsAscii-hex (suc k) n text h = IsAscii-hex k (n / 16) (digit_glyph false (n % 16) ∷ text) (IsAscii-cons (digit_glyph false (n % 16)) text (glyph_small (n % 16) (omega arith)) h)
+
+pub word_is_ascii : (n : ℕ) → IsAscii (word_text n)
+unfolding word_text
+word_is_ascii n = IsAscii-hex 8 n [] IsAscii-nil
