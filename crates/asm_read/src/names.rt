@@ -1,5 +1,6 @@
 //! Tables of names.
-ghost use Rattle.std.specs.Prelude.{◌≡◌};
+ghost use Rattle.std.specs.Prelude.{◌≡◌, ◌-◌, length, slice_index};
+ghost use Rattle.std.specs.Str.{bytes_eq};
 ghost use Rattle.asm_read.specs.Names.{fence_bits, fence_set_of, first_named, register_number, register_of, rows_of};
 
 use isa_table::{FenceSet, Reg};
@@ -92,13 +93,34 @@ const FENCE_SETS: [(&str, u8); 15] = [
     ("iorw", 15),
 ];
 
+// The last byte of a text, or 0.
+#[inline(always)]
+fn last_of(text: &str) -> u8
+    ensures { result ≡ slice_index text.now (length text.now - 1) }
+{
+    let bytes = text.as_bytes();
+    if bytes.is_empty() {
+        return 0;
+    }
+    bytes[bytes.len() - 1]
+}
+
+// Whether two texts are the same. The last byte tells most names of a table apart.
+#[inline(always)]
+#[tactic(auto, using(crate::proofs::Endings::others_end_otherwise))]
+fn is_same(one: &str, other: &str) -> bool
+    ensures { result ≡ bytes_eq one.now other.now }
+{
+    last_of(one) == last_of(other) && one == other
+}
+
 /// What the first row of this name has.
 #[tactic(auto, unfolding(crate::specs::Names::first_named))]
 pub fn find<V: Copy>(rows: &[(&str, V)], name: &str) -> Option<V>
     ensures { result ≡ first_named (rows_of rows.now) name.now }
 {
     'rows: for (text, value) in rows {
-        if *text == name {
+        if is_same(text, name) {
             return Some(*value);
         }
     }

@@ -45,6 +45,7 @@ pub fn align_size(at: u128, n: u32) -> u128
 
 /// How many bytes a directive takes at an address.
 #[tactic(auto, unfolding(crate::specs::Cursors::directive_size))]
+#[inline(always)]
 pub fn directive_size<A: Allocator>(at: u128, directive: &Directive<'_, A>) -> u128
     requires { at < 2 ^ 127 + 2 ^ 126 }
     ensures value { result ≡ directive_size at (directive_value directive.now) }
@@ -63,6 +64,7 @@ pub fn directive_size<A: Allocator>(at: u128, directive: &Directive<'_, A>) -> u
 
 /// How many bytes a statement takes at an address.
 #[tactic(auto, unfolding(crate::specs::Cursors::size))]
+#[inline(always)]
 pub fn size<A: Allocator>(at: u128, statement: &Statement<'_, A>) -> u128
     requires { at < 2 ^ 127 + 2 ^ 126 }
     ensures value { result ≡ size at statement.now.body }
@@ -78,6 +80,7 @@ pub fn size<A: Allocator>(at: u128, statement: &Statement<'_, A>) -> u128
 
 /// The section to which a statement changes.
 #[tactic(auto, unfolding(crate::specs::Cursors::section_of))]
+#[inline(always)]
 fn section_of<A: Allocator>(statement: &Statement<'_, A>) -> Option<Section>
     ensures { result ≡ section_of statement.now.body }
 {
@@ -90,6 +93,7 @@ fn section_of<A: Allocator>(statement: &Statement<'_, A>) -> Option<Section>
 impl Cursor {
     /// The address of the next statement.
     #[tactic(auto, unfolding(crate::specs::Cursors::address, crate::specs::Cursors::IsWithin))]
+    #[inline(always)]
     pub fn address(&self) -> u128
         ensures value { result ≡ address self.now }
         ensures small { IsWithin (2 ^ 63 + 2 ^ 61) self.now → result < 2 ^ 127 + 2 ^ 126 }
@@ -103,6 +107,7 @@ impl Cursor {
 
     /// The cursor behind a statement.
     #[tactic(auto, unfolding(crate::specs::Cursors::step, crate::specs::Cursors::IsWithin))]
+    #[inline(always)]
     pub fn step<A: Allocator>(self, statement: &Statement<'_, A>) -> Cursor
         requires { IsWithin (2 ^ 63 + 2 ^ 61) self }
         ensures value { result ≡ step self statement.now.body }
