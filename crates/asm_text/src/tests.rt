@@ -14,7 +14,7 @@ fn kinds_of(alloc: Global, text: &str) -> Result<Vec<Kind>, TextFault> {
 
 #[test]
 fn texts_are_cut(rt: HostRuntime) {
-    let rows: [(&str, &[Kind]); 14] = [
+    let rows: [(&str, &[Kind]); 10] = [
         ("", &[]),
         (" \t# end", &[]),
         ("a1:", &[Kind::Name, Kind::Colon]),
@@ -46,6 +46,23 @@ fn texts_are_cut(rt: HostRuntime) {
                 Kind::Close,
             ],
         ),
+        (
+            ".asciz \"a\\\"#;b\" @!",
+            &[Kind::Name, Kind::Text, Kind::Other(b'@'), Kind::Other(b'!')],
+        ),
+        ("\"\\\\\" \"\"", &[Kind::Text, Kind::Text]),
+    ];
+    for (text, wanted) in rows {
+        match kinds_of(rt.alloc(), text) {
+            Ok(kinds) => assert_eq!(rt; kinds.as_slice(), wanted, "{text}"),
+            Err(fault) => assert!(rt; false, "{text}: {fault}"),
+        }
+    }
+}
+
+#[test]
+fn numbers_and_references_are_told_apart(rt: HostRuntime) {
+    let rows: [(&str, &[Kind]); 4] = [
         (
             "1: j 1b, 1f",
             &[
@@ -84,11 +101,6 @@ fn texts_are_cut(rt: HostRuntime) {
                 Kind::Number(0xffff_ffff),
             ],
         ),
-        (
-            ".asciz \"a\\\"#;b\" @!",
-            &[Kind::Name, Kind::Text, Kind::Other(b'@'), Kind::Other(b'!')],
-        ),
-        ("\"\\\\\" \"\"", &[Kind::Text, Kind::Text]),
     ];
     for (text, wanted) in rows {
         match kinds_of(rt.alloc(), text) {

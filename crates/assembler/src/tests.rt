@@ -168,9 +168,9 @@ fn text_is_filled_with_nops(rt: HostRuntime) -> Result<(), Fail> {
     Ok(())
 }
 
-// A fault's number and line; a number of 0 says that the program is taken.
+// Here and below: the fault of each source by its number and its line, from 1; a number of 0 says that the program is taken.
 #[test]
-fn each_fault_has_its_boundary(rt: HostRuntime) {
+fn texts_and_heads_have_their_faults(rt: HostRuntime) {
     let rows = [
         (".data\n.byte 07", 0, 0),
         (".data\n.byte 08", 1, 2),
@@ -184,6 +184,16 @@ fn each_fault_has_its_boundary(rt: HostRuntime) {
         ("addi a0, q9, 1", 4, 1),
         ("addi a0, x31, 1", 0, 0),
         ("addi a0, x32, 1", 4, 1),
+    ];
+    for (source, number, line) in rows {
+        let fault = fault_of(assemble(rt.alloc(), [source].as_slice()));
+        assert_eq!(rt; fault, (number, 0, line), "{source}");
+    }
+}
+
+#[test]
+fn immediates_have_their_range(rt: HostRuntime) {
+    let rows = [
         ("addi a0, a0, -2049", 5, 1),
         ("addi a0, a0, -2048", 0, 0),
         ("addi a0, a0, 2047", 0, 0),
@@ -214,6 +224,16 @@ fn each_fault_has_its_boundary(rt: HostRuntime) {
         ("lui a0, -1", 5, 1),
         ("slli a0, a0, 31", 0, 0),
         ("slli a0, a0, 32", 5, 1),
+    ];
+    for (source, number, line) in rows {
+        let fault = fault_of(assemble(rt.alloc(), [source].as_slice()));
+        assert_eq!(rt; fault, (number, 0, line), "{source}");
+    }
+}
+
+#[test]
+fn numbers_of_data_have_their_range(rt: HostRuntime) {
+    let rows = [
         ("li a0, -2147483648", 0, 0),
         ("li a0, -2147483649", 5, 1),
         ("li a0, 4294967295", 0, 0),
@@ -228,6 +248,16 @@ fn each_fault_has_its_boundary(rt: HostRuntime) {
         (".byte 255, -128", 0, 0),
         (".byte 256", 5, 1),
         (".byte -129", 5, 1),
+    ];
+    for (source, number, line) in rows {
+        let fault = fault_of(assemble(rt.alloc(), [source].as_slice()));
+        assert_eq!(rt; fault, (number, 0, line), "{source}");
+    }
+}
+
+#[test]
+fn names_are_defined_once(rt: HostRuntime) {
+    let rows = [
         ("nowhere: j nowhere", 0, 0),
         ("j nowhere", 6, 1),
         ("j 1f", 6, 1),
@@ -236,6 +266,16 @@ fn each_fault_has_its_boundary(rt: HostRuntime) {
         (".globl nowhere\nla a0, nowhere", 6, 2),
         ("a:\na:", 7, 2),
         ("1:\n1:", 0, 0),
+    ];
+    for (source, number, line) in rows {
+        let fault = fault_of(assemble(rt.alloc(), [source].as_slice()));
+        assert_eq!(rt; fault, (number, 0, line), "{source}");
+    }
+}
+
+#[test]
+fn branches_and_jumps_have_their_reach(rt: HostRuntime) {
+    let rows = [
         ("beq a0, a1, x\n.zero 4096\nx:", 8, 1),
         ("beq a0, a1, x\n.zero 4088\nx:", 0, 0),
         ("beq a0, a1, 0xf000", 0, 0),
@@ -248,12 +288,32 @@ fn each_fault_has_its_boundary(rt: HostRuntime) {
         ("j 0xfff10000", 0, 0),
         ("j 0xfff0fffe", 8, 1),
         ("j 0x10003", 8, 1),
+    ];
+    for (source, number, line) in rows {
+        let fault = fault_of(assemble(rt.alloc(), [source].as_slice()));
+        assert_eq!(rt; fault, (number, 0, line), "{source}");
+    }
+}
+
+#[test]
+fn sections_take_what_fits_them(rt: HostRuntime) {
+    let rows = [
         (".bss\n.word 1", 9, 2),
         (".bss\n.zero 1", 0, 0),
         (".bss\nx: .align 2\n.space 1\n.skip 1", 0, 0),
         (".bss\nnop", 9, 2),
         (".bss\n.ascii \"\"", 9, 2),
         (".equ a, 1", 9, 1),
+    ];
+    for (source, number, line) in rows {
+        let fault = fault_of(assemble(rt.alloc(), [source].as_slice()));
+        assert_eq!(rt; fault, (number, 0, line), "{source}");
+    }
+}
+
+#[test]
+fn addresses_and_sizes_have_their_limit(rt: HostRuntime) {
+    let rows = [
         (".byte 1\nnop", 10, 2),
         (".half 1\nli a0, 1", 10, 2),
         (".byte 1, 2, 3\nnop", 10, 2),

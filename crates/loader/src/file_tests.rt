@@ -59,9 +59,11 @@ pub(crate) fn patched(
 }
 
 #[test]
-fn each_check_refuses_its_files_alone(rt: HostRuntime) -> Result<(), AllocError> {
+fn each_check_of_the_file_header_refuses_its_files_alone(
+    rt: HostRuntime,
+) -> Result<(), AllocError> {
     // For each check what it refuses, and the nearest files that it takes.
-    let rows: [(usize, u32, Option<ElfFault>); 58] = [
+    let rows: [(usize, u32, Option<ElfFault>); 38] = [
         (8, 0xffff_ffff, None),
         (0, 0x464c_457e, Some(ElfFault::Magic)),
         (0, 0x464c_447f, Some(ElfFault::Magic)),
@@ -95,6 +97,25 @@ fn each_check_refuses_its_files_alone(rt: HostRuntime) -> Result<(), AllocError>
         (28, 64, None),
         (28, 65, Some(ElfFault::OutsideFile)),
         (28, 0xffff_ffff, Some(ElfFault::OutsideFile)),
+        (24, 0x0001_0001, Some(ElfFault::EntryAlign)),
+        (24, 0x0001_0002, Some(ElfFault::EntryAlign)),
+        (24, 0x0001_0003, Some(ElfFault::EntryAlign)),
+        (24, 0x0001_0004, None),
+        (24, 0xffff_fffc, None),
+    ];
+    for (place, word, want) in rows {
+        let file = patched(rt.alloc(), &[(place, word)])?;
+        assert_eq!(rt; load(rt.alloc(), &file).err(), want, "{word} at {place}");
+    }
+    Ok(())
+}
+
+#[test]
+fn each_check_of_a_program_header_refuses_its_files_alone(
+    rt: HostRuntime,
+) -> Result<(), AllocError> {
+    // For each check what it refuses, and the nearest files that it takes.
+    let rows: [(usize, u32, Option<ElfFault>); 20] = [
         (56, 120, None),
         (56, 121, Some(ElfFault::OutsideFile)),
         (56, 0xffff_ffff, Some(ElfFault::OutsideFile)),
@@ -115,11 +136,6 @@ fn each_check_refuses_its_files_alone(rt: HostRuntime) -> Result<(), AllocError>
         (84, 2, Some(ElfFault::Dynamic)),
         (84, 3, Some(ElfFault::Dynamic)),
         (84, 4, None),
-        (24, 0x0001_0001, Some(ElfFault::EntryAlign)),
-        (24, 0x0001_0002, Some(ElfFault::EntryAlign)),
-        (24, 0x0001_0003, Some(ElfFault::EntryAlign)),
-        (24, 0x0001_0004, None),
-        (24, 0xffff_fffc, None),
     ];
     for (place, word, want) in rows {
         let file = patched(rt.alloc(), &[(place, word)])?;
@@ -130,7 +146,7 @@ fn each_check_refuses_its_files_alone(rt: HostRuntime) -> Result<(), AllocError>
 
 #[test]
 fn fields_are_looked_at_where_they_count(rt: HostRuntime) -> Result<(), AllocError> {
-    let rows: [(&str, &[(usize, u32)], Option<ElfFault>); 14] = [
+    let rows: [(&str, &[(usize, u32)], Option<ElfFault>); 9] = [
         (
             "no headers, and their size is 0",
             &[(40, 52), (44, 0x0028_0000)],
@@ -172,6 +188,17 @@ fn fields_are_looked_at_where_they_count(rt: HostRuntime) -> Result<(), AllocErr
             &[(84, 6), (104, 0xffff_ffff)],
             None,
         ),
+    ];
+    for (name, patches, want) in rows {
+        let file = patched(rt.alloc(), patches)?;
+        assert_eq!(rt; load(rt.alloc(), &file).err(), want, "{name}");
+    }
+    Ok(())
+}
+
+#[test]
+fn segments_are_measured_up_to_the_last_address(rt: HostRuntime) -> Result<(), AllocError> {
+    let rows: [(&str, &[(usize, u32)], Option<ElfFault>); 5] = [
         (
             "an empty segment inside another",
             &[(92, 0x0001_0004), (100, 0), (104, 0)],

@@ -23,9 +23,8 @@ fn segments_of(
 }
 
 #[test]
-fn the_first_check_refuses(rt: HostRuntime) -> Result<(), AllocError> {
-    // The limits of the program header's fields, and two checks at once for each pair of neighbours.
-    let rows: [(&str, u32, &[(u32, u32, usize)], Option<ElfFault>); 15] = [
+fn each_check_has_its_limit(rt: HostRuntime) -> Result<(), AllocError> {
+    let rows: [(&str, u32, &[(u32, u32, usize)], Option<ElfFault>); 12] = [
         ("nothing", 0, &[], None),
         (
             "one shared byte",
@@ -78,6 +77,19 @@ fn the_first_check_refuses(rt: HostRuntime) -> Result<(), AllocError> {
             Some(ElfFault::FileOverMem),
         ),
         ("entry 2", 2, &[(0x1000, 4, 4)], Some(ElfFault::EntryAlign)),
+    ];
+    for (name, entry, parts, want) in rows {
+        let segments = segments_of(rt.alloc(), parts)?;
+        let fault = Image::new(rt.alloc(), entry, segments).err();
+        assert_eq!(rt; fault, want, "{name}");
+    }
+    Ok(())
+}
+
+#[test]
+fn the_first_check_refuses(rt: HostRuntime) -> Result<(), AllocError> {
+    // Two checks at once, for pairs of neighbours by their numbers in the order of the checks.
+    let rows: [(&str, u32, &[(u32, u32, usize)], Option<ElfFault>); 3] = [
         (
             "11 before 12",
             2,
