@@ -1,48 +1,52 @@
 -- Statements, one after the other.
-use Rattle.std.proofs.Common.{◌≡◌, ℕ, ◌+◌, ◌-◌, ◌<◌, ◌≤◌, Bool, List, [], ◌∷◌, length, get_or, take, drop, map, Result, Ok, Err, true, false, sym, add-one}
-use Rattle.std.proofs.Math.Seq.{drop-cons}
-use Rattle.std.proofs.lemmas.List.{get_or_default, map-append, drop_all}
+use Rattle.std.proofs.Common.{◌≡◌, List, [], ◌∷◌, ◌++◌, map, Result, Ok, Err, true, false, sym}
+use Rattle.std.proofs.lemmas.List.{map_push}
 use Rattle.asm_text.specs.declared.lexeme.Lexeme as program
-use Rattle.asm_text.specs.Lexemes.{seen}
+use Rattle.asm_text.specs.Lexemes.{Lexed, broken, seen, with_lexeme}
 use Rattle.asm_read.specs.declared.fault.Fault.{Fault}
+use Rattle.asm_read.specs.declared.fault.FaultKind.TheVariants as faults
+use Rattle.asm_read.specs.declared.fault.AsmFault.{AsmFault}
+use Rattle.asm_read.specs.declared.fault.AsmFault.TheVariants as answers
 use Rattle.asm_read.specs.declared.statement.Section.{Section}
 use Rattle.asm_read.specs.declared.place.Place.{Place}
+use Rattle.asm_read.specs.Answer.{Fails}
 use Rattle.asm_read.specs.Statement.{StatementValue}
-use Rattle.asm_read.specs.Statements.{at_the_end, ends_statement, next_place, statement_from, source_from}
-use Rattle.asm_read.proofs.Parts.{part_more, part_none}
+use Rattle.asm_read.specs.Statements.{at_the_end, ends_statement, fault_at, next_place, read_from, source_from, statement_from}
 
--- a lexeme that ends no statement joins it
-pub line_goes_on : (whole : Bool) (place : Place) (done : List StatementValue) (xs : List program.Lexeme) (start i : ℕ) (d : program.Lexeme) (total : Result (List StatementValue) Fault) → start ≤ i → i < length xs → ends_statement (seen (get_or xs i d)) ≡ false
-    → source_from whole place done (map seen (take (i - start) (drop start xs))) (map seen (drop i xs)) ≡ total
-    → source_from whole place done (map seen (take (i + 1 - start) (drop start xs))) (map seen (drop (i + 1) xs)) ≡ total
-unfolding source_from
-line_goes_on whole place done xs start i d total le lt other so_far =
-    let x = get_or xs i d in
-    let same : x ≡ get_or xs i x = get_or_default xs i d x lt in
-    let one = rw (drop-cons xs i d lt, other) at so_far in
-    rw (part_more xs start i x le lt same, add-one, map-append seen (take (i - start) (drop start xs)) (x ∷ [])) one
+module _ (place : Place) (done : List StatementValue) (part : List program.Lexeme) (text : Lexed) (total : Result (List StatementValue) Fault) (so_far : read_from place done (map seen part) text ≡ total) where
+  -- a lexeme that ends no statement joins it
+  pub line_goes_on : (l : program.Lexeme) (rest : Lexed) → text ≡ with_lexeme (seen l) rest → ends_statement (seen l) ≡ false
+      → read_from place done (map seen (part ++ l ∷ [])) rest ≡ total
+  unfolding source_from
+  line_goes_on l rest is other = rw (map_push seen part l) (rw (is, other) at so_far)
 
--- a statement's end
-pub line_ends : (whole : Bool) (place : Place) (done more : List StatementValue) (section : Section) (xs : List program.Lexeme) (start i : ℕ) (d : program.Lexeme) (total : Result (List StatementValue) Fault) → i < length xs → ends_statement (seen (get_or xs i d)) ≡ true
-    → statement_from place done (map seen (take (i - start) (drop start xs))) ≡ Ok (more, section)
-    → source_from whole place done (map seen (take (i - start) (drop start xs))) (map seen (drop i xs)) ≡ total
-    → source_from whole (next_place place (seen (get_or xs i d)) section) more (map seen (take (i + 1 - (i + 1)) (drop (i + 1) xs))) (map seen (drop (i + 1) xs)) ≡ total
-unfolding source_from
-line_ends whole place done more section xs start i d total lt ends is so_far =
-    let one = rw (drop-cons xs i d lt, ends, is) at so_far in
-    rw (part_none xs (i + 1), add-one) one
+  -- a statement's end
+  pub line_ends : (l : program.Lexeme) (rest : Lexed) (more : List StatementValue) (section : Section) → text ≡ with_lexeme (seen l) rest → ends_statement (seen l) ≡ true
+      → statement_from place done (map seen part) ≡ Ok (more, section)
+      → read_from (next_place place (seen l) section) more [] rest ≡ total
+  unfolding source_from
+  line_ends l rest more section is ends gives = rw (is, ends, gives) at so_far
 
--- the first wrong statement decides
-pub line_fails : (whole : Bool) (place : Place) (done : List StatementValue) (fault : Fault) (xs : List program.Lexeme) (start i : ℕ) (d : program.Lexeme) (total : Result (List StatementValue) Fault) → i < length xs → ends_statement (seen (get_or xs i d)) ≡ true
-    → statement_from place done (map seen (take (i - start) (drop start xs))) ≡ Err fault
-    → source_from whole place done (map seen (take (i - start) (drop start xs))) (map seen (drop i xs)) ≡ total
-    → total ≡ Err fault
-unfolding source_from
-line_fails whole place done fault xs start i d total lt ends is so_far = sym (rw (drop-cons xs i d lt, ends, is) at so_far)
+  -- the first wrong statement decides
+  line_fails : (l : program.Lexeme) (rest : Lexed) (fault : Fault) → text ≡ with_lexeme (seen l) rest → ends_statement (seen l) ≡ true
+      → statement_from place done (map seen part) ≡ Err fault
+      → total ≡ Err fault
+  unfolding source_from
+  line_fails l rest fault is ends gives = sym (rw (is, ends, gives) at so_far)
 
--- the last statement
-pub at_end : (whole : Bool) (place : Place) (done : List StatementValue) (xs : List program.Lexeme) (start i : ℕ) (total : Result (List StatementValue) Fault) → length xs ≤ i
-    → source_from whole place done (map seen (take (i - start) (drop start xs))) (map seen (drop i xs)) ≡ total
-    → total ≡ at_the_end whole place (statement_from place done (map seen (take (i - start) (drop start xs))))
-unfolding source_from
-at_end whole place done xs start i total le so_far = sym (rw (drop_all i xs le) at so_far)
+  -- the first refused statement decides
+  pub line_refused : (l : program.Lexeme) (rest : Lexed) (fault : AsmFault) → text ≡ with_lexeme (seen l) rest → ends_statement (seen l) ≡ true
+      → Fails fault (statement_from place done (map seen part))
+      → Fails fault total
+  line_refused l rest (answers.At fault) is ends gives = line_fails l rest fault is ends gives
+  line_refused l rest answers.Memory is ends gives = tt
+
+  -- the last statement
+  pub at_end : text ≡ record { lexemes = []; whole = true } → total ≡ at_the_end true place (statement_from place done (map seen part))
+  unfolding source_from
+  at_end is = sym (rw is at so_far)
+
+  -- what is no token
+  pub at_fault : text ≡ broken → total ≡ Err (fault_at place faults.Token)
+  unfolding source_from
+  at_fault is = sym (rw is at so_far)

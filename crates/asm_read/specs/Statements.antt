@@ -173,6 +173,10 @@ source_from whole place done part (l ∷ ls) =
     then (statement_from place done part >>= λ r. source_from whole (next_place place l r.1) r.0 [] ls)
     else source_from whole place done (part ++ l ∷ []) ls
 
+-- the same, where so much of the source is left
+abbrev pub read_from : Place → List StatementValue → List Lexeme → Lexed → Result (List StatementValue) Fault
+read_from place done part text = source_from text.whole place done part text.lexemes
+
 -- a source begins on line 1, in `.text`
 abbrev pub first_place : ℕ → Place
 first_place source = record { source = source; line = 1; section = sections.Text }
@@ -185,7 +189,7 @@ begun source done =
 
 -- the statements of a source behind those done
 abbrev pub source_statements : ℕ → List StatementValue → Lexed → Result (List StatementValue) Fault
-source_statements source done text = source_from text.whole (first_place source) (begun source done) [] text.lexemes
+source_statements source done text = read_from (first_place source) (begun source done) [] text
 
 -- the statements of sources from an index on, behind those done
 unfoldable pub sources_from : ℕ → List StatementValue → List (List ℕ) → Result (List StatementValue) Fault

@@ -1,11 +1,11 @@
 //! Sources as statements.
-ghost use Rattle.std.specs.Prelude.{◌≡◌, ◌≤◌, [], map, option_map, drop, length, IfOk, IfSome, Ok, OnOk};
+ghost use Rattle.std.specs.Prelude.{◌≡◌, ◌≤◌, ◌<◌, ◌-◌, ◌^◌, [], map, true, option_map, drop, length, IfOk, IfSome, Ok, OnOk};
 ghost use Rattle.std.specs.List.{list_all};
 ghost use Rattle.std.specs.Char.{is_ascii_digit};
 ghost use Rattle.asm_text.specs.Lexemes.{lexed, seen};
 ghost use Rattle.asm_read.specs.Answer.{Gives};
 ghost use Rattle.asm_read.specs.Statement.{body_value};
-ghost use Rattle.asm_read.specs.Statements.{after_body, begun, ends_statement, first_place, label_of, labels_from, lines_ended, section_behind, source_from, source_statements, statement_from, statements_of, texts_of};
+ghost use Rattle.asm_read.specs.Statements.{after_body, at_the_end, begun, ends_statement, first_place, label_of, labels_from, lines_ended, next_place, read_from, section_behind, source_statements, statement_from, statements_of, texts_of};
 
 use crate::body::body;
 use crate::fault::{AsmFault, FaultKind};
@@ -13,7 +13,7 @@ use crate::name::Name;
 use crate::place::{Place, fault_at, first_place};
 use crate::refusal::Refusal;
 use crate::statement::{Body, Directive, Section, Statement};
-use asm_text::{Lexeme, lexemes};
+use asm_text::{Lexeme, Next, next_lexeme};
 use std::alloc::{AllocError, Allocator};
 
 fn are_digits(text: &str) -> bool
@@ -139,41 +139,62 @@ fn lines_ended(lexeme: Lexeme) -> usize
     }
 }
 
-// Appends the statements of lexemes that begin at a place; where they are not the whole source, its last statement has a
-// token's fault.
-#[tactic(auto, using(crate::proofs::Lines::line_goes_on, crate::proofs::Lines::line_ends, crate::proofs::Lines::line_fails, crate::proofs::Lines::at_end), unfolding(crate::specs::Statements::source_from))]
-fn push_lines<'a, A: Allocator + Copy>(
+// Where the statement behind a lexeme that ends one stands.
+fn next_place(place: Place, lexeme: Lexeme, section: Section) -> Place
+    requires { place.line < 2 ^ 64 - 1 }
+    ensures { result ≡ next_place place (seen lexeme.entry) section }
+{
+    Place {
+        source: place.source,
+        line: place.line + lines_ended(lexeme),
+        section,
+    }
+}
+
+// Appends a source's last statement.
+fn push_last<'a, A: Allocator + Copy>(
     alloc: A,
     place: Place,
     lexemes: &[Lexeme<'a>],
-    whole: bool,
+    statements: &mut Vec<Statement<'a, A>, A>,
+) -> Result<(), AsmFault>
+    ensures { Gives (λ _. statements.new.items) result
+        (at_the_end true place (statement_from place statements.old.items (map seen lexemes.now))) }
+{
+    push_statement(alloc, place, lexemes, statements)?;
+    Ok(())
+}
+
+// Appends the statements of a text that begins at a place. Where the text has a token's fault, the statement in which it stands has it.
+#[tactic(auto, using(crate::proofs::Lines::line_goes_on, crate::proofs::Lines::line_ends, crate::proofs::Lines::line_refused, crate::proofs::Lines::at_end, crate::proofs::Lines::at_fault))]
+fn push_lines<'a, A: Allocator + Copy>(
+    alloc: A,
+    place: Place,
+    text: &'a str,
     statements: &mut Vec<Statement<'a, A>, A>,
 ) -> Result<(), AsmFault>
     requires { place.line ≤ 1 }
-    ensures { Gives (λ _. statements.new.items) result
-        (source_from whole place statements.old.items [] (map seen lexemes.now)) }
+    ensures { Gives (λ _. statements.new.items) result (read_from place statements.old.items [] (lexed 0 text.now)) }
 {
     let mut place = place;
-    let mut start = 0;
-    'lexemes: for (i, lexeme) in lexemes.iter().enumerate() {
-        if !ends_statement(*lexeme) {
-            continue;
+    let mut part = Vec::new(alloc);
+    let mut at = 0;
+    'lexemes: loop {
+        match next_lexeme(text, at) {
+            Next::Lexeme(lexeme, end) => {
+                at = end;
+                if ends_statement(lexeme) {
+                    let section = push_statement(alloc, place, &part, statements)?;
+                    place = next_place(place, lexeme, section);
+                    part.clear();
+                } else {
+                    part.push(lexeme)?;
+                }
+            }
+            Next::End => return push_last(alloc, place, &part, statements),
+            Next::Fault => return Err(fault_at(place, FaultKind::Token)),
         }
-        let section = push_statement(alloc, place, &lexemes[start..i], statements)?;
-        let line = place.line + lines_ended(*lexeme);
-        let source = place.source;
-        place = Place {
-            source,
-            line,
-            section,
-        };
-        start = i + 1;
     }
-    if !whole {
-        return Err(fault_at(place, FaultKind::Token));
-    }
-    push_statement(alloc, place, &lexemes[start..], statements)?;
-    Ok(())
 }
 
 // Appends the change to `.text` with which each source behind the first begins, since the one before may end elsewhere.
@@ -205,10 +226,9 @@ fn push_source<'a, A: Allocator + Copy>(
     ensures { Gives (λ _. statements.new.items) result
         (source_statements source statements.old.items (lexed 0 text.now)) }
 {
-    let all = lexemes(alloc, text)?;
     let place = first_place(source);
     push_begin(place, statements)?;
-    push_lines(alloc, place, &all.lexemes, all.whole, statements)
+    push_lines(alloc, place, text, statements)
 }
 
 /// The statements of sources, in order, each source beginning in `.text`; or the earliest wrong statement with the lowest

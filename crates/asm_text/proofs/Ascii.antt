@@ -1,5 +1,5 @@
 -- Names and numbers are ASCII.
-use Rattle.std.proofs.Common.{◌≡◌, ℕ, ◌+◌, ◌-◌, ◌<◌, ◌≤◌, true, List, [], ◌∷◌, ◌++◌, length, take, drop, subst, ◌∙◌, arith, inl, inr, length-drop}
+use Rattle.std.proofs.Common.{◌≡◌, ℕ, ◌-◌, ◌<◌, true, List, [], ◌∷◌, length, take, drop, subst, arith, inl, inr, length-drop}
 use Rattle.std.specs.Prelude.{slice_index}
 use Rattle.std.specs.Str.{IsAscii}
 use Rattle.std.proofs.lemmas.Str.{IsAscii-take}
@@ -13,7 +13,7 @@ use Rattle.asm_text.specs.Bytes.{is_name_byte}
 use Rattle.asm_text.specs.Grammar.{IsRun, IsLexeme}
 use Rattle.asm_text.specs.Pieces.{front}
 use Rattle.asm_text.specs.Reading.{IsPieceOf}
-use Rattle.asm_text.specs.Lexemes.{without_last, text_in, Lexeme}
+use Rattle.asm_text.specs.Lexemes.{without_last, text_in}
 use Rattle.asm_text.proofs.Found.{IsPiece, front_found}
 
 name_byte_small : (b : ℕ) → is_name_byte b ≡ true → b < 128

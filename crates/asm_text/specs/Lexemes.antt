@@ -1,7 +1,9 @@
 -- Tokens by their bytes, without where they stand: what the statements of a text are a function of.
-use Rattle.std.specs.Prelude.{ℕ, zero, suc, ◌-◌, List, [], ◌∷◌, map, length, take, drop, Bool, true, false, Option, Some, None}
+use Rattle.std.specs.Prelude.{ℕ, zero, suc, ◌≡◌, ◌-◌, ◌<◌, ◌≤◌, List, [], ◌∷◌, map, length, take, drop, Bool, true, false, Option, Some, None}
 use Rattle.asm_text.specs.declared.lexeme.Lexeme as l
 use Rattle.asm_text.specs.declared.lexeme.Lexeme.TheVariants as lexemes
+use Rattle.asm_text.specs.declared.lexeme.Next.{Next}
+use Rattle.asm_text.specs.declared.lexeme.Next.TheVariants as nexts
 use Rattle.asm_text.specs.declared.token.Token.{Token}
 use Rattle.asm_text.specs.declared.token.Kind.{Kind}
 use Rattle.asm_text.specs.declared.token.Kind.TheVariants as kinds
@@ -109,3 +111,10 @@ unfoldable pub lexed : ℕ → List ℕ → Lexed
 lexed inside [] = record { lexemes = []; whole = true }
 lexed (suc inside) (b ∷ bs) = lexed inside bs
 lexed zero (b ∷ bs) = by_piece (front (b ∷ bs)) (b ∷ bs) (λ n. lexed (n - 1) bs)
+
+-- the lexemes from a place on are this one and those from where the rest begins; or none, or none before a fault
+abbrev pub IsNext : List ℕ → ℕ → Next → Type 0
+IsNext source from (nexts.Lexeme l end) =
+    (from < end) × (end ≤ length source) × (lexed 0 (drop from source) ≡ with_lexeme (seen l) (lexed 0 (drop end source)))
+IsNext source from nexts.End = lexed 0 (drop from source) ≡ record { lexemes = []; whole = true }
+IsNext source from nexts.Fault = lexed 0 (drop from source) ≡ broken

@@ -1,12 +1,11 @@
 //! Tokens by their bytes.
-ghost use Rattle.std.specs.Prelude.{◌≡◌, IfOk, map};
+ghost use Rattle.std.specs.Prelude.{◌≡◌};
 ghost use Rattle.std.specs.Str.{IsAscii};
-ghost use Rattle.asm_text.specs.Lexemes.{lexeme_in, lexed, seen, without_last};
+ghost use Rattle.asm_text.specs.Lexemes.{IsNext, lexeme_in, seen, without_last};
 ghost use Rattle.asm_text.specs.Reading.{IsPieceOf};
 
 use crate::piece::{Piece, front};
 use crate::token::{Kind, Token, text_of};
-use std::alloc::{AllocError, Allocator};
 use std::str;
 
 /// A token by what it says, without where it stands. The kinds are those of `Kind`.
@@ -33,13 +32,15 @@ pub enum Lexeme<'a> {
     LineEnd,
 }
 
-/// The lexemes of a text up to its first fault.
-#[derive(Debug, Drop)]
-pub struct Lexed<'a, A: Allocator> {
-    /// The lexemes before the fault, in order.
-    pub lexemes: Vec<Lexeme<'a>, A>,
-    /// Whether the text has no fault.
-    pub whole: bool,
+/// What stands next in a source.
+#[derive(Clone, Copy, Debug, PartialEq, Eq)]
+pub enum Next<'a> {
+    /// A lexeme, and where the rest of the source begins.
+    Lexeme(Lexeme<'a>, usize),
+    /// The source's end.
+    End,
+    /// What is no token.
+    Fault,
 }
 
 // A text of ASCII bytes.
@@ -87,25 +88,17 @@ fn without_last(bytes: &[u8]) -> &[u8]
     front
 }
 
-/// The lexemes of a text up to its first fault. Fails only for want of memory.
+/// What stands in a source from a place on (in bytes), behind blanks and comments; its end, where the place is behind it.
 #[tactic(auto, using(crate::proofs::LexemeSteps::gap_step, crate::proofs::LexemeSteps::lexeme_step, crate::proofs::LexemeSteps::bad_char, crate::proofs::LexemeSteps::bad_number, crate::proofs::LexemeSteps::open_text, crate::proofs::LexemeSteps::at_end))]
-pub fn lexemes<'a, A: Allocator + Copy>(
-    alloc: A,
-    source: &'a str,
-) -> Result<Lexed<'a, A>, AllocError>
-    ensures { IfOk result (λ all.
-        lexed 0 source.now ≡ record { lexemes = map seen all.lexemes.items; whole = all.whole }) }
+pub fn next_lexeme<'a>(source: &'a str, from: usize) -> Next<'a>
+    ensures { IsNext source.now from result }
 {
     let bytes = source.as_bytes();
-    let mut lexemes = Vec::new(alloc);
-    let mut at = 0;
-    'pieces: while at < bytes.len() {
+    let mut at = from;
+    'gaps: while at < bytes.len() {
         let (_, rest) = bytes.split_at(at);
         match front(rest) {
-            Piece::Gap(len) => {
-                at += len;
-                continue;
-            }
+            Piece::Gap(len) => at += len,
             Piece::Lexeme(kind, len) => {
                 let end = at + len;
                 let token = Token {
@@ -113,21 +106,12 @@ pub fn lexemes<'a, A: Allocator + Copy>(
                     start: at,
                     end,
                 };
-                lexemes.push(lexeme_of(bytes, token))?;
-                at = end;
-                continue;
+                return Next::Lexeme(lexeme_of(bytes, token), end);
             }
-            Piece::BadChar => {}
-            Piece::BadNumber => {}
-            Piece::OpenText => {}
+            Piece::BadChar => return Next::Fault,
+            Piece::BadNumber => return Next::Fault,
+            Piece::OpenText => return Next::Fault,
         }
-        return Ok(Lexed {
-            lexemes,
-            whole: false,
-        });
     }
-    Ok(Lexed {
-        lexemes,
-        whole: true,
-    })
+    Next::End
 }

@@ -3,7 +3,7 @@
 
 pub use fault::TextFault;
 pub use laws::{one_reading, spans_do_not_matter};
-pub use lexeme::{Lexed, Lexeme, lexemes};
+pub use lexeme::{Lexeme, Next, next_lexeme};
 pub use read::{Scan, scan_text, tokens};
 pub use token::{Kind, Token, text_of};
 

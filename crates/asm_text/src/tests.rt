@@ -1,5 +1,5 @@
 //! What no clause says: worked texts, the faults' own texts, and refused memory.
-use crate::{Kind, TextFault, lexemes, scan_text, tokens};
+use crate::{Kind, Lexeme, Next, TextFault, next_lexeme, scan_text, tokens};
 use refusing::Refusing;
 use std::alloc::{AllocError, Global};
 
@@ -245,20 +245,34 @@ fn each_refused_request_of_a_scan_is_told(rt: HostRuntime) {
 }
 
 #[test]
-fn each_refused_request_of_lexemes_is_told(rt: HostRuntime) {
-    for passed in 0..100u64 {
-        let heap = Refusing::new(rt.alloc(), passed);
-        match lexemes(&heap, EACH_LEXEME) {
-            Ok(all) => {
-                assert_eq!(rt; all.lexemes.len(), 15, "at request {passed}");
-                assert!(rt; !all.whole, "at request {passed}");
-            }
-            Err(AllocError) => assert!(rt; heap.refused(), "at request {passed}"),
-        }
-        if !heap.refused() {
-            assert!(rt; passed > 0, "no memory is asked for");
+fn lexemes_stand_one_behind_the_other(rt: HostRuntime) {
+    let all = [
+        Lexeme::Name("a"),
+        Lexeme::Number(1, "1"),
+        Lexeme::Back("1"),
+        Lexeme::Ahead("1"),
+        Lexeme::Text(b"\"b\""),
+        Lexeme::Comma,
+        Lexeme::Open,
+        Lexeme::Close,
+        Lexeme::Plus,
+        Lexeme::Minus,
+        Lexeme::Percent,
+        Lexeme::Colon,
+        Lexeme::Semicolon,
+        Lexeme::Other(b'@'),
+        Lexeme::LineEnd,
+    ];
+    let mut at = 0;
+    for wanted in all {
+        let Next::Lexeme(lexeme, end) = next_lexeme(EACH_LEXEME, at) else {
+            assert!(rt; false, "no lexeme at {at}");
             return;
-        }
+        };
+        assert_eq!(rt; lexeme, wanted, "at {at}");
+        at = end;
     }
-    assert!(rt; false, "memory is asked for without end");
+    assert_eq!(rt; next_lexeme(EACH_LEXEME, at), Next::Fault);
+    assert_eq!(rt; next_lexeme(" # end", 0), Next::End);
+    assert_eq!(rt; next_lexeme("a", 2), Next::End);
 }

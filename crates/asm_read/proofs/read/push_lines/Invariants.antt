@@ -1,11 +1,13 @@
-use Rattle.std.proofs.Common.{◌≡◌, ◌≤◌, ◌+◌, ◌-◌, [], take, drop, map}
-use Rattle.asm_text.specs.Lexemes.{seen}
-use Rattle.asm_read.specs.Statements.{source_from}
+use Rattle.std.proofs.Common.{◌≡◌, ◌≤◌, ◌+◌, ◌-◌, [], length, drop, map}
+use Rattle.asm_text.specs.Lexemes.{lexed, seen}
+use Rattle.asm_read.specs.Statements.{read_from}
 use Rattle.asm_read.proofs.read.push_lines.Given as goal
 
 abbrev pub invariant-lexemes : goal.invariant-lexemes
 invariant-lexemes g l = record {
-  ordered : l.start ≤ l.i;
-  counted : l.place.line ≤ l.i + 1;
-  same : source_from l.whole l.place l.statements.items (map seen (take (l.i - l.start) (drop l.start l.lexemes))) (map seen (drop l.i l.lexemes)) ≡ source_from l.whole l.initial.place l.initial.statements.items [] (map seen l.lexemes);
+  counted : l.place.line ≤ l.at + 1;
+  same : read_from l.place l.statements.items (map seen l.part.items) (lexed 0 (drop l.at l.text)) ≡ read_from l.initial.place l.initial.statements.items [] (lexed 0 l.text);
 }
+
+abbrev pub decreases-lexemes : goal.decreases-lexemes
+decreases-lexemes g l = length l.text - l.at
