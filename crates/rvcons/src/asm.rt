@@ -1,6 +1,6 @@
 //! Doing `asm`.
 
-ghost use Rattle.std.specs.Prelude.{◌-◌, ◌^◌, ◌<◌, All, IfOk, map};
+ghost use Rattle.std.specs.Prelude.{◌≡◌, ◌≢◌, ◌-◌, ◌^◌, ◌<◌, All, IfErr, IfOk, length, map};
 
 use crate::asm_line::AsmOrder;
 use crate::report::{cannot_open, cannot_read, cannot_write, out_of_memory};
@@ -14,8 +14,10 @@ fn open_sources<R: Files + AllocGlobal + Print + Eprint>(
     rt: &R,
     paths: &[&str],
 ) -> Result<Vec<ReaderSource<R::File>>, Status>
-    ensures { IfOk result (λ sources. All (λ n. n < 2 ^ 64 - 1)
+    ensures unfailed { IfOk result (λ sources. All (λ n. n < 2 ^ 64 - 1)
         (map ⟦<ReaderSource<R::File> as Source>⟧.failures sources.items)) }
+    ensures count { IfOk result (λ sources. length sources.items ≡ length paths.now) }
+    ensures err { IfErr result (λ status. status ≢ Status.Done) }
 {
     let mut sources = Vec::new(rt.alloc());
     'paths: for path in paths {

@@ -1,35 +1,48 @@
 //! What the program says on standard error.
 
+ghost use Rattle.std.specs.Prelude.{◌≡◌, ◌≢◌};
+ghost use Rattle.engines.specs.RunFaults.{status_of_fault};
+
 use crate::line::LineFault;
 use engines::{RunFault, Status};
 use std::io;
 
 /// Memory was refused.
-pub(crate) fn out_of_memory(rt: &impl Eprint) -> Status {
+pub(crate) fn out_of_memory(rt: &impl Eprint) -> Status
+    ensures { result ≡ Status.NoMemory }
+{
     say(rt, RunFault::Memory)
 }
 
 /// Says why a run gives no answer.
-pub(crate) fn say(rt: &impl Eprint, fault: RunFault) -> Status {
+pub(crate) fn say(rt: &impl Eprint, fault: RunFault) -> Status
+    ensures { result ≡ status_of_fault fault }
+{
     // Where standard error is closed, the status alone tells.
     let _ = eprintln!(rt; "rvcons: {fault}");
     fault.status()
 }
 
 /// A file can't be opened or read.
-pub(crate) fn cannot_read(rt: &impl Eprint, path: &str) -> Status {
+pub(crate) fn cannot_read(rt: &impl Eprint, path: &str) -> Status
+    ensures { result ≡ Status.Refused }
+{
     let _ = eprintln!(rt; "rvcons: cannot read {path}");
     Status::Refused
 }
 
 /// A file can't be written.
-pub(crate) fn cannot_write(rt: &impl Eprint, path: &str) -> Status {
+pub(crate) fn cannot_write(rt: &impl Eprint, path: &str) -> Status
+    ensures { result ≡ Status.Refused }
+{
     let _ = eprintln!(rt; "rvcons: cannot write {path}");
     Status::Refused
 }
 
 /// A file can't be opened, for want of memory or for another reason.
-pub(crate) fn cannot_open(rt: &impl Eprint, path: &str, error: &io::Error) -> Status {
+pub(crate) fn cannot_open(rt: &impl Eprint, path: &str, error: &io::Error) -> Status
+    ensures { result ≢ Status.Done }
+{
     if error.kind() == io::ErrorKind::OutOfMemory {
         out_of_memory(rt)
     } else {
@@ -71,7 +84,9 @@ pub(crate) fn refuse(rt: &(impl Print + Eprint), fault: &LineFault) -> Status {
 }
 
 /// The command line is wrong.
-pub(crate) fn bad_line(rt: &impl Eprint, why: &str) -> Status {
+pub(crate) fn bad_line(rt: &impl Eprint, why: &str) -> Status
+    ensures { result ≡ Status.BadLine }
+{
     let _ = eprintln!(rt; "rvcons: {why}");
     Status::BadLine
 }
