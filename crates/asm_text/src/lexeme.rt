@@ -4,6 +4,7 @@ ghost use Rattle.std.specs.Str.{IsAscii};
 ghost use Rattle.asm_text.specs.Lexemes.{IsNext, lexeme_in, seen, without_last};
 ghost use Rattle.asm_text.specs.Reading.{IsPieceOf};
 
+use crate::bytes::is_blank;
 use crate::piece::{Piece, front};
 use crate::token::{Kind, Token, text_of};
 use std::str;
@@ -48,10 +49,8 @@ fn ascii(bytes: &[u8]) -> &str
     requires { IsAscii bytes.now }
     ensures { result.now ≡ bytes.now }
 {
-    match str::from_utf8(bytes) {
-        Ok(text) => text,
-        Err(_) => unreachable!(),
-    }
+    // SAFETY: ASCII is UTF-8.
+    unsafe { str::from_utf8_unchecked(bytes) }
 }
 
 // What a token of this source says.
@@ -89,13 +88,18 @@ fn without_last(bytes: &[u8]) -> &[u8]
 }
 
 /// What stands in a source from a place on (in bytes), behind blanks and comments; its end, where the place is behind it.
-#[tactic(auto, using(crate::proofs::LexemeSteps::gap_step, crate::proofs::LexemeSteps::lexeme_step, crate::proofs::LexemeSteps::bad_char, crate::proofs::LexemeSteps::bad_number, crate::proofs::LexemeSteps::open_text, crate::proofs::LexemeSteps::at_end))]
+#[tactic(auto, using(crate::proofs::LexemeSteps::blank_step, crate::proofs::LexemeSteps::gap_step, crate::proofs::LexemeSteps::lexeme_step, crate::proofs::LexemeSteps::bad_char, crate::proofs::LexemeSteps::bad_number, crate::proofs::LexemeSteps::open_text, crate::proofs::LexemeSteps::at_end))]
 pub fn next_lexeme<'a>(source: &'a str, from: usize) -> Next<'a>
     ensures { IsNext source.now from result }
 {
     let bytes = source.as_bytes();
     let mut at = from;
     'gaps: while at < bytes.len() {
+        // Most gaps are blanks, which need not be told from what else may stand at the front.
+        if is_blank(bytes[at]) {
+            at += 1;
+            continue;
+        }
         let (_, rest) = bytes.split_at(at);
         match front(rest) {
             Piece::Gap(len) => at += len,

@@ -37,10 +37,8 @@ fn ascii(bytes: &[u8]) -> &str
     requires { IsAscii bytes.now }
     ensures { result.now ≡ bytes.now }
 {
-    match str::from_utf8(bytes) {
-        Ok(text) => text,
-        Err(_) => unreachable!(),
-    }
+    // SAFETY: ASCII is UTF-8.
+    unsafe { str::from_utf8_unchecked(bytes) }
 }
 
 /// A word or an address, shown as eight lower-case hexadecimal digits.
