@@ -1,3 +1,4 @@
+pub mod Beginnings
 pub mod Endings
 pub mod TextSteps
 pub mod Parts

@@ -2,7 +2,7 @@
 ghost use Rattle.std.specs.Prelude.{◌≡◌};
 ghost use Rattle.asm_read.specs.Heads.{head_of};
 
-use crate::names::find;
+use crate::names::{find, first_of};
 use crate::statement::Section;
 use isa_table::{AmoOp, BranchOp, ImmediateOp, LoadOp, RegisterOp, ShiftOp, StoreOp};
 
@@ -90,101 +90,19 @@ pub enum Head {
     Skipped,
 }
 
-const HEADS: [(&str, Head); 133] = [
-    ("lui", Head::Operation(Operation::Lui)),
+// Names that begin with `a`.
+const A_HEADS: [(&str, Head); 41] = [
     ("auipc", Head::Operation(Operation::Auipc)),
-    ("jal", Head::Operation(Operation::Jal)),
-    ("jalr", Head::Operation(Operation::Jalr)),
-    ("beq", Head::Operation(Operation::Branch(BranchOp::Beq))),
-    ("bne", Head::Operation(Operation::Branch(BranchOp::Bne))),
-    ("blt", Head::Operation(Operation::Branch(BranchOp::Blt))),
-    ("bge", Head::Operation(Operation::Branch(BranchOp::Bge))),
-    ("bltu", Head::Operation(Operation::Branch(BranchOp::Bltu))),
-    ("bgeu", Head::Operation(Operation::Branch(BranchOp::Bgeu))),
-    ("lb", Head::Operation(Operation::Load(LoadOp::Lb))),
-    ("lh", Head::Operation(Operation::Load(LoadOp::Lh))),
-    ("lw", Head::Operation(Operation::Load(LoadOp::Lw))),
-    ("lbu", Head::Operation(Operation::Load(LoadOp::Lbu))),
-    ("lhu", Head::Operation(Operation::Load(LoadOp::Lhu))),
-    ("sb", Head::Operation(Operation::Store(StoreOp::Sb))),
-    ("sh", Head::Operation(Operation::Store(StoreOp::Sh))),
-    ("sw", Head::Operation(Operation::Store(StoreOp::Sw))),
     (
         "addi",
         Head::Operation(Operation::Immediate(ImmediateOp::Addi)),
     ),
     (
-        "slti",
-        Head::Operation(Operation::Immediate(ImmediateOp::Slti)),
-    ),
-    (
-        "sltiu",
-        Head::Operation(Operation::Immediate(ImmediateOp::Sltiu)),
-    ),
-    (
-        "xori",
-        Head::Operation(Operation::Immediate(ImmediateOp::Xori)),
-    ),
-    (
-        "ori",
-        Head::Operation(Operation::Immediate(ImmediateOp::Ori)),
-    ),
-    (
         "andi",
         Head::Operation(Operation::Immediate(ImmediateOp::Andi)),
     ),
-    ("slli", Head::Operation(Operation::Shift(ShiftOp::Slli))),
-    ("srli", Head::Operation(Operation::Shift(ShiftOp::Srli))),
-    ("srai", Head::Operation(Operation::Shift(ShiftOp::Srai))),
     ("add", Head::Operation(Operation::Register(RegisterOp::Add))),
-    ("sub", Head::Operation(Operation::Register(RegisterOp::Sub))),
-    ("sll", Head::Operation(Operation::Register(RegisterOp::Sll))),
-    ("slt", Head::Operation(Operation::Register(RegisterOp::Slt))),
-    (
-        "sltu",
-        Head::Operation(Operation::Register(RegisterOp::Sltu)),
-    ),
-    ("xor", Head::Operation(Operation::Register(RegisterOp::Xor))),
-    ("srl", Head::Operation(Operation::Register(RegisterOp::Srl))),
-    ("sra", Head::Operation(Operation::Register(RegisterOp::Sra))),
-    ("or", Head::Operation(Operation::Register(RegisterOp::Or))),
     ("and", Head::Operation(Operation::Register(RegisterOp::And))),
-    ("fence", Head::Operation(Operation::Fence)),
-    ("fence.tso", Head::Operation(Operation::FenceTso)),
-    ("ecall", Head::Operation(Operation::Ecall)),
-    ("ebreak", Head::Operation(Operation::Ebreak)),
-    (
-        "lr.w",
-        Head::Operation(Operation::LoadReserved(false, false)),
-    ),
-    (
-        "lr.w.aq",
-        Head::Operation(Operation::LoadReserved(true, false)),
-    ),
-    (
-        "lr.w.rl",
-        Head::Operation(Operation::LoadReserved(false, true)),
-    ),
-    (
-        "lr.w.aqrl",
-        Head::Operation(Operation::LoadReserved(true, true)),
-    ),
-    (
-        "sc.w",
-        Head::Operation(Operation::StoreConditional(false, false)),
-    ),
-    (
-        "sc.w.aq",
-        Head::Operation(Operation::StoreConditional(true, false)),
-    ),
-    (
-        "sc.w.rl",
-        Head::Operation(Operation::StoreConditional(false, true)),
-    ),
-    (
-        "sc.w.aqrl",
-        Head::Operation(Operation::StoreConditional(true, true)),
-    ),
     (
         "amoswap.w",
         Head::Operation(Operation::Amo(AmoOp::Amoswap, false, false)),
@@ -329,15 +247,16 @@ const HEADS: [(&str, Head); 133] = [
         "amomaxu.w.aqrl",
         Head::Operation(Operation::Amo(AmoOp::Amomaxu, true, true)),
     ),
-    ("nop", Head::Operation(Operation::Nop)),
-    ("ret", Head::Operation(Operation::Ret)),
-    ("mv", Head::Operation(Operation::Unary(Unary::Move))),
-    ("not", Head::Operation(Operation::Unary(Unary::Not))),
-    ("neg", Head::Operation(Operation::Unary(Unary::Negate))),
-    ("seqz", Head::Operation(Operation::Unary(Unary::IsZero))),
-    ("snez", Head::Operation(Operation::Unary(Unary::IsNotZero))),
-    ("sltz", Head::Operation(Operation::Unary(Unary::IsNegative))),
-    ("sgtz", Head::Operation(Operation::Unary(Unary::IsPositive))),
+];
+
+// Names that begin with `b`.
+const B_HEADS: [(&str, Head); 16] = [
+    ("beq", Head::Operation(Operation::Branch(BranchOp::Beq))),
+    ("bne", Head::Operation(Operation::Branch(BranchOp::Bne))),
+    ("blt", Head::Operation(Operation::Branch(BranchOp::Blt))),
+    ("bge", Head::Operation(Operation::Branch(BranchOp::Bge))),
+    ("bltu", Head::Operation(Operation::Branch(BranchOp::Bltu))),
+    ("bgeu", Head::Operation(Operation::Branch(BranchOp::Bgeu))),
     (
         "beqz",
         Head::Operation(Operation::BranchZero(BranchOp::Beq)),
@@ -378,12 +297,85 @@ const HEADS: [(&str, Head); 133] = [
         "bleu",
         Head::Operation(Operation::SwappedBranch(BranchOp::Bgeu)),
     ),
-    ("j", Head::Operation(Operation::Jump)),
-    ("jr", Head::Operation(Operation::JumpRegister)),
+];
+
+// Names that begin with `l`.
+const L_HEADS: [(&str, Head); 12] = [
+    ("lui", Head::Operation(Operation::Lui)),
+    ("lb", Head::Operation(Operation::Load(LoadOp::Lb))),
+    ("lh", Head::Operation(Operation::Load(LoadOp::Lh))),
+    ("lw", Head::Operation(Operation::Load(LoadOp::Lw))),
+    ("lbu", Head::Operation(Operation::Load(LoadOp::Lbu))),
+    ("lhu", Head::Operation(Operation::Load(LoadOp::Lhu))),
+    (
+        "lr.w",
+        Head::Operation(Operation::LoadReserved(false, false)),
+    ),
+    (
+        "lr.w.aq",
+        Head::Operation(Operation::LoadReserved(true, false)),
+    ),
+    (
+        "lr.w.rl",
+        Head::Operation(Operation::LoadReserved(false, true)),
+    ),
+    (
+        "lr.w.aqrl",
+        Head::Operation(Operation::LoadReserved(true, true)),
+    ),
     ("li", Head::Li),
     ("la", Head::La),
-    ("call", Head::Call),
-    ("tail", Head::Tail),
+];
+
+// Names that begin with `s`.
+const S_HEADS: [(&str, Head); 22] = [
+    ("sb", Head::Operation(Operation::Store(StoreOp::Sb))),
+    ("sh", Head::Operation(Operation::Store(StoreOp::Sh))),
+    ("sw", Head::Operation(Operation::Store(StoreOp::Sw))),
+    (
+        "slti",
+        Head::Operation(Operation::Immediate(ImmediateOp::Slti)),
+    ),
+    (
+        "sltiu",
+        Head::Operation(Operation::Immediate(ImmediateOp::Sltiu)),
+    ),
+    ("slli", Head::Operation(Operation::Shift(ShiftOp::Slli))),
+    ("srli", Head::Operation(Operation::Shift(ShiftOp::Srli))),
+    ("srai", Head::Operation(Operation::Shift(ShiftOp::Srai))),
+    ("sub", Head::Operation(Operation::Register(RegisterOp::Sub))),
+    ("sll", Head::Operation(Operation::Register(RegisterOp::Sll))),
+    ("slt", Head::Operation(Operation::Register(RegisterOp::Slt))),
+    (
+        "sltu",
+        Head::Operation(Operation::Register(RegisterOp::Sltu)),
+    ),
+    ("srl", Head::Operation(Operation::Register(RegisterOp::Srl))),
+    ("sra", Head::Operation(Operation::Register(RegisterOp::Sra))),
+    (
+        "sc.w",
+        Head::Operation(Operation::StoreConditional(false, false)),
+    ),
+    (
+        "sc.w.aq",
+        Head::Operation(Operation::StoreConditional(true, false)),
+    ),
+    (
+        "sc.w.rl",
+        Head::Operation(Operation::StoreConditional(false, true)),
+    ),
+    (
+        "sc.w.aqrl",
+        Head::Operation(Operation::StoreConditional(true, true)),
+    ),
+    ("seqz", Head::Operation(Operation::Unary(Unary::IsZero))),
+    ("snez", Head::Operation(Operation::Unary(Unary::IsNotZero))),
+    ("sltz", Head::Operation(Operation::Unary(Unary::IsNegative))),
+    ("sgtz", Head::Operation(Operation::Unary(Unary::IsPositive))),
+];
+
+// Names that begin with a dot.
+const DOT_HEADS: [(&str, Head); 23] = [
     (".text", Head::Section(Section::Text)),
     (".data", Head::Section(Section::Data)),
     (".bss", Head::Section(Section::Zeros)),
@@ -409,10 +401,46 @@ const HEADS: [(&str, Head); 133] = [
     (".ident", Head::Skipped),
 ];
 
+// The other names.
+const OTHER_HEADS: [(&str, Head); 19] = [
+    ("jal", Head::Operation(Operation::Jal)),
+    ("jalr", Head::Operation(Operation::Jalr)),
+    (
+        "xori",
+        Head::Operation(Operation::Immediate(ImmediateOp::Xori)),
+    ),
+    (
+        "ori",
+        Head::Operation(Operation::Immediate(ImmediateOp::Ori)),
+    ),
+    ("xor", Head::Operation(Operation::Register(RegisterOp::Xor))),
+    ("or", Head::Operation(Operation::Register(RegisterOp::Or))),
+    ("fence", Head::Operation(Operation::Fence)),
+    ("fence.tso", Head::Operation(Operation::FenceTso)),
+    ("ecall", Head::Operation(Operation::Ecall)),
+    ("ebreak", Head::Operation(Operation::Ebreak)),
+    ("nop", Head::Operation(Operation::Nop)),
+    ("ret", Head::Operation(Operation::Ret)),
+    ("mv", Head::Operation(Operation::Unary(Unary::Move))),
+    ("not", Head::Operation(Operation::Unary(Unary::Not))),
+    ("neg", Head::Operation(Operation::Unary(Unary::Negate))),
+    ("j", Head::Operation(Operation::Jump)),
+    ("jr", Head::Operation(Operation::JumpRegister)),
+    ("call", Head::Call),
+    ("tail", Head::Tail),
+];
+
 /// What a name at the front of a statement says, if it says anything.
 #[tactic(auto, unfolding(crate::specs::Heads::head_of))]
 pub fn head_of(name: &str) -> Option<Head>
     ensures { result ≡ head_of name.now }
 {
-    find(&HEADS, name)
+    match first_of(name) {
+        b'a' => find(&A_HEADS, name),
+        b'b' => find(&B_HEADS, name),
+        b'l' => find(&L_HEADS, name),
+        b's' => find(&S_HEADS, name),
+        b'.' => find(&DOT_HEADS, name),
+        _ => find(&OTHER_HEADS, name),
+    }
 }

@@ -5,18 +5,8 @@ ghost use Rattle.asm_read.specs.Names.{fence_bits, fence_set_of, first_named, re
 
 use isa_table::{FenceSet, Reg};
 
-// Registers by number and by the name of the calling convention.
-const REGISTERS: [(&str, u8); 65] = [
-    ("zero", 0),
-    ("ra", 1),
-    ("sp", 2),
-    ("gp", 3),
-    ("tp", 4),
-    ("t0", 5),
-    ("t1", 6),
-    ("t2", 7),
-    ("s0", 8),
-    ("s1", 9),
+// Registers whose names begin with `a`, and so on; the first are named by the calling convention, `x0` to `x31` by number.
+const A_REGISTERS: [(&str, u8); 8] = [
     ("a0", 10),
     ("a1", 11),
     ("a2", 12),
@@ -25,6 +15,12 @@ const REGISTERS: [(&str, u8); 65] = [
     ("a5", 15),
     ("a6", 16),
     ("a7", 17),
+];
+
+const S_REGISTERS: [(&str, u8); 13] = [
+    ("sp", 2),
+    ("s0", 8),
+    ("s1", 9),
     ("s2", 18),
     ("s3", 19),
     ("s4", 20),
@@ -35,10 +31,20 @@ const REGISTERS: [(&str, u8); 65] = [
     ("s9", 25),
     ("s10", 26),
     ("s11", 27),
+];
+
+const T_REGISTERS: [(&str, u8); 8] = [
+    ("tp", 4),
+    ("t0", 5),
+    ("t1", 6),
+    ("t2", 7),
     ("t3", 28),
     ("t4", 29),
     ("t5", 30),
     ("t6", 31),
+];
+
+const X_REGISTERS: [(&str, u8); 32] = [
     ("x0", 0),
     ("x1", 1),
     ("x2", 2),
@@ -71,8 +77,9 @@ const REGISTERS: [(&str, u8); 65] = [
     ("x29", 29),
     ("x30", 30),
     ("x31", 31),
-    ("fp", 8),
 ];
+
+const OTHER_REGISTERS: [(&str, u8); 4] = [("zero", 0), ("ra", 1), ("gp", 3), ("fp", 8)];
 
 // The parts of `iorw` by their bits: input 8, output 4, read 2, write 1.
 const FENCE_SETS: [(&str, u8); 15] = [
@@ -92,6 +99,17 @@ const FENCE_SETS: [(&str, u8); 15] = [
     ("ior", 14),
     ("iorw", 15),
 ];
+
+/// The first byte of a text, or 0.
+pub fn first_of(text: &str) -> u8
+    ensures { result ≡ slice_index text.now 0 }
+{
+    let bytes = text.as_bytes();
+    if bytes.is_empty() {
+        return 0;
+    }
+    bytes[0]
+}
 
 // The last byte of a text, or 0.
 #[inline(always)]
@@ -132,7 +150,13 @@ pub fn find<V: Copy>(rows: &[(&str, V)], name: &str) -> Option<V>
 fn register_number(name: &str) -> Option<u8>
     ensures { result ≡ register_number name.now }
 {
-    find(&REGISTERS, name)
+    match first_of(name) {
+        b'a' => find(&A_REGISTERS, name),
+        b's' => find(&S_REGISTERS, name),
+        b't' => find(&T_REGISTERS, name),
+        b'x' => find(&X_REGISTERS, name),
+        _ => find(&OTHER_REGISTERS, name),
+    }
 }
 
 // What the table of sets has for a name.
