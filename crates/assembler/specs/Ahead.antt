@@ -1,5 +1,5 @@
 -- Where references ahead lead, found from the last statement to the first.
-use Rattle.std.specs.Prelude.{ℕ, List, [], ◌∷◌, Option, Some, None, if◌then◌else◌}
+use Rattle.std.specs.Prelude.{ℕ, ◌%◌, ◌^◌, List, [], ◌∷◌, Option, Some, None, if◌then◌else◌}
 use Rattle.asm_read.specs.Statement.{StatementValue, BodyValue}
 use Rattle.asm_read.specs.declared.operand.Target.{Target}
 use Rattle.asm_read.specs.declared.operand.Target.TheVariants as targets
@@ -10,17 +10,17 @@ use Rattle.assembler.specs.declared.locals.Place.{Place}
 use Rattle.assembler.specs.Cursors.{address, step}
 use Rattle.assembler.specs.Locals.{Local, in_source, place_of, is_local, back_of}
 
--- the cursor before each statement
-unfoldable pub cursors : Cursor → List StatementValue → List Cursor
-cursors c [] = []
-cursors c (s ∷ ss) = c ∷ cursors (step c s.body) ss
+-- the address of each statement, modulo 2^32
+unfoldable pub addresses : Cursor → List StatementValue → List ℕ
+addresses c [] = []
+addresses c (s ∷ ss) = address c % 2 ^ 32 ∷ addresses (step c s.body) ss
 
--- the next local label of these digits among statements with these cursors
-unfoldable pub ahead_in : List Cursor → List StatementValue → List ℕ → Option Place
+-- the next local label of these digits among statements at these addresses
+unfoldable pub ahead_in : List ℕ → List StatementValue → List ℕ → Option Place
 ahead_in [] ss digits = None
-ahead_in (c ∷ cs) [] digits = None
-ahead_in (c ∷ cs) (s ∷ ss) digits =
-    if is_local digits s.body then Some (place_of s.source (address c)) else ahead_in cs ss digits
+ahead_in (at ∷ ats) [] digits = None
+ahead_in (at ∷ ats) (s ∷ ss) digits =
+    if is_local digits s.body then Some (place_of s.source at) else ahead_in ats ss digits
 
 -- the address of a target that is a reference ahead, by the next label of its digits
 unfoldable pub target_ahead : (List ℕ → Option Place) → ℕ → Target → Option ℕ
@@ -36,10 +36,10 @@ reference next source (body.Instruction (read.Branch op rs1 rs2 target)) = targe
 reference next source b = None
 
 -- those of all statements
-unfoldable pub references : List Cursor → List StatementValue → List (Option ℕ)
+unfoldable pub references : List ℕ → List StatementValue → List (Option ℕ)
 references [] ss = []
-references (c ∷ cs) [] = []
-references (c ∷ cs) (s ∷ ss) = reference (ahead_in cs ss) s.source s.body ∷ references cs ss
+references (at ∷ ats) [] = []
+references (at ∷ ats) (s ∷ ss) = reference (ahead_in ats ss) s.source s.body ∷ references ats ss
 
 -- the address of a target that is a local reference, where one ahead has this address
 unfoldable pub target_by : List Local → Option ℕ → ℕ → Target → Option ℕ

@@ -3,7 +3,7 @@ ghost use Rattle.std.specs.Prelude.{◌≡◌, ◌^◌, ◌∷◌, IfOk, List, O
 ghost use Rattle.assembler.specs.Program.{symbol_list};
 ghost use Rattle.assembler.specs.Operands.{found};
 ghost use Rattle.assembler.specs.Cursors.{IsWithin};
-ghost use Rattle.assembler.specs.Ahead.{cursors, target_ahead, reference, references};
+ghost use Rattle.assembler.specs.Ahead.{addresses, target_ahead, reference, references};
 
 use crate::cursor::{Cursor, count_of};
 use crate::locals::{Places, in_source, note};
@@ -11,22 +11,22 @@ use crate::table::{empty, look_up};
 use asm_read::{Body, Instruction, Statement, Target};
 use std::alloc::{AllocError, Allocator};
 
-/// The cursor before each statement.
-#[tactic(auto, using(crate::proofs::Within::within_count, crate::proofs::Within::within_next), unfolding(crate::specs::Ahead::cursors))]
-fn cursors_of<A: Allocator>(
+/// The address of each statement, modulo 2^32.
+#[tactic(auto, using(crate::proofs::Within::within_count, crate::proofs::Within::within_next), unfolding(crate::specs::Ahead::addresses))]
+fn addresses_of<A: Allocator>(
     alloc: A,
     start: Cursor,
     statements: &[Statement<'_, A>],
-) -> Result<Vec<Cursor, A>, AllocError>
+) -> Result<Vec<u32, A>, AllocError>
     requires { IsWithin (2 ^ 63) start }
-    ensures { IfOk result (λ all. all.items ≡ cursors start statements.now) }
+    ensures { IfOk result (λ all. all.items ≡ addresses start statements.now) }
 {
     // The bound on the statements bounds what the cursor reaches.
     let _count = count_of(statements);
     let mut all = Vec::new(alloc);
     let mut cursor = start;
     'statements: for statement in statements {
-        all.push(cursor)?;
+        all.push((cursor.address() % 0x1_0000_0000) as u32)?;
         cursor = cursor.step(statement);
     }
     Ok(all)
@@ -61,11 +61,11 @@ fn reference<A: Allocator>(after: &Places<A>, statement: &Statement<'_, A>) -> O
 /// so that each statement is looked at once.
 fn references_of<A: Allocator + Copy>(
     alloc: A,
-    cursors: &[Cursor],
+    addresses: &[u32],
     statements: &[Statement<'_, A>],
 ) -> Result<Vec<Option<u32>, A>, AllocError>
-    requires { length cursors.now ≡ length statements.now }
-    ensures { IfOk result (λ all. reverse all.items ≡ references cursors.now statements.now) }
+    requires { length addresses.now ≡ length statements.now }
+    ensures { IfOk result (λ all. reverse all.items ≡ references addresses.now statements.now) }
 {
     let mut after = empty(alloc);
     let mut all = Vec::new(alloc);
@@ -73,15 +73,14 @@ fn references_of<A: Allocator + Copy>(
     'statements: for done in 0..count {
         let i = count - 1 - done;
         let statement = &statements[i];
-        let cursor = cursors[i];
         all.push(reference(&after, statement))?;
-        note(alloc, &mut after, cursor.address(), statement)?;
+        note(alloc, &mut after, u128::from(addresses[i]), statement)?;
     }
     Ok(all)
 }
 
 /// The addresses of all references ahead, the last statement's first, where the first statement stands at a cursor.
-#[tactic(auto, using(crate::proofs::AheadLemmas::length_cursors))]
+#[tactic(auto, using(crate::proofs::AheadLemmas::length_addresses))]
 pub fn aheads_of<A: Allocator + Copy>(
     alloc: A,
     start: Cursor,
@@ -89,10 +88,10 @@ pub fn aheads_of<A: Allocator + Copy>(
 ) -> Result<Vec<Option<u32>, A>, AllocError>
     requires { IsWithin (2 ^ 63) start }
     ensures { IfOk result (λ all. reverse all.items
-        ≡ references (cursors start statements.now) statements.now) }
+        ≡ references (addresses start statements.now) statements.now) }
 {
-    let cursors = cursors_of(alloc, start, statements)?;
-    references_of(alloc, cursors.as_slice(), statements)
+    let addresses = addresses_of(alloc, start, statements)?;
+    references_of(alloc, addresses.as_slice(), statements)
 }
 
 /// Takes the last of the references, which is the next statement's.

@@ -7,6 +7,6 @@ use Rattle.assembler.proofs.ahead.references_of.Given as goal
 
 abbrev pub invariant-statements : goal.invariant-statements
 invariant-statements g l = record {
-  labels : (q : List ℕ) → found (symbol_list l.after.entries) q ≡ ahead_in (drop (l.count - l.done) l.cursors) (drop (l.count - l.done) l.statements) q;
-  made : reverse l.all.items ≡ references (drop (l.count - l.done) l.cursors) (drop (l.count - l.done) l.statements);
+  labels : (q : List ℕ) → found (symbol_list l.after.entries) q ≡ ahead_in (drop (l.count - l.done) l.addresses) (drop (l.count - l.done) l.statements) q;
+  made : reverse l.all.items ≡ references (drop (l.count - l.done) l.addresses) (drop (l.count - l.done) l.statements);
 }
