@@ -205,7 +205,8 @@ fn words_are_laid_out(rt: HostRuntime) {
 
 #[test]
 fn devices_pass_bytes_on(rt: HostRuntime) {
-    let bytes = [7u8; 1300];
+    // Three pieces.
+    let bytes = [7u8; 40_000];
     let mut source = MemorySource::new(&bytes);
     match read_all(rt.alloc(), &mut source) {
         Ok(read) => assert_eq!(rt; read.as_slice(), bytes.as_slice()),
@@ -225,7 +226,8 @@ fn devices_pass_bytes_on(rt: HostRuntime) {
 
 #[test]
 fn a_failing_device_is_told(rt: HostRuntime) {
-    let bytes = [7u8; 1300];
+    // Three pieces.
+    let bytes = [7u8; 40_000];
     for passed in 0..4u64 {
         let mut source = Failing::new(MemorySource::new(&bytes), passed);
         match read_all(rt.alloc(), &mut source) {

@@ -8,7 +8,7 @@ use crate::device::{DeviceFault, Sink, Source};
 use std::alloc::Allocator;
 
 // How many bytes are asked for in a call.
-const PIECE: usize = 512;
+const PIECE: usize = 16384;
 
 /// Why not all was read.
 #[derive(Clone, Copy, PartialEq, Eq, Debug)]
