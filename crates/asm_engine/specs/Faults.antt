@@ -1,8 +1,8 @@
 -- The faults of assembling, and their statuses.
 use Rattle.asm_read.specs.declared.fault.AsmFault.{AsmFault}
 use Rattle.asm_read.specs.declared.fault.AsmFault.TheVariants as assembler
-use Rattle.engines.specs.declared.status.Status.{Status}
-use Rattle.engines.specs.declared.status.Status.TheVariants as status
+use Rattle.devices.specs.declared.status.Status.{Status}
+use Rattle.devices.specs.declared.status.Status.TheVariants as status
 use Rattle.asm_engine.specs.declared.fault.AssemblyFault.{AssemblyFault}
 use Rattle.asm_engine.specs.declared.fault.AssemblyFault.TheVariants as faults
 

@@ -8,8 +8,8 @@ ghost use Rattle.asm_engine.specs.Sources.{all_known, IfRead, RisesAt};
 use crate::fault::AssemblyFault;
 use crate::sources::read_sources;
 use assembler::{Program, assemble};
+use devices::{Sink, Source, Status, write_all};
 use elf_writer::write_elf;
-use engines::{Sink, Source, Status, write_all};
 use round_trip::list_source;
 use std::alloc::{AllocError, Allocator};
 

@@ -4,7 +4,7 @@ ghost use Rattle.std.specs.Prelude.{◌≡◌};
 ghost use Rattle.asm_engine.specs.Faults.{fault_of_assembler, status_of_fault};
 
 use asm_read::{AsmFault, Fault};
-use engines::Status;
+use devices::Status;
 use thiserror::Error;
 
 /// Why sources give no file and no listing. The text of each is what stands after `rvcons: ` on standard error, but that the

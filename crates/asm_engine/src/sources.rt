@@ -4,7 +4,7 @@ ghost use Rattle.std.specs.Prelude.{◌≡◌, ◌-◌, ◌^◌, ◌<◌, Some, 
 ghost use Rattle.asm_engine.specs.Sources.{all_known, first_other, IfNotText, IfRead, IsOfReading, RisesAt};
 
 use crate::fault::AssemblyFault;
-use engines::{ReadFault, Source, read_all};
+use devices::{ReadFault, Source, read_all};
 use std::alloc::Allocator;
 
 /// Reads each source to its end, in order. The first that can't be read, or is no text, decides.

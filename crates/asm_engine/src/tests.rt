@@ -1,6 +1,6 @@
 //! What no clause says: worked sources, their files as they load, and devices and memory that fail.
 use crate::{AssemblyFault, assembled_file, listing_engine, write_file};
-use engines::{Failing, FullSink, MemorySink, MemorySource, Status};
+use devices::{Failing, FullSink, MemorySink, MemorySource, Status};
 use loader::{ElfFault, load};
 use protocol_library::{Kind, certify, source};
 use refusing::Refusing;

@@ -9,7 +9,7 @@ use Rattle.hart_step.specs.Hart.{HartValue}
 use Rattle.hex_word.specs.Digits.{word_text}
 use Rattle.operand_names.specs.Names.{abi}
 use Rattle.listing.specs.Lines.{line_text}
-use Rattle.engines.specs.Ends.{end_line}
+use Rattle.ends.specs.Ends.{end_line}
 use Rattle.debugger.specs.Words.{word_at}
 use Rattle.debugger.specs.declared.stop.Stop.{Stop}
 use Rattle.debugger.specs.declared.stop.Stop.TheVariants.{Break, Watch}

@@ -3,7 +3,7 @@ ghost use Rattle.std.specs.Prelude.{◌≡◌, ◌<◌, ◌++◌, OnOk, IfOk, st
 ghost use Rattle.hart_step.specs.Hart.{hart_of, registers_of};
 ghost use Rattle.debug_commands.specs.Texts.{register_entry, registers_from, hart_text};
 
-use engines::EndLine;
+use ends::EndLine;
 use hart_step::Hart;
 use hex_word::Word;
 use isa_table::Reg;

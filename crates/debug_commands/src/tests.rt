@@ -1,7 +1,7 @@
 //! What no clause says: worked sessions, line by line, and refused memory.
 use crate::{Answer, DebugFault, command};
 use debugger::Debugger;
-use engines::{hex_image, read_hex};
+use programs::{hex_image, read_hex};
 use refusing::Refusing;
 use reservations::MAX_HARTS;
 use scheduler::read_choices;

@@ -3,9 +3,9 @@ use Rattle.std.proofs.Common.{◌≡◌, ℕ, List, Option, Some, None, IfSome, 
 use Rattle.std.specs.Io.KnownBytes.{Consumes, IsAtEnd}
 use Rattle.loader.specs.Image.{ImageValue}
 use Rattle.debugger.specs.Session.{Session}
-use Rattle.engines.specs.Program.{program_of}
-use Rattle.engines.specs.declared.program.ProgramForm.TheVariants as form
-use Rattle.engines.proofs.CertifiedLemmas.{read_known}
+use Rattle.programs.specs.Program.{program_of}
+use Rattle.programs.specs.declared.program.ProgramForm.TheVariants as form
+use Rattle.devices.proofs.ReadLemmas.{read_known}
 use Rattle.debug_engine.specs.Opening.{after_program, opened, Opening}
 
 -- the bytes that were read begin this session

@@ -10,13 +10,13 @@ use Rattle.machine.specs.declared.choice.Choice.{Choice}
 use Rattle.scheduler.specs.Reading.{choices_of}
 use Rattle.scheduler.specs.declared.choice_text.ChoiceFault.{ChoiceFault}
 use Rattle.debugger.specs.Session.{Session}
-use Rattle.engines.specs.Program.{program_of}
-use Rattle.engines.specs.RunFaults.{fault_of_choices, status_of_fault}
-use Rattle.engines.specs.declared.program.ProgramForm.TheVariants as form
-use Rattle.engines.specs.declared.run_fault.RunFault.{RunFault}
-use Rattle.engines.specs.declared.run_fault.RunFault.TheVariants as fault
-use Rattle.engines.specs.declared.status.Status.{Status}
-use Rattle.engines.specs.declared.status.Status.TheVariants as status
+use Rattle.programs.specs.Program.{program_of}
+use Rattle.programs.specs.RunFaults.{fault_of_choices, status_of_fault}
+use Rattle.programs.specs.declared.program.ProgramForm.TheVariants as form
+use Rattle.programs.specs.declared.run_fault.RunFault.{RunFault}
+use Rattle.programs.specs.declared.run_fault.RunFault.TheVariants as fault
+use Rattle.devices.specs.declared.status.Status.{Status}
+use Rattle.devices.specs.declared.status.Status.TheVariants as status
 use Rattle.debug_engine.specs.Talk.{answers, Begins}
 use Rattle.debug_engine.specs.declared.fault.DebugEngineFault.{DebugEngineFault}
 use Rattle.debug_engine.specs.declared.fault.DebugEngineFault.TheVariants as engine

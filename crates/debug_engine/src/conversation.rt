@@ -10,7 +10,7 @@ ghost use Rattle.debug_engine.specs.Talk.{answers, fault_line, outcome_to, Begin
 use crate::line::{MOST_LINE, read_line};
 use debug_commands::{Answer, DebugFault, command};
 use debugger::Debugger;
-use engines::{ReadFault, Sink, Source, write_all};
+use devices::{ReadFault, Sink, Source, write_all};
 use std::alloc::{AllocError, Allocator};
 
 /// Why a conversation ended early.

@@ -2,17 +2,16 @@
 
 ghost use Rattle.std.specs.Prelude.{◌≡◌, ◌≢◌, ◌^◌, ◌-◌, ◌<◌, Ok, Err, IfOk, IfErr, IfSome};
 ghost use Rattle.std.specs.Io.KnownBytes.{Keeps};
-ghost use Rattle.engines.specs.Program.{program_of};
-ghost use Rattle.engines.specs.Run.{IfReads, IsRefusal};
+ghost use Rattle.programs.specs.Program.{program_of};
+ghost use Rattle.programs.specs.RunFaults.{IfReads, IsRefusal};
 ghost use Rattle.loader.specs.Image.{ImageValue};
 ghost use Rattle.debug_engine.specs.Opening.{opened, Answers, BeginsToAnswer, IfCut, IfUnopened};
 
 use crate::conversation::{TalkFault, talk};
 use crate::fault::DebugEngineFault;
 use crate::opening::open_session;
-use engines::{
-    Input, ProgramForm, ReadFault, RunFault, Sink, Source, Status, read_all, read_image,
-};
+use devices::{ReadFault, Sink, Source, Status, read_all};
+use programs::{Input, ProgramForm, RunFault, read_image};
 use std::alloc::Allocator;
 
 /// `debug`: reads the file to its end, and where it is a program, the choice text to its end; then answers each line of the

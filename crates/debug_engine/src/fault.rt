@@ -3,7 +3,8 @@
 ghost use Rattle.std.specs.Prelude.{◌≡◌};
 ghost use Rattle.debug_engine.specs.Opening.{status_of};
 
-use engines::{RunFault, Status};
+use devices::Status;
+use programs::RunFault;
 use thiserror::Error;
 
 /// Why a session isn't held to its end. The text of each is what stands after `rvcons: ` on standard error, but that the

@@ -5,7 +5,7 @@ ghost use Rattle.std.specs.Io.KnownBytes.{IsAtEnd};
 ghost use Rattle.std.specs.Str.Lines.{strip_carriage_return};
 ghost use Rattle.debug_engine.specs.Lines.{TakesLine, TakesNone};
 
-use engines::{DeviceFault, ReadFault, Source};
+use devices::{DeviceFault, ReadFault, Source};
 use std::alloc::Allocator;
 
 /// A line of more bytes, its end not counted, is no command.

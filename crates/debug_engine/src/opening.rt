@@ -5,8 +5,8 @@ ghost use Rattle.debugger.specs.Session.{session};
 ghost use Rattle.debug_engine.specs.Opening.{after_program};
 
 use debugger::Debugger;
-use engines::RunFault;
 use loader::Image;
+use programs::RunFault;
 use reservations::MAX_HARTS;
 use scheduler::read_choices;
 use std::alloc::Allocator;

@@ -1,7 +1,8 @@
 //! What no clause says: a transcript, lines that are no text, devices that fail, and refused memory.
 use crate::{DebugEngineFault, MOST_LINE, debug_engine};
-use engines::{Failing, Input, MemorySink, MemorySource, RunFault, Status};
+use devices::{Failing, MemorySink, MemorySource, Status};
 use loader::ElfFault;
+use programs::{Input, RunFault};
 use refusing::Refusing;
 use std::alloc::{AllocError, Allocator};
 

@@ -11,15 +11,15 @@ use Rattle.reservations.specs.declared.reserve.TheConstants.{MAX_HARTS}
 use Rattle.campaigns.specs.Campaign.{SeedEnds, IsStartable, RefusesCampaign, plain_runs}
 use Rattle.machine.specs.declared.start.StartFault.{StartFault}
 use Rattle.machine.specs.declared.start.StartFault.TheVariants as start
-use Rattle.engines.specs.RunFaults.{fault_of_start}
+use Rattle.programs.specs.RunFaults.{fault_of_start}
 use Rattle.protocol_library.specs.declared.kind.Kind.{Kind}
 use Rattle.engines.specs.Campaign.{Begins, after_image, bad_runs, campaign_answer, is_bad, one_if, run_verdict, seed_entry, seed_lines, shown_runs}
-use Rattle.engines.specs.Program.{program_of}
+use Rattle.programs.specs.Program.{program_of}
 use Rattle.engines.specs.Run.{Answer, BeginsToPrint, Prints}
-use Rattle.engines.specs.declared.status.Status.{Status}
-use Rattle.engines.specs.declared.program.ProgramForm.TheVariants as form
-use Rattle.engines.specs.declared.run_fault.RunFault.{RunFault}
-use Rattle.engines.specs.declared.run_fault.RunFault.TheVariants as fault
+use Rattle.devices.specs.declared.status.Status.{Status}
+use Rattle.programs.specs.declared.program.ProgramForm.TheVariants as form
+use Rattle.programs.specs.declared.run_fault.RunFault.{RunFault}
+use Rattle.programs.specs.declared.run_fault.RunFault.TheVariants as fault
 
 -- what is appended is also a beginning of anything that goes on after it
 pub begins_at : (old now : Option (List ℕ)) (xs rest : List ℕ) → Appends old now xs → Begins (xs ++ rest) old now

@@ -3,6 +3,7 @@ use Rattle.std.proofs.Common.{zero, suc, [], ◌∷◌, ◌+◌, get_or, IfOk, �
 use Rattle.std.specs.List.{All}
 use Rattle.std.specs.Option.{IfSome}
 use Rattle.std.specs.Io.KnownBytes.{Consumes, IsAtEnd}
+use Rattle.devices.proofs.ReadLemmas.{read_known}
 use Rattle.reservations.specs.declared.reserve.TheConstants.{MAX_HARTS}
 use Rattle.loader.specs.Image.{ImageValue}
 use Rattle.hart_step.specs.Hart.{HartValue}
@@ -21,14 +22,14 @@ use Rattle.proto_lrsc.proofs.Race.{agrees_in as lrsc_agrees_in}
 use Rattle.proto_adopt.proofs.Alone.{agrees_in as adopt_agrees_in}
 use Rattle.scheduler.specs.Reading.{choices_of}
 use Rattle.engines.specs.Certified.{AnswersKept, IsCertified, IsMeantFor}
-use Rattle.engines.specs.Ends.{ends_of, verdict_on}
-use Rattle.engines.specs.Program.{program_of}
+use Rattle.ends.specs.Ends.{ends_of, verdict_on}
+use Rattle.programs.specs.Program.{program_of}
 use Rattle.engines.specs.Run.{Answer, after_choices, after_program, run_answer, shown_with, world_after, Prints}
 use Rattle.engines.specs.Campaign.{after_image, bad_runs, campaign_answer, is_bad, one_if, shown_runs}
-use Rattle.engines.specs.declared.program.ProgramForm.{ProgramForm}
-use Rattle.engines.specs.declared.program.ProgramForm.TheVariants as form
-use Rattle.engines.specs.declared.status.Status.{Status}
-use Rattle.engines.specs.declared.status.Status.TheVariants as status
+use Rattle.programs.specs.declared.program.ProgramForm.{ProgramForm}
+use Rattle.programs.specs.declared.program.ProgramForm.TheVariants as form
+use Rattle.devices.specs.declared.status.Status.{Status}
+use Rattle.devices.specs.declared.status.Status.TheVariants as status
 use Rattle.campaigns.specs.Campaign.{SeedEnds, plain_run, plain_runs, runs_of}
 use Rattle.rand_core.specs.Steps.{first_words}
 use Rattle.rand_pcg.specs.Pcg.{pcg32}
@@ -36,8 +37,8 @@ use Rattle.scheduler.specs.Schedules.{choice_of_word, choices_drawn, generator_o
 use Rattle.std.specs.List.{range_with_len}
 use Rattle.std.proofs.lemmas.List.{get_or-map, length-map}
 use Rattle.std.proofs.lemmas.Nat.{mod_below}
-use Rattle.engines.specs.declared.run_fault.RunFault.{RunFault}
-use Rattle.engines.specs.declared.run_fault.RunFault.TheVariants as fault
+use Rattle.programs.specs.declared.run_fault.RunFault.{RunFault}
+use Rattle.programs.specs.declared.run_fault.RunFault.TheVariants as fault
 
 -- a run of an object keeps the rule of its kind
 pub object_keeps : (kind : Kind) (image : ImageValue) (inputs : List ℕ) (choices : List Choice) → IsSame image (image_of kind)
@@ -156,13 +157,6 @@ certified_done (Ok s) rule inputs first count steps bytes old new words prints =
     told (Ok answer) p done = sym p.0 ∙ done
     told (Err why) p done = absurd p
 certified_done (Err why) rule inputs first count steps bytes old new words prints = prints
-
--- ---- what holds of the bytes that were read to the end holds of those that a device had left
-pub read_known : (P : List ℕ → Type 0) (old new : Option (List ℕ)) (bytes : List ℕ) → Consumes old new bytes → IsAtEnd new → P bytes → IfSome old P
-read_known P None new bytes taken ended h = tt
-read_known P (Some left) new bytes taken ended h =
-    let same : bytes ≡ left = search (rules, taken, ended) in
-    subst P same h
 
 pub done_known : (r : Result Status RunFault) (P : List ℕ → Type 0) (old new : Option (List ℕ)) (bytes : List ℕ) → Consumes old new bytes → IsAtEnd new
     → IfOk r (λ s. P bytes → s ≡ status.Done) → IfOk r (λ s. IfSome old (λ p. P p → s ≡ status.Done))

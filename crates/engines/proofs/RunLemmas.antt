@@ -9,10 +9,10 @@ use Rattle.machine.specs.World.{World}
 use Rattle.machine.specs.Start.{started}
 use Rattle.machine.proofs.RunLaws.{length-started}
 use Rattle.protocol_library.specs.declared.kind.Kind.{Kind}
-use Rattle.engines.specs.Program.{program_of}
+use Rattle.programs.specs.Program.{program_of}
 use Rattle.engines.specs.Run.{Answer, after_program, run_answer}
-use Rattle.engines.specs.declared.program.ProgramForm.{ProgramForm}
-use Rattle.engines.proofs.CertifiedLemmas.{read_known}
+use Rattle.programs.specs.declared.program.ProgramForm.{ProgramForm}
+use Rattle.devices.proofs.ReadLemmas.{read_known}
 
 -- a machine that was started has a hart for each input
 pub harts-started : (harts : List Hart) (w : World) (image : ImageValue) (inputs : List ℕ)

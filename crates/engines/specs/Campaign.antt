@@ -14,16 +14,16 @@ use Rattle.protocol_library.specs.declared.kind.Kind.{Kind}
 use Rattle.protocol_library.specs.declared.verdict.Verdict.{Verdict}
 use Rattle.protocol_library.specs.declared.verdict.Verdict.TheVariants.{Kept, Broken}
 use Rattle.protocol_library.specs.Names.{verdict_name}
-use Rattle.engines.specs.Ends.{any_faulted, verdict_on}
-use Rattle.engines.specs.Program.{program_of}
+use Rattle.ends.specs.Ends.{any_faulted, verdict_on}
+use Rattle.programs.specs.Program.{program_of}
 use Rattle.engines.specs.Run.{Answer}
 use Rattle.engines.specs.declared.campaign.End.{End}
 use Rattle.engines.specs.declared.campaign.End.TheVariants as end
-use Rattle.engines.specs.declared.program.ProgramForm.TheVariants as form
-use Rattle.engines.specs.declared.run_fault.RunFault.{RunFault}
-use Rattle.engines.specs.declared.run_fault.RunFault.TheVariants as fault
-use Rattle.engines.specs.declared.status.Status.{Status}
-use Rattle.engines.specs.declared.status.Status.TheVariants as status
+use Rattle.programs.specs.declared.program.ProgramForm.TheVariants as form
+use Rattle.programs.specs.declared.run_fault.RunFault.{RunFault}
+use Rattle.programs.specs.declared.run_fault.RunFault.TheVariants as fault
+use Rattle.devices.specs.declared.status.Status.{Status}
+use Rattle.devices.specs.declared.status.Status.TheVariants as status
 
 -- 1 where a hart's state is of this kind, else 0
 abbrev pub counts : End → HartState → ℕ

@@ -7,12 +7,12 @@ use Rattle.protocol_library.specs.declared.kind.Kind.{Kind}
 use Rattle.protocol_library.specs.declared.kind.Kind.TheVariants.{Swap, Add, LrSc, AdoptCommit}
 use Rattle.protocol_library.specs.declared.verdict.Verdict.TheVariants.{Kept}
 use Rattle.protocol_library.specs.Images.{image_of, IsSame}
-use Rattle.engines.specs.Ends.{verdict_line}
-use Rattle.engines.specs.Program.{program_of}
+use Rattle.ends.specs.Ends.{verdict_line}
+use Rattle.programs.specs.Program.{program_of}
 use Rattle.engines.specs.Run.{Answer}
-use Rattle.engines.specs.declared.program.ProgramForm.{ProgramForm}
-use Rattle.engines.specs.declared.status.Status.{Status}
-use Rattle.engines.specs.declared.status.Status.TheVariants as status
+use Rattle.programs.specs.declared.program.ProgramForm.{ProgramForm}
+use Rattle.devices.specs.declared.status.Status.{Status}
+use Rattle.devices.specs.declared.status.Status.TheVariants as status
 
 -- an object is for so many harts
 abbrev pub IsMeantFor : Kind → ℕ → Type 0

@@ -6,10 +6,10 @@ use Rattle.loader.specs.Image.{ImageValue}
 use Rattle.loader.specs.SymbolTable.{symbols_of}
 use Rattle.listing.specs.Segments.{ListsSegments}
 use Rattle.engines.specs.Info.{ShowsFacts}
-use Rattle.engines.specs.Program.{program_of}
+use Rattle.programs.specs.Program.{program_of}
 use Rattle.engines.specs.declared.file.FileView.{FileView}
 use Rattle.engines.specs.declared.file.FileView.TheVariants as view
-use Rattle.engines.specs.declared.program.ProgramForm.TheVariants as form
+use Rattle.programs.specs.declared.program.ProgramForm.TheVariants as form
 
 -- the text is what is shown of an image and its file's bytes
 abbrev pub ShowsImage : FileView → ImageValue → List ℕ → List ℕ → Type 0

@@ -1,10 +1,3 @@
-pub mod Device
-pub mod Ends
-pub mod HexText
-pub mod Status
-pub mod RunFaults
-pub mod HexImage
-pub mod Program
 pub mod Run
 pub mod Info
 pub mod File

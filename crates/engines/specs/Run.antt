@@ -13,14 +13,14 @@ use Rattle.scheduler.specs.declared.choice_text.ChoiceFault.{ChoiceFault}
 use Rattle.hart_step.specs.Hart.{HartValue}
 use Rattle.protocol_library.specs.declared.kind.Kind.{Kind}
 use Rattle.protocol_library.specs.declared.verdict.Verdict.{Verdict}
-use Rattle.engines.specs.Ends.{text_of, status_of, verdict_on}
-use Rattle.engines.specs.Program.{program_of}
-use Rattle.engines.specs.RunFaults.{fault_of_choices}
-use Rattle.engines.specs.declared.program.ProgramForm.{ProgramForm}
-use Rattle.engines.specs.declared.run_fault.Input.TheVariants as input
-use Rattle.engines.specs.declared.run_fault.RunFault.{RunFault}
-use Rattle.engines.specs.declared.run_fault.RunFault.TheVariants as fault
-use Rattle.engines.specs.declared.status.Status.{Status}
+use Rattle.ends.specs.Ends.{text_of, status_of, verdict_on}
+use Rattle.programs.specs.Program.{program_of}
+use Rattle.programs.specs.RunFaults.{fault_of_choices}
+use Rattle.programs.specs.declared.program.ProgramForm.{ProgramForm}
+use Rattle.programs.specs.declared.run_fault.Input.TheVariants as input
+use Rattle.programs.specs.declared.run_fault.RunFault.{RunFault}
+use Rattle.programs.specs.declared.run_fault.RunFault.TheVariants as fault
+use Rattle.devices.specs.declared.status.Status.{Status}
 
 -- the printed text and the status, or the fault
 abbrev pub Answer : Type 0
@@ -55,19 +55,6 @@ after_program rule inputs text (Err why) = Err why
 unfoldable pub run_answer : ProgramForm → List ℕ → Option Kind → List ℕ → List ℕ → Answer
 run_answer form inputs rule program text = after_program rule inputs text (program_of form program)
 
--- a fault of what was read, and of no device or memory
-abbrev pub IsRefusal : RunFault → Type 0
-IsRefusal (fault.BadWord item) = Unit {0}
-IsRefusal (fault.TooMany item) = Unit {0}
-IsRefusal (fault.Elf why) = Unit {0}
-IsRefusal fault.NoHarts = Unit {0}
-IsRefusal fault.TooManyHarts = Unit {0}
-IsRefusal (fault.BadChoice offset) = Unit {0}
-IsRefusal (fault.NoHart offset) = Unit {0}
-IsRefusal (fault.Read input) = ⊥
-IsRefusal fault.Write = ⊥
-IsRefusal fault.Memory = ⊥
-
 -- the answer's text was appended, and this is its status
 abbrev pub Prints : Answer → Status → Option (List ℕ) → Option (List ℕ) → Type 0
 Prints (Ok answer) status old new = (answer.1 ≡ status) × Appends old new answer.0
@@ -77,9 +64,3 @@ Prints (Err why) status old new = ⊥
 abbrev pub BeginsToPrint : Answer → Option (List ℕ) → Option (List ℕ) → Type 0
 BeginsToPrint (Ok answer) old new = (n : ℕ) × Appends old new (take n answer.0)
 BeginsToPrint (Err why) old new = ⊥
-
--- a fact of the file and one of the choices, for the input that a fault names
-abbrev pub IfReads : RunFault → Type 0 → Type 0 → Type 0
-IfReads (fault.Read input.File) file choices = file
-IfReads (fault.Read input.Choices) file choices = choices
-IfReads why file choices = Unit {0}

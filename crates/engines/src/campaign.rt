@@ -8,19 +8,17 @@ ghost use Rattle.engines.specs.Campaign.{bad_runs, bad_status, campaign_answer, 
 ghost use Rattle.scheduler.specs.Schedules.{seeded_choices};
 ghost use Rattle.protocol_library.specs.Chosen.{is_chosen, ChooseAlike};
 ghost use Rattle.engines.specs.Certified.{IsCertified};
-ghost use Rattle.engines.specs.Run.{BeginsToPrint, IfReads, IsRefusal, Prints};
+ghost use Rattle.engines.specs.Run.{BeginsToPrint, Prints};
+ghost use Rattle.programs.specs.RunFaults.{IfReads, IsRefusal};
 
-use crate::device::{Sink, Source};
-use crate::ends::has_faulted;
-use crate::program::{ProgramForm, read_program};
 use crate::run::see_words;
-use crate::run_fault::{Input, RunFault};
-use crate::status::Status;
-use crate::transfer::{ReadFault, read_all, write_all};
 use campaigns::{Block, SeedRun, Seeds, campaign, check_inputs};
+use devices::{ReadFault, Sink, Source, Status, read_all, write_all};
+use ends::has_faulted;
 use hart_step::{Hart, HartState};
 use loader::Image;
 use machine::Choice;
+use programs::{Input, ProgramForm, RunFault, read_program};
 use protocol_library::{Kind, Verdict, judge};
 use scheduler::{draw_choice, seeded_generator};
 use std::alloc::{AllocError, Allocator};
@@ -218,8 +216,8 @@ fn push_run<A: Allocator>(
     Ok(())
 }
 
-// Appends the lines of runs, and counts those that are bad.
-pub(crate) fn push_runs<A: Allocator + Copy>(
+/// Appends the lines of runs of a plan, in order, and counts those that are bad.
+pub fn push_runs<A: Allocator + Copy>(
     alloc: A,
     text: &mut String<A>,
     inputs: &[u32],

@@ -3,16 +3,13 @@
 ghost use Rattle.std.specs.Prelude.{◌≡◌, ◌≢◌, ◌-◌, ◌^◌, ◌<◌, Err, IfOk, IfErr, IfSome, string_bytes};
 ghost use Rattle.std.specs.Io.KnownBytes.{Keeps};
 ghost use Rattle.engines.specs.File.{BeginsToShow, Shows, ShowsFile};
-ghost use Rattle.engines.specs.Program.{program_of};
-ghost use Rattle.engines.specs.Run.{IsRefusal};
+ghost use Rattle.programs.specs.Program.{program_of};
+ghost use Rattle.programs.specs.RunFaults.{IsRefusal};
 
-use crate::device::{Sink, Source};
 use crate::info::info_text;
-use crate::program::{ProgramForm, read_program};
-use crate::run_fault::{Input, RunFault};
-use crate::status::Status;
-use crate::transfer::{ReadFault, read_all, write_all};
+use devices::{ReadFault, Sink, Source, Status, read_all, write_all};
 use listing::list_image;
+use programs::{Input, ProgramForm, RunFault, read_program};
 use std::alloc::Allocator;
 
 /// What is shown of a file.

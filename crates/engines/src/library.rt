@@ -5,10 +5,8 @@ ghost use Rattle.std.specs.Io.KnownBytes.{Appends};
 ghost use Rattle.protocol_library.specs.Sources.{source_of};
 ghost use Rattle.engines.specs.Campaign.{Begins};
 
-use crate::device::Sink;
-use crate::run_fault::RunFault;
-use crate::status::Status;
-use crate::transfer::write_all;
+use devices::{Sink, Status, write_all};
+use programs::RunFault;
 use protocol_library::{Kind, source};
 
 /// `lib`: writes the text of an object, one statement a line.

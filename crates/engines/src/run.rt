@@ -4,19 +4,17 @@ ghost use Rattle.std.specs.Prelude.{ℕ, List, ◌≡◌, ◌≢◌, ◌^◌, �
 ghost use Rattle.std.specs.List.{All};
 ghost use Rattle.std.specs.Io.KnownBytes.{Keeps};
 ghost use Rattle.engines.specs.Certified.{AnswersKept, IsCertified};
-ghost use Rattle.engines.specs.Program.{program_of};
-ghost use Rattle.engines.specs.Run.{after_program, run_answer, IsRefusal, Prints, BeginsToPrint, IfReads};
+ghost use Rattle.programs.specs.Program.{program_of};
+ghost use Rattle.engines.specs.Run.{after_program, run_answer, Prints, BeginsToPrint};
+ghost use Rattle.programs.specs.RunFaults.{IsRefusal, IfReads};
 ghost use Rattle.loader.specs.Image.{ImageValue};
 
-use crate::device::{Sink, Source};
-use crate::ends::ends_text;
-use crate::program::{ProgramForm, read_image};
-use crate::run_fault::{Input, RunFault};
-use crate::status::Status;
-use crate::transfer::{ReadFault, read_all, write_all};
+use devices::{ReadFault, Sink, Source, Status, read_all, write_all};
+use ends::ends_text;
 use loader::Image;
 use machine::Machine;
 use memory::FlatStore;
+use programs::{Input, ProgramForm, RunFault, read_image};
 use protocol_library::Kind;
 use scheduler::read_choices;
 use std::alloc::Allocator;

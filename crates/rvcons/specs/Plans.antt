@@ -2,7 +2,7 @@
 use Rattle.std.specs.Prelude.{ℕ, ◌+◌, ◌^◌, nat_le, List, Option, Some, None, if◌then◌else◌}
 use Rattle.engines.specs.declared.campaign.Plan.{Plan}
 use Rattle.protocol_library.specs.declared.kind.Kind.{Kind}
-use Rattle.rvcons.specs.Numbers.{number_below}
+use Rattle.command_line.specs.Numbers.{number_below}
 
 -- the plan of these numbers, if its seeds end by 2 ^ 64
 abbrev pub plan_within : Option Kind → Option ℕ → Option ℕ → Option ℕ → Option Plan

@@ -2,10 +2,10 @@
 
 ghost use Rattle.std.specs.Prelude.{◌≡◌, ◌≢◌, ◌-◌, ◌^◌, ◌<◌, All, IfErr, IfOk, length, map};
 
-use crate::asm_line::AsmOrder;
 use crate::report::{cannot_open, cannot_read, cannot_write, out_of_memory};
 use asm_engine::{AssemblyFault, assembled_file, listing_engine, write_file};
-use engines::{ReaderSource, Source, Status, WriterSink};
+use command_line::AsmOrder;
+use devices::{ReaderSource, Source, Status, WriterSink};
 use std::rt::Files;
 use std::{fs, io};
 

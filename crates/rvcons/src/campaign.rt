@@ -3,12 +3,11 @@
 ghost use Rattle.std.specs.Prelude.{◌≡◌};
 ghost use Rattle.rvcons.specs.Plans.{plan_of};
 
-use crate::campaign_line::CampaignOrder;
-use crate::inputs::read_inputs;
-use crate::numbers::read_number;
-use crate::objects::read_rule;
 use crate::report::{bad_line, cannot_open, cannot_read, refuse, say};
-use engines::{Plan, Progress, ReaderSource, RunFault, Status, WriterSink, campaign_engine};
+use command_line::{CampaignOrder, read_inputs, read_number, read_rule};
+use devices::{ReaderSource, Status, WriterSink};
+use engines::{Plan, Progress, campaign_engine};
+use programs::RunFault;
 use protocol_library::Kind;
 use std::rt::Files;
 use std::thread::Threads;

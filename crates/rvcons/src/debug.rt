@@ -1,10 +1,10 @@
 //! Doing `debug`.
 
-use crate::debug_line::DebugOrder;
-use crate::inputs::read_inputs;
 use crate::report::{cannot_open, cannot_read, out_of_memory, refuse};
+use command_line::{DebugOrder, read_inputs};
 use debug_engine::{DebugEngineFault, debug_engine};
-use engines::{Input as InputFile, ReaderSource, RunFault, Status, WriterSink};
+use devices::{ReaderSource, Status, WriterSink};
+use programs::{Input as InputFile, RunFault};
 use std::fs;
 use std::io::{self, BufReader, Input};
 use std::rt::Files;

@@ -1,8 +1,10 @@
 //! Doing `list` and `info`.
 
-use crate::file_line::FileOrder;
 use crate::report::{cannot_open, cannot_read, say};
-use engines::{FileView, ReaderSource, RunFault, Status, WriterSink, file_engine};
+use command_line::FileOrder;
+use devices::{ReaderSource, Status, WriterSink};
+use engines::{FileView, file_engine};
+use programs::RunFault;
 use std::rt::Files;
 use std::{fs, io};
 

@@ -1,9 +1,9 @@
 //! Doing `lib`.
 
-use crate::lib_line::LibOrder;
-use crate::objects::read_object;
 use crate::report::{refuse, say};
-use engines::{Status, WriterSink, source_engine};
+use command_line::{LibOrder, read_object};
+use devices::{Status, WriterSink};
+use engines::source_engine;
 use std::io;
 
 /// Prints the source of an object.

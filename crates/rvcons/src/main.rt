@@ -21,9 +21,10 @@ mod report;
 mod run;
 mod run_line;
 
-use crate::line::{Order, read_line};
 use crate::report::{bad_line, out_of_memory, refuse};
-use engines::{FileView, Status};
+use command_line::{Order, read_line};
+use devices::Status;
+use engines::FileView;
 use std::io::{self, Input, IsTerminal};
 use std::process::ExitCode;
 use std::rt::{Env, Files};

@@ -1,10 +1,11 @@
 //! What the program says on standard error.
 
 ghost use Rattle.std.specs.Prelude.{◌≡◌, ◌≢◌};
-ghost use Rattle.engines.specs.RunFaults.{status_of_fault};
+ghost use Rattle.programs.specs.RunFaults.{status_of_fault};
 
-use crate::line::LineFault;
-use engines::{RunFault, Status};
+use command_line::LineFault;
+use devices::Status;
+use programs::RunFault;
 use std::io;
 
 /// Memory was refused.

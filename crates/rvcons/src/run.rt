@@ -1,10 +1,10 @@
 //! Doing `run`.
 
-use crate::inputs::read_inputs;
-use crate::objects::read_rule;
 use crate::report::{cannot_open, cannot_read, refuse, say};
-use crate::run_line::RunOrder;
-use engines::{Input, ProgramForm, ReaderSource, RunFault, Status, WriterSink, run_engine};
+use command_line::{RunOrder, read_inputs, read_rule};
+use devices::{ReaderSource, Status, WriterSink};
+use engines::run_engine;
+use programs::{Input, ProgramForm, RunFault};
 use std::rt::Files;
 use std::{fs, io};
 

@@ -1,7 +1,7 @@
 use Rattle.std.proofs.Common.{subst, IfOk, ◌≡◌}
 use Rattle.engines.specs.Certified.{IsCertified}
-use Rattle.engines.specs.declared.program.ProgramForm.TheVariants as form
-use Rattle.engines.specs.declared.status.Status.TheVariants as status
+use Rattle.programs.specs.declared.program.ProgramForm.TheVariants as form
+use Rattle.devices.specs.declared.status.Status.TheVariants as status
 use Rattle.engines.proofs.CertifiedLemmas.{done_known}
 use Rattle.engines.proofs.campaign.campaign_engine.Goals as goal
 

@@ -1,5 +1,5 @@
 use Rattle.std.proofs.Common.{Err, inr, ap, sym, subst, ◌∙◌}
-use Rattle.engines.specs.Run.{IsRefusal}
+use Rattle.programs.specs.RunFaults.{IsRefusal}
 use Rattle.engines.proofs.CampaignLemmas.{answer_of_refused, answer_of_runs, answer_of_unread, begins_answer, done_answer}
 use Rattle.engines.proofs.CertifiedLemmas.{certified_done}
 use Rattle.engines.proofs.campaign.write_campaign.Goals as goal

@@ -1,0 +1,34 @@
+-- The command `campaign`.
+use Rattle.std.specs.Prelude.{◌≡◌, List, [], ◌∷◌, Some, codes, option_map}
+use Rattle.clap.specs.Words.{App, Row, Text, first_of, new_app, with_rule}
+use Rattle.command_line.specs.Arguments.{needed, needed_option, optional}
+use Rattle.command_line.specs.declared.campaign_line.CampaignOrder.{CampaignOrder}
+
+-- `campaign FILE --inputs L --first S --count C --steps N [--rule K]`
+abbrev pub campaign_app : App
+campaign_app =
+    with_rule
+    (with_rule
+    (with_rule
+    (with_rule
+    (with_rule
+    (with_rule (new_app (codes "campaign")) (needed (codes "FILE")))
+    (needed_option (codes "inputs")))
+    (needed_option (codes "first")))
+    (needed_option (codes "count")))
+    (needed_option (codes "steps")))
+    (optional (codes "rule"))
+
+-- the names of the texts that have to stand
+abbrev pub campaign_names : List Text
+campaign_names = codes "FILE" ∷ codes "inputs" ∷ codes "first" ∷ codes "count" ∷ codes "steps" ∷ []
+
+-- each text of the order is the one that clap holds under its name
+abbrev pub IsCampaign : List Row → CampaignOrder → Type 0
+IsCampaign rows order =
+    (first_of (codes "FILE") rows ≡ Some order.file.now)
+    × (first_of (codes "inputs") rows ≡ Some order.inputs.now)
+    × (first_of (codes "first") rows ≡ Some order.first.now)
+    × (first_of (codes "count") rows ≡ Some order.count.now)
+    × (first_of (codes "steps") rows ≡ Some order.steps.now)
+    × (first_of (codes "rule") rows ≡ option_map (λ s. s.now) order.rule)

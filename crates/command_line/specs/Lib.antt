@@ -1,0 +1,11 @@
+pub mod Arguments
+pub mod AsmLine
+pub mod CampaignLine
+pub mod DebugLine
+pub mod LibLine
+pub mod FileLine
+pub mod RunLine
+pub mod Line
+pub mod Numbers
+pub mod Inputs
+pub mod Objects

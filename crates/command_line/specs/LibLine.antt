@@ -1,0 +1,17 @@
+-- The command `lib`.
+use Rattle.std.specs.Prelude.{◌≡◌, List, [], ◌∷◌, Some, codes}
+use Rattle.clap.specs.Words.{App, Row, Text, first_of, new_app, with_rule}
+use Rattle.command_line.specs.Arguments.{needed}
+use Rattle.command_line.specs.declared.lib_line.LibOrder.{LibOrder}
+
+-- `lib K`
+abbrev pub lib_app : App
+lib_app = with_rule (new_app (codes "lib")) (needed (codes "K"))
+
+-- the names of the texts that have to stand
+abbrev pub lib_names : List Text
+lib_names = codes "K" ∷ []
+
+-- the text of the order is the one that clap holds under its name
+abbrev pub IsLib : List Row → LibOrder → Type 0
+IsLib rows order = first_of (codes "K") rows ≡ Some order.object.now

@@ -1,0 +1,121 @@
+//! Arguments of commands, and what clap holds of them.
+
+ghost use Rattle.std.specs.Prelude.{◌≡◌, false, IfOk, map, option_map};
+ghost use Rattle.clap.specs.Walk.{one_of};
+ghost use Rattle.clap.specs.Words.{all_of, app_of, first_of, new_app, with_rule, with_subcommand, rows_of, found_of, rule_of};
+ghost use Rattle.clap.specs.declared.builder.command.Command.TheViews.{out-Command};
+ghost use Rattle.command_line.specs.Arguments.{flag, many, needed, needed_option, optional, IsSet};
+
+use clap::{Arg, ArgAction, ArgMatches, Command};
+use std::alloc::{AllocError, Global};
+
+/// A command of this name, with what it does and an example of its use for its help.
+pub(crate) fn headed<'a>(
+    alloc: Global,
+    name: &'a str,
+    does: &'a str,
+    example: &'a str,
+) -> Command<'a>
+    ensures app { app_of result ≡ new_app name.entry.now }
+    ensures globals { (out-Command result).has_globals ≡ false }
+{
+    Command::new(alloc, name).about(does).after_help(example)
+}
+
+/// A word that has to stand.
+pub(crate) fn needed<'a>(alloc: Global, id: &'a str, help: &'a str) -> Arg<'a>
+    ensures rule { rule_of result ≡ needed id.entry.now }
+    ensures local { result.global ≡ false }
+{
+    Arg::new(alloc, id).required(true).help(help)
+}
+
+/// Words, of which one at least has to stand.
+pub(crate) fn many<'a>(alloc: Global, id: &'a str, help: &'a str) -> Arg<'a>
+    ensures rule { rule_of result ≡ many id.entry.now }
+    ensures local { result.global ≡ false }
+{
+    Arg::new(alloc, id)
+        .required(true)
+        .action(ArgAction::Append)
+        .help(help)
+}
+
+/// An option with a value that may be left out.
+pub(crate) fn optional<'a>(alloc: Global, id: &'a str, help: &'a str) -> Arg<'a>
+    ensures rule { rule_of result ≡ optional id.entry.now }
+    ensures local { result.global ≡ false }
+{
+    Arg::new(alloc, id).long(id).help(help)
+}
+
+/// An option with a value that has to stand.
+pub(crate) fn needed_option<'a>(alloc: Global, id: &'a str, help: &'a str) -> Arg<'a>
+    ensures rule { rule_of result ≡ needed_option id.entry.now }
+    ensures local { result.global ≡ false }
+{
+    Arg::new(alloc, id).long(id).required(true).help(help)
+}
+
+/// An option without a value.
+pub(crate) fn flag<'a>(alloc: Global, id: &'a str, help: &'a str) -> Arg<'a>
+    ensures rule { rule_of result ≡ flag id.entry.now }
+    ensures local { result.global ≡ false }
+{
+    Arg::new(alloc, id)
+        .long(id)
+        .action(ArgAction::SetTrue)
+        .help(help)
+}
+
+/// A command with one argument more.
+pub(crate) fn add<'a>(command: Command<'a>, arg: Arg<'a>) -> Result<Command<'a>, AllocError>
+    requires { arg.global ≡ false }
+    ensures app { IfOk result (λ c.
+        app_of c ≡ with_rule (app_of command.entry) (rule_of arg.entry)) }
+    ensures globals { IfOk result (λ c.
+        (out-Command c).has_globals ≡ (out-Command command.entry).has_globals) }
+{
+    command.arg(arg)
+}
+
+/// A program with one command more.
+pub(crate) fn add_command<'a>(
+    program: Command<'a>,
+    command: Command<'a>,
+) -> Result<Command<'a>, AllocError>
+    requires { (out-Command command).has_globals ≡ false }
+    ensures app { IfOk result (λ c.
+        app_of c ≡ with_subcommand (app_of program.entry) (app_of command.entry).top) }
+{
+    program.subcommand(command)
+}
+
+/// The text of an argument.
+pub(crate) fn text_of<'a>(matches: &ArgMatches<'a>, id: &str) -> Option<&'a str>
+    ensures { first_of id.now (rows_of (found_of matches.now)) ≡ option_map (λ s. s.now) result }
+{
+    matches.get_str(id)
+}
+
+/// The texts of an argument that stands more than once.
+pub(crate) fn texts_of<'a>(
+    alloc: Global,
+    matches: &ArgMatches<'a>,
+    id: &str,
+) -> Result<Option<Vec<&'a str>>, AllocError>
+    ensures { IfOk result (λ texts. all_of id.now (rows_of (found_of matches.now))
+        ≡ option_map (λ v. map (λ s. s.now) v.items) texts) }
+{
+    match matches.get_strs(id) {
+        None => Ok(None),
+        Some(texts) => Ok(Some(Vec::from_slice(alloc, texts)?)),
+    }
+}
+
+/// Whether an option without a value is given.
+pub(crate) fn is_set<'a>(matches: &ArgMatches<'a>, id: &str) -> bool
+    ensures { IsSet (one_of id.now (rows_of (found_of matches.now))) result }
+{
+    matches.get_flag(id)
+}

@@ -1,0 +1,68 @@
+//! The command `campaign`.
+
+ghost use Rattle.std.specs.Prelude.{◌≡◌, false, None, IfOk, IfSome};
+ghost use Rattle.clap.specs.Words.{app_of, rows_of, found_of};
+ghost use Rattle.clap.specs.declared.builder.command.Command.TheViews.{out-Command};
+ghost use Rattle.command_line.specs.Arguments.{holds_all};
+ghost use Rattle.command_line.specs.CampaignLine.{campaign_app, campaign_names, IsCampaign};
+
+use crate::arguments::{add, headed, needed, needed_option, optional, text_of};
+use crate::help::{INPUTS, RULE};
+use clap::{ArgMatches, Command};
+use std::alloc::{AllocError, Global};
+
+/// `campaign FILE --inputs L --first S --count C --steps N [--rule K]`: runs a program under a random schedule for each of C
+/// seeds from S on, and prints a line for each, with a rule also its verdict.
+#[derive(Debug, Drop)]
+pub struct CampaignOrder<'a> {
+    /// The program's path.
+    pub file: &'a str,
+    /// The harts' inputs.
+    pub inputs: &'a str,
+    /// The first seed.
+    pub first: &'a str,
+    /// How many seeds.
+    pub count: &'a str,
+    /// How many steps for each seed.
+    pub steps: &'a str,
+    /// The name of the object whose rule is judged.
+    pub rule: Option<&'a str>,
+}
+
+/// The command as clap takes it.
+pub(crate) fn campaign_command<'a>(alloc: Global) -> Result<Command<'a>, AllocError>
+    ensures app { IfOk result (λ c. app_of c ≡ campaign_app) }
+    ensures local { IfOk result (λ c. (out-Command c).has_globals ≡ false) }
+{
+    let command = headed(
+        alloc,
+        "campaign",
+        "Runs a program under random schedules and prints a line for each seed",
+        "Example: rvcons campaign swap.elf --inputs 7,9 --first 0 --count 1000 --steps 40 --rule swap",
+    );
+    let command = add(command, needed(alloc, "FILE", "the program, an ELF file"))?;
+    let command = add(command, needed_option(alloc, "inputs", INPUTS))?;
+    let command = add(command, needed_option(alloc, "first", "the first seed"))?;
+    let command = add(command, needed_option(alloc, "count", "how many seeds"))?;
+    let command = add(
+        command,
+        needed_option(alloc, "steps", "how many steps for each seed"),
+    )?;
+    add(command, optional(alloc, "rule", RULE))
+}
+
+/// The order that clap's matches hold.
+pub(crate) fn campaign_order<'a>(matches: &ArgMatches<'a>) -> Option<CampaignOrder<'a>>
+    ensures some { IfSome result (λ order. IsCampaign (rows_of (found_of matches.now)) order) }
+    ensures none { result ≡ None
+        → holds_all campaign_names (rows_of (found_of matches.now)) ≡ false }
+{
+    Some(CampaignOrder {
+        file: text_of(matches, "FILE")?,
+        inputs: text_of(matches, "inputs")?,
+        first: text_of(matches, "first")?,
+        count: text_of(matches, "count")?,
+        steps: text_of(matches, "steps")?,
+        rule: text_of(matches, "rule"),
+    })
+}

@@ -1,0 +1,26 @@
+//! The words of a command line as an order, and the numbers, inputs and names in it.
+#![tactic(auto)]
+
+pub use asm_line::AsmOrder;
+pub use campaign_line::CampaignOrder;
+pub use debug_line::DebugOrder;
+pub use file_line::FileOrder;
+pub use inputs::read_inputs;
+pub use lib_line::LibOrder;
+pub use line::{LineFault, Order, read_line};
+pub use numbers::read_number;
+pub use objects::{read_object, read_rule};
+pub use run_line::RunOrder;
+
+mod arguments;
+mod asm_line;
+mod campaign_line;
+mod debug_line;
+mod file_line;
+mod help;
+mod inputs;
+mod lib_line;
+mod line;
+mod numbers;
+mod objects;
+mod run_line;

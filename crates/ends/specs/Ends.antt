@@ -1,0 +1,84 @@
+-- The printed lines of harts' ends, and of the verdict on them.
+use Rattle.std.specs.Prelude.{ℕ, ◌+◌, Bool, true, false, ◌||◌, List, [], ◌∷◌, ◌++◌, codes, if◌then◌else◌, Option, Some, None}
+use Rattle.std.specs.Fmt.{decimal}
+use Rattle.hart_step.specs.declared.hart.Cause.{Cause}
+use Rattle.hart_step.specs.declared.hart.Cause.TheVariants.{FetchAccess, Illegal, LoadMisaligned, LoadAccess, StoreMisaligned, StoreAccess, JumpMisaligned, BadCall, Break}
+use Rattle.hart_step.specs.declared.hart.HartState.{HartState}
+use Rattle.hart_step.specs.declared.hart.HartState.TheVariants.{Running, Exited, Faulted}
+use Rattle.hart_step.specs.Hart.{HartValue}
+use Rattle.hex_word.specs.Digits.{word_text}
+use Rattle.machine.specs.declared.choice.Choice.{Choice}
+use Rattle.protocol_library.specs.declared.kind.Kind.{Kind}
+use Rattle.protocol_library.specs.declared.verdict.Verdict.{Verdict}
+use Rattle.protocol_library.specs.declared.verdict.Verdict.TheVariants.{Kept, Broken}
+use Rattle.protocol_library.specs.Judging.{verdict_of}
+use Rattle.protocol_library.specs.Names.{verdict_name}
+use Rattle.devices.specs.declared.status.Status.{Status}
+use Rattle.devices.specs.declared.status.Status.TheVariants as status
+
+-- a cause's name
+abbrev pub cause_name : Cause → List ℕ
+cause_name FetchAccess = codes "FetchAccess"
+cause_name Illegal = codes "Illegal"
+cause_name LoadMisaligned = codes "LoadMisaligned"
+cause_name LoadAccess = codes "LoadAccess"
+cause_name StoreMisaligned = codes "StoreMisaligned"
+cause_name StoreAccess = codes "StoreAccess"
+cause_name JumpMisaligned = codes "JumpMisaligned"
+cause_name BadCall = codes "BadCall"
+cause_name Break = codes "Break"
+
+-- the registers that a result is left in: a0 is x10, a1 is x11
+abbrev pub a0_of : HartValue → ℕ
+a0_of hart = hart.registers 10
+
+abbrev pub a1_of : HartValue → ℕ
+a1_of hart = hart.registers 11
+
+-- what a hart does, with the registers or the place that tell more of it
+abbrev pub state_text : HartState → HartValue → List ℕ
+state_text Running hart = codes " running pc " ++ word_text hart.pc
+state_text (Exited status) hart =
+    codes " exited a0 " ++ (word_text (a0_of hart) ++ (codes " a1 " ++ word_text (a1_of hart)))
+state_text (Faulted cause) hart =
+    codes " faulted " ++ (cause_name cause ++ (codes " pc " ++ word_text hart.pc))
+
+-- a hart's line, without its end
+abbrev pub end_line : ℕ → HartValue → List ℕ
+end_line number hart = codes "hart " ++ (decimal number ++ state_text hart.state hart)
+
+-- the lines of harts that are numbered from a number on, each ended by LF
+abbrev pub ends_of : ℕ → List HartValue → List ℕ
+ends_of number [] = []
+ends_of number (hart ∷ harts) = end_line number hart ++ 10 ∷ ends_of (number + 1) harts
+
+-- whether a hart was stopped by its instruction
+abbrev pub has_faulted : HartState → Bool
+has_faulted Running = false
+has_faulted (Exited status) = false
+has_faulted (Faulted cause) = true
+
+-- whether some hart was stopped by its instruction
+abbrev pub any_faulted : List HartValue → Bool
+any_faulted [] = false
+any_faulted (hart ∷ harts) = has_faulted hart.state || any_faulted harts
+
+-- what a judge says of harts, where there is a rule
+abbrev pub verdict_on : Option Kind → List ℕ → List Choice → List HartValue → Option Verdict
+verdict_on None inputs choices harts = None
+verdict_on (Some kind) inputs choices harts = Some (verdict_of kind inputs choices harts)
+
+-- the line of a verdict, with its end
+abbrev pub verdict_line : Option Verdict → List ℕ
+verdict_line None = []
+verdict_line (Some verdict) = codes "verdict " ++ (verdict_name verdict ++ 10 ∷ [])
+
+-- the harts' lines, and then that of the verdict
+abbrev pub text_of : Option Verdict → List HartValue → List ℕ
+text_of verdict harts = ends_of 0 harts ++ verdict_line verdict
+
+-- the status of a run: by the verdict, or without a rule by whether some hart was stopped by its instruction
+abbrev pub status_of : Option Verdict → List HartValue → Status
+status_of None harts = if any_faulted harts then status.Faulted else status.Done
+status_of (Some Kept) harts = status.Done
+status_of (Some Broken) harts = status.Broken

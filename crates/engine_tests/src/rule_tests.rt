@@ -1,0 +1,266 @@
+//! What no clause says: the objects' files, run and put through campaigns under their rules.
+use campaigns::SeedRun;
+use engines::{
+    FileView, MemorySink, MemorySource, Plan, ProgramForm, Status, Unheard, campaign_engine,
+    file_engine, push_runs, run_engine, source_engine,
+};
+use hart_step::{Hart, HartState};
+use protocol_library::{Kind, source, words, zeros};
+use refusing::Refusing;
+use std::alloc::{AllocError, Allocator};
+
+// An ELF file of an object: a header of 52 bytes, two program headers, and the text.
+fn object_file<A: Allocator>(alloc: A, kind: Kind) -> Result<Vec<u8, A>, AllocError> {
+    let size = match kind {
+        Kind::Swap | Kind::Add => 60,
+        Kind::LrSc => 64,
+        Kind::AdoptCommit => 136,
+    };
+    let headers = [
+        0x464c_457f,
+        0x0001_0101,
+        0,
+        0,
+        0x00f3_0002,
+        1,
+        0x0001_0000,
+        52,
+        0,
+        0,
+        0x0020_0034,
+        0x0028_0002,
+        0,
+        1,
+        116,
+        0x0001_0000,
+        0x0001_0000,
+        size,
+        size,
+        5,
+        4,
+        1,
+        0,
+        0x0001_1000,
+        0x0001_1000,
+        0,
+        zeros(kind),
+        6,
+        4,
+    ];
+    let mut bytes = Vec::new(alloc);
+    for word in headers {
+        bytes.extend_from_slice(&u32::to_le_bytes(word))?;
+    }
+    for word in words(kind) {
+        bytes.extend_from_slice(&word.to_le_bytes())?;
+    }
+    Ok(bytes)
+}
+
+// An object, the inputs, the rule, the choices, and what is printed.
+struct Worked {
+    name: &'static str,
+    kind: Kind,
+    inputs: &'static [u32],
+    rule: Option<Kind>,
+    choices: &'static str,
+    text: &'static str,
+    status: Status,
+}
+
+// The ends are those that another simulator printed of the same files.
+#[rattlefmt::skip]
+static WORKED: [Worked; 14] = [
+    Worked { name: "hart_1_alone_then_hart_0", kind: Kind::Swap, inputs: &[7, 9], rule: Some(Kind::Swap),
+        choices: "1 1 1 1 1 1 1 1 1 1 1 0 0 0 0 0 0 0 0 0 0 0 0 0 0 0",
+        text: "hart 0 exited a0 00000009 a1 00000001\nhart 1 exited a0 00000009 a1 00000001\nverdict kept\n", status: Status::Done },
+    Worked { name: "the_same_of_add", kind: Kind::Add, inputs: &[7, 9], rule: Some(Kind::Add),
+        choices: "1 1 1 1 1 1 1 1 1 1 1 0 0 0 0 0 0 0 0 0 0 0 0 0 0 0",
+        text: "hart 0 exited a0 00000009 a1 00000001\nhart 1 exited a0 00000009 a1 00000001\nverdict kept\n", status: Status::Done },
+    Worked { name: "no_rule_no_verdict", kind: Kind::Swap, inputs: &[7, 9], rule: None,
+        choices: "1 1 1 1 1 1 1 1 1 1 1 0 0 0 0 0 0 0 0 0 0 0 0 0 0 0",
+        text: "hart 0 exited a0 00000009 a1 00000001\nhart 1 exited a0 00000009 a1 00000001\n", status: Status::Done },
+    Worked { name: "the_loser_takes_15_steps", kind: Kind::Swap, inputs: &[7, 9], rule: Some(Kind::Swap),
+        choices: "1 1 1 1 1 1 1 1 1 1 1 0 0 0 0 0 0 0 0 0 0 0 0 0 0",
+        text: "hart 0 running pc 00010038\nhart 1 exited a0 00000009 a1 00000001\nverdict kept\n", status: Status::Done },
+    Worked { name: "the_winner_takes_11_steps", kind: Kind::Swap, inputs: &[7, 9], rule: Some(Kind::Swap),
+        choices: "1 1 1 1 1 1 1 1 1 1 0 0 0 0 0 0 0 0 0 0 0 0 0 0 0",
+        text: "hart 0 exited a0 00000009 a1 00000001\nhart 1 running pc 00010038\nverdict kept\n", status: Status::Done },
+    Worked { name: "third_hart_of_swap_faults", kind: Kind::Swap, inputs: &[7, 9, 5], rule: Some(Kind::Swap),
+        choices: "2 2 2 2",
+        text: "hart 0 running pc 00010000\nhart 1 running pc 00010000\nhart 2 faulted StoreAccess pc 0001000c\nverdict broken\n", status: Status::Broken },
+    Worked { name: "without_a_rule_it_is_a_fault", kind: Kind::Swap, inputs: &[7, 9, 5], rule: None,
+        choices: "2 2 2 2",
+        text: "hart 0 running pc 00010000\nhart 1 running pc 00010000\nhart 2 faulted StoreAccess pc 0001000c\n", status: Status::Faulted },
+    Worked { name: "two_of_three_decide", kind: Kind::LrSc, inputs: &[4, 5, 6], rule: Some(Kind::LrSc),
+        choices: "2 2 2 2 2 2 2 2 2 2 2 2 2 2 2 2 0 0 0 0 0 0 0 0 0 0 0 0 0",
+        text: "hart 0 exited a0 00000006 a1 00000001\nhart 1 running pc 00010000\nhart 2 exited a0 00000006 a1 00000001\nverdict kept\n", status: Status::Done },
+    Worked { name: "a_refusal_costs_four_steps", kind: Kind::LrSc, inputs: &[4, 5, 6], rule: Some(Kind::LrSc),
+        choices: "2 2 2 2 2 2 2 2! 2 2 2 2 2 2 2 2 2 2 2 2",
+        text: "hart 0 running pc 00010000\nhart 1 running pc 00010000\nhart 2 exited a0 00000006 a1 00000001\nverdict kept\n", status: Status::Done },
+    Worked { name: "strict_turns_adopt", kind: Kind::AdoptCommit, inputs: &[0, 0xffff_ffff], rule: Some(Kind::AdoptCommit),
+        choices: "0 1 0 1 0 1 0 1 0 1 0 1 0 1 0 1 0 1 0 1 0 1 0 1 0 1 0 1 0 1 0 1 0 1 0 1 0 1 0 1 0 1 0 1 0 1 0 1 0 1 0 1 0 1 0 1 0 1 0 1 0 1 0 1 0 1 0 1 0 1 0 1 0 1 0 1 0 1 0 1 0 1 0 1 0 1 0 1 0 1 0 1 0 1 0 1 0 1 0 1 0 1 0 1 0 1 0 1 0 1 0 1 0 1 0 1 0 1",
+        text: "hart 0 exited a0 00000000 a1 00000000\nhart 1 exited a0 ffffffff a1 00000000\nverdict kept\n", status: Status::Done },
+    Worked { name: "one_after_the_other_commits", kind: Kind::AdoptCommit, inputs: &[0, 0xffff_ffff], rule: Some(Kind::AdoptCommit),
+        choices: "0 0 0 0 0 0 0 0 0 0 0 0 0 0 0 0 0 0 0 0 0 0 0 0 0 0 0 0 0 0 0 0 0 0 0 0 0 0 0 1 1 1 1 1 1 1 1 1 1 1 1 1 1 1 1 1 1 1 1 1 1 1 1 1 1 1 1 1 1 1 1 1 1 1 1 1 1 1 1 1 1 1 1 1 1 1 1 1 1 1 1 1 1 1 1 1 1 1 1",
+        text: "hart 0 exited a0 00000000 a1 00000001\nhart 1 exited a0 00000000 a1 00000000\nverdict kept\n", status: Status::Done },
+    Worked { name: "alone_of_two_takes_39_steps", kind: Kind::AdoptCommit, inputs: &[0, 0xffff_ffff], rule: Some(Kind::AdoptCommit),
+        choices: "0 0 0 0 0 0 0 0 0 0 0 0 0 0 0 0 0 0 0 0 0 0 0 0 0 0 0 0 0 0 0 0 0 0 0 0 0 0",
+        text: "hart 0 running pc 00010084\nhart 1 running pc 00010000\nverdict kept\n", status: Status::Done },
+    Worked { name: "alone_takes_31_steps", kind: Kind::AdoptCommit, inputs: &[5], rule: Some(Kind::AdoptCommit),
+        choices: "0 0 0 0 0 0 0 0 0 0 0 0 0 0 0 0 0 0 0 0 0 0 0 0 0 0 0 0 0 0 0",
+        text: "hart 0 exited a0 00000005 a1 00000001\nverdict kept\n", status: Status::Done },
+    Worked { name: "an_adopted_value_is_not_decided", kind: Kind::AdoptCommit, inputs: &[0, 0xffff_ffff], rule: Some(Kind::LrSc),
+        choices: "0 0 0 0 0 0 0 0 0 0 0 0 0 0 0 0 0 0 0 0 0 0 0 0 0 0 0 0 0 0 0 0 0 0 0 0 0 0 0 1 1 1 1 1 1 1 1 1 1 1 1 1 1 1 1 1 1 1 1 1 1 1 1 1 1 1 1 1 1 1 1 1 1 1 1 1 1 1 1 1 1 1 1 1 1 1 1 1 1 1 1 1 1 1 1 1 1 1 1",
+        text: "hart 0 exited a0 00000000 a1 00000001\nhart 1 exited a0 00000000 a1 00000000\nverdict broken\n", status: Status::Broken },
+];
+
+#[test]
+fn objects_end_as_worked(rt: HostRuntime) {
+    for row in &WORKED {
+        let Ok(file) = object_file(rt.alloc(), row.kind) else {
+            return assert!(rt; false, "no memory for the file");
+        };
+        let mut program = MemorySource::new(&file);
+        let mut choices = MemorySource::new(row.choices.as_bytes());
+        let mut sink = MemorySink::new(rt.alloc());
+        let result = run_engine(
+            rt.alloc(),
+            ProgramForm::Elf,
+            row.inputs,
+            row.rule,
+            &mut program,
+            &mut choices,
+            &mut sink,
+        );
+        assert_eq!(rt; result, Ok(row.status), "{}", row.name);
+        assert_eq!(rt; sink.bytes(), row.text.as_bytes(), "{}", row.name);
+    }
+}
+
+#[test]
+fn info_names_the_object(rt: HostRuntime) {
+    #[rattlefmt::skip]
+    let rows = [
+        (Kind::Swap, "entry 00010000\nsegment 00010000 60 r-x\nsegment 00011000 12 rw-\nsymbols none\nlibrary swap\n"),
+        (Kind::Add, "entry 00010000\nsegment 00010000 60 r-x\nsegment 00011000 12 rw-\nsymbols none\nlibrary add\n"),
+        (Kind::LrSc, "entry 00010000\nsegment 00010000 64 r-x\nsegment 00011000 36 rw-\nsymbols none\nlibrary lrsc\n"),
+        (Kind::AdoptCommit, "entry 00010000\nsegment 00010000 136 r-x\nsegment 00011000 128 rw-\nsymbols none\nlibrary adopt\n"),
+    ];
+    for (kind, text) in rows {
+        let Ok(file) = object_file(rt.alloc(), kind) else {
+            return assert!(rt; false, "no memory for the file");
+        };
+        let mut program = MemorySource::new(&file);
+        let mut sink = MemorySink::new(rt.alloc());
+        let result = file_engine(rt.alloc(), FileView::Facts, &mut program, &mut sink);
+        assert_eq!(rt; result, Ok(Status::Done));
+        assert_eq!(rt; sink.bytes(), text.as_bytes());
+    }
+}
+
+#[test]
+fn a_text_is_written(rt: HostRuntime) {
+    for kind in Kind::ALL {
+        let mut sink = MemorySink::new(rt.alloc());
+        assert_eq!(rt; source_engine(kind, &mut sink), Ok(Status::Done));
+        assert_eq!(rt; sink.bytes(), source(kind).as_bytes());
+    }
+}
+
+// Four harts of LrSc agree under each seed, and three harts of Swap never keep its rule once the third has stored.
+#[test]
+fn each_seed_has_its_verdict(rt: HostRuntime) {
+    let rows: [(Kind, &[u32], u64, &str, Status); 4] = [
+        (
+            Kind::LrSc,
+            &[4, 5, 6, 7],
+            600,
+            "seed 5 exited 4 faulted 0 running 0 kept\nseed 6 exited 4 faulted 0 running 0 kept\n",
+            Status::Done,
+        ),
+        (
+            Kind::AdoptCommit,
+            &[4, 5, 6, 7],
+            900,
+            "seed 5 exited 4 faulted 0 running 0 kept\nseed 6 exited 4 faulted 0 running 0 kept\n",
+            Status::Done,
+        ),
+        (
+            Kind::Swap,
+            &[7, 9, 5],
+            300,
+            "seed 5 exited 2 faulted 1 running 0 broken\nseed 6 exited 2 faulted 1 running 0 broken\n",
+            Status::Broken,
+        ),
+        (
+            Kind::Swap,
+            &[7, 9, 5],
+            0,
+            "seed 5 exited 0 faulted 0 running 3 kept\nseed 6 exited 0 faulted 0 running 3 kept\n",
+            Status::Done,
+        ),
+    ];
+    for (kind, inputs, steps, text, status) in rows {
+        let Ok(file) = object_file(rt.alloc(), kind) else {
+            return assert!(rt; false, "no memory for the file");
+        };
+        let plan = Plan {
+            first: 5,
+            count: 2,
+            steps,
+            rule: Some(kind),
+        };
+        let mut program = MemorySource::new(&file);
+        let mut sink = MemorySink::new(rt.alloc());
+        let result = campaign_engine(
+            &rt,
+            rt.alloc(),
+            inputs,
+            plan,
+            &mut program,
+            &mut sink,
+            &mut Unheard,
+        );
+        assert_eq!(rt; sink.bytes(), text.as_bytes());
+        assert_eq!(rt; result, Ok(status));
+    }
+}
+
+// The lines of one run of two harts that have taken no step to their end.
+fn lines_of<A: Allocator + Copy>(alloc: A) -> Result<String<A>, AllocError> {
+    let hart = Hart {
+        registers: [0; 32],
+        pc: 0x0001_0000,
+        state: HartState::Running,
+    };
+    let harts = Vec::from_slice(alloc, &[hart, hart])?;
+    let mut runs = Vec::new(alloc);
+    runs.push(SeedRun { seed: 5, harts })?;
+    let plan = Plan {
+        first: 5,
+        count: 1,
+        steps: 3,
+        rule: Some(Kind::Swap),
+    };
+    let mut text = String::new(alloc);
+    push_runs(alloc, &mut text, &[7, 9], plan, &runs)?;
+    Ok(text)
+}
+
+// The requests for a block's verdicts and lines.
+#[test]
+fn each_refused_request_of_lines_is_told(rt: HostRuntime) {
+    for passed in 0..100u64 {
+        let heap = Refusing::new(rt.alloc(), passed);
+        match lines_of(&heap) {
+            Ok(text) => assert_eq!(rt; text.as_str(), "seed 5 exited 0 faulted 0 running 2 kept\n"),
+            Err(AllocError) => assert!(rt; heap.refused(), "at request {passed}"),
+        }
+        if !heap.refused() {
+            assert!(rt; passed > 0, "no memory is asked for");
+            return;
+        }
+    }
+    assert!(rt; false, "memory is asked for without end");
+}

@@ -1,0 +1,338 @@
+//! What no clause says: worked programs, run to their printed ends.
+use engines::{
+    Failing, FullSink, Input, MemorySink, MemorySource, ProgramForm, RunFault, Status, run_engine,
+};
+use refusing::Refusing;
+
+// A program in hexadecimal, the inputs, the choices, and what is printed or why not.
+struct Worked {
+    name: &'static str,
+    program: &'static str,
+    inputs: &'static [u32],
+    choices: &'static str,
+    answer: Result<(&'static str, Status), RunFault>,
+}
+
+#[rattlefmt::skip]
+static WORKED: [Worked; 63] = [
+    Worked { name: "run_stores_and_loads", program: "000112B7 00B2A023 0002A503 05D00893 00000073",
+        inputs: &[7, 9], choices: "0 0 1 1 0 0 0 1 1 1",
+        answer: Ok(("hart 0 exited a0 00000009 a1 00000007\nhart 1 exited a0 00000009 a1 00000009\n", Status::Done)) },
+    Worked { name: "zero_word_is_illegal", program: "00000000",
+        inputs: &[7], choices: "0",
+        answer: Ok(("hart 0 faulted Illegal pc 00010000\n", Status::Faulted)) },
+    Worked { name: "shift_by_32_is_illegal", program: "02051513",
+        inputs: &[7], choices: "0",
+        answer: Ok(("hart 0 faulted Illegal pc 00010000\n", Status::Faulted)) },
+    Worked { name: "shifts", program: "80000537 01F00293 40555533 00100313 02100393 007315B3 05D00893 00000073",
+        inputs: &[7], choices: "0 0 0 0 0 0 0 0",
+        answer: Ok(("hart 0 exited a0 ffffffff a1 00000002\n", Status::Done)) },
+    Worked { name: "taken_branch_to_odd_half", program: "00000163",
+        inputs: &[7], choices: "0",
+        answer: Ok(("hart 0 faulted JumpMisaligned pc 00010000\n", Status::Faulted)) },
+    Worked { name: "untaken_branch_never_faults", program: "00B50163",
+        inputs: &[7], choices: "0",
+        answer: Ok(("hart 0 running pc 00010004\n", Status::Done)) },
+    Worked { name: "lb_extends_the_sign", program: "000112B7 08000313 006281A3 00328503 0032C583 05D00893 00000073",
+        inputs: &[7], choices: "0 0 0 0 0 0 0",
+        answer: Ok(("hart 0 exited a0 ffffff80 a1 00000080\n", Status::Done)) },
+    Worked { name: "load_of_last_byte_unmapped", program: "FFF00503",
+        inputs: &[7], choices: "0",
+        answer: Ok(("hart 0 faulted LoadAccess pc 00010000\n", Status::Faulted)) },
+    Worked { name: "amomin_is_signed", program: "00011437 00100293 00542023 FFF00313 8064252F 00042583 05D00893 00000073",
+        inputs: &[7], choices: "0 0 0 0 0 0 0 0",
+        answer: Ok(("hart 0 exited a0 00000001 a1 ffffffff\n", Status::Done)) },
+    Worked { name: "amominu_is_unsigned", program: "00011437 00100293 00542023 FFF00313 C064252F 00042583 05D00893 00000073",
+        inputs: &[7], choices: "0 0 0 0 0 0 0 0",
+        answer: Ok(("hart 0 exited a0 00000001 a1 00000001\n", Status::Done)) },
+    Worked { name: "own_store_leaves_reservation", program: "00011437 100422AF 00042023 1884252F 00042583 05D00893 00000073",
+        inputs: &[7], choices: "0 0 0 0 0 0 0",
+        answer: Ok(("hart 0 exited a0 00000000 a1 00011000\n", Status::Done)) },
+    Worked { name: "store_of_a_byte_ends_reservation", program: "00011437 00051C63 100422AF 1884252F 00042583 05D00893 00000073 000401A3 00100073",
+        inputs: &[7, 9], choices: "0 0 0 1 1 1 0 0 0 0",
+        answer: Ok(("hart 0 exited a0 00000001 a1 00000000\nhart 1 running pc 00010020\n", Status::Done)) },
+    Worked { name: "store_into_next_word_leaves_reservation", program: "00011437 00051C63 100422AF 1884252F 00042583 05D00893 00000073 00040223 00100073",
+        inputs: &[7, 9], choices: "0 0 0 1 1 1 0 0 0 0",
+        answer: Ok(("hart 0 exited a0 00000000 a1 00011000\nhart 1 running pc 00010020\n", Status::Done)) },
+    Worked { name: "store_of_same_value_ends_reservation", program: "00011437 00051C63 100422AF 1884252F 00042583 05D00893 00000073 00042023 00100073",
+        inputs: &[7, 9], choices: "0 0 0 1 1 1 0 0 0 0",
+        answer: Ok(("hart 0 exited a0 00000001 a1 00000000\nhart 1 running pc 00010020\n", Status::Done)) },
+    Worked { name: "refused_sc_stores_nothing", program: "00011437 100422AF 1884252F 00042583 05D00893 00000073",
+        inputs: &[7], choices: "0 0 0! 0 0 0",
+        answer: Ok(("hart 0 exited a0 00000001 a1 00000000\n", Status::Done)) },
+    Worked { name: "refused_sc_ends_reservation", program: "00011437 100422AF 1884252F 188425AF 05D00893 00000073",
+        inputs: &[7], choices: "0 0 0! 0 0 0",
+        answer: Ok(("hart 0 exited a0 00000001 a1 00000001\n", Status::Done)) },
+    Worked { name: "second_sc_fails", program: "00011437 100422AF 1884252F 188425AF 05D00893 00000073",
+        inputs: &[7], choices: "0 0 0 0 0 0",
+        answer: Ok(("hart 0 exited a0 00000000 a1 00000001\n", Status::Done)) },
+    Worked { name: "stored_instruction_runs", program: "00000297 00500337 51330313 0062A823 00100513 05D00893 00000073",
+        inputs: &[3], choices: "0 0 0 0 0 0 0",
+        answer: Ok(("hart 0 exited a0 00000005 a1 00000003\n", Status::Done)) },
+    Worked { name: "choice_with_two_marks", program: "0000006F",
+        inputs: &[7, 9], choices: "0!!",
+        answer: Err(RunFault::BadChoice(0)) },
+    Worked { name: "empty_choice_text", program: "0000006F",
+        inputs: &[7, 9], choices: "",
+        answer: Ok(("hart 0 running pc 00010000\nhart 1 running pc 00010000\n", Status::Done)) },
+    Worked { name: "choice_of_no_hart", program: "0000006F",
+        inputs: &[7, 9], choices: "0 2",
+        answer: Err(RunFault::NoHart(2)) },
+    Worked { name: "choice_text_with_mark", program: "0000006F",
+        inputs: &[7, 9], choices: "0 1 0!",
+        answer: Ok(("hart 0 running pc 00010000\nhart 1 running pc 00010000\n", Status::Done)) },
+    Worked { name: "choice_with_leading_zero", program: "0000006F",
+        inputs: &[7, 9], choices: "01",
+        answer: Err(RunFault::BadChoice(0)) },
+    Worked { name: "choices_with_comma", program: "0000006F",
+        inputs: &[7], choices: "0,1",
+        answer: Err(RunFault::BadChoice(0)) },
+    Worked { name: "negative_choice", program: "0000006F",
+        inputs: &[7], choices: "0 -1",
+        answer: Err(RunFault::BadChoice(2)) },
+    Worked { name: "mark_alone", program: "0000006F",
+        inputs: &[7], choices: "0  !",
+        answer: Err(RunFault::BadChoice(3)) },
+    Worked { name: "choice_with_letter", program: "0000006F",
+        inputs: &[7], choices: "0 1x",
+        answer: Err(RunFault::BadChoice(2)) },
+    Worked { name: "two_zeros", program: "0000006F",
+        inputs: &[7], choices: "0 00",
+        answer: Err(RunFault::BadChoice(2)) },
+    Worked { name: "vertical_tab_is_no_blank", program: "0000006F",
+        inputs: &[7], choices: "0\u{b}0",
+        answer: Err(RunFault::BadChoice(0)) },
+    Worked { name: "choice_with_plus", program: "0000006F",
+        inputs: &[7], choices: "0 0 +0",
+        answer: Err(RunFault::BadChoice(4)) },
+    Worked { name: "mark_before_number", program: "0000006F",
+        inputs: &[7], choices: "0! 0 !0",
+        answer: Err(RunFault::BadChoice(5)) },
+    Worked { name: "word_of_seven_digits", program: "0000006",
+        inputs: &[7], choices: "0",
+        answer: Err(RunFault::BadWord(0)) },
+    Worked { name: "fourth_word_is_bad", program: "\t0000006f\r\n0000006F 00000013 0x000013",
+        inputs: &[7], choices: "0",
+        answer: Err(RunFault::BadWord(3)) },
+    Worked { name: "mark_changes_no_other_instruction", program: "000112B7 00B2A023 0002A503 05D00893 00000073",
+        inputs: &[7, 9], choices: "0! 0! 1! 1! 0 0! 0 1 1 1!",
+        answer: Ok(("hart 0 exited a0 00000009 a1 00000007\nhart 1 exited a0 00000009 a1 00000009\n", Status::Done)) },
+    Worked { name: "blanks_between_choices", program: "0000006F",
+        inputs: &[7], choices: "\r\n\t 0\t0\r0 \n",
+        answer: Ok(("hart 0 running pc 00010000\n", Status::Done)) },
+    Worked { name: "ebreak_stops", program: "00100073",
+        inputs: &[7], choices: "0 0",
+        answer: Ok(("hart 0 faulted Break pc 00010000\n", Status::Faulted)) },
+    Worked { name: "no_choice_no_step", program: "000112B7 00B2A023 0002A503 05D00893 00000073",
+        inputs: &[7, 9], choices: "",
+        answer: Ok(("hart 0 running pc 00010000\nhart 1 running pc 00010000\n", Status::Done)) },
+    Worked { name: "hex_of_lower_case", program: "0000006f",
+        inputs: &[7], choices: "0",
+        answer: Ok(("hart 0 running pc 00010000\n", Status::Done)) },
+    Worked { name: "empty_hex_program", program: "",
+        inputs: &[7], choices: "0",
+        answer: Ok(("hart 0 faulted Illegal pc 00010000\n", Status::Faulted)) },
+    Worked { name: "load_unmapped", program: "00002503",
+        inputs: &[7], choices: "0",
+        answer: Ok(("hart 0 faulted LoadAccess pc 00010000\n", Status::Faulted)) },
+    Worked { name: "misaligned_before_access", program: "00202503",
+        inputs: &[7], choices: "0",
+        answer: Ok(("hart 0 faulted LoadMisaligned pc 00010000\n", Status::Faulted)) },
+    Worked { name: "hart_number_of_any_length", program: "0000006F",
+        inputs: &[7], choices: "0 99999999999999999999",
+        answer: Err(RunFault::NoHart(2)) },
+    Worked { name: "nine_inputs", program: "000112B7 00B2A023 0002A503 05D00893 00000073",
+        inputs: &[1, 1, 1, 1, 1, 1, 1, 1, 1], choices: "0",
+        answer: Err(RunFault::TooManyHarts) },
+    Worked { name: "choices_of_a_third_hart", program: "000112B7 00B2A023 0002A503 05D00893 00000073",
+        inputs: &[7, 9], choices: "0 2",
+        answer: Err(RunFault::NoHart(2)) },
+    Worked { name: "repeat_count_is_no_choice", program: "0000006F",
+        inputs: &[7], choices: "0*3",
+        answer: Err(RunFault::BadChoice(0)) },
+    Worked { name: "other_call_faults", program: "00000073",
+        inputs: &[7], choices: "0",
+        answer: Ok(("hart 0 faulted BadCall pc 00010000\n", Status::Faulted)) },
+    Worked { name: "fence_changes_pc_alone", program: "0FF0050F",
+        inputs: &[7], choices: "0",
+        answer: Ok(("hart 0 running pc 00010004\n", Status::Done)) },
+    Worked { name: "jump_to_odd_half", program: "002000EF",
+        inputs: &[7], choices: "0",
+        answer: Ok(("hart 0 faulted JumpMisaligned pc 00010000\n", Status::Faulted)) },
+    Worked { name: "fetch_outside", program: "FFC00067",
+        inputs: &[7], choices: "0 0",
+        answer: Ok(("hart 0 faulted FetchAccess pc fffffffc\n", Status::Faulted)) },
+    Worked { name: "lh_misaligned_before_access", program: "00101503",
+        inputs: &[7], choices: "0",
+        answer: Ok(("hart 0 faulted LoadMisaligned pc 00010000\n", Status::Faulted)) },
+    Worked { name: "sltiu_of_largest", program: "FFF5B513 05D00893 00000073",
+        inputs: &[4294967295], choices: "0 0 0",
+        answer: Ok(("hart 0 exited a0 00000000 a1 ffffffff\n", Status::Done)) },
+    Worked { name: "sltiu_takes_immediate_as_word", program: "FFF5B513 05D00893 00000073",
+        inputs: &[5], choices: "0 0 0",
+        answer: Ok(("hart 0 exited a0 00000001 a1 00000005\n", Status::Done)) },
+    Worked { name: "lr_with_rs2_is_illegal", program: "1014A3AF",
+        inputs: &[7], choices: "0",
+        answer: Ok(("hart 0 faulted Illegal pc 00010000\n", Status::Faulted)) },
+    Worked { name: "amomax_is_signed", program: "00011437 800002B7 00542023 00100313 A064252F 00042583 05D00893 00000073",
+        inputs: &[7], choices: "0 0 0 0 0 0 0 0",
+        answer: Ok(("hart 0 exited a0 80000000 a1 00000001\n", Status::Done)) },
+    Worked { name: "amomaxu_is_unsigned", program: "00011437 800002B7 00542023 00100313 E064252F 00042583 05D00893 00000073",
+        inputs: &[7], choices: "0 0 0 0 0 0 0 0",
+        answer: Ok(("hart 0 exited a0 80000000 a1 80000000\n", Status::Done)) },
+    Worked { name: "refused_sc_lets_the_other_win", program: "000114B7 1004A3AF 18B4A52F 05D00893 00000073",
+        inputs: &[7, 9], choices: "0 0 1 1 0! 1 0 0 1 1",
+        answer: Ok(("hart 0 exited a0 00000001 a1 00000007\nhart 1 exited a0 00000000 a1 00000009\n", Status::Done)) },
+    Worked { name: "first_sc_wins", program: "000114B7 1004A3AF 18B4A52F 05D00893 00000073",
+        inputs: &[7, 9], choices: "0 0 1 1 0 1 0 0 1 1",
+        answer: Ok(("hart 0 exited a0 00000000 a1 00000007\nhart 1 exited a0 00000001 a1 00000009\n", Status::Done)) },
+    Worked { name: "second_lr_replaces_reservation", program: "00011437 00440493 100422AF 1004A2AF 1884252F 1884A5AF 05D00893 00000073",
+        inputs: &[7], choices: "0 0 0 0 0 0 0 0",
+        answer: Ok(("hart 0 exited a0 00000001 a1 00000001\n", Status::Done)) },
+    Worked { name: "amo_of_same_value_ends_reservation", program: "00011437 00051C63 100422AF 1884252F 00042583 05D00893 00000073 400422AF 00100073",
+        inputs: &[7, 9], choices: "0 0 0 1 1 1 0 0 0 0",
+        answer: Ok(("hart 0 exited a0 00000001 a1 00000000\nhart 1 running pc 00010020\n", Status::Done)) },
+    Worked { name: "faulting_sc_is_misaligned", program: "00011437 100422AF 00240413 1884252F",
+        inputs: &[7], choices: "0 0 0 0",
+        answer: Ok(("hart 0 faulted StoreMisaligned pc 0001000c\n", Status::Faulted)) },
+    Worked { name: "sc_checks_alignment_without_reservation", program: "00011437 00240413 1884252F",
+        inputs: &[7], choices: "0 0 0",
+        answer: Ok(("hart 0 faulted StoreMisaligned pc 00010008\n", Status::Faulted)) },
+    Worked { name: "refused_sc_checks_right", program: "1880252F",
+        inputs: &[7], choices: "0!",
+        answer: Ok(("hart 0 faulted StoreAccess pc 00010000\n", Status::Faulted)) },
+    Worked { name: "stopped_hart_stays", program: "00011437 1004252F 00100073",
+        inputs: &[7], choices: "0 0 0 0! 0",
+        answer: Ok(("hart 0 faulted Break pc 00010008\n", Status::Faulted)) },
+];
+
+#[test]
+fn worked_programs_end_as_worked(rt: HostRuntime) {
+    for row in &WORKED {
+        let mut program = MemorySource::new(row.program.as_bytes());
+        let mut choices = MemorySource::new(row.choices.as_bytes());
+        let mut sink = MemorySink::new(rt.alloc());
+        let result = run_engine(
+            rt.alloc(),
+            ProgramForm::Hex,
+            row.inputs,
+            None,
+            &mut program,
+            &mut choices,
+            &mut sink,
+        );
+        match row.answer {
+            Ok((text, status)) => {
+                assert_eq!(rt; result, Ok(status), "{}", row.name);
+                assert_eq!(rt; sink.bytes(), text.as_bytes(), "{}", row.name);
+            }
+            Err(fault) => {
+                assert_eq!(rt; result, Err(fault), "{}", row.name);
+                assert_eq!(rt; sink.bytes().len(), 0, "{}", row.name);
+            }
+        }
+    }
+}
+
+const PROGRAM: &[u8] = b"000112B7 00B2A023 0002A503 05D00893 00000073";
+
+const CHOICES: &[u8] = b"0 0 1 1 0 0 0 1 1 1";
+
+const ENDS: &str = "hart 0 exited a0 00000009 a1 00000007\nhart 1 exited a0 00000009 a1 00000009\n";
+
+#[test]
+fn a_run_survives_each_refused_request(rt: HostRuntime) {
+    for passed in 0..1000u64 {
+        let heap = Refusing::new(rt.alloc(), passed);
+        let mut program = MemorySource::new(PROGRAM);
+        let mut choices = MemorySource::new(CHOICES);
+        let mut sink = MemorySink::new(rt.alloc());
+        let result = run_engine(
+            &heap,
+            ProgramForm::Hex,
+            &[7, 9],
+            None,
+            &mut program,
+            &mut choices,
+            &mut sink,
+        );
+        if result == Ok(Status::Done) {
+            assert_eq!(rt; sink.bytes(), ENDS.as_bytes());
+        } else {
+            assert_eq!(rt; result, Err(RunFault::Memory), "after {passed}");
+            assert!(rt; heap.refused());
+            assert_eq!(rt; sink.bytes().len(), 0);
+        }
+        if !heap.refused() {
+            assert_eq!(rt; result, Ok(Status::Done));
+            assert!(rt; passed > 5, "only {passed} requests");
+            return;
+        }
+    }
+    assert!(rt; false, "memory is asked for without end");
+}
+
+#[test]
+fn a_failing_input_is_named(rt: HostRuntime) {
+    for passed in 0..2u64 {
+        let mut program = Failing::new(MemorySource::new(PROGRAM), passed);
+        let mut choices = MemorySource::new(CHOICES);
+        let mut sink = MemorySink::new(rt.alloc());
+        let result = run_engine(
+            rt.alloc(),
+            ProgramForm::Hex,
+            &[7, 9],
+            None,
+            &mut program,
+            &mut choices,
+            &mut sink,
+        );
+        assert_eq!(rt; result, Err(RunFault::Read(Input::File)));
+        assert_eq!(rt; sink.bytes().len(), 0);
+        let mut program = MemorySource::new(PROGRAM);
+        let mut choices = Failing::new(MemorySource::new(CHOICES), passed);
+        let mut sink = MemorySink::new(rt.alloc());
+        let result = run_engine(
+            rt.alloc(),
+            ProgramForm::Hex,
+            &[7, 9],
+            None,
+            &mut program,
+            &mut choices,
+            &mut sink,
+        );
+        assert_eq!(rt; result, Err(RunFault::Read(Input::Choices)));
+        assert_eq!(rt; sink.bytes().len(), 0);
+    }
+}
+
+#[test]
+fn a_failing_output_is_told(rt: HostRuntime) {
+    let mut program = MemorySource::new(PROGRAM);
+    let mut choices = MemorySource::new(CHOICES);
+    let mut sink = Failing::new(MemorySink::new(rt.alloc()), 0);
+    let result = run_engine(
+        rt.alloc(),
+        ProgramForm::Hex,
+        &[7, 9],
+        None,
+        &mut program,
+        &mut choices,
+        &mut sink,
+    );
+    assert_eq!(rt; result, Err(RunFault::Write));
+    assert_eq!(rt; sink.device().bytes().len(), 0);
+    let mut program = MemorySource::new(PROGRAM);
+    let mut choices = MemorySource::new(CHOICES);
+    let mut sink = FullSink::new();
+    let result = run_engine(
+        rt.alloc(),
+        ProgramForm::Hex,
+        &[7, 9],
+        None,
+        &mut program,
+        &mut choices,
+        &mut sink,
+    );
+    assert_eq!(rt; result, Err(RunFault::Write));
+}

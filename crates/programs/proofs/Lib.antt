@@ -1,0 +1,3 @@
+mod HexLemmas
+mod HexImageLemmas
+mod ProgramLemmas

@@ -1,0 +1,4 @@
+pub mod HexText
+pub mod HexImage
+pub mod RunFaults
+pub mod Program
