@@ -1,25 +1,13 @@
 //! The simulator's program.
 #![tactic(auto)]
 
-mod arguments;
 mod asm;
-mod asm_line;
 mod campaign;
-mod campaign_line;
 mod debug;
-mod debug_line;
 mod file;
-mod file_line;
-mod help;
-mod inputs;
-mod lib_line;
 mod library;
-mod line;
-mod numbers;
-mod objects;
 mod report;
 mod run;
-mod run_line;
 
 use crate::report::{bad_line, out_of_memory, refuse};
 use command_line::{Order, read_line};
@@ -66,6 +54,3 @@ fn obey<R: Files + AllocGlobal + Print + Eprint + Env + Threads + Sync + Input>(
         Err(fault) => refuse(rt, &fault),
     }
 }
-
-#[cfg(test)]
-mod tests;
