@@ -1,20 +1,16 @@
 -- The session that a file, inputs and a choice text begin, or the first fault of what was read, and what it leaves in a sink.
-use Rattle.std.specs.Prelude.{ℕ, ◌==◌, nat_lt, List, [], length, Option, if◌then◌else◌}
+use Rattle.std.specs.Prelude.{ℕ, List, [], length, Option}
 use Rattle.std.specs.Io.KnownBytes.{Appends}
 use Rattle.std.specs.Str.Lines.{lines}
 use Rattle.std.specs.declared.result.Result.{Result}
 use Rattle.std.specs.declared.result.Result.TheVariants.{Ok, Err}
-use Rattle.reservations.specs.declared.reserve.TheConstants.{MAX_HARTS}
 use Rattle.loader.specs.Image.{ImageValue}
 use Rattle.machine.specs.declared.choice.Choice.{Choice}
-use Rattle.scheduler.specs.Reading.{choices_of}
-use Rattle.scheduler.specs.declared.choice_text.ChoiceFault.{ChoiceFault}
 use Rattle.debugger.specs.Session.{Session}
-use Rattle.programs.specs.Program.{program_of}
-use Rattle.programs.specs.RunFaults.{fault_of_choices, status_of_fault}
+use Rattle.programs.specs.Opening.{Opened, opening}
+use Rattle.programs.specs.RunFaults.{status_of_fault}
 use Rattle.programs.specs.declared.program.ProgramForm.TheVariants as form
 use Rattle.programs.specs.declared.run_fault.RunFault.{RunFault}
-use Rattle.programs.specs.declared.run_fault.RunFault.TheVariants as fault
 use Rattle.devices.specs.declared.status.Status.{Status}
 use Rattle.devices.specs.declared.status.Status.TheVariants as status
 use Rattle.debug_engine.specs.Talk.{answers, Begins}
@@ -30,22 +26,14 @@ abbrev pub first_session : ImageValue → List ℕ → List Choice → Session
 first_session image inputs choices =
     record { image = image; inputs = inputs; choices = choices; position = 0; breaks = []; watches = [] }
 
--- the session once the choice text is read
-abbrev pub after_choices : ImageValue → List ℕ → Result (List Choice) ChoiceFault → Opening
-after_choices image inputs (Ok choices) = Ok (first_session image inputs choices)
-after_choices image inputs (Err why) = Err (fault_of_choices why)
-
--- the session once the program is read: the number of inputs is looked at before the choice text
-abbrev pub after_program : List ℕ → List ℕ → Result ImageValue RunFault → Opening
-after_program inputs text (Ok image) =
-    if length inputs == 0 then Err fault.NoHarts
-    else (if nat_lt MAX_HARTS (length inputs) then Err fault.TooManyHarts
-    else after_choices image inputs (choices_of (length inputs) text))
-after_program inputs text (Err why) = Err why
+-- the session once it is known what its run begins with
+abbrev pub after_opening : List ℕ → Opened → Opening
+after_opening inputs (Ok run) = Ok (first_session run.0 inputs run.1)
+after_opening inputs (Err why) = Err why
 
 -- the session of inputs, a file's bytes and a choice text
 unfoldable pub opened : List ℕ → List ℕ → List ℕ → Opening
-opened inputs program text = after_program inputs text (program_of form.Elf program)
+opened inputs program text = after_opening inputs (opening form.Elf (length inputs) program text)
 
 -- the answers to the lines of the commands were appended
 abbrev pub Answers : Opening → List ℕ → Option (List ℕ) → Option (List ℕ) → Type 0

@@ -1,8 +1,9 @@
 //! `debug`: a program, inputs and a list of choices in; then commands in, and an answer out for each.
 
-ghost use Rattle.std.specs.Prelude.{◌≡◌, ◌≢◌, ◌^◌, ◌-◌, ◌<◌, Ok, Err, IfOk, IfErr, IfSome};
+ghost use Rattle.std.specs.Prelude.{◌≡◌, ◌≢◌, ◌^◌, ◌-◌, ◌<◌, Ok, Err, IfOk, IfErr, IfSome, length};
 ghost use Rattle.std.specs.Io.KnownBytes.{Keeps};
 ghost use Rattle.programs.specs.Program.{program_of};
+ghost use Rattle.programs.specs.Opening.{TakesInputs};
 ghost use Rattle.programs.specs.RunFaults.{IfReads, IsRefusal};
 ghost use Rattle.loader.specs.Image.{ImageValue};
 ghost use Rattle.debug_engine.specs.Opening.{opened, Answers, BeginsToAnswer, IfCut, IfUnopened};
@@ -10,11 +11,11 @@ ghost use Rattle.debug_engine.specs.Opening.{opened, Answers, BeginsToAnswer, If
 use crate::conversation::{TalkFault, talk};
 use crate::fault::DebugEngineFault;
 use crate::opening::open_session;
-use devices::{ReadFault, Sink, Source, Status, read_all};
-use programs::{Input, ProgramForm, RunFault, read_image};
-use std::alloc::Allocator;
+use devices::{Sink, Source, Status};
+use programs::{Input, ProgramForm, RunFault, open_run};
+use std::alloc::{AllocError, Allocator};
 
-/// `debug`: reads the file to its end, and where it is a program, the choice text to its end; then answers each line of the
+/// `debug`: reads the file to its end, and where it is a program and the inputs are not too many, the choice text to its end; then answers each line of the
 /// commands before it reads the next, until one ends the session or none is left. No command is read where the session
 /// can't be begun.
 #[tactic(auto, unfolding(crate::specs::Opening::opened))]
@@ -52,6 +53,9 @@ pub fn debug_engine<A: Allocator + Copy, P: Source, C: Source, S: Source, K: Sin
     ensures program_first { result ≡ Err (DebugEngineFault.Refused (RunFault.Read Input.Choices))
         → IfSome (P.left program.old) (λ p.
         (image : ImageValue) × (program_of ProgramForm.Elf p ≡ Ok image)) }
+    // And so does the fault of the number of inputs.
+    ensures inputs_first { result ≡ Err (DebugEngineFault.Refused (RunFault.Read Input.Choices))
+        → TakesInputs (length inputs.now) }
     ensures sink_unnamed { IfErr result (λ fault. IfUnopened fault (λ why. why ≢ RunFault.Write)) }
     ensures commands { result ≡ Err DebugEngineFault.Commands
         → S.failures commands.old < S.failures commands.new }
@@ -63,20 +67,13 @@ pub fn debug_engine<A: Allocator + Copy, P: Source, C: Source, S: Source, K: Sin
         IfSome (S.left commands.old) (λ s.
         BeginsToAnswer (opened inputs.now p c) s (K.held sink.old) (K.held sink.new)))))) }
 {
-    let image = match read_image(alloc, ProgramForm::Elf, program) {
-        Ok(image) => image,
+    let run = match open_run(alloc, ProgramForm::Elf, inputs, program, choices) {
+        Ok(run) => run,
         Err(fault) => return Err(DebugEngineFault::Refused(fault)),
     };
-    let text = match read_all(alloc, choices) {
-        Ok(bytes) => bytes,
-        Err(ReadFault::Device) => return Err(DebugEngineFault::Refused(RunFault::Read(
-            Input::Choices,
-        ))),
-        Err(ReadFault::Memory) => return Err(DebugEngineFault::Refused(RunFault::Memory)),
-    };
-    let mut debugger = match open_session(alloc, image, inputs, &text) {
+    let mut debugger = match open_session(alloc, run, inputs) {
         Ok(debugger) => debugger,
-        Err(fault) => return Err(DebugEngineFault::Refused(fault)),
+        Err(AllocError) => return Err(DebugEngineFault::Refused(RunFault::Memory)),
     };
     match talk(alloc, &mut debugger, commands, sink) {
         Ok(()) => Ok(Status::Done),

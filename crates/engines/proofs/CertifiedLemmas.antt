@@ -20,11 +20,11 @@ use Rattle.protocol_library.proofs.JudgeLemmas.{kept-decides}
 use Rattle.proto_amo.proofs.Race.{swap_agrees_in, add_agrees_in}
 use Rattle.proto_lrsc.proofs.Race.{agrees_in as lrsc_agrees_in}
 use Rattle.proto_adopt.proofs.Alone.{agrees_in as adopt_agrees_in}
-use Rattle.scheduler.specs.Reading.{choices_of}
 use Rattle.engines.specs.Certified.{AnswersKept, IsCertified, IsMeantFor}
 use Rattle.ends.specs.Ends.{ends_of, verdict_on}
 use Rattle.programs.specs.Program.{program_of}
-use Rattle.engines.specs.Run.{Answer, after_choices, after_program, run_answer, shown_with, world_after, Prints}
+use Rattle.programs.specs.Opening.{opening}
+use Rattle.engines.specs.Run.{Answer, after_opening, run_answer, shown_with, world_after, Prints}
 use Rattle.engines.specs.Campaign.{after_image, bad_runs, campaign_answer, is_bad, one_if, shown_runs}
 use Rattle.programs.specs.declared.program.ProgramForm.{ProgramForm}
 use Rattle.programs.specs.declared.program.ProgramForm.TheVariants as form
@@ -67,30 +67,25 @@ shown-kept (Some verdict.Kept) harts e = record { ends = ends_of 0 harts; text_i
 shown-kept (Some verdict.Broken) harts e = absurd (cc)
 shown-kept None harts e = absurd (cc)
 
--- what a run answers whose choices are read
-pub certified_keeps : (form : ProgramForm) (inputs : List ℕ) (rule : Option Kind) (program text : List ℕ) (choices : List Choice)
-    → All (λ x. x < 2 ^ 32) inputs → choices_of (length inputs) text ≡ Ok choices → All (λ c. c.hart < length inputs) choices
-    → IsCertified form program inputs rule → AnswersKept (run_answer form inputs rule program text)
+-- what a run answers that begins with an object's image
+pub certified_keeps : (form : ProgramForm) (inputs : List ℕ) (rule : Option Kind) (program text : List ℕ) (image : ImageValue) (choices : List Choice)
+    → All (λ x. x < 2 ^ 32) inputs → All (λ c. c.hart < length inputs) choices → program_of form program ≡ Ok image
+    → opening form (length inputs) program text ≡ Ok (image, choices) → IsCertified form program inputs rule
+    → AnswersKept (run_answer form inputs rule program text)
 unfolding run_answer
-certified_keeps form inputs rule program text choices words read there h =
-    subst (λ r. AnswersKept (after_program r inputs text (program_of form program))) (sym h.ruled)
-    (subst (λ p. AnswersKept (after_program (Some h.kind) inputs text p)) (sym h.reads)
-    (go (eqb (length inputs) 0) (ltb MAX_HARTS (length inputs))))
+certified_keeps form inputs rule program text image choices words there reads opens h =
+    let one : h.image ≡ image = same_image h.image image (sym h.reads ∙ reads) in
+    let harts = (world_after image inputs choices).harts in
+    subst (λ o. AnswersKept (after_opening rule inputs o)) (sym opens)
+    (subst (λ r. AnswersKept (after_opening r inputs (Ok (image, choices)))) (sym h.ruled)
+    (shown-kept (verdict_on (Some h.kind) inputs choices harts) harts
+    (object_is_kept h.kind image inputs choices (subst (λ i. IsSame i (image_of h.kind)) one h.same) h.meant words there)))
   where
-    harts : List HartValue
-    harts = (world_after h.image inputs choices).harts
+    loads : ImageValue → Result ImageValue RunFault
+    loads x = Ok x
 
-    answered : AnswersKept (after_choices (Some h.kind) h.image inputs (choices_of (length inputs) text))
-    answered =
-        subst (λ r. AnswersKept (after_choices (Some h.kind) h.image inputs r)) (sym read)
-        (shown-kept (verdict_on (Some h.kind) inputs choices harts) harts
-        (object_is_kept h.kind h.image inputs choices h.same h.meant words there))
-
-    go : (none many : Bool) → AnswersKept (cond none (Err fault.NoHarts) (cond many (Err fault.TooManyHarts)
-        (after_choices (Some h.kind) h.image inputs (choices_of (length inputs) text))))
-    go true many = tt
-    go false true = tt
-    go false false = answered
+    same_image : (x y : ImageValue) → loads x ≡ loads y → x ≡ y
+    same_image x y e = search (rules, e)
 
 -- ---- the runs of seeds
 -- each choice of a seed's schedule names a hart

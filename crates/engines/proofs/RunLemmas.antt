@@ -1,7 +1,7 @@
 -- What a run's answer and its parts say of one another.
-use Rattle.std.proofs.Common.{◌≡◌, ℕ, List, length, map, Option, Some, None, Ok, ap, sym, subst, ◌∙◌}
+use Rattle.std.proofs.Common.{◌≡◌, ℕ, ◌^◌, ◌<◌, List, length, map, Option, Some, None, Ok, ap, sym, subst, ◌∙◌}
 use Rattle.std.specs.Option.{IfSome}
-use Rattle.std.specs.Io.KnownBytes.{Consumes, IsAtEnd}
+use Rattle.std.specs.List.{All}
 use Rattle.loader.specs.Image.{ImageValue}
 use Rattle.hart_step.specs.Hart.{hart_of}
 use Rattle.hart_step.specs.declared.hart.Hart.{Hart}
@@ -10,9 +10,12 @@ use Rattle.machine.specs.Start.{started}
 use Rattle.machine.proofs.RunLaws.{length-started}
 use Rattle.protocol_library.specs.declared.kind.Kind.{Kind}
 use Rattle.programs.specs.Program.{program_of}
-use Rattle.engines.specs.Run.{Answer, after_program, run_answer}
+use Rattle.programs.specs.Opening.{opening}
+use Rattle.machine.specs.declared.choice.Choice.{Choice}
+use Rattle.engines.specs.Certified.{AnswersKept, IsCertified}
+use Rattle.engines.specs.Run.{Answer, after_opening, run_answer, shown, world_after}
+use Rattle.engines.proofs.CertifiedLemmas.{certified_keeps}
 use Rattle.programs.specs.declared.program.ProgramForm.{ProgramForm}
-use Rattle.devices.proofs.ReadLemmas.{read_known}
 
 -- a machine that was started has a hart for each input
 pub harts-started : (harts : List Hart) (w : World) (image : ImageValue) (inputs : List ℕ)
@@ -20,12 +23,24 @@ pub harts-started : (harts : List Hart) (w : World) (image : ImageValue) (inputs
 harts-started harts w image inputs here begun =
     ap length (sym here) ∙ ap (λ (v : World). length v.harts) begun ∙ length-started image inputs
 
--- what holds of the answer to an image and a text that was read to its end holds of the run of what the devices had left
-pub known : (P : Answer → Type 0) (written : ProgramForm) (inputs : List ℕ) (rule : Option Kind) (program choices left : Option (List ℕ)) (text : List ℕ)
-    (image : ImageValue) (answer : Answer) → IfSome program (λ p. program_of written p ≡ Ok image) → Consumes choices left text → IsAtEnd left
-    → after_program rule inputs text (Ok image) ≡ answer → P answer → IfSome program (λ p. IfSome choices (λ c. P (run_answer written inputs rule p c)))
+-- what holds of the printed world of a run holds of the answer to what the devices had left
+pub known : (P : Answer → Type 0) (form : ProgramForm) (inputs : List ℕ) (rule : Option Kind) (program text : Option (List ℕ))
+    (image : ImageValue) (choices : List Choice)
+    → IfSome program (λ p. IfSome text (λ c. opening form (length inputs) p c ≡ Ok (image, choices)))
+    → P (Ok (shown rule inputs choices (world_after image inputs choices)))
+    → IfSome program (λ p. IfSome text (λ c. P (run_answer form inputs rule p c)))
 unfolding run_answer
-known P written inputs rule None choices left text image answer reads taken ended is h = tt
-known P written inputs rule (Some p) choices left text image answer reads taken ended is h =
-    read_known (λ c. P (run_answer written inputs rule p c)) choices left text taken ended
-    (subst P (sym (ap (after_program rule inputs text) reads ∙ is)) h)
+known P form inputs rule None text image choices opens h = tt
+known P form inputs rule (Some p) None image choices opens h = tt
+known P form inputs rule (Some p) (Some c) image choices opens h =
+    subst (λ o. P (after_opening rule inputs o)) (sym opens) h
+
+-- a run that begins with an object's image keeps its rule, by what the devices had left
+pub known_kept : (form : ProgramForm) (inputs : List ℕ) (rule : Option Kind) (program text : Option (List ℕ)) (image : ImageValue) (choices : List Choice)
+    → All (λ x. x < 2 ^ 32) inputs → All (λ c. c.hart < length inputs) choices → IfSome program (λ p. program_of form p ≡ Ok image)
+    → IfSome program (λ p. IfSome text (λ c. opening form (length inputs) p c ≡ Ok (image, choices)))
+    → IfSome program (λ p. IfSome text (λ c. IsCertified form p inputs rule → AnswersKept (run_answer form inputs rule p c)))
+known_kept form inputs rule None text image choices words there reads opens = tt
+known_kept form inputs rule (Some p) None image choices words there reads opens = tt
+known_kept form inputs rule (Some p) (Some c) image choices words there reads opens =
+    certified_keeps form inputs rule p c image choices words there reads opens

@@ -1,25 +1,19 @@
 -- What a run answers: the printed world after the choices with the verdict on it, or the first fault of what was read.
-use Rattle.std.specs.Prelude.{◌≡◌, ℕ, ◌==◌, nat_lt, List, length, take, Option, if◌then◌else◌}
+use Rattle.std.specs.Prelude.{◌≡◌, ℕ, List, length, take, Option}
 use Rattle.std.specs.Io.KnownBytes.{Appends}
 use Rattle.std.specs.declared.result.Result.{Result}
 use Rattle.std.specs.declared.result.Result.TheVariants.{Ok, Err}
-use Rattle.reservations.specs.declared.reserve.TheConstants.{MAX_HARTS}
 use Rattle.loader.specs.Image.{ImageValue}
 use Rattle.machine.specs.World.{World, run}
 use Rattle.machine.specs.Start.{started}
 use Rattle.machine.specs.declared.choice.Choice.{Choice}
-use Rattle.scheduler.specs.Reading.{choices_of}
-use Rattle.scheduler.specs.declared.choice_text.ChoiceFault.{ChoiceFault}
 use Rattle.hart_step.specs.Hart.{HartValue}
 use Rattle.protocol_library.specs.declared.kind.Kind.{Kind}
 use Rattle.protocol_library.specs.declared.verdict.Verdict.{Verdict}
 use Rattle.ends.specs.Ends.{text_of, status_of, verdict_on}
-use Rattle.programs.specs.Program.{program_of}
-use Rattle.programs.specs.RunFaults.{fault_of_choices}
+use Rattle.programs.specs.Opening.{Opened, opening}
 use Rattle.programs.specs.declared.program.ProgramForm.{ProgramForm}
-use Rattle.programs.specs.declared.run_fault.Input.TheVariants as input
 use Rattle.programs.specs.declared.run_fault.RunFault.{RunFault}
-use Rattle.programs.specs.declared.run_fault.RunFault.TheVariants as fault
 use Rattle.devices.specs.declared.status.Status.{Status}
 
 -- the printed text and the status, or the fault
@@ -38,22 +32,14 @@ shown rule inputs choices w = shown_with (verdict_on rule inputs choices w.harts
 abbrev pub world_after : ImageValue → List ℕ → List Choice → World
 world_after image inputs choices = run (started image inputs) choices
 
--- what is answered once the choice text is read
-abbrev pub after_choices : Option Kind → ImageValue → List ℕ → Result (List Choice) ChoiceFault → Answer
-after_choices rule image inputs (Ok choices) = Ok (shown rule inputs choices (world_after image inputs choices))
-after_choices rule image inputs (Err why) = Err (fault_of_choices why)
-
--- what is answered once the program is read: the number of inputs is looked at before the choice text
-abbrev pub after_program : Option Kind → List ℕ → List ℕ → Result ImageValue RunFault → Answer
-after_program rule inputs text (Ok image) =
-    if length inputs == 0 then Err fault.NoHarts
-    else (if nat_lt MAX_HARTS (length inputs) then Err fault.TooManyHarts
-    else after_choices rule image inputs (choices_of (length inputs) text))
-after_program rule inputs text (Err why) = Err why
+-- what is answered once it is known what the run begins with
+abbrev pub after_opening : Option Kind → List ℕ → Opened → Answer
+after_opening rule inputs (Ok opened) = Ok (shown rule inputs opened.1 (world_after opened.0 inputs opened.1))
+after_opening rule inputs (Err why) = Err why
 
 -- what a run of a program and a choice text answers, under a rule if there is one
 unfoldable pub run_answer : ProgramForm → List ℕ → Option Kind → List ℕ → List ℕ → Answer
-run_answer form inputs rule program text = after_program rule inputs text (program_of form program)
+run_answer form inputs rule program text = after_opening rule inputs (opening form (length inputs) program text)
 
 -- the answer's text was appended, and this is its status
 abbrev pub Prints : Answer → Status → Option (List ℕ) → Option (List ℕ) → Type 0

@@ -1,23 +1,23 @@
 //! `run`: a program, inputs and a list of choices in; the harts' ends and the verdict on them out.
 
-ghost use Rattle.std.specs.Prelude.{ℕ, List, ◌≡◌, ◌≢◌, ◌^◌, ◌-◌, ◌<◌, Ok, Err, IfOk, IfErr, IfSome, string_bytes};
+ghost use Rattle.std.specs.Prelude.{ℕ, List, ◌≡◌, ◌≢◌, ◌^◌, ◌-◌, ◌<◌, Ok, Err, IfOk, IfErr, IfSome, length, string_bytes};
 ghost use Rattle.std.specs.List.{All};
 ghost use Rattle.std.specs.Io.KnownBytes.{Keeps};
 ghost use Rattle.engines.specs.Certified.{AnswersKept, IsCertified};
 ghost use Rattle.programs.specs.Program.{program_of};
-ghost use Rattle.engines.specs.Run.{after_program, run_answer, Prints, BeginsToPrint};
+ghost use Rattle.engines.specs.Run.{run_answer, shown, world_after, Prints, BeginsToPrint};
+ghost use Rattle.programs.specs.Opening.{TakesInputs};
 ghost use Rattle.programs.specs.RunFaults.{IsRefusal, IfReads};
 ghost use Rattle.loader.specs.Image.{ImageValue};
 
-use devices::{ReadFault, Sink, Source, Status, read_all, write_all};
+use devices::{Sink, Source, Status, write_all};
 use ends::ends_text;
 use loader::Image;
-use machine::Machine;
+use machine::{Choice, Machine};
 use memory::FlatStore;
-use programs::{Input, ProgramForm, RunFault, read_image};
+use programs::{Input, ProgramForm, RunFault, open_run};
 use protocol_library::Kind;
-use scheduler::read_choices;
-use std::alloc::Allocator;
+use std::alloc::{AllocError, Allocator};
 
 // Looks at each input, so that it is known to be a word.
 pub(crate) fn see_words(inputs: &[u32])
@@ -28,44 +28,33 @@ pub(crate) fn see_words(inputs: &[u32])
     }
 }
 
-/// What a run of an image prints and its status, or why it is refused. Checked are, in this order, the number of inputs and
-/// the choice text. Under a rule the verdict follows the harts' lines.
+/// What a run of an image prints and its status. Under a rule the verdict follows the harts' lines.
 pub fn run_image<A: Allocator + Copy>(
     alloc: A,
     image: &Image<A>,
     inputs: &[u32],
     rule: Option<Kind>,
-    text: &[u8],
-) -> Result<(String<A>, Status), RunFault>
-    ensures ok { IfOk result (λ answer.
-        after_program rule inputs.now text.now (Ok image.now) ≡ Ok (string_bytes answer.0, answer.1)) }
-    ensures err { IfErr result (λ fault. fault ≢ RunFault.Memory
-        → after_program rule inputs.now text.now (Ok image.now) ≡ Err fault) }
-    // With these choices an object keeps the rule of its kind.
-    ensures certified { IfOk result (λ _. (form : ProgramForm) (program : List ℕ)
-        → IsCertified form program inputs.now rule
-        → AnswersKept (run_answer form inputs.now rule program text.now)) }
+    choices: &[Choice],
+) -> Result<(String<A>, Status), AllocError>
+    requires takes { TakesInputs (length inputs.now) }
+    requires within { All (λ c. c.hart < length inputs.now) choices.now }
+    ensures { IfOk result (λ answer.
+        shown rule inputs.now choices.now (world_after image.now inputs.now choices.now)
+        ≡ (string_bytes answer.0, answer.1)) }
 {
-    see_words(inputs);
     let mut machine: Machine<FlatStore<A>, A> = match Machine::start(alloc, image, inputs) {
         Ok(machine) => machine,
-        Err(fault) => return Err(RunFault::from(fault)),
+        // As many inputs as these are refused only for want of memory.
+        Err(_) => return Err(AllocError),
     };
-    let choices = match read_choices(alloc, text, inputs.len() as u32) {
-        Ok(choices) => choices,
-        Err(fault) => return Err(RunFault::from(fault)),
-    };
-    let Ok(()) = machine.run(&choices) else {
+    let Ok(()) = machine.run(choices) else {
         // A flat store needs no memory of the host for a step.
         unreachable!()
     };
-    match ends_text(alloc, inputs, &choices, machine.ends(), rule) {
-        Ok(answer) => Ok(answer),
-        Err(_) => Err(RunFault::Memory),
-    }
+    ends_text(alloc, inputs, choices, machine.ends(), rule)
 }
 
-/// `run`: reads the program in this form to its end, and where it is one, the choice text to its end; writes how the harts
+/// `run`: reads the program in this form to its end, and where it is one and the inputs are not too many, the choice text to its end; writes how the harts
 /// end, and under a rule the verdict. Nothing is written where what was read is refused.
 #[tactic(auto, unfolding(crate::specs::Run::run_answer))]
 pub fn run_engine<A: Allocator + Copy, P: Source, C: Source, K: Sink>(
@@ -97,6 +86,9 @@ pub fn run_engine<A: Allocator + Copy, P: Source, C: Source, K: Sink>(
     // A fault of the program comes before one of the device that the choices are read from.
     ensures program_first { result ≡ Err (RunFault.Read Input.Choices)
         → IfSome (P.left program.old) (λ p. (image : ImageValue) × (program_of form p ≡ Ok image)) }
+    // And so does the fault of the number of inputs.
+    ensures inputs_first { result ≡ Err (RunFault.Read Input.Choices)
+        → TakesInputs (length inputs.now) }
     ensures write { result ≡ Err RunFault.Write → K.failures sink.old < K.failures sink.new }
     // After a failed write a beginning of the output stands there.
     ensures begun { result ≡ Err RunFault.Write
@@ -107,18 +99,14 @@ pub fn run_engine<A: Allocator + Copy, P: Source, C: Source, K: Sink>(
         IfSome (P.left program.old) (λ p. IfSome (C.left choices.old) (λ c.
         IsCertified form p inputs.now rule → AnswersKept (run_answer form inputs.now rule p c)))) }
 {
-    let image = match read_image(alloc, form, program) {
-        Ok(image) => image,
+    see_words(inputs);
+    let run = match open_run(alloc, form, inputs, program, choices) {
+        Ok(run) => run,
         Err(fault) => return Err(fault),
     };
-    let text = match read_all(alloc, choices) {
-        Ok(bytes) => bytes,
-        Err(ReadFault::Device) => return Err(RunFault::Read(Input::Choices)),
-        Err(ReadFault::Memory) => return Err(RunFault::Memory),
-    };
-    let (lines, status) = match run_image(alloc, &image, inputs, rule, &text) {
+    let (lines, status) = match run_image(alloc, &run.image, inputs, rule, &run.choices) {
         Ok(answer) => answer,
-        Err(fault) => return Err(fault),
+        Err(AllocError) => return Err(RunFault::Memory),
     };
     match write_all(sink, lines.as_bytes()) {
         Ok(()) => Ok(status),

@@ -1,12 +1,14 @@
-//! A program's bytes, as hexadecimal words or as an ELF file, to its image; and why a run gives no answer.
+//! A program's bytes, as hexadecimal words or as an ELF file, to its image; how a run begins, and why there is none.
 #![tactic(auto)]
 
 pub use hex::{HexFault, MOST_WORDS, read_hex};
 pub use hex_program::{HEX_BASE, HEX_SIZE, hex_image};
+pub use opening::{OpenRun, check_inputs, open_run};
 pub use program::{ProgramForm, read_image, read_program};
 pub use run_fault::{Input, RunFault};
 
 mod hex;
 mod hex_program;
+mod opening;
 mod program;
 mod run_fault;

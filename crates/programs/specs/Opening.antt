@@ -1,0 +1,39 @@
+-- What a run begins with: the image of a program and the choices that a text spells, or the first fault of what was read.
+use Rattle.std.specs.Prelude.{ℕ, ◌<◌, ◌≤◌, ◌==◌, nat_lt, List, if◌then◌else◌}
+use Rattle.std.specs.declared.result.Result.{Result}
+use Rattle.std.specs.declared.result.Result.TheVariants.{Ok, Err}
+use Rattle.reservations.specs.declared.reserve.TheConstants.{MAX_HARTS}
+use Rattle.loader.specs.Image.{ImageValue}
+use Rattle.machine.specs.declared.choice.Choice.{Choice}
+use Rattle.scheduler.specs.Reading.{choices_of}
+use Rattle.scheduler.specs.declared.choice_text.ChoiceFault.{ChoiceFault}
+use Rattle.programs.specs.Program.{program_of}
+use Rattle.programs.specs.RunFaults.{fault_of_choices}
+use Rattle.programs.specs.declared.program.ProgramForm.{ProgramForm}
+use Rattle.programs.specs.declared.run_fault.RunFault.{RunFault}
+use Rattle.programs.specs.declared.run_fault.RunFault.TheVariants as run
+
+-- an image with its choices, or why there is no run
+abbrev pub Opened : Type 0
+Opened = Result (ImageValue × List Choice) RunFault
+
+-- there can be a hart for each of so many inputs
+abbrev pub TakesInputs : ℕ → Type 0
+TakesInputs harts = (0 < harts) × (harts ≤ MAX_HARTS)
+
+-- an image with the choices that are read
+abbrev pub with_choices : ImageValue → Result (List Choice) ChoiceFault → Opened
+with_choices image (Ok choices) = Ok (image, choices)
+with_choices image (Err why) = Err (fault_of_choices why)
+
+-- once the program is read, the inputs are counted, and then the choice text is looked at
+abbrev pub after_program : ℕ → List ℕ → Result ImageValue RunFault → Opened
+after_program harts text (Ok image) =
+    if harts == 0 then Err run.NoHarts
+    else (if nat_lt MAX_HARTS harts then Err run.TooManyHarts
+    else with_choices image (choices_of harts text))
+after_program harts text (Err why) = Err why
+
+-- what a run of a program and a choice text begins with, for so many inputs
+unfoldable pub opening : ProgramForm → ℕ → List ℕ → List ℕ → Opened
+opening form harts program text = after_program harts text (program_of form program)

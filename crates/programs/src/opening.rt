@@ -1,0 +1,94 @@
+//! How a run begins: the program, the number of inputs and the choice text, checked once, in this order.
+
+ghost use Rattle.std.specs.Prelude.{◌≡◌, ◌≢◌, ◌^◌, ◌-◌, ◌<◌, ℕ, List, Ok, Err, IfOk, IfErr, IfSome, length};
+ghost use Rattle.std.specs.List.{All};
+ghost use Rattle.loader.specs.Image.{ImageValue};
+ghost use Rattle.programs.specs.Opening.{after_program, opening, TakesInputs};
+ghost use Rattle.programs.specs.Program.{program_of};
+ghost use Rattle.programs.specs.RunFaults.{IfReads, IsRefusal};
+
+use crate::program::{ProgramForm, read_image};
+use crate::run_fault::{Input, RunFault};
+use devices::{ReadFault, Source, read_all};
+use loader::Image;
+use machine::Choice;
+use reservations::MAX_HARTS;
+use scheduler::read_choices;
+use std::alloc::Allocator;
+
+/// What a run begins with.
+#[derive(Drop)]
+pub struct OpenRun<A: Allocator> {
+    /// The program's image.
+    pub image: Image<A>,
+    /// The choices, each of a hart that is there.
+    pub choices: Vec<Choice, A>,
+}
+
+/// Whether there can be a hart for each input: 1 to `MAX_HARTS` inputs.
+pub fn check_inputs(inputs: &[u32]) -> Result<(), RunFault>
+    ensures ok { IfOk result (λ _. TakesInputs (length inputs.now)) }
+    ensures err { IfErr result (λ fault. (text : List ℕ) → (image : ImageValue)
+        → after_program (length inputs.now) text (Ok image) ≡ Err fault) }
+    ensures refusal { IfErr result (λ fault. IsRefusal fault) }
+{
+    if inputs.is_empty() {
+        return Err(RunFault::NoHarts);
+    }
+    if inputs.len() > MAX_HARTS {
+        return Err(RunFault::TooManyHarts);
+    }
+    Ok(())
+}
+
+/// Reads a program in this form to its end, counts the inputs, and reads the choice text to its end. The first that is refused
+/// decides, and what comes after it is not read.
+#[tactic(auto, unfolding(crate::specs::Opening::opening))]
+pub fn open_run<A: Allocator + Copy, P: Source, C: Source>(
+    alloc: A,
+    form: ProgramForm,
+    inputs: &[u32],
+    program: &mut P,
+    choices: &mut C,
+) -> Result<OpenRun<A>, RunFault>
+    requires program_counts { P.failures program.old < 2 ^ 64 - 1 }
+    requires choices_count { C.failures choices.old < 2 ^ 64 - 1 }
+    ensures takes { IfOk result (λ _. TakesInputs (length inputs.now)) }
+    ensures within { IfOk result (λ run. All (λ c. c.hart < length inputs.now) run.choices.items) }
+    ensures image { IfOk result (λ run.
+        IfSome (P.left program.old) (λ p. program_of form p ≡ Ok run.image)) }
+    ensures opened { IfOk result (λ run.
+        IfSome (P.left program.old) (λ p. IfSome (C.left choices.old) (λ c.
+        opening form (length inputs.now) p c ≡ Ok (run.image, run.choices.items)))) }
+    ensures refused { IfErr result (λ fault. IsRefusal fault
+        → IfSome (P.left program.old) (λ p. IfSome (C.left choices.old) (λ c.
+        opening form (length inputs.now) p c ≡ Err fault))) }
+    // A device is named only where it failed.
+    ensures read { IfErr result (λ fault. IfReads fault
+        (P.failures program.old < P.failures program.new)
+        (C.failures choices.old < C.failures choices.new)) }
+    ensures sink_unnamed { IfErr result (λ fault. fault ≢ RunFault.Write) }
+    // A fault of the program, and that of the number of inputs, come before one of the device that the choices are read from.
+    ensures program_first { result ≡ Err (RunFault.Read Input.Choices)
+        → IfSome (P.left program.old) (λ p. (image : ImageValue) × (program_of form p ≡ Ok image)) }
+    ensures inputs_first { result ≡ Err (RunFault.Read Input.Choices)
+        → TakesInputs (length inputs.now) }
+{
+    let image = match read_image(alloc, form, program) {
+        Ok(image) => image,
+        Err(fault) => return Err(fault),
+    };
+    match check_inputs(inputs) {
+        Ok(()) => {}
+        Err(fault) => return Err(fault),
+    }
+    let text = match read_all(alloc, choices) {
+        Ok(bytes) => bytes,
+        Err(ReadFault::Device) => return Err(RunFault::Read(Input::Choices)),
+        Err(ReadFault::Memory) => return Err(RunFault::Memory),
+    };
+    match read_choices(alloc, &text, inputs.len() as u32) {
+        Ok(choices) => Ok(OpenRun { image, choices }),
+        Err(fault) => Err(RunFault::from(fault)),
+    }
+}
