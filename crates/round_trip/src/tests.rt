@@ -1,5 +1,5 @@
 //! What no clause says: that a listing is made where memory suffices, and refused memory.
-use crate::list_source;
+use crate::{list, list_source};
 use asm_read::AsmFault;
 use assembler::assemble;
 use refusing::Refusing;
@@ -67,7 +67,7 @@ fn a_listing_assembles_to_its_text(rt: HostRuntime) -> Result<(), AsmFault> {
 }
 
 #[test]
-fn each_refused_request_is_told(rt: HostRuntime) {
+fn each_refused_request_of_a_source_is_told(rt: HostRuntime) {
     for passed in 0..1000u64 {
         let heap = Refusing::new(rt.alloc(), passed);
         let Ok(program) = assemble(&heap, ["ecall"].as_slice()) else {
@@ -75,6 +75,28 @@ fn each_refused_request_is_told(rt: HostRuntime) {
         };
         match list_source(&heap, &program) {
             Ok(source) => assert_eq!(rt; source.as_str(), "ecall  # 00010000 00000073\n"),
+            Err(AllocError) => assert!(rt; heap.refused(), "at request {passed}"),
+        }
+        if !heap.refused() {
+            assert!(rt; passed > 0, "no memory is asked for");
+            return;
+        }
+    }
+    assert!(rt; false, "memory is asked for without end");
+}
+
+#[test]
+fn each_refused_request_of_a_list_is_told(rt: HostRuntime) {
+    for passed in 0..200u64 {
+        let heap = Refusing::new(rt.alloc(), passed);
+        let Ok(program) = assemble(&heap, ["nop\n.byte 1"].as_slice()) else {
+            continue;
+        };
+        match list(&heap, &program) {
+            Ok(text) => {
+                let wanted = "addi zero, zero, 0  # 00010000 00000013\n.byte 0x01  # 00010004\n";
+                assert_eq!(rt; text.as_str(), wanted);
+            }
             Err(AllocError) => assert!(rt; heap.refused(), "at request {passed}"),
         }
         if !heap.refused() {

@@ -7,8 +7,8 @@ ghost use Rattle.listing.specs.Listing.{listing};
 ghost use Rattle.round_trip.specs.TextAlone.{text_alone};
 
 use crate::laws::a_listing_is_its_source;
+use crate::program::list;
 use assembler::Program;
-use listing::list;
 use std::alloc::{AllocError, Allocator};
 
 // The law of these bytes: nothing is done.

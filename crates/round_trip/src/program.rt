@@ -4,8 +4,8 @@ ghost use Rattle.std.specs.Prelude.{◌≡◌, IfOk, string_bytes};
 ghost use Rattle.assembler.specs.declared.program.TheConstants.{TEXT_BASE};
 ghost use Rattle.listing.specs.Listing.{listing};
 
-use crate::lines::push_listing;
 use assembler::{Program, TEXT_BASE};
+use listing::push_listing;
 use std::alloc::{AllocError, Allocator};
 
 // How many bytes most lines have at most, so that the listing of a large program is seldom moved.
