@@ -9,5 +9,3 @@ mod image;
 mod line;
 mod lines;
 mod shapes;
-#[cfg(test)]
-mod tests;

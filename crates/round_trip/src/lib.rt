@@ -8,5 +8,3 @@ pub use source::list_source;
 mod laws;
 mod program;
 mod source;
-#[cfg(test)]
-mod tests;
