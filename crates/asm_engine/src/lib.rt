@@ -8,5 +8,3 @@ pub use sources::read_sources;
 mod assembling;
 mod fault;
 mod sources;
-#[cfg(test)]
-mod tests;

@@ -22,6 +22,4 @@ mod read;
 mod refusal;
 mod shape;
 mod statement;
-#[cfg(test)]
-mod tests;
 mod texts;

@@ -14,6 +14,4 @@ mod lexeme;
 mod number;
 mod piece;
 mod read;
-#[cfg(test)]
-mod tests;
 mod token;

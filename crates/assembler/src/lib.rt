@@ -23,6 +23,4 @@ mod push;
 mod sections;
 mod sources;
 mod table;
-#[cfg(test)]
-mod tests;
 mod valuing;

@@ -16,6 +16,4 @@ mod number;
 mod registers_text;
 mod replies;
 mod steps_text;
-#[cfg(test)]
-mod tests;
 mod texts;

@@ -12,5 +12,3 @@ mod engine;
 mod fault;
 mod line;
 mod opening;
-#[cfg(test)]
-mod tests;

@@ -20,7 +20,5 @@ mod seeking;
 mod step_view;
 mod stepping;
 mod stop;
-#[cfg(test)]
-mod tests;
 mod track;
 mod words;

@@ -8,8 +8,6 @@ ghost use Rattle.isa_table.specs.declared.instr.Instr.{Instr};
 
 mod fields;
 mod operations;
-#[cfg(test)]
-mod tests;
 
 use fields::{
     branch_offset, fence_set, funct3, funct7, immediate, jump_offset, rd, rs1, rs2, shift_amount,

@@ -8,8 +8,6 @@ ghost use Rattle.isa_table.specs.Table as table;
 
 mod formats;
 mod operations;
-#[cfg(test)]
-mod tests;
 
 use formats::{atomic_funct7, b_word, fence_word, i_word, j_word, joined, r_word, s_word, u_word};
 use isa_table::codes::{

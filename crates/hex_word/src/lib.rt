@@ -3,6 +3,4 @@
 
 pub use word::{Byte, Word};
 
-#[cfg(test)]
-mod tests;
 mod word;

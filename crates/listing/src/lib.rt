@@ -3,12 +3,9 @@
 
 pub use image::list_image;
 pub use line::{Line, line_of};
-pub use program::list;
+pub use lines::push_listing;
 
 mod image;
 mod line;
 mod lines;
-mod program;
 mod shapes;
-#[cfg(test)]
-mod tests;

@@ -54,7 +54,7 @@ fn push_bytes<A: Allocator>(text: &mut String<A>, base: u64, bytes: &[u8]) -> Re
     Ok(())
 }
 
-/// Adds the lines of bytes from an aligned address on.
+/// Adds the lines of bytes from an aligned address on: one for each word, and one for each byte behind the last whole word.
 #[tactic(auto, using(crate::proofs::ListingLemmas::tail_is_bytes))]
 pub fn push_listing<A: Allocator>(
     text: &mut String<A>,

@@ -13,14 +13,10 @@ pub use symbol_table::symbols;
 pub mod elf;
 mod fault;
 mod file;
-#[cfg(test)]
-mod file_tests;
 mod header;
 mod image;
 mod name;
 mod number;
-#[cfg(test)]
-mod order_tests;
 mod program_header;
 mod rights;
 mod section;
@@ -29,7 +25,3 @@ mod space;
 mod span;
 mod symbol;
 mod symbol_table;
-#[cfg(test)]
-mod symbol_tests;
-#[cfg(test)]
-mod tests;

@@ -14,6 +14,4 @@ mod laws;
 mod reading;
 mod search;
 mod store;
-#[cfg(test)]
-mod tests;
 mod writing;

@@ -6,5 +6,3 @@ pub use register::{RegisterName, abi_name};
 
 mod fence;
 mod register;
-#[cfg(test)]
-mod tests;

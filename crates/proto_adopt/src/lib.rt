@@ -12,9 +12,6 @@ use loader::Image;
 use protocol_library::{Kind, make_image};
 use std::alloc::{AllocError, Allocator};
 
-#[cfg(test)]
-mod tests;
-
 /// As many harts as an image of AdoptCommit has slots, up to 32, keep the rule of adopt-commit, whatever their inputs are
 /// and however they are scheduled; each of n has exited when it was chosen 19 + 14n times.
 pub fn adopt_in_every_run()

@@ -11,9 +11,6 @@ use loader::Image;
 use protocol_library::{Kind, make_image};
 use std::alloc::{AllocError, Allocator};
 
-#[cfg(test)]
-mod tests;
-
 /// Two harts that run an image that is Swap's agree, whatever their inputs are and however they are scheduled; each has
 /// exited when it was chosen 15 times.
 pub fn swap_in_every_run()

@@ -12,9 +12,6 @@ use loader::Image;
 use protocol_library::{Kind, make_image};
 use std::alloc::{AllocError, Allocator};
 
-#[cfg(test)]
-mod tests;
-
 /// As many harts as an image of LrSc has slots, up to 32, agree, whatever their inputs are and however they are scheduled,
 /// and whichever store-conditionals are refused; each has exited when it was chosen 17 times, and four times more for each
 /// of its own choices that refuse.

@@ -14,11 +14,7 @@ mod certifying;
 mod images;
 mod judging;
 mod kind;
-#[cfg(test)]
-mod schedule_tests;
 mod tables;
-#[cfg(test)]
-mod tests;
 mod text;
 mod texts;
 mod verdict;

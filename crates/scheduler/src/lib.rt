@@ -11,8 +11,4 @@ mod choice_text;
 mod items;
 mod laws;
 mod printing;
-#[cfg(test)]
-mod schedule_tests;
 mod schedules;
-#[cfg(test)]
-mod tests;

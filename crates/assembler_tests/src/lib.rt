@@ -1,0 +1,9 @@
+//! Tests of programs and their listings: `assembler`, `listing` and `round_trip`.
+#![tactic(auto)]
+
+#[cfg(test)]
+mod listing_tests;
+#[cfg(test)]
+mod program_tests;
+#[cfg(test)]
+mod round_trip_tests;

@@ -1,0 +1,13 @@
+//! Tests of ELF files, images and memory: `loader` and `memory`.
+#![tactic(auto)]
+
+#[cfg(test)]
+mod image_tests;
+#[cfg(test)]
+mod loading_tests;
+#[cfg(test)]
+mod memory_tests;
+#[cfg(test)]
+mod order_tests;
+#[cfg(test)]
+mod symbol_tests;

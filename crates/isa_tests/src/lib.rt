@@ -1,0 +1,11 @@
+//! Tests of words and instructions: `decoder`, `encoder`, `operand_names` and `hex_word`.
+#![tactic(auto)]
+
+#[cfg(test)]
+mod decoder_tests;
+#[cfg(test)]
+mod encoder_tests;
+#[cfg(test)]
+mod hex_word_tests;
+#[cfg(test)]
+mod operand_names_tests;

@@ -1,0 +1,13 @@
+//! Tests of the consensus objects: `protocol_library`, `proto_amo`, `proto_lrsc` and `proto_adopt`.
+#![tactic(auto)]
+
+#[cfg(test)]
+mod every_schedule_tests;
+#[cfg(test)]
+mod proto_adopt_tests;
+#[cfg(test)]
+mod proto_amo_tests;
+#[cfg(test)]
+mod proto_lrsc_tests;
+#[cfg(test)]
+mod protocol_library_tests;

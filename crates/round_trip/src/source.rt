@@ -1,0 +1,35 @@
+//! The listing of a program, as a source.
+
+ghost use Rattle.std.specs.Prelude.{◌≡◌, ◌≤◌, ◌^◌, [], ◌∷◌, length, Ok, IfOk, string_bytes};
+ghost use Rattle.assembler.specs.Sources.{assembled_texts};
+ghost use Rattle.assembler.specs.declared.program.TheConstants.{TEXT_BASE};
+ghost use Rattle.listing.specs.Listing.{listing};
+ghost use Rattle.round_trip.specs.TextAlone.{text_alone};
+
+use crate::laws::a_listing_is_its_source;
+use crate::program::list;
+use assembler::Program;
+use std::alloc::{AllocError, Allocator};
+
+// The law of these bytes: nothing is done.
+fn comes_back(bytes: &[u8], source: &str)
+    requires lines { source.now ≡ listing TEXT_BASE bytes.now }
+    requires within { length bytes.now ≤ 2 ^ 24 }
+    ensures { assembled_texts (source.now ∷ []) ≡ Ok (text_alone bytes.now) }
+{
+    a_listing_is_its_source();
+}
+
+/// The listing of a program's text. As the one source it assembles to a program of the same text, without data, zeros
+/// and symbols.
+pub fn list_source<A: Allocator + Copy>(
+    alloc: A,
+    program: &Program<A>,
+) -> Result<String<A>, AllocError>
+    ensures back { IfOk result (λ source. assembled_texts (string_bytes source ∷ []) ≡ Ok (text_alone program.now.text)) }
+    ensures lines { IfOk result (λ source. string_bytes source ≡ listing TEXT_BASE program.now.text) }
+{
+    let source = list(alloc, program)?;
+    comes_back(program.text(), &source);
+    Ok(source)
+}
