@@ -1,3 +1,4 @@
 pub mod SeedLemmas
 pub mod DrawLemmas
 pub mod RunLemmas
+pub mod ChosenLemmas

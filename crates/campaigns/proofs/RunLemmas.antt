@@ -3,7 +3,8 @@ use Rattle.std.proofs.Common.{◌≡◌, ℕ, zero, suc, ◌+◌, List, [], ◌�
 use Rattle.std.specs.Prelude.{MatchResult}
 use Rattle.std.proofs.lemmas.List.FromFn.{length-range_with_len}
 use lib.ListN.{length-map}
-use Rattle.std.specs.List.{AllZip, Contains, range_with_len}
+use Rattle.std.specs.List.{All, AllZip, Contains, range_with_len}
+use Rattle.std.proofs.lemmas.List.Elements.{All-cons, All-nil}
 use Rattle.std.specs.declared.result.Result.{Result}
 use Rattle.std.specs.declared.vec.Vec.{Vec}
 use Rattle.std.specs.declared.alloc.AllocError.{AllocError}
@@ -43,29 +44,42 @@ map-shifted f a b (suc n) =
 abbrev all_ok : {Z : Type 0} → List (SeedRun Z) → List (Result (SeedRun Z) AllocError)
 all_ok ys = map Ok ys
 
-module _ {Z : Type 0} (f : ℕ → SeedEnds) (first : ℕ) where
-  listed : (zs : List ℕ) (ys : List (SeedRun Z))
-      → AllZip (λ place r. IfOk r (λ (run : SeedRun Z). ends_of run ≡ f (first + place))) zs (all_ok ys)
-      → map ends_of ys ≡ map (λ place. f (first + place)) zs
-  listed [] [] h = refl
+-- the run of a seed, and what it remembers
+abbrev RunsSo : {Z : Type 0} → (ℕ → SeedEnds) → ℕ → (SeedRun Z → Type 0) → ℕ → Result (SeedRun Z) AllocError → Type 0
+RunsSo f first R place r = IfOk r (λ run. (ends_of run ≡ f (first + place)) × R run)
+
+module _ {Z : Type 0} (f : ℕ → SeedEnds) (first : ℕ) (R : SeedRun Z → Type 0) where
+  listed : (zs : List ℕ) (ys : List (SeedRun Z)) → AllZip (RunsSo f first R) zs (all_ok ys)
+      → (map ends_of ys ≡ map (λ place. f (first + place)) zs) × All R ys
+  listed [] [] h = (refl, All-nil R)
   listed [] (y ∷ ys) h = absurd h
   listed (z ∷ zs) [] h = absurd h
-  listed (z ∷ zs) (y ∷ ys) h = ap₂ (λ x xs. x ∷ xs) h.0 (listed zs ys h.1)
+  listed (z ∷ zs) (y ∷ ys) h =
+      let rest = listed zs ys h.1 in
+      (ap₂ (λ x xs. x ∷ xs) h.0.0 rest.0, All-cons R y ys h.0.1 rest.1)
 
   -- where each place has the run of its seed, the list has those of all seeds
   pub all-listed : (count : ℕ) (r : Result (Vec (SeedRun Z) Z) AllocError) (zs : List ℕ) (xs : List (Result (SeedRun Z) AllocError))
-      → zs ≡ range_with_len 0 count
-      → AllZip (λ place r. IfOk r (λ (run : SeedRun Z). ends_of run ≡ f (first + place))) zs xs
+      → zs ≡ range_with_len 0 count → AllZip (RunsSo f first R) zs xs
       → MatchResult r (λ v. (ys : List (SeedRun Z)) × (xs ≡ all_ok ys) × (v.items ≡ ys)) (λ e. Contains xs (Err e))
       → IfOk r (λ v. map ends_of v.items ≡ map f (range_with_len first count))
   all-listed count (Ok v) zs xs places each whole =
       let here : first + 0 ≡ first = omega arith in
       ap (map ends_of) whole.2
-      ∙ listed zs whole.0 (subst (AllZip (λ place r. IfOk r (λ (run : SeedRun Z). ends_of run ≡ f (first + place))) zs) whole.1 each)
+      ∙ (listed zs whole.0 (subst (AllZip (RunsSo f first R) zs) whole.1 each)).0
       ∙ ap (map (λ place. f (first + place))) places
       ∙ map-shifted f first 0 count
       ∙ ap (λ k. map f (range_with_len k count)) here
   all-listed count (Err e) zs xs places each whole = tt
+
+  -- and each of them remembers it
+  pub all-remember : (r : Result (Vec (SeedRun Z) Z) AllocError) (zs : List ℕ) (xs : List (Result (SeedRun Z) AllocError))
+      → AllZip (RunsSo f first R) zs xs
+      → MatchResult r (λ v. (ys : List (SeedRun Z)) × (xs ≡ all_ok ys) × (v.items ≡ ys)) (λ e. Contains xs (Err e))
+      → IfOk r (λ v. All R v.items)
+  all-remember (Ok v) zs xs each whole =
+      subst (All R) (sym whole.2) (listed zs whole.0 (subst (AllZip (RunsSo f first R) zs) whole.1 each)).1
+  all-remember (Err e) zs xs each whole = tt
 
 -- there are as many runs as seeds
 pub runs_size : {Z : Type 0} (f : ℕ → SeedEnds) (first count size : ℕ) (runs : List (SeedRun Z))

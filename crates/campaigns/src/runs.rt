@@ -1,7 +1,8 @@
 //! All seeds of a range on all processors.
 
 ghost use Rattle.std.specs.Prelude.{◌≡◌, ◌≢◌, ◌+◌, ◌<◌, ◌≤◌, ◌^◌, [], ◌++◌, IfOk, IfSome, IfNone, OnErr, MatchResult, length, map, min};
-ghost use Rattle.campaigns.specs.Campaign.{ends_of, seed_ends, runs_of, plain_runs, IsStartable, RefusesCampaign};
+ghost use Rattle.std.specs.List.{All};
+ghost use Rattle.campaigns.specs.Campaign.{ends_of, seed_ends, runs_of, plain_runs, IsStartable, RefusesCampaign, RemembersChosen};
 ghost use Rattle.campaigns.specs.Blocks.{block_seeds};
 ghost use Rattle.campaigns.specs.Seeds.{seeds_left};
 
@@ -29,7 +30,8 @@ pub fn check_inputs(inputs: &[u32]) -> Result<(), StartFault>
 }
 
 /// For each of `count` seeds from `first` on, in order, the harts as the run of so many steps under the seed's schedule
-/// leaves them. The runs are shared among all processors. The inputs are checked also where `count` is 0.
+/// leaves them, and which of them it chose. The runs are shared among all processors. The inputs are checked also where
+/// `count` is 0.
 pub fn campaign<A: Allocator + Copy + Send + Sync, B: Allocator + Sync>(
     rt: &(impl Threads + Sync),
     alloc: A,
@@ -42,7 +44,8 @@ pub fn campaign<A: Allocator + Copy + Send + Sync, B: Allocator + Sync>(
     requires { first + count ≤ 2 ^ 64 }
     ensures { MatchResult result
         (λ runs. IsStartable inputs.now
-        × (map ends_of runs.items ≡ plain_runs image.now inputs.now steps first count))
+        × ((map ends_of runs.items ≡ plain_runs image.now inputs.now steps first count)
+        × All (RemembersChosen (length inputs.now) steps) runs.items))
         (λ fault. RefusesCampaign inputs.now fault) }
 {
     match check_inputs(inputs) {
@@ -69,6 +72,8 @@ pub fn next_runs<A: Allocator + Copy + Send + Sync, B: Allocator + Sync>(
     ensures runs { IfOk result (λ block. IfSome block (λ runs.
         runs_of image.now inputs.now steps (seeds_left seeds.old)
         ≡ map ends_of runs.items ++ runs_of image.now inputs.now steps (seeds_left seeds.new))) }
+    ensures chosen { IfOk result (λ block. IfSome block (λ runs.
+        All (RemembersChosen (length inputs.now) steps) runs.items)) }
     ensures some { IfOk result (λ block. IfSome block (λ runs. 0 < length runs.items)) }
     ensures size { IfOk result (λ block. IfSome block (λ runs. length runs.items
         ≡ min (length (seeds_left seeds.old)) (block_seeds steps))) }
@@ -96,8 +101,10 @@ fn run_seeds<A: Allocator + Copy + Send + Sync, B: Allocator + Sync>(
 ) -> Result<Vec<SeedRun<A>, A>, AllocError>
     requires startable { IsStartable inputs.now }
     requires fits { first + count ≤ 2 ^ 64 }
-    ensures { IfOk result (λ runs.
+    ensures ends { IfOk result (λ runs.
         map ends_of runs.items ≡ plain_runs image.now inputs.now steps first count) }
+    ensures chosen { IfOk result (λ runs.
+        All (RemembersChosen (length inputs.now) steps) runs.items) }
 {
     let runs: Result<Vec<SeedRun<A>, A>, AllocError> = (0..count)
         .into_par_iter()
@@ -105,8 +112,9 @@ fn run_seeds<A: Allocator + Copy + Send + Sync, B: Allocator + Sync>(
         .map(
             |place: u64| -> Result<SeedRun<A>, AllocError>
                 requires { IsStartable inputs.now × (first + place < 2 ^ 64) }
-                ensures { IfOk result (λ run. ends_of run
-                    ≡ seed_ends image.entry.now inputs.entry.now steps (first + place)) }
+                ensures { IfOk result (λ run. (ends_of run
+                    ≡ seed_ends image.entry.now inputs.entry.now steps (first + place))
+                    × RemembersChosen (length inputs.entry.now) steps run) }
             { run_seed(alloc, image, inputs, steps, first + place) },
         )
         .collect(rt, alloc)?;

@@ -1,46 +1,74 @@
 //! The run of one seed.
 
-ghost use Rattle.std.specs.Prelude.{◌≡◌, ◌<◌, OnOk, OnErr, IfOk, IsTrue, length};
+ghost use Rattle.std.specs.Prelude.{◌≡◌, ◌<◌, ◌||◌, ◌==◌, ℕ, IfOk, length};
 ghost use Rattle.machine.specs.World.{run};
 ghost use Rattle.machine.specs.Machine.{world};
 ghost use Rattle.scheduler.specs.Schedules.{seeded_choices};
-ghost use Rattle.campaigns.specs.Campaign.{ends_of, seed_ends, IsStartable};
+ghost use Rattle.campaigns.specs.Campaign.{has_turn, ends_of, seed_ends, HaveTurnsAlike, IsStartable, RemembersChosen};
 
 use hart_step::Hart;
 use loader::Image;
-use machine::Machine;
+use machine::{Choice, Machine};
 use memory::{FlatStore, Store};
 use scheduler::{draw_choice, seeded_generator};
 use std::alloc::{AllocError, Allocator};
 
-/// A seed, and the harts as its run leaves them.
+/// A seed, the harts as its run leaves them, and which of them its schedule chose.
 #[derive(Drop)]
 pub struct SeedRun<A: Allocator> {
     /// The seed of the schedule.
     pub seed: u64,
     /// The harts in order of their numbers.
     pub harts: Vec<Hart, A>,
+    /// A choice of each hart that the schedule chose. A judge asks for no more of a schedule, which may be too long to be
+    /// held.
+    pub chosen: Vec<Choice, A>,
 }
 
-// Runs a machine over the list of choices that a seed gives. Each choice is drawn when its step comes, so the list is
-// never held. Only the memory of the host may refuse.
+// Whether some choice is that of a hart.
+fn has_turn(choices: &[Choice], hart: u32) -> bool
+    ensures { result ≡ has_turn choices.now hart }
+{
+    choices.iter().any(|choice| choice.hart == hart)
+}
+
+// Adds a choice, unless one of its hart is there.
+#[tactic(auto, using(crate::proofs::ChosenLemmas::added, crate::proofs::ChosenLemmas::there))]
+fn add_choice<A: Allocator>(chosen: &mut Vec<Choice, A>, choice: Choice) -> Result<(), AllocError>
+    ensures { IfOk result (λ _. (k : ℕ) → has_turn chosen.new.items k
+        ≡ (has_turn chosen.old.items k || (choice.hart == k))) }
+{
+    if has_turn(chosen, choice.hart) {
+        return Ok(());
+    }
+    chosen.push(choice)?;
+    Ok(())
+}
+
+// Runs a machine over the list of choices that a seed gives, and answers a choice of each hart that is chosen. Each choice
+// is drawn when its step comes, so the list is never held.
 fn run_seeded<S: Store, A: Allocator>(
+    alloc: A,
     machine: &mut Machine<S, A>,
     harts: u32,
     steps: u64,
     seed: u64,
-) -> Result<(), AllocError>
+) -> Result<Vec<Choice, A>, AllocError>
     requires some { 0 < harts }
     requires harts { length (world S.memory machine.old).harts ≡ harts }
-    ensures ok { OnOk result (world S.memory machine.new
+    ensures ok { IfOk result (λ _. world S.memory machine.new
         ≡ run (world S.memory machine.old) (seeded_choices harts steps seed)) }
-    ensures refused { OnErr result (IsTrue S.grows) }
+    ensures chosen { IfOk result (λ chosen.
+        HaveTurnsAlike chosen.items (seeded_choices harts steps seed)) }
 {
+    let mut chosen = Vec::new(alloc);
     let mut generator = seeded_generator(seed);
     'steps: for _ in 0..steps {
-        machine.step(draw_choice(&mut generator, harts))?;
+        let choice = draw_choice(&mut generator, harts);
+        add_choice(&mut chosen, choice)?;
+        machine.step(choice)?;
     }
-    Ok(())
+    Ok(chosen)
 }
 
 // The plain run of one seed.
@@ -52,15 +80,17 @@ pub(crate) fn run_seed<A: Allocator + Copy, B: Allocator>(
     seed: u64,
 ) -> Result<SeedRun<A>, AllocError>
     requires { IsStartable inputs.now }
-    ensures { IfOk result (λ run. ends_of run ≡ seed_ends image.now inputs.now steps seed) }
+    ensures ends { IfOk result (λ run. ends_of run ≡ seed_ends image.now inputs.now steps seed) }
+    ensures chosen { IfOk result (RemembersChosen (length inputs.now) steps) }
 {
     let mut machine: Machine<FlatStore<A>, A> = match Machine::start(alloc, image, inputs) {
         Ok(machine) => machine,
         Err(_) => return Err(AllocError),
     };
-    run_seeded(&mut machine, inputs.len() as u32, steps, seed)?;
+    let chosen = run_seeded(alloc, &mut machine, inputs.len() as u32, steps, seed)?;
     Ok(SeedRun {
         seed,
         harts: Vec::from_slice(alloc, machine.ends())?,
+        chosen,
     })
 }

@@ -227,7 +227,7 @@ fn each_seed_has_its_verdict(rt: HostRuntime) {
     }
 }
 
-// The lines of one run of two harts that have taken no step to their end.
+// The lines of one run of two harts that have taken no step, so that none of them was chosen.
 fn lines_of<A: Allocator + Copy>(alloc: A) -> Result<String<A>, AllocError> {
     let hart = Hart {
         registers: [0; 32],
@@ -236,15 +236,20 @@ fn lines_of<A: Allocator + Copy>(alloc: A) -> Result<String<A>, AllocError> {
     };
     let harts = Vec::from_slice(alloc, &[hart, hart])?;
     let mut runs = Vec::new(alloc);
-    runs.push(SeedRun { seed: 5, harts })?;
+    let chosen = Vec::new(alloc);
+    runs.push(SeedRun {
+        seed: 5,
+        harts,
+        chosen,
+    })?;
     let plan = Plan {
         first: 5,
         count: 1,
-        steps: 3,
+        steps: 0,
         rule: Some(Kind::Swap),
     };
     let mut text = String::new(alloc);
-    push_runs(alloc, &mut text, &[7, 9], plan, &runs)?;
+    push_runs(&mut text, &[7, 9], plan, &runs)?;
     Ok(text)
 }
 

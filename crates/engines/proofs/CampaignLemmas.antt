@@ -1,17 +1,18 @@
 -- How far a campaign has come, block by block.
-use Rattle.std.proofs.Common.{⊎_elim, ◌≡◌, ◌≢◌, ℕ, ◌+◌, ◌<◌, ◌≤◌, true, false, cond, eqb, ltb, List, [], ◌∷◌, ◌++◌, length, take, Option, Result, Ok, Err, IfOk, IfErr, append-nil, append_assoc, arith, refl, rules, ap, sym, subst, ◌∙◌}
+use Rattle.std.proofs.Common.{⊎_elim, ◌≡◌, ◌≢◌, ℕ, ◌+◌, ◌<◌, ◌≤◌, true, false, cond, eqb, ltb, List, [], ◌∷◌, ◌++◌, ◌⊎◌, length, take, Option, Some, None, Result, Ok, Err, IfOk, IfErr, append-nil, append_assoc, arith, refl, rules, ap, sym, subst, ◌∙◌}
 use Rattle.std.proofs.KnownBytes.{Appends-nil, Appends-trans}
 use Rattle.std.proofs.Math.Seq.{take-append-add, take-append_seam}
 use Rattle.std.proofs.lemmas.Grind.{common_steps, flat_map-append}
 use Rattle.std.proofs.lemmas.Bool.{cases_lt}
 use Rattle.std.proofs.lemmas.List.{take-append-le}
 use Rattle.std.specs.Io.KnownBytes.{Appends}
+use Rattle.std.specs.Option.{IfSome}
 use Rattle.loader.specs.Image.{ImageValue}
 use Rattle.reservations.specs.declared.reserve.TheConstants.{MAX_HARTS}
 use Rattle.campaigns.specs.Campaign.{SeedEnds, IsStartable, RefusesCampaign, plain_runs}
 use Rattle.machine.specs.declared.start.StartFault.{StartFault}
 use Rattle.machine.specs.declared.start.StartFault.TheVariants as start
-use Rattle.programs.specs.RunFaults.{fault_of_start}
+use Rattle.programs.specs.RunFaults.{fault_of_start, IsRefusal}
 use Rattle.protocol_library.specs.declared.kind.Kind.{Kind}
 use Rattle.engines.specs.Campaign.{Begins, after_image, bad_runs, campaign_answer, is_bad, one_if, run_verdict, seed_entry, seed_lines, shown_runs}
 use Rattle.programs.specs.Program.{program_of}
@@ -124,12 +125,10 @@ goes_on rule inputs steps all runs block left old now new faulted total stopped 
 -- ---- what is answered once the program is read
 
 -- runs that may start
-pub answer_of_runs : (rule : Option Kind) (inputs : List ℕ) (first count steps : ℕ) (bytes : List ℕ) (image : ImageValue) → program_of form.Elf bytes ≡ Ok image → IsStartable inputs
-    → campaign_answer rule inputs first count steps bytes ≡ Ok (shown_runs rule inputs steps (plain_runs image inputs steps first count))
-unfolding campaign_answer
-answer_of_runs rule inputs first count steps bytes image read startable =
-    ap (after_image rule inputs first count steps) read
-    ∙ ap (λ none. cond none (Err fault.NoHarts) (cond (ltb MAX_HARTS (length inputs)) (Err fault.TooManyHarts) (Ok (shown_runs rule inputs steps (plain_runs image inputs steps first count)))))
+pub answer_of_runs : (rule : Option Kind) (inputs : List ℕ) (first count steps : ℕ) (image : ImageValue) → IsStartable inputs
+    → after_image rule inputs first count steps (Ok image) ≡ Ok (shown_runs rule inputs steps (plain_runs image inputs steps first count))
+answer_of_runs rule inputs first count steps image startable =
+    ap (λ none. cond none (Err fault.NoHarts) (cond (ltb MAX_HARTS (length inputs)) (Err fault.TooManyHarts) (Ok (shown_runs rule inputs steps (plain_runs image inputs steps first count)))))
     (some (length inputs) startable.0)
     ∙ ap (λ many. cond many (Err fault.TooManyHarts) (Ok (shown_runs rule inputs steps (plain_runs image inputs steps first count)))) (few (length inputs) startable.1)
   where
@@ -139,26 +138,16 @@ answer_of_runs rule inputs first count steps bytes image read startable =
     few : (n : ℕ) → n ≤ MAX_HARTS → ltb MAX_HARTS n ≡ false
     few n h = search (rules, common_steps, h)
 
--- a program that isn't read
-pub answer_of_unread : (rule : Option Kind) (inputs : List ℕ) (first count steps : ℕ) (bytes : List ℕ) (why : RunFault) → program_of form.Elf bytes ≡ Err why
-    → campaign_answer rule inputs first count steps bytes ≡ Err why
-unfolding campaign_answer
-answer_of_unread rule inputs first count steps bytes why read = ap (after_image rule inputs first count steps) read
-
 -- inputs that no run can start with
-pub answer_of_none : (rule : Option Kind) (inputs : List ℕ) (first count steps : ℕ) (bytes : List ℕ) (image : ImageValue) → program_of form.Elf bytes ≡ Ok image → length inputs ≡ 0
-    → campaign_answer rule inputs first count steps bytes ≡ Err fault.NoHarts
-unfolding campaign_answer
-answer_of_none rule inputs first count steps bytes image read none =
-    ap (after_image rule inputs first count steps) read
-    ∙ ap (λ n. cond (eqb n 0) (Err fault.NoHarts) (cond (ltb MAX_HARTS n) (Err fault.TooManyHarts) (Ok (shown_runs rule inputs steps (plain_runs image inputs steps first count))))) none
+answer_of_none : (rule : Option Kind) (inputs : List ℕ) (first count steps : ℕ) (image : ImageValue) → length inputs ≡ 0
+    → after_image rule inputs first count steps (Ok image) ≡ Err fault.NoHarts
+answer_of_none rule inputs first count steps image none =
+    ap (λ n. cond (eqb n 0) (Err fault.NoHarts) (cond (ltb MAX_HARTS n) (Err fault.TooManyHarts) (Ok (shown_runs rule inputs steps (plain_runs image inputs steps first count))))) none
 
-pub answer_of_many : (rule : Option Kind) (inputs : List ℕ) (first count steps : ℕ) (bytes : List ℕ) (image : ImageValue) → program_of form.Elf bytes ≡ Ok image → MAX_HARTS < length inputs
-    → campaign_answer rule inputs first count steps bytes ≡ Err fault.TooManyHarts
-unfolding campaign_answer
-answer_of_many rule inputs first count steps bytes image read many =
-    ap (after_image rule inputs first count steps) read
-    ∙ ap (λ none. cond none (Err fault.NoHarts) (cond (ltb MAX_HARTS (length inputs)) (Err fault.TooManyHarts) (Ok (shown_runs rule inputs steps (plain_runs image inputs steps first count)))))
+answer_of_many : (rule : Option Kind) (inputs : List ℕ) (first count steps : ℕ) (image : ImageValue) → MAX_HARTS < length inputs
+    → after_image rule inputs first count steps (Ok image) ≡ Err fault.TooManyHarts
+answer_of_many rule inputs first count steps image many =
+    ap (λ none. cond none (Err fault.NoHarts) (cond (ltb MAX_HARTS (length inputs)) (Err fault.TooManyHarts) (Ok (shown_runs rule inputs steps (plain_runs image inputs steps first count)))))
     (some (length inputs) many)
     ∙ ap (λ many. cond many (Err fault.TooManyHarts) (Ok (shown_runs rule inputs steps (plain_runs image inputs steps first count)))) (much (length inputs) many)
   where
@@ -169,11 +158,51 @@ answer_of_many rule inputs first count steps bytes image read many =
     much n h = search (rules, common_steps, h)
 
 -- a refusal of the inputs
-pub answer_of_refused : (rule : Option Kind) (inputs : List ℕ) (first count steps : ℕ) (bytes : List ℕ) (image : ImageValue) (why : StartFault) → program_of form.Elf bytes ≡ Ok image
-    → RefusesCampaign inputs why → why ≢ start.Memory → campaign_answer rule inputs first count steps bytes ≡ Err (fault_of_start why)
-answer_of_refused rule inputs first count steps bytes image start.NoHarts read none other = answer_of_none rule inputs first count steps bytes image read none
-answer_of_refused rule inputs first count steps bytes image start.TooManyHarts read many other = answer_of_many rule inputs first count steps bytes image read many
-answer_of_refused rule inputs first count steps bytes image start.Memory read startable other = absurd (other refl)
+pub answer_of_refused : (rule : Option Kind) (inputs : List ℕ) (first count steps : ℕ) (image : ImageValue) (why : StartFault)
+    → RefusesCampaign inputs why → why ≢ start.Memory → after_image rule inputs first count steps (Ok image) ≡ Err (fault_of_start why)
+answer_of_refused rule inputs first count steps image start.NoHarts none other = answer_of_none rule inputs first count steps image none
+answer_of_refused rule inputs first count steps image start.TooManyHarts many other = answer_of_many rule inputs first count steps image many
+answer_of_refused rule inputs first count steps image start.Memory startable other = absurd (other refl)
+
+-- ---- the answer to an image is that to what the device had left
+module _ (rule : Option Kind) (inputs : List ℕ) (first count steps : ℕ) where
+  -- a program that isn't read
+  pub unread_known : (left : Option (List ℕ)) (why : RunFault) → IfSome left (λ p. program_of form.Elf p ≡ Err why)
+      → IfSome left (λ p. campaign_answer rule inputs first count steps p ≡ Err why)
+  unfolding campaign_answer
+  unread_known None why reads = tt
+  unread_known (Some p) why reads = ap (after_image rule inputs first count steps) reads
+
+  module _ (left : Option (List ℕ)) (image : ImageValue) (reads : IfSome left (λ p. program_of form.Elf p ≡ Ok image)) where
+    pub image_known : (P : Answer → Type 0) → P (after_image rule inputs first count steps (Ok image))
+        → IfSome left (λ p. P (campaign_answer rule inputs first count steps p))
+    unfolding campaign_answer
+    image_known P h = go left reads
+      where
+        go : (o : Option (List ℕ)) → IfSome o (λ p. program_of form.Elf p ≡ Ok image)
+            → IfSome o (λ p. P (campaign_answer rule inputs first count steps p))
+        go None r = tt
+        go (Some p) r = subst P (sym (ap (after_image rule inputs first count steps) r)) h
+
+    -- all lines
+    pub done_known : (r : Result Status RunFault) (old new : Option (List ℕ))
+        → IfOk r (λ s. Prints (after_image rule inputs first count steps (Ok image)) s old new)
+        → IfOk r (λ s. IfSome left (λ p. Prints (campaign_answer rule inputs first count steps p) s old new))
+    done_known (Ok s) old new h = image_known (λ a. Prints a s old new) h
+    done_known (Err why) old new h = h
+
+    -- a refusal
+    pub refused_known : (r : Result Status RunFault)
+        → IfErr r (λ why. IsRefusal why → after_image rule inputs first count steps (Ok image) ≡ Err why)
+        → IfErr r (λ why. IsRefusal why → IfSome left (λ p. campaign_answer rule inputs first count steps p ≡ Err why))
+    refused_known (Ok s) h = h
+    refused_known (Err why) h = λ refusal. image_known (λ a. a ≡ Err why) (h refusal)
+
+    -- memory was refused before the first block or later
+    pub halted_known : (K : Type 0) (old new : Option (List ℕ))
+        → K ⊎ BeginsToPrint (after_image rule inputs first count steps (Ok image)) old new
+        → IfSome left (λ p. K ⊎ BeginsToPrint (campaign_answer rule inputs first count steps p) old new)
+    halted_known K old new h = image_known (λ a. K ⊎ BeginsToPrint a old new) h
 
 -- a beginning of the lines, after a fault that halted the runs
 pub begins_answer : (r : Result Status RunFault) (why : RunFault) (answer : Answer) (lines : List ℕ) (status : Status) (old new : Option (List ℕ))

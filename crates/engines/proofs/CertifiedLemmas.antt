@@ -2,8 +2,6 @@
 use Rattle.std.proofs.Common.{zero, suc, [], ◌∷◌, ◌+◌, get_or, IfOk, ◌≡◌, ℕ, ◌^◌, ◌<◌, Bool, true, false, eqb, cond, ltb, rules, List, length, Option, Some, None, Result, Ok, Err, refl, arith, ap, sym, subst, ◌∙◌}
 use Rattle.std.specs.List.{All}
 use Rattle.std.specs.Option.{IfSome}
-use Rattle.std.specs.Io.KnownBytes.{Consumes, IsAtEnd}
-use Rattle.devices.proofs.ReadLemmas.{read_known}
 use Rattle.reservations.specs.declared.reserve.TheConstants.{MAX_HARTS}
 use Rattle.loader.specs.Image.{ImageValue}
 use Rattle.hart_step.specs.Hart.{HartValue}
@@ -141,19 +139,21 @@ campaign_done rule inputs first count steps bytes words h =
     none true e = tt
     none false e = many (ltb MAX_HARTS (length inputs)) (some (length inputs) e)
 
-pub certified_done : (r : Result Status RunFault) (rule : Option Kind) (inputs : List ℕ) (first count steps : ℕ) (bytes : List ℕ) (old new : Option (List ℕ))
-    → All (λ x. x < 2 ^ 32) inputs → IfOk r (λ s. Prints (campaign_answer rule inputs first count steps bytes) s old new)
-    → IfOk r (λ s. IsCertified form.Elf bytes inputs rule → s ≡ status.Done)
+certified_done : (s : Status) (rule : Option Kind) (inputs : List ℕ) (first count steps : ℕ) (bytes : List ℕ) (old new : Option (List ℕ))
+    → All (λ x. x < 2 ^ 32) inputs → Prints (campaign_answer rule inputs first count steps bytes) s old new
+    → IsCertified form.Elf bytes inputs rule → s ≡ status.Done
 unfolding AnswersDone
-certified_done (Ok s) rule inputs first count steps bytes old new words prints =
-    λ h. told (campaign_answer rule inputs first count steps bytes) prints (campaign_done rule inputs first count steps bytes words h)
+certified_done s rule inputs first count steps bytes old new words prints h =
+    told (campaign_answer rule inputs first count steps bytes) prints (campaign_done rule inputs first count steps bytes words h)
   where
     told : (answer : Answer) → Prints answer s old new → AnswersDone answer → s ≡ status.Done
     told (Ok answer) p done = sym p.0 ∙ done
     told (Err why) p done = absurd p
-certified_done (Err why) rule inputs first count steps bytes old new words prints = prints
 
-pub done_known : (r : Result Status RunFault) (P : List ℕ → Type 0) (old new : Option (List ℕ)) (bytes : List ℕ) → Consumes old new bytes → IsAtEnd new
-    → IfOk r (λ s. P bytes → s ≡ status.Done) → IfOk r (λ s. IfSome old (λ p. P p → s ≡ status.Done))
-done_known (Ok s) P old new bytes taken ended h = read_known (λ p. P p → s ≡ status.Done) old new bytes taken ended h
-done_known (Err why) P old new bytes taken ended h = h
+-- a campaign of an object that was read ends well
+pub certified_known : (r : Result Status RunFault) (rule : Option Kind) (inputs : List ℕ) (first count steps : ℕ) (left old new : Option (List ℕ))
+    → All (λ x. x < 2 ^ 32) inputs → IfOk r (λ s. IfSome left (λ p. Prints (campaign_answer rule inputs first count steps p) s old new))
+    → IfOk r (λ s. IfSome left (λ p. IsCertified form.Elf p inputs rule → s ≡ status.Done))
+certified_known (Ok s) rule inputs first count steps None old new words prints = tt
+certified_known (Ok s) rule inputs first count steps (Some p) old new words prints = certified_done s rule inputs first count steps p old new words prints
+certified_known (Err why) rule inputs first count steps left old new words prints = prints

@@ -2,4 +2,3 @@ pub mod RunLemmas
 pub mod CampaignLemmas
 pub mod InfoLemmas
 pub mod CertifiedLemmas
-pub mod ChosenLemmas

@@ -1,26 +1,23 @@
 //! `campaign`: a program and a range of seeds in; a line for the run of each seed out.
 
-ghost use Rattle.std.specs.Prelude.{◌≡◌, ◌≢◌, ◌+◌, ◌++◌, ◌-◌, ◌^◌, ◌<◌, ◌≤◌, ◌⊎◌, ◌||◌, ◌==◌, ℕ, Ok, Err, IfOk, IfErr, IfSome, map, string_bytes};
+ghost use Rattle.std.specs.Prelude.{◌≡◌, ◌≢◌, ◌+◌, ◌++◌, ◌-◌, ◌^◌, ◌<◌, ◌≤◌, ◌⊎◌, Ok, Err, IfOk, IfErr, IfSome, length, map, string_bytes};
+ghost use Rattle.std.specs.List.{All};
 ghost use Rattle.std.specs.Io.KnownBytes.{Appends, Keeps};
 ghost use Rattle.hart_step.specs.Hart.{hart_of};
-ghost use Rattle.campaigns.specs.Campaign.{ends_of, plain_runs, IsStartable};
-ghost use Rattle.engines.specs.Campaign.{bad_runs, bad_status, campaign_answer, counted, counts, entry_with, is_bad, run_verdict, seed_line, seed_lines, status_of_runs, Begins, IfHalts};
-ghost use Rattle.scheduler.specs.Schedules.{seeded_choices};
-ghost use Rattle.protocol_library.specs.Chosen.{is_chosen, ChooseAlike};
+ghost use Rattle.campaigns.specs.Campaign.{ends_of, plain_runs, IsStartable, RemembersChosen};
+ghost use Rattle.engines.specs.Campaign.{after_image, bad_runs, bad_status, campaign_answer, counted, counts, entry_with, is_bad, run_verdict, seed_line, seed_lines, status_of_runs, Begins, IfHalts};
 ghost use Rattle.engines.specs.Certified.{IsCertified};
 ghost use Rattle.engines.specs.Run.{BeginsToPrint, Prints};
 ghost use Rattle.programs.specs.RunFaults.{IfReads, IsRefusal};
 
 use crate::run::see_words;
 use campaigns::{Block, SeedRun, Seeds, campaign, check_inputs};
-use devices::{ReadFault, Sink, Source, Status, read_all, write_all};
+use devices::{Sink, Source, Status, write_all};
 use ends::has_faulted;
 use hart_step::{Hart, HartState};
 use loader::Image;
-use machine::Choice;
-use programs::{Input, ProgramForm, RunFault, read_program};
+use programs::{Input, ProgramForm, RunFault, read_image};
 use protocol_library::{Kind, Verdict, judge};
-use scheduler::{draw_choice, seeded_generator};
 use std::alloc::{AllocError, Allocator};
 use std::fmt;
 use std::thread::Threads;
@@ -115,62 +112,15 @@ impl fmt::Display for SeedLine {
     }
 }
 
-// Whether some choice is that of a hart.
-fn is_chosen(choices: &[Choice], hart: u32) -> bool
-    ensures { result ≡ is_chosen choices.now hart }
-{
-    choices.iter().any(|choice| choice.hart == hart)
-}
-
-// Adds a choice, unless one of its hart is there.
-#[tactic(auto, using(crate::proofs::ChosenLemmas::added, crate::proofs::ChosenLemmas::there))]
-fn add_choice<A: Allocator>(chosen: &mut Vec<Choice, A>, choice: Choice) -> Result<(), AllocError>
-    ensures { IfOk result (λ _. (k : ℕ) → is_chosen chosen.new.items k
-        ≡ (is_chosen chosen.old.items k || (choice.hart == k))) }
-{
-    if is_chosen(chosen, choice.hart) {
-        return Ok(());
-    }
-    chosen.push(choice)?;
-    Ok(())
-}
-
-// A choice of each hart that a seed's schedule chooses. A judge asks for no more of a schedule, which may be too long to be
-// held.
-fn chosen_harts<A: Allocator>(
-    alloc: A,
-    harts: u32,
-    steps: u64,
-    seed: u64,
-) -> Result<Vec<Choice, A>, AllocError>
-    requires { 0 < harts }
-    ensures { IfOk result (λ choices. ChooseAlike choices.items (seeded_choices harts steps seed)) }
-{
-    let mut chosen = Vec::new(alloc);
-    let mut generator = seeded_generator(seed);
-    'steps: for _ in 0..steps {
-        let choice = draw_choice(&mut generator, harts);
-        add_choice(&mut chosen, choice)?;
-    }
-    Ok(chosen)
-}
-
 // What a judge says of a run, where there is a rule.
-fn judge_run<A: Allocator + Copy>(
-    alloc: A,
-    inputs: &[u32],
-    plan: Plan,
-    run: &SeedRun<A>,
-) -> Result<Option<Verdict>, AllocError>
-    requires { IsStartable inputs.now }
-    ensures { IfOk result (λ verdict.
-        verdict ≡ run_verdict plan.rule inputs.now plan.steps (ends_of run.now)) }
+fn judge_run<A: Allocator>(inputs: &[u32], plan: Plan, run: &SeedRun<A>) -> Option<Verdict>
+    requires { RemembersChosen (length inputs.now) plan.steps run.now }
+    ensures { result ≡ run_verdict plan.rule inputs.now plan.steps (ends_of run.now) }
 {
     let Some(kind) = plan.rule else {
-        return Ok(None);
+        return None;
     };
-    let choices = chosen_harts(alloc, inputs.len() as u32, plan.steps, run.seed)?;
-    Ok(Some(judge(kind, inputs, &choices, &run.harts)))
+    Some(judge(kind, inputs, &run.chosen, &run.harts))
 }
 
 // Whether a run is bad: by the verdict, or without one by whether some hart was stopped by its instruction.
@@ -217,14 +167,14 @@ fn push_run<A: Allocator>(
 }
 
 /// Appends the lines of runs of a plan, in order, and counts those that are bad.
-pub fn push_runs<A: Allocator + Copy>(
-    alloc: A,
+pub fn push_runs<A: Allocator>(
     text: &mut String<A>,
     inputs: &[u32],
     plan: Plan,
     runs: &[SeedRun<A>],
 ) -> Result<usize, AllocError>
-    requires { IsStartable inputs.now }
+    // Each run remembers which harts its seed's schedule chose.
+    requires { All (RemembersChosen (length inputs.now) plan.steps) runs.now }
     ensures lines { IfOk result (λ _. string_bytes text.new
         ≡ string_bytes text.old ++ seed_lines plan.rule inputs.now plan.steps (map ends_of runs.now)) }
     ensures bad { IfOk result (λ bad.
@@ -232,7 +182,7 @@ pub fn push_runs<A: Allocator + Copy>(
 {
     let mut bad = 0;
     'runs: for run in runs {
-        let verdict = judge_run(alloc, inputs, plan, run)?;
+        let verdict = judge_run(inputs, plan, run);
         push_run(text, run, verdict)?;
         bad += usize::from(is_bad(verdict, &run.harts));
     }
@@ -269,7 +219,7 @@ fn block_text<A: Allocator + Copy + Send + Sync>(
         return Err(AllocError);
     };
     let mut text = String::new(alloc);
-    let bad = push_runs(alloc, &mut text, inputs, plan, &runs)?;
+    let bad = push_runs(&mut text, inputs, plan, &runs)?;
     Ok((text, bad))
 }
 
@@ -323,48 +273,40 @@ fn write_blocks<A: Allocator + Copy + Send + Sync, K: Sink>(
     }
 }
 
-// Writes the lines of a file's campaign. Nothing is written where the file or the inputs are refused; after another fault a
+// Writes the lines of an image's campaign. Nothing is written where the inputs are refused; after another fault a
 // beginning of the lines may have been written.
 fn write_campaign<A: Allocator + Copy + Send + Sync, K: Sink>(
     rt: &(impl Threads + Sync),
     alloc: A,
     inputs: &[u32],
     plan: Plan,
-    bytes: &[u8],
+    image: &Image<A>,
     sink: &mut K,
     progress: &mut impl Progress,
 ) -> Result<Status, RunFault>
     requires fits { plan.first + plan.count ≤ 2 ^ 64 }
     requires sink_counts { K.failures sink.old < 2 ^ 64 - 1 }
     ensures done { IfOk result (λ status.
-        Prints (campaign_answer plan.rule inputs.now plan.first plan.count plan.steps bytes.now) status
+        Prints (after_image plan.rule inputs.now plan.first plan.count plan.steps (Ok image.now)) status
         (K.held sink.old) (K.held sink.new)) }
     ensures refused { IfErr result (λ fault. IsRefusal fault
-        → campaign_answer plan.rule inputs.now plan.first plan.count plan.steps bytes.now ≡ Err fault) }
+        → after_image plan.rule inputs.now plan.first plan.count plan.steps (Ok image.now) ≡ Err fault) }
     ensures unwritten { IfErr result (λ fault. fault ≢ RunFault.Write → fault ≢ RunFault.Memory
         → Keeps (K.held sink.old) (K.held sink.new)) }
     ensures read { IfErr result (λ fault. fault ≢ RunFault.Read Input.File) }
     ensures write { result ≡ Err RunFault.Write → K.failures sink.old < K.failures sink.new }
     ensures begun { result ≡ Err RunFault.Write →
-        BeginsToPrint (campaign_answer plan.rule inputs.now plan.first plan.count plan.steps bytes.now)
+        BeginsToPrint (after_image plan.rule inputs.now plan.first plan.count plan.steps (Ok image.now))
         (K.held sink.old) (K.held sink.new) }
     ensures halted { result ≡ Err RunFault.Memory → Keeps (K.held sink.old) (K.held sink.new)
-        ⊎ BeginsToPrint (campaign_answer plan.rule inputs.now plan.first plan.count plan.steps bytes.now)
+        ⊎ BeginsToPrint (after_image plan.rule inputs.now plan.first plan.count plan.steps (Ok image.now))
         (K.held sink.old) (K.held sink.new) }
-    // No verdict on an object is broken.
-    ensures certified { IfOk result (λ status.
-        IsCertified ProgramForm.Elf bytes.now inputs.now plan.rule → status ≡ Status.Done) }
 {
-    see_words(inputs);
-    let image = match read_program(alloc, ProgramForm::Elf, bytes) {
-        Ok(image) => image,
-        Err(fault) => return Err(fault),
-    };
     match check_inputs(inputs) {
         Ok(()) => {}
         Err(fault) => return Err(RunFault::from(fault)),
     }
-    write_blocks(rt, alloc, &image, inputs, plan, sink, progress)
+    write_blocks(rt, alloc, image, inputs, plan, sink, progress)
 }
 
 /// `campaign`: reads an ELF file to its end, and writes a line for each seed of the plan, in order, while the runs go on;
@@ -408,10 +350,10 @@ pub fn campaign_engine<A: Allocator + Copy + Send + Sync, P: Source, K: Sink>(
     ensures certified { IfOk result (λ status. IfSome (P.left program.old) (λ p.
         IsCertified ProgramForm.Elf p inputs.now plan.rule → status ≡ Status.Done)) }
 {
-    let bytes = match read_all(alloc, program) {
-        Ok(bytes) => bytes,
-        Err(ReadFault::Device) => return Err(RunFault::Read(Input::File)),
-        Err(ReadFault::Memory) => return Err(RunFault::Memory),
+    see_words(inputs);
+    let image = match read_image(alloc, ProgramForm::Elf, program) {
+        Ok(image) => image,
+        Err(fault) => return Err(fault),
     };
-    write_campaign(rt, alloc, inputs, plan, &bytes, sink, progress)
+    write_campaign(rt, alloc, inputs, plan, &image, sink, progress)
 }

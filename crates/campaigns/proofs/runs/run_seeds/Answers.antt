@@ -1,9 +1,9 @@
-use Rattle.std.proofs.Common.{◌≡◌, ◌<◌, ◌^◌, ◌+◌, ◌-◌, ap, ◌∙◌, arith}
+use Rattle.std.proofs.Common.{◌≡◌, ◌<◌, ◌^◌, ◌+◌, ◌-◌, ap, ◌∙◌, arith, length}
 use Rattle.std.specs.List.{range_with_len}
 use Rattle.rayon.specs.Numbers.{nat_range}
 use Rattle.rayon.proofs.ToStd.{nat_range-All}
-use Rattle.campaigns.specs.Campaign.{IsStartable, seed_ends}
-use Rattle.campaigns.proofs.RunLemmas.{all-listed}
+use Rattle.campaigns.specs.Campaign.{IsStartable, RemembersChosen, seed_ends}
+use Rattle.campaigns.proofs.RunLemmas.{all-listed, all-remember}
 use Rattle.campaigns.proofs.runs.run_seeds.Goals as goal
 
 -- each place is below the number of seeds, so its seed is a number of 64 bits
@@ -14,11 +14,19 @@ collect-requires-clause-ready g c κs within =
     (λ i low high. (c.requires.startable, omega (arith, high, c.requires.fits))) in
     rw (c.map.ensures.base, c.map.ensures.f, c.with_min_len.ensures.base, ends.0, ends.1) (λ k d lt. (inside k d lt, λ y p. tt))
 
-pub returns : goal.returns
-returns g c =
+pub returns-clause-ends : goal.returns-clause-ends
+returns-clause-ends g c =
     let ends = c.into_par_iter.ensures in
     let whole : c.args.count - 0 ≡ c.args.count = omega arith in
     let h = c.in_ok-runs.ensures in
     let chain = rw (c.map.ensures.base, c.map.ensures.f, c.with_min_len.ensures.base) at h.1 in
     let places = chain.1 ∙ (λ i. nat_range (ends.0 i) (ends.1 i)) ∙ ap (range_with_len 0) whole in
-    all-listed (seed_ends c.args.image.now c.args.inputs.now c.args.steps) c.args.first c.args.count c.in_ok-runs.runs chain.0 h.0 places chain.2 h.2
+    all-listed (seed_ends c.args.image.now c.args.inputs.now c.args.steps) c.args.first (RemembersChosen (length c.args.inputs.now) c.args.steps)
+    c.args.count c.in_ok-runs.runs chain.0 h.0 places chain.2 h.2
+
+pub returns-clause-chosen : goal.returns-clause-chosen
+returns-clause-chosen g c =
+    let h = c.in_ok-runs.ensures in
+    let chain = rw (c.map.ensures.base, c.map.ensures.f, c.with_min_len.ensures.base) at h.1 in
+    all-remember (seed_ends c.args.image.now c.args.inputs.now c.args.steps) c.args.first (RemembersChosen (length c.args.inputs.now) c.args.steps)
+    c.in_ok-runs.runs chain.0 h.0 chain.2 h.2

@@ -1,13 +1,36 @@
-use Rattle.std.proofs.Common.{subst, IfOk, ◌≡◌}
-use Rattle.engines.specs.Certified.{IsCertified}
-use Rattle.programs.specs.declared.program.ProgramForm.TheVariants as form
-use Rattle.devices.specs.declared.status.Status.TheVariants as status
-use Rattle.engines.proofs.CertifiedLemmas.{done_known}
+use Rattle.engines.specs.Run.{BeginsToPrint}
+use Rattle.engines.proofs.CampaignLemmas.{done_known, halted_known, image_known, refused_known, unread_known}
+use Rattle.engines.proofs.CertifiedLemmas.{certified_known}
 use Rattle.engines.proofs.campaign.campaign_engine.Goals as goal
+
+pub returns-in-Err-clause-refused : goal.returns-in-Err-clause-refused
+returns-in-Err-clause-refused g c = λ refusal.
+    let plan = c.args.plan in
+    unread_known plan.rule c.args.inputs.now plan.first plan.count plan.steps _ _ (c.in-Err.ensures.refused refusal)
+
+pub returns-clause-done : goal.returns-clause-done
+returns-clause-done g c =
+    let plan = c.args.plan in
+    done_known plan.rule c.args.inputs.now plan.first plan.count plan.steps _ _ c.in-Ok.ensures.ok _ _ _ c.write_campaign.ensures.done
+
+pub returns-clause-refused : goal.returns-clause-refused
+returns-clause-refused g c =
+    let plan = c.args.plan in
+    refused_known plan.rule c.args.inputs.now plan.first plan.count plan.steps _ _ c.in-Ok.ensures.ok _ c.write_campaign.ensures.refused
+
+pub returns-clause-begun : goal.returns-clause-begun
+returns-clause-begun g c = λ e.
+    let plan = c.args.plan in
+    image_known plan.rule c.args.inputs.now plan.first plan.count plan.steps _ _ c.in-Ok.ensures.ok
+    (λ a. BeginsToPrint a (g.K.Sink.held c.args.sink.now) (g.K.Sink.held c.write_campaign.new.sink)) (c.write_campaign.ensures.begun e)
+
+pub returns-clause-halted : goal.returns-clause-halted
+returns-clause-halted g c = λ e.
+    let plan = c.args.plan in
+    halted_known plan.rule c.args.inputs.now plan.first plan.count plan.steps _ _ c.in-Ok.ensures.ok _ _ _ (c.write_campaign.ensures.halted e)
 
 pub returns-clause-certified : goal.returns-clause-certified
 returns-clause-certified g c =
-    let inputs = c.args.inputs.now in
-    let rule = c.args.plan.rule in
-    done_known c.write_campaign.result (λ p. IsCertified form.Elf p inputs rule) _ _ c.in-Ok.bytes.items c.in-Ok.ensures.bytes c.in-Ok.ensures.end
-    (subst (λ p. IfOk c.write_campaign.result (λ s. IsCertified form.Elf p inputs rule → s ≡ status.Done)) c.deref.ensures.value c.write_campaign.ensures.certified)
+    let plan = c.args.plan in
+    certified_known _ plan.rule c.args.inputs.now plan.first plan.count plan.steps _ _ _ c.see_words.ensures
+    (done_known plan.rule c.args.inputs.now plan.first plan.count plan.steps _ _ c.in-Ok.ensures.ok _ _ _ c.write_campaign.ensures.done)

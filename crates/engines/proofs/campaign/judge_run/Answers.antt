@@ -10,12 +10,13 @@ use Rattle.engines.proofs.campaign.judge_run.Goals as goal
 pub returns : goal.returns
 returns g c =
     let inputs = c.args.inputs.now in
-    let harts = map hart_of c.args.run.now.harts.items in
-    let same = same_verdict c.in-Some.kind inputs c.in_ok-choices.choices.items
-    (seeded_choices (length inputs) c.args.plan.steps c.args.run.now.seed) harts c.in_ok-choices.ensures in
+    let run = c.args.run.now in
+    let harts = map hart_of run.harts.items in
+    let same = same_verdict c.in-Some.kind inputs run.chosen.items
+    (seeded_choices (length inputs) c.args.plan.steps run.seed) harts c.requires in
     ap Some
     (c.judge.ensures.verdict
     ∙ ap (λ choices. verdict_of c.in-Some.kind inputs choices (map hart_of c.deref-2.result.now)) c.deref.ensures.value
-    ∙ ap (λ hs. verdict_of c.in-Some.kind inputs c.in_ok-choices.choices.items (map hart_of hs)) c.deref-2.ensures.value
+    ∙ ap (λ hs. verdict_of c.in-Some.kind inputs run.chosen.items (map hart_of hs)) c.deref-2.ensures.value
     ∙ same)
-    ∙ sym (ap (λ rule. run_verdict rule inputs c.args.plan.steps (ends_of c.args.run.now)) c.in-Some.is)
+    ∙ sym (ap (λ rule. run_verdict rule inputs c.args.plan.steps (ends_of run)) c.in-Some.is)
