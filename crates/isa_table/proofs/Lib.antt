@@ -1,3 +1,4 @@
 pub mod Spelled
 pub mod Found
 pub mod Or
+pub mod NameLemmas

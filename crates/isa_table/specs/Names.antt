@@ -1,5 +1,6 @@
 -- The names of the mnemonics. Unprivileged ISA, "RV32/64G Instruction Set Listings".
-use Rattle.std.specs.Prelude.{ℕ, List, codes}
+use Rattle.std.specs.Prelude.{ℕ, List, [], ◌∷◌, Option, Some, None, codes, if◌then◌else◌}
+use Rattle.std.specs.Str.{bytes_eq}
 use Rattle.isa_table.specs.declared.mnemonic.Mnemonic.{Mnemonic}
 use Rattle.isa_table.specs.declared.mnemonic.Mnemonic.TheVariants.{Lui, Auipc, Jal, Jalr, Branch}
 use Rattle.isa_table.specs.declared.mnemonic.Mnemonic.TheVariants.{Load, Store, Immediate, Shift}
@@ -71,3 +72,8 @@ name_of (Amo Amomin) = codes "amomin.w"
 name_of (Amo Amomax) = codes "amomax.w"
 name_of (Amo Amominu) = codes "amominu.w"
 name_of (Amo Amomaxu) = codes "amomaxu.w"
+
+-- the first of the mnemonics that has such a name
+unfoldable pub first_with_name : List Mnemonic → List ℕ → Option Mnemonic
+first_with_name [] name = None
+first_with_name (m ∷ ms) name = if bytes_eq (name_of m) name then Some m else first_with_name ms name

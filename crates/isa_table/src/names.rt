@@ -1,7 +1,11 @@
 //! The names of the mnemonics.
+ghost use Rattle.std.specs.Prelude.{◌≡◌, map};
+ghost use Rattle.isa_table.specs.Names.{first_with_name};
+
 use crate::mnemonic::{
     AmoOp, BranchOp, ImmediateOp, LoadOp, Mnemonic, RegisterOp, ShiftOp, StoreOp,
 };
+use crate::table::{Row, rows};
 
 impl Mnemonic {
     ghost use Rattle.std.specs.Prelude.{◌≡◌, ◌↔◌, Some};
@@ -72,59 +76,19 @@ impl Mnemonic {
     pub fn of_name(name: &str) -> Option<Mnemonic>
         ensures { (m : Mnemonic) → (result ≡ Some m) ↔ (name.now ≡ name_of m) }
     {
-        match name {
-            "lui" => Some(Mnemonic::Lui),
-            "auipc" => Some(Mnemonic::Auipc),
-            "jal" => Some(Mnemonic::Jal),
-            "jalr" => Some(Mnemonic::Jalr),
-            "beq" => Some(Mnemonic::Branch(BranchOp::Beq)),
-            "bne" => Some(Mnemonic::Branch(BranchOp::Bne)),
-            "blt" => Some(Mnemonic::Branch(BranchOp::Blt)),
-            "bge" => Some(Mnemonic::Branch(BranchOp::Bge)),
-            "bltu" => Some(Mnemonic::Branch(BranchOp::Bltu)),
-            "bgeu" => Some(Mnemonic::Branch(BranchOp::Bgeu)),
-            "lb" => Some(Mnemonic::Load(LoadOp::Lb)),
-            "lh" => Some(Mnemonic::Load(LoadOp::Lh)),
-            "lw" => Some(Mnemonic::Load(LoadOp::Lw)),
-            "lbu" => Some(Mnemonic::Load(LoadOp::Lbu)),
-            "lhu" => Some(Mnemonic::Load(LoadOp::Lhu)),
-            "sb" => Some(Mnemonic::Store(StoreOp::Sb)),
-            "sh" => Some(Mnemonic::Store(StoreOp::Sh)),
-            "sw" => Some(Mnemonic::Store(StoreOp::Sw)),
-            "addi" => Some(Mnemonic::Immediate(ImmediateOp::Addi)),
-            "slti" => Some(Mnemonic::Immediate(ImmediateOp::Slti)),
-            "sltiu" => Some(Mnemonic::Immediate(ImmediateOp::Sltiu)),
-            "xori" => Some(Mnemonic::Immediate(ImmediateOp::Xori)),
-            "ori" => Some(Mnemonic::Immediate(ImmediateOp::Ori)),
-            "andi" => Some(Mnemonic::Immediate(ImmediateOp::Andi)),
-            "slli" => Some(Mnemonic::Shift(ShiftOp::Slli)),
-            "srli" => Some(Mnemonic::Shift(ShiftOp::Srli)),
-            "srai" => Some(Mnemonic::Shift(ShiftOp::Srai)),
-            "add" => Some(Mnemonic::Register(RegisterOp::Add)),
-            "sub" => Some(Mnemonic::Register(RegisterOp::Sub)),
-            "sll" => Some(Mnemonic::Register(RegisterOp::Sll)),
-            "slt" => Some(Mnemonic::Register(RegisterOp::Slt)),
-            "sltu" => Some(Mnemonic::Register(RegisterOp::Sltu)),
-            "xor" => Some(Mnemonic::Register(RegisterOp::Xor)),
-            "srl" => Some(Mnemonic::Register(RegisterOp::Srl)),
-            "sra" => Some(Mnemonic::Register(RegisterOp::Sra)),
-            "or" => Some(Mnemonic::Register(RegisterOp::Or)),
-            "and" => Some(Mnemonic::Register(RegisterOp::And)),
-            "fence" => Some(Mnemonic::Fence),
-            "ecall" => Some(Mnemonic::Ecall),
-            "ebreak" => Some(Mnemonic::Ebreak),
-            "lr.w" => Some(Mnemonic::LoadReserved),
-            "sc.w" => Some(Mnemonic::StoreConditional),
-            "amoswap.w" => Some(Mnemonic::Amo(AmoOp::Amoswap)),
-            "amoadd.w" => Some(Mnemonic::Amo(AmoOp::Amoadd)),
-            "amoxor.w" => Some(Mnemonic::Amo(AmoOp::Amoxor)),
-            "amoand.w" => Some(Mnemonic::Amo(AmoOp::Amoand)),
-            "amoor.w" => Some(Mnemonic::Amo(AmoOp::Amoor)),
-            "amomin.w" => Some(Mnemonic::Amo(AmoOp::Amomin)),
-            "amomax.w" => Some(Mnemonic::Amo(AmoOp::Amomax)),
-            "amominu.w" => Some(Mnemonic::Amo(AmoOp::Amominu)),
-            "amomaxu.w" => Some(Mnemonic::Amo(AmoOp::Amomaxu)),
-            _ => None,
+        first_named(rows(), name)
+    }
+}
+
+// The mnemonic of the first of the rows whose mnemonic has such a name.
+#[tactic(auto, unfolding(crate::specs::Names::first_with_name))]
+fn first_named(rows: &[Row], name: &str) -> Option<Mnemonic>
+    ensures { result ≡ first_with_name (map (λ row. row.mnemonic) rows.now) name.now }
+{
+    'rows: for row in rows {
+        if row.mnemonic.name() == name {
+            return Some(row.mnemonic);
         }
     }
+    None
 }
