@@ -59,7 +59,7 @@ pub fn encode(instr: &Instr) -> u32
         Instr::Ecall => WORD_ECALL,
         Instr::Ebreak => WORD_EBREAK,
         Instr::LoadReserved { aq, rl, rd, rs1 } => {
-            atomic_word(FUNCT5_LR, aq, rl, Reg::new(0), rs1, rd)
+            atomic_word(FUNCT5_LR, aq, rl, Reg::ZERO, rs1, rd)
         }
         Instr::StoreConditional {
             aq,

@@ -25,6 +25,15 @@ impl Model for Reg {
 }
 
 impl Reg {
+    /// `zero`: always zero.
+    pub const ZERO: Reg = Reg { number: 0 };
+
+    /// `ra`: the return address.
+    pub const RA: Reg = Reg { number: 1 };
+
+    /// `t1`: a temporary register.
+    pub const T1: Reg = Reg { number: 6 };
+
     /// The register of a number below 32.
     pub fn new(number: u8) -> Self
         requires { number < 2 ^ 5 }
@@ -74,6 +83,39 @@ impl ShiftAmount {
     {
         self.count
     }
+}
+
+/// What an instruction of the A extension orders, as its bits aq and rl say.
+/// A extension, "Specifying Ordering of Atomic Instructions".
+#[derive(Clone, Copy, Debug, PartialEq, Eq)]
+pub struct Order {
+    /// Acquire: later accesses of the hart come after this one.
+    pub aq: bool,
+    /// Release: earlier accesses of the hart come before this one.
+    pub rl: bool,
+}
+
+impl Order {
+    /// Nothing.
+    pub const NONE: Order = Order {
+        aq: false,
+        rl: false,
+    };
+
+    /// Acquire alone.
+    pub const ACQUIRE: Order = Order {
+        aq: true,
+        rl: false,
+    };
+
+    /// Release alone.
+    pub const RELEASE: Order = Order {
+        aq: false,
+        rl: true,
+    };
+
+    /// Both.
+    pub const BOTH: Order = Order { aq: true, rl: true };
 }
 
 /// Four bits of a fence: a set of accesses (device input 8, device output 4, read 2, write 1), or

@@ -8,13 +8,12 @@ pub mod fields;
 pub mod instr;
 pub mod laws;
 pub mod mnemonic;
-mod names;
 pub mod signed;
 pub mod table;
 pub mod vectors;
 
 pub use fields::{
-    BranchOffset, FenceSet, Immediate12, JumpOffset, Reg, ShiftAmount, UpperImmediate,
+    BranchOffset, FenceSet, Immediate12, JumpOffset, Order, Reg, ShiftAmount, UpperImmediate,
 };
 pub use instr::Instr;
 pub use mnemonic::{AmoOp, BranchOp, ImmediateOp, LoadOp, Mnemonic, RegisterOp, ShiftOp, StoreOp};

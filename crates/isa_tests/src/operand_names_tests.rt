@@ -17,6 +17,16 @@ fn registers_have_their_names(rt: HostRuntime) -> Result<(), AllocError> {
 }
 
 #[test]
+fn constants_are_the_registers_of_their_names(rt: HostRuntime) -> Result<(), AllocError> {
+    for (register, wanted) in [(Reg::ZERO, "zero"), (Reg::RA, "ra"), (Reg::T1, "t1")] {
+        let name = RegisterName(register);
+        let text = format!(in rt.alloc(); "{name}")?;
+        assert_eq!(rt; text.as_str(), wanted);
+    }
+    Ok(())
+}
+
+#[test]
 fn sets_have_their_letters(rt: HostRuntime) -> Result<(), AllocError> {
     for (bits, wanted) in [
         (15, "iorw"),

@@ -6,11 +6,11 @@ ghost use Rattle.listing.specs.Lines.{fence_line, instr_line, line_text};
 ghost use Rattle.isa_table.specs.declared.instr.Instr.{Instr};
 
 use crate::shapes::{
-    Order, write_atomic, write_branch, write_immediate, write_jump, write_memory, write_register,
+    write_atomic, write_branch, write_immediate, write_jump, write_memory, write_register,
     write_reserved, write_sets, write_shift, write_upper, write_word,
 };
 use decoder::decode;
-use isa_table::{FenceSet, Instr, Mnemonic};
+use isa_table::{FenceSet, Instr, Mnemonic, Order};
 use std::alloc::{AllocError, Allocator};
 use std::fmt;
 

@@ -6,7 +6,7 @@ ghost use Rattle.isa_table.specs.Signed.{signed_of};
 ghost use Rattle.listing.specs.Lines.{word_line, upper_line, jump_line, branch_line, memory_line, immediate_line, shift_line, register_line, reserved_line, atomic_line, sets_line, fence_line};
 
 use hex_word::Word;
-use isa_table::{FenceSet, Immediate12, Reg, ShiftAmount, UpperImmediate};
+use isa_table::{FenceSet, Immediate12, Order, Reg, ShiftAmount, UpperImmediate};
 use operand_names::{FenceAccesses, RegisterName};
 use std::fmt;
 
@@ -114,20 +114,17 @@ pub fn write_register<W: fmt::Write>(
     write!(f, "{name} {rd}, {rs1}, {rs2}")
 }
 
-/// Acquire and release.
+/// An order, shown by its suffix.
 #[derive(Clone, Copy, Debug)]
-pub struct Order {
-    pub aq: bool,
-    pub rl: bool,
-}
+struct Suffix(Order);
 
-impl fmt::Display for Order {
+impl fmt::Display for Suffix {
     ghost use Rattle.listing.specs.Lines.{suffix};
 
-    ghost output = { λ o. Some (suffix o.aq o.rl) };
+    ghost output = { λ s. Some (suffix s.0.aq s.0.rl) };
 
     fn fmt<W: fmt::Write>(&self, f: &mut fmt::Formatter<W>) -> fmt::Result {
-        f.write_str(match (self.aq, self.rl) {
+        f.write_str(match (self.0.aq, self.0.rl) {
             (true, true) => ".aqrl",
             (true, false) => ".aq",
             (false, true) => ".rl",
@@ -146,7 +143,7 @@ pub fn write_reserved<W: fmt::Write>(
     ensures { DisplaysOnOk W.write_str_gives f.old result
         (Some (reserved_line order.aq order.rl rd rs1)) f.new }
 {
-    let (rd, rs1) = (RegisterName(rd), RegisterName(rs1));
+    let (order, rd, rs1) = (Suffix(order), RegisterName(rd), RegisterName(rs1));
     write!(f, "lr.w{order} {rd}, ({rs1})")
 }
 
@@ -162,6 +159,7 @@ pub fn write_atomic<W: fmt::Write>(
     ensures { DisplaysOnOk W.write_str_gives f.old result
         (Some (atomic_line name.now order.aq order.rl rd rs2 rs1)) f.new }
 {
+    let order = Suffix(order);
     let (rd, rs2, rs1) = (RegisterName(rd), RegisterName(rs2), RegisterName(rs1));
     write!(f, "{name}{order} {rd}, {rs2}, ({rs1})")
 }

@@ -1,6 +1,6 @@
 use Rattle.std.proofs.Common.{◌≡◌, drop, map}
 use Rattle.isa_table.specs.Names.{first_with_name}
-use Rattle.isa_table.proofs.names.first_named.Given as goal
+use Rattle.isa_table.proofs.mnemonic.first_named.Given as goal
 
 -- what the rows that are left give is what all give
 abbrev pub invariant-rows : goal.invariant-rows
