@@ -1,107 +1,58 @@
 -- What a statement's first name says.
-use Rattle.std.specs.Prelude.{ℕ, List, [], ◌∷◌, Option, codes, true, false}
+use Rattle.std.specs.Prelude.{ℕ, List, [], ◌∷◌, ◌++◌, map, flat_map, Option, codes, true, false}
+use Rattle.isa_table.specs.Names.{name_of}
+use Rattle.isa_table.specs.Table.{mnemonics}
+use Rattle.isa_table.specs.declared.fields.Order.{Order}
+use Rattle.isa_table.specs.declared.mnemonic.Mnemonic.{Mnemonic}
+use Rattle.isa_table.specs.declared.mnemonic.Mnemonic.TheVariants as m
 use Rattle.isa_table.specs.declared.mnemonic.BranchOp.TheVariants as branches
-use Rattle.isa_table.specs.declared.mnemonic.LoadOp.TheVariants as loads
-use Rattle.isa_table.specs.declared.mnemonic.StoreOp.TheVariants as stores
-use Rattle.isa_table.specs.declared.mnemonic.ImmediateOp.TheVariants as immediates
-use Rattle.isa_table.specs.declared.mnemonic.ShiftOp.TheVariants as shifts
-use Rattle.isa_table.specs.declared.mnemonic.RegisterOp.TheVariants as registers
-use Rattle.isa_table.specs.declared.mnemonic.AmoOp.TheVariants as amos
 use Rattle.asm_read.specs.declared.statement.Section.TheVariants as sections
 use Rattle.asm_read.specs.declared.heads.Head.{Head}
 use Rattle.asm_read.specs.declared.heads.Head.TheVariants as heads
+use Rattle.asm_read.specs.declared.heads.Operation.{Operation}
 use Rattle.asm_read.specs.declared.heads.Operation.TheVariants as ops
 use Rattle.asm_read.specs.declared.heads.Unary.TheVariants as unaries
 use Rattle.asm_read.specs.Names.{first_named}
 
--- mnemonics with their suffixes, pseudo-instructions, directives
-abbrev pub head_names : List (List ℕ × Head)
-head_names =
-    (codes "lui", heads.Operation ops.Lui) ∷
-    (codes "auipc", heads.Operation ops.Auipc) ∷
-    (codes "jal", heads.Operation ops.Jal) ∷
-    (codes "jalr", heads.Operation ops.Jalr) ∷
-    (codes "beq", heads.Operation (ops.Branch branches.Beq)) ∷
-    (codes "bne", heads.Operation (ops.Branch branches.Bne)) ∷
-    (codes "blt", heads.Operation (ops.Branch branches.Blt)) ∷
-    (codes "bge", heads.Operation (ops.Branch branches.Bge)) ∷
-    (codes "bltu", heads.Operation (ops.Branch branches.Bltu)) ∷
-    (codes "bgeu", heads.Operation (ops.Branch branches.Bgeu)) ∷
-    (codes "lb", heads.Operation (ops.Load loads.Lb)) ∷
-    (codes "lh", heads.Operation (ops.Load loads.Lh)) ∷
-    (codes "lw", heads.Operation (ops.Load loads.Lw)) ∷
-    (codes "lbu", heads.Operation (ops.Load loads.Lbu)) ∷
-    (codes "lhu", heads.Operation (ops.Load loads.Lhu)) ∷
-    (codes "sb", heads.Operation (ops.Store stores.Sb)) ∷
-    (codes "sh", heads.Operation (ops.Store stores.Sh)) ∷
-    (codes "sw", heads.Operation (ops.Store stores.Sw)) ∷
-    (codes "addi", heads.Operation (ops.Immediate immediates.Addi)) ∷
-    (codes "slti", heads.Operation (ops.Immediate immediates.Slti)) ∷
-    (codes "sltiu", heads.Operation (ops.Immediate immediates.Sltiu)) ∷
-    (codes "xori", heads.Operation (ops.Immediate immediates.Xori)) ∷
-    (codes "ori", heads.Operation (ops.Immediate immediates.Ori)) ∷
-    (codes "andi", heads.Operation (ops.Immediate immediates.Andi)) ∷
-    (codes "slli", heads.Operation (ops.Shift shifts.Slli)) ∷
-    (codes "srli", heads.Operation (ops.Shift shifts.Srli)) ∷
-    (codes "srai", heads.Operation (ops.Shift shifts.Srai)) ∷
-    (codes "add", heads.Operation (ops.Register registers.Add)) ∷
-    (codes "sub", heads.Operation (ops.Register registers.Sub)) ∷
-    (codes "sll", heads.Operation (ops.Register registers.Sll)) ∷
-    (codes "slt", heads.Operation (ops.Register registers.Slt)) ∷
-    (codes "sltu", heads.Operation (ops.Register registers.Sltu)) ∷
-    (codes "xor", heads.Operation (ops.Register registers.Xor)) ∷
-    (codes "srl", heads.Operation (ops.Register registers.Srl)) ∷
-    (codes "sra", heads.Operation (ops.Register registers.Sra)) ∷
-    (codes "or", heads.Operation (ops.Register registers.Or)) ∷
-    (codes "and", heads.Operation (ops.Register registers.And)) ∷
-    (codes "fence", heads.Operation ops.Fence) ∷
+-- what may stand behind a mnemonic of the A extension, and the order that it says
+abbrev pub suffixes : List (List ℕ × Order)
+suffixes =
+    ([], record { aq = false; rl = false }) ∷
+    (codes ".aq", record { aq = true; rl = false }) ∷
+    (codes ".rl", record { aq = false; rl = true }) ∷
+    (codes ".aqrl", record { aq = true; rl = true }) ∷ []
+
+-- a mnemonic that stands alone
+abbrev pub alone : Mnemonic → Operation → List (List ℕ × Head)
+alone mnemonic operation = (name_of mnemonic, heads.Operation operation) ∷ []
+
+-- a mnemonic with each suffix
+abbrev pub ordered : Mnemonic → (Order → Operation) → List (List ℕ × Head)
+ordered mnemonic operation = map (λ s. (name_of mnemonic ++ s.0, heads.Operation (operation s.1))) suffixes
+
+-- what a mnemonic says
+abbrev pub mnemonic_names : Mnemonic → List (List ℕ × Head)
+mnemonic_names m.Lui = alone m.Lui ops.Lui
+mnemonic_names m.Auipc = alone m.Auipc ops.Auipc
+mnemonic_names m.Jal = alone m.Jal ops.Jal
+mnemonic_names m.Jalr = alone m.Jalr ops.Jalr
+mnemonic_names (m.Branch op) = alone (m.Branch op) (ops.Branch op)
+mnemonic_names (m.Load op) = alone (m.Load op) (ops.Load op)
+mnemonic_names (m.Store op) = alone (m.Store op) (ops.Store op)
+mnemonic_names (m.Immediate op) = alone (m.Immediate op) (ops.Immediate op)
+mnemonic_names (m.Shift op) = alone (m.Shift op) (ops.Shift op)
+mnemonic_names (m.Register op) = alone (m.Register op) (ops.Register op)
+mnemonic_names m.Fence = alone m.Fence ops.Fence
+mnemonic_names m.Ecall = alone m.Ecall ops.Ecall
+mnemonic_names m.Ebreak = alone m.Ebreak ops.Ebreak
+mnemonic_names m.LoadReserved = ordered m.LoadReserved ops.LoadReserved
+mnemonic_names m.StoreConditional = ordered m.StoreConditional ops.StoreConditional
+mnemonic_names (m.Amo op) = ordered (m.Amo op) (ops.Amo op)
+
+-- FENCE.TSO, pseudo-instructions and directives
+abbrev pub other_names : List (List ℕ × Head)
+other_names =
     (codes "fence.tso", heads.Operation ops.FenceTso) ∷
-    (codes "ecall", heads.Operation ops.Ecall) ∷
-    (codes "ebreak", heads.Operation ops.Ebreak) ∷
-    (codes "lr.w", heads.Operation (ops.LoadReserved false false)) ∷
-    (codes "lr.w.aq", heads.Operation (ops.LoadReserved true false)) ∷
-    (codes "lr.w.rl", heads.Operation (ops.LoadReserved false true)) ∷
-    (codes "lr.w.aqrl", heads.Operation (ops.LoadReserved true true)) ∷
-    (codes "sc.w", heads.Operation (ops.StoreConditional false false)) ∷
-    (codes "sc.w.aq", heads.Operation (ops.StoreConditional true false)) ∷
-    (codes "sc.w.rl", heads.Operation (ops.StoreConditional false true)) ∷
-    (codes "sc.w.aqrl", heads.Operation (ops.StoreConditional true true)) ∷
-    (codes "amoswap.w", heads.Operation (ops.Amo amos.Amoswap false false)) ∷
-    (codes "amoswap.w.aq", heads.Operation (ops.Amo amos.Amoswap true false)) ∷
-    (codes "amoswap.w.rl", heads.Operation (ops.Amo amos.Amoswap false true)) ∷
-    (codes "amoswap.w.aqrl", heads.Operation (ops.Amo amos.Amoswap true true)) ∷
-    (codes "amoadd.w", heads.Operation (ops.Amo amos.Amoadd false false)) ∷
-    (codes "amoadd.w.aq", heads.Operation (ops.Amo amos.Amoadd true false)) ∷
-    (codes "amoadd.w.rl", heads.Operation (ops.Amo amos.Amoadd false true)) ∷
-    (codes "amoadd.w.aqrl", heads.Operation (ops.Amo amos.Amoadd true true)) ∷
-    (codes "amoxor.w", heads.Operation (ops.Amo amos.Amoxor false false)) ∷
-    (codes "amoxor.w.aq", heads.Operation (ops.Amo amos.Amoxor true false)) ∷
-    (codes "amoxor.w.rl", heads.Operation (ops.Amo amos.Amoxor false true)) ∷
-    (codes "amoxor.w.aqrl", heads.Operation (ops.Amo amos.Amoxor true true)) ∷
-    (codes "amoand.w", heads.Operation (ops.Amo amos.Amoand false false)) ∷
-    (codes "amoand.w.aq", heads.Operation (ops.Amo amos.Amoand true false)) ∷
-    (codes "amoand.w.rl", heads.Operation (ops.Amo amos.Amoand false true)) ∷
-    (codes "amoand.w.aqrl", heads.Operation (ops.Amo amos.Amoand true true)) ∷
-    (codes "amoor.w", heads.Operation (ops.Amo amos.Amoor false false)) ∷
-    (codes "amoor.w.aq", heads.Operation (ops.Amo amos.Amoor true false)) ∷
-    (codes "amoor.w.rl", heads.Operation (ops.Amo amos.Amoor false true)) ∷
-    (codes "amoor.w.aqrl", heads.Operation (ops.Amo amos.Amoor true true)) ∷
-    (codes "amomin.w", heads.Operation (ops.Amo amos.Amomin false false)) ∷
-    (codes "amomin.w.aq", heads.Operation (ops.Amo amos.Amomin true false)) ∷
-    (codes "amomin.w.rl", heads.Operation (ops.Amo amos.Amomin false true)) ∷
-    (codes "amomin.w.aqrl", heads.Operation (ops.Amo amos.Amomin true true)) ∷
-    (codes "amomax.w", heads.Operation (ops.Amo amos.Amomax false false)) ∷
-    (codes "amomax.w.aq", heads.Operation (ops.Amo amos.Amomax true false)) ∷
-    (codes "amomax.w.rl", heads.Operation (ops.Amo amos.Amomax false true)) ∷
-    (codes "amomax.w.aqrl", heads.Operation (ops.Amo amos.Amomax true true)) ∷
-    (codes "amominu.w", heads.Operation (ops.Amo amos.Amominu false false)) ∷
-    (codes "amominu.w.aq", heads.Operation (ops.Amo amos.Amominu true false)) ∷
-    (codes "amominu.w.rl", heads.Operation (ops.Amo amos.Amominu false true)) ∷
-    (codes "amominu.w.aqrl", heads.Operation (ops.Amo amos.Amominu true true)) ∷
-    (codes "amomaxu.w", heads.Operation (ops.Amo amos.Amomaxu false false)) ∷
-    (codes "amomaxu.w.aq", heads.Operation (ops.Amo amos.Amomaxu true false)) ∷
-    (codes "amomaxu.w.rl", heads.Operation (ops.Amo amos.Amomaxu false true)) ∷
-    (codes "amomaxu.w.aqrl", heads.Operation (ops.Amo amos.Amomaxu true true)) ∷
     (codes "nop", heads.Operation ops.Nop) ∷
     (codes "ret", heads.Operation ops.Ret) ∷
     (codes "mv", heads.Operation (ops.Unary unaries.Move)) ∷
@@ -150,6 +101,10 @@ head_names =
     (codes ".type", heads.Skipped) ∷
     (codes ".size", heads.Skipped) ∷
     (codes ".ident", heads.Skipped) ∷ []
+
+-- all that a name may say
+abbrev pub head_names : List (List ℕ × Head)
+head_names = flat_map mnemonic_names mnemonics ++ other_names
 
 unfoldable pub head_of : List ℕ → Option Head
 head_of name = first_named head_names name

@@ -1,7 +1,8 @@
 -- Look-ups in tables of names.
-use Rattle.std.specs.Prelude.{ℕ, List, [], ◌∷◌, map, Option, Some, None, if◌then◌else◌, nat_lt, codes}
+use Rattle.std.specs.Prelude.{ℕ, ◌+◌, List, [], ◌∷◌, ◌++◌, map, Option, Some, None, if◌then◌else◌, nat_lt, codes}
 use Rattle.std.specs.Borrow.{Bor}
 use Rattle.std.specs.Str.{bytes_eq}
+use Rattle.operand_names.specs.Names.{abi_names, set_name}
 
 -- what the first row of a name has
 unfoldable pub first_named : {V : Type 0} → List (List ℕ × V) → List ℕ → Option V
@@ -17,92 +18,28 @@ abbrev pub below : ℕ → Option ℕ → Option ℕ
 below bound None = None
 below bound (Some n) = if nat_lt n bound then Some n else None
 
+-- texts with their numbers, the first with this one
+abbrev pub numbered : ℕ → List (List ℕ) → List (List ℕ × ℕ)
+numbered n [] = []
+numbered n (text ∷ texts) = (text, n) ∷ numbered (n + 1) texts
+
+-- the registers by number
+abbrev pub x_names : List (List ℕ)
+x_names =
+    codes "x0" ∷ codes "x1" ∷ codes "x2" ∷ codes "x3" ∷ codes "x4" ∷ codes "x5" ∷ codes "x6" ∷ codes "x7" ∷
+    codes "x8" ∷ codes "x9" ∷ codes "x10" ∷ codes "x11" ∷ codes "x12" ∷ codes "x13" ∷ codes "x14" ∷ codes "x15" ∷
+    codes "x16" ∷ codes "x17" ∷ codes "x18" ∷ codes "x19" ∷ codes "x20" ∷ codes "x21" ∷ codes "x22" ∷ codes "x23" ∷
+    codes "x24" ∷ codes "x25" ∷ codes "x26" ∷ codes "x27" ∷ codes "x28" ∷ codes "x29" ∷ codes "x30" ∷ codes "x31" ∷ []
+
 -- the calling convention's names, then x0 to x31, then the frame pointer's
 abbrev pub register_names : List (List ℕ × ℕ)
-register_names =
-    (codes "zero", 0) ∷
-    (codes "ra", 1) ∷
-    (codes "sp", 2) ∷
-    (codes "gp", 3) ∷
-    (codes "tp", 4) ∷
-    (codes "t0", 5) ∷
-    (codes "t1", 6) ∷
-    (codes "t2", 7) ∷
-    (codes "s0", 8) ∷
-    (codes "s1", 9) ∷
-    (codes "a0", 10) ∷
-    (codes "a1", 11) ∷
-    (codes "a2", 12) ∷
-    (codes "a3", 13) ∷
-    (codes "a4", 14) ∷
-    (codes "a5", 15) ∷
-    (codes "a6", 16) ∷
-    (codes "a7", 17) ∷
-    (codes "s2", 18) ∷
-    (codes "s3", 19) ∷
-    (codes "s4", 20) ∷
-    (codes "s5", 21) ∷
-    (codes "s6", 22) ∷
-    (codes "s7", 23) ∷
-    (codes "s8", 24) ∷
-    (codes "s9", 25) ∷
-    (codes "s10", 26) ∷
-    (codes "s11", 27) ∷
-    (codes "t3", 28) ∷
-    (codes "t4", 29) ∷
-    (codes "t5", 30) ∷
-    (codes "t6", 31) ∷
-    (codes "x0", 0) ∷
-    (codes "x1", 1) ∷
-    (codes "x2", 2) ∷
-    (codes "x3", 3) ∷
-    (codes "x4", 4) ∷
-    (codes "x5", 5) ∷
-    (codes "x6", 6) ∷
-    (codes "x7", 7) ∷
-    (codes "x8", 8) ∷
-    (codes "x9", 9) ∷
-    (codes "x10", 10) ∷
-    (codes "x11", 11) ∷
-    (codes "x12", 12) ∷
-    (codes "x13", 13) ∷
-    (codes "x14", 14) ∷
-    (codes "x15", 15) ∷
-    (codes "x16", 16) ∷
-    (codes "x17", 17) ∷
-    (codes "x18", 18) ∷
-    (codes "x19", 19) ∷
-    (codes "x20", 20) ∷
-    (codes "x21", 21) ∷
-    (codes "x22", 22) ∷
-    (codes "x23", 23) ∷
-    (codes "x24", 24) ∷
-    (codes "x25", 25) ∷
-    (codes "x26", 26) ∷
-    (codes "x27", 27) ∷
-    (codes "x28", 28) ∷
-    (codes "x29", 29) ∷
-    (codes "x30", 30) ∷
-    (codes "x31", 31) ∷
-    (codes "fp", 8) ∷ []
+register_names = numbered 0 abi_names ++ (numbered 0 x_names ++ (codes "fp", 8) ∷ [])
 
+-- the sets of accesses that aren't empty, by their letters
 abbrev pub fence_names : List (List ℕ × ℕ)
 fence_names =
-    (codes "w", 1) ∷
-    (codes "r", 2) ∷
-    (codes "rw", 3) ∷
-    (codes "o", 4) ∷
-    (codes "ow", 5) ∷
-    (codes "or", 6) ∷
-    (codes "orw", 7) ∷
-    (codes "i", 8) ∷
-    (codes "iw", 9) ∷
-    (codes "ir", 10) ∷
-    (codes "irw", 11) ∷
-    (codes "io", 12) ∷
-    (codes "iow", 13) ∷
-    (codes "ior", 14) ∷
-    (codes "iorw", 15) ∷ []
+    map (λ set. (set_name set, set))
+    (1 ∷ 2 ∷ 3 ∷ 4 ∷ 5 ∷ 6 ∷ 7 ∷ 8 ∷ 9 ∷ 10 ∷ 11 ∷ 12 ∷ 13 ∷ 14 ∷ 15 ∷ [])
 
 unfoldable pub register_number : List ℕ → Option ℕ
 register_number name = first_named register_names name

@@ -1,5 +1,5 @@
 -- Instructions with their operands, over lexemes. A wrong shape is told before a name that is no register.
-use Rattle.std.specs.Prelude.{ℕ, pos, negsuc, List, [], ◌∷◌, Bool, Option, Some, None, Result, Ok, Err}
+use Rattle.std.specs.Prelude.{ℕ, pos, negsuc, List, [], ◌∷◌, Option, Some, None, Result, Ok, Err}
 use Rattle.asm_text.specs.Lexemes.{Lexeme, Word, Comma}
 use Rattle.isa_table.specs.declared.mnemonic.AmoOp.{AmoOp}
 use Rattle.isa_table.specs.declared.mnemonic.BranchOp.{BranchOp}
@@ -10,6 +10,7 @@ use Rattle.isa_table.specs.declared.mnemonic.ShiftOp.{ShiftOp}
 use Rattle.isa_table.specs.declared.mnemonic.StoreOp.{StoreOp}
 use Rattle.isa_table.specs.declared.mnemonic.ImmediateOp.TheVariants.{Addi, Xori, Sltiu}
 use Rattle.isa_table.specs.declared.mnemonic.RegisterOp.TheVariants.{Sub, Sltu, Slt}
+use Rattle.isa_table.specs.declared.fields.Order.{Order}
 use Rattle.isa_table.specs.declared.instr.Instr.{Instr}
 use Rattle.isa_table.specs.declared.instr.Instr.TheVariants as instrs
 use Rattle.asm_read.specs.declared.fault.FaultKind.{FaultKind}
@@ -141,19 +142,19 @@ alone instr [] = Ok instr
 alone instr (l ∷ ls) = Err faults.Operands
 
 -- `rd, (rs1)`
-unfoldable pub load_reserved : Bool → Bool → List Lexeme → Result Instr FaultKind
-load_reserved aq rl (Word rd ∷ Comma ∷ rest) = shaped (address rest) (λ base. register rd >>- λ rd. register base >>- λ rs1. Ok (instrs.LoadReserved aq rl rd rs1))
-load_reserved aq rl _ = Err faults.Operands
+unfoldable pub load_reserved : Order → List Lexeme → Result Instr FaultKind
+load_reserved order (Word rd ∷ Comma ∷ rest) = shaped (address rest) (λ base. register rd >>- λ rd. register base >>- λ rs1. Ok (instrs.LoadReserved order.aq order.rl rd rs1))
+load_reserved order _ = Err faults.Operands
 
 -- `rd, rs2, (rs1)`, of SC.W
-unfoldable pub store_conditional : Bool → Bool → List Lexeme → Result Instr FaultKind
-store_conditional aq rl (Word rd ∷ Comma ∷ Word rs2 ∷ Comma ∷ rest) = shaped (address rest) (λ base. register rd >>- λ rd. register rs2 >>- λ rs2. register base >>- λ rs1. Ok (instrs.StoreConditional aq rl rd rs1 rs2))
-store_conditional aq rl _ = Err faults.Operands
+unfoldable pub store_conditional : Order → List Lexeme → Result Instr FaultKind
+store_conditional order (Word rd ∷ Comma ∷ Word rs2 ∷ Comma ∷ rest) = shaped (address rest) (λ base. register rd >>- λ rd. register rs2 >>- λ rs2. register base >>- λ rs1. Ok (instrs.StoreConditional order.aq order.rl rd rs1 rs2))
+store_conditional order _ = Err faults.Operands
 
 -- `rd, rs2, (rs1)`, of an AMO
-unfoldable pub atomic : AmoOp → Bool → Bool → List Lexeme → Result Instr FaultKind
-atomic op aq rl (Word rd ∷ Comma ∷ Word rs2 ∷ Comma ∷ rest) = shaped (address rest) (λ base. register rd >>- λ rd. register rs2 >>- λ rs2. register base >>- λ rs1. Ok (instrs.Amo op aq rl rd rs1 rs2))
-atomic op aq rl _ = Err faults.Operands
+unfoldable pub atomic : AmoOp → Order → List Lexeme → Result Instr FaultKind
+atomic op order (Word rd ∷ Comma ∷ Word rs2 ∷ Comma ∷ rest) = shaped (address rest) (λ base. register rd >>- λ rd. register rs2 >>- λ rs2. register base >>- λ rs1. Ok (instrs.Amo op order.aq order.rl rd rs1 rs2))
+atomic op order _ = Err faults.Operands
 
 abbrev pub register_instruction : RegisterOp → ℕ → ℕ → ℕ → Instruction
 register_instruction op rd rs1 rs2 = i.Fixed (instrs.Register op rd rs1 rs2)
@@ -187,9 +188,9 @@ fixed (ops.Register op) ls = three_registers op ls
 fixed ops.Fence ls = fence ls
 fixed ops.FenceTso ls = alone fence_tso ls
 fixed ops.Ebreak ls = alone instrs.Ebreak ls
-fixed (ops.LoadReserved aq rl) ls = load_reserved aq rl ls
-fixed (ops.StoreConditional aq rl) ls = store_conditional aq rl ls
-fixed (ops.Amo op aq rl) ls = atomic op aq rl ls
+fixed (ops.LoadReserved order) ls = load_reserved order ls
+fixed (ops.StoreConditional order) ls = store_conditional order ls
+fixed (ops.Amo op order) ls = atomic op order ls
 fixed _ ls = alone instrs.Ecall ls
 
 abbrev as_fixed : Result Instr FaultKind → Result Instruction FaultKind

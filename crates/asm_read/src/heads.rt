@@ -4,7 +4,7 @@ ghost use Rattle.asm_read.specs.Heads.{head_of};
 
 use crate::names::{find, first_of};
 use crate::statement::Section;
-use isa_table::{AmoOp, BranchOp, ImmediateOp, LoadOp, RegisterOp, ShiftOp, StoreOp};
+use isa_table::{AmoOp, BranchOp, ImmediateOp, LoadOp, Order, RegisterOp, ShiftOp, StoreOp};
 
 /// A pseudo-instruction of two registers, rd and rs.
 #[derive(Clone, Copy, Debug, PartialEq, Eq)]
@@ -25,8 +25,7 @@ pub enum Unary {
     IsPositive,
 }
 
-/// An instruction, or a pseudo-instruction that is one instruction wherever it stands. Two truth values are acquire and
-/// release.
+/// An instruction, or a pseudo-instruction that is one instruction wherever it stands.
 #[derive(Clone, Copy, Debug, PartialEq, Eq)]
 pub enum Operation {
     Lui,
@@ -46,9 +45,9 @@ pub enum Operation {
     FenceTso,
     Ecall,
     Ebreak,
-    LoadReserved(bool, bool),
-    StoreConditional(bool, bool),
-    Amo(AmoOp, bool, bool),
+    LoadReserved(Order),
+    StoreConditional(Order),
+    Amo(AmoOp, Order),
     /// `addi zero, zero, 0`
     Nop,
     /// `jalr zero, 0(ra)`
@@ -105,147 +104,147 @@ const A_HEADS: [(&str, Head); 41] = [
     ("and", Head::Operation(Operation::Register(RegisterOp::And))),
     (
         "amoswap.w",
-        Head::Operation(Operation::Amo(AmoOp::Amoswap, false, false)),
+        Head::Operation(Operation::Amo(AmoOp::Amoswap, Order::NONE)),
     ),
     (
         "amoswap.w.aq",
-        Head::Operation(Operation::Amo(AmoOp::Amoswap, true, false)),
+        Head::Operation(Operation::Amo(AmoOp::Amoswap, Order::ACQUIRE)),
     ),
     (
         "amoswap.w.rl",
-        Head::Operation(Operation::Amo(AmoOp::Amoswap, false, true)),
+        Head::Operation(Operation::Amo(AmoOp::Amoswap, Order::RELEASE)),
     ),
     (
         "amoswap.w.aqrl",
-        Head::Operation(Operation::Amo(AmoOp::Amoswap, true, true)),
+        Head::Operation(Operation::Amo(AmoOp::Amoswap, Order::BOTH)),
     ),
     (
         "amoadd.w",
-        Head::Operation(Operation::Amo(AmoOp::Amoadd, false, false)),
+        Head::Operation(Operation::Amo(AmoOp::Amoadd, Order::NONE)),
     ),
     (
         "amoadd.w.aq",
-        Head::Operation(Operation::Amo(AmoOp::Amoadd, true, false)),
+        Head::Operation(Operation::Amo(AmoOp::Amoadd, Order::ACQUIRE)),
     ),
     (
         "amoadd.w.rl",
-        Head::Operation(Operation::Amo(AmoOp::Amoadd, false, true)),
+        Head::Operation(Operation::Amo(AmoOp::Amoadd, Order::RELEASE)),
     ),
     (
         "amoadd.w.aqrl",
-        Head::Operation(Operation::Amo(AmoOp::Amoadd, true, true)),
+        Head::Operation(Operation::Amo(AmoOp::Amoadd, Order::BOTH)),
     ),
     (
         "amoxor.w",
-        Head::Operation(Operation::Amo(AmoOp::Amoxor, false, false)),
+        Head::Operation(Operation::Amo(AmoOp::Amoxor, Order::NONE)),
     ),
     (
         "amoxor.w.aq",
-        Head::Operation(Operation::Amo(AmoOp::Amoxor, true, false)),
+        Head::Operation(Operation::Amo(AmoOp::Amoxor, Order::ACQUIRE)),
     ),
     (
         "amoxor.w.rl",
-        Head::Operation(Operation::Amo(AmoOp::Amoxor, false, true)),
+        Head::Operation(Operation::Amo(AmoOp::Amoxor, Order::RELEASE)),
     ),
     (
         "amoxor.w.aqrl",
-        Head::Operation(Operation::Amo(AmoOp::Amoxor, true, true)),
+        Head::Operation(Operation::Amo(AmoOp::Amoxor, Order::BOTH)),
     ),
     (
         "amoand.w",
-        Head::Operation(Operation::Amo(AmoOp::Amoand, false, false)),
+        Head::Operation(Operation::Amo(AmoOp::Amoand, Order::NONE)),
     ),
     (
         "amoand.w.aq",
-        Head::Operation(Operation::Amo(AmoOp::Amoand, true, false)),
+        Head::Operation(Operation::Amo(AmoOp::Amoand, Order::ACQUIRE)),
     ),
     (
         "amoand.w.rl",
-        Head::Operation(Operation::Amo(AmoOp::Amoand, false, true)),
+        Head::Operation(Operation::Amo(AmoOp::Amoand, Order::RELEASE)),
     ),
     (
         "amoand.w.aqrl",
-        Head::Operation(Operation::Amo(AmoOp::Amoand, true, true)),
+        Head::Operation(Operation::Amo(AmoOp::Amoand, Order::BOTH)),
     ),
     (
         "amoor.w",
-        Head::Operation(Operation::Amo(AmoOp::Amoor, false, false)),
+        Head::Operation(Operation::Amo(AmoOp::Amoor, Order::NONE)),
     ),
     (
         "amoor.w.aq",
-        Head::Operation(Operation::Amo(AmoOp::Amoor, true, false)),
+        Head::Operation(Operation::Amo(AmoOp::Amoor, Order::ACQUIRE)),
     ),
     (
         "amoor.w.rl",
-        Head::Operation(Operation::Amo(AmoOp::Amoor, false, true)),
+        Head::Operation(Operation::Amo(AmoOp::Amoor, Order::RELEASE)),
     ),
     (
         "amoor.w.aqrl",
-        Head::Operation(Operation::Amo(AmoOp::Amoor, true, true)),
+        Head::Operation(Operation::Amo(AmoOp::Amoor, Order::BOTH)),
     ),
     (
         "amomin.w",
-        Head::Operation(Operation::Amo(AmoOp::Amomin, false, false)),
+        Head::Operation(Operation::Amo(AmoOp::Amomin, Order::NONE)),
     ),
     (
         "amomin.w.aq",
-        Head::Operation(Operation::Amo(AmoOp::Amomin, true, false)),
+        Head::Operation(Operation::Amo(AmoOp::Amomin, Order::ACQUIRE)),
     ),
     (
         "amomin.w.rl",
-        Head::Operation(Operation::Amo(AmoOp::Amomin, false, true)),
+        Head::Operation(Operation::Amo(AmoOp::Amomin, Order::RELEASE)),
     ),
     (
         "amomin.w.aqrl",
-        Head::Operation(Operation::Amo(AmoOp::Amomin, true, true)),
+        Head::Operation(Operation::Amo(AmoOp::Amomin, Order::BOTH)),
     ),
     (
         "amomax.w",
-        Head::Operation(Operation::Amo(AmoOp::Amomax, false, false)),
+        Head::Operation(Operation::Amo(AmoOp::Amomax, Order::NONE)),
     ),
     (
         "amomax.w.aq",
-        Head::Operation(Operation::Amo(AmoOp::Amomax, true, false)),
+        Head::Operation(Operation::Amo(AmoOp::Amomax, Order::ACQUIRE)),
     ),
     (
         "amomax.w.rl",
-        Head::Operation(Operation::Amo(AmoOp::Amomax, false, true)),
+        Head::Operation(Operation::Amo(AmoOp::Amomax, Order::RELEASE)),
     ),
     (
         "amomax.w.aqrl",
-        Head::Operation(Operation::Amo(AmoOp::Amomax, true, true)),
+        Head::Operation(Operation::Amo(AmoOp::Amomax, Order::BOTH)),
     ),
     (
         "amominu.w",
-        Head::Operation(Operation::Amo(AmoOp::Amominu, false, false)),
+        Head::Operation(Operation::Amo(AmoOp::Amominu, Order::NONE)),
     ),
     (
         "amominu.w.aq",
-        Head::Operation(Operation::Amo(AmoOp::Amominu, true, false)),
+        Head::Operation(Operation::Amo(AmoOp::Amominu, Order::ACQUIRE)),
     ),
     (
         "amominu.w.rl",
-        Head::Operation(Operation::Amo(AmoOp::Amominu, false, true)),
+        Head::Operation(Operation::Amo(AmoOp::Amominu, Order::RELEASE)),
     ),
     (
         "amominu.w.aqrl",
-        Head::Operation(Operation::Amo(AmoOp::Amominu, true, true)),
+        Head::Operation(Operation::Amo(AmoOp::Amominu, Order::BOTH)),
     ),
     (
         "amomaxu.w",
-        Head::Operation(Operation::Amo(AmoOp::Amomaxu, false, false)),
+        Head::Operation(Operation::Amo(AmoOp::Amomaxu, Order::NONE)),
     ),
     (
         "amomaxu.w.aq",
-        Head::Operation(Operation::Amo(AmoOp::Amomaxu, true, false)),
+        Head::Operation(Operation::Amo(AmoOp::Amomaxu, Order::ACQUIRE)),
     ),
     (
         "amomaxu.w.rl",
-        Head::Operation(Operation::Amo(AmoOp::Amomaxu, false, true)),
+        Head::Operation(Operation::Amo(AmoOp::Amomaxu, Order::RELEASE)),
     ),
     (
         "amomaxu.w.aqrl",
-        Head::Operation(Operation::Amo(AmoOp::Amomaxu, true, true)),
+        Head::Operation(Operation::Amo(AmoOp::Amomaxu, Order::BOTH)),
     ),
 ];
 
@@ -309,19 +308,19 @@ const L_HEADS: [(&str, Head); 12] = [
     ("lhu", Head::Operation(Operation::Load(LoadOp::Lhu))),
     (
         "lr.w",
-        Head::Operation(Operation::LoadReserved(false, false)),
+        Head::Operation(Operation::LoadReserved(Order::NONE)),
     ),
     (
         "lr.w.aq",
-        Head::Operation(Operation::LoadReserved(true, false)),
+        Head::Operation(Operation::LoadReserved(Order::ACQUIRE)),
     ),
     (
         "lr.w.rl",
-        Head::Operation(Operation::LoadReserved(false, true)),
+        Head::Operation(Operation::LoadReserved(Order::RELEASE)),
     ),
     (
         "lr.w.aqrl",
-        Head::Operation(Operation::LoadReserved(true, true)),
+        Head::Operation(Operation::LoadReserved(Order::BOTH)),
     ),
     ("li", Head::Li),
     ("la", Head::La),
@@ -354,19 +353,19 @@ const S_HEADS: [(&str, Head); 22] = [
     ("sra", Head::Operation(Operation::Register(RegisterOp::Sra))),
     (
         "sc.w",
-        Head::Operation(Operation::StoreConditional(false, false)),
+        Head::Operation(Operation::StoreConditional(Order::NONE)),
     ),
     (
         "sc.w.aq",
-        Head::Operation(Operation::StoreConditional(true, false)),
+        Head::Operation(Operation::StoreConditional(Order::ACQUIRE)),
     ),
     (
         "sc.w.rl",
-        Head::Operation(Operation::StoreConditional(false, true)),
+        Head::Operation(Operation::StoreConditional(Order::RELEASE)),
     ),
     (
         "sc.w.aqrl",
-        Head::Operation(Operation::StoreConditional(true, true)),
+        Head::Operation(Operation::StoreConditional(Order::BOTH)),
     ),
     ("seqz", Head::Operation(Operation::Unary(Unary::IsZero))),
     ("snez", Head::Operation(Operation::Unary(Unary::IsNotZero))),
@@ -416,9 +415,9 @@ const OTHER_HEADS: [(&str, Head); 19] = [
     ("xor", Head::Operation(Operation::Register(RegisterOp::Xor))),
     ("or", Head::Operation(Operation::Register(RegisterOp::Or))),
     ("fence", Head::Operation(Operation::Fence)),
-    ("fence.tso", Head::Operation(Operation::FenceTso)),
     ("ecall", Head::Operation(Operation::Ecall)),
     ("ebreak", Head::Operation(Operation::Ebreak)),
+    ("fence.tso", Head::Operation(Operation::FenceTso)),
     ("nop", Head::Operation(Operation::Nop)),
     ("ret", Head::Operation(Operation::Ret)),
     ("mv", Head::Operation(Operation::Unary(Unary::Move))),

@@ -11,21 +11,8 @@ use crate::shape::{address, immediate, memory, number, register, target, upper};
 use crate::statement::Instruction;
 use asm_text::Lexeme;
 use isa_table::{
-    AmoOp, BranchOp, FenceSet, ImmediateOp, Instr, LoadOp, Reg, RegisterOp, ShiftOp, StoreOp,
+    AmoOp, BranchOp, FenceSet, ImmediateOp, Instr, LoadOp, Order, Reg, RegisterOp, ShiftOp, StoreOp,
 };
-
-// x0, ra and the sets of all accesses and of reads and writes.
-fn zero() -> Reg
-    ensures { result ≡ 0 }
-{
-    Reg::new(0)
-}
-
-fn return_address() -> Reg
-    ensures { result ≡ 1 }
-{
-    Reg::new(1)
-}
 
 // `rd, rs1, rs2`
 #[tactic(auto, unfolding(crate::specs::Operations::three_registers))]
@@ -205,7 +192,7 @@ fn branch_zero<'a>(op: BranchOp, lexemes: &[Lexeme<'a>]) -> Result<Instruction<'
         [Lexeme::Name(rs1), Lexeme::Comma, rest @ ..] => match target(rest) {
             Some(target) => {
                 let rs1 = register(rs1)?;
-                let rs2 = zero();
+                let rs2 = Reg::ZERO;
                 Ok(Instruction::Branch {
                     op,
                     rs1,
@@ -227,7 +214,7 @@ fn zero_branch<'a>(op: BranchOp, lexemes: &[Lexeme<'a>]) -> Result<Instruction<'
     match lexemes {
         [Lexeme::Name(rs2), Lexeme::Comma, rest @ ..] => match target(rest) {
             Some(target) => {
-                let rs1 = zero();
+                let rs1 = Reg::ZERO;
                 let rs2 = register(rs2)?;
                 Ok(Instruction::Branch {
                     op,
@@ -300,7 +287,7 @@ fn jal<'a>(lexemes: &[Lexeme<'a>]) -> Result<Instruction<'a>, FaultKind>
             }
             None => Err(FaultKind::Operands),
         },
-        _ => jump(return_address(), lexemes),
+        _ => jump(Reg::RA, lexemes),
     }
 }
 
@@ -359,7 +346,7 @@ fn jalr<'a>(lexemes: &[Lexeme<'a>]) -> Result<Instruction<'a>, FaultKind>
 {
     match lexemes {
         [Lexeme::Name(rd), Lexeme::Comma, rest @ ..] => jalr_behind(rd, rest),
-        _ => jump_register(return_address(), lexemes),
+        _ => jump_register(Reg::RA, lexemes),
     }
 }
 
@@ -387,8 +374,8 @@ fn plain_fence(pred: FenceSet, succ: FenceSet) -> Instr
         mode: FenceSet::new(0),
         pred,
         succ,
-        rs1: zero(),
-        rd: zero(),
+        rs1: Reg::ZERO,
+        rd: Reg::ZERO,
     }
 }
 
@@ -400,8 +387,8 @@ fn fence_tso() -> Instr
         mode: FenceSet::new(8),
         pred: FenceSet::new(3),
         succ: FenceSet::new(3),
-        rs1: zero(),
-        rd: zero(),
+        rs1: Reg::ZERO,
+        rd: Reg::ZERO,
     }
 }
 
@@ -418,14 +405,15 @@ fn alone(instr: Instr, lexemes: &[Lexeme]) -> Result<Instr, FaultKind>
 
 // `rd, (rs1)`
 #[tactic(auto, unfolding(crate::specs::Operations::load_reserved))]
-fn load_reserved(aq: bool, rl: bool, lexemes: &[Lexeme]) -> Result<Instr, FaultKind>
-    ensures { result ≡ operations.load_reserved aq rl (map seen lexemes.now) }
+fn load_reserved(order: Order, lexemes: &[Lexeme]) -> Result<Instr, FaultKind>
+    ensures { result ≡ operations.load_reserved order (map seen lexemes.now) }
 {
     match lexemes {
         [Lexeme::Name(rd), Lexeme::Comma, rest @ ..] => match address(rest) {
             Some(base) => {
                 let rd = register(rd)?;
                 let rs1 = register(base)?;
+                let Order { aq, rl } = order;
                 Ok(Instr::LoadReserved { aq, rl, rd, rs1 })
             }
             None => Err(FaultKind::Operands),
@@ -436,8 +424,8 @@ fn load_reserved(aq: bool, rl: bool, lexemes: &[Lexeme]) -> Result<Instr, FaultK
 
 // `rd, rs2, (rs1)`, of SC.W
 #[tactic(auto, unfolding(crate::specs::Operations::store_conditional))]
-fn store_conditional(aq: bool, rl: bool, lexemes: &[Lexeme]) -> Result<Instr, FaultKind>
-    ensures { result ≡ operations.store_conditional aq rl (map seen lexemes.now) }
+fn store_conditional(order: Order, lexemes: &[Lexeme]) -> Result<Instr, FaultKind>
+    ensures { result ≡ operations.store_conditional order (map seen lexemes.now) }
 {
     match lexemes {
         [
@@ -451,6 +439,7 @@ fn store_conditional(aq: bool, rl: bool, lexemes: &[Lexeme]) -> Result<Instr, Fa
                 let rd = register(rd)?;
                 let rs2 = register(rs2)?;
                 let rs1 = register(base)?;
+                let Order { aq, rl } = order;
                 Ok(Instr::StoreConditional {
                     aq,
                     rl,
@@ -467,8 +456,8 @@ fn store_conditional(aq: bool, rl: bool, lexemes: &[Lexeme]) -> Result<Instr, Fa
 
 // `rd, rs2, (rs1)`, of an AMO
 #[tactic(auto, unfolding(crate::specs::Operations::atomic))]
-fn atomic(op: AmoOp, aq: bool, rl: bool, lexemes: &[Lexeme]) -> Result<Instr, FaultKind>
-    ensures { result ≡ operations.atomic op aq rl (map seen lexemes.now) }
+fn atomic(op: AmoOp, order: Order, lexemes: &[Lexeme]) -> Result<Instr, FaultKind>
+    ensures { result ≡ operations.atomic op order (map seen lexemes.now) }
 {
     match lexemes {
         [
@@ -482,6 +471,7 @@ fn atomic(op: AmoOp, aq: bool, rl: bool, lexemes: &[Lexeme]) -> Result<Instr, Fa
                 let rd = register(rd)?;
                 let rs2 = register(rs2)?;
                 let rs1 = register(base)?;
+                let Order { aq, rl } = order;
                 Ok(Instr::Amo {
                     op,
                     aq,
@@ -505,10 +495,10 @@ fn unary_instruction<'a>(op: Unary, rd: Reg, rs: Reg) -> Instruction<'a>
         Unary::Move => (ImmediateOp::Addi, rs, 0),
         Unary::Not => (ImmediateOp::Xori, rs, -1),
         Unary::IsZero => (ImmediateOp::Sltiu, rs, 1),
-        Unary::Negate => return register_instruction(RegisterOp::Sub, rd, zero(), rs),
-        Unary::IsNotZero => return register_instruction(RegisterOp::Sltu, rd, zero(), rs),
-        Unary::IsNegative => return register_instruction(RegisterOp::Slt, rd, rs, zero()),
-        Unary::IsPositive => return register_instruction(RegisterOp::Slt, rd, zero(), rs),
+        Unary::Negate => return register_instruction(RegisterOp::Sub, rd, Reg::ZERO, rs),
+        Unary::IsNotZero => return register_instruction(RegisterOp::Sltu, rd, Reg::ZERO, rs),
+        Unary::IsNegative => return register_instruction(RegisterOp::Slt, rd, rs, Reg::ZERO),
+        Unary::IsPositive => return register_instruction(RegisterOp::Slt, rd, Reg::ZERO, rs),
     };
     Instruction::Immediate {
         op,
@@ -544,8 +534,8 @@ fn return_instruction<'a>() -> Instruction<'a>
     ensures { result ≡ operations.return_instruction }
 {
     Instruction::Jalr {
-        rd: zero(),
-        rs1: return_address(),
+        rd: Reg::ZERO,
+        rs1: Reg::RA,
         imm: Immediate::Number(0),
     }
 }
@@ -560,9 +550,9 @@ fn fixed(operation: Operation, lexemes: &[Lexeme]) -> Result<Instr, FaultKind>
         Operation::Fence => fence(lexemes),
         Operation::FenceTso => alone(fence_tso(), lexemes),
         Operation::Ebreak => alone(Instr::Ebreak, lexemes),
-        Operation::LoadReserved(aq, rl) => load_reserved(aq, rl, lexemes),
-        Operation::StoreConditional(aq, rl) => store_conditional(aq, rl, lexemes),
-        Operation::Amo(op, aq, rl) => atomic(op, aq, rl, lexemes),
+        Operation::LoadReserved(order) => load_reserved(order, lexemes),
+        Operation::StoreConditional(order) => store_conditional(order, lexemes),
+        Operation::Amo(op, order) => atomic(op, order, lexemes),
         _ => alone(Instr::Ecall, lexemes),
     }
 }
@@ -599,14 +589,17 @@ pub fn instruction<'a>(
         Operation::Store(op) => store(op, lexemes),
         Operation::Immediate(op) => with_immediate(op, lexemes),
         Operation::Shift(op) => shift(op, lexemes),
-        Operation::Nop => constant(unary_instruction(Unary::Move, zero(), zero()), lexemes),
+        Operation::Nop => constant(
+            unary_instruction(Unary::Move, Reg::ZERO, Reg::ZERO),
+            lexemes,
+        ),
         Operation::Ret => constant(return_instruction(), lexemes),
         Operation::Unary(op) => unary(op, lexemes),
         Operation::BranchZero(op) => branch_zero(op, lexemes),
         Operation::ZeroBranch(op) => zero_branch(op, lexemes),
         Operation::SwappedBranch(op) => swapped_branch(op, lexemes),
-        Operation::Jump => jump(zero(), lexemes),
-        Operation::JumpRegister => jump_register(zero(), lexemes),
+        Operation::Jump => jump(Reg::ZERO, lexemes),
+        Operation::JumpRegister => jump_register(Reg::ZERO, lexemes),
         _ => match fixed(operation, lexemes) {
             Ok(instr) => Ok(Instruction::Fixed(instr)),
             Err(fault) => Err(fault),

@@ -20,11 +20,6 @@ pub struct Pair {
     pub second: Option<Instr>,
 }
 
-// The register numbers of ra and t1.
-const RA: u8 = 1;
-
-const TEMPORARY: u8 = 6;
-
 /// The offset of a branch at an address to a target.
 #[tactic(auto, unfolding(crate::specs::Instructions::offset_to))]
 fn branch_to<A: Allocator>(
@@ -151,7 +146,7 @@ fn li_pair(rd: Reg, word: u32) -> Pair
 {
     if let Some(imm) = short_of(word) {
         return Pair {
-            first: addi(rd, Reg::new(0), imm),
+            first: addi(rd, Reg::ZERO, imm),
             second: None,
         };
     }
@@ -226,11 +221,11 @@ pub fn pair_of<A: Allocator>(
         }
         Pseudo::Call { name } => {
             let to = symbol_value(symbols, name.as_str(), 0)?;
-            Ok(jump_pair(Reg::new(RA), Reg::new(RA), distance(at, to)))
+            Ok(jump_pair(Reg::RA, Reg::RA, distance(at, to)))
         }
         Pseudo::Tail { name } => {
             let to = symbol_value(symbols, name.as_str(), 0)?;
-            Ok(jump_pair(Reg::new(TEMPORARY), Reg::new(0), distance(at, to)))
+            Ok(jump_pair(Reg::T1, Reg::ZERO, distance(at, to)))
         }
     }
 }

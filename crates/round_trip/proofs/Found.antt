@@ -2,6 +2,7 @@
 use Rattle.std.proofs.Common.{◌≡◌, ℕ, zero, suc, ◌<◌, ◌^◌, Bool, true, false, List, ◌++◌, Some, Ok, refl, arith}
 use Rattle.std.specs.Prelude.{codes}
 use Rattle.isa_table.specs.Names.{name_of}
+use Rattle.isa_table.specs.declared.fields.Order.{Order}
 use Rattle.isa_table.specs.declared.mnemonic.Mnemonic.TheVariants as m
 use Rattle.isa_table.specs.declared.mnemonic.BranchOp.{BranchOp}
 use Rattle.isa_table.specs.declared.mnemonic.BranchOp.TheVariants.{Beq}
@@ -134,21 +135,25 @@ register_is _ = refl
 pub register_head : (op : RegisterOp) → NamesHead (name_of (m.Register op)) (heads.Operation (ops.Register op))
 register_head op = record { word = mnemonic_is_name (m.Register op); is = register_is op }
 
-pub reserved_head : (aq rl : Bool) → NamesHead (name_of m.LoadReserved ++ suffix aq rl) (heads.Operation (ops.LoadReserved aq rl))
+-- acquire and release
+abbrev order : Bool → Bool → Order
+order aq rl = record { aq = aq; rl = rl }
+
+pub reserved_head : (aq rl : Bool) → NamesHead (name_of m.LoadReserved ++ suffix aq rl) (heads.Operation (ops.LoadReserved (order aq rl)))
 unfolding head_of first_named
 reserved_head true true = record { word = named _ refl; is = refl }
 reserved_head true false = record { word = named _ refl; is = refl }
 reserved_head false true = record { word = named _ refl; is = refl }
 reserved_head false false = record { word = named _ refl; is = refl }
 
-pub conditional_head : (aq rl : Bool) → NamesHead (name_of m.StoreConditional ++ suffix aq rl) (heads.Operation (ops.StoreConditional aq rl))
+pub conditional_head : (aq rl : Bool) → NamesHead (name_of m.StoreConditional ++ suffix aq rl) (heads.Operation (ops.StoreConditional (order aq rl)))
 unfolding head_of first_named
 conditional_head true true = record { word = named _ refl; is = refl }
 conditional_head true false = record { word = named _ refl; is = refl }
 conditional_head false true = record { word = named _ refl; is = refl }
 conditional_head false false = record { word = named _ refl; is = refl }
 
-pub amo_head : (op : AmoOp) (aq rl : Bool) → NamesHead (name_of (m.Amo op) ++ suffix aq rl) (heads.Operation (ops.Amo op aq rl))
+pub amo_head : (op : AmoOp) (aq rl : Bool) → NamesHead (name_of (m.Amo op) ++ suffix aq rl) (heads.Operation (ops.Amo op (order aq rl)))
 unfolding head_of first_named
 amo_head Amoswap true true = record { word = named _ refl; is = refl }
 amo_head Amoswap true false = record { word = named _ refl; is = refl }
