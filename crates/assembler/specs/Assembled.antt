@@ -39,6 +39,10 @@ is_too_large start end =
 unfoldable pub heavy_of : Cursor → Cursor → List StatementValue → Option ℕ
 heavy_of start end ss = if is_too_large start end then last_sized 0 start ss else None
 
+-- the symbols of statements that stand from one cursor to another, or the first fault of placing them
+abbrev pub symbols_of : Cursor → Cursor → List StatementValue → Result SymbolList Fault
+symbols_of start end ss = placing (globals_from [] ss) [] (heavy_of start end ss) 0 start ss
+
 -- the symbol `_start`, else the text's first address
 unfoldable pub entry_of : SymbolList → ℕ
 entry_of symbols = unwrap_or (address_of symbols (codes "_start")) TEXT_BASE
@@ -58,6 +62,6 @@ unfoldable pub assembled : List StatementValue → Result ProgramValue Fault
 assembled ss = do
   let start = first_cursor ss
   let end = cursor_after start ss
-  symbols ← placing (globals_from [] ss) [] (heavy_of start end ss) 0 start ss
+  symbols ← symbols_of start end ss
   images ← valuing symbols [] no_bytes start ss
   Ok (program_of images (end.zeros_at - start.zeros_at) symbols)

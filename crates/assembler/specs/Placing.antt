@@ -22,12 +22,15 @@ abbrev pub unless : {X : Type 0} → Option FaultKind → StatementValue → Res
 unless None s rest = rest
 unless (Some kind) s rest = Err (at_statement s kind)
 
+-- the index of the i-th statement, if its size at an address is above 0
+abbrev pub if_sized : ℕ → ℕ → BodyValue → Option ℕ
+if_sized i at b = if nat_lt 0 (size at b) then Some i else None
+
 -- the index of the last statement of size above 0, the first being the i-th
 unfoldable pub last_sized : ℕ → Cursor → List StatementValue → Option ℕ
 last_sized i c [] = None
 last_sized i c (s ∷ ss) =
-    option_or (last_sized (i + 1) (step c s.body) ss)
-    (if nat_lt 0 (size (address c) s.body) then Some i else None)
+    option_or (last_sized (i + 1) (step c s.body) ss) (if_sized i (address c) s.body)
 
 -- Align where an instruction stands at no multiple of 4
 abbrev pub misaligned : ℕ → Option FaultKind

@@ -3,7 +3,7 @@ ghost use Rattle.std.specs.Prelude.{◌≡◌, ◌≤◌, ◌<◌, ◌+◌, ◌-
 ghost use Rattle.asm_read.specs.Answer.{Gives};
 ghost use Rattle.assembler.specs.Program.{symbol_list, segment_size, IsWithinLimit};
 ghost use Rattle.assembler.specs.Cursors.{IsWithin, cursor_after};
-ghost use Rattle.assembler.specs.Assembled.{start_at, data_base, zeros_base, first_cursor, is_too_large, heavy_of, entry_of, assembled, program_of};
+ghost use Rattle.assembler.specs.Assembled.{start_at, data_base, zeros_base, first_cursor, is_too_large, heavy_of, entry_of, symbols_of, assembled, program_of};
 
 use crate::cursor::{Cursor, cursor_after, round_up};
 use crate::operand::address_of;
@@ -141,9 +141,26 @@ fn program_of<A: Allocator>(sections: Sections<A>, zeros: u32, symbols: Symbols<
     }
 }
 
+/// The symbols of statements that stand from one cursor to another, or the first fault of placing them.
+fn symbols_of<A: Allocator + Copy>(
+    alloc: A,
+    start: Cursor,
+    end: &Cursor,
+    statements: &[Statement<'_, A>],
+) -> Result<Symbols<A>, AsmFault>
+    requires start_small { IsWithin (2 ^ 62 + 2 ^ 60) start }
+    requires end_small { IsWithin (2 ^ 62 + 2 ^ 61 + 3) end.now }
+    ensures { Gives (λ symbols. symbol_list symbols.entries) result
+        (symbols_of start end.now statements.now) }
+{
+    let heavy = heavy_of(start, end, statements);
+    let globals = globals_of(alloc, statements)?;
+    place(alloc, &globals, start, heavy, statements)
+}
+
 /// The program of statements, or the fault that decides: all statements are placed before any operand is valued; in
 /// each phase the earliest statement decides, in a statement the lowest number. After a refusal nothing is kept.
-#[tactic(auto, using(crate::proofs::Within::within_more), unfolding(crate::specs::Assembled::assembled))]
+#[tactic(auto, unfolding(crate::specs::Assembled::assembled))]
 pub fn assemble_statements<A: Allocator + Copy>(
     alloc: A,
     statements: &[Statement<'_, A>],
@@ -152,9 +169,7 @@ pub fn assemble_statements<A: Allocator + Copy>(
 {
     let start = first_cursor(statements);
     let end = cursor_after(start, statements);
-    let heavy = heavy_of(start, &end, statements);
-    let globals = globals_of(alloc, statements)?;
-    let symbols = place(alloc, &globals, start, heavy, statements)?;
+    let symbols = symbols_of(alloc, start, &end, statements)?;
     let sections = value_all(alloc, &symbols, start, statements)?;
     // Placing has seen to it that text and data segment are within the limit, so the zeros fit a word.
     let zeros = end.zeros_at.saturating_sub(start.zeros_at) as u32;

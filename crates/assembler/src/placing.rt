@@ -3,7 +3,7 @@ ghost use Rattle.std.specs.Prelude.{◌≡◌, ◌^◌, ◌<◌, ◌+◌, OnOk, 
 ghost use Rattle.asm_read.specs.Answer.{Gives};
 ghost use Rattle.assembler.specs.Program.{symbol_list};
 ghost use Rattle.assembler.specs.Cursors.{IsWithin, address};
-ghost use Rattle.assembler.specs.Placing.{at_statement, last_sized, own_fault, place_fault, with_names, with_globals, globals_from, symbols_at, is_at, placing, IsNew};
+ghost use Rattle.assembler.specs.Placing.{at_statement, if_sized, last_sized, own_fault, place_fault, with_names, with_globals, globals_from, symbols_at, is_at, placing, IsNew};
 
 use crate::cursor::{Cursor, count_of, size};
 use crate::program::{Symbol, Symbols};
@@ -25,8 +25,19 @@ pub fn at_statement<A: Allocator>(statement: &Statement<'_, A>, kind: FaultKind)
     }
 }
 
+/// The index of a statement, if its size at an address is above 0.
+fn if_sized<A: Allocator>(i: usize, at: u128, statement: &Statement<'_, A>) -> Option<usize>
+    requires { at < 2 ^ 127 + 2 ^ 126 }
+    ensures { result ≡ if_sized i at statement.now.body }
+{
+    if size(at, statement) > 0 {
+        Some(i)
+    } else {
+        None
+    }
+}
+
 /// The index of the last statement of size above 0.
-#[tactic(auto, using(crate::proofs::Within::within_count, crate::proofs::Within::within_all, crate::proofs::Within::within_next), unfolding(crate::specs::Placing::last_sized))]
 pub fn last_sized<A: Allocator>(start: Cursor, statements: &[Statement<'_, A>]) -> Option<usize>
     requires { IsWithin (2 ^ 63) start }
     ensures { result ≡ last_sized 0 start statements.now }
@@ -36,9 +47,7 @@ pub fn last_sized<A: Allocator>(start: Cursor, statements: &[Statement<'_, A>]) 
     let mut cursor = start;
     let mut last = None;
     'statements: for (i, statement) in statements.iter().enumerate() {
-        if size(cursor.address(), statement) > 0 {
-            last = Some(i);
-        }
+        last = if_sized(i, cursor.address(), statement).or(last);
         cursor = cursor.step(statement);
     }
     last
@@ -164,7 +173,6 @@ fn is_at(heavy: Option<usize>, i: usize) -> bool
 }
 
 /// All symbols in order of definition, or the first fault of this phase.
-#[tactic(auto, using(crate::proofs::Within::within_count, crate::proofs::Within::within_all, crate::proofs::Within::within_next, crate::proofs::New::is_new), unfolding(crate::specs::Placing::placing))]
 pub fn place<A: Allocator + Copy>(
     alloc: A,
     globals: &Names<A>,

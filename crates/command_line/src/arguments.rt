@@ -1,6 +1,6 @@
 //! Arguments of commands, and what clap holds of them.
 
-ghost use Rattle.std.specs.Prelude.{◌≡◌, false, IfOk, map, option_map};
+ghost use Rattle.std.specs.Prelude.{◌≡◌, false, IfOk, IsOkAnd, map, option_map};
 ghost use Rattle.clap.specs.Walk.{one_of};
 ghost use Rattle.clap.specs.Words.{all_of, app_of, first_of, new_app, with_rule, with_subcommand, rows_of, found_of, rule_of};
 ghost use Rattle.clap.specs.declared.builder.command.Command.TheViews.{out-Command};
@@ -79,16 +79,20 @@ pub(crate) fn add<'a>(command: Command<'a>, arg: Arg<'a>) -> Result<Command<'a>,
     command.arg(arg)
 }
 
-/// A program with one command more.
+/// A program with one command more, if memory was left for it. The command comes as it was made, so that a chain of these
+/// has one want of memory a command to pass on.
 pub(crate) fn add_command<'a>(
     program: Command<'a>,
-    command: Command<'a>,
+    command: Result<Command<'a>, AllocError>,
 ) -> Result<Command<'a>, AllocError>
-    requires { (out-Command command).has_globals ≡ false }
-    ensures app { IfOk result (λ c.
-        app_of c ≡ with_subcommand (app_of program.entry) (app_of command.entry).top) }
+    requires { IfOk command (λ c. (out-Command c).has_globals ≡ false) }
+    ensures app { IfOk result (λ p. IsOkAnd command.entry (λ c.
+        app_of p ≡ with_subcommand (app_of program.entry) (app_of c).top)) }
 {
-    program.subcommand(command)
+    match command {
+        Ok(command) => program.subcommand(command),
+        Err(fault) => Err(fault),
+    }
 }
 
 /// The text of an argument.

@@ -64,13 +64,13 @@ fn bare_program<'a>(alloc: Global) -> Command<'a>
 fn program<'a>(alloc: Global) -> Result<Command<'a>, AllocError>
     ensures { IfOk result (λ c. app_of c ≡ program_app) }
 {
-    let program = add_command(bare_program(alloc), asm_command(alloc)?)?;
-    let program = add_command(program, list_command(alloc)?)?;
-    let program = add_command(program, info_command(alloc)?)?;
-    let program = add_command(program, run_command(alloc)?)?;
-    let program = add_command(program, debug_command(alloc)?)?;
-    let program = add_command(program, lib_command(alloc)?)?;
-    add_command(program, campaign_command(alloc)?)
+    let program = add_command(bare_program(alloc), asm_command(alloc))?;
+    let program = add_command(program, list_command(alloc))?;
+    let program = add_command(program, info_command(alloc))?;
+    let program = add_command(program, run_command(alloc))?;
+    let program = add_command(program, debug_command(alloc))?;
+    let program = add_command(program, lib_command(alloc))?;
+    add_command(program, campaign_command(alloc))
 }
 
 // The order of a command of plain texts, by its name and its matches.

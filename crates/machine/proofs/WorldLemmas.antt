@@ -1,6 +1,8 @@
 -- Runs and the harts of a start, one more at a time.
-use Rattle.std.proofs.Common.{◌≡◌, ℕ, suc, ◌+◌, ◌<◌, List, [], ◌∷◌, ◌++◌, length, get_or, take, ◌∙◌, ap, refl, arith}
-use Rattle.std.proofs.lemmas.List.{take_more, length-take-le}
+use Rattle.std.proofs.Common.{◌≡◌, ℕ, suc, ◌+◌, ◌<◌, List, [], ◌∷◌, ◌++◌, length, get_or, take, map, ◌∙◌, ap, ap₂, sym, refl, arith}
+use Rattle.std.proofs.lemmas.List.{take_more, length-take-le, map-append}
+use Rattle.hart_step.specs.Hart.{hart_of}
+use Rattle.hart_step.specs.declared.hart.Hart.{Hart}
 use Rattle.machine.specs.Start.{first_hart, first_harts}
 use Rattle.machine.specs.World.{World, step, run}
 use Rattle.machine.specs.declared.choice.Choice.{Choice}
@@ -27,10 +29,18 @@ first_harts-push entry n h (y ∷ inputs) x =
     rw e (ap (λ t. first_hart entry n h y ∷ t) (first_harts-push entry n (h + 1) inputs x))
 
 -- one hart more
-pub harts_more : (entry n : ℕ) (inputs : List ℕ) (i d : ℕ) → i < length inputs
+harts_more : (entry n : ℕ) (inputs : List ℕ) (i d : ℕ) → i < length inputs
     → first_harts entry n 0 (take (i + 1) inputs)
     ≡ first_harts entry n 0 (take i inputs) ++ first_hart entry n i (get_or inputs i d) ∷ []
 harts_more entry n inputs i d h =
     let e : 0 + length (take i inputs) ≡ i = omega (arith, length-take-le i inputs (omega arith)) in
     rw (take_more inputs i d h) (first_harts-push entry n 0 (take i inputs) (get_or inputs i d)
     ∙ ap (λ k. first_harts entry n 0 (take i inputs) ++ first_hart entry n k (get_or inputs i d) ∷ []) e)
+
+-- a hart more was made
+pub harts_pushed : (entry n : ℕ) (inputs : List ℕ) (i d : ℕ) (old new : List Hart) (h : Hart) → i < length inputs
+    → new ≡ old ++ h ∷ [] → hart_of h ≡ first_hart entry n i (get_or inputs i d)
+    → map hart_of old ≡ first_harts entry n 0 (take i inputs) → map hart_of new ≡ first_harts entry n 0 (take (i + 1) inputs)
+harts_pushed entry n inputs i d old new h below pushed made so_far =
+    ap (map hart_of) pushed ∙ map-append hart_of old (h ∷ []) ∙ ap₂ (λ xs x. xs ++ x ∷ []) so_far made
+    ∙ sym (harts_more entry n inputs i d below)

@@ -42,7 +42,6 @@ fn start_hart(entry: u32, number: u32, input: u32, harts: u32) -> Hart
     }
 }
 
-#[tactic(auto, using(crate::proofs::WorldLemmas::harts_more))]
 fn start_harts<A: Allocator>(
     alloc: A,
     entry: u32,
