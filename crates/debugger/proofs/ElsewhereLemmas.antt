@@ -12,7 +12,8 @@ use Rattle.hart_step.specs.Hart.{HartValue, Registers}
 use Rattle.hart_step.specs.Fault.{fault}
 use Rattle.hart_step.specs.Effect.{Site, site, effect}
 use Rattle.hart_step.specs.Step.{unless, executed, at_word, by_state, stepped}
-use Rattle.hart_step.specs.Locality.{Access, access_by, access_if, access_at, access_in, access_of, is_inside, IsInOneWord}
+use Rattle.hart_step.specs.declared.data_access.Access.{Access}
+use Rattle.hart_step.specs.Locality.{access_by, access_if, access_at, access_in, access_of, is_inside, IsInOneWord}
 use Rattle.hart_step.specs.declared.hart.Cause.{Cause}
 use Rattle.hart_step.specs.declared.hart.HartState.{HartState}
 use Rattle.hart_step.specs.declared.hart.HartState.TheVariants.{Running, Exited, Faulted}

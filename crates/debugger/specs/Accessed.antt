@@ -2,7 +2,8 @@
 use Rattle.std.specs.Prelude.{ℕ, Option, Some, None}
 use Rattle.hart_step.specs.Hart.{HartValue}
 use Rattle.hart_step.specs.Effect.{site}
-use Rattle.hart_step.specs.Locality.{Access, access_of}
+use Rattle.hart_step.specs.Locality.{access_of}
+use Rattle.hart_step.specs.declared.data_access.Access.{Access}
 use Rattle.machine.specs.World.{World}
 
 -- the first address of an access, if there is one

@@ -7,3 +7,4 @@ pub mod HartLemmas
 pub mod SignedLemmas
 pub mod AccessLemmas
 pub mod LocalityLemmas
+pub mod LocalLemmas

@@ -13,7 +13,10 @@ use Rattle.hart_step.specs.Values.{wrap, load_size, store_size, extended, amo_re
 use Rattle.hart_step.specs.Fault.{fault}
 use Rattle.hart_step.specs.Effect.{Site, site, effect, conditional, next}
 use Rattle.hart_step.specs.Step.{unless, executed, at_word, by_state, stepped}
-use Rattle.hart_step.specs.Locality.{Access, access, access_by, access_if, access_at, access_in, is_inside, Agrees, ChangesAlike, StepsAlike}
+use Rattle.hart_step.specs.Locality.{access, access_by, access_if, access_at, access_in, is_inside, Agrees, ChangesAlike, StepsAlike}
+use Rattle.hart_step.specs.declared.data_access.Access.{Access}
+use Rattle.hart_step.specs.declared.data_access.AccessKind.{AccessKind}
+use Rattle.hart_step.specs.declared.data_access.AccessKind.TheVariants as kinds
 use Rattle.hart_step.specs.declared.hart.Cause.{Cause}
 use Rattle.hart_step.specs.declared.hart.HartState.{HartState}
 use Rattle.hart_step.specs.declared.hart.HartState.TheVariants.{Running, Exited, Faulted}
@@ -28,8 +31,9 @@ number-same (suc n) f g e =
 abbrev SameIn : Option Access → (ℕ → ℕ) → (ℕ → ℕ) → Type 0
 SameIn c b d = (a : ℕ) → is_inside c a ≡ true → b a ≡ d a
 
-access-same : (address n : ℕ) (b d : ℕ → ℕ) → SameIn (access address n) b d → number_at b n address ≡ number_at d n address
-access-same address n b d e =
+access-same : (kind : AccessKind) (address n : ℕ) (b d : ℕ → ℕ) → SameIn (access kind address n) b d
+    → number_at b n address ≡ number_at d n address
+access-same kind address n b d e =
     number-same n (λ k. b (address + k)) (λ k. d (address + k))
     (λ k below. let there : (leb address (address + k) && ltb (address + k) (address + n)) ≡ true = grind (arith, nat_tests) in
     e (address + k) there)
@@ -51,10 +55,10 @@ marked-alike c v w w' g b d r q mark same e =
     record { hart = e; rights = (refl, refl); inside = same; outside = λ a out. (refl, refl); reserved = λ k f. ap (mark k) f }
 
 -- a store of the same value
-stored-alike : (v w : HartValue) (g : ℕ → Option ℕ) (b d : ℕ → ℕ) (r q : Marks) (mark : ℕ → Option ℕ → Option ℕ) (n address value : ℕ)
-    → ChangesAlike (access address n) (at_bytes v g b r) (at_bytes v g d q)
+stored-alike : (kind : AccessKind) (v w : HartValue) (g : ℕ → Option ℕ) (b d : ℕ → ℕ) (r q : Marks) (mark : ℕ → Option ℕ → Option ℕ) (n address value : ℕ)
+    → ChangesAlike (access kind address n) (at_bytes v g b r) (at_bytes v g d q)
     (at_bytes w g (stored n address value b) (λ k. mark k (r k))) (at_bytes w g (stored n address value d) (λ k. mark k (q k)))
-stored-alike v w g b d r q mark n address value = record {
+stored-alike kind v w g b d r q mark n address value = record {
   hart = refl;
   rights = (refl, refl);
   inside = λ a e. rw e refl;
@@ -74,15 +78,15 @@ mark-ended h k m = cond (eqb k h) None m
 
 -- ---- instructions
 conditional-alike : (succeeds : Bool) (v : HartValue) (g : ℕ → Option ℕ) (b d : ℕ → ℕ) (r q : Marks) (h : ℕ) (x : Registers) (pc rd address value : ℕ)
-    → SameIn (access address 4) b d
-    → ChangesAlike (access address 4) (at_bytes v g b r) (at_bytes v g d q)
+    → SameIn (access kinds.StoreConditional address 4) b d
+    → ChangesAlike (access kinds.StoreConditional address 4) (at_bytes v g b r) (at_bytes v g d q)
     (conditional succeeds (at_bytes v g b r) h x pc rd address value) (conditional succeeds (at_bytes v g d q) h x pc rd address value)
 conditional-alike true v g b d r q h x pc rd address value same =
-    stored-alike v (record v { registers = put x rd 0; pc = next pc }) g b d r q
+    stored-alike kinds.StoreConditional v (record v { registers = put x rd 0; pc = next pc }) g b d r q
     (λ k m. mark-ended h k (mark-stored h (word_of address) k m)) 4 address value
 conditional-alike false v g b d r q h x pc rd address value same =
     let w = record v { registers = put x rd 1; pc = next pc } in
-    marked-alike (access address 4) v w w g b d r q (mark-ended h) same refl
+    marked-alike (access kinds.StoreConditional address 4) v w w g b d r q (mark-ended h) same refl
 
 -- the site after an AMO that found a number
 abbrev amo-site : AmoOp → HartValue → (ℕ → Option ℕ) → Registers → (pc rd address operand h : ℕ) → (ℕ → ℕ) → Marks → ℕ → Site
@@ -95,24 +99,24 @@ effect-alike : (i : Instr) (v : HartValue) (g : ℕ → Option ℕ) (b d : ℕ �
     → ChangesAlike (access_by i x) (at_bytes v g b r) (at_bytes v g d q)
     (effect i (at_bytes v g b r) h refuse x pc) (effect i (at_bytes v g d q) h refuse x pc)
 effect-alike (Load op rd rs1 imm) v g b d r q h refuse x pc own same =
-    kept-alike (access (wrap (x rs1 + imm)) (load_size op)) v _ _ g b d r q same
+    kept-alike (access kinds.Load (wrap (x rs1 + imm)) (load_size op)) v _ _ g b d r q same
     (ap (λ (number : ℕ). record v { registers = put x rd (extended op number); pc = next pc })
-    (access-same (wrap (x rs1 + imm)) (load_size op) b d same))
+    (access-same kinds.Load (wrap (x rs1 + imm)) (load_size op) b d same))
 effect-alike (Store op rs1 rs2 imm) v g b d r q h refuse x pc own same =
-    stored-alike v (record v { registers = x; pc = next pc }) g b d r q (mark-stored h (word_of (wrap (x rs1 + imm))))
+    stored-alike kinds.Store v (record v { registers = x; pc = next pc }) g b d r q (mark-stored h (word_of (wrap (x rs1 + imm))))
     (store_size op) (wrap (x rs1 + imm)) (x rs2)
 effect-alike (LoadReserved aq rl rd rs1) v g b d r q h refuse x pc own same =
-    marked-alike (access (x rs1) 4) v _ _ g b d r q (mark-made h (x rs1)) same
-    (ap (λ (number : ℕ). record v { registers = put x rd number; pc = next pc }) (access-same (x rs1) 4 b d same))
+    marked-alike (access kinds.LoadReserved (x rs1) 4) v _ _ g b d r q (mark-made h (x rs1)) same
+    (ap (λ (number : ℕ). record v { registers = put x rd number; pc = next pc }) (access-same kinds.LoadReserved (x rs1) 4 b d same))
 effect-alike (StoreConditional aq rl rd rs1 rs2) v g b d r q h refuse x pc own same =
-    subst (λ (m : Option ℕ). ChangesAlike (access (x rs1) 4) (at_bytes v g b r) (at_bytes v g d q)
+    subst (λ (m : Option ℕ). ChangesAlike (access kinds.StoreConditional (x rs1) 4) (at_bytes v g b r) (at_bytes v g d q)
     (conditional (names (r h) (x rs1) && not refuse) (at_bytes v g b r) h x pc rd (x rs1) (x rs2))
     (conditional (names m (x rs1) && not refuse) (at_bytes v g d q) h x pc rd (x rs1) (x rs2))) own
     (conditional-alike (names (r h) (x rs1) && not refuse) v g b d r q h x pc rd (x rs1) (x rs2) same)
 effect-alike (Amo op aq rl rd rs1 rs2) v g b d r q h refuse x pc own same =
-    subst (λ (old : ℕ). ChangesAlike (access (x rs1) 4) (at_bytes v g b r) (at_bytes v g d q)
-    (amo-site op v g x pc rd (x rs1) (x rs2) h b r (number_at b 4 (x rs1))) (amo-site op v g x pc rd (x rs1) (x rs2) h d q old)) (access-same (x rs1) 4 b d same)
-    (stored-alike v (record v { registers = put x rd (number_at b 4 (x rs1)); pc = next pc }) g b d r q (mark-stored h (word_of (x rs1)))
+    subst (λ (old : ℕ). ChangesAlike (access kinds.Amo (x rs1) 4) (at_bytes v g b r) (at_bytes v g d q)
+    (amo-site op v g x pc rd (x rs1) (x rs2) h b r (number_at b 4 (x rs1))) (amo-site op v g x pc rd (x rs1) (x rs2) h d q old)) (access-same kinds.Amo (x rs1) 4 b d same)
+    (stored-alike kinds.Amo v (record v { registers = put x rd (number_at b 4 (x rs1)); pc = next pc }) g b d r q (mark-stored h (word_of (x rs1)))
     4 (x rs1) (amo_result op (number_at b 4 (x rs1)) (x rs2)))
 effect-alike i v g b d r q h refuse x pc own same = kept-alike None v _ _ g b d r q same refl
 

@@ -6,4 +6,5 @@ pub mod Step
 pub mod Laws
 pub mod Numbers
 pub mod Examples
+pub mod Local
 pub mod Locality

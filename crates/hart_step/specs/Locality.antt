@@ -8,17 +8,15 @@ use Rattle.hart_step.specs.Hart.{Registers}
 use Rattle.hart_step.specs.Values.{wrap, load_size, store_size}
 use Rattle.hart_step.specs.Effect.{Site}
 use Rattle.hart_step.specs.Step.{stepped}
+use Rattle.hart_step.specs.declared.data_access.Access.{Access}
+use Rattle.hart_step.specs.declared.data_access.AccessKind.{AccessKind}
+use Rattle.hart_step.specs.declared.data_access.AccessKind.TheVariants as kinds
 use Rattle.hart_step.specs.declared.hart.HartState.{HartState}
 use Rattle.hart_step.specs.declared.hart.HartState.TheVariants.{Running, Exited, Faulted}
 
--- bytes that are read or written together: the first address, and how many
-pub record Access : Type 0 where
-  pub address : ℕ
-  pub size : ℕ
-
 -- these bytes
-abbrev pub access : ℕ → ℕ → Option Access
-access address size = Some (record { address = address; size = size })
+abbrev pub access : AccessKind → ℕ → ℕ → Option Access
+access kind address size = Some (record { kind = kind; address = address; size = size })
 
 -- the one access of data that an instruction has, if it has one
 abbrev pub access_by : Instr → Registers → Option Access
@@ -27,17 +25,17 @@ access_by (Auipc rd imm) x = None
 access_by (Jal rd offset) x = None
 access_by (Jalr rd rs1 imm) x = None
 access_by (Branch op rs1 rs2 offset) x = None
-access_by (Load op rd rs1 imm) x = access (wrap (x rs1 + imm)) (load_size op)
-access_by (Store op rs1 rs2 imm) x = access (wrap (x rs1 + imm)) (store_size op)
+access_by (Load op rd rs1 imm) x = access kinds.Load (wrap (x rs1 + imm)) (load_size op)
+access_by (Store op rs1 rs2 imm) x = access kinds.Store (wrap (x rs1 + imm)) (store_size op)
 access_by (Immediate op rd rs1 imm) x = None
 access_by (Shift op rd rs1 amount) x = None
 access_by (Register op rd rs1 rs2) x = None
 access_by (Fence mode pred succ rs1 rd) x = None
 access_by Ecall x = None
 access_by Ebreak x = None
-access_by (LoadReserved aq rl rd rs1) x = access (x rs1) 4
-access_by (StoreConditional aq rl rd rs1 rs2) x = access (x rs1) 4
-access_by (Amo op aq rl rd rs1 rs2) x = access (x rs1) 4
+access_by (LoadReserved aq rl rd rs1) x = access kinds.LoadReserved (x rs1) 4
+access_by (StoreConditional aq rl rd rs1 rs2) x = access kinds.StoreConditional (x rs1) 4
+access_by (Amo op aq rl rd rs1 rs2) x = access kinds.Amo (x rs1) 4
 
 -- that of an instruction, or of a word that is none
 abbrev pub access_if : Option Instr → Registers → Option Access

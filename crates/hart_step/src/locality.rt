@@ -1,10 +1,11 @@
 //! What a step depends on.
-ghost use Rattle.std.specs.Prelude.{◌≡◌, ℕ, Bool, None};
+ghost use Rattle.std.specs.Prelude.{◌≡◌, ℕ, Bool, true, None};
 ghost use Rattle.memory.specs.Memory.{Memory};
 ghost use Rattle.isa_table.specs.declared.instr.Instr.{Instr};
 ghost use Rattle.hart_step.specs.Hart.{Registers};
 ghost use Rattle.hart_step.specs.Fault.{fault};
 ghost use Rattle.hart_step.specs.Effect.{Site};
+ghost use Rattle.hart_step.specs.Local.{is_local, ChangesHartAlone};
 ghost use Rattle.hart_step.specs.Locality.{access_by, IsInOneWord, Agrees, StepsAlike};
 
 /// A step depends on nothing but its hart, the rights, its own reservation, the word that it fetches and the bytes of its
@@ -19,4 +20,12 @@ pub fn step_is_local()
 pub fn access_is_in_one_word()
     ensures { (i : Instr) (m : Memory) (x : Registers) (pc : ℕ) → fault i m x pc ≡ None
         → IsInOneWord (access_by i x) }
+{}
+
+/// For a local instruction neither memory nor reservations matter, nor the hart's number and the refusal; and neither
+/// memory nor reservations change.
+#[tactic(auto, using(crate::proofs::LocalLemmas::changes_hart_alone))]
+pub fn local_instruction_is_its_harts()
+    ensures { (i : Instr) (h k : ℕ) (refuse again : Bool) (s t : Site) → is_local i ≡ true → s.hart ≡ t.hart
+        → ChangesHartAlone i h k refuse again s t }
 {}

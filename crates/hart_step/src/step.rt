@@ -9,14 +9,14 @@ ghost use Rattle.hart_step.specs.Effect.{site, site_of, goes_on, next, exits};
 ghost use Rattle.hart_step.specs.Step.{unless, executed, stepped};
 ghost use Rattle.reservations.specs.declared.reserve.TheConstants.{MAX_HARTS};
 
+use crate::data_access::effective_address;
 use crate::hart::{Cause, Hart, HartState};
+use crate::local::execute_local;
 use crate::memory_instructions::{
     Operands, execute_amo, execute_load, execute_store, load_reserved, store_conditional,
 };
-use crate::registers::{advance, fault, get, give, give_and_go};
-use crate::values::{immediate_result, is_taken, register_result, shift_result};
+use crate::registers::{fault, get};
 use decoder::decode;
-use isa_table::fields::Reg;
 use isa_table::instr::Instr;
 use memory::Store;
 use reservations::Reserve;
@@ -31,35 +31,6 @@ const CALL_STATUS: usize = 10;
 /// The number of the exit call.
 const EXIT: u32 = 93;
 
-/// A jump that links. Unprivileged ISA, "Unconditional Jumps".
-fn jump(hart: &mut Hart, rd: Reg, target: u32)
-    ensures { (m : Memory) (r : Marks) → let s = site (hart_of hart.old) m r in
-        site (hart_of hart.new) m r ≡ unless (jump_fault target) s
-        (goes_on s (put (registers_of hart.old.registers) rd (next hart.old.pc)) target) }
-{
-    if target % 4 != 0 {
-        fault(hart, Cause::JumpMisaligned);
-        return;
-    }
-    let link = hart.pc.wrapping_add(4);
-    give_and_go(hart, rd, link, target);
-}
-
-/// A branch. Unprivileged ISA, "Conditional Branches".
-fn branch(hart: &mut Hart, taken: bool, target: u32)
-    ensures { (m : Memory) (r : Marks) → let s = site (hart_of hart.old) m r in
-        site (hart_of hart.new) m r ≡ unless (if taken then jump_fault target else None) s
-        (goes_on s (registers_of hart.old.registers) (if taken then target else next hart.old.pc)) }
-{
-    if !taken {
-        advance(hart);
-    } else if target % 4 != 0 {
-        fault(hart, Cause::JumpMisaligned);
-    } else {
-        hart.pc = target;
-    }
-}
-
 /// ECALL: the exit call, or a fault.
 fn environment_call(hart: &mut Hart)
     ensures { (m : Memory) (r : Marks) → let s = site (hart_of hart.old) m r in
@@ -73,7 +44,7 @@ fn environment_call(hart: &mut Hart)
     };
 }
 
-/// One instruction of a running hart. Only the memory of the host may refuse, and then nothing has changed.
+/// One instruction of a running hart: its local half, or what it does with memory and reservations. Only the memory of the host may refuse, and then nothing has changed.
 fn execute<S: Store>(
     hart: &mut Hart,
     id: usize,
@@ -91,56 +62,15 @@ fn execute<S: Store>(
         ≡ site_of hart.old (S.memory store.old) reserve.old)) }
 {
     match instr {
-        Instr::Lui { rd, imm } => give(hart, rd, imm.high() << 12),
-        Instr::Auipc { rd, imm } => {
-            let value = hart.pc.wrapping_add(imm.high() << 12);
-            give(hart, rd, value);
-        }
-        Instr::Jal { rd, offset } => {
-            let target = hart.pc.wrapping_add(offset.word());
-            jump(hart, rd, target);
-        }
-        Instr::Jalr { rd, rs1, imm } => {
-            let target = get(hart, rs1).wrapping_add(imm.word());
-            jump(hart, rd, target - target % 2);
-        }
-        Instr::Branch {
-            op,
-            rs1,
-            rs2,
-            offset,
-        } => {
-            let taken = is_taken(op, get(hart, rs1), get(hart, rs2));
-            let target = hart.pc.wrapping_add(offset.word());
-            branch(hart, taken, target);
-        }
         Instr::Load { op, rd, rs1, imm } => {
-            let address = get(hart, rs1).wrapping_add(imm.word());
+            let address = effective_address(hart, rs1, imm);
             execute_load(hart, store, op, rd, address);
         }
         Instr::Store { op, rs1, rs2, imm } => {
-            let address = get(hart, rs1).wrapping_add(imm.word());
+            let address = effective_address(hart, rs1, imm);
             let value = get(hart, rs2);
             return execute_store(hart, id, store, reserve, op, address, value);
         }
-        Instr::Immediate { op, rd, rs1, imm } => {
-            let value = immediate_result(op, get(hart, rs1), imm.word());
-            give(hart, rd, value);
-        }
-        Instr::Shift {
-            op,
-            rd,
-            rs1,
-            amount,
-        } => {
-            let value = shift_result(op, get(hart, rs1), u32::from(amount.count()));
-            give(hart, rd, value);
-        }
-        Instr::Register { op, rd, rs1, rs2 } => {
-            let value = register_result(op, get(hart, rs1), get(hart, rs2));
-            give(hart, rd, value);
-        }
-        Instr::Fence { .. } => advance(hart),
         Instr::Ecall => environment_call(hart),
         Instr::Ebreak => fault(hart, Cause::Break),
         Instr::LoadReserved { rd, rs1, .. } => {
@@ -159,6 +89,15 @@ fn execute<S: Store>(
         } => {
             return execute_amo(hart, id, store, reserve, op, Operands { rd, rs1, rs2 });
         }
+        Instr::Lui { .. }
+        | Instr::Auipc { .. }
+        | Instr::Jal { .. }
+        | Instr::Jalr { .. }
+        | Instr::Branch { .. }
+        | Instr::Immediate { .. }
+        | Instr::Shift { .. }
+        | Instr::Register { .. }
+        | Instr::Fence { .. } => execute_local(hart, instr),
     }
     Ok(())
 }

@@ -1,0 +1,3 @@
+pub mod TableLemmas
+pub mod CodeLemmas
+pub mod StepLemmas

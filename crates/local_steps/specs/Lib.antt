@@ -1,0 +1,3 @@
+pub mod CodeMemory
+pub mod LocalStep
+pub mod Tables
