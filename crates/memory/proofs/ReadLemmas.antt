@@ -20,7 +20,7 @@ all_below_false : (n : ℕ) (p : ℕ → Bool) → p 0 ≡ false → all_below (
 all_below_false zero p h = rw h refl
 all_below_false (suc n) p h = rw (all_below_false n p h) refl
 
-number_same : (n : ℕ) (f h : ℕ → ℕ) → ((k : ℕ) → k < n → f k ≡ h k) → number_of n f ≡ number_of n h
+pub number_same : (n : ℕ) (f h : ℕ → ℕ) → ((k : ℕ) → k < n → f k ≡ h k) → number_of n f ≡ number_of n h
 number_same zero f h same = refl
 number_same (suc n) f h same = rw (number_same n f h (λ k low. same k (omega arith)), same n (omega arith)) refl
 

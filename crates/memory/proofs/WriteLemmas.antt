@@ -18,7 +18,7 @@ length-spelled zero xs o v = refl
 length-spelled (suc n) xs o v = length-set (spelled n xs o v) (o + n) (v / 256 ^ n % 256) ∙ length-spelled n xs o v
 
 -- what is read where bytes were written
-spelled_in : (n : ℕ) (xs : List ℕ) (o v k : ℕ) → o + n ≤ length xs → k < n → get_or (spelled n xs o v) (o + k) 0 ≡ v / 256 ^ k % 256
+pub spelled_in : (n : ℕ) (xs : List ℕ) (o v k : ℕ) → o + n ≤ length xs → k < n → get_or (spelled n xs o v) (o + k) 0 ≡ v / 256 ^ k % 256
 spelled_in zero xs o v k room low = absurd (omega arith)
 spelled_in (suc n) xs o v k room low = elim (cases_Bool (eqb k n)) [
   | inl at ↦ (let e : k ≡ n = search rules in
@@ -29,7 +29,7 @@ spelled_in (suc n) xs o v k room low = elim (cases_Bool (eqb k n)) [
 ]
 
 -- what is read elsewhere
-spelled_out : (n : ℕ) (xs : List ℕ) (o v j : ℕ) → (o ≤ j → o + n ≤ j) → get_or (spelled n xs o v) j 0 ≡ get_or xs j 0
+pub spelled_out : (n : ℕ) (xs : List ℕ) (o v j : ℕ) → (o ≤ j → o + n ≤ j) → get_or (spelled n xs o v) j 0 ≡ get_or xs j 0
 spelled_out zero xs o v j out = refl
 spelled_out (suc n) xs o v j out =
     get_or-set_other (spelled n xs o v) (o + n) j (v / 256 ^ n % 256) 0 (λ e. omega arith) ∙ spelled_out n xs o v j (λ h. omega arith)

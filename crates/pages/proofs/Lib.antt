@@ -1,0 +1,5 @@
+pub mod DirectoryLemmas
+pub mod AccessLemmas
+pub mod StoreLemmas
+pub mod BuildLemmas
+pub mod SegmentLemmas

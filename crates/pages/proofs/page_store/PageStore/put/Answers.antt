@@ -1,0 +1,33 @@
+use Rattle.std.proofs.Common.{rules, ◌∙◌, sym, refl}
+use Rattle.pages.proofs.StoreLemmas.{may_store, after_store, after_refusal}
+use Rattle.pages.proofs.page_store.PageStore.put.Goals as goal
+
+pub returns-then-not-grants : goal.returns-then-not-grants
+returns-then-not-grants g c = (
+  (
+    c.requires,
+    sym (may_store c.args.self.now c.args.address c.in-Some.place _ c.deref.ensures c.in-Some.ensures.value c.in-Some.ensures.inside c.args.number _ _ _ _
+        c.requires c.width.ensures c.deref-2.ensures c.index.ensures c.grants.ensures) ∙ c.if-not-grants.true,
+  ),
+  refl,
+)
+
+pub returns-in-Ok : goal.returns-in-Ok
+returns-in-Ok g c = (
+  c.requires,
+  sym (may_store c.args.self.now c.args.address c.in-Some.place _ c.deref.ensures c.in-Some.ensures.value c.in-Some.ensures.inside c.args.number _ _ _ _
+      c.requires c.width.ensures c.deref-2.ensures c.index.ensures c.grants.ensures) ∙ c.if-not-grants.false,
+  after_store c.args.self.now c.args.address c.in-Some.place _ c.deref.ensures c.in-Some.ensures.value c.in-Some.ensures.inside c.args.number _ _
+      c.requires c.index_mut.ensures.value c.in-Ok.ensures.whole c.in-Ok.ensures.ok,
+)
+
+pub returns-in-Err : goal.returns-in-Err
+returns-in-Err g c = (
+  (
+    c.requires,
+    sym (may_store c.args.self.now c.args.address c.in-Some.place _ c.deref.ensures c.in-Some.ensures.value c.in-Some.ensures.inside c.args.number _ _ _ _
+        c.requires c.width.ensures c.deref-2.ensures c.index.ensures c.grants.ensures) ∙ c.if-not-grants.false,
+    search rules,
+  ),
+  after_refusal c.args.self.now c.args.address c.in-Some.place _ c.deref.ensures c.in-Some.ensures.value c.in-Some.ensures.inside _ _ c.index_mut.ensures.value c.in-Err.ensures.err,
+)

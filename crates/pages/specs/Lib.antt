@@ -1,0 +1,5 @@
+pub mod Number
+pub mod Directory
+pub mod Pages
+pub mod Store
+pub mod Building

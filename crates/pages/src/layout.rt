@@ -1,0 +1,15 @@
+//! What the copies of a memory never change.
+ghost use Rattle.std.specs.Prelude.{◌≡◌, ◌+◌, ◌^◌, ◌≤◌, vec_len, length};
+
+use crate::directory::Directory;
+use crate::page::PageRights;
+use std::alloc::Allocator;
+
+/// Where the pages of a memory are kept, and the rights of their bytes, by place. It never changes, so all copies share one.
+#[derive(Drop)]
+pub struct Layout<A: Allocator> {
+    pub directory: Directory<A>,
+    pub rights: Vec<PageRights, A>,
+    ghost even: { vec_len rights ≡ length directory.owners },
+    ghost in_range: { directory.first + length directory.index ≤ 2 ^ 20 },
+}
