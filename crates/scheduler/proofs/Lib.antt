@@ -1,5 +1,3 @@
-pub mod NumberLemmas
-pub mod ItemLemmas
 pub mod Numbers
 pub mod Agreement
 pub mod PrintLemmas

@@ -1,4 +1,3 @@
-pub mod Items
 pub mod Grammar
 pub mod Reading
 pub mod Printing

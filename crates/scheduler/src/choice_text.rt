@@ -4,9 +4,9 @@
 ghost use Rattle.std.specs.Prelude.{◌≡◌, ◌<◌, ◌≢◌, IfOk, IfErr};
 ghost use Rattle.std.specs.List.{All};
 ghost use Rattle.scheduler.specs.Grammar.{Spells, Spoils};
-ghost use Rattle.scheduler.specs.Reading.{number_of, choice_of, choices_of};
+ghost use Rattle.scheduler.specs.Reading.{choice_of, choices_of};
 
-use crate::items::next_item;
+use item_texts::{next_item, number, split_mark};
 use machine::Choice;
 use std::alloc::Allocator;
 use thiserror::Error;
@@ -25,37 +25,11 @@ pub enum ChoiceFault {
     Memory,
 }
 
-// No hart has this number or a greater one.
-const CAP: u64 = 1 << 32;
-
-// The number that digits without a leading zero spell, at most `CAP`.
-fn number(digits: &[u8]) -> Option<u64>
-    ensures { result ≡ number_of digits.now }
-{
-    let Some(first) = digits.first() else {
-        return None;
-    };
-    if *first == b'0' && digits.len() > 1 {
-        return None;
-    }
-    let mut value = 0u64;
-    for digit in digits {
-        if !digit.is_ascii_digit() {
-            return None;
-        }
-        value = (10 * value + u64::from(*digit - b'0')).min(CAP);
-    }
-    Some(value)
-}
-
 // The choice that an item at an offset names.
 fn read_choice(item: &[u8], at: usize, harts: u32) -> Result<Choice, ChoiceFault>
     ensures { result ≡ choice_of harts at item.now }
 {
-    let (digits, refuse) = match item {
-        [digits @ .., b'!'] => (digits, true),
-        _ => (item, false),
-    };
+    let (digits, refuse) = split_mark(item);
     match number(digits) {
         None => Err(ChoiceFault::BadChoice(at)),
         Some(hart) if hart < u64::from(harts) => Ok(Choice {

@@ -4,4 +4,4 @@ use Rattle.scheduler.proofs.laws.one_list.Goals as goal
 
 pub returns : goal.returns
 returns c = λ harts text one other few first second.
-    let e = sym (choices_of-spelled harts text one 0 few first) ∙ choices_of-spelled harts text other 0 few second in cc
+    let e = sym (choices_of-spelled harts text one few first) ∙ choices_of-spelled harts text other few second in cc

@@ -5,4 +5,4 @@ use Rattle.scheduler.proofs.laws.printed_is_read.Goals as goal
 
 pub returns : goal.returns
 returns c = λ harts choices few within.
-    choices_of-spelled harts (choices_text choices) choices 0 few (text_spells harts choices few within)
+    choices_of-spelled harts (choices_text choices) choices few (text_spells harts choices few within)

@@ -1,6 +1,6 @@
 -- Numbers above the cap.
 use Rattle.std.proofs.Common.{◌≡◌, ℕ, ◌+◌, ◌-◌, ◌*◌, ◌^◌, min, List, [], ◌∷◌, arith}
-use Rattle.scheduler.specs.Reading.{value_after}
+use Rattle.item_texts.specs.Numbers.{value_after}
 
 -- what is above the cap may be the cap
 pub capped : (m n : ℕ) (ds : List ℕ) → min (2 ^ 32) m ≡ min (2 ^ 32) n → min (2 ^ 32) (value_after m ds) ≡ min (2 ^ 32) (value_after n ds)

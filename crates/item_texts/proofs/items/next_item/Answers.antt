@@ -1,8 +1,8 @@
 use Rattle.std.proofs.Common.{arith, ap, ◌∙◌}
 use Rattle.std.specs.List.{prefix_len, position_or_len}
-use Rattle.scheduler.specs.Items.{is_blank}
-use Rattle.scheduler.proofs.ItemLemmas.{no_item, first_from}
-use Rattle.scheduler.proofs.items.next_item.Goals as goal
+use Rattle.item_texts.specs.Items.{is_blank}
+use Rattle.item_texts.proofs.ItemLemmas.{no_item, first_from}
+use Rattle.item_texts.proofs.items.next_item.Goals as goal
 
 pub returns-then-begin-end-clause-none : goal.returns-then-begin-end-clause-none
 returns-then-begin-end-clause-none c =

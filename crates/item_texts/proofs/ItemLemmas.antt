@@ -6,7 +6,7 @@ use Rattle.std.proofs.lemmas.List.Sums.{prefix_len_passes, prefix_len_stops, pre
 use Rattle.std.proofs.lemmas.List.{drop_more}
 use Rattle.std.proofs.lemmas.List.Splits.{slice_split_first, slice_split_none, slice_split-cons_yes}
 use Rattle.std.specs.List.{slice_split, position_or_len, prefix_len, onto_first}
-use Rattle.scheduler.specs.Items.{is_blank, items_of_parts, items_from, span_of}
+use Rattle.item_texts.specs.Items.{is_blank, items_of_parts, items_from, span_of}
 
 no_blank : (b : Bool) → not b ≡ true → b ≡ false
 no_blank true h = sym h

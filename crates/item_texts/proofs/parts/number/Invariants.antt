@@ -1,7 +1,7 @@
 use Rattle.std.proofs.Common.{◌≡◌, ◌^◌, ◌≤◌, min, drop}
 use Rattle.std.specs.Str.{all_ascii_digits}
-use Rattle.scheduler.specs.Reading.{value_after}
-use Rattle.scheduler.proofs.choice_text.number.Given as goal
+use Rattle.item_texts.specs.Numbers.{value_after}
+use Rattle.item_texts.proofs.parts.number.Given as goal
 
 abbrev pub invariant-loop-digit : goal.invariant-loop-digit
 invariant-loop-digit l =

@@ -1,9 +1,9 @@
 use Rattle.std.proofs.Common.{◌≡◌, ◌+◌, ◌-◌, ◌*◌, ◌^◌, ◌∷◌, min, drop, get_or, arith, rules, ap, ◌∙◌}
 use Rattle.std.proofs.lemmas.List.{drop_more}
 use Rattle.std.specs.Str.{all_ascii_digits}
-use Rattle.scheduler.specs.Reading.{value_after}
-use Rattle.scheduler.proofs.NumberLemmas.{capped}
-use Rattle.scheduler.proofs.choice_text.number.Goals as goal
+use Rattle.item_texts.specs.Numbers.{value_after}
+use Rattle.item_texts.proofs.NumberLemmas.{capped}
+use Rattle.item_texts.proofs.parts.number.Goals as goal
 
 pub loop-digit-preserved : goal.loop-digit-preserved
 loop-digit-preserved c =

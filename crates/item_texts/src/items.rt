@@ -2,7 +2,7 @@
 
 ghost use Rattle.std.specs.Prelude.{◌≡◌, ◌≤◌, [], length, IfNone, IfSome};
 ghost use Rattle.std.specs.List.{prefix_len, position_or_len};
-ghost use Rattle.scheduler.specs.Items.{is_blank, items_from, IsFirstItem};
+ghost use Rattle.item_texts.specs.Items.{is_blank, items_from, IsFirstItem};
 
 /// Whether a byte separates items: space, tab, LF or CR.
 pub fn is_blank(byte: u8) -> bool

@@ -1,0 +1,5 @@
+pub mod ItemLemmas
+pub mod NumberLemmas
+pub mod Numbers
+pub mod Agreement
+pub mod PrintLemmas
