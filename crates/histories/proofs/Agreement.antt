@@ -1,8 +1,7 @@
 -- Reading finds what the grammar says, and nothing else.
 use Rattle.std.proofs.Common.{◌≡◌, ℕ, ◌+◌, ◌^◌, ◌<◌, ◌≤◌, inl, inr, Bool, true, false, List, ◌∷◌, ◌++◌, length, drop, Option, Some, None, Ok, Err, refl, arith, ap, sym, ◌∙◌, append_assoc, subst, ltb-true, ltb-false}
-use Rattle.std.proofs.lemmas.List.{length-drop}
 use Rattle.std.specs.Prelude.{nat_lt, if◌then◌else◌}
-use Rattle.std.specs.List.{All, position_or_len}
+use Rattle.std.specs.List.{All}
 use Rattle.std.specs.Str.Parse.{digits_value}
 use Rattle.item_texts.specs.Numbers.{IsNumber, mark_of, number_of, has_mark, unmarked}
 use Rattle.item_texts.proofs.Numbers.{NumberTold, number_told, item_is}
@@ -11,7 +10,7 @@ use Rattle.histories.specs.declared.entry.Entry.{Entry}
 use Rattle.histories.specs.declared.history_text.HistoryFault.{HistoryFault}
 use Rattle.histories.specs.declared.history_text.HistoryFault.TheVariants.{BadEntry, NoHart}
 use Rattle.histories.specs.Grammar.{NamesEntry, Spells, Spoils}
-use Rattle.histories.specs.Reading.{is_plus, before_plus, after_plus, entry_by, entry_of, entries_of}
+use Rattle.histories.specs.Reading.{before_plus, after_plus, entry_by, entry_of, entries_of}
 use Rattle.histories.proofs.EntryLemmas.{before_plus-named, after_plus-named, plus_between, named_parts, named_plain, named_some, entry_named}
 
 module _ (item : List ℕ) where
@@ -27,12 +26,10 @@ module _ (item : List ℕ) where
       → NamesEntry item (record { hart = hart; local = local; refuse = has_mark item })
   two_numbers hart local first second hart_is local_is small =
       let some = second.numeral.0 in
-      let inside : position_or_len is_plus (unmarked item) + 1 < length (unmarked item)
-      = omega (arith, some, length-drop (position_or_len is_plus (unmarked item) + 1) (unmarked item)) in
       record {
         hart_digits = before_plus (unmarked item);
         local_digits = after_plus (unmarked item);
-        text = item_is item ∙ ap (λ f. f ++ mark_of (has_mark item)) (plus_between (unmarked item) some inside)
+        text = item_is item ∙ ap (λ f. f ++ mark_of (has_mark item)) (plus_between (unmarked item) some)
             ∙ append_assoc (before_plus (unmarked item)) (43 ∷ after_plus (unmarked item)) (mark_of (has_mark item));
         hart_number = first;
         local_number = second;

@@ -1,51 +1,34 @@
 -- What an item that names an entry says of its bytes.
-use Rattle.std.proofs.Common.{◌≡◌, ℕ, suc, ◌+◌, ◌-◌, ◌^◌, ◌<◌, Bool, true, false, not, cond, List, [], ◌∷◌, ◌++◌, length, take, drop, get_or, Some, Ok, refl, arith, ap, sym, ◌∙◌, eqb-true, ne_eqb, lt-ltb, length-append, append_assoc, append-nil, subst}
-use Rattle.std.proofs.lemmas.List.{drop_more, take-append-drop, get_or-append-add}
-use Rattle.std.proofs.Math.Seq.{take-append_seam, drop-append-add}
-use Rattle.std.proofs.lemmas.List.Sums.{prefix_len_stops}
+use Rattle.std.proofs.Common.{◌≡◌, ℕ, suc, ◌+◌, ◌-◌, ◌^◌, ◌<◌, lit<, inl, inr, Bool, true, false, List, [], ◌∷◌, ◌++◌, length, drop, get_or, Some, Ok, refl, arith, ap, sym, ◌∙◌, lt-ltb, length-append, append_assoc, append-nil, subst}
+use Rattle.std.proofs.lemmas.List.{get_or-append-add}
 use Rattle.std.proofs.lemmas.List.Elements.{All-cons, All-append}
-use Rattle.std.proofs.lemmas.Str.Parse.{digit_from_value}
 use Rattle.std.specs.Prelude.{◌==◌, if◌then◌else◌, nat_lt}
-use Rattle.std.specs.List.{All, position_or_len}
-use Rattle.std.specs.Str.Parse.{AllDigits, digits_value}
+use Rattle.std.specs.List.{All}
+use Rattle.std.specs.Str.Parse.{digits_value}
 use Rattle.item_texts.specs.Items.{is_blank}
 use Rattle.item_texts.specs.Numbers.{IsNumber, mark_of, number_of, has_mark, before_mark, unmarked}
 use Rattle.item_texts.proofs.Numbers.{has_mark-marked, before_mark-marked, has_mark-number, digits_plain, mark_plain, number_read}
+use Rattle.item_texts.proofs.ByteLemmas.{HasNone, digits_have_none, before_byte-there, from_byte-there, from_byte_is, parts_make}
 use Rattle.histories.specs.declared.entry.Entry.{Entry}
 use Rattle.histories.specs.Grammar.{NamesEntry}
-use Rattle.histories.specs.Reading.{is_plus, before_plus, after_plus, entry_by, entry_of}
+use Rattle.histories.specs.Reading.{before_plus, after_plus, entry_by, entry_of}
 
--- the first `+` behind digits
-plus_at : (digits rest : List ℕ) → AllDigits 10 digits → position_or_len is_plus (digits ++ 43 ∷ rest) ≡ length digits
-plus_at [] rest h = refl
-plus_at (c ∷ cs) rest h = by (is_plus c) (ne_eqb c 43 (λ e. let digit = digit_from_value c h.0 in omega (arith, digit, e))) (plus_at cs rest h.1)
-  where
-    by : (b : Bool) → b ≡ false → position_or_len is_plus (cs ++ 43 ∷ rest) ≡ length cs
-        → cond (not b) (1 + position_or_len is_plus (cs ++ 43 ∷ rest)) 0 ≡ suc (length cs)
-    by true h later = absurd (cc)
-    by false h later = omega (arith, later)
+-- no `+` stands in digits
+no_plus : (digits : List ℕ) → IsNumber digits → HasNone 43 digits
+no_plus digits number = digits_have_none 43 digits (lit< tt) number.numeral.1
 
 pub before_plus-named : (digits rest : List ℕ) → IsNumber digits → before_plus (digits ++ 43 ∷ rest) ≡ digits
-before_plus-named digits rest number =
-    ap (λ k. take k (digits ++ 43 ∷ rest)) (plus_at digits rest number.numeral.1) ∙ take-append_seam digits (43 ∷ rest)
+before_plus-named digits rest number = before_byte-there 43 digits rest (no_plus digits number)
 
 pub after_plus-named : (digits rest : List ℕ) → IsNumber digits → after_plus (digits ++ 43 ∷ rest) ≡ rest
-after_plus-named digits rest number =
-    ap (λ k. drop (k + 1) (digits ++ 43 ∷ rest)) (plus_at digits rest number.numeral.1) ∙ drop-append-add digits (43 ∷ rest) 1
-
-no_not : (b : Bool) → not b ≡ false → b ≡ true
-no_not true h = refl
-no_not false h = sym h
+after_plus-named digits rest number = ap (drop 1) (from_byte-there 43 digits rest (no_plus digits number))
 
 -- where bytes stand behind the first `+`, there is one
-pub plus_between : (front : List ℕ) → 0 < length (after_plus front) → position_or_len is_plus front + 1 < length front
-    → front ≡ before_plus front ++ 43 ∷ after_plus front
-plus_between front some inside =
-    let p = position_or_len is_plus front in
-    let here : drop p front ≡ get_or front p 0 ∷ drop (p + 1) front = drop_more front p 0 (omega (arith, inside)) in
-    let stops : is_plus (get_or front p 0) ≡ true = no_not _ (prefix_len_stops (λ b. not (is_plus b)) front 0 (omega (arith, inside))) in
-    let plus : get_or front p 0 ≡ 43 = eqb-true _ 43 stops in
-    sym (take-append-drop p front) ∙ ap (λ rest. take p front ++ rest) (here ∙ ap (λ b. b ∷ drop (p + 1) front) plus)
+pub plus_between : (front : List ℕ) → 0 < length (after_plus front) → front ≡ before_plus front ++ 43 ∷ after_plus front
+plus_between front some = elim (from_byte_is 43 front) [
+  | inl none ↦ absurd (omega (arith, some, ap (λ rest. length (drop 1 rest)) none))
+  | inr there ↦ sym (parts_make 43 front) ∙ ap (λ rest. before_plus front ++ rest) there
+]
 
 -- the last byte behind a `+` is the last of the number there
 last_behind : (front digits : List ℕ) → 0 < length digits

@@ -1,24 +1,19 @@
 -- History texts as they are read: item by item, up to the first bad one.
-use Rattle.std.specs.Prelude.{ℕ, ◌+◌, ◌^◌, ◌==◌, nat_lt, Bool, List, take, drop, Option, Some, None, if◌then◌else◌}
-use Rattle.std.specs.List.{position_or_len}
+use Rattle.std.specs.Prelude.{ℕ, ◌^◌, nat_lt, Bool, List, drop, Option, Some, None, if◌then◌else◌}
 use Rattle.std.specs.declared.result.Result.{Result}
 use Rattle.std.specs.declared.result.Result.TheVariants.{Ok, Err}
-use Rattle.item_texts.specs.Numbers.{number_of, has_mark, unmarked}
+use Rattle.item_texts.specs.Numbers.{number_of, has_mark, unmarked, before_byte, from_byte}
 use Rattle.item_texts.specs.Reading.{values_of}
 use Rattle.histories.specs.declared.entry.Entry.{Entry}
 use Rattle.histories.specs.declared.history_text.HistoryFault.{HistoryFault}
 use Rattle.histories.specs.declared.history_text.HistoryFault.TheVariants.{BadEntry, NoHart}
 
--- `+`
-abbrev pub is_plus : ℕ → Bool
-is_plus b = b == 43
-
 -- what stands before the first `+`, and what behind it
 abbrev pub before_plus : List ℕ → List ℕ
-before_plus front = take (position_or_len is_plus front) front
+before_plus front = before_byte 43 front
 
 abbrev pub after_plus : List ℕ → List ℕ
-after_plus front = drop (position_or_len is_plus front + 1) front
+after_plus front = drop 1 (from_byte 43 front)
 
 -- the entry of a hart, if there are both numbers, the second one of 32 bits, and the hart
 abbrev pub entry_by : Option ℕ → Option ℕ → ℕ → ℕ → Bool → Result Entry HistoryFault

@@ -1,13 +1,13 @@
 //! History texts: `1+3 0+0!` lets hart 1 take three local steps and then one more, and then hart 0 one with its
 //! store-conditional refused.
 
-ghost use Rattle.std.specs.Prelude.{◌≡◌, ◌<◌, ◌≤◌, ◌≢◌, length, IfOk, IfErr};
-ghost use Rattle.std.specs.List.{All, position_or_len};
+ghost use Rattle.std.specs.Prelude.{◌≡◌, ◌<◌, ◌≢◌, drop, IfOk, IfErr};
+ghost use Rattle.std.specs.List.{All};
 ghost use Rattle.histories.specs.Grammar.{Spells, Spoils};
-ghost use Rattle.histories.specs.Reading.{is_plus, before_plus, after_plus, entry_of, entries_of};
+ghost use Rattle.histories.specs.Reading.{entry_of, entries_of};
 
 use crate::entry::Entry;
-use item_texts::{CAP, next_item, number, split_mark};
+use item_texts::{CAP, next_item, number, split_at_byte, split_mark};
 use std::alloc::Allocator;
 use thiserror::Error;
 
@@ -26,23 +26,13 @@ pub enum HistoryFault {
     Memory,
 }
 
-// How many bytes stand before the first `+`.
-fn plus_place(front: &[u8]) -> usize
-    ensures count { result ≡ position_or_len is_plus front.now }
-    ensures within { result ≤ length front.now }
+// What stands behind the first byte.
+fn behind_first(rest: &[u8]) -> &[u8]
+    ensures { result.now ≡ drop 1 rest.now }
 {
-    front.iter().take_while(|byte| **byte != b'+').count()
-}
-
-// What stands before the first `+`, and what behind it.
-fn split_plus(front: &[u8]) -> (&[u8], &[u8])
-    ensures before { result.0.now ≡ before_plus front.now }
-    ensures after { result.1.now ≡ after_plus front.now }
-{
-    let (before, rest) = front.split_at(plus_place(front));
     match rest {
-        [_, after @ ..] => (before, after),
-        [] => (before, rest),
+        [_, behind @ ..] => behind,
+        [] => rest,
     }
 }
 
@@ -51,11 +41,11 @@ fn read_entry(item: &[u8], at: usize, harts: u32) -> Result<Entry, HistoryFault>
     ensures { result ≡ entry_of harts at item.now }
 {
     let (front, refuse) = split_mark(item);
-    let (before, after) = split_plus(front);
+    let (before, rest) = split_at_byte(front, b'+');
     let Some(hart) = number(before) else {
         return Err(HistoryFault::BadEntry(at));
     };
-    let Some(local) = number(after) else {
+    let Some(local) = number(behind_first(rest)) else {
         return Err(HistoryFault::BadEntry(at));
     };
     if local >= CAP {

@@ -3,3 +3,4 @@ pub mod NumberLemmas
 pub mod Numbers
 pub mod Agreement
 pub mod PrintLemmas
+pub mod ByteLemmas

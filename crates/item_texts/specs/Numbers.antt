@@ -1,5 +1,6 @@
--- Decimal numbers without a leading zero, and the mark behind them.
-use Rattle.std.specs.Prelude.{◌≡◌, ℕ, ◌+◌, ◌-◌, ◌*◌, ◌^◌, ◌==◌, ◌||◌, ◌&&◌, not, min, nat_lt, Bool, true, false, List, [], ◌∷◌, length, slice_index, take, Option, Some, None, if◌then◌else◌}
+-- Decimal numbers without a leading zero, the mark behind them, and the bytes between them.
+use Rattle.std.specs.Prelude.{◌≡◌, ℕ, ◌+◌, ◌-◌, ◌*◌, ◌^◌, ◌==◌, ◌||◌, ◌&&◌, not, min, nat_lt, Bool, true, false, List, [], ◌∷◌, length, slice_index, take, drop, Option, Some, None, if◌then◌else◌}
+use Rattle.std.specs.List.{position_or_len}
 use Rattle.std.specs.Str.{all_ascii_digits}
 use Rattle.std.specs.Str.Parse.{IsNumeral}
 
@@ -38,3 +39,10 @@ before_mark item = take (length item - 1) item
 -- an item without the mark, if there is one
 abbrev pub unmarked : List ℕ → List ℕ
 unmarked item = if has_mark item then before_mark item else item
+
+-- what stands before the first byte of a value, and what stands from it on
+abbrev pub before_byte : ℕ → List ℕ → List ℕ
+before_byte byte item = take (position_or_len (λ b. b == byte) item) item
+
+abbrev pub from_byte : ℕ → List ℕ → List ℕ
+from_byte byte item = drop (position_or_len (λ b. b == byte) item) item

@@ -3,7 +3,7 @@
 #![tactic(auto)]
 
 pub use items::{is_blank, next_item};
-pub use parts::{CAP, number, split_mark};
+pub use parts::{CAP, number, split_at_byte, split_mark};
 
 mod items;
 mod parts;

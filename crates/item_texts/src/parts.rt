@@ -1,7 +1,8 @@
 //! What an item consists of: decimal numbers, and the mark behind them.
 
-ghost use Rattle.std.specs.Prelude.{◌≡◌};
-ghost use Rattle.item_texts.specs.Numbers.{number_of, has_mark, unmarked};
+ghost use Rattle.std.specs.Prelude.{◌≡◌, ◌==◌, ◌≤◌, length};
+ghost use Rattle.std.specs.List.{position_or_len};
+ghost use Rattle.item_texts.specs.Numbers.{number_of, has_mark, unmarked, before_byte, from_byte};
 
 /// From here on all numbers are read as this one: no hart and no count has so large a number.
 pub const CAP: u64 = 1 << 32;
@@ -35,4 +36,20 @@ pub fn split_mark(item: &[u8]) -> (&[u8], bool)
         [front @ .., b'!'] => (front, true),
         _ => (item, false),
     }
+}
+
+// How many bytes stand before the first that is this one.
+fn place_of(item: &[u8], byte: u8) -> usize
+    ensures count { result ≡ position_or_len (λ b. b == byte) item.now }
+    ensures within { result ≤ length item.now }
+{
+    item.iter().take_while(|b| **b != byte).count()
+}
+
+/// What stands before the first byte of this value, and what stands from it on: nothing, where it isn't there.
+pub fn split_at_byte(item: &[u8], byte: u8) -> (&[u8], &[u8])
+    ensures before { result.0.now ≡ before_byte byte item.now }
+    ensures rest { result.1.now ≡ from_byte byte item.now }
+{
+    item.split_at(place_of(item, byte))
 }
