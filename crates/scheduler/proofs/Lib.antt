@@ -1,4 +1,1 @@
-pub mod Numbers
-pub mod Agreement
-pub mod PrintLemmas
 pub mod ScheduleLemmas

@@ -1,4 +1,1 @@
-pub mod Grammar
-pub mod Reading
-pub mod Printing
 pub mod Schedules
