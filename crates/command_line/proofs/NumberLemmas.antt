@@ -1,6 +1,6 @@
 -- Numbers above a cap.
 use Rattle.std.proofs.Common.{◌≡◌, ℕ, ◌+◌, ◌-◌, ◌*◌, min, List, [], ◌∷◌, arith}
-use Rattle.scheduler.specs.Reading.{value_after}
+use Rattle.item_texts.specs.Numbers.{value_after}
 
 -- what is above the cap may be the cap
 pub capped_below : (cap m n : ℕ) (ds : List ℕ) → min cap m ≡ min cap n → min cap (value_after m ds) ≡ min cap (value_after n ds)

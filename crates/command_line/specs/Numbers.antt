@@ -1,7 +1,7 @@
 -- Numbers in decimal digits.
 use Rattle.std.specs.Prelude.{ℕ, ◌&&◌, nat_lt, List, length, Option, Some, None, if◌then◌else◌}
 use Rattle.std.specs.Str.{all_ascii_digits}
-use Rattle.scheduler.specs.Reading.{value_after}
+use Rattle.item_texts.specs.Numbers.{value_after}
 
 -- the number that one or more decimal digits write, if it is below the limit; leading zeros are allowed
 abbrev pub number_below : ℕ → List ℕ → Option ℕ

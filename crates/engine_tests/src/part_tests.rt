@@ -6,7 +6,7 @@ use engines::{
 };
 use hart_step::{Cause, Hart, HartState};
 use refusing::Refusing;
-use scheduler::ChoiceFault;
+use choice_texts::ChoiceFault;
 
 fn hart(a0: u32, a1: u32, pc: u32, state: HartState) -> Hart {
     let mut registers = [0; 32];

@@ -1,7 +1,7 @@
 //! What no clause says: the worked texts, the faults' own texts, and refused memory.
+use choice_texts::{ChoiceFault, read_choices};
 use machine::Choice;
 use refusing::Refusing;
-use scheduler::{ChoiceFault, read_choices};
 
 const fn plain(hart: u32) -> Choice {
     Choice {
@@ -16,13 +16,20 @@ const fn refused(hart: u32) -> Choice {
 
 #[test]
 fn texts_are_read(rt: HostRuntime) {
-    let rows: [(&str, &[Choice]); 6] = [
+    let rows: [(&str, &[Choice]); 10] = [
         ("", &[]),
         (" \t\r\n", &[]),
         ("0 1 0!", &[plain(0), plain(1), refused(0)]),
         ("1", &[plain(1)]),
         ("\t0\r\n\n1!\n", &[plain(0), refused(1)]),
         ("0  0", &[plain(0), plain(0)]),
+        ("1*1", &[plain(1)]),
+        ("0*2 1", &[plain(0), plain(0), plain(1)]),
+        (
+            "0*3 1!*2",
+            &[plain(0), plain(0), plain(0), refused(1), refused(1)],
+        ),
+        ("\n1!*2\t", &[refused(1), refused(1)]),
     ];
     for (text, wanted) in rows {
         match read_choices(rt.alloc(), text.as_bytes(), 2) {
@@ -34,7 +41,7 @@ fn texts_are_read(rt: HostRuntime) {
 
 #[test]
 fn bad_items_are_refused(rt: HostRuntime) {
-    let rows: [(&str, ChoiceFault); 15] = [
+    let rows: [(&str, ChoiceFault); 28] = [
         ("0 2", ChoiceFault::NoHart(2)),
         ("2 x", ChoiceFault::NoHart(0)),
         ("x 2", ChoiceFault::BadChoice(0)),
@@ -50,12 +57,37 @@ fn bad_items_are_refused(rt: HostRuntime) {
         ("18446744073709551616!", ChoiceFault::NoHart(0)),
         ("099999999999999999999", ChoiceFault::BadChoice(0)),
         ("0 1\t2!", ChoiceFault::NoHart(4)),
+        ("0 1*0", ChoiceFault::BadChoice(2)),
+        ("0*", ChoiceFault::BadChoice(0)),
+        ("0*01", ChoiceFault::BadChoice(0)),
+        ("0*3!", ChoiceFault::BadChoice(0)),
+        ("0*3*3", ChoiceFault::BadChoice(0)),
+        ("*3", ChoiceFault::BadChoice(0)),
+        ("0!!*3", ChoiceFault::BadChoice(0)),
+        ("0*+3", ChoiceFault::BadChoice(0)),
+        ("0 *3", ChoiceFault::BadChoice(2)),
+        ("0*16777217", ChoiceFault::BadChoice(0)),
+        ("0*4294967297", ChoiceFault::BadChoice(0)),
+        ("9*2", ChoiceFault::NoHart(0)),
+        ("9*0", ChoiceFault::BadChoice(0)),
     ];
     for (text, wanted) in rows {
         match read_choices(rt.alloc(), text.as_bytes(), 2) {
             Ok(_) => assert!(rt; false, "{text} is taken"),
             Err(fault) => assert_eq!(rt; fault, wanted, "{text}"),
         }
+    }
+}
+
+#[test]
+fn the_longest_count_is_taken(rt: HostRuntime) {
+    match read_choices(rt.alloc(), b"1!*16777216 0", 2) {
+        Ok(choices) => {
+            assert_eq!(rt; choices.len(), 16_777_217);
+            assert_eq!(rt; choices.get(16_777_215), Some(&refused(1)));
+            assert_eq!(rt; choices.get(16_777_216), Some(&plain(0)));
+        }
+        Err(fault) => assert!(rt; false, "{fault}"),
     }
 }
 

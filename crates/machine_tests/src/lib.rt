@@ -1,4 +1,4 @@
-//! Tests of runs: `scheduler`, `campaigns` and `debugger`.
+//! Tests of runs: `scheduler`, `campaigns`, `histories` and `debugger`.
 #![tactic(auto)]
 
 #[cfg(test)]
@@ -7,5 +7,7 @@ mod campaign_tests;
 mod choice_text_tests;
 #[cfg(test)]
 mod debugger_tests;
+#[cfg(test)]
+mod history_text_tests;
 #[cfg(test)]
 mod schedule_tests;

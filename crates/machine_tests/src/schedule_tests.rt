@@ -1,9 +1,10 @@
 //! The worked schedules.
+use choice_texts::{print_choices, print_runs, read_choices};
 use machine::Choice;
 use rand_core::utils::NextWord;
 use rand_pcg::Lcg64Xsh32;
 use refusing::Refusing;
-use scheduler::{print_choices, read_choices, round_robin, seeded, seeded_generator, solo};
+use scheduler::{round_robin, seeded, seeded_generator, solo};
 
 const fn plain(hart: u32) -> Choice {
     Choice {
@@ -32,6 +33,67 @@ fn choices_are_printed(rt: HostRuntime) {
             Err(_) => assert!(rt; false, "no memory for {wanted}"),
         }
     }
+}
+
+/// Printed by runs: the worked lists, each read back.
+#[test]
+fn runs_are_printed(rt: HostRuntime) {
+    let rows: [(&[Choice], &str); 6] = [
+        (&[], ""),
+        (&[plain(0)], "0\n"),
+        (
+            &[
+                plain(0),
+                plain(0),
+                plain(0),
+                refused(1),
+                refused(1),
+                plain(0),
+            ],
+            "0*3 1!*2 0\n",
+        ),
+        (&[refused(1), plain(1), plain(1)], "1! 1*2\n"),
+        (&[plain(0), plain(1), plain(0)], "0 1 0\n"),
+        (&[refused(31), refused(31)], "31!*2\n"),
+    ];
+    for (choices, wanted) in rows {
+        match print_runs(rt.alloc(), choices) {
+            Ok(text) => assert_eq!(rt; text.as_str(), wanted),
+            Err(_) => assert!(rt; false, "no memory for {wanted}"),
+        }
+        match read_choices(rt.alloc(), wanted.as_bytes(), 32) {
+            Ok(read) => assert_eq!(rt; read.as_slice(), choices, "{wanted}"),
+            Err(fault) => assert!(rt; false, "{wanted}: {fault}"),
+        }
+    }
+}
+
+#[test]
+fn a_run_is_cut_at_its_longest(rt: HostRuntime) {
+    let Ok(choices) = solo(rt.alloc(), 0, 16_777_217) else {
+        return assert!(rt; false, "no memory");
+    };
+    match print_runs(rt.alloc(), choices.as_slice()) {
+        Ok(text) => assert_eq!(rt; text.as_str(), "0*16777216 0\n"),
+        Err(_) => assert!(rt; false, "no memory to print"),
+    }
+}
+
+#[test]
+fn each_refused_request_of_print_runs_is_told(rt: HostRuntime) {
+    let choices = [plain(3), plain(3), refused(0), plain(7), plain(7), plain(0)];
+    for passed in 0..100u64 {
+        let heap = Refusing::new(rt.alloc(), passed);
+        match print_runs(&heap, &choices) {
+            Ok(text) => assert_eq!(rt; text.as_str(), "3*2 0! 7*2 0\n"),
+            Err(_) => assert!(rt; heap.refused(), "at request {passed}"),
+        }
+        if !heap.refused() {
+            assert!(rt; passed > 0, "no memory is asked for");
+            return;
+        }
+    }
+    assert!(rt; false, "memory is asked for without end");
 }
 
 #[test]

@@ -2,7 +2,7 @@
 use Rattle.std.proofs.Common.{zero, suc, ◌≡◌, ℕ, ◌+◌, ◌^◌, ◌<◌, List, [], ◌∷◌, ◌++◌, Option, Some, None, Ok, Err, refl, arith, ap, sym, ◌∙◌, append_assoc, append-nil, eq-eqb, ne_eqb}
 use Rattle.std.specs.Prelude.{◌==◌, if◌then◌else◌}
 use Rattle.std.specs.declared.result.Result.{Result}
-use Rattle.scheduler.specs.Items.{items_from, span_of, IsFirstItem}
+use Rattle.item_texts.specs.Items.{items_from, span_of, IsFirstItem}
 use Rattle.programs.specs.declared.hex.HexFault.{HexFault}
 use Rattle.programs.specs.declared.hex.HexFault.TheVariants.{BadWord, TooMany}
 use Rattle.programs.specs.declared.hex.TheConstants.{MOST_WORDS}

@@ -2,7 +2,7 @@
 use Rattle.std.specs.Prelude.{ℕ, ◌+◌, ◌-◌, ◌*◌, ◌==◌, ◌&&◌, nat_le, List, [], ◌∷◌, ◌++◌, length, Option, Some, None, if◌then◌else◌}
 use Rattle.std.specs.declared.result.Result.{Result}
 use Rattle.std.specs.declared.result.Result.TheVariants.{Ok, Err}
-use Rattle.scheduler.specs.Items.{Item, items_from}
+use Rattle.item_texts.specs.Items.{Item, items_from}
 use Rattle.programs.specs.declared.hex.HexFault.{HexFault}
 use Rattle.programs.specs.declared.hex.HexFault.TheVariants.{BadWord, TooMany}
 use Rattle.programs.specs.declared.hex.TheConstants.{MOST_WORDS}

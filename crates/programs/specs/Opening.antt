@@ -5,8 +5,8 @@ use Rattle.std.specs.declared.result.Result.TheVariants.{Ok, Err}
 use Rattle.reservations.specs.declared.reserve.TheConstants.{MAX_HARTS}
 use Rattle.loader.specs.Image.{ImageValue}
 use Rattle.machine.specs.declared.choice.Choice.{Choice}
-use Rattle.scheduler.specs.Reading.{choices_of}
-use Rattle.scheduler.specs.declared.choice_text.ChoiceFault.{ChoiceFault}
+use Rattle.choice_texts.specs.Reading.{choices_of}
+use Rattle.choice_texts.specs.declared.choice_text.ChoiceFault.{ChoiceFault}
 use Rattle.programs.specs.Program.{program_of}
 use Rattle.programs.specs.RunFaults.{fault_of_choices}
 use Rattle.programs.specs.declared.program.ProgramForm.{ProgramForm}

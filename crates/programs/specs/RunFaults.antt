@@ -3,8 +3,8 @@ use Rattle.loader.specs.declared.fault.ElfFault.{ElfFault}
 use Rattle.loader.specs.declared.fault.ElfFault.TheVariants as elf
 use Rattle.machine.specs.declared.start.StartFault.{StartFault}
 use Rattle.machine.specs.declared.start.StartFault.TheVariants as start
-use Rattle.scheduler.specs.declared.choice_text.ChoiceFault.{ChoiceFault}
-use Rattle.scheduler.specs.declared.choice_text.ChoiceFault.TheVariants as choice
+use Rattle.choice_texts.specs.declared.choice_text.ChoiceFault.{ChoiceFault}
+use Rattle.choice_texts.specs.declared.choice_text.ChoiceFault.TheVariants as choice
 use Rattle.programs.specs.declared.hex.HexFault.{HexFault}
 use Rattle.programs.specs.declared.hex.HexFault.TheVariants as hex
 use Rattle.programs.specs.declared.run_fault.Input.TheVariants as input

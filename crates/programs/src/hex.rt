@@ -3,7 +3,7 @@
 ghost use Rattle.std.specs.Prelude.{◌≡◌, ◌≢◌, ◌≤◌, ◌<◌, ◌^◌, IfOk, IfErr, IfSome, vec_len};
 ghost use Rattle.programs.specs.HexText.{hex_digit_of, word_of, words_of};
 
-use scheduler::next_item;
+use item_texts::next_item;
 use std::alloc::Allocator;
 use thiserror::Error;
 

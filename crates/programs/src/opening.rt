@@ -13,7 +13,7 @@ use devices::{ReadFault, Source, read_all};
 use loader::Image;
 use machine::Choice;
 use reservations::MAX_HARTS;
-use scheduler::read_choices;
+use choice_texts::read_choices;
 use std::alloc::Allocator;
 
 /// What a run begins with.

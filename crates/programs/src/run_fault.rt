@@ -7,7 +7,7 @@ use crate::hex::HexFault;
 use devices::Status;
 use loader::ElfFault;
 use machine::StartFault;
-use scheduler::ChoiceFault;
+use choice_texts::ChoiceFault;
 use thiserror::Error;
 
 /// An input of a run.

@@ -1,6 +1,1 @@
-pub mod NumberLemmas
-pub mod ItemLemmas
-pub mod Numbers
-pub mod Agreement
-pub mod PrintLemmas
 pub mod ScheduleLemmas

@@ -1,5 +1,1 @@
-pub mod Items
-pub mod Grammar
-pub mod Reading
-pub mod Printing
 pub mod Schedules

@@ -1,14 +1,9 @@
-//! Schedules: which hart goes next, as texts and as lists.
+//! Schedules: which hart goes next, as texts and as lists. The texts are those of `choice_texts`, which are named here too.
 #![tactic(auto)]
 
-pub use choice_text::{ChoiceFault, read_choices};
-pub use items::{is_blank, next_item};
-pub use laws::{one_list, printed_is_read, read_as_spelled};
-pub use printing::print_choices;
+pub use choice_texts::{
+    ChoiceFault, one_list, print_choices, print_runs, printed_is_read, read_as_spelled, read_choices,
+};
 pub use schedules::{draw_choice, round_robin, seeded, seeded_generator, solo};
 
-mod choice_text;
-mod items;
-mod laws;
-mod printing;
 mod schedules;

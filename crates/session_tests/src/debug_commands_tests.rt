@@ -4,7 +4,7 @@ use debugger::Debugger;
 use programs::{hex_image, read_hex};
 use refusing::Refusing;
 use reservations::MAX_HARTS;
-use scheduler::read_choices;
+use choice_texts::read_choices;
 use std::alloc::{AllocError, Allocator};
 
 // A program in hexadecimal, the inputs, the choices, and lines with what is shown for each.

@@ -1,7 +1,7 @@
 use Rattle.std.proofs.Common.{◌≡◌, ◌+◌, ◌-◌, ◌*◌, ◌^◌, ◌∷◌, min, drop, get_or, arith, rules, ap, ◌∙◌}
 use Rattle.std.proofs.lemmas.List.{drop_more}
 use Rattle.std.specs.Str.{all_ascii_digits}
-use Rattle.scheduler.specs.Reading.{value_after}
+use Rattle.item_texts.specs.Numbers.{value_after}
 use Rattle.command_line.proofs.NumberLemmas.{capped_below}
 use Rattle.command_line.proofs.numbers.number_in.Goals as goal
 

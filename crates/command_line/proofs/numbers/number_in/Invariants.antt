@@ -1,6 +1,6 @@
 use Rattle.std.proofs.Common.{◌≡◌, ◌^◌, ◌≤◌, min, drop}
 use Rattle.std.specs.Str.{all_ascii_digits}
-use Rattle.scheduler.specs.Reading.{value_after}
+use Rattle.item_texts.specs.Numbers.{value_after}
 use Rattle.command_line.proofs.numbers.number_in.Given as goal
 
 abbrev pub invariant-digits : goal.invariant-digits

@@ -1,5 +1,5 @@
 use Rattle.std.proofs.Common.{◌≡◌, ◌-◌, ◌≤◌, length, vec_len}
-use Rattle.scheduler.specs.Items.{items_from}
+use Rattle.item_texts.specs.Items.{items_from}
 use Rattle.programs.specs.HexText.{words_of, words_named, followed_by}
 use Rattle.programs.specs.declared.hex.TheConstants.{MOST_WORDS}
 use Rattle.programs.proofs.hex.read_hex.Given as goal

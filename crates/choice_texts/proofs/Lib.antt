@@ -1,0 +1,4 @@
+pub mod ItemLemmas
+pub mod Agreement
+pub mod ExpandLemmas
+pub mod PrintLemmas

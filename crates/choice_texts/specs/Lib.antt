@@ -1,0 +1,4 @@
+pub mod Runs
+pub mod Grammar
+pub mod Reading
+pub mod Printing

@@ -1,0 +1,4 @@
+pub mod History
+pub mod Grammar
+pub mod Reading
+pub mod Printing

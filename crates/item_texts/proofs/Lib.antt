@@ -1,0 +1,6 @@
+pub mod ItemLemmas
+pub mod NumberLemmas
+pub mod Numbers
+pub mod Agreement
+pub mod PrintLemmas
+pub mod ByteLemmas

@@ -1,0 +1,5 @@
+pub mod Items
+pub mod Numbers
+pub mod Spelling
+pub mod Reading
+pub mod Printing

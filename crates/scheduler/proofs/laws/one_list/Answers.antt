@@ -1,7 +1,0 @@
-use Rattle.std.proofs.Common.{sym, ◌∙◌}
-use Rattle.scheduler.proofs.Agreement.{choices_of-spelled}
-use Rattle.scheduler.proofs.laws.one_list.Goals as goal
-
-pub returns : goal.returns
-returns c = λ harts text one other few first second.
-    let e = sym (choices_of-spelled harts text one 0 few first) ∙ choices_of-spelled harts text other 0 few second in cc
