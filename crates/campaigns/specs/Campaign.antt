@@ -1,14 +1,11 @@
 -- A campaign: the plain run of each seed.
-use Rattle.std.specs.Prelude.{◌≡◌, ℕ, ◌<◌, ◌≤◌, ◌==◌, Bool, List, length, map}
-use Rattle.std.specs.List.{list_any, range_with_len}
+use Rattle.std.specs.Prelude.{ℕ, List, length, map}
+use Rattle.std.specs.List.{range_with_len}
 use Rattle.loader.specs.Image.{ImageValue}
 use Rattle.hart_step.specs.Hart.{HartValue, hart_of}
-use Rattle.reservations.specs.declared.reserve.TheConstants.{MAX_HARTS}
-use Rattle.machine.specs.declared.choice.Choice.{Choice}
+use Rattle.machine.specs.Chosen.{ChooseAlike}
 use Rattle.machine.specs.World.{World, run}
 use Rattle.machine.specs.Start.{started}
-use Rattle.machine.specs.declared.start.StartFault.{StartFault}
-use Rattle.machine.specs.declared.start.StartFault.TheVariants.{NoHarts, TooManyHarts, Memory}
 use Rattle.scheduler.specs.Schedules.{seeded_choices}
 use Rattle.campaigns.specs.declared.seed_run.SeedRun.{SeedRun}
 
@@ -38,24 +35,6 @@ runs_of image inputs steps seeds = map (seed_ends image inputs steps) seeds
 abbrev pub plain_runs : ImageValue → List ℕ → ℕ → ℕ → ℕ → List SeedEnds
 plain_runs image inputs steps first count = runs_of image inputs steps (range_with_len first count)
 
--- whether hart k is chosen
-abbrev pub has_turn : List Choice → ℕ → Bool
-has_turn choices k = list_any (λ c. c.hart == k) choices
-
--- two lists of choices choose the same harts
-abbrev pub HaveTurnsAlike : List Choice → List Choice → Type 0
-HaveTurnsAlike a b = (k : ℕ) → has_turn a k ≡ has_turn b k
-
 -- a run remembers which of so many harts its seed's schedule of so many steps chooses
 abbrev pub RemembersChosen : {Z : Type 0} → ℕ → ℕ → SeedRun Z → Type 0
-RemembersChosen harts steps run = HaveTurnsAlike run.chosen.items (seeded_choices harts steps run.seed)
-
--- there is a hart for each input, and not too many
-abbrev pub IsStartable : List ℕ → Type 0
-IsStartable inputs = (0 < length inputs) × (length inputs ≤ MAX_HARTS)
-
--- why a campaign is refused: want of memory is told only where the inputs can be started with
-abbrev pub RefusesCampaign : List ℕ → StartFault → Type 0
-RefusesCampaign inputs NoHarts = length inputs ≡ 0
-RefusesCampaign inputs TooManyHarts = MAX_HARTS < length inputs
-RefusesCampaign inputs Memory = IsStartable inputs
+RemembersChosen harts steps run = ChooseAlike run.chosen.items (seeded_choices harts steps run.seed)

@@ -1,7 +1,8 @@
 //! Campaigns: one program run under the schedule of each seed of a range, on all processors.
 #![tactic(auto)]
 
-pub use runs::{campaign, check_inputs, next_runs};
+pub use machine::check_inputs;
+pub use runs::{campaign, next_runs};
 pub use seed_run::SeedRun;
 pub use seeds::{BLOCK_STEPS, Block, LEAST_SEEDS, MOST_SEEDS, Seeds};
 

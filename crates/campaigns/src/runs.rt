@@ -1,33 +1,19 @@
 //! All seeds of a range on all processors.
 
-ghost use Rattle.std.specs.Prelude.{◌≡◌, ◌≢◌, ◌+◌, ◌<◌, ◌≤◌, ◌^◌, [], ◌++◌, IfOk, IfSome, IfNone, OnErr, MatchResult, length, map, min};
+ghost use Rattle.std.specs.Prelude.{◌≡◌, ◌+◌, ◌<◌, ◌≤◌, ◌^◌, [], ◌++◌, IfOk, IfSome, IfNone, OnErr, MatchResult, length, map, min};
 ghost use Rattle.std.specs.List.{All};
-ghost use Rattle.campaigns.specs.Campaign.{ends_of, seed_ends, runs_of, plain_runs, IsStartable, RefusesCampaign, RemembersChosen};
+ghost use Rattle.campaigns.specs.Campaign.{ends_of, seed_ends, runs_of, plain_runs, RemembersChosen};
+ghost use Rattle.machine.specs.Start.{IsStartable, Refuses};
 ghost use Rattle.campaigns.specs.Blocks.{block_seeds};
 ghost use Rattle.campaigns.specs.Seeds.{seeds_left};
 
 use crate::seed_run::{SeedRun, run_seed};
 use crate::seeds::Seeds;
 use loader::Image;
-use machine::StartFault;
+use machine::{StartFault, check_inputs};
 use rayon::prelude::*;
-use reservations::MAX_HARTS;
 use std::alloc::{AllocError, Allocator};
 use std::thread::Threads;
-
-/// Whether a campaign can start with these inputs, one for each hart.
-pub fn check_inputs(inputs: &[u32]) -> Result<(), StartFault>
-    ensures { MatchResult result (λ _. IsStartable inputs.now)
-        (λ fault. RefusesCampaign inputs.now fault × (fault ≢ StartFault.Memory)) }
-{
-    if inputs.is_empty() {
-        return Err(StartFault::NoHarts);
-    }
-    if inputs.len() > MAX_HARTS {
-        return Err(StartFault::TooManyHarts);
-    }
-    Ok(())
-}
 
 /// For each of `count` seeds from `first` on, in order, the harts as the run of so many steps under the seed's schedule
 /// leaves them, and which of them it chose. The runs are shared among all processors. The inputs are checked also where
@@ -46,7 +32,7 @@ pub fn campaign<A: Allocator + Copy + Send + Sync, B: Allocator + Sync>(
         (λ runs. IsStartable inputs.now
         × ((map ends_of runs.items ≡ plain_runs image.now inputs.now steps first count)
         × All (RemembersChosen (length inputs.now) steps) runs.items))
-        (λ fault. RefusesCampaign inputs.now fault) }
+        (λ fault. Refuses inputs.now fault) }
 {
     match check_inputs(inputs) {
         Ok(()) => {}

@@ -1,10 +1,12 @@
 //! The run of one seed.
 
 ghost use Rattle.std.specs.Prelude.{◌≡◌, ◌<◌, ◌||◌, ◌==◌, ℕ, IfOk, length};
+ghost use Rattle.machine.specs.Chosen.{is_chosen, ChooseAlike};
 ghost use Rattle.machine.specs.World.{run};
 ghost use Rattle.machine.specs.Machine.{world};
+ghost use Rattle.machine.specs.Start.{IsStartable};
 ghost use Rattle.scheduler.specs.Schedules.{seeded_choices};
-ghost use Rattle.campaigns.specs.Campaign.{has_turn, ends_of, seed_ends, HaveTurnsAlike, IsStartable, RemembersChosen};
+ghost use Rattle.campaigns.specs.Campaign.{ends_of, seed_ends, RemembersChosen};
 
 use hart_step::Hart;
 use loader::Image;
@@ -25,9 +27,9 @@ pub struct SeedRun<A: Allocator> {
     pub chosen: Vec<Choice, A>,
 }
 
-// Whether some choice is that of a hart.
-fn has_turn(choices: &[Choice], hart: u32) -> bool
-    ensures { result ≡ has_turn choices.now hart }
+// Whether a hart is chosen.
+fn is_chosen(choices: &[Choice], hart: u32) -> bool
+    ensures { result ≡ is_chosen choices.now hart }
 {
     choices.iter().any(|choice| choice.hart == hart)
 }
@@ -35,10 +37,10 @@ fn has_turn(choices: &[Choice], hart: u32) -> bool
 // Adds a choice, unless one of its hart is there.
 #[tactic(auto, using(crate::proofs::ChosenLemmas::added, crate::proofs::ChosenLemmas::there))]
 fn add_choice<A: Allocator>(chosen: &mut Vec<Choice, A>, choice: Choice) -> Result<(), AllocError>
-    ensures { IfOk result (λ _. (k : ℕ) → has_turn chosen.new.items k
-        ≡ (has_turn chosen.old.items k || (choice.hart == k))) }
+    ensures { IfOk result (λ _. (k : ℕ) → is_chosen chosen.new.items k
+        ≡ (is_chosen chosen.old.items k || (choice.hart == k))) }
 {
-    if has_turn(chosen, choice.hart) {
+    if is_chosen(chosen, choice.hart) {
         return Ok(());
     }
     chosen.push(choice)?;
@@ -59,7 +61,7 @@ fn run_seeded<S: Store, A: Allocator>(
     ensures ok { IfOk result (λ _. world S.memory machine.new
         ≡ run (world S.memory machine.old) (seeded_choices harts steps seed)) }
     ensures chosen { IfOk result (λ chosen.
-        HaveTurnsAlike chosen.items (seeded_choices harts steps seed)) }
+        ChooseAlike chosen.items (seeded_choices harts steps seed)) }
 {
     let mut chosen = Vec::new(alloc);
     let mut generator = seeded_generator(seed);

@@ -3,7 +3,7 @@
 ghost use Rattle.std.specs.Prelude.{◌≡◌, ◌≢◌, ◌^◌, ◌-◌, ◌<◌, Ok, Err, IfOk, IfErr, IfSome, length};
 ghost use Rattle.std.specs.Io.KnownBytes.{Keeps};
 ghost use Rattle.programs.specs.Program.{program_of};
-ghost use Rattle.programs.specs.Opening.{TakesInputs};
+ghost use Rattle.machine.specs.Start.{IsStartable};
 ghost use Rattle.programs.specs.RunFaults.{IfReads, IsRefusal};
 ghost use Rattle.loader.specs.Image.{ImageValue};
 ghost use Rattle.debug_engine.specs.Opening.{opened, Answers, BeginsToAnswer, IfCut, IfUnopened};
@@ -55,7 +55,7 @@ pub fn debug_engine<A: Allocator + Copy, P: Source, C: Source, S: Source, K: Sin
         (image : ImageValue) × (program_of ProgramForm.Elf p ≡ Ok image)) }
     // And so does the fault of the number of inputs.
     ensures inputs_first { result ≡ Err (DebugEngineFault.Refused (RunFault.Read Input.Choices))
-        → TakesInputs (length inputs.now) }
+        → IsStartable inputs.now }
     ensures sink_unnamed { IfErr result (λ fault. IfUnopened fault (λ why. why ≢ RunFault.Write)) }
     ensures commands { result ≡ Err DebugEngineFault.Commands
         → S.failures commands.old < S.failures commands.new }

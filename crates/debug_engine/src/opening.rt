@@ -4,7 +4,7 @@ ghost use Rattle.std.specs.Prelude.{◌≡◌, ◌<◌, IfOk, length};
 ghost use Rattle.std.specs.List.{All};
 ghost use Rattle.debugger.specs.Session.{session};
 ghost use Rattle.debug_engine.specs.Opening.{first_session};
-ghost use Rattle.programs.specs.Opening.{TakesInputs};
+ghost use Rattle.machine.specs.Start.{IsStartable};
 
 use debugger::Debugger;
 use programs::OpenRun;
@@ -16,7 +16,7 @@ pub fn open_session<A: Allocator + Copy>(
     run: OpenRun<A>,
     inputs: &[u32],
 ) -> Result<Debugger<A>, AllocError>
-    requires takes { TakesInputs (length inputs.now) }
+    requires takes { IsStartable inputs.now }
     requires within { All (λ c. c.hart < length inputs.now) run.choices.items }
     ensures { IfOk result (λ debugger.
         session debugger ≡ first_session run.image inputs.now run.choices.items) }

@@ -9,7 +9,8 @@ use Rattle.std.specs.Io.KnownBytes.{Appends}
 use Rattle.std.specs.Option.{IfSome}
 use Rattle.loader.specs.Image.{ImageValue}
 use Rattle.reservations.specs.declared.reserve.TheConstants.{MAX_HARTS}
-use Rattle.campaigns.specs.Campaign.{SeedEnds, IsStartable, RefusesCampaign, plain_runs}
+use Rattle.campaigns.specs.Campaign.{SeedEnds, plain_runs}
+use Rattle.machine.specs.Start.{IsStartable, Refuses}
 use Rattle.machine.specs.declared.start.StartFault.{StartFault}
 use Rattle.machine.specs.declared.start.StartFault.TheVariants as start
 use Rattle.programs.specs.RunFaults.{fault_of_start, IsRefusal}
@@ -159,7 +160,7 @@ answer_of_many rule inputs first count steps image many =
 
 -- a refusal of the inputs
 pub answer_of_refused : (rule : Option Kind) (inputs : List ℕ) (first count steps : ℕ) (image : ImageValue) (why : StartFault)
-    → RefusesCampaign inputs why → why ≢ start.Memory → after_image rule inputs first count steps (Ok image) ≡ Err (fault_of_start why)
+    → Refuses inputs why → why ≢ start.Memory → after_image rule inputs first count steps (Ok image) ≡ Err (fault_of_start why)
 answer_of_refused rule inputs first count steps image start.NoHarts none other = answer_of_none rule inputs first count steps image none
 answer_of_refused rule inputs first count steps image start.TooManyHarts many other = answer_of_many rule inputs first count steps image many
 answer_of_refused rule inputs first count steps image start.Memory startable other = absurd (other refl)

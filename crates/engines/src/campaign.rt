@@ -4,18 +4,20 @@ ghost use Rattle.std.specs.Prelude.{◌≡◌, ◌≢◌, ◌+◌, ◌++◌, ◌
 ghost use Rattle.std.specs.List.{All};
 ghost use Rattle.std.specs.Io.KnownBytes.{Appends, Keeps};
 ghost use Rattle.hart_step.specs.Hart.{hart_of};
-ghost use Rattle.campaigns.specs.Campaign.{ends_of, plain_runs, IsStartable, RemembersChosen};
+ghost use Rattle.campaigns.specs.Campaign.{ends_of, plain_runs, RemembersChosen};
+ghost use Rattle.machine.specs.Start.{IsStartable};
 ghost use Rattle.engines.specs.Campaign.{after_image, bad_runs, bad_status, campaign_answer, counted, counts, entry_with, is_bad, run_verdict, seed_line, seed_lines, status_of_runs, Begins, IfHalts};
 ghost use Rattle.engines.specs.Certified.{IsCertified};
 ghost use Rattle.engines.specs.Run.{BeginsToPrint, Prints};
 ghost use Rattle.programs.specs.RunFaults.{IfReads, IsRefusal};
 
 use crate::run::see_words;
-use campaigns::{Block, SeedRun, Seeds, campaign, check_inputs};
+use campaigns::{Block, SeedRun, Seeds, campaign};
 use devices::{Sink, Source, Status, write_all};
 use ends::has_faulted;
 use hart_step::{Hart, HartState};
 use loader::Image;
+use machine::check_inputs;
 use programs::{Input, ProgramForm, RunFault, read_image};
 use protocol_library::{Kind, Verdict, judge};
 use std::alloc::{AllocError, Allocator};

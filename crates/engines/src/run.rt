@@ -6,7 +6,7 @@ ghost use Rattle.std.specs.Io.KnownBytes.{Keeps};
 ghost use Rattle.engines.specs.Certified.{AnswersKept, IsCertified};
 ghost use Rattle.programs.specs.Program.{program_of};
 ghost use Rattle.engines.specs.Run.{run_answer, shown, world_after, Prints, BeginsToPrint};
-ghost use Rattle.programs.specs.Opening.{TakesInputs};
+ghost use Rattle.machine.specs.Start.{IsStartable};
 ghost use Rattle.programs.specs.RunFaults.{IsRefusal, IfReads};
 ghost use Rattle.loader.specs.Image.{ImageValue};
 
@@ -36,7 +36,7 @@ pub fn run_image<A: Allocator + Copy>(
     rule: Option<Kind>,
     choices: &[Choice],
 ) -> Result<(String<A>, Status), AllocError>
-    requires takes { TakesInputs (length inputs.now) }
+    requires takes { IsStartable inputs.now }
     requires within { All (λ c. c.hart < length inputs.now) choices.now }
     ensures { IfOk result (λ answer.
         shown rule inputs.now choices.now (world_after image.now inputs.now choices.now)
@@ -87,8 +87,7 @@ pub fn run_engine<A: Allocator + Copy, P: Source, C: Source, K: Sink>(
     ensures program_first { result ≡ Err (RunFault.Read Input.Choices)
         → IfSome (P.left program.old) (λ p. (image : ImageValue) × (program_of form p ≡ Ok image)) }
     // And so does the fault of the number of inputs.
-    ensures inputs_first { result ≡ Err (RunFault.Read Input.Choices)
-        → TakesInputs (length inputs.now) }
+    ensures inputs_first { result ≡ Err (RunFault.Read Input.Choices) → IsStartable inputs.now }
     ensures write { result ≡ Err RunFault.Write → K.failures sink.old < K.failures sink.new }
     // After a failed write a beginning of the output stands there.
     ensures begun { result ≡ Err RunFault.Write

@@ -1,4 +1,5 @@
 pub mod World
 pub mod Machine
 pub mod Start
+pub mod Chosen
 pub mod Example

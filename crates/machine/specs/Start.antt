@@ -1,5 +1,5 @@
 -- How a machine starts.
-use Rattle.std.specs.Prelude.{◌≡◌, ℕ, ◌+◌, ◌<◌, ◌==◌, List, [], ◌∷◌, None, length, if◌then◌else◌}
+use Rattle.std.specs.Prelude.{◌≡◌, ℕ, ◌+◌, ◌<◌, ◌≤◌, ◌==◌, List, [], ◌∷◌, None, length, if◌then◌else◌}
 use Rattle.loader.specs.Image.{ImageValue}
 use Rattle.memory.specs.Image.{image_memory}
 use Rattle.reservations.specs.declared.reserve.TheConstants.{MAX_HARTS}
@@ -31,8 +31,12 @@ started image inputs = record {
   reserved = λ h. None;
 }
 
--- why these inputs can't be started with
+-- there can be a hart for each input
+abbrev pub IsStartable : List ℕ → Type 0
+IsStartable inputs = (0 < length inputs) × (length inputs ≤ MAX_HARTS)
+
+-- why no machine starts with these inputs: want of memory is told only where there can be a hart for each
 abbrev pub Refuses : List ℕ → StartFault → Type 0
 Refuses inputs NoHarts = length inputs ≡ 0
 Refuses inputs TooManyHarts = MAX_HARTS < length inputs
-Refuses inputs Memory = Unit {0}
+Refuses inputs Memory = IsStartable inputs

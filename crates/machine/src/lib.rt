@@ -6,7 +6,7 @@ pub use example::run_in_an_example;
 pub use laws::{run_keeps_alignment, run_keeps_unwritable, run_keeps_zero};
 pub use machine::Machine;
 pub use run::Stopped;
-pub use start::StartFault;
+pub use start::{StartFault, check_inputs};
 
 mod choice;
 mod example;

@@ -1,8 +1,8 @@
 //! How a machine starts.
-ghost use Rattle.std.specs.Prelude.{◌≡◌, ℕ, ◌<◌, ◌≤◌, length, map, IfOk, MatchResult, vec_len};
+ghost use Rattle.std.specs.Prelude.{◌≡◌, ◌≢◌, ℕ, ◌<◌, ◌≤◌, length, map, IfOk, MatchResult, vec_len};
 ghost use Rattle.hart_step.specs.Hart.{hart_of};
 ghost use Rattle.machine.specs.Machine.{world};
-ghost use Rattle.machine.specs.Start.{first_hart, first_harts, started, Refuses};
+ghost use Rattle.machine.specs.Start.{first_hart, first_harts, started, IsStartable, Refuses};
 ghost use Rattle.reservations.specs.declared.reserve.TheConstants.{MAX_HARTS as most};
 
 use crate::machine::Machine;
@@ -25,6 +25,20 @@ pub enum StartFault {
     /// The host refused memory.
     #[error("out of memory")]
     Memory,
+}
+
+/// Whether there can be a hart for each input: 1 to `MAX_HARTS` inputs.
+pub fn check_inputs(inputs: &[u32]) -> Result<(), StartFault>
+    ensures { MatchResult result (λ _. IsStartable inputs.now)
+        (λ fault. Refuses inputs.now fault × (fault ≢ StartFault.Memory)) }
+{
+    if inputs.is_empty() {
+        return Err(StartFault::NoHarts);
+    }
+    if inputs.len() > MAX_HARTS {
+        return Err(StartFault::TooManyHarts);
+    }
+    Ok(())
 }
 
 /// A hart at the entry: `a0` is its number, `a1` its input, `a2` the number of harts, all other registers are 0.
@@ -73,11 +87,9 @@ impl<S: FromImage<A>, A: Allocator + Copy> Machine<S, A> {
             × (world S.memory m ≡ started image.now inputs.now))
             (λ fault. Refuses inputs.now fault) }
     {
-        if inputs.is_empty() {
-            return Err(StartFault::NoHarts);
-        }
-        if inputs.len() > MAX_HARTS {
-            return Err(StartFault::TooManyHarts);
+        match check_inputs(inputs) {
+            Ok(()) => {}
+            Err(fault) => return Err(fault),
         }
         let Ok(harts) = start_harts(alloc, image.entry(), inputs) else {
             return Err(StartFault::Memory);

@@ -1,5 +1,5 @@
 -- What a run begins with: the image of a program and the choices that a text spells, or the first fault of what was read.
-use Rattle.std.specs.Prelude.{ℕ, ◌<◌, ◌≤◌, ◌==◌, nat_lt, List, if◌then◌else◌}
+use Rattle.std.specs.Prelude.{ℕ, ◌==◌, nat_lt, List, if◌then◌else◌}
 use Rattle.std.specs.declared.result.Result.{Result}
 use Rattle.std.specs.declared.result.Result.TheVariants.{Ok, Err}
 use Rattle.reservations.specs.declared.reserve.TheConstants.{MAX_HARTS}
@@ -16,10 +16,6 @@ use Rattle.programs.specs.declared.run_fault.RunFault.TheVariants as run
 -- an image with its choices, or why there is no run
 abbrev pub Opened : Type 0
 Opened = Result (ImageValue × List Choice) RunFault
-
--- there can be a hart for each of so many inputs
-abbrev pub TakesInputs : ℕ → Type 0
-TakesInputs harts = (0 < harts) × (harts ≤ MAX_HARTS)
 
 -- an image with the choices that are read
 abbrev pub with_choices : ImageValue → Result (List Choice) ChoiceFault → Opened

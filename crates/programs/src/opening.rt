@@ -3,7 +3,8 @@
 ghost use Rattle.std.specs.Prelude.{◌≡◌, ◌≢◌, ◌^◌, ◌-◌, ◌<◌, ℕ, List, Ok, Err, IfOk, IfErr, IfSome, length};
 ghost use Rattle.std.specs.List.{All};
 ghost use Rattle.loader.specs.Image.{ImageValue};
-ghost use Rattle.programs.specs.Opening.{after_program, opening, TakesInputs};
+ghost use Rattle.machine.specs.Start.{IsStartable};
+ghost use Rattle.programs.specs.Opening.{opening};
 ghost use Rattle.programs.specs.Program.{program_of};
 ghost use Rattle.programs.specs.RunFaults.{IfReads, IsRefusal};
 
@@ -11,9 +12,8 @@ use crate::program::{ProgramForm, read_image};
 use crate::run_fault::{Input, RunFault};
 use devices::{ReadFault, Source, read_all};
 use loader::Image;
-use machine::Choice;
-use reservations::MAX_HARTS;
 use choice_texts::read_choices;
+use machine::{Choice, check_inputs};
 use std::alloc::Allocator;
 
 /// What a run begins with.
@@ -23,22 +23,6 @@ pub struct OpenRun<A: Allocator> {
     pub image: Image<A>,
     /// The choices, each of a hart that is there.
     pub choices: Vec<Choice, A>,
-}
-
-/// Whether there can be a hart for each input: 1 to `MAX_HARTS` inputs.
-pub fn check_inputs(inputs: &[u32]) -> Result<(), RunFault>
-    ensures ok { IfOk result (λ _. TakesInputs (length inputs.now)) }
-    ensures err { IfErr result (λ fault. (text : List ℕ) → (image : ImageValue)
-        → after_program (length inputs.now) text (Ok image) ≡ Err fault) }
-    ensures refusal { IfErr result (λ fault. IsRefusal fault) }
-{
-    if inputs.is_empty() {
-        return Err(RunFault::NoHarts);
-    }
-    if inputs.len() > MAX_HARTS {
-        return Err(RunFault::TooManyHarts);
-    }
-    Ok(())
 }
 
 /// Reads a program in this form to its end, counts the inputs, and reads the choice text to its end. The first that is refused
@@ -53,7 +37,7 @@ pub fn open_run<A: Allocator + Copy, P: Source, C: Source>(
 ) -> Result<OpenRun<A>, RunFault>
     requires program_counts { P.failures program.old < 2 ^ 64 - 1 }
     requires choices_count { C.failures choices.old < 2 ^ 64 - 1 }
-    ensures takes { IfOk result (λ _. TakesInputs (length inputs.now)) }
+    ensures takes { IfOk result (λ _. IsStartable inputs.now) }
     ensures within { IfOk result (λ run. All (λ c. c.hart < length inputs.now) run.choices.items) }
     ensures image { IfOk result (λ run.
         IfSome (P.left program.old) (λ p. program_of form p ≡ Ok run.image)) }
@@ -71,8 +55,7 @@ pub fn open_run<A: Allocator + Copy, P: Source, C: Source>(
     // A fault of the program, and that of the number of inputs, come before one of the device that the choices are read from.
     ensures program_first { result ≡ Err (RunFault.Read Input.Choices)
         → IfSome (P.left program.old) (λ p. (image : ImageValue) × (program_of form p ≡ Ok image)) }
-    ensures inputs_first { result ≡ Err (RunFault.Read Input.Choices)
-        → TakesInputs (length inputs.now) }
+    ensures inputs_first { result ≡ Err (RunFault.Read Input.Choices) → IsStartable inputs.now }
 {
     let image = match read_image(alloc, form, program) {
         Ok(image) => image,
@@ -80,7 +63,7 @@ pub fn open_run<A: Allocator + Copy, P: Source, C: Source>(
     };
     match check_inputs(inputs) {
         Ok(()) => {}
-        Err(fault) => return Err(fault),
+        Err(fault) => return Err(RunFault::from(fault)),
     }
     let text = match read_all(alloc, choices) {
         Ok(bytes) => bytes,

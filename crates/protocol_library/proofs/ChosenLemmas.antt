@@ -1,14 +1,14 @@
 -- A verdict asks no more of the choices than which harts they choose.
-use Rattle.std.proofs.Common.{◌≡◌, ℕ, zero, suc, ◌<◌, Bool, true, false, ◌||◌, ◌==◌, List, [], ◌∷◌, ◌++◌, length, get_or, refl, sym, ap, ◌∙◌, ◌⊎◌, inl, inr, arith, cond, eqb-true}
+use Rattle.std.proofs.Common.{◌≡◌, ℕ, zero, suc, ◌<◌, Bool, true, false, ◌==◌, List, [], ◌∷◌, length, get_or, refl, sym, ap, ◌∙◌, ◌⊎◌, inl, inr, arith, cond}
 use Rattle.std.specs.List.{Contains}
 use Rattle.std.specs.Bool.{Decides}
 use Rattle.std.proofs.lemmas.Bool.Decides.{Decides-or, Decides-like}
 use Rattle.hart_step.specs.Hart.{HartValue}
+use Rattle.machine.specs.Chosen.{is_chosen, ChooseAlike}
 use Rattle.machine.specs.declared.choice.Choice.{Choice}
 use Rattle.protocol_library.specs.declared.kind.Kind.{Kind}
 use Rattle.protocol_library.specs.declared.kind.Kind.TheVariants.{Swap, Add, LrSc, AdoptCommit}
 use Rattle.protocol_library.specs.declared.verdict.Verdict.TheVariants as verdict
-use Rattle.protocol_library.specs.Chosen.{is_chosen, ChooseAlike}
 use Rattle.protocol_library.specs.Counts.{chosen}
 use Rattle.protocol_library.specs.Rules.{IsProposed, KeepsConsensus, KeepsAdoptCommit, Keeps}
 use Rattle.protocol_library.specs.Judging.{is_kept, verdict_of}
@@ -79,37 +79,3 @@ same_verdict kind inputs a b harts alike =
     (same_bool (is_kept kind inputs a harts) (is_kept kind inputs b harts)
     (λ e. y.1 (keeps kind inputs a b harts alike (x.0 e)))
     (λ e. x.1 (keeps kind inputs b a harts (flipped a b alike) (y.0 e))))
-
--- ---- harts that are chosen one after another
-any-append : (a b : List Choice) (k : ℕ) → is_chosen (a ++ b) k ≡ (is_chosen a k || is_chosen b k)
-any-append [] b k = refl
-any-append (c ∷ a) b k = go (c.hart == k) (any-append a b k)
-  where
-    go : (x : Bool) → is_chosen (a ++ b) k ≡ (is_chosen a k || is_chosen b k) → (x || is_chosen (a ++ b) k) ≡ ((x || is_chosen a k) || is_chosen b k)
-    go true e = refl
-    go false e = e
-
--- a choice more
-pub chosen-more : (a : List Choice) (c : Choice) (k : ℕ) → is_chosen (a ++ c ∷ []) k ≡ (is_chosen a k || (c.hart == k))
-chosen-more a c k = any-append a (c ∷ []) k ∙ go (is_chosen a k) (c.hart == k)
-  where
-    go : (x y : Bool) → (x || (y || false)) ≡ (x || y)
-    go true y = refl
-    go false true = refl
-    go false false = refl
-
--- a choice of a hart that was chosen before
-pub chosen-again : (a : List Choice) (c : Choice) (k : ℕ) → is_chosen a c.hart ≡ true → is_chosen a k ≡ (is_chosen a k || (c.hart == k))
-chosen-again a c k among = go (c.hart == k) refl
-  where
-    whole : (x : Bool) → x ≡ true → x ≡ (x || true)
-    whole true e = refl
-    whole false e = absurd (cc)
-
-    none : (x : Bool) → x ≡ (x || false)
-    none true = refl
-    none false = refl
-
-    go : (y : Bool) → (c.hart == k) ≡ y → is_chosen a k ≡ (is_chosen a k || y)
-    go true e = whole (is_chosen a k) (ap (is_chosen a) (sym (eqb-true c.hart k e)) ∙ among)
-    go false e = none (is_chosen a k)

@@ -5,4 +5,3 @@ pub mod Counts
 pub mod Sources
 pub mod Judging
 pub mod Names
-pub mod Chosen

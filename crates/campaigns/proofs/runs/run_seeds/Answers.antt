@@ -2,7 +2,8 @@ use Rattle.std.proofs.Common.{◌≡◌, ◌<◌, ◌^◌, ◌+◌, ◌-◌, ap,
 use Rattle.std.specs.List.{range_with_len}
 use Rattle.rayon.specs.Numbers.{nat_range}
 use Rattle.rayon.proofs.ToStd.{nat_range-All}
-use Rattle.campaigns.specs.Campaign.{IsStartable, RemembersChosen, seed_ends}
+use Rattle.campaigns.specs.Campaign.{RemembersChosen, seed_ends}
+use Rattle.machine.specs.Start.{IsStartable}
 use Rattle.campaigns.proofs.RunLemmas.{all-listed, all-remember}
 use Rattle.campaigns.proofs.runs.run_seeds.Goals as goal
 

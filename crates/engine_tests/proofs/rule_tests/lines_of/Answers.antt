@@ -3,7 +3,8 @@ use Rattle.std.proofs.lemmas.List.Elements.{All-cons, All-nil}
 use Rattle.std.specs.List.{All}
 use Rattle.scheduler.specs.Schedules.{generator_of}
 use Rattle.scheduler.proofs.ScheduleLemmas.{drawn-none}
-use Rattle.campaigns.specs.Campaign.{has_turn, RemembersChosen}
+use Rattle.machine.specs.Chosen.{is_chosen}
+use Rattle.campaigns.specs.Campaign.{RemembersChosen}
 use Rattle.campaigns.specs.declared.seed_run.SeedRun.{SeedRun}
 use Rattle.engine_tests.proofs.rule_tests.lines_of.Goals as goal
 
@@ -14,5 +15,5 @@ push_runs-requires g c =
     subst (All (RemembersChosen 2 0))
     (sym (c.deref.ensures.value ∙ c.in_ok-push.ensures.items ∙ ap (λ runs. runs ++ run ∷ []) c.new-runs.ensures.items))
     (All-cons (RemembersChosen 2 0) run []
-    (λ k. ap (λ choices. has_turn choices k) (c.new-chosen.ensures.items ∙ sym (drawn-none 2 0 (generator_of 5) refl)))
+    (λ k. ap (λ choices. is_chosen choices k) (c.new-chosen.ensures.items ∙ sym (drawn-none 2 0 (generator_of 5) refl)))
     (All-nil (RemembersChosen 2 0)))
