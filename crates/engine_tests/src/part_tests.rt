@@ -1,4 +1,5 @@
 //! What no clause says: printed texts, words from another source, failing devices and refused memory.
+use choice_texts::ChoiceFault;
 use engines::{
     DeviceFault, Failing, FullSink, HexFault, Input, MemorySink, MemorySource, ReadFault,
     ReaderSource, RunFault, Status, WriterSink, ends_text, hex_image, read_all, read_hex,
@@ -6,7 +7,6 @@ use engines::{
 };
 use hart_step::{Cause, Hart, HartState};
 use refusing::Refusing;
-use choice_texts::ChoiceFault;
 
 fn hart(a0: u32, a1: u32, pc: u32, state: HartState) -> Hart {
     let mut registers = [0; 32];

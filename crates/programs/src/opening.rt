@@ -10,9 +10,9 @@ ghost use Rattle.programs.specs.RunFaults.{IfReads, IsRefusal};
 
 use crate::program::{ProgramForm, read_image};
 use crate::run_fault::{Input, RunFault};
+use choice_texts::read_choices;
 use devices::{ReadFault, Source, read_all};
 use loader::Image;
-use choice_texts::read_choices;
 use machine::{Choice, check_inputs};
 use std::alloc::Allocator;
 

@@ -4,10 +4,10 @@ ghost use Rattle.std.specs.Prelude.{◌≡◌};
 ghost use Rattle.programs.specs.RunFaults.{status_of_fault, fault_of_elf, fault_of_hex, fault_of_start, fault_of_choices};
 
 use crate::hex::HexFault;
+use choice_texts::ChoiceFault;
 use devices::Status;
 use loader::ElfFault;
 use machine::StartFault;
-use choice_texts::ChoiceFault;
 use thiserror::Error;
 
 /// An input of a run.

@@ -1,10 +1,10 @@
 //! What no clause says: worked sessions, line by line, and refused memory.
+use choice_texts::read_choices;
 use debug_commands::{Answer, DebugFault, command};
 use debugger::Debugger;
 use programs::{hex_image, read_hex};
 use refusing::Refusing;
 use reservations::MAX_HARTS;
-use choice_texts::read_choices;
 use std::alloc::{AllocError, Allocator};
 
 // A program in hexadecimal, the inputs, the choices, and lines with what is shown for each.
