@@ -1,4 +1,4 @@
-//! Tests of runs: `scheduler`, `campaigns` and `debugger`.
+//! Tests of runs: `scheduler`, `campaigns`, `debugger` and `local_steps`.
 #![tactic(auto)]
 
 #[cfg(test)]
@@ -7,5 +7,7 @@ mod campaign_tests;
 mod choice_text_tests;
 #[cfg(test)]
 mod debugger_tests;
+#[cfg(test)]
+mod local_step_tests;
 #[cfg(test)]
 mod schedule_tests;
