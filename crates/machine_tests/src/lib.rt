@@ -1,4 +1,4 @@
-//! Tests of runs: `scheduler`, `campaigns`, `histories` and `debugger`.
+//! Tests of runs: `choice_texts`, `scheduler`, `histories`, `campaigns`, `debugger` and `local_steps`.
 #![tactic(auto)]
 
 #[cfg(test)]
@@ -9,5 +9,7 @@ mod choice_text_tests;
 mod debugger_tests;
 #[cfg(test)]
 mod history_text_tests;
+#[cfg(test)]
+mod local_step_tests;
 #[cfg(test)]
 mod schedule_tests;
