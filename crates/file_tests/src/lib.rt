@@ -1,4 +1,4 @@
-//! Tests of ELF files, images and memory: `loader` and `memory`.
+//! Tests of ELF files, images and memory: `loader`, `memory` and `pages`.
 #![tactic(auto)]
 
 #[cfg(test)]
@@ -9,5 +9,7 @@ mod loading_tests;
 mod memory_tests;
 #[cfg(test)]
 mod order_tests;
+#[cfg(test)]
+mod page_tests;
 #[cfg(test)]
 mod symbol_tests;
