@@ -225,7 +225,7 @@ pub fn pair_of<A: Allocator>(
         }
         Pseudo::Tail { name } => {
             let to = symbol_value(symbols, name.as_str(), 0)?;
-            Ok(jump_pair(Reg::T1, Reg::ZERO, distance(at, to)))
+            Ok(jump_pair(Reg::TEMPORARY_1, Reg::ZERO, distance(at, to)))
         }
     }
 }

@@ -32,7 +32,7 @@ impl Reg {
     pub const RA: Reg = Reg { number: 1 };
 
     /// `t1`: a temporary register.
-    pub const T1: Reg = Reg { number: 6 };
+    pub const TEMPORARY_1: Reg = Reg { number: 6 };
 
     /// The register of a number below 32.
     pub fn new(number: u8) -> Self

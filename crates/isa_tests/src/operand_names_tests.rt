@@ -18,7 +18,11 @@ fn registers_have_their_names(rt: HostRuntime) -> Result<(), AllocError> {
 
 #[test]
 fn constants_are_the_registers_of_their_names(rt: HostRuntime) -> Result<(), AllocError> {
-    for (register, wanted) in [(Reg::ZERO, "zero"), (Reg::RA, "ra"), (Reg::T1, "t1")] {
+    for (register, wanted) in [
+        (Reg::ZERO, "zero"),
+        (Reg::RA, "ra"),
+        (Reg::TEMPORARY_1, "t1"),
+    ] {
         let name = RegisterName(register);
         let text = format!(in rt.alloc(); "{name}")?;
         assert_eq!(rt; text.as_str(), wanted);
