@@ -1,35 +1,19 @@
 -- Runs and their harts.
-use Rattle.std.proofs.Common.{◌≡◌, ℕ, suc, ◌+◌, ◌-◌, ◌<◌, ◌≤◌, List, [], ◌∷◌, length, get_or, take, drop, Option, Some, None, ◌∙◌, sym, ap, refl, arith}
+use Rattle.std.proofs.Common.{◌≡◌, ℕ, ◌+◌, ◌<◌, List, length, get_or, take, drop, Some, ◌∙◌, sym, ap, refl}
 use Rattle.std.specs.List.{All, slice_get}
-use Rattle.std.proofs.lemmas.List.{length-set}
 use Rattle.std.proofs.lemmas.List.Elements.{All-take, All-drop}
 use Rattle.std.proofs.lemmas.Option.{slice_get_read}
 use Rattle.loader.specs.Image.{ImageValue}
-use Rattle.hart_step.specs.Hart.{HartValue}
-use Rattle.machine.specs.World.{World, step_of, step, run}
+use Rattle.machine.specs.World.{World, step}
 use Rattle.machine.specs.Start.{started}
 use Rattle.machine.specs.declared.choice.Choice.{Choice}
 use Rattle.machine.proofs.WorldLemmas.{run_more, run_none}
-use Rattle.machine.proofs.RunLaws.{length-started}
-use Rattle.debugger.specs.State.{reached}
-
-step_of-harts : (w : World) (c : Choice) (o : Option HartValue) → length (step_of w c o).harts ≡ length w.harts
-step_of-harts w c None = refl
-step_of-harts w c (Some h) = length-set w.harts c.hart _
-
-step-harts : (w : World) (c : Choice) → length (step w c).harts ≡ length w.harts
-unfolding step
-step-harts w c = step_of-harts w c (slice_get w.harts c.hart)
-
--- the harts stay as many
-pub run-harts : (w : World) (choices : List Choice) → length (run w choices).harts ≡ length w.harts
-unfolding run
-run-harts w [] = refl
-run-harts w (c ∷ choices) = run-harts (step w c) choices ∙ step-harts w c
+use Rattle.machine.proofs.RunLaws.{length-started, run_length}
+use Rattle.machine.specs.State.{reached}
 
 -- a hart for each input, at each position
 pub reached-harts : (image : ImageValue) (inputs : List ℕ) (choices : List Choice) (k : ℕ) → length (reached image inputs choices k).harts ≡ length inputs
-reached-harts image inputs choices k = run-harts (started image inputs) (take k choices) ∙ length-started image inputs
+reached-harts image inputs choices k = run_length (started image inputs) (take k choices) ∙ length-started image inputs
 
 -- each of the first choices names a hart of the start
 pub first_all : (image : ImageValue) (inputs : List ℕ) (choices : List Choice) (k : ℕ) (w : World) → w ≡ started image inputs

@@ -1,5 +1,5 @@
 -- The steps that are shown, one more at a time.
-use Rattle.std.proofs.Common.{◌≡◌, ℕ, suc, ◌+◌, ◌<◌, ◌≤◌, List, [], ◌∷◌, ◌++◌, length, get_or, drop, ◌∙◌, sym, ap, refl, arith}
+use Rattle.std.proofs.Common.{◌≡◌, ℕ, ◌+◌, ◌<◌, ◌≤◌, List, [], ◌∷◌, ◌++◌, length, get_or, drop, ◌∙◌, sym, ap, refl, arith}
 use Rattle.std.proofs.lemmas.List.{drop_more, drop_all, append-nil, append_assoc}
 use Rattle.std.specs.List.{slice_get}
 use Rattle.machine.specs.World.{World, step}

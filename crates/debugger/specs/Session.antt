@@ -1,12 +1,11 @@
 -- What a debugger is for its user.
-use Rattle.std.specs.Prelude.{◌≡◌, ℕ, zero, suc, ◌+◌, ◌-◌, Option, Some, None, List, length, take, slice_get}
+use Rattle.std.specs.Prelude.{ℕ, zero, suc, ◌+◌, ◌-◌, Option, Some, None, List, length, slice_get}
 use Rattle.loader.specs.Image.{ImageValue}
 use Rattle.machine.specs.World.{World}
 use Rattle.machine.specs.declared.choice.Choice.{Choice}
-use Rattle.debugger.specs.State.{reached}
+use Rattle.machine.specs.State.{reached}
 use Rattle.debugger.specs.Stops.{stop_on}
 use Rattle.debugger.specs.declared.stop.Stop.{Stop}
-use Rattle.debugger.specs.declared.track.Track.{Track}
 use Rattle.debugger.specs.declared.debugger.Debugger.{Debugger}
 
 -- an image, inputs and choices, the position in their run, and the addresses of breakpoints and of watched words, which rise

@@ -1,9 +1,9 @@
 -- Where a debugger stops.
-use Rattle.std.specs.Prelude.{ℕ, zero, suc, ◌+◌, ◌-◌, Bool, not, ◌==◌, if◌then◌else◌, Option, Some, None, List, slice_get}
+use Rattle.std.specs.Prelude.{ℕ, Bool, not, ◌==◌, if◌then◌else◌, Option, Some, None, List, slice_get}
 use Rattle.std.specs.List.{list_any, find}
 use Rattle.reservations.specs.Marks.{word_of}
 use Rattle.hart_step.specs.Hart.{HartValue}
-use Rattle.machine.specs.World.{World, run, step}
+use Rattle.machine.specs.World.{World, step}
 use Rattle.machine.specs.declared.choice.Choice.{Choice}
 use Rattle.debugger.specs.Words.{word_at}
 use Rattle.debugger.specs.declared.stop.Stop.{Stop}

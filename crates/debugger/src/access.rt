@@ -4,7 +4,7 @@ ghost use Rattle.memory.specs.Access.{fetched};
 ghost use Rattle.hart_step.specs.Hart.{hart_of, registers_of};
 ghost use Rattle.hart_step.specs.Locality.{access_at};
 ghost use Rattle.debugger.specs.Accessed.{address_of, accessed};
-ghost use Rattle.debugger.specs.State.{state};
+ghost use Rattle.machine.specs.State.{state};
 
 use decoder::decode;
 use hart_step::{Hart, HartState, access_by};

@@ -1,6 +1,6 @@
 //! What a debugger keeps.
 ghost use Rattle.std.specs.Prelude.{◌≡◌, ◌≤◌, ◌%◌, All, vec_len};
-ghost use Rattle.debugger.specs.State.{state, reached};
+ghost use Rattle.machine.specs.State.{state, reached};
 
 use crate::track::Track;
 use machine::Machine;

@@ -1,7 +1,7 @@
 //! Moves to a position.
 ghost use Rattle.std.specs.Prelude.{◌≡◌, ◌<◌, ◌≤◌, ◌+◌, ◌-◌, length, vec_len, Err, OnOk, OnErr, IfOk, IfErr};
 ghost use Rattle.std.specs.Borrow.{sem};
-ghost use Rattle.debugger.specs.State.{state, reached};
+ghost use Rattle.machine.specs.State.{state, reached};
 ghost use Rattle.debugger.specs.Session.{session, moved, world_at, length_of, steps_to};
 ghost use Rattle.debugger.specs.Lending.{EndsMoved};
 ghost use Rattle.debugger.specs.declared.fault.MoveFault.TheVariants.{PastEnd};

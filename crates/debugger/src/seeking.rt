@@ -1,6 +1,6 @@
 //! Going on and back to where one has to stop.
 ghost use Rattle.std.specs.Prelude.{◌≡◌, ◌<◌, ◌≤◌, ◌+◌, ◌-◌, vec_len, OnOk, OnErr, IfOk};
-ghost use Rattle.debugger.specs.State.{state};
+ghost use Rattle.machine.specs.State.{state};
 ghost use Rattle.debugger.specs.Session.{session, moved, length_of, world_at, next_found, earlier_found, steps_on, steps_back};
 
 use crate::debugger::Debugger;

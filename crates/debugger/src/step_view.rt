@@ -1,6 +1,6 @@
 //! The steps of a run, one after the other.
 ghost use Rattle.std.specs.Prelude.{◌≡◌, ◌<◌, ◌≤◌, ◌+◌, ◌^◌, [], ◌∷◌, Err, IfOk, OnOk, IfErr, All, max, length, slice_get};
-ghost use Rattle.debugger.specs.State.{state};
+ghost use Rattle.machine.specs.State.{state};
 ghost use Rattle.debugger.specs.Steps.{event_of, view_of, steps_from, shown_steps};
 ghost use Rattle.debugger.specs.Session.{session, length_of};
 ghost use Rattle.debugger.specs.declared.fault.MoveFault.TheVariants.{PastEnd};

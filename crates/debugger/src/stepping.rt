@@ -1,7 +1,7 @@
 //! Steps that are counted, and where they stop.
 ghost use Rattle.std.specs.Prelude.{◌≡◌, ◌<◌, ◌+◌, ◌%◌, ◌^◌, ℕ, All, length, OnOk, OnErr, IfOk, IfSome, Some, slice_get};
 ghost use Rattle.machine.specs.World.{step, run};
-ghost use Rattle.debugger.specs.State.{state};
+ghost use Rattle.machine.specs.State.{state};
 ghost use Rattle.debugger.specs.Accessed.{accessed};
 ghost use Rattle.debugger.specs.Words.{word_if};
 ghost use Rattle.debugger.specs.Stops.{break_of, stop_after, watched};

@@ -1,7 +1,7 @@
 //! A run that can be entered anywhere.
 ghost use Rattle.std.specs.Prelude.{◌≡◌, ◌<◌, All, length};
 ghost use Rattle.machine.specs.Start.{started};
-ghost use Rattle.debugger.specs.State.{state};
+ghost use Rattle.machine.specs.State.{state};
 
 use loader::Image;
 use machine::{Choice, Machine};

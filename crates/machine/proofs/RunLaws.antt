@@ -1,6 +1,7 @@
 -- What each step keeps, every run keeps.
 use Rattle.std.proofs.Common.{◌≡◌, ℕ, suc, ◌+◌, ◌%◌, ◌<◌, Bool, List, [], ◌∷◌, Option, Some, None, length, refl, ap, ◌∙◌, subst}
 use Rattle.std.specs.List.{All, slice_get}
+use Rattle.std.proofs.lemmas.List.{length-set}
 use Rattle.std.proofs.lemmas.List.Elements.{All-set, All-nil, All-cons}
 use Rattle.std.proofs.lemmas.Option.{slice_get_within, get_or_from_slice_get}
 use Rattle.loader.specs.Image.{ImageValue}
@@ -83,3 +84,17 @@ length-first entry n h (input ∷ inputs) = ap suc (length-first entry n (h + 1)
 pub length-started : (image : ImageValue) (inputs : List ℕ) → length (started image inputs).harts ≡ length inputs
 unfolding started
 length-started image inputs = length-first image.entry (length inputs) 0 inputs
+
+length-step_of : (w : World) (c : Choice) (o : Option HartValue) → length (step_of w c o).harts ≡ length w.harts
+length-step_of w c None = refl
+length-step_of w c (Some h) = length-set w.harts c.hart _
+
+length-step : (w : World) (c : Choice) → length (step w c).harts ≡ length w.harts
+unfolding step
+length-step w c = length-step_of w c (slice_get w.harts c.hart)
+
+-- no run changes how many there are
+pub run_length : (w : World) (choices : List Choice) → length (run w choices).harts ≡ length w.harts
+unfolding run
+run_length w [] = refl
+run_length w (c ∷ choices) = run_length (step w c) choices ∙ length-step w c

@@ -12,6 +12,12 @@ unfolding run
 run-push w [] c = refl
 run-push w (x ∷ choices) c = run-push (step w x) choices c
 
+-- one list of events after another
+pub run_append : (w : World) (choices more : List Choice) → run w (choices ++ more) ≡ run (run w choices) more
+unfolding run
+run_append w [] more = refl
+run_append w (c ∷ choices) more = run_append (step w c) choices more
+
 pub run_none : (w : World) → run w [] ≡ w
 unfolding run
 run_none w = refl

@@ -1,5 +1,6 @@
 pub mod World
 pub mod Machine
+pub mod State
 pub mod Start
 pub mod Chosen
 pub mod Example

@@ -1,11 +1,23 @@
 //! What holds in every run.
-ghost use Rattle.std.specs.Prelude.{◌≡◌, ℕ, ◌%◌, List};
+ghost use Rattle.std.specs.Prelude.{◌≡◌, ℕ, ◌%◌, List, ◌++◌, length};
 ghost use Rattle.std.specs.List.{All};
 ghost use Rattle.loader.specs.Image.{ImageValue};
 ghost use Rattle.hart_step.specs.Laws.{Keeps, IsAligned, HasZero};
 ghost use Rattle.machine.specs.World.{World, run};
 ghost use Rattle.machine.specs.Start.{started};
 ghost use Rattle.machine.specs.declared.choice.Choice.{Choice};
+
+/// Choices after choices: the run of both together is the run of the later ones from where the earlier ones lead.
+pub fn run_goes_on()
+    ensures { (w : World) (choices more : List Choice)
+        → run w (choices ++ more) ≡ run (run w choices) more }
+{}
+
+/// No run changes how many harts there are.
+pub fn run_keeps_harts()
+    ensures { (w : World) (choices : List Choice)
+        → length (run w choices).harts ≡ length w.harts }
+{}
 
 /// No run changes a right, or a byte that may not be written.
 pub fn run_keeps_unwritable()

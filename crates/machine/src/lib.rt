@@ -3,7 +3,9 @@
 
 pub use choice::Choice;
 pub use example::run_in_an_example;
-pub use laws::{run_keeps_alignment, run_keeps_unwritable, run_keeps_zero};
+pub use laws::{
+    run_goes_on, run_keeps_alignment, run_keeps_harts, run_keeps_unwritable, run_keeps_zero,
+};
 pub use machine::Machine;
 pub use run::Stopped;
 pub use start::{StartFault, check_inputs};

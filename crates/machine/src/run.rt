@@ -1,5 +1,5 @@
 //! Steps and runs.
-ghost use Rattle.std.specs.Prelude.{◌≡◌, ℕ, ◌<◌, ◌≤◌, OnOk, OnErr, IfErr, IsTrue, All, map, take, length, vec_len, slice_get, Some};
+ghost use Rattle.std.specs.Prelude.{◌≡◌, ℕ, ◌<◌, ◌≤◌, OnOk, OnErr, IfErr, IsTrue, All, map, take, length, vec_len, slice_get, slice_set, Some};
 ghost use Rattle.hart_step.specs.Hart.{hart_of};
 ghost use Rattle.reservations.specs.Reserve.{marks};
 ghost use Rattle.machine.specs.World.{step, run};
@@ -54,6 +54,16 @@ impl<S: Store, A: Allocator> Machine<S, A> {
         ensures { marks result.now ≡ (world S.memory self.now).reserved }
     {
         &self.reserve
+    }
+
+    /// Puts a hart into a slot; all else stays. For who knows where steps have led a hart, and need not take them again.
+    pub fn put_hart(&mut self, number: usize, hart: Hart)
+        requires { number < length (world S.memory self.old).harts }
+        ensures { world S.memory self.new ≡ record (world S.memory self.old) {
+          harts = slice_set (world S.memory self.old).harts number (hart_of hart);
+        } }
+    {
+        self.harts[number] = hart;
     }
 
     /// One event: the chosen hart takes its step. Only the memory of the host may refuse, and then nothing has changed.

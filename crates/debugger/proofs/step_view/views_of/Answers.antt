@@ -1,5 +1,5 @@
-use Rattle.std.proofs.Common.{rules, arith, ◌∙◌, sym, ◌≡◌}
-use Rattle.debugger.specs.State.{state}
+use Rattle.std.proofs.Common.{rules, ◌∙◌}
+use Rattle.machine.specs.State.{state}
 use Rattle.debugger.proofs.ViewLemmas.{views_more, views_end}
 use Rattle.debugger.proofs.step_view.views_of.Goals as goal
 

@@ -1,5 +1,5 @@
 use Rattle.std.proofs.Common.{◌≡◌, ◌+◌, ◌++◌, drop, length}
-use Rattle.debugger.specs.State.{state}
+use Rattle.machine.specs.State.{state}
 use Rattle.debugger.specs.Steps.{steps_from}
 use Rattle.debugger.proofs.step_view.views_of.Given as goal
 

@@ -1,4 +1,4 @@
-use Rattle.std.proofs.Common.{rules, ◌∙◌, sym, ◌≡◌}
+use Rattle.std.proofs.Common.{◌∙◌, sym}
 use Rattle.hart_step.specs.Hart.{hart_of}
 use Rattle.debugger.proofs.StopLemmas.{stands, stands_not}
 use Rattle.debugger.proofs.stepping.break_of.Goals as goal

@@ -1,5 +1,5 @@
-use Rattle.std.proofs.Common.{rules, ◌∙◌, sym, ◌≡◌}
-use Rattle.debugger.specs.State.{state}
+use Rattle.std.proofs.Common.{rules}
+use Rattle.machine.specs.State.{state}
 use Rattle.debugger.proofs.StopLemmas.{break_here, no_stop, watch_here}
 use Rattle.debugger.proofs.stepping.step_to_stop.Goals as goal
 

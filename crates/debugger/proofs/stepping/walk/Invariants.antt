@@ -1,6 +1,6 @@
 use Rattle.std.proofs.Common.{◌≡◌, ◌+◌, take, length}
 use Rattle.machine.specs.World.{run}
-use Rattle.debugger.specs.State.{state}
+use Rattle.machine.specs.State.{state}
 use Rattle.debugger.proofs.stepping.walk.Given as goal
 
 abbrev pub invariant-choices : goal.invariant-choices

@@ -1,4 +1,4 @@
-use Rattle.std.proofs.Common.{rules, ◌∙◌, sym, ◌≡◌}
+use Rattle.std.proofs.Common.{rules, ◌∙◌, sym}
 use Rattle.debugger.proofs.StopLemmas.{watched_there, watched_not}
 use Rattle.debugger.proofs.stepping.watched_word.Goals as goal
 

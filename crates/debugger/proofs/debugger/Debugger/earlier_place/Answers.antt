@@ -1,5 +1,5 @@
-use Rattle.std.proofs.Common.{rules, arith, refl, ap, not, ◌∙◌, sym, ◌≡◌, ◌+◌, ◌<◌, length}
-use Rattle.debugger.specs.State.{state}
+use Rattle.std.proofs.Common.{rules, arith, refl, ap, not, ◌∙◌}
+use Rattle.machine.specs.State.{state}
 use Rattle.debugger.specs.Session.{session, stop_behind}
 use Rattle.debugger.proofs.TrackLemmas.{one_hart, reached-next, start_reached}
 use Rattle.debugger.proofs.StopLemmas.{stop_is, last_none, last_here, last_earlier}

@@ -1,5 +1,5 @@
-use Rattle.std.proofs.Common.{◌≡◌, ◌≤◌, ◌+◌, ◌-◌, vec_len}
-use Rattle.debugger.specs.State.{state}
+use Rattle.std.proofs.Common.{◌≡◌, ◌≤◌}
+use Rattle.machine.specs.State.{state}
 use Rattle.debugger.specs.Session.{session, world_at, stop_behind, last_stop}
 use Rattle.debugger.proofs.debugger.Debugger.earlier_place.Given as goal
 

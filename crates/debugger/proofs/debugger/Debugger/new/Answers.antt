@@ -1,5 +1,5 @@
-use Rattle.std.proofs.Common.{rules, ◌∙◌, sym, ◌≡◌}
-use Rattle.debugger.specs.State.{state}
+use Rattle.std.proofs.Common.{rules}
+use Rattle.machine.specs.State.{state}
 use Rattle.debugger.proofs.TrackLemmas.{start_reached}
 use Rattle.debugger.proofs.PointLemmas.{none_aligned}
 use Rattle.debugger.proofs.debugger.Debugger.new.Goals as goal

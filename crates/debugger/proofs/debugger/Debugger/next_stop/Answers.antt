@@ -1,5 +1,5 @@
-use Rattle.std.proofs.Common.{rules, arith, ◌∙◌, sym, ◌≡◌, ◌+◌, ◌<◌, length}
-use Rattle.debugger.specs.State.{state}
+use Rattle.std.proofs.Common.{rules, arith, ◌∙◌, sym}
+use Rattle.machine.specs.State.{state}
 use Rattle.debugger.specs.Session.{session, stop_behind}
 use Rattle.debugger.proofs.TrackLemmas.{one_hart, reached-next}
 use Rattle.debugger.proofs.StopLemmas.{stop_is, first_here, first_later, first_end}

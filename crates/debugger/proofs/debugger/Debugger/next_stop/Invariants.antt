@@ -1,5 +1,5 @@
-use Rattle.std.proofs.Common.{◌≡◌, ◌≤◌, ◌+◌, ◌-◌, vec_len}
-use Rattle.debugger.specs.State.{state}
+use Rattle.std.proofs.Common.{◌≡◌, ◌+◌, ◌-◌}
+use Rattle.machine.specs.State.{state}
 use Rattle.debugger.specs.Session.{session, world_at, stop_behind, first_stop, next_found}
 use Rattle.debugger.proofs.debugger.Debugger.next_stop.Given as goal
 

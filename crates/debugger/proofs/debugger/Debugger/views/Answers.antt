@@ -1,5 +1,4 @@
-use Rattle.std.proofs.Common.{rules, ◌∙◌, sym, ◌≡◌}
-use Rattle.debugger.specs.State.{state}
+use Rattle.machine.specs.State.{state}
 use Rattle.debugger.proofs.TrackLemmas.{part_all}
 use Rattle.debugger.proofs.debugger.Debugger.views.Goals as goal
 

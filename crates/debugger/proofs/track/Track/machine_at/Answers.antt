@@ -1,5 +1,5 @@
-use Rattle.std.proofs.Common.{rules, ◌∙◌, sym, ◌≡◌}
-use Rattle.debugger.specs.State.{state}
+use Rattle.std.proofs.Common.{◌∙◌}
+use Rattle.machine.specs.State.{state}
 use Rattle.debugger.proofs.TrackLemmas.{first_all}
 use Rattle.debugger.proofs.track.Track.machine_at.Goals as goal
 

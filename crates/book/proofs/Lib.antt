@@ -1,0 +1,3 @@
+pub mod RunLemmas
+pub mod PresentLemmas
+pub mod SamenessLemmas

@@ -1,0 +1,4 @@
+pub mod Book
+pub mod Segment
+pub mod Kept
+pub mod Present
