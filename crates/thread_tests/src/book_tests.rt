@@ -94,7 +94,14 @@ const ROWS: [(Program, &[u32], &[u32], usize, &str, u32); 4] = [
         "0+3 0+1 0+1! 0+1 0+1 0+4 0+2\n",
         6,
     ),
-    (Program::Writable, &[5], &[0], NONE, "0+0 0+0 0+0 0+0 0+0\n", 5),
+    (
+        Program::Writable,
+        &[5],
+        &[0],
+        NONE,
+        "0+0 0+0 0+0 0+0 0+0\n",
+        5,
+    ),
     (
         Program::Writable,
         &[5, 8],
@@ -137,7 +144,14 @@ fn a_segment_stops_at_its_limit(rt: HostRuntime) {
         return;
     };
     // Of a limit, how many steps are done, and their count after it.
-    for (limit, done, count) in [(0, 0, 0), (1, 1, 1), (1, 0, 1), (2, 1, 2), (9, 1, 3), (9, 0, 3)] {
+    for (limit, done, count) in [
+        (0, 0, 0),
+        (1, 1, 1),
+        (1, 0, 1),
+        (2, 1, 2),
+        (9, 1, 3),
+        (9, 0, 3),
+    ] {
         assert_eq!(rt; segment.advance(limit), done, "limit {limit}");
         assert_eq!(rt; segment.local(), count, "limit {limit}");
     }
@@ -165,7 +179,11 @@ fn each_refused_request_changes_nothing(rt: HostRuntime) {
             assert!(rt; heap.refused(), "at request {passed}");
             assert_eq!(rt; book.history().len(), 0, "at request {passed}");
             assert_eq!(rt; segment.local(), 3, "at request {passed}");
-            assert_eq!(rt; book.present(&mut segment), Ok(()), "after request {passed}");
+            assert_eq!(rt;
+                book.present(&mut segment),
+                Ok(()),
+                "after request {passed}"
+            );
         }
         assert_eq!(rt; book.history().len(), 1, "request {passed}");
         refused = heap.refused();
