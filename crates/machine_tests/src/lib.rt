@@ -1,5 +1,4 @@
 //! Tests of runs: `choice_texts`, `scheduler`, `histories`, `campaigns`, `debugger` and `local_steps`.
-//! Tests of runs: `scheduler`, `campaigns`, `histories`, `debugger` and `local_steps`.
 #![tactic(auto)]
 
 #[cfg(test)]
