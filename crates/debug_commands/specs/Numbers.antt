@@ -1,5 +1,6 @@
 -- Numbers in commands.
 use Rattle.std.specs.Prelude.{ℕ, ◌+◌, ◌-◌, ◌*◌, ◌^◌, ◌&&◌, nat_le, nat_lt, ◌==◌, slice_index, drop, length, Bool, min, List, [], ◌∷◌, Option, Some, None, if◌then◌else◌}
+use Rattle.std.specs.Option.{option_map}
 
 -- whether a byte stands between two others
 abbrev pub is_between : ℕ → ℕ → ℕ → Bool
@@ -12,10 +13,6 @@ digit_of b =
     else (if is_between 65 70 b then Some (b - 55)
     else (if is_between 97 102 b then Some (b - 87) else None))
 
--- a number, or 2^64 - 1 where it is above: all positions, harts and addresses are below that
-abbrev pub held : ℕ → ℕ
-held n = min n (2 ^ 64 - 1)
-
 -- a digit, if it is one of the base
 abbrev pub digit_in : ℕ → Option ℕ → Option ℕ
 digit_in base None = None
@@ -24,20 +21,28 @@ digit_in base (Some digit) = if nat_lt digit base then Some digit else None
 -- the number that a digit makes of n, if there is the digit, and what `rest` makes of that
 abbrev pub with_digit : ℕ → ℕ → (ℕ → Option ℕ) → Option ℕ → Option ℕ
 with_digit base n rest None = None
-with_digit base n rest (Some digit) = rest (held (held (n * base) + digit))
+with_digit base n rest (Some digit) = rest (n * base + digit)
 
 -- the number that digits of a base write when they follow those of n
 unfoldable pub number_after : ℕ → ℕ → List ℕ → Option ℕ
 number_after base n [] = Some n
 number_after base n (b ∷ bs) = with_digit base n (λ m. number_after base m bs) (digit_in base (digit_of b))
 
--- the number that one or more digits of a base write
+-- the number that one or more digits of a base write, however many there are
 abbrev pub number_of : ℕ → List ℕ → Option ℕ
 number_of base digits = if length digits == 0 then None else number_after base 0 digits
 
+-- a number, or 2^64 - 1 where it is above: all positions, harts and addresses are below that
+abbrev pub held : ℕ → ℕ
+held n = min n (2 ^ 64 - 1)
+
+-- the number that digits of a base write, held so
+abbrev pub held_number : ℕ → List ℕ → Option ℕ
+held_number base digits = option_map held (number_of base digits)
+
 -- a decimal number; leading zeros are allowed
 abbrev pub decimal_of : List ℕ → Option ℕ
-decimal_of text = number_of 10 text
+decimal_of text = held_number 10 text
 
 -- a number, if a u32 holds it
 abbrev pub in_word : Option ℕ → Option ℕ
@@ -47,7 +52,7 @@ in_word (Some n) = if nat_lt n (2 ^ 32) then Some n else None
 -- the number of an address: decimal, or hexadecimal behind `0x`
 abbrev pub address_number : List ℕ → Option ℕ
 address_number text =
-    if slice_index text 0 == 48 && slice_index text 1 == 120 then number_of 16 (drop 2 text) else number_of 10 text
+    if slice_index text 0 == 48 && slice_index text 1 == 120 then held_number 16 (drop 2 text) else held_number 10 text
 
 -- an address
 abbrev pub address_of : List ℕ → Option ℕ

@@ -1,6 +1,6 @@
 //! Numbers in commands.
 ghost use Rattle.std.specs.Prelude.{◌≡◌, ◌<◌, ◌^◌, IfSome};
-ghost use Rattle.debug_commands.specs.Numbers.{digit_of, number_after, number_of, decimal_of, address_of};
+ghost use Rattle.debug_commands.specs.Numbers.{digit_of, number_after, number_of, held_number, decimal_of, address_of};
 
 // The value of a digit of base 16, of either case.
 fn digit_of(byte: u8) -> Option<u64>
@@ -16,9 +16,10 @@ fn digit_of(byte: u8) -> Option<u64>
 }
 
 // The number that digits of a base write, one or more, held at 2^64 - 1 where it is above.
-#[tactic(auto, unfolding(crate::specs::Numbers::number_after))]
+#[tactic(auto, using(crate::proofs::NumberLemmas::one_digit), unfolding(crate::specs::Numbers::number_after))]
 fn number_of(base: u64, digits: &[u8]) -> Option<u64>
-    ensures { result ≡ number_of base digits.now }
+    requires { 0 < base }
+    ensures { result ≡ held_number base digits.now }
 {
     if digits.is_empty() {
         return None;

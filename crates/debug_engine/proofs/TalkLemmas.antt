@@ -11,8 +11,7 @@ use Rattle.std.specs.List.{onto_first, slice_split}
 use Rattle.std.specs.Str.Lines.{lines, lines_of_parts, strip_carriage_return}
 use Rattle.debugger.specs.Session.{Session}
 use Rattle.debug_commands.specs.Reply.{Outcome}
-use Rattle.debug_engine.specs.declared.line.TheConstants.{MOST_LINE}
-use Rattle.debug_engine.specs.Lines.{has_no_end, kept, TakesEnded, TakesLast, TakesLine, TakesNone}
+use Rattle.debug_engine.specs.Lines.{has_no_end, TakesEnded, TakesLast, TakesLine, TakesNone}
 use Rattle.debug_engine.specs.Talk.{answers, outcome_to, Begins}
 
 abbrev ends_line : ℕ → Bool
@@ -51,34 +50,6 @@ last_part (b ∷ bs) some = search (rules, common_steps)
 lines_last : (bytes : List ℕ) → has_no_end bytes ≡ true → 0 < length bytes → lines bytes ≡ bytes ∷ []
 lines_last bytes plain some = ap lines_of_parts (split_whole bytes plain) ∙ last_part bytes some
 
--- lines that are too long have one outcome
-long_outcome : (s : Session) (line : List ℕ) → MOST_LINE < length line → (other : List ℕ) → MOST_LINE < length other → outcome_to s line ≡ outcome_to s other
-unfolding outcome_to
-long_outcome s line long other too =
-    let here : nat_lt MOST_LINE (length line) ≡ true = search rules in
-    let there : nat_lt MOST_LINE (length other) ≡ true = search rules in
-    rw (here, there) refl
-
-strip_length : (line : List ℕ) → length line ≤ length (strip_carriage_return line) + 1
-strip_length line = search (rules, common_steps)
-
--- the bytes that were kept of a line have its outcome
-module _ (s : Session) (bytes : List ℕ) where
-  kept_outcome : outcome_to s (kept bytes) ≡ outcome_to s bytes
-  kept_outcome = ⊎_elim
-      (λ (short : length bytes < MOST_LINE + 3). ap (outcome_to s) (take_all (MOST_LINE + 2) bytes (omega (arith, short))))
-      (λ (long : MOST_LINE + 3 ≤ length bytes).
-      long_outcome s (kept bytes) (omega (arith, length-take (MOST_LINE + 2) bytes, long)) bytes (omega (arith, long)))
-      (cases_lt (length bytes) (MOST_LINE + 3))
-
-  stripped_outcome : outcome_to s (strip_carriage_return (kept bytes)) ≡ outcome_to s (strip_carriage_return bytes)
-  stripped_outcome = ⊎_elim
-      (λ (short : length bytes < MOST_LINE + 3). ap (λ xs. outcome_to s (strip_carriage_return xs)) (take_all (MOST_LINE + 2) bytes (omega (arith, short))))
-      (λ (long : MOST_LINE + 3 ≤ length bytes).
-      long_outcome s (strip_carriage_return (kept bytes)) (omega (arith, length-take (MOST_LINE + 2) bytes, strip_length (kept bytes), long))
-      (strip_carriage_return bytes) (omega (arith, strip_length bytes, long)))
-      (cases_lt (length bytes) (MOST_LINE + 3))
-
 -- what is shown from a line on
 abbrev pub shown_on : Outcome → List (List ℕ) → List ℕ
 shown_on outcome others = outcome.text ++ (if outcome.ended then [] else answers outcome.after others)
@@ -89,15 +60,12 @@ answers_first s rest after line took = ⊎_elim
     (λ (t : TakesEnded (Some rest) (Some after) line).
     let split : lines rest ≡ strip_carriage_return t.bytes ∷ lines after
     = ap lines (t.took ∙ append_assoc t.bytes (10 ∷ []) after) ∙ lines_first t.bytes after t.plain in
-    let same : outcome_to s (strip_carriage_return t.bytes) ≡ outcome_to s line
-    = sym (stripped_outcome s t.bytes) ∙ ap (outcome_to s) (sym t.is) in
-    ap (answers s) split ∙ ap (λ o. shown_on o (lines after)) same)
+    ap (answers s) split ∙ ap (λ xs. shown_on (outcome_to s xs) (lines after)) (sym t.is))
     (λ (t : TakesLast (Some rest) (Some after) line).
-    let whole : rest ≡ t.bytes = t.took ∙ ap (λ xs. t.bytes ++ xs) t.end ∙ append-nil t.bytes in
-    let split : lines rest ≡ t.bytes ∷ lines after
-    = ap lines whole ∙ lines_last t.bytes t.plain t.some ∙ ap (λ xs. t.bytes ∷ lines xs) (sym t.end) in
-    let same : outcome_to s t.bytes ≡ outcome_to s line = sym (kept_outcome s t.bytes) ∙ ap (outcome_to s) (sym t.is) in
-    ap (answers s) split ∙ ap (λ o. shown_on o (lines after)) same)
+    let whole : rest ≡ line = t.took ∙ ap (λ xs. line ++ xs) t.end ∙ append-nil line in
+    let split : lines rest ≡ line ∷ lines after
+    = ap lines whole ∙ lines_last line t.plain t.some ∙ ap (λ xs. line ∷ lines xs) (sym t.end) in
+    ap (answers s) split)
     took
 
 -- what is shown of the whole input is what was shown, and then what is shown of the rest in this session

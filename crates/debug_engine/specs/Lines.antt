@@ -1,9 +1,8 @@
 -- Lines that were taken off the front of a source.
-use Rattle.std.specs.Prelude.{◌≡◌, ℕ, ◌+◌, ◌<◌, ◌==◌, ◌++◌, ◌⊎◌, Bool, true, not, List, [], ◌∷◌, Option, length, take}
+use Rattle.std.specs.Prelude.{◌≡◌, ℕ, ◌<◌, ◌==◌, ◌++◌, ◌⊎◌, Bool, true, not, List, [], ◌∷◌, Option, length}
 use Rattle.std.specs.List.{list_all}
 use Rattle.std.specs.Io.KnownBytes.{Consumes, IsAtEnd}
 use Rattle.std.specs.Str.Lines.{strip_carriage_return}
-use Rattle.debug_engine.specs.declared.line.TheConstants.{MOST_LINE}
 
 -- no byte ends a line
 abbrev pub has_no_end : List ℕ → Bool
@@ -13,25 +12,20 @@ has_no_end = list_all (λ b. not (b == 10))
 abbrev pub TakesNone : Option (List ℕ) → Option (List ℕ) → Type 0
 TakesNone old new = Consumes old new [] × IsAtEnd new
 
--- the first bytes of a line, of which two more than the most are kept
-abbrev pub kept : List ℕ → List ℕ
-kept bytes = take (MOST_LINE + 2) bytes
-
--- the bytes up to an LF and the LF were taken, and the line is what was kept of them, less a carriage return
+-- the bytes up to an LF and the LF were taken, and the line is these bytes, less a carriage return
 pub record TakesEnded (old new : Option (List ℕ)) (line : List ℕ) : Type 0 where
   pub bytes : List ℕ
   pub plain : has_no_end bytes ≡ true
   pub took : Consumes old new (bytes ++ 10 ∷ [])
-  pub is : line ≡ strip_carriage_return (kept bytes)
+  pub is : line ≡ strip_carriage_return bytes
 
--- all bytes that were left were taken, none of which ends a line
+-- all bytes that were left were taken, none of which ends a line, and they are the line
 pub record TakesLast (old new : Option (List ℕ)) (line : List ℕ) : Type 0 where
-  pub bytes : List ℕ
-  pub plain : has_no_end bytes ≡ true
-  pub took : Consumes old new bytes
-  pub some : 0 < length bytes
+  pub plain : has_no_end line ≡ true
+  pub took : Consumes old new line
+  pub some : 0 < length line
   pub end : IsAtEnd new
-  pub is : line ≡ kept bytes
 
+-- a line of any length was taken
 abbrev pub TakesLine : Option (List ℕ) → Option (List ℕ) → List ℕ → Type 0
 TakesLine old new line = TakesEnded old new line ⊎ TakesLast old new line

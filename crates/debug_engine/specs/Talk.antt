@@ -1,12 +1,11 @@
 -- A conversation with the debugger.
-use Rattle.std.specs.Prelude.{ℕ, ◌++◌, ◌||◌, nat_lt, not, Bool, false, List, [], ◌∷◌, length, take, Option, Ok, Err, codes, if◌then◌else◌}
+use Rattle.std.specs.Prelude.{ℕ, ◌++◌, false, List, [], ◌∷◌, take, Option, Ok, Err, codes, if◌then◌else◌}
 use Rattle.std.specs.Io.KnownBytes.{Appends}
 use Rattle.std.specs.Str.{is_utf8}
 use Rattle.debugger.specs.Session.{Session}
 use Rattle.debug_commands.specs.Reply.{Outcome, Reply, reply_to}
 use Rattle.debug_commands.specs.declared.fault.DebugFault.{DebugFault}
 use Rattle.debug_commands.specs.declared.fault.DebugFault.TheVariants as faults
-use Rattle.debug_engine.specs.declared.line.TheConstants.{MOST_LINE}
 
 -- the line that is shown for a refused command
 abbrev pub fault_line : DebugFault → List ℕ
@@ -14,13 +13,9 @@ fault_line faults.BadCommand = codes "bad command\n"
 fault_line faults.PastEnd = codes "past end\n"
 fault_line faults.Memory = codes "out of memory\n"
 
--- no command: a line of too many bytes, or of bytes that are no UTF-8
-abbrev pub is_no_text : List ℕ → Bool
-is_no_text line = nat_lt MOST_LINE (length line) || not (is_utf8 line)
-
--- what is replied to a line, without its end
+-- what is replied to a line of any length, without its end; bytes that are no UTF-8 are no command
 abbrev pub line_reply : Session → List ℕ → Reply
-line_reply s line = if is_no_text line then Err faults.BadCommand else reply_to s line
+line_reply s line = if is_utf8 line then reply_to s line else Err faults.BadCommand
 
 -- a reply as an outcome: a refused command is told, and changes nothing
 abbrev pub settled : Session → Reply → Outcome

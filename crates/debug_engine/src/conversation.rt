@@ -7,7 +7,7 @@ ghost use Rattle.debugger.specs.Session.{session};
 ghost use Rattle.debug_commands.specs.Reply.{outcome_of};
 ghost use Rattle.debug_engine.specs.Talk.{answers, fault_line, outcome_to, Begins};
 
-use crate::line::{MOST_LINE, read_line};
+use crate::line::read_line;
 use debug_commands::{Answer, DebugFault, command};
 use debugger::Debugger;
 use devices::{ReadFault, Sink, Source, write_all};
@@ -36,7 +36,7 @@ fn fault_text<A: Allocator>(alloc: A, fault: DebugFault) -> Result<String<A>, Al
     String::from_str(alloc, line)
 }
 
-// Obeys a line, without its end, and answers its text. One that is too long, or no UTF-8, is a bad command.
+// Obeys a line, without its end, and answers its text. One that is no UTF-8 is a bad command.
 fn answer_line<A: Allocator + Copy>(
     alloc: A,
     debugger: &mut Debugger<A>,
@@ -45,9 +45,6 @@ fn answer_line<A: Allocator + Copy>(
     ensures { IfOk result (λ answer. outcome_to (session debugger.old) line.now
         ≡ outcome_of answer (session debugger.new)) }
 {
-    if line.len() > MOST_LINE {
-        return Ok(Answer::Text(fault_text(alloc, DebugFault::BadCommand)?));
-    }
     let Ok(text) = str::from_utf8(line) else {
         return Ok(Answer::Text(fault_text(alloc, DebugFault::BadCommand)?));
     };

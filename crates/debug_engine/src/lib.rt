@@ -4,7 +4,6 @@
 pub use conversation::{TalkFault, talk};
 pub use engine::debug_engine;
 pub use fault::DebugEngineFault;
-pub use line::MOST_LINE;
 pub use opening::open_session;
 
 mod conversation;

@@ -8,13 +8,6 @@ ghost use Rattle.debug_engine.specs.Lines.{TakesLine, TakesNone};
 use devices::{DeviceFault, ReadFault, Source};
 use std::alloc::Allocator;
 
-/// A line of more bytes, its end not counted, is no command.
-pub const MOST_LINE: usize = 4096;
-
-// So many bytes of a line are kept at most: two more, so that one that is too long is known as such, also without a carriage
-// return at its end.
-const KEPT: usize = MOST_LINE + 2;
-
 /// Takes the carriage return off the end, if one stands there.
 pub(crate) fn strip<A: Allocator>(line: &mut Vec<u8, A>)
     ensures { line.new.items ≡ strip_carriage_return line.old.items }
@@ -24,8 +17,8 @@ pub(crate) fn strip<A: Allocator>(line: &mut Vec<u8, A>)
     }
 }
 
-/// The next line without its end, of a long one its first bytes, as soon as its end has come. None where no byte is left.
-/// A line ends by LF or CR LF, or by the source's end.
+/// The next line without its end, as soon as its end has come. None where no byte is left. A line ends by LF or CR LF, or by the
+/// source's end, and may be of any length; it takes memory in proportion.
 pub fn read_line<A: Allocator + Copy, S: Source>(
     alloc: A,
     source: &mut S,
@@ -56,11 +49,9 @@ pub fn read_line<A: Allocator + Copy, S: Source>(
                     strip(&mut line);
                     return Ok(Some(line));
                 }
-                if line.len() < KEPT {
-                    let Ok(()) = line.push(piece[0]) else {
-                        return Err(ReadFault::Memory);
-                    };
-                }
+                let Ok(()) = line.push(piece[0]) else {
+                    return Err(ReadFault::Memory);
+                };
             }
             Err(DeviceFault) => return Err(ReadFault::Device),
         }

@@ -13,13 +13,14 @@ use Rattle.campaigns.specs.Campaign.{SeedEnds, plain_runs}
 use Rattle.machine.specs.Start.{IsStartable, Refuses}
 use Rattle.machine.specs.declared.start.StartFault.{StartFault}
 use Rattle.machine.specs.declared.start.StartFault.TheVariants as start
-use Rattle.programs.specs.RunFaults.{fault_of_start, IsRefusal}
+use Rattle.programs.specs.RunFaults.{fault_of_start, IfReads, IsRefusal}
 use Rattle.protocol_library.specs.declared.kind.Kind.{Kind}
-use Rattle.engines.specs.Campaign.{Begins, after_image, bad_runs, campaign_answer, is_bad, one_if, run_verdict, seed_entry, seed_lines, shown_runs}
+use Rattle.engines.specs.Campaign.{Begins, IfHalts, after_image, bad_runs, campaign_answer, is_bad, one_if, run_verdict, seed_entry, seed_lines, shown_runs}
 use Rattle.programs.specs.Program.{program_of}
 use Rattle.engines.specs.Run.{Answer, BeginsToPrint, Prints}
 use Rattle.devices.specs.declared.status.Status.{Status}
 use Rattle.programs.specs.declared.program.ProgramForm.TheVariants as form
+use Rattle.programs.specs.declared.run_fault.Input.TheVariants as input
 use Rattle.programs.specs.declared.run_fault.RunFault.{RunFault}
 use Rattle.programs.specs.declared.run_fault.RunFault.TheVariants as fault
 
@@ -217,3 +218,24 @@ pub done_answer : (r : Result Status RunFault) (answer : Answer) (lines : List �
 done_answer (Ok status) answer lines wanted old new shown done =
     subst (λ a. Prints a status old new) (sym shown) (sym done.1, done.0)
 done_answer (Err why) answer lines wanted old new shown done = done
+
+-- ---- which input a fault names
+-- none, where the inputs are refused
+pub start_unread : (why : StartFault) (file choices : Type 0) → IfReads (fault_of_start why) file choices
+start_unread start.NoHarts file choices = tt
+start_unread start.TooManyHarts file choices = tt
+start_unread start.Memory file choices = tt
+
+-- none, where the runs were halted
+pub halted_unread : (r : Result Status RunFault) (risen : Type 0) → IfErr r (λ why. IfHalts why risen) → IfErr r (λ why. IfReads why ⊥ ⊥)
+halted_unread (Ok s) risen h = h
+halted_unread (Err fault.Memory) risen h = tt
+halted_unread (Err fault.Write) risen h = tt
+halted_unread (Err why) risen h = absurd h
+
+-- a fault that names none names none that did not fail
+pub unread_still : (r : Result Status RunFault) (file choices : Type 0) → IfErr r (λ why. IfReads why ⊥ ⊥) → IfErr r (λ why. IfReads why file choices)
+unread_still (Ok s) file choices h = h
+unread_still (Err (fault.Read input.File)) file choices h = absurd h
+unread_still (Err (fault.Read input.Choices)) file choices h = absurd h
+unread_still (Err why) file choices h = h

@@ -18,7 +18,7 @@ use ends::has_faulted;
 use hart_step::{Hart, HartState};
 use loader::Image;
 use machine::check_inputs;
-use programs::{Input, ProgramForm, RunFault, read_image};
+use programs::{ProgramForm, RunFault, read_image};
 use protocol_library::{Kind, Verdict, judge};
 use std::alloc::{AllocError, Allocator};
 use std::fmt;
@@ -295,7 +295,7 @@ fn write_campaign<A: Allocator + Copy + Send + Sync, K: Sink>(
         → after_image plan.rule inputs.now plan.first plan.count plan.steps (Ok image.now) ≡ Err fault) }
     ensures unwritten { IfErr result (λ fault. fault ≢ RunFault.Write → fault ≢ RunFault.Memory
         → Keeps (K.held sink.old) (K.held sink.new)) }
-    ensures read { IfErr result (λ fault. fault ≢ RunFault.Read Input.File) }
+    ensures read { IfErr result (λ fault. IfReads fault ⊥ ⊥) }
     ensures write { result ≡ Err RunFault.Write → K.failures sink.old < K.failures sink.new }
     ensures begun { result ≡ Err RunFault.Write →
         BeginsToPrint (after_image plan.rule inputs.now plan.first plan.count plan.steps (Ok image.now))
@@ -336,9 +336,9 @@ pub fn campaign_engine<A: Allocator + Copy + Send + Sync, P: Source, K: Sink>(
         campaign_answer plan.rule inputs.now plan.first plan.count plan.steps p ≡ Err fault)) }
     ensures unwritten { IfErr result (λ fault. fault ≢ RunFault.Write → fault ≢ RunFault.Memory
         → Keeps (K.held sink.old) (K.held sink.new)) }
-    // A device is named only where it failed.
-    ensures read { result ≡ Err (RunFault.Read Input.File)
-        → P.failures program.old < P.failures program.new }
+    // A device is named only where it failed; there are no choices to read.
+    ensures read { IfErr result (λ fault. IfReads fault
+        (P.failures program.old < P.failures program.new) ⊥) }
     ensures write { result ≡ Err RunFault.Write → K.failures sink.old < K.failures sink.new }
     // After a failed write, and where memory is refused to a later run, a beginning of the lines stands there.
     ensures begun { result ≡ Err RunFault.Write → IfSome (P.left program.old) (λ p.

@@ -4,7 +4,7 @@ ghost use Rattle.std.specs.Prelude.{◌≡◌, ◌≢◌, ◌-◌, ◌^◌, ◌<
 ghost use Rattle.std.specs.Io.KnownBytes.{Keeps};
 ghost use Rattle.engines.specs.File.{BeginsToShow, Shows, ShowsFile};
 ghost use Rattle.programs.specs.Program.{program_of};
-ghost use Rattle.programs.specs.RunFaults.{IsRefusal};
+ghost use Rattle.programs.specs.RunFaults.{IfReads, IsRefusal};
 
 use crate::info::info_text;
 use devices::{ReadFault, Sink, Source, Status, read_all, write_all};
@@ -64,9 +64,9 @@ pub fn file_engine<A: Allocator + Copy, P: Source, K: Sink>(
         → IfSome (P.left file.old) (λ b. program_of ProgramForm.Elf b ≡ Err fault)) }
     ensures unwritten { IfErr result (λ fault. fault ≢ RunFault.Write
         → Keeps (K.held sink.old) (K.held sink.new)) }
-    // A device is named only where it failed.
-    ensures read { result ≡ Err (RunFault.Read Input.File)
-        → P.failures file.old < P.failures file.new }
+    // A device is named only where it failed; there are no choices to read.
+    ensures read { IfErr result (λ fault. IfReads fault
+        (P.failures file.old < P.failures file.new) ⊥) }
     ensures write { result ≡ Err RunFault.Write → K.failures sink.old < K.failures sink.new }
     // After a failed write a beginning of the text stands there.
     ensures begun { result ≡ Err RunFault.Write → IfSome (P.left file.old) (λ b.

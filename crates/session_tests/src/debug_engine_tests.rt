@@ -1,5 +1,5 @@
 //! What no clause says: a transcript, lines that are no text, devices that fail, and refused memory.
-use debug_engine::{DebugEngineFault, MOST_LINE, debug_engine};
+use debug_engine::{DebugEngineFault, debug_engine};
 use devices::{Failing, MemorySink, MemorySource, Status};
 use loader::ElfFault;
 use programs::{Input, RunFault};
@@ -70,20 +70,24 @@ fn a_line_that_is_no_text_is_a_bad_command(rt: HostRuntime) {
 }
 
 #[test]
-fn a_line_that_is_too_long_is_a_bad_command(rt: HostRuntime) -> Result<(), AllocError> {
-    for (blanks, text) in [
-        (MOST_LINE, "step 0 of 4\n"),
-        (MOST_LINE + 1, "bad command\nstep 0 of 4\n"),
-        (5000, "bad command\nstep 0 of 4\n"),
+fn a_line_of_any_length_is_the_command_that_it_is(rt: HostRuntime) -> Result<(), AllocError> {
+    for (before, byte, behind, text) in [
+        ("", b' ', "\r\nwhere\r\n", "step 0 of 4\n"),
+        ("", b' ', "where\n", "step 0 of 4\n"),
+        ("goto ", b'0', "3\nwhere\n", "step 3 of 4\nstep 3 of 4\n"),
+        ("goto ", b'9', "\nwhere\n", "past end\nstep 0 of 4\n"),
+        ("goto", b' ', "2\nwhere\n", "step 2 of 4\nstep 2 of 4\n"),
+        ("", b'9', "\nwhere\n", "bad command\nstep 0 of 4\n"),
     ] {
         let mut commands = Vec::new(rt.alloc());
-        for _ in 0..blanks {
-            commands.push(b' ')?;
+        commands.extend_from_slice(before.as_bytes())?;
+        for _ in 0..5000 {
+            commands.push(byte)?;
         }
-        commands.extend_from_slice(b"\r\nwhere\r\n")?;
+        commands.extend_from_slice(behind.as_bytes())?;
         let (result, sink) = held(rt.alloc(), &[7, 9], CHOICES, &commands);
         assert_eq!(rt; result, Ok(Status::Done));
-        assert_eq!(rt; sink.bytes(), text.as_bytes(), "{blanks} blanks");
+        assert_eq!(rt; sink.bytes(), text.as_bytes(), "{before} {byte}");
     }
     Ok(())
 }

@@ -1,15 +1,12 @@
 use Rattle.std.proofs.Common.{rules, subst, sym}
-use Rattle.debug_engine.proofs.LineLemmas.{IsTaking, line_ends, one_is_kept, one_is_passed}
+use Rattle.debug_engine.proofs.LineLemmas.{IsTaking, line_ends, one_is_kept}
 use Rattle.debug_engine.proofs.line.read_line.Goals as goal
 
 pub returns-then-piece-eq10-clause-line : goal.returns-then-piece-eq10-clause-line
 returns-then-piece-eq10-clause-line g c =
     line_ends _ _ _ _ _ _ _ _ _ c.bytes.invariant.0 (search rules) (search rules) c.in-Ok.ensures.bytes.0 c.in-Ok.ensures.shrinks (search rules) _ c.strip.ensures
 
-pub bytes-preserved-in-Ok-push : goal.bytes-preserved-in-Ok-push
-bytes-preserved-in-Ok-push g c =
-    let took = one_is_kept _ _ _ _ _ _ _ _ _ c.bytes.invariant.0 (search rules) (search rules) c.in-Ok.ensures.bytes.0 c.in-Ok.ensures.shrinks (search rules) (search rules) in
-    (subst (IsTaking _ _ _ _) (sym c.in-Ok-push.ensures.items) took, search rules)
-
 pub bytes-preserved : goal.bytes-preserved
-bytes-preserved g c = (one_is_passed _ _ _ _ _ _ _ _ _ c.bytes.invariant.0 (search rules) (search rules) c.in-Ok.ensures.bytes.0 c.in-Ok.ensures.shrinks c.if-piece-eq10.false (search (rules, c.len.ensures, c.if-len-lt-KEPT.false)), search rules)
+bytes-preserved g c =
+    let took = one_is_kept _ _ _ _ _ _ _ _ _ c.bytes.invariant.0 (search rules) (search rules) c.in-Ok.ensures.bytes.0 c.in-Ok.ensures.shrinks c.if-piece-eq10.false in
+    (subst (IsTaking _ _ _ _) (sym c.in-Ok-push.ensures.items) took, search rules)

@@ -1,5 +1,5 @@
 use Rattle.engines.specs.Run.{BeginsToPrint}
-use Rattle.engines.proofs.CampaignLemmas.{done_known, halted_known, image_known, refused_known, unread_known}
+use Rattle.engines.proofs.CampaignLemmas.{done_known, halted_known, image_known, refused_known, unread_known, unread_still}
 use Rattle.engines.proofs.CertifiedLemmas.{certified_known}
 use Rattle.engines.proofs.campaign.campaign_engine.Goals as goal
 
@@ -17,6 +17,9 @@ pub returns-clause-refused : goal.returns-clause-refused
 returns-clause-refused g c =
     let plan = c.args.plan in
     refused_known plan.rule c.args.inputs.now plan.first plan.count plan.steps _ _ c.in-Ok.ensures.ok _ c.write_campaign.ensures.refused
+
+pub returns-clause-read : goal.returns-clause-read
+returns-clause-read g c = unread_still _ _ _ c.write_campaign.ensures.read
 
 pub returns-clause-begun : goal.returns-clause-begun
 returns-clause-begun g c = λ e.
