@@ -1,4 +1,6 @@
 pub mod TrackLemmas
+pub mod KeptLemmas
+pub mod BlockLemmas
 pub mod ElsewhereLemmas
 pub mod StopLemmas
 pub mod PointLemmas

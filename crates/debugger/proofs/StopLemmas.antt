@@ -4,7 +4,7 @@ use Rattle.std.proofs.lemmas.Bool.{cases_Bool}
 use Rattle.std.proofs.lemmas.Bool.Decides.{nat_tests}
 use Rattle.std.proofs.lemmas.List.Elements.{All-head, All-tail}
 use Rattle.std.specs.List.{All, list_any, find, slice_get}
-use Rattle.std.specs.Option.{is_some}
+use Rattle.std.specs.Option.{is_some, IfSome}
 use Rattle.std.specs.Ordering.{nat_cmp, is_eq}
 use Rattle.reservations.specs.Marks.{word_of}
 use Rattle.hart_step.specs.Hart.{HartValue}
@@ -137,6 +137,26 @@ watch_here bs ws v w c o a is all off seen some other =
     sym (watch_left bs ws v w c is all off ∙ ap (λ (p : Option ℕ). watch_of (found_in (differs v w) p)) (sym seen)
     ∙ ap (λ (p : Option ℕ). watch_of (found_in (differs v w) p)) some
     ∙ ap (λ (b : Bool). watch_of (cond b (Some a) None)) (other-differs v w a (rw some at other)))
+
+-- ---- what is found
+-- there is a stop
+pub found_there : (k : ℕ) (why : Option Stop) (elsewhere : Found) → is_some why ≡ true → found_or k why elsewhere ≡ (k, why)
+found_there k None elsewhere some = absurd (search rules)
+found_there k (Some w) elsewhere some = refl
+
+-- there is none
+pub found_elsewhere : (k : ℕ) (why : Option Stop) (elsewhere : Found) → is_some why ≡ false → found_or k why elsewhere ≡ elsewhere
+found_elsewhere k None elsewhere none = refl
+found_elsewhere k (Some w) elsewhere none = absurd (search rules)
+
+-- a fact that holds where there is a stop
+pub if_any : (why : Option Stop) (P : Type 0) → P → IfSome why (λ _. P)
+if_any None P p = tt
+if_any (Some w) P p = p
+
+pub if_there : (why : Option Stop) (P : Type 0) → is_some why ≡ true → IfSome why (λ _. P) → P
+if_there None P some p = absurd (search rules)
+if_there (Some w) P some p = p
 
 -- ---- searches
 -- why to stop at the position after a choice that was made

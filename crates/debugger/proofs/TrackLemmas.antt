@@ -15,11 +15,10 @@ use Rattle.machine.specs.State.{reached}
 pub reached-harts : (image : ImageValue) (inputs : List ℕ) (choices : List Choice) (k : ℕ) → length (reached image inputs choices k).harts ≡ length inputs
 reached-harts image inputs choices k = run_length (started image inputs) (take k choices) ∙ length-started image inputs
 
--- each of the first choices names a hart of the start
-pub first_all : (image : ImageValue) (inputs : List ℕ) (choices : List Choice) (k : ℕ) (w : World) → w ≡ started image inputs
-    → All (λ c. c.hart < length inputs) choices → All (λ c. c.hart < length w.harts) (take k choices)
-first_all image inputs choices k w is all =
-    rw (is, length-started image inputs) (All-take (λ (c : Choice). c.hart < length inputs) k choices all)
+-- each choice names a hart of the start
+pub started_all : (image : ImageValue) (inputs : List ℕ) (choices : List Choice) (w : World) → w ≡ started image inputs
+    → All (λ c. c.hart < length inputs) choices → All (λ c. c.hart < length w.harts) choices
+started_all image inputs choices w is all = rw (is, length-started image inputs) all
 
 -- each of some choices names a hart of the world at a position
 pub part_all : (image : ImageValue) (inputs : List ℕ) (choices : List Choice) (k n : ℕ) (w : World) → w ≡ reached image inputs choices k
@@ -46,5 +45,5 @@ pub read_choice : (choices : List Choice) (i : ℕ) (c : Choice) → i < length 
 read_choice choices i c inside read = slice_get_read choices (length choices) i c refl inside read
 
 -- the start is position 0
-pub start_reached : (image : ImageValue) (inputs : List ℕ) (choices : List Choice) (v w : World) → w ≡ started image inputs → v ≡ w → v ≡ reached image inputs choices 0
-start_reached image inputs choices v w is copied = copied ∙ is ∙ sym (run_none (started image inputs))
+pub start_reached : (image : ImageValue) (inputs : List ℕ) (choices : List Choice) (w : World) → w ≡ started image inputs → w ≡ reached image inputs choices 0
+start_reached image inputs choices w is = is ∙ sym (run_none (started image inputs))

@@ -1,3 +1,5 @@
+pub mod Paged
+pub mod Kept
 pub mod Words
 pub mod Points
 pub mod Accessed

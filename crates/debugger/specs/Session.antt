@@ -1,5 +1,5 @@
 -- What a debugger is for its user.
-use Rattle.std.specs.Prelude.{ℕ, zero, suc, ◌+◌, ◌-◌, Option, Some, None, List, length, slice_get}
+use Rattle.std.specs.Prelude.{ℕ, zero, suc, ◌+◌, ◌-◌, ◌*◌, ◌/◌, ◌%◌, Option, Some, None, List, length, slice_get}
 use Rattle.loader.specs.Image.{ImageValue}
 use Rattle.machine.specs.World.{World}
 use Rattle.machine.specs.declared.choice.Choice.{Choice}
@@ -40,17 +40,22 @@ length_of s = length s.choices
 abbrev pub moved : Session → ℕ → Session
 moved s k = record s { position = k }
 
--- how many steps a move to position k executes: it replays the run from its start
+-- how many steps a move to position k executes: those from the nearest position up to k that is a multiple of 256
 abbrev pub steps_to : ℕ → ℕ
-steps_to k = k
+steps_to k = k % 256
 
 -- how many steps `go` executes where it goes to position k: those from its own position on
 abbrev pub steps_on : Session → ℕ → ℕ
 steps_on s k = k - s.position
 
--- how many steps `rgo` executes where it goes to position k: those that lead to the positions before its own, and a move to k
+-- how many steps a search back executes that finds position k, or none and k is 0: those from the nearest position below k
+-- that is a multiple of 256 to the position before its own
+abbrev pub steps_of_search : Session → ℕ → ℕ
+steps_of_search s k = s.position - 1 - (k - 1) / 256 * 256
+
+-- how many steps `rgo` executes where it goes to position k: those of its search, and a move to k
 abbrev pub steps_back : Session → ℕ → ℕ
-steps_back s k = s.position - 1 + steps_to k
+steps_back s k = steps_of_search s k + steps_to k
 
 -- why to stop at the position after choice i, counted from 0, if one has to
 unfoldable pub stop_behind : Session → ℕ → Option Stop

@@ -4,12 +4,12 @@ ghost use Rattle.memory.specs.Access.{fetched};
 ghost use Rattle.hart_step.specs.Hart.{hart_of, registers_of};
 ghost use Rattle.hart_step.specs.Locality.{access_at};
 ghost use Rattle.debugger.specs.Accessed.{address_of, accessed};
-ghost use Rattle.machine.specs.State.{state};
+ghost use Rattle.debugger.specs.Paged.{paged_world};
 
+use crate::paged_machine::PagedMachine;
 use decoder::decode;
 use hart_step::{Hart, HartState, access_by};
-use machine::Machine;
-use memory::{FlatStore, Store};
+use memory::Store;
 use std::alloc::Allocator;
 
 // The first address of the access of data that a hart's next step has, if it has one.
@@ -24,9 +24,9 @@ fn hart_access<S: Store>(hart: &Hart, store: &S) -> Option<u32>
 }
 
 /// The first address of the access of data that a hart's next step has, if it has one.
-pub fn accessed<A: Allocator>(machine: &Machine<FlatStore<A>, A>, number: u32) -> Option<u32>
-    requires { number < length (state machine.now).harts }
-    ensures { result ≡ accessed (state machine.now) (slice_get (state machine.now).harts number) }
+pub fn accessed<A: Allocator + Copy>(machine: &PagedMachine<A>, number: u32) -> Option<u32>
+    requires { number < length (paged_world machine.now).harts }
+    ensures { result ≡ accessed (paged_world machine.now) (slice_get (paged_world machine.now).harts number) }
 {
     let hart = machine.hart(number as usize);
     match hart.state {

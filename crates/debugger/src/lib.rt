@@ -4,17 +4,20 @@
 pub use debugger::Debugger;
 pub use fault::MoveFault;
 pub use laws::{going_back_finds_the_greatest, going_on_finds_the_least};
+pub use paged_machine::PagedMachine;
 pub use seeking::Target;
 pub use step_view::{Event, StepView};
 pub use stop::Stop;
 pub use words::{byte_at, word_at};
 
 mod access;
+mod checkpoints;
 mod debugger;
 mod fault;
 mod laws;
 mod moves;
 mod new;
+mod paged_machine;
 mod points;
 mod seeking;
 mod step_view;

@@ -1,40 +1,38 @@
 //! Moves to a position.
 ghost use Rattle.std.specs.Prelude.{◌≡◌, ◌<◌, ◌≤◌, ◌+◌, ◌-◌, length, vec_len, Err, OnOk, OnErr, IfOk, IfErr};
 ghost use Rattle.std.specs.Borrow.{sem};
-ghost use Rattle.machine.specs.State.{state, reached};
+ghost use Rattle.machine.specs.State.{reached};
+ghost use Rattle.debugger.specs.Paged.{paged_world};
 ghost use Rattle.debugger.specs.Session.{session, moved, world_at, length_of, steps_to};
 ghost use Rattle.debugger.specs.Lending.{EndsMoved};
 ghost use Rattle.debugger.specs.declared.fault.MoveFault.TheVariants.{PastEnd};
 
 use crate::debugger::Debugger;
 use crate::fault::MoveFault;
+use crate::paged_machine::PagedMachine;
 use crate::stepping::walk;
-use crate::track::Track;
-use machine::{Choice, Machine};
-use memory::FlatStore;
+use crate::track::{BLOCK, Track};
+use machine::Choice;
 use std::alloc::{AllocError, Allocator};
 
 impl<A: Allocator + Copy> Track<A> {
-    /// The machine after k choices, and how many steps it took to come there.
-    pub fn machine_at(
-        &self,
-        alloc: A,
-        k: usize,
-    ) -> Result<(Machine<FlatStore<A>, A>, u64), AllocError>
+    /// The machine after k choices, and how many steps it took to come there from the checkpoint before.
+    pub fn machine_at(&self, alloc: A, k: usize) -> Result<(PagedMachine<A>, u64), AllocError>
         requires { k ≤ vec_len self.now.choices }
-        ensures world { IfOk result (λ r. state r.0
+        ensures world { IfOk result (λ r. paged_world r.0
             ≡ reached self.now.image self.now.inputs.items self.now.choices.items k) }
         ensures cost { IfOk result (λ r. r.1 ≡ steps_to k) }
     {
-        let mut machine = self.first.copy(alloc)?;
+        let mut machine = self.checkpoint(k / BLOCK).copy(alloc)?;
         let mut cost = 0;
-        let (before, _) = self.choices.split_at(k);
-        walk(&mut machine, &mut cost, before)?;
+        let (_, rest) = self.choices.split_at(k / BLOCK * BLOCK);
+        let (part, _) = rest.split_at(k % BLOCK);
+        walk(&mut machine, &mut cost, part)?;
         Ok((machine, cost))
     }
 }
 
-impl<A: Allocator> Debugger<A> {
+impl<A: Allocator + Copy> Debugger<A> {
     /// How many choices were done at the position: 0 to the number of choices.
     pub fn position(&self) -> usize
         ensures value { result ≡ (session self.now).position }
@@ -51,8 +49,8 @@ impl<A: Allocator> Debugger<A> {
     }
 
     /// The machine at the position.
-    pub fn machine(&self) -> &Machine<FlatStore<A>, A>
-        ensures { state result.now ≡ world_at (session self.now) (session self.now).position }
+    pub fn machine(&self) -> &PagedMachine<A>
+        ensures { paged_world result.now ≡ world_at (session self.now) (session self.now).position }
     {
         &self.machine
     }
@@ -71,6 +69,7 @@ impl<A: Allocator + Copy> Debugger<A> {
         ensures ok { OnOk result ((k ≤ length_of (session self.old))
             × (session self.new ≡ moved (session self.old) k)) }
         ensures cost { OnOk result (self.new.cost ≡ steps_to k) }
+        ensures few { OnOk result (self.new.cost ≤ 255) }
         ensures err { OnErr result ((session self.new ≡ session self.old)
             × (self.new.cost ≡ self.old.cost)) }
         ensures past { IfErr result (λ e. e ≡ PastEnd → length_of (session self.old) < k) }
@@ -89,8 +88,8 @@ impl<A: Allocator + Copy> Debugger<A> {
     }
 
     /// Moves to the position after k choices, and shows the machine there.
-    pub fn at(&mut self, alloc: A, k: usize) -> Result<&Machine<FlatStore<A>, A>, MoveFault>
-        ensures world { IfOk result (λ m. state m.now ≡ world_at (session self.old) k) }
+    pub fn at(&mut self, alloc: A, k: usize) -> Result<&PagedMachine<A>, MoveFault>
+        ensures world { IfOk result (λ m. paged_world m.now ≡ world_at (session self.old) k) }
         ensures inside { OnOk result (k ≤ length_of (session self.old)) }
         ensures past { IfErr result (λ e. e ≡ PastEnd → length_of (session self.old) < k) }
         ensures far { length_of (session self.old) < k → result ≡ Err PastEnd }
@@ -107,6 +106,7 @@ impl<A: Allocator + Copy> Debugger<A> {
             ((session self.old).position + n ≤ length_of (session self.old))
             × (session self.new ≡ moved (session self.old) ((session self.old).position + n))) }
         ensures cost { OnOk result (self.new.cost ≡ steps_to ((session self.old).position + n)) }
+        ensures few { OnOk result (self.new.cost ≤ 255) }
         ensures err { OnErr result ((session self.new ≡ session self.old)
             × (self.new.cost ≡ self.old.cost)) }
         ensures past { IfErr result (λ e. e ≡ PastEnd
@@ -125,6 +125,7 @@ impl<A: Allocator + Copy> Debugger<A> {
         ensures ok { OnOk result ((n ≤ (session self.old).position)
             × (session self.new ≡ moved (session self.old) ((session self.old).position - n))) }
         ensures cost { OnOk result (self.new.cost ≡ steps_to ((session self.old).position - n)) }
+        ensures few { OnOk result (self.new.cost ≤ 255) }
         ensures err { OnErr result ((session self.new ≡ session self.old)
             × (self.new.cost ≡ self.old.cost)) }
         ensures past { IfErr result (λ e. e ≡ PastEnd → (session self.old).position < n) }

@@ -4,7 +4,9 @@ ghost use Rattle.machine.specs.Start.{Refuses};
 ghost use Rattle.debugger.specs.Session.{session};
 ghost use Rattle.reservations.specs.declared.reserve.TheConstants.{MAX_HARTS as most};
 
+use crate::checkpoints::checkpoints_of;
 use crate::debugger::Debugger;
+use crate::paged_machine::PagedMachine;
 use crate::track::Track;
 use loader::Image;
 use machine::{Choice, Machine, StartFault};
@@ -13,7 +15,7 @@ use std::collections::BTreeSet;
 
 impl<A: Allocator + Copy> Debugger<A> {
     /// A debugger at the start, without breakpoints and watches. It keeps the image, the inputs, one a hart, and the
-    /// choices.
+    /// choices, which it does once for its checkpoints.
     pub fn new(
         alloc: A,
         image: Image<A>,
@@ -33,24 +35,24 @@ impl<A: Allocator + Copy> Debugger<A> {
             (λ fault. Refuses inputs.items fault) }
         ensures unmoved { IfOk result (λ d. d.cost ≡ 0) }
     {
-        let first = match Machine::start(alloc, &image, &inputs) {
+        let first: PagedMachine<A> = match Machine::start(alloc, &image, &inputs) {
             Ok(machine) => machine,
             Err(fault) => return Err(fault),
         };
-        let Ok(machine) = first.copy(alloc) else {
+        let Ok(checkpoints) = checkpoints_of(alloc, &first, &choices) else {
             return Err(StartFault::Memory);
         };
         let track = Track {
             image,
             inputs,
             choices,
-            first,
+            checkpoints,
         };
         Ok(Debugger {
             track,
             position: 0,
             cost: 0,
-            machine,
+            machine: first,
             breaks: BTreeSet::new(alloc),
             watches: BTreeSet::new(alloc),
         })

@@ -1,26 +1,26 @@
 //! Going on and back to where one has to stop.
-ghost use Rattle.std.specs.Prelude.{◌≡◌, ◌<◌, ◌≤◌, ◌+◌, ◌-◌, vec_len, OnOk, OnErr, IfOk};
-ghost use Rattle.machine.specs.State.{state};
-ghost use Rattle.debugger.specs.Session.{session, moved, length_of, world_at, next_found, earlier_found, steps_on, steps_back};
+ghost use Rattle.std.specs.Prelude.{◌≡◌, ◌<◌, ◌≤◌, ◌+◌, ◌*◌, OnOk, OnErr, IfOk, IfSome};
+ghost use Rattle.debugger.specs.Paged.{paged_world};
+ghost use Rattle.debugger.specs.Session.{session, moved, length_of, world_at, stop_behind, found_or, last_stop, next_found, earlier_found, steps_on, steps_of_search, steps_back};
 
 use crate::debugger::Debugger;
+use crate::paged_machine::PagedMachine;
 use crate::stepping::step_to_stop;
 use crate::stop::Stop;
-use machine::Machine;
-use memory::FlatStore;
+use crate::track::BLOCK;
 use std::alloc::{AllocError, Allocator};
 
 /// What a search has found: a position, why to stop there, and the machine there.
 #[derive(Drop)]
-pub struct Target<A: Allocator> {
-    pub(crate) machine: Machine<FlatStore<A>, A>,
+pub struct Target<A: Allocator + Copy> {
+    pub(crate) machine: PagedMachine<A>,
     pub(crate) position: usize,
     pub(crate) stop: Option<Stop>,
     // How many steps it took to come there.
     pub(crate) cost: u64,
 }
 
-impl<A: Allocator> Target<A> {
+impl<A: Allocator + Copy> Target<A> {
     /// How many choices were done there.
     pub fn position(&self) -> usize
         ensures { result ≡ self.now.position }
@@ -53,7 +53,7 @@ impl<A: Allocator + Copy> Debugger<A> {
         ensures found { IfOk result (λ t.
             (t.position, t.stop) ≡ next_found (session self.now)) }
         ensures world { IfOk result (λ t.
-            state t.machine ≡ world_at (session self.now) t.position) }
+            paged_world t.machine ≡ world_at (session self.now) t.position) }
         ensures inside { IfOk result (λ t. t.position ≤ length_of (session self.now)) }
         ensures cost { IfOk result (λ t. t.cost ≡ steps_on (session self.now) t.position) }
     {
@@ -80,20 +80,25 @@ impl<A: Allocator + Copy> Debugger<A> {
         })
     }
 
-    // The greatest earlier position above 0 at which one has to stop, or 0.
-    fn earlier_place(&self, alloc: A) -> Result<Place, AllocError>
-        ensures found { IfOk result (λ place.
-            (place.position, place.stop) ≡ earlier_found (session self.now)) }
-        ensures inside { IfOk result (λ place. place.position ≤ length_of (session self.now)) }
-        ensures cost { IfOk result (λ place. place.cost ≡ (session self.now).position - 1) }
+    // The greatest position above 256 times `block` and not above `end` at which one has to stop, if there is one.
+    fn place_in_block(&self, alloc: A, block: usize, end: usize) -> Result<Place, AllocError>
+        requires from { block * 256 ≤ end }
+        requires to { end ≤ length_of (session self.now) }
+        ensures found { IfOk result (λ place. found_or place.position place.stop
+            (last_stop (stop_behind (session self.now)) (block * 256))
+            ≡ last_stop (stop_behind (session self.now)) end) }
+        ensures above { IfOk result (λ place.
+            IfSome place.stop (λ _. block * 256 < place.position)) }
+        ensures inside { IfOk result (λ place. place.position ≤ end) }
+        ensures cost { IfOk result (λ place. place.cost + block * 256 ≡ end) }
     {
-        let mut machine = self.track.first.copy(alloc)?;
+        let mut machine = self.track.checkpoint(block).copy(alloc)?;
         let mut place = Place {
             position: 0,
             stop: None,
             cost: 0,
         };
-        'steps: for position in 0..self.position.saturating_sub(1) {
+        'steps: for position in block * BLOCK..end {
             let choice = self.track.choices[position];
             let mut cost = place.cost;
             let stop = step_to_stop(&mut machine, &mut cost, choice, &self.breaks, &self.watches)?;
@@ -110,12 +115,43 @@ impl<A: Allocator + Copy> Debugger<A> {
         Ok(place)
     }
 
+    // The greatest earlier position above 0 at which one has to stop, or 0. It looks at one block of choices after the
+    // other, at the last one first.
+    fn earlier_place(&self, alloc: A) -> Result<Place, AllocError>
+        ensures found { IfOk result (λ place.
+            (place.position, place.stop) ≡ earlier_found (session self.now)) }
+        ensures inside { IfOk result (λ place. place.position ≤ length_of (session self.now)) }
+        ensures cost { IfOk result (λ place.
+            place.cost ≡ steps_of_search (session self.now) place.position) }
+    {
+        let mut end = self.position.saturating_sub(1);
+        let mut cost = 0;
+        'pieces: while end > 0 {
+            let block = (end - 1) / BLOCK;
+            let place = self.place_in_block(alloc, block, end)?;
+            cost += place.cost;
+            if place.stop.is_some() {
+                return Ok(Place {
+                    position: place.position,
+                    stop: place.stop,
+                    cost,
+                });
+            }
+            end = block * BLOCK;
+        }
+        Ok(Place {
+            position: 0,
+            stop: None,
+            cost,
+        })
+    }
+
     /// The greatest earlier position above 0 at which one has to stop, or the start. Nothing moves.
     pub fn earlier_stop(&self, alloc: A) -> Result<Target<A>, AllocError>
         ensures found { IfOk result (λ t.
             (t.position, t.stop) ≡ earlier_found (session self.now)) }
         ensures world { IfOk result (λ t.
-            state t.machine ≡ world_at (session self.now) t.position) }
+            paged_world t.machine ≡ world_at (session self.now) t.position) }
         ensures inside { IfOk result (λ t. t.position ≤ length_of (session self.now)) }
         ensures cost { IfOk result (λ t. t.cost ≡ steps_back (session self.now) t.position) }
     {
@@ -132,7 +168,7 @@ impl<A: Allocator + Copy> Debugger<A> {
     /// Moves to what a search of this debugger at this position has found. It cannot be refused.
     pub fn settle(&mut self, target: Target<A>)
         requires inside { target.position ≤ length_of (session self.old) }
-        requires world { state target.machine ≡ world_at (session self.old) target.position }
+        requires world { paged_world target.machine ≡ world_at (session self.old) target.position }
         ensures moved { session self.new ≡ moved (session self.old) target.position }
         ensures cost { self.new.cost ≡ target.cost }
     {

@@ -1,16 +1,17 @@
 //! The steps of a run, one after the other.
 ghost use Rattle.std.specs.Prelude.{◌≡◌, ◌<◌, ◌≤◌, ◌+◌, ◌^◌, [], ◌∷◌, Err, IfOk, OnOk, IfErr, All, max, length, slice_get};
-ghost use Rattle.machine.specs.State.{state};
+ghost use Rattle.debugger.specs.Paged.{paged_world};
 ghost use Rattle.debugger.specs.Steps.{event_of, view_of, steps_from, shown_steps};
 ghost use Rattle.debugger.specs.Session.{session, length_of};
 ghost use Rattle.debugger.specs.declared.fault.MoveFault.TheVariants.{PastEnd};
 
 use crate::debugger::Debugger;
 use crate::fault::MoveFault;
+use crate::paged_machine::PagedMachine;
 use crate::stepping::tick;
 use hart_step::{Hart, HartState};
-use machine::{Choice, Machine};
-use memory::{FlatStore, Store};
+use machine::Choice;
+use memory::Store;
 use std::alloc::{AllocError, Allocator};
 
 /// What a hart meets at a step.
@@ -51,14 +52,10 @@ fn event_of<S: Store>(hart: &Hart, store: &S) -> Event
 }
 
 // The step of choice `index`, before it is done.
-fn view_of<A: Allocator>(
-    machine: &Machine<FlatStore<A>, A>,
-    index: usize,
-    choice: Choice,
-) -> StepView
-    requires { choice.hart < length (state machine.now).harts }
-    ensures { result ∷ [] ≡ view_of index choice (state machine.now).memory
-        (slice_get (state machine.now).harts choice.hart) }
+fn view_of<A: Allocator + Copy>(machine: &PagedMachine<A>, index: usize, choice: Choice) -> StepView
+    requires { choice.hart < length (paged_world machine.now).harts }
+    ensures { result ∷ [] ≡ view_of index choice (paged_world machine.now).memory
+        (slice_get (paged_world machine.now).harts choice.hart) }
 {
     let hart = machine.hart(choice.hart as usize);
     StepView {
@@ -70,16 +67,16 @@ fn view_of<A: Allocator>(
 }
 
 // The steps of choices that are numbered from `first` on.
-fn views_of<A: Allocator>(
+fn views_of<A: Allocator + Copy>(
     alloc: A,
-    machine: &mut Machine<FlatStore<A>, A>,
+    machine: &mut PagedMachine<A>,
     first: usize,
     choices: &[Choice],
 ) -> Result<Vec<StepView, A>, AllocError>
-    requires harts { All (λ c. c.hart < length (state machine.old).harts) choices.now }
+    requires harts { All (λ c. c.hart < length (paged_world machine.old).harts) choices.now }
     requires room { first + length choices.now < 2 ^ 63 }
     ensures { IfOk result (λ views. views.items
-        ≡ steps_from (state machine.old) first choices.now) }
+        ≡ steps_from (paged_world machine.old) first choices.now) }
 {
     let mut views = Vec::new(alloc);
     let mut cost = 0;

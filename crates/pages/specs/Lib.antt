@@ -2,4 +2,5 @@ pub mod Number
 pub mod Directory
 pub mod Pages
 pub mod Store
+pub mod Held
 pub mod Building

@@ -29,7 +29,7 @@ const COUNT: &str = "00128293 FFDFF06F";
 const TEN: &str = "0 0 0 0 0 0 0 0 0 0";
 
 #[rattlefmt::skip]
-static SESSIONS: [Session; 9] = [
+static SESSIONS: [Session; 11] = [
     Session { name: "swap_forward_and_back", program: SWAP, inputs: &[7, 9], choices: ONE_THEN_ZERO,
         lines: &[
             ("where", "step 0 of 26\n"),
@@ -70,6 +70,33 @@ static SESSIONS: [Session; 9] = [
             ("forward 99999999999999999999999999999999", "past end\n"),
             ("back 18446744073709551617", "past end\n"),
             ("where", "step 0 of 10\n"),
+        ] },
+    Session { name: "moves_through_a_thousand", program: COUNT, inputs: &[7], choices: "0*1000",
+        lines: &[
+            ("goto 999", "step 999 of 1000\n"),
+            ("back 999", "step 0 of 1000\n"),
+            ("goto 256", "step 256 of 1000\n"),
+            ("goto 1001", "past end\n"),
+            ("where", "step 256 of 1000\n"),
+            ("forward 744", "step 1000 of 1000\n"),
+            ("break 0x00010004", "break 00010004\n"),
+            ("rgo", "break h0 00010004\nstep 999 of 1000\n"),
+            ("goto 513", "step 513 of 1000\n"),
+            ("rgo", "break h0 00010004\nstep 511 of 1000\n"),
+            ("go", "break h0 00010004\nstep 513 of 1000\n"),
+        ] },
+    Session { name: "back_through_a_thousand", program: "000112B7 00B2A023 0000006F", inputs: &[7], choices: "0*1000",
+        lines: &[
+            ("watch 0x11000", "watch 00011000\n"),
+            ("goto 1000", "step 1000 of 1000\n"),
+            ("rgo", "watch 00011000\nstep 2 of 1000\n"),
+            ("mem 0x11000 1", "00011000 00000007\n"),
+            ("rgo", "start\nstep 0 of 1000\n"),
+            ("mem 0x11000 1", "00011000 00000000\n"),
+            ("goto 257", "step 257 of 1000\n"),
+            ("mem 0x11000 1", "00011000 00000007\n"),
+            ("rgo", "watch 00011000\nstep 2 of 1000\n"),
+            ("go", "end\nstep 1000 of 1000\n"),
         ] },
     Session { name: "break_where_the_hart_stays", program: "0000006F", inputs: &[7], choices: "0 0",
         lines: &[

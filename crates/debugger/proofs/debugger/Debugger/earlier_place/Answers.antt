@@ -1,50 +1,29 @@
-use Rattle.std.proofs.Common.{rules, arith, refl, ap, not, ◌∙◌}
-use Rattle.machine.specs.State.{state}
-use Rattle.debugger.specs.Session.{session, stop_behind}
-use Rattle.debugger.proofs.TrackLemmas.{one_hart, reached-next, start_reached}
-use Rattle.debugger.proofs.StopLemmas.{stop_is, last_none, last_here, last_earlier}
+use Rattle.std.proofs.Common.{arith, ap, ◌∙◌, sym, ◌≡◌, ◌-◌}
+use Rattle.debugger.specs.Session.{session, stop_behind, last_stop}
+use Rattle.debugger.proofs.StopLemmas.{last_none, found_there, found_elsewhere, if_there}
+use Rattle.debugger.proofs.BlockLemmas.{steps_of_blocks}
 use Rattle.debugger.proofs.debugger.Debugger.earlier_place.Goals as goal
 
-pub steps-init : goal.steps-init
-steps-init g c =
-    let track = c.args.self.now.track in
-    record {
-      world = start_reached track.image track.inputs.items track.choices.items (state c.in_ok-machine.machine) (state track.first) track.begins c.in_ok-machine.ensures;
-      counted = refl;
-      inside = omega arith;
-      found = last_none (stop_behind (session c.args.self.now));
-    }
+pub returns-then-is_some-clause-found : goal.returns-then-is_some-clause-found
+returns-then-is_some-clause-found g c =
+    sym (found_there c.in_ok-place.place.position c.in_ok-place.place.stop _ (sym c.is_some.ensures ∙ c.if-is_some.true))
+    ∙ c.in_ok-place.ensures.found ∙ c.pieces.invariant.left
 
-pub step_to_stop-requires-clause-hart : goal.step_to_stop-requires-clause-hart
-step_to_stop-requires-clause-hart g c =
-    let track = c.args.self.now.track in
-    one_hart track.image track.inputs.items track.choices.items c.steps.position c.steps.position (state c.steps.machine) c.index-choice.result.now
-    c.steps.invariant.world track.harts (search rules) (search rules)
+pub returns-then-is_some-clause-cost : goal.returns-then-is_some-clause-cost
+returns-then-is_some-clause-cost g c =
+    steps_of_blocks c.in_ok-place.place.position c.pieces.end (c.args.self.now.position - 1) c.pieces.cost c.in_ok-place.place.cost c.pieces-test.true
+    c.pieces.invariant.counted c.in_ok-place.ensures.cost
+    (if_there c.in_ok-place.place.stop _ (sym c.is_some.ensures ∙ c.if-is_some.true) c.in_ok-place.ensures.above) c.in_ok-place.ensures.inside
 
-pub steps-preserved-then-is_none : goal.steps-preserved-then-is_none
-steps-preserved-then-is_none g c =
-    let track = c.args.self.now.track in
-    record {
-      world = reached-next track.image track.inputs.items track.choices.items c.steps.position (state c.steps.machine) (state c.step_to_stop.new.machine) c.index-choice.result.now
-          (search rules) (search rules) c.steps.invariant.world c.in_ok-stop.ensures.world;
-      counted = omega (arith, c.step_to_stop.ensures.counted, c.steps.invariant.counted);
-      inside = omega (arith, c.steps.invariant.inside);
-      found = last_earlier (stop_behind (session c.args.self.now)) c.steps.position c.in_ok-stop.stop _
-          (stop_is (session c.args.self.now) c.steps.position (state c.steps.machine) (state c.step_to_stop.new.machine) c.index-choice.result.now c.in_ok-stop.stop
-          (search rules) (search rules) c.steps.invariant.world c.in_ok-stop.ensures.world c.in_ok-stop.ensures.stop)
-          (c.is_none.ensures ∙ ap not c.if-is_none.true) c.steps.invariant.found;
-    }
+pub pieces-preserved : goal.pieces-preserved
+pieces-preserved g c = record {
+  inside = omega (arith, c.pieces.invariant.inside);
+  counted = omega (arith, c.pieces.invariant.counted, c.in_ok-place.ensures.cost);
+  left = sym (found_elsewhere c.in_ok-place.place.position c.in_ok-place.place.stop _ (sym c.is_some.ensures ∙ c.if-is_some.false))
+      ∙ c.in_ok-place.ensures.found ∙ c.pieces.invariant.left;
+}
 
-pub steps-preserved : goal.steps-preserved
-steps-preserved g c =
-    let track = c.args.self.now.track in
-    record {
-      world = reached-next track.image track.inputs.items track.choices.items c.steps.position (state c.steps.machine) (state c.step_to_stop.new.machine) c.index-choice.result.now
-          (search rules) (search rules) c.steps.invariant.world c.in_ok-stop.ensures.world;
-      counted = omega (arith, c.step_to_stop.ensures.counted, c.steps.invariant.counted);
-      inside = omega arith;
-      found = last_here (stop_behind (session c.args.self.now)) c.steps.position c.in_ok-stop.stop
-          (stop_is (session c.args.self.now) c.steps.position (state c.steps.machine) (state c.step_to_stop.new.machine) c.index-choice.result.now c.in_ok-stop.stop
-          (search rules) (search rules) c.steps.invariant.world c.in_ok-stop.ensures.world c.in_ok-stop.ensures.stop)
-          (c.is_none.ensures ∙ ap not c.if-is_none.false);
-    }
+pub returns-clause-found : goal.returns-clause-found
+returns-clause-found g c =
+    let none_left : 0 ≡ c.pieces.end = omega (arith, c.pieces-test.false) in
+    last_none (stop_behind (session c.args.self.now)) ∙ ap (last_stop (stop_behind (session c.args.self.now))) none_left ∙ c.pieces.invariant.left

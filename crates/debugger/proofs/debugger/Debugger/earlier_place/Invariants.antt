@@ -1,12 +1,13 @@
-use Rattle.std.proofs.Common.{◌≡◌, ◌≤◌}
-use Rattle.machine.specs.State.{state}
-use Rattle.debugger.specs.Session.{session, world_at, stop_behind, last_stop}
+use Rattle.std.proofs.Common.{◌≡◌, ◌≤◌, ◌+◌, ◌-◌}
+use Rattle.debugger.specs.Session.{session, length_of, stop_behind, last_stop, earlier_found}
 use Rattle.debugger.proofs.debugger.Debugger.earlier_place.Given as goal
 
-abbrev pub invariant-steps : goal.invariant-steps
-invariant-steps g l = record {
-  world : state l.machine ≡ world_at (session l.self) l.position;
-  counted : l.place.cost ≡ l.position;
-  inside : l.place.position ≤ l.position;
-  found : (l.place.position, l.place.stop) ≡ last_stop (stop_behind (session l.self)) l.position;
+abbrev pub invariant-pieces : goal.invariant-pieces
+invariant-pieces g l = record {
+  inside : l.end ≤ length_of (session l.self);
+  counted : l.cost + l.end ≡ (session l.self).position - 1;
+  left : last_stop (stop_behind (session l.self)) l.end ≡ earlier_found (session l.self);
 }
+
+abbrev pub decreases-pieces : goal.decreases-pieces
+decreases-pieces g l = l.end

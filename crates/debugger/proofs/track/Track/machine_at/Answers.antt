@@ -1,10 +1,20 @@
-use Rattle.std.proofs.Common.{◌∙◌}
-use Rattle.machine.specs.State.{state}
-use Rattle.debugger.proofs.TrackLemmas.{first_all}
+use Rattle.std.proofs.Common.{arith, ap, ◌∙◌, ◌*◌, ◌/◌, ◌%◌, drop}
+use Rattle.machine.specs.Start.{started}
+use Rattle.debugger.specs.Paged.{paged_world}
+use Rattle.debugger.proofs.TrackLemmas.{part_all}
+use Rattle.debugger.proofs.KeptLemmas.{run_further}
 use Rattle.debugger.proofs.track.Track.machine_at.Goals as goal
 
 pub walk-requires-clause-harts : goal.walk-requires-clause-harts
 walk-requires-clause-harts g c =
-    rw (c.split_at.ensures.front, c.deref.ensures.value)
-    (first_all c.args.self.now.image c.args.self.now.inputs.items c.args.self.now.choices.items c.args.k (state c.in_ok-machine.machine)
-    (c.in_ok-machine.ensures ∙ c.args.self.now.begins) c.args.self.now.harts)
+    let track = c.args.self.now in
+    rw (c.split_at-2.ensures.front, c.split_at.ensures.back, c.deref.ensures.value)
+    (part_all track.image track.inputs.items track.choices.items (c.args.k / 256 * 256) (c.args.k % 256) (paged_world c.in_ok-machine.machine)
+    (c.in_ok-machine.ensures ∙ c.checkpoint.ensures) track.harts)
+
+pub returns-clause-world : goal.returns-clause-world
+returns-clause-world g c =
+    let track = c.args.self.now in
+    run_further (started track.image track.inputs.items) (paged_world c.in_ok-machine.machine) (paged_world c.walk.new.machine) track.choices.items _ _
+    (c.args.k / 256 * 256) (c.args.k % 256) c.args.k (c.in_ok-machine.ensures ∙ c.checkpoint.ensures)
+    (c.split_at.ensures.back ∙ ap (drop (c.args.k / 256 * 256)) c.deref.ensures.value) c.split_at-2.ensures.front c.in_ok-walk.ensures.ok (omega arith)
