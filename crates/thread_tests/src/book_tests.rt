@@ -112,24 +112,35 @@ const ROWS: [(Program, &[u32], &[u32], usize, &str, u32); 4] = [
     ),
 ];
 
+// The history of a program's run in segments, and where hart 0 is at its end; None where something is refused.
+fn history_of<A: Allocator + Copy>(
+    alloc: A,
+    program: Program,
+    inputs: &[u32],
+    harts: &[u32],
+    refused: usize,
+) -> Option<(String<A>, Option<HartState>)> {
+    let image = match program {
+        Program::Library(kind) => make_image(alloc, kind),
+        Program::Writable => writable_image(alloc),
+    };
+    let mut book = book_of(alloc, image, inputs)?;
+    run_out(&mut book, harts, refused).ok()?;
+    let text = print_history(alloc, book.history()).ok()?;
+    let first = book.machine().ends().first().map(|hart| hart.state);
+    Some((text, first))
+}
+
 #[test]
 fn harts_run_in_segments(rt: HostRuntime) {
     for (program, inputs, harts, refused, history, status) in ROWS {
-        let image = match program {
-            Program::Library(kind) => make_image(rt.alloc(), kind),
-            Program::Writable => writable_image(rt.alloc()),
-        };
-        let Some(mut book) = book_of(rt.alloc(), image, inputs) else {
-            assert!(rt; false, "{history}: no book");
-            continue;
-        };
-        assert_eq!(rt; run_out(&mut book, harts, refused), Ok(()), "{history}");
-        match print_history(rt.alloc(), book.history()) {
-            Ok(text) => assert_eq!(rt; text.as_str(), history),
-            Err(_) => assert!(rt; false, "{history}: no memory for it"),
+        match history_of(rt.alloc(), program, inputs, harts, refused) {
+            Some((text, first)) => {
+                assert_eq!(rt; text.as_str(), history);
+                assert_eq!(rt; first, Some(HartState::Exited(status)), "{history}");
+            }
+            None => assert!(rt; false, "{history}: no run"),
         }
-        let first = book.machine().ends().first().map(|hart| hart.state);
-        assert_eq!(rt; first, Some(HartState::Exited(status)), "{history}");
     }
 }
 
