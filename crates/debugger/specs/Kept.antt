@@ -10,4 +10,5 @@ use Rattle.debugger.specs.Paged.{paged_world}
 -- machine i of a list is in the world after the first 256 times i choices
 abbrev pub AreKept : {Z : Type 0} → World → List Choice → List (Machine (PageStore Z) Z) → Type 0
 AreKept start choices machines =
-    (i : ℕ) → ForSome (slice_get machines i) (λ m. paged_world m ≡ run start (take (i * 256) choices))
+    (i : ℕ) → ForSome (slice_get machines i)
+    (λ m. paged_world m ≡ run start (take (i * 256) choices))

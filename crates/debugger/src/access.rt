@@ -26,7 +26,8 @@ fn hart_access<S: Store>(hart: &Hart, store: &S) -> Option<u32>
 /// The first address of the access of data that a hart's next step has, if it has one.
 pub fn accessed<A: Allocator + Copy>(machine: &PagedMachine<A>, number: u32) -> Option<u32>
     requires { number < length (paged_world machine.now).harts }
-    ensures { result ≡ accessed (paged_world machine.now) (slice_get (paged_world machine.now).harts number) }
+    ensures { result ≡ accessed (paged_world machine.now)
+        (slice_get (paged_world machine.now).harts number) }
 {
     let hart = machine.hart(number as usize);
     match hart.state {

@@ -16,7 +16,8 @@ pub fn checkpoints_of<A: Allocator + Copy>(
     choices: &[Choice],
 ) -> Result<Vec<PagedMachine<A>, A>, AllocError>
     requires { All (λ c. c.hart < length (paged_world first.now).harts) choices.now }
-    ensures kept { IfOk result (λ machines. AreKept (paged_world first.now) choices.now machines.items) }
+    ensures kept { IfOk result (λ machines.
+        AreKept (paged_world first.now) choices.now machines.items) }
     ensures whole { IfOk result (λ machines.
         vec_len machines ≡ length choices.now / 256 + 1) }
 {

@@ -24,7 +24,8 @@ pub fn tick<A: Allocator + Copy>(
     requires room { cost.old + 1 < 2 ^ 64 }
     ensures ok { OnOk result (paged_world machine.new ≡ step (paged_world machine.old) choice) }
     ensures counted { cost.new ≡ cost.old + 1 }
-    ensures harts { length (paged_world machine.new).harts ≡ length (paged_world machine.old).harts }
+    ensures harts { length (paged_world machine.new).harts
+        ≡ length (paged_world machine.old).harts }
 {
     *cost += 1;
     machine.step(choice)
@@ -41,7 +42,8 @@ pub fn walk<A: Allocator + Copy>(
     requires room { cost.old + length choices.now < 2 ^ 64 }
     ensures ok { OnOk result (paged_world machine.new ≡ run (paged_world machine.old) choices.now) }
     ensures counted { OnOk result (cost.new ≡ cost.old + length choices.now) }
-    ensures harts { length (paged_world machine.new).harts ≡ length (paged_world machine.old).harts }
+    ensures harts { length (paged_world machine.new).harts
+        ≡ length (paged_world machine.old).harts }
 {
     'choices: for choice in choices {
         tick(machine, cost, *choice)?;
@@ -87,7 +89,8 @@ fn break_of<A: Allocator + Copy>(
     breaks: &BTreeSet<u32, A>,
 ) -> Option<Stop>
     requires { hart < length (paged_world machine.now).harts }
-    ensures { result ≡ break_of breaks.now.keys hart (slice_get (paged_world machine.now).harts hart) }
+    ensures { result ≡ break_of breaks.now.keys hart
+        (slice_get (paged_world machine.now).harts hart) }
 {
     let pc = machine.hart(hart as usize).pc;
     if breaks.contains(&pc) {
@@ -113,7 +116,8 @@ pub fn step_to_stop<A: Allocator + Copy>(
     ensures stop { IfOk result (λ stop. stop ≡ stop_after breaks.now.keys watches.now.keys
         (paged_world machine.old) (paged_world machine.new) choice.hart) }
     ensures counted { cost.new ≡ cost.old + 1 }
-    ensures harts { length (paged_world machine.new).harts ≡ length (paged_world machine.old).harts }
+    ensures harts { length (paged_world machine.new).harts
+        ≡ length (paged_world machine.old).harts }
 {
     let watched = watched_word(machine, choice.hart, watches);
     let before = word_if(machine, watched);
