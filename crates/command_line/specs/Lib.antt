@@ -4,6 +4,7 @@ pub mod CampaignLine
 pub mod DebugLine
 pub mod LibLine
 pub mod FileLine
+pub mod ReplayLine
 pub mod RunLine
 pub mod Line
 pub mod Numbers

@@ -7,5 +7,9 @@ pub(crate) const INPUTS: &str = "one decimal input below 2^32 for each hart, as 
 pub(crate) const CHOICES: &str =
     "a file of hart numbers, one for each step, as 0 1 0!; ! refuses a store-conditional";
 
+/// Of `--history` where it is read.
+pub(crate) const HISTORY: &str =
+    "a file of entries, each a hart, + and its local steps before one more step, as 0+3 1+0!; ! refuses a store-conditional";
+
 /// Of `--rule`.
 pub(crate) const RULE: &str = "also judge the rule of an object: swap, add, lrsc or adopt";

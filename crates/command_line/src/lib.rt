@@ -10,6 +10,7 @@ pub use lib_line::LibOrder;
 pub use line::{LineFault, Order, read_line};
 pub use numbers::read_number;
 pub use objects::{read_object, read_rule};
+pub use replay_line::ReplayOrder;
 pub use run_line::RunOrder;
 
 mod arguments;
@@ -23,4 +24,5 @@ mod lib_line;
 mod line;
 mod numbers;
 mod objects;
+mod replay_line;
 mod run_line;

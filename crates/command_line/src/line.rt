@@ -10,6 +10,7 @@ use crate::campaign_line::{CampaignOrder, campaign_command, campaign_order};
 use crate::debug_line::{DebugOrder, debug_command, debug_order};
 use crate::file_line::{FileOrder, file_order, info_command, list_command};
 use crate::lib_line::{LibOrder, lib_command, lib_order};
+use crate::replay_line::{ReplayOrder, replay_command, replay_order};
 use crate::run_line::{RunOrder, run_command, run_order};
 use clap::error::ErrorKind;
 use clap::{ArgMatches, Command};
@@ -28,6 +29,8 @@ pub enum Order<'a> {
     Run(RunOrder<'a>),
     /// `debug`
     Debug(DebugOrder<'a>),
+    /// `replay`
+    Replay(ReplayOrder<'a>),
     /// `lib`
     Lib(LibOrder<'a>),
     /// `campaign`
@@ -69,6 +72,7 @@ fn program<'a>(alloc: Global) -> Result<Command<'a>, AllocError>
     let program = add_command(program, info_command(alloc))?;
     let program = add_command(program, run_command(alloc))?;
     let program = add_command(program, debug_command(alloc))?;
+    let program = add_command(program, replay_command(alloc))?;
     let program = add_command(program, lib_command(alloc))?;
     add_command(program, campaign_command(alloc))
 }
@@ -84,6 +88,7 @@ fn plain_order<'a>(name: &str, found: &ArgMatches<'a>) -> Option<Order<'a>>
         "info" => Some(Order::Info(file_order(found)?)),
         "run" => Some(Order::Run(run_order(found)?)),
         "debug" => Some(Order::Debug(debug_order(found)?)),
+        "replay" => Some(Order::Replay(replay_order(found)?)),
         "lib" => Some(Order::Lib(lib_order(found)?)),
         "campaign" => Some(Order::Campaign(campaign_order(found)?)),
         _ => None,

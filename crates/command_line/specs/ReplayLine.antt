@@ -1,0 +1,28 @@
+-- The command `replay`.
+use Rattle.std.specs.Prelude.{◌≡◌, List, [], ◌∷◌, Some, codes, option_map}
+use Rattle.clap.specs.Words.{App, Row, Text, first_of, new_app, with_rule}
+use Rattle.command_line.specs.Arguments.{needed, needed_option, optional}
+use Rattle.command_line.specs.declared.replay_line.ReplayOrder.{ReplayOrder}
+
+-- `replay FILE --inputs L --history H [--rule K]`
+abbrev pub replay_app : App
+replay_app =
+    with_rule
+    (with_rule
+    (with_rule
+    (with_rule (new_app (codes "replay")) (needed (codes "FILE")))
+    (needed_option (codes "inputs")))
+    (needed_option (codes "history")))
+    (optional (codes "rule"))
+
+-- the names of the texts that have to stand
+abbrev pub replay_names : List Text
+replay_names = codes "FILE" ∷ codes "inputs" ∷ codes "history" ∷ []
+
+-- each text of the order is the one that clap holds under its name
+abbrev pub IsReplay : List Row → ReplayOrder → Type 0
+IsReplay rows order =
+    (first_of (codes "FILE") rows ≡ Some order.file.now)
+    × (first_of (codes "inputs") rows ≡ Some order.inputs.now)
+    × (first_of (codes "history") rows ≡ Some order.history.now)
+    × (first_of (codes "rule") rows ≡ option_map (λ s. s.now) order.rule)

@@ -1,0 +1,108 @@
+//! `replay`: a program, inputs and a history in; the harts' ends and the verdict on them out.
+
+ghost use Rattle.std.specs.Prelude.{◌≡◌, ◌≢◌, ◌^◌, ◌-◌, ◌<◌, Ok, Err, IfOk, IfErr, IfSome, length, string_bytes};
+ghost use Rattle.std.specs.List.{All};
+ghost use Rattle.std.specs.Io.KnownBytes.{Keeps};
+ghost use Rattle.engines.specs.Certified.{IsCertified};
+ghost use Rattle.engines.specs.Run.{shown, world_after};
+ghost use Rattle.histories.specs.History.{expanded};
+ghost use Rattle.loader.specs.Image.{ImageValue};
+ghost use Rattle.machine.specs.Start.{IsStartable};
+ghost use Rattle.programs.specs.Program.{program_of};
+ghost use Rattle.programs.specs.declared.program.ProgramForm.{ProgramForm};
+ghost use Rattle.replay_engine.specs.Replay.{replay_answer, Prints, BeginsToPrint, IsRefusal, IfReads, AnswersKept};
+
+use crate::fault::ReplayFault;
+use crate::opening::open_replay;
+use crate::shown::shown_after;
+use crate::words::see_words;
+use devices::{Sink, Source, Status, write_all};
+use histories::Entry;
+use loader::Image;
+use machine::Machine;
+use memory::FlatStore;
+use programs::RunFault;
+use protocol_library::Kind;
+use replays::replay_history;
+use std::alloc::{AllocError, Allocator};
+
+/// What a replay of a history on an image prints and its status. Each entry is run as it is.
+fn replay_image<A: Allocator + Copy>(
+    alloc: A,
+    image: &Image<A>,
+    inputs: &[u32],
+    rule: Option<Kind>,
+    history: &[Entry],
+) -> Result<(String<A>, Status), AllocError>
+    requires takes { IsStartable inputs.now }
+    requires within { All (λ e. e.hart < length inputs.now) history.now }
+    ensures { IfOk result (λ answer.
+        shown rule inputs.now (expanded history.now) (world_after image.now inputs.now (expanded history.now))
+        ≡ (string_bytes answer.0, answer.1)) }
+{
+    let mut machine: Machine<FlatStore<A>, A> = match Machine::start(alloc, image, inputs) {
+        Ok(machine) => machine,
+        // As many inputs as these are refused only for want of memory.
+        Err(_) => return Err(AllocError),
+    };
+    replay_history(&mut machine, history);
+    shown_after(alloc, inputs, rule, history, machine.ends())
+}
+
+/// `replay`: reads the program to its end, and where it is one and the inputs are not too many, the history text to its end;
+/// writes how the harts end, and under a rule the verdict. Nothing is written where what was read is refused.
+#[tactic(auto, unfolding(crate::specs::Replay::replay_answer))]
+pub fn replay_engine<A: Allocator + Copy, P: Source, H: Source, K: Sink>(
+    alloc: A,
+    inputs: &[u32],
+    rule: Option<Kind>,
+    program: &mut P,
+    history: &mut H,
+    sink: &mut K,
+) -> Result<Status, ReplayFault>
+    requires program_counts { P.failures program.old < 2 ^ 64 - 1 }
+    requires history_counts { H.failures history.old < 2 ^ 64 - 1 }
+    requires sink_counts { K.failures sink.old < 2 ^ 64 - 1 }
+    // The printed world of the replay was appended, and this is its status.
+    ensures done { IfOk result (λ status.
+        IfSome (P.left program.old) (λ p. IfSome (H.left history.old) (λ h.
+        Prints (replay_answer inputs.now rule p h) status (K.held sink.old) (K.held sink.new)))) }
+    // What was read is refused, and nothing is written.
+    ensures refused { IfErr result (λ fault. IsRefusal fault
+        → IfSome (P.left program.old) (λ p. IfSome (H.left history.old) (λ h.
+        replay_answer inputs.now rule p h ≡ Err fault))) }
+    ensures unwritten { IfErr result (λ fault. fault ≢ ReplayFault.Run RunFault.Write
+        → Keeps (K.held sink.old) (K.held sink.new)) }
+    // A device is named only where it failed.
+    ensures read { IfErr result (λ fault. IfReads fault
+        (P.failures program.old < P.failures program.new)
+        (H.failures history.old < H.failures history.new)) }
+    // A fault of the program, and that of the number of inputs, come before one of the device that the history is read from.
+    ensures program_first { result ≡ Err ReplayFault.History
+        → IfSome (P.left program.old) (λ p. (image : ImageValue) × (program_of ProgramForm.Elf p ≡ Ok image)) }
+    ensures inputs_first { result ≡ Err ReplayFault.History → IsStartable inputs.now }
+    ensures write { result ≡ Err (ReplayFault.Run RunFault.Write)
+        → K.failures sink.old < K.failures sink.new }
+    // After a failed write a beginning of the output stands there.
+    ensures begun { result ≡ Err (ReplayFault.Run RunFault.Write)
+        → IfSome (P.left program.old) (λ p. IfSome (H.left history.old) (λ h.
+        BeginsToPrint (replay_answer inputs.now rule p h) (K.held sink.old) (K.held sink.new))) }
+    // A file that is an object, run by as many harts as it is for, never has a broken verdict of its kind's rule.
+    ensures certified { IfOk result (λ _.
+        IfSome (P.left program.old) (λ p. IfSome (H.left history.old) (λ h.
+        IsCertified ProgramForm.Elf p inputs.now rule → AnswersKept (replay_answer inputs.now rule p h)))) }
+{
+    see_words(inputs);
+    let run = match open_replay(alloc, inputs, program, history) {
+        Ok(run) => run,
+        Err(fault) => return Err(fault),
+    };
+    let (lines, status) = match replay_image(alloc, &run.image, inputs, rule, &run.history) {
+        Ok(answer) => answer,
+        Err(AllocError) => return Err(ReplayFault::Run(RunFault::Memory)),
+    };
+    match write_all(sink, lines.as_bytes()) {
+        Ok(()) => Ok(status),
+        Err(_) => Err(ReplayFault::Run(RunFault::Write)),
+    }
+}

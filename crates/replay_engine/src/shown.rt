@@ -1,0 +1,32 @@
+//! How harts are printed after a history.
+
+ghost use Rattle.std.specs.Prelude.{◌≡◌, IfOk, map, string_bytes};
+ghost use Rattle.hart_step.specs.Hart.{hart_of};
+ghost use Rattle.histories.specs.History.{expanded};
+ghost use Rattle.engines.specs.Run.{shown_with};
+ghost use Rattle.ends.specs.Ends.{verdict_on};
+
+use devices::Status;
+use ends::ends_text;
+use hart_step::Hart;
+use histories::Entry;
+use protocol_library::Kind;
+use replays::chosen_harts;
+use std::alloc::{AllocError, Allocator};
+
+/// The harts' lines and, under a rule, the verdict on them by the choices that a history stands for. The choices are never held.
+pub fn shown_after<A: Allocator + Copy>(
+    alloc: A,
+    inputs: &[u32],
+    rule: Option<Kind>,
+    history: &[Entry],
+    harts: &[Hart],
+) -> Result<(String<A>, Status), AllocError>
+    ensures { IfOk result (λ answer.
+        shown_with (verdict_on rule inputs.now (expanded history.now) (map hart_of harts.now)) (map hart_of harts.now)
+        ≡ (string_bytes answer.0, answer.1)) }
+{
+    let chosen = chosen_harts(alloc, history)?;
+    let answer = ends_text(alloc, inputs, &chosen, harts, rule)?;
+    Ok(answer)
+}
