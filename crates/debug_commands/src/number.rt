@@ -16,7 +16,7 @@ fn digit_of(byte: u8) -> Option<u64>
 }
 
 // The number that digits of a base write, one or more, held at 2^64 - 1 where it is above.
-#[tactic(auto, using(crate::proofs::NumberLemmas::one_digit), unfolding(crate::specs::Numbers::number_after))]
+#[tactic(auto, unfolding(crate::specs::Numbers::number_after))]
 fn number_of(base: u64, digits: &[u8]) -> Option<u64>
     requires { 0 < base }
     ensures { result ≡ held_number base digits.now }
