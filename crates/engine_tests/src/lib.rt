@@ -1,4 +1,4 @@
-//! Tests of the engines and of what they stand on: devices, programs, printed ends, the command line.
+//! Tests of the engines and of what they stand on: devices, programs, printed ends, the command line, replays.
 #![tactic(auto)]
 
 #[cfg(test)]
@@ -6,7 +6,11 @@ mod file_tests;
 #[cfg(test)]
 mod line_tests;
 #[cfg(test)]
+mod object_files;
+#[cfg(test)]
 mod part_tests;
+#[cfg(test)]
+mod replay_tests;
 #[cfg(test)]
 mod rule_tests;
 #[cfg(test)]

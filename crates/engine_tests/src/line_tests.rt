@@ -161,6 +161,22 @@ fn debug_is_read(rt: HostRuntime) {
 }
 
 #[test]
+fn replay_is_read(rt: HostRuntime) {
+    match read_line(
+        rt.alloc(),
+        &["rvcons", "replay", "p", "--inputs", "7,9", "--history", "h"],
+    ) {
+        Ok(Order::Replay(order)) => {
+            assert_eq!(rt; order.file, "p");
+            assert_eq!(rt; order.inputs, "7,9");
+            assert_eq!(rt; order.history, "h");
+            assert!(rt; order.rule.is_none());
+        }
+        _ => assert!(rt; false, "replay"),
+    }
+}
+
+#[test]
 fn a_rule_is_read(rt: HostRuntime) {
     match read_line(
         rt.alloc(),

@@ -6,6 +6,7 @@ mod campaign;
 mod debug;
 mod file;
 mod library;
+mod replay;
 mod report;
 mod run;
 
@@ -50,6 +51,7 @@ fn obey<R: Files + AllocGlobal + Print + Eprint + Env + Threads + Sync + Input>(
         Ok(Order::List(order)) => file::show(rt, FileView::Listing, &order),
         Ok(Order::Info(order)) => file::show(rt, FileView::Facts, &order),
         Ok(Order::Run(order)) => run::run(rt, &order),
+        Ok(Order::Replay(order)) => replay::replay(rt, &order),
         Ok(Order::Campaign(order)) => campaign::run_campaign(rt, is_terminal, &order),
         Err(fault) => refuse(rt, &fault),
     }

@@ -2,10 +2,12 @@
 
 ghost use Rattle.std.specs.Prelude.{◌≡◌, ◌≢◌};
 ghost use Rattle.programs.specs.RunFaults.{status_of_fault};
+ghost use Rattle.replay_engine.specs.Replay.{status_of};
 
 use command_line::LineFault;
 use devices::Status;
 use programs::RunFault;
+use replay_engine::ReplayFault;
 use std::io;
 
 /// Memory was refused.
@@ -20,6 +22,14 @@ pub(crate) fn say(rt: &impl Eprint, fault: RunFault) -> Status
     ensures { result ≡ status_of_fault fault }
 {
     // Where standard error is closed, the status alone tells.
+    let _ = eprintln!(rt; "rvcons: {fault}");
+    fault.status()
+}
+
+/// Says why a replay gives no answer.
+pub(crate) fn tell(rt: &impl Eprint, fault: ReplayFault) -> Status
+    ensures { result ≡ status_of fault }
+{
     let _ = eprintln!(rt; "rvcons: {fault}");
     fault.status()
 }

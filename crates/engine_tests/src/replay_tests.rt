@@ -1,0 +1,172 @@
+//! What no clause says of replays: worked histories of the objects' files, failing devices, each request for memory refused.
+use crate::object_files::object_file;
+use engines::{Failing, FullSink, Input, MemorySink, MemorySource, RunFault, Status};
+use protocol_library::Kind;
+use refusing::Refusing;
+use replay_engine::{ReplayFault, replay_engine};
+
+// An object, the inputs, the rule, the history, and what is printed or why not.
+struct Worked {
+    name: &'static str,
+    kind: Kind,
+    inputs: &'static [u32],
+    rule: Option<Kind>,
+    history: &'static str,
+    answer: Result<(&'static str, Status), ReplayFault>,
+}
+
+// The ends are those that another simulator printed of the same files, hart by hart and step by step.
+#[rattlefmt::skip]
+static WORKED: [Worked; 16] = [
+    Worked { name: "hart_1_alone_then_hart_0", kind: Kind::Swap, inputs: &[7, 9], rule: Some(Kind::Swap), history: "1+10 0+14",
+        answer: Ok(("hart 0 exited a0 00000009 a1 00000001\nhart 1 exited a0 00000009 a1 00000001\nverdict kept\n", Status::Done)) },
+    Worked { name: "the_same_in_more_entries", kind: Kind::Swap, inputs: &[7, 9], rule: Some(Kind::Swap), history: "1+3 1+1 1+4 0+3 0+1 0+4 0+3",
+        answer: Ok(("hart 0 exited a0 00000009 a1 00000001\nhart 1 exited a0 00000009 a1 00000001\nverdict kept\n", Status::Done)) },
+    Worked { name: "no_rule_no_verdict", kind: Kind::Swap, inputs: &[7, 9], rule: None, history: "1+10\n0+14\n",
+        answer: Ok(("hart 0 exited a0 00000009 a1 00000001\nhart 1 exited a0 00000009 a1 00000001\n", Status::Done)) },
+    Worked { name: "the_loser_takes_15_steps", kind: Kind::Swap, inputs: &[7, 9], rule: Some(Kind::Swap), history: "1+10 0+13",
+        answer: Ok(("hart 0 running pc 00010038\nhart 1 exited a0 00000009 a1 00000001\nverdict kept\n", Status::Done)) },
+    Worked { name: "the_winner_takes_11_steps", kind: Kind::Swap, inputs: &[7, 9], rule: Some(Kind::Swap), history: "1+9 0+14",
+        answer: Ok(("hart 0 exited a0 00000009 a1 00000001\nhart 1 running pc 00010038\nverdict kept\n", Status::Done)) },
+    Worked { name: "third_hart_of_swap_faults", kind: Kind::Swap, inputs: &[7, 9, 5], rule: Some(Kind::Swap), history: "2+3",
+        answer: Ok(("hart 0 running pc 00010000\nhart 1 running pc 00010000\nhart 2 faulted StoreAccess pc 0001000c\nverdict broken\n", Status::Broken)) },
+    Worked { name: "without_a_rule_it_is_a_fault", kind: Kind::Swap, inputs: &[7, 9, 5], rule: None, history: "2+3",
+        answer: Ok(("hart 0 running pc 00010000\nhart 1 running pc 00010000\nhart 2 faulted StoreAccess pc 0001000c\n", Status::Faulted)) },
+    Worked { name: "two_of_three_decide", kind: Kind::LrSc, inputs: &[4, 5, 6], rule: Some(Kind::LrSc), history: "2+15 0+12",
+        answer: Ok(("hart 0 exited a0 00000006 a1 00000001\nhart 1 running pc 00010000\nhart 2 exited a0 00000006 a1 00000001\nverdict kept\n", Status::Done)) },
+    Worked { name: "a_refusal_costs_four_steps", kind: Kind::LrSc, inputs: &[4, 5, 6], rule: Some(Kind::LrSc), history: "2+7! 2+11",
+        answer: Ok(("hart 0 running pc 00010000\nhart 1 running pc 00010000\nhart 2 exited a0 00000006 a1 00000001\nverdict kept\n", Status::Done)) },
+    Worked { name: "empty_history", kind: Kind::Swap, inputs: &[7, 9], rule: None, history: "",
+        answer: Ok(("hart 0 running pc 00010000\nhart 1 running pc 00010000\n", Status::Done)) },
+    Worked { name: "a_hart_that_has_ended_stays", kind: Kind::Swap, inputs: &[7], rule: None, history: "0+100000 0+0!",
+        answer: Ok(("hart 0 exited a0 00000007 a1 00000001\n", Status::Done)) },
+    Worked { name: "entry_without_a_count", kind: Kind::Swap, inputs: &[7, 9], rule: None, history: "0+1 0",
+        answer: Err(ReplayFault::BadEntry(4)) },
+    Worked { name: "count_of_33_bits", kind: Kind::Swap, inputs: &[7, 9], rule: None, history: "9+4294967296",
+        answer: Err(ReplayFault::BadEntry(0)) },
+    Worked { name: "entry_of_no_hart", kind: Kind::Swap, inputs: &[7, 9], rule: None, history: "0+1 2+0",
+        answer: Err(ReplayFault::NoHart(4)) },
+    Worked { name: "no_harts_before_a_bad_entry", kind: Kind::Swap, inputs: &[], rule: None, history: "x",
+        answer: Err(ReplayFault::Run(RunFault::NoHarts)) },
+    Worked { name: "nine_harts_before_a_bad_entry", kind: Kind::Swap, inputs: &[1, 2, 3, 4, 5, 6, 7, 8, 9], rule: None, history: "x",
+        answer: Err(ReplayFault::Run(RunFault::TooManyHarts)) },
+];
+
+#[test]
+fn worked_histories_are_printed(rt: HostRuntime) {
+    for row in &WORKED {
+        let Ok(file) = object_file(rt.alloc(), row.kind) else {
+            return assert!(rt; false, "no memory for the file");
+        };
+        let mut program = MemorySource::new(&file);
+        let mut history = MemorySource::new(row.history.as_bytes());
+        let mut sink = MemorySink::new(rt.alloc());
+        let result = replay_engine(
+            rt.alloc(),
+            row.inputs,
+            row.rule,
+            &mut program,
+            &mut history,
+            &mut sink,
+        );
+        match row.answer {
+            Ok((text, status)) => {
+                assert_eq!(rt; result, Ok(status), "{}", row.name);
+                assert_eq!(rt; sink.bytes(), text.as_bytes(), "{}", row.name);
+            }
+            Err(fault) => {
+                assert_eq!(rt; result, Err(fault), "{}", row.name);
+                assert_eq!(rt; sink.bytes().len(), 0, "{}", row.name);
+            }
+        }
+    }
+}
+
+const HISTORY: &[u8] = b"1+10 0+14";
+
+const ENDS: &str = "hart 0 exited a0 00000009 a1 00000001\nhart 1 exited a0 00000009 a1 00000001\n";
+
+#[test]
+fn a_replay_survives_each_refused_request(rt: HostRuntime) {
+    let Ok(file) = object_file(rt.alloc(), Kind::Swap) else {
+        return assert!(rt; false, "no memory for the file");
+    };
+    for passed in 0..1000u64 {
+        let heap = Refusing::new(rt.alloc(), passed);
+        let mut program = MemorySource::new(&file);
+        let mut history = MemorySource::new(HISTORY);
+        let mut sink = MemorySink::new(rt.alloc());
+        let result = replay_engine(&heap, &[7, 9], None, &mut program, &mut history, &mut sink);
+        if result == Ok(Status::Done) {
+            assert_eq!(rt; sink.bytes(), ENDS.as_bytes());
+        } else {
+            assert_eq!(rt;
+                result,
+                Err(ReplayFault::Run(RunFault::Memory)),
+                "after {passed}"
+            );
+            assert!(rt; heap.refused());
+            assert_eq!(rt; sink.bytes().len(), 0);
+        }
+        if !heap.refused() {
+            assert_eq!(rt; result, Ok(Status::Done));
+            assert!(rt; passed > 5, "only {passed} requests");
+            return;
+        }
+    }
+    assert!(rt; false, "memory is asked for without end");
+}
+
+#[test]
+fn a_failing_input_is_named(rt: HostRuntime) {
+    let Ok(file) = object_file(rt.alloc(), Kind::Swap) else {
+        return assert!(rt; false, "no memory for the file");
+    };
+    for passed in 0..2u64 {
+        let mut program = Failing::new(MemorySource::new(&file), passed);
+        let mut history = MemorySource::new(HISTORY);
+        let mut sink = MemorySink::new(rt.alloc());
+        let result = replay_engine(
+            rt.alloc(),
+            &[7, 9],
+            None,
+            &mut program,
+            &mut history,
+            &mut sink,
+        );
+        assert_eq!(rt; result, Err(ReplayFault::Run(RunFault::Read(Input::File))));
+        assert_eq!(rt; sink.bytes().len(), 0);
+        let mut program = MemorySource::new(&file);
+        let mut history = Failing::new(MemorySource::new(HISTORY), passed);
+        let mut sink = MemorySink::new(rt.alloc());
+        let result = replay_engine(
+            rt.alloc(),
+            &[7, 9],
+            None,
+            &mut program,
+            &mut history,
+            &mut sink,
+        );
+        assert_eq!(rt; result, Err(ReplayFault::History));
+        assert_eq!(rt; sink.bytes().len(), 0);
+    }
+}
+
+#[test]
+fn a_failing_output_is_told(rt: HostRuntime) {
+    let Ok(file) = object_file(rt.alloc(), Kind::Swap) else {
+        return assert!(rt; false, "no memory for the file");
+    };
+    let mut program = MemorySource::new(&file);
+    let mut history = MemorySource::new(HISTORY);
+    let mut sink = FullSink::new();
+    let result = replay_engine(
+        rt.alloc(),
+        &[7, 9],
+        None,
+        &mut program,
+        &mut history,
+        &mut sink,
+    );
+    assert_eq!(rt; result, Err(ReplayFault::Run(RunFault::Write)));
+}
