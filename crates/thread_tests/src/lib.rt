@@ -1,7 +1,15 @@
-//! Tests of runs in which a hart's local steps are taken apart from the others' steps, and of histories: `book` and `replays`.
+//! Tests of runs in which a hart's local steps are taken apart from the others' steps: `book`, `hart_threads` and `replays`.
 #![tactic(auto)]
 
 #[cfg(test)]
 mod book_tests;
 #[cfg(test)]
+mod images;
+#[cfg(test)]
+mod object_tests;
+#[cfg(test)]
 mod replay_tests;
+#[cfg(test)]
+mod runner_tests;
+#[cfg(test)]
+mod seat_tests;

@@ -1,0 +1,152 @@
+//! What no clause says of the library's objects on threads: that runs under plans of any kind come to their end, and that a hart
+//! which is held holds up nobody. Their rules hold by law of each history; here each history is done again beside.
+use crate::images::{Program, image_of, plan_of};
+use book::Book;
+use hart_step::{Hart, HartState};
+use hart_threads::{Gate, OpenGate, run_threads};
+use histories::{Entry, print_history};
+use machine::{Choice, Machine};
+use memory::FlatStore;
+use protocol_library::{Kind, Verdict, judge};
+use std::alloc::Allocator;
+use std::sync::Wait;
+use std::sync::atomic::{AtomicU64, Ordering};
+use std::thread;
+use std::thread::Threads;
+
+// Runs an object with a hart for each input.
+fn run<A: Allocator + Copy + Send + Sync, G: Gate + Sync, R: Threads + Wait + Sync>(
+    rt: &R,
+    alloc: A,
+    kind: Kind,
+    inputs: &[u32],
+    pairs: &[(u32, u32)],
+    gate: &G,
+) -> Option<Book<A>> {
+    let image = image_of(alloc, Program::Object(kind)).ok()?;
+    let inputs = Vec::from_slice(alloc, inputs).ok()?;
+    let plan = plan_of(alloc, pairs).ok()?;
+    let outcome = run_threads(rt, alloc, image, inputs, 500, plan, gate).ok()?;
+    Some(outcome.book)
+}
+
+// The choices that a history stands for, one by one.
+fn choices_of<A: Allocator>(alloc: A, history: &[Entry]) -> Option<Vec<Choice, A>> {
+    let mut choices = Vec::new(alloc);
+    for entry in history {
+        for _ in 0..entry.local {
+            let choice = Choice {
+                hart: entry.hart,
+                refuse: false,
+            };
+            choices.push(choice).ok()?;
+        }
+        let choice = Choice {
+            hart: entry.hart,
+            refuse: entry.refuse,
+        };
+        choices.push(choice).ok()?;
+    }
+    Some(choices)
+}
+
+// What the harts come to where they take these choices.
+fn does_again<A: Allocator + Copy>(alloc: A, book: &Book<A>, choices: &[Choice]) -> bool {
+    let Ok(machine) = Machine::start(alloc, book.image(), book.inputs()) else {
+        return false;
+    };
+    let mut machine: Machine<FlatStore<A>, A> = machine;
+    for choice in choices {
+        if choice.hart as usize >= machine.harts() || machine.step(*choice).is_err() {
+            return false;
+        }
+    }
+    machine.ends() == book.machine().ends()
+}
+
+// An object, and its harts' inputs.
+const OBJECTS: [(Kind, &[u32]); 5] = [
+    (Kind::Swap, &[7, 9]),
+    (Kind::Add, &[4, 6]),
+    (Kind::LrSc, &[3, 5, 7, 9]),
+    (Kind::LrSc, &[1, 2, 3, 4, 5, 6, 7, 8]),
+    (Kind::AdoptCommit, &[2, 2, 5]),
+];
+
+// How many runs each object has.
+const RUNS: u32 = 1000;
+
+// Pairs that follow from a number, of harts that may not be there and of low numbers.
+fn pairs_of(number: u32) -> [(u32, u32); 4] {
+    let mut pairs = [(0, 0); 4];
+    let mut drawn = number;
+    for pair in &mut pairs {
+        drawn = drawn.wrapping_mul(1_664_525).wrapping_add(1_013_904_223);
+        *pair = ((drawn >> 28) % 9, (drawn >> 20) % 32);
+    }
+    pairs
+}
+
+#[test]
+fn objects_keep_their_rules(rt: HostRuntime) {
+    for (kind, inputs) in OBJECTS {
+        for number in 0..RUNS {
+            let Some(book) = run(&rt, rt.alloc(), kind, inputs, &pairs_of(number), &OpenGate) else {
+                return assert!(rt; false, "{kind:?}: no run {number}");
+            };
+            let Some(choices) = choices_of(rt.alloc(), book.history()) else {
+                return assert!(rt; false, "{kind:?}: no memory for run {number}");
+            };
+            assert!(rt;
+                does_again(rt.alloc(), &book, &choices),
+                "{kind:?}, run {number}"
+            );
+            let ends = book.machine().ends();
+            let ended = ends.iter().all(|hart| hart.state != HartState::Running);
+            assert!(rt; ended, "{kind:?}, run {number}");
+            let verdict = judge(kind, inputs, &choices, ends);
+            assert_eq!(rt; verdict, Verdict::Kept, "{kind:?}, run {number}");
+        }
+    }
+}
+
+// How long a hart is held.
+const TURNS: u32 = 10_000_000;
+
+// Holds one of two harts at its first segment until the other one has had three, as many as Swap needs.
+#[derive(Drop)]
+struct Holding {
+    held: u32,
+    others: AtomicU64,
+}
+
+impl Gate for Holding {
+    fn arrive(&self, hart: u32, _count: u32) {
+        if hart != self.held {
+            self.others.fetch_add(1, Ordering::SeqCst);
+            return;
+        }
+        for _ in 0..TURNS {
+            if self.others.load(Ordering::SeqCst) >= 3 {
+                return;
+            }
+            thread::yield_now();
+        }
+    }
+}
+
+#[test]
+fn hart_that_is_held_takes_the_value_of_the_other(rt: HostRuntime) {
+    for (held, value) in [(0, 9), (1, 7)] {
+        let gate = Holding {
+            held,
+            others: AtomicU64::new(0),
+        };
+        let Some(book) = run(&rt, rt.alloc(), Kind::Swap, &[7, 9], &[], &gate) else {
+            return assert!(rt; false, "held {held}: no run");
+        };
+        for hart in book.machine().ends() {
+            assert_eq!(rt; hart.state, HartState::Exited(value), "held {held}");
+        }
+    }
+}
