@@ -1,0 +1,3 @@
+pub mod OwnLemmas
+pub mod TicketLemmas
+pub mod RunningLemmas

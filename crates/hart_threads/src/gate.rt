@@ -1,0 +1,16 @@
+//! What a caller does before each step of a hart that may touch what harts share.
+
+/// Is asked by each hart's thread, with no lock held, before the hart's local steps and one step more are taken into the
+/// book. It may wait, and so decides which hart goes on.
+pub trait Gate {
+    /// Hart `hart` has done `count` local steps since it was last in the book.
+    fn arrive(&self, hart: u32, count: u32);
+}
+
+/// Lets each hart go on at once.
+#[derive(Clone, Copy, Debug)]
+pub struct OpenGate;
+
+impl Gate for OpenGate {
+    fn arrive(&self, _hart: u32, _count: u32) {}
+}

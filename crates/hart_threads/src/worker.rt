@@ -1,0 +1,40 @@
+//! What one hart's thread does.
+ghost use Rattle.std.specs.Prelude.{◌≡◌};
+
+use crate::fault::CommitFault;
+use crate::gate::Gate;
+use crate::running::Running;
+use crate::spent::Spent;
+use crate::terms::Terms;
+use std::alloc::Allocator;
+use std::sync::ledger::Share;
+use std::sync::{Mutex, Wait};
+
+/// Makes a hart's choices until it has stopped or its budget is used up: local steps as long as they come, and one step more
+/// under the lock. No lock is held while the gate is asked.
+pub fn work<T: Terms, A: Allocator, G: Gate, R: Wait>(
+    rt: &R,
+    running: &Mutex<Running<T, A>>,
+    gate: &G,
+    budget: u32,
+    hart: u32,
+    ticket: Share<T>,
+) -> Result<Spent<T>, CommitFault>
+    requires { (ticket.parts ≡ 1) × (ticket.amount ≡ 1) }
+{
+    let mut ticket = ticket;
+    let mut seat = running.lock(rt).seat(hart)?;
+    let mut left = budget;
+    'choices: while left > 0 {
+        seat.advance_local(left - 1);
+        let local = seat.local();
+        gate.arrive(hart, local);
+        let done = running.lock(rt).commit(&mut seat, &mut ticket)?;
+        if done {
+            return Ok(Spent { share: ticket });
+        }
+        left -= local + 1;
+    }
+    // The commit after which no choice was left has said that the hart is done.
+    Err(CommitFault::Stale)
+}
