@@ -12,7 +12,7 @@ no_comma true h = sym h
 no_comma false h = refl
 
 -- a text without commas is a single part
-part_of_one : (xs : List ℕ) → position_or_len is_comma xs ≡ length xs → slice_split is_comma xs ≡ take (position_or_len is_comma xs) xs ∷ []
+pub part_of_one : (xs : List ℕ) → position_or_len is_comma xs ≡ length xs → slice_split is_comma xs ≡ take (position_or_len is_comma xs) xs ∷ []
 part_of_one xs e =
     let plain : (k d : ℕ) → k < length xs → is_comma (get_or xs k d) ≡ false
     = λ k d lt. no_comma (is_comma (get_or xs k d)) (prefix_len_passes (λ b. not (is_comma b)) xs k d (omega (arith, e))) in

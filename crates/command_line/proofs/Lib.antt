@@ -1,2 +1,3 @@
 mod NumberLemmas
 mod InputLemmas
+pub mod PlanLemmas

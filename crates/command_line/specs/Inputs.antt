@@ -37,6 +37,7 @@ abbrev pub RefusesInputs : List ℕ → LineFault → Type 0
 RefusesInputs text (faults.Told error) = ⊥
 RefusesInputs text faults.NoCommand = ⊥
 RefusesInputs text faults.BadInputs = inputs_of text ≡ None
+RefusesInputs text faults.BadPlan = ⊥
 RefusesInputs text faults.BadNumber = ⊥
 RefusesInputs text faults.BadObject = ⊥
 RefusesInputs text faults.Memory = Unit {0}

@@ -6,7 +6,9 @@ pub mod LibLine
 pub mod FileLine
 pub mod ReplayLine
 pub mod RunLine
+pub mod ThreadsLine
 pub mod Line
 pub mod Numbers
 pub mod Inputs
+pub mod Plan
 pub mod Objects

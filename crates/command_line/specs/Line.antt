@@ -9,6 +9,7 @@ use Rattle.command_line.specs.LibLine.{lib_app, lib_names, IsLib}
 use Rattle.command_line.specs.FileLine.{file_app, file_names, IsFile}
 use Rattle.command_line.specs.ReplayLine.{replay_app, replay_names, IsReplay}
 use Rattle.command_line.specs.RunLine.{run_app, run_names, IsRun}
+use Rattle.command_line.specs.ThreadsLine.{threads_app, threads_names, IsThreads}
 use Rattle.command_line.specs.declared.line.Order.{Order}
 use Rattle.command_line.specs.declared.line.Order.TheVariants as order
 use Rattle.command_line.specs.declared.line.LineFault.{LineFault}
@@ -28,11 +29,13 @@ program_app =
     (with_subcommand
     (with_subcommand
     (with_subcommand
+    (with_subcommand
     (with_subcommand bare_app asm_app.top)
     (file_app (codes "list")).top)
     (file_app (codes "info")).top)
     run_app.top)
     debug_app.top)
+    threads_app.top)
     replay_app.top)
     lib_app.top)
     campaign_app.top
@@ -45,6 +48,7 @@ IsOrder (Some found) (order.List o) = (found.0 ≡ codes "list") × IsFile found
 IsOrder (Some found) (order.Info o) = (found.0 ≡ codes "info") × IsFile found.1 o
 IsOrder (Some found) (order.Run o) = (found.0 ≡ codes "run") × IsRun found.1 o
 IsOrder (Some found) (order.Debug o) = (found.0 ≡ codes "debug") × IsDebug found.1 o
+IsOrder (Some found) (order.Threads o) = (found.0 ≡ codes "threads") × IsThreads found.1 o
 IsOrder (Some found) (order.Replay o) = (found.0 ≡ codes "replay") × IsReplay found.1 o
 IsOrder (Some found) (order.Lib o) = (found.0 ≡ codes "lib") × IsLib found.1 o
 IsOrder (Some found) (order.Campaign o) = (found.0 ≡ codes "campaign") × IsCampaign found.1 o
@@ -55,6 +59,7 @@ pub record IsNoPlain (name : Text) (rows : List Row) : Type 0 where
   pub of_info : name ≡ codes "info" → holds_all file_names rows ≡ false
   pub of_run : name ≡ codes "run" → holds_all run_names rows ≡ false
   pub of_debug : name ≡ codes "debug" → holds_all debug_names rows ≡ false
+  pub of_threads : name ≡ codes "threads" → holds_all threads_names rows ≡ false
   pub of_replay : name ≡ codes "replay" → holds_all replay_names rows ≡ false
   pub of_lib : name ≡ codes "lib" → holds_all lib_names rows ≡ false
   pub of_campaign : name ≡ codes "campaign" → holds_all campaign_names rows ≡ false
@@ -76,6 +81,7 @@ abbrev pub IsTold : Bool → LineFault → Type 0
 IsTold taken (faults.Told error) = taken ≡ true → ⊥
 IsTold taken faults.NoCommand = Unit {0}
 IsTold taken faults.BadInputs = ⊥
+IsTold taken faults.BadPlan = ⊥
 IsTold taken faults.BadNumber = ⊥
 IsTold taken faults.BadObject = ⊥
 IsTold taken faults.Memory = Unit {0}

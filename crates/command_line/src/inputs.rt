@@ -8,16 +8,16 @@ use crate::line::LineFault;
 use crate::numbers::number_in;
 use std::alloc::Allocator;
 
-// The input that one or more decimal digits write, if it is below 2^32.
-fn read_input(digits: &[u8]) -> Option<u32>
+/// The number that one or more decimal digits write, if it is below 2^32.
+pub(crate) fn read_input(digits: &[u8]) -> Option<u32>
     ensures { result ≡ input_of digits.now }
 {
     let number = number_in(digits)?;
     u32::try_from(number).ok()
 }
 
-// How many bytes stand before the first comma.
-fn part_len(rest: &[u8]) -> usize
+/// How many bytes stand before the first comma.
+pub(crate) fn part_len(rest: &[u8]) -> usize
     ensures count { result ≡ position_or_len is_comma rest.now }
     ensures within { result ≤ length rest.now }
 {

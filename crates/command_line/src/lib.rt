@@ -10,8 +10,10 @@ pub use lib_line::LibOrder;
 pub use line::{LineFault, Order, read_line};
 pub use numbers::read_number;
 pub use objects::{read_object, read_rule};
+pub use plan::read_plan;
 pub use replay_line::ReplayOrder;
 pub use run_line::RunOrder;
+pub use threads_line::ThreadsOrder;
 
 mod arguments;
 mod asm_line;
@@ -24,5 +26,7 @@ mod lib_line;
 mod line;
 mod numbers;
 mod objects;
+mod plan;
 mod replay_line;
 mod run_line;
+mod threads_line;

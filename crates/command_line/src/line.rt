@@ -12,6 +12,7 @@ use crate::file_line::{FileOrder, file_order, info_command, list_command};
 use crate::lib_line::{LibOrder, lib_command, lib_order};
 use crate::replay_line::{ReplayOrder, replay_command, replay_order};
 use crate::run_line::{RunOrder, run_command, run_order};
+use crate::threads_line::{ThreadsOrder, threads_command, threads_order};
 use clap::error::ErrorKind;
 use clap::{ArgMatches, Command};
 use std::alloc::{AllocError, Global};
@@ -29,6 +30,8 @@ pub enum Order<'a> {
     Run(RunOrder<'a>),
     /// `debug`
     Debug(DebugOrder<'a>),
+    /// `threads`
+    Threads(ThreadsOrder<'a>),
     /// `replay`
     Replay(ReplayOrder<'a>),
     /// `lib`
@@ -46,6 +49,8 @@ pub enum LineFault {
     NoCommand,
     /// The inputs aren't decimal numbers below 2^32 between commas.
     BadInputs,
+    /// The plan isn't pairs of a hart and the number of its choice, two decimal numbers below 2^32 each, between commas.
+    BadPlan,
     /// A number isn't written in decimal digits, or is too large.
     BadNumber,
     /// No object of the library has this name.
@@ -72,6 +77,7 @@ fn program<'a>(alloc: Global) -> Result<Command<'a>, AllocError>
     let program = add_command(program, info_command(alloc))?;
     let program = add_command(program, run_command(alloc))?;
     let program = add_command(program, debug_command(alloc))?;
+    let program = add_command(program, threads_command(alloc))?;
     let program = add_command(program, replay_command(alloc))?;
     let program = add_command(program, lib_command(alloc))?;
     add_command(program, campaign_command(alloc))
@@ -88,6 +94,7 @@ fn plain_order<'a>(name: &str, found: &ArgMatches<'a>) -> Option<Order<'a>>
         "info" => Some(Order::Info(file_order(found)?)),
         "run" => Some(Order::Run(run_order(found)?)),
         "debug" => Some(Order::Debug(debug_order(found)?)),
+        "threads" => Some(Order::Threads(threads_order(found)?)),
         "replay" => Some(Order::Replay(replay_order(found)?)),
         "lib" => Some(Order::Lib(lib_order(found)?)),
         "campaign" => Some(Order::Campaign(campaign_order(found)?)),

@@ -1,5 +1,5 @@
 //! What no clause says: worked lines and lists.
-use command_line::{LineFault, Order, read_inputs, read_line, read_number, read_object};
+use command_line::{LineFault, Order, read_inputs, read_line, read_number, read_object, read_plan};
 use protocol_library::Kind;
 use refusing::Refusing;
 use std::alloc::Global;
@@ -173,6 +173,66 @@ fn replay_is_read(rt: HostRuntime) {
             assert!(rt; order.rule.is_none());
         }
         _ => assert!(rt; false, "replay"),
+    }
+}
+
+#[test]
+fn threads_are_read(rt: HostRuntime) {
+    match read_line(
+        rt.alloc(),
+        &[
+            "rvcons",
+            "threads",
+            "p",
+            "--inputs",
+            "7,9",
+            "--budget",
+            "100",
+            "--refuse",
+            "0:7",
+            "--history",
+            "h",
+        ],
+    ) {
+        Ok(Order::Threads(order)) => {
+            assert_eq!(rt; order.file, "p");
+            assert_eq!(rt; order.inputs, "7,9");
+            assert_eq!(rt; order.budget, "100");
+            assert_eq!(rt; order.refuse.unwrap_or(""), "0:7");
+            assert_eq!(rt; order.history.unwrap_or(""), "h");
+            assert!(rt; order.rule.is_none());
+        }
+        _ => assert!(rt; false, "threads"),
+    }
+}
+
+// A plan's text, how many pairs it holds, and one of them; or none where it is refused.
+const PLANS: [(&str, Option<(usize, (u32, u32))>); 12] = [
+    ("0:12", Some((1, (0, 12)))),
+    ("0:12,1:3", Some((2, (1, 3)))),
+    ("1:3,1:3,0:0", Some((2, (0, 0)))),
+    ("4294967295:4294967295", Some((1, (u32::MAX, u32::MAX)))),
+    ("007:0001", Some((1, (7, 1)))),
+    ("", None),
+    ("0", None),
+    ("0:", None),
+    (":0", None),
+    ("0:1,", None),
+    ("0:1:2", None),
+    ("0:4294967296", None),
+];
+
+#[test]
+fn plans_are_read(rt: HostRuntime) {
+    for (text, wanted) in PLANS {
+        match (read_plan(rt.alloc(), text), wanted) {
+            (Ok(plan), Some((count, pair))) => {
+                assert_eq!(rt; plan.len(), count, "{text}");
+                assert!(rt; plan.contains(&pair), "{text}");
+            }
+            (Err(LineFault::BadPlan), None) => {}
+            _ => assert!(rt; false, "{text}"),
+        }
     }
 }
 

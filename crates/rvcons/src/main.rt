@@ -9,6 +9,7 @@ mod library;
 mod replay;
 mod report;
 mod run;
+mod threads;
 
 use crate::report::{bad_line, out_of_memory, refuse};
 use command_line::{Order, read_line};
@@ -17,6 +18,7 @@ use engines::FileView;
 use std::io::{self, Input, IsTerminal};
 use std::process::ExitCode;
 use std::rt::{Env, Files};
+use std::sync::Wait;
 use std::thread::Threads;
 
 fn main(rt: HostRuntime) -> ExitCode {
@@ -25,7 +27,7 @@ fn main(rt: HostRuntime) -> ExitCode {
 }
 
 // Does what the command line orders. Progress is told where standard error is a terminal.
-fn obey<R: Files + AllocGlobal + Print + Eprint + Env + Threads + Sync + Input>(
+fn obey<R: Files + AllocGlobal + Print + Eprint + Env + Threads + Wait + Sync + Input>(
     rt: &R,
     is_terminal: bool,
 ) -> Status {
@@ -51,6 +53,7 @@ fn obey<R: Files + AllocGlobal + Print + Eprint + Env + Threads + Sync + Input>(
         Ok(Order::List(order)) => file::show(rt, FileView::Listing, &order),
         Ok(Order::Info(order)) => file::show(rt, FileView::Facts, &order),
         Ok(Order::Run(order)) => run::run(rt, &order),
+        Ok(Order::Threads(order)) => threads::run_on_threads(rt, &order),
         Ok(Order::Replay(order)) => replay::replay(rt, &order),
         Ok(Order::Campaign(order)) => campaign::run_campaign(rt, is_terminal, &order),
         Err(fault) => refuse(rt, &fault),

@@ -3,12 +3,14 @@
 ghost use Rattle.std.specs.Prelude.{◌≡◌, ◌≢◌};
 ghost use Rattle.programs.specs.RunFaults.{status_of_fault};
 ghost use Rattle.replay_engine.specs.Replay.{status_of};
+ghost use Rattle.threads_engine.specs.Threads.{status_of as status_of_threads};
 
 use command_line::LineFault;
 use devices::Status;
 use programs::RunFault;
 use replay_engine::ReplayFault;
 use std::io;
+use threads_engine::ThreadsEngineFault;
 
 /// Memory was refused.
 pub(crate) fn out_of_memory(rt: &impl Eprint) -> Status
@@ -29,6 +31,14 @@ pub(crate) fn say(rt: &impl Eprint, fault: RunFault) -> Status
 /// Says why a replay gives no answer.
 pub(crate) fn tell(rt: &impl Eprint, fault: ReplayFault) -> Status
     ensures { result ≡ status_of fault }
+{
+    let _ = eprintln!(rt; "rvcons: {fault}");
+    fault.status()
+}
+
+/// Says why a run of threads gives no answer.
+pub(crate) fn tell_threads(rt: &impl Eprint, fault: ThreadsEngineFault) -> Status
+    ensures { result ≡ status_of_threads fault }
 {
     let _ = eprintln!(rt; "rvcons: {fault}");
     fault.status()
@@ -81,6 +91,10 @@ pub(crate) fn refuse(rt: &(impl Print + Eprint), fault: &LineFault) -> Status {
         LineFault::BadInputs => bad_line(
             rt,
             "--inputs takes a decimal number below 2^32 for each hart, with commas between, as 7,9",
+        ),
+        LineFault::BadPlan => bad_line(
+            rt,
+            "--refuse takes pairs of a hart and the number of its step, two decimal numbers below 2^32 each, as 0:7,1:3",
         ),
         LineFault::BadNumber => bad_line(
             rt,

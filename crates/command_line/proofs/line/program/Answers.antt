@@ -21,6 +21,7 @@ returns c =
     let info = step _ _ _ _ _ list c.in_ok-program-3.ensures.app c.info_command.ensures.app in
     let run = step _ _ _ _ _ info c.in_ok-program-4.ensures.app c.run_command.ensures.app in
     let debug = step _ _ _ _ _ run c.in_ok-program-5.ensures.app c.debug_command.ensures.app in
-    let replay = step _ _ _ _ _ debug c.in_ok-program-6.ensures.app c.replay_command.ensures.app in
-    let lib = step _ _ _ _ _ replay c.in_ok-program-7.ensures.app c.lib_command.ensures.app in
-    IfOk-weaker c.add_command-8.result _ _ (λ r last. step _ _ _ r _ lib last c.campaign_command.ensures.app) c.add_command-8.ensures.app
+    let threads = step _ _ _ _ _ debug c.in_ok-program-6.ensures.app c.threads_command.ensures.app in
+    let replay = step _ _ _ _ _ threads c.in_ok-program-7.ensures.app c.replay_command.ensures.app in
+    let lib = step _ _ _ _ _ replay c.in_ok-program-8.ensures.app c.lib_command.ensures.app in
+    IfOk-weaker c.add_command-9.result _ _ (λ r last. step _ _ _ r _ lib last c.campaign_command.ensures.app) c.add_command-9.ensures.app

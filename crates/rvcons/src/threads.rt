@@ -1,0 +1,85 @@
+//! Doing `threads`.
+
+use crate::report::{
+    cannot_open, cannot_read, cannot_write, out_of_memory, refuse, say, tell_threads,
+};
+use command_line::{LineFault, ThreadsOrder, read_inputs, read_number, read_plan, read_rule};
+use devices::{ReaderSource, Status, WriterSink, write_all};
+use hart_threads::OpenGate;
+use programs::{Input, RunFault};
+use std::alloc::Global;
+use std::collections::BTreeSet;
+use std::rt::Files;
+use std::sync::Wait;
+use std::thread::Threads;
+use std::{fs, io};
+use threads_engine::{ThreadsEngineFault, ThreadsTask, threads_engine};
+
+// What the order's texts say.
+fn read_task(alloc: Global, order: &ThreadsOrder) -> Result<ThreadsTask<Global>, LineFault> {
+    let inputs = read_inputs(alloc, order.inputs)?;
+    let budget = read_number(order.budget, u64::from(u32::MAX))? as u32;
+    let plan = match order.refuse {
+        Some(text) => read_plan(alloc, text)?,
+        None => BTreeSet::new(alloc),
+    };
+    let rule = read_rule(order.rule)?;
+    Ok(ThreadsTask {
+        inputs,
+        budget,
+        plan,
+        rule,
+    })
+}
+
+/// Runs each hart in a thread of its own. The history is written before anything is printed.
+pub(crate) fn run_on_threads<R: Files + AllocGlobal + Print + Eprint + Threads + Wait + Sync>(
+    rt: &R,
+    order: &ThreadsOrder,
+) -> Status {
+    let task = match read_task(rt.alloc(), order) {
+        Ok(task) => task,
+        Err(fault) => return refuse(rt, &fault),
+    };
+    let program = match fs::open(rt, order.file) {
+        Ok(program) => program,
+        Err(error) => return cannot_open(rt, order.file, &error),
+    };
+    let mut program = ReaderSource::new(program);
+    let answer = match threads_engine(rt, rt.alloc(), task, &mut program, &OpenGate) {
+        Ok(answer) => answer,
+        Err(ThreadsEngineFault::Run(RunFault::Read(Input::File))) => {
+            return cannot_read(rt, order.file);
+        }
+        Err(fault) => return tell_threads(rt, fault),
+    };
+    if let Some(path) = order.history {
+        if let Err(status) = write_history(rt, path, answer.history.as_bytes()) {
+            return status;
+        }
+    }
+    match write_all(
+        &mut WriterSink::new(io::writer(rt)),
+        answer.lines.as_bytes(),
+    ) {
+        Ok(()) => answer.status,
+        Err(_) => say(rt, RunFault::Write),
+    }
+}
+
+// Writes the history into a file of its own, which is opened now.
+fn write_history<R: Files + AllocGlobal + Print + Eprint>(
+    rt: &R,
+    path: &str,
+    text: &[u8],
+) -> Result<(), Status> {
+    let file = match fs::create(rt, path) {
+        Ok(file) => file,
+        Err(error) if error.kind() == io::ErrorKind::OutOfMemory => return Err(out_of_memory(rt)),
+        Err(_) => return Err(cannot_write(rt, path)),
+    };
+    match write_all(&mut WriterSink::new(file), text) {
+        Ok(()) => Ok(()),
+        Err(_) => Err(cannot_write(rt, path)),
+    }
+}

@@ -1,0 +1,115 @@
+//! `threads`: a program, inputs, a budget and a plan in; the history of the harts, their ends and the verdict on them out.
+
+ghost use Rattle.std.specs.Prelude.{◌≡◌, ◌≢◌, ◌^◌, ◌-◌, ◌<◌, ◌≤◌, IfOk, IfErr, IfSome, length};
+ghost use Rattle.engines.specs.Certified.{IsCertified};
+ghost use Rattle.programs.specs.declared.program.ProgramForm.{ProgramForm};
+ghost use Rattle.threads_engine.specs.Threads.{IsAnswer, IsKept, IsRefusal, IfReads, Refuses, fault_of_run};
+
+use crate::fault::ThreadsEngineFault;
+use devices::{Source, Status};
+use hart_threads::{Gate, Plan, RunFault as ThreadsFault, run_threads};
+use histories::print_history;
+use programs::{ProgramForm, RunFault, read_image};
+use protocol_library::Kind;
+use replay_engine::{see_words, shown_after};
+use std::alloc::{AllocError, Allocator};
+use std::sync::Wait;
+use std::thread::Threads;
+
+/// What is run on threads, besides the program.
+#[derive(Drop)]
+pub struct ThreadsTask<A: Allocator> {
+    /// The harts' inputs, one a hart.
+    pub inputs: Vec<u32, A>,
+    /// How often each hart is chosen at most.
+    pub budget: u32,
+    /// Which store-conditionals are refused.
+    pub plan: Plan<A>,
+    /// The kind whose rule is judged.
+    pub rule: Option<Kind>,
+}
+
+/// What a run of threads gives: the history is to be written before the lines are printed.
+#[derive(Drop)]
+pub struct ThreadsAnswer<A: Allocator> {
+    /// The history's text.
+    pub history: String<A>,
+    /// How the harts end, and under a rule the verdict.
+    pub lines: String<A>,
+    /// The status that the program ends with.
+    pub status: Status,
+}
+
+/// `threads`: reads the program to its end, and runs it with a thread for each hart. What is answered is what a replay of the
+/// answered history prints.
+pub fn threads_engine<
+    A: Allocator + Copy + Send + Sync,
+    P: Source,
+    G: Gate + Sync,
+    R: Threads + Wait + Sync,
+>(
+    rt: &R,
+    alloc: A,
+    task: ThreadsTask<A>,
+    program: &mut P,
+    gate: &G,
+) -> Result<ThreadsAnswer<A>, ThreadsEngineFault>
+    requires { P.failures program.old < 2 ^ 64 - 1 }
+    ensures answer { IfOk result (λ answer. IfSome (P.left program.old) (λ p.
+        IsAnswer task.inputs.items task.budget task.plan.keys task.rule p answer)) }
+    // A file that is an object, run by as many harts as it is for, never has a broken verdict of its kind's rule.
+    ensures certified { IfOk result (λ answer. IfSome (P.left program.old) (λ p.
+        IsCertified ProgramForm.Elf p task.inputs.items task.rule → IsKept answer)) }
+    // What was read is refused, and no thread was started.
+    ensures refused { IfErr result (λ fault. IsRefusal fault
+        → IfSome (P.left program.old) (λ p. Refuses (length task.inputs.items) p fault)) }
+    // The program's device is named only where it failed, and no other is.
+    ensures read { IfErr result (λ fault. IfReads fault (P.failures program.old < P.failures program.new)) }
+    ensures sink_unnamed { IfErr result (λ fault. fault ≢ ThreadsEngineFault.Run RunFault.Write) }
+{
+    see_words(&task.inputs);
+    let image = match read_image(alloc, ProgramForm::Elf, program) {
+        Ok(image) => image,
+        Err(fault) => return Err(ThreadsEngineFault::Run(fault)),
+    };
+    let ThreadsTask {
+        inputs,
+        budget,
+        plan,
+        rule,
+    } = task;
+    let book = match run_threads(rt, alloc, image, inputs, budget, plan, gate) {
+        Ok(outcome) => outcome.book,
+        Err(fault) => return Err(fault_of_threads(fault)),
+    };
+    let Ok(history) = print_history(alloc, book.history()) else {
+        return Err(ThreadsEngineFault::Run(RunFault::Memory));
+    };
+    match shown_after(
+        alloc,
+        book.inputs(),
+        rule,
+        book.history(),
+        book.machine().ends(),
+    ) {
+        Ok((lines, status)) => Ok(ThreadsAnswer {
+            history,
+            lines,
+            status,
+        }),
+        Err(AllocError) => Err(ThreadsEngineFault::Run(RunFault::Memory)),
+    }
+}
+
+// A fault of the threads, as one of the command.
+fn fault_of_threads(fault: ThreadsFault) -> ThreadsEngineFault
+    ensures { result ≡ fault_of_run fault }
+{
+    match fault {
+        ThreadsFault::NoHarts => ThreadsEngineFault::Run(RunFault::NoHarts),
+        ThreadsFault::TooManyHarts => ThreadsEngineFault::Run(RunFault::TooManyHarts),
+        ThreadsFault::StartRefused => ThreadsEngineFault::StartRefused,
+        ThreadsFault::Stale => ThreadsEngineFault::Stale,
+        ThreadsFault::Memory => ThreadsEngineFault::Run(RunFault::Memory),
+    }
+}
