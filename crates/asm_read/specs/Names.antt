@@ -2,7 +2,7 @@
 use Rattle.std.specs.Prelude.{ℕ, ◌+◌, List, [], ◌∷◌, ◌++◌, map, Option, Some, None, if◌then◌else◌, nat_lt, codes}
 use Rattle.std.specs.Borrow.{Bor}
 use Rattle.std.specs.Str.{bytes_eq}
-use Rattle.operand_names.specs.Names.{abi_names, set_name}
+use Rattle.names_and_digits.specs.Names.{abi_names, set_name}
 
 -- what the first row of a name has
 unfoldable pub first_named : {V : Type 0} → List (List ℕ × V) → List ℕ → Option V

@@ -160,7 +160,7 @@ fn register_number(name: &str) -> Option<u8>
 }
 
 // What the table of sets has for a name.
-#[tactic(auto, unfolding(crate::specs::Names::fence_bits, operand_names::specs::Names::set_name))]
+#[tactic(auto, unfolding(crate::specs::Names::fence_bits, names_and_digits::specs::Names::set_name))]
 fn fence_bits(name: &str) -> Option<u8>
     ensures { result ≡ fence_bits name.now }
 {

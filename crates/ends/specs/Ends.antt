@@ -6,7 +6,7 @@ use Rattle.hart_step.specs.declared.hart.Cause.TheVariants.{FetchAccess, Illegal
 use Rattle.hart_step.specs.declared.hart.HartState.{HartState}
 use Rattle.hart_step.specs.declared.hart.HartState.TheVariants.{Running, Exited, Faulted}
 use Rattle.hart_step.specs.Hart.{HartValue}
-use Rattle.hex_word.specs.Digits.{word_text}
+use Rattle.names_and_digits.specs.Digits.{word_text}
 use Rattle.machine.specs.declared.choice.Choice.{Choice}
 use Rattle.protocol_library.specs.declared.kind.Kind.{Kind}
 use Rattle.protocol_library.specs.declared.verdict.Verdict.{Verdict}

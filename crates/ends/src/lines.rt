@@ -6,8 +6,8 @@ ghost use Rattle.ends.specs.Ends.{cause_name, end_line, any_faulted, verdict_on,
 
 use devices::Status;
 use hart_step::{Cause, Hart, HartState};
-use hex_word::Word;
 use machine::Choice;
+use names_and_digits::Word;
 use protocol_library::{Kind, Verdict, judge};
 use std::alloc::{AllocError, Allocator};
 use std::fmt;

@@ -1,5 +1,5 @@
 //! The printed digits of words and bytes.
-use hex_word::{Byte, Word};
+use names_and_digits::{Byte, Word};
 use std::alloc::AllocError;
 
 #[test]

@@ -1,4 +1,4 @@
-//! Tests of words and instructions: `decoder`, `encoder`, `operand_names` and `hex_word`.
+//! Tests of words and instructions: `decoder`, `encoder`, `names_and_digits` and `names_and_digits`.
 #![tactic(auto)]
 
 #[cfg(test)]

@@ -1,6 +1,6 @@
 //! The names of all registers and of some sets, as GNU as reads them.
 use isa_table::{FenceSet, Reg};
-use operand_names::{FenceAccesses, RegisterName};
+use names_and_digits::{FenceAccesses, RegisterName};
 use std::alloc::AllocError;
 
 #[test]

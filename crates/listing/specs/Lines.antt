@@ -7,8 +7,8 @@ use Rattle.isa_table.specs.Decoded.{decoded}
 use Rattle.isa_table.specs.declared.instr.Instr.{Instr}
 use Rattle.isa_table.specs.declared.instr.Instr.TheVariants as i
 use Rattle.isa_table.specs.declared.mnemonic.Mnemonic.TheVariants as m
-use Rattle.operand_names.specs.Names.{abi, set_name}
-use Rattle.hex_word.specs.Digits.{word_text}
+use Rattle.names_and_digits.specs.Names.{abi, set_name}
+use Rattle.names_and_digits.specs.Digits.{word_text}
 
 -- `.word 0x00000000`
 abbrev pub word_line : ℕ → List ℕ

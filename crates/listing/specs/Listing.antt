@@ -1,6 +1,6 @@
 -- Listings: the lines of bytes from an address on.
 use Rattle.std.specs.Prelude.{ℕ, ◌+◌, ◌-◌, ◌*◌, ◌%◌, ◌^◌, ◌++◌, List, [], ◌∷◌, codes, take, drop}
-use Rattle.hex_word.specs.Digits.{word_text, byte_text}
+use Rattle.names_and_digits.specs.Digits.{word_text, byte_text}
 use Rattle.listing.specs.Lines.{line_text}
 
 -- the word of four bytes, the lowest first

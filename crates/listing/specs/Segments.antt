@@ -5,7 +5,7 @@ use Rattle.std.specs.List.{flat_map}
 use Rattle.std.specs.List.Sorted.{IsNonDecreasingBy}
 use Rattle.std.specs.Fmt.{decimal}
 use Rattle.loader.specs.Segment.{SegmentValue}
-use Rattle.hex_word.specs.Digits.{word_text}
+use Rattle.names_and_digits.specs.Digits.{word_text}
 use Rattle.listing.specs.Listing.{lines_from}
 
 -- the right to execute is the lowest bit

@@ -4,7 +4,7 @@ ghost use Rattle.std.specs.Prelude.{◌≡◌, ◌≤◌, ◌<◌, ◌^◌, ◌+
 ghost use Rattle.listing.specs.Listing.{byte_lines, listing, lines_from, word_of_bytes};
 
 use crate::line::Line;
-use hex_word::{Byte, Word};
+use names_and_digits::{Byte, Word};
 use std::alloc::{AllocError, Allocator};
 
 /// The word of the four bytes at a place, the lowest first.

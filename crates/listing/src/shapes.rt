@@ -5,9 +5,8 @@ ghost use Rattle.std.specs.Fmt.{DisplaysOnOk};
 ghost use Rattle.isa_table.specs.Signed.{signed_of};
 ghost use Rattle.listing.specs.Lines.{word_line, upper_line, jump_line, branch_line, memory_line, immediate_line, shift_line, register_line, reserved_line, atomic_line, sets_line, fence_line};
 
-use hex_word::Word;
 use isa_table::{FenceSet, Immediate12, Order, Reg, ShiftAmount, UpperImmediate};
-use operand_names::{FenceAccesses, RegisterName};
+use names_and_digits::{FenceAccesses, RegisterName, Word};
 use std::fmt;
 
 /// A word that has no other text.

@@ -1,7 +1,7 @@
 -- Printed numbers.
 use Rattle.std.specs.Prelude.{ℕ, ◌/◌, ◌%◌, ◌^◌, ◌<◌, List, [], ◌∷◌, false}
 use Rattle.std.specs.Fmt.{digits, decimal, digit_glyph}
-use Rattle.hex_word.specs.Digits.{word_text, byte_text}
+use Rattle.names_and_digits.specs.Digits.{word_text, byte_text}
 use Rattle.round_trip.proofs.Atoms.{IsNumber}
 
 -- the hexadecimal digit of a place

@@ -18,7 +18,7 @@ use Rattle.isa_table.specs.declared.mnemonic.RegisterOp.{RegisterOp}
 use Rattle.isa_table.specs.declared.mnemonic.RegisterOp.TheVariants.{Add}
 use Rattle.isa_table.specs.declared.mnemonic.AmoOp.{AmoOp}
 use Rattle.isa_table.specs.declared.mnemonic.AmoOp.TheVariants.{Amoswap}
-use Rattle.operand_names.specs.Names.{abi, set_name}
+use Rattle.names_and_digits.specs.Names.{abi, set_name}
 use Rattle.listing.specs.Lines.{suffix}
 use Rattle.asm_read.specs.Names.{first_named, register_number, register_of, fence_bits, fence_set_of}
 use Rattle.asm_read.specs.Shapes.{register}

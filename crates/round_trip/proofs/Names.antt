@@ -12,7 +12,7 @@ use Rattle.isa_table.specs.declared.mnemonic.ShiftOp.TheVariants.{Slli}
 use Rattle.isa_table.specs.declared.mnemonic.RegisterOp.TheVariants.{Add}
 use Rattle.isa_table.specs.declared.mnemonic.AmoOp.TheVariants.{Amoswap}
 use Rattle.asm_text.specs.Bytes.{is_digit}
-use Rattle.operand_names.specs.Names.{abi, set_name}
+use Rattle.names_and_digits.specs.Names.{abi, set_name}
 use Rattle.round_trip.proofs.Atoms.{IsName, is_word}
 
 -- what holds of each number below a bound

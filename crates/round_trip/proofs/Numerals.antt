@@ -10,7 +10,7 @@ use Rattle.asm_text.specs.Bytes.{is_digit, is_name_byte}
 use Rattle.asm_text.specs.Numbers.{digit_of, value_after, number_in, number_of}
 use Rattle.round_trip.proofs.Atoms.{IsNumber, is_word}
 use Rattle.round_trip.proofs.Digits.{hex8, hex2, hexadecimal, digit_at, IsReadBack}
-use Rattle.hex_word.specs.Digits.{word_text, byte_text}
+use Rattle.names_and_digits.specs.Digits.{word_text, byte_text}
 
 digit_same : (c : ℕ) → digit_value c < 16 → digit_of c ≡ digit_value c
 digit_same c lt = grind (arith, nat_tests)

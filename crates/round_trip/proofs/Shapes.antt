@@ -15,8 +15,8 @@ use Rattle.isa_table.specs.declared.mnemonic.LoadOp.{LoadOp}
 use Rattle.isa_table.specs.declared.mnemonic.RegisterOp.{RegisterOp}
 use Rattle.isa_table.specs.declared.mnemonic.ShiftOp.{ShiftOp}
 use Rattle.isa_table.specs.declared.mnemonic.StoreOp.{StoreOp}
-use Rattle.hex_word.specs.Digits.{word_text, byte_text}
-use Rattle.operand_names.specs.Names.{abi, set_name}
+use Rattle.names_and_digits.specs.Digits.{word_text, byte_text}
+use Rattle.names_and_digits.specs.Names.{abi, set_name}
 use Rattle.listing.specs.Lines.{upper_line, jump_line, branch_line, memory_line, immediate_line, shift_line, register_line, suffix, reserved_line, atomic_line, sets_line, word_line}
 use Rattle.asm_read.specs.Statements.{statement_from, source_from, labels_from, label_of, body, headed}
 use Rattle.asm_read.specs.Operations.{instruction, fixed, three_registers, with_immediate, shift, load, store, branch, lui, auipc, jal, jalr, jalr_behind, jalr_memory, fence, alone, load_reserved, store_conditional, atomic}

@@ -6,7 +6,7 @@ use Rattle.std.specs.List.{list_all}
 use Rattle.std.proofs.lemmas.Bool.Decides.{nat_tests}
 use Rattle.std.proofs.lemmas.List.{append-nil}
 use Rattle.std.proofs.lemmas.List.Folds.{list_all-append}
-use Rattle.hex_word.specs.Digits.{word_text, byte_text}
+use Rattle.names_and_digits.specs.Digits.{word_text, byte_text}
 use Rattle.listing.specs.Lines.{line_text}
 use Rattle.listing.specs.Listing.{word_of_bytes, word_entry, byte_entry, listing}
 use Rattle.asm_text.specs.Grammar.{is_in_line}

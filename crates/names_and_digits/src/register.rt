@@ -1,7 +1,7 @@
 //! Registers by their names. RISC-V ABIs Specification, "Integer Register Convention".
 
 ghost use Rattle.std.specs.Prelude.{◌≡◌, Some};
-ghost use Rattle.operand_names.specs.Names.{abi};
+ghost use Rattle.names_and_digits.specs.Names.{abi};
 
 use isa_table::Reg;
 use std::fmt;

@@ -1,7 +1,7 @@
 //! The sets of accesses that a fence orders.
 
 ghost use Rattle.std.specs.Prelude.{◌≡◌, Some};
-ghost use Rattle.operand_names.specs.Names.{set_name};
+ghost use Rattle.names_and_digits.specs.Names.{set_name};
 
 use isa_table::FenceSet;
 use std::fmt;

@@ -6,7 +6,7 @@ use Rattle.std.proofs.lemmas.Str.Ascii.{IsAscii-cons, IsAscii-nil}
 use Rattle.std.proofs.lemmas.Bool.{cases_lt}
 use Rattle.std.proofs.lemmas.Grind.{common_steps}
 use Rattle.std.specs.Fmt.{digits, digits_onto, digit_glyph, padded_integral, char_count, format_spec}
-use Rattle.hex_word.specs.Digits.{hex_onto, word_text, byte_text}
+use Rattle.names_and_digits.specs.Digits.{hex_onto, word_text, byte_text}
 
 -- one more of the same, in front or behind
 more_same : (k x : ℕ) (acc : List ℕ) → replicate k x ++ (x ∷ acc) ≡ x ∷ (replicate k x ++ acc)

@@ -1,7 +1,7 @@
 use Rattle.std.proofs.Common.{◌<◌, ◌^◌, rules}
 use Rattle.std.proofs.Output.{has_written_of_eq}
-use Rattle.hex_word.proofs.WordLemmas.{padded_byte}
-use Rattle.hex_word.proofs.word.ByteDisplay.fmt.Goals as goal
+use Rattle.names_and_digits.proofs.WordLemmas.{padded_byte}
+use Rattle.names_and_digits.proofs.word.ByteDisplay.fmt.Goals as goal
 
 pub returns-clause-writes : goal.returns-clause-writes
 returns-clause-writes g c = λ plain done.

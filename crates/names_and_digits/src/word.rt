@@ -3,7 +3,7 @@
 ghost use Rattle.std.specs.Prelude.{◌≡◌, ◌<◌, Some, false};
 ghost use Rattle.std.specs.Fmt.{digit_glyph};
 ghost use Rattle.std.specs.Str.{IsAscii};
-ghost use Rattle.hex_word.specs.Digits.{word_text, byte_text};
+ghost use Rattle.names_and_digits.specs.Digits.{word_text, byte_text};
 
 use std::{fmt, str};
 
