@@ -1,4 +1,5 @@
 pub mod Within
+pub mod CursorSteps
 pub mod TableLemmas
 pub mod New
 pub mod PlacingLemmas

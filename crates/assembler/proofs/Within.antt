@@ -28,10 +28,6 @@ start_within n data_at zeros_at d z = (omega arith, d, z)
 pub within_count : (i count : ℕ) (c : Cursor) → IsWithin (2 ^ 63 + i) c → i < count → count < 2 ^ 61 → IsWithin (2 ^ 63 + 2 ^ 61) c
 within_count i count c h below small = within_more (2 ^ 63 + i) (2 ^ 63 + 2 ^ 61) c h (omega (arith, below, small))
 
--- as many as there are
-pub within_all : (n count : ℕ) (c : Cursor) → IsWithin (n + count) c → count < 2 ^ 61 → IsWithin (n + 2 ^ 61) c
-within_all n count c h small = within_more (n + count) (n + 2 ^ 61) c h (omega (arith, small))
-
 -- one statement more
 pub within_next : (n i : ℕ) (c : Cursor) → IsWithin (n + i + 1) c → IsWithin (n + (i + 1)) c
 within_next n i c h = within_more (n + i + 1) (n + (i + 1)) c h (omega arith)

@@ -137,7 +137,6 @@ pub fn count_of<A: Allocator>(statements: &[Statement<'_, A>]) -> usize
 }
 
 /// The cursor behind all statements.
-#[tactic(auto, using(crate::proofs::Within::within_count, crate::proofs::Within::within_all, crate::proofs::Within::within_next), unfolding(crate::specs::Cursors::cursor_after))]
 pub fn cursor_after<A: Allocator>(start: Cursor, statements: &[Statement<'_, A>]) -> Cursor
     requires { IsWithin (2 ^ 63) start }
     ensures value { result ≡ cursor_after start statements.now }

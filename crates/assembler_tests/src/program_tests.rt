@@ -490,7 +490,7 @@ addi a1, zero, 1
 addi a7, zero, 93
 ecall
 .bss
-.zero 36
+.zero 132
 ";
 
 const ADOPT: &str = ".globl _start
@@ -535,7 +535,7 @@ addi a1, s3, 0
 addi a7, zero, 93
 ecall
 .bss
-.zero 128
+.zero 512
 ";
 
 const ROUNDS: &str = ".globl _start
@@ -696,8 +696,8 @@ const ROUNDS_WORDS: [u32; 40] = [
 #[test]
 fn the_other_sources_of_the_library_have_their_words(rt: HostRuntime) -> Result<(), Fail> {
     let rows = [
-        (LRSC, LRSC_WORDS.as_slice(), 36),
-        (ADOPT, ADOPT_WORDS.as_slice(), 128),
+        (LRSC, LRSC_WORDS.as_slice(), 132),
+        (ADOPT, ADOPT_WORDS.as_slice(), 512),
         (ROUNDS, ROUNDS_WORDS.as_slice(), 2048),
     ];
     for (source, words, zeros) in rows {

@@ -83,7 +83,6 @@ fn is_bad_table(table: SectionHeader, len: usize) -> bool
 }
 
 /// The symbols that have a name, of so many from a place on.
-#[tactic(auto, using(crate::proofs::SymbolLemmas::symbols_step, crate::proofs::SymbolLemmas::symbols_end))]
 fn read_symbols<A: Allocator + Copy>(
     alloc: A,
     bytes: &[u8],
