@@ -1,8 +1,39 @@
-//! Devices over the readers and writers of std.
-ghost use Rattle.std.specs.Prelude.{◌≡◌, ◌-◌, ◌^◌};
+//! Devices over the readers and writers of std. A call that the system interrupts is made again.
+ghost use Rattle.std.specs.Prelude.{◌≡◌, ◌-◌, ◌^◌, ◌≤◌, length, IfOk};
+ghost use Rattle.std.specs.Io.KnownBytes.{ReadConsumes, WriteAppends};
 
 use crate::device::{DeviceFault, Sink, Source};
-use std::io::{Read, Write};
+use std::io::{ErrorKind, Read, Write};
+
+// Reads once, however often the call is interrupted.
+fn read_again<R: Read>(reader: &mut R, piece: &mut [u8]) -> Result<usize, DeviceFault>
+    ensures bound { IfOk result (λ n. n ≤ length piece.old) }
+    ensures bytes { ReadConsumes (R.remaining reader.old) (R.remaining reader.new) result piece.new }
+{
+    'calls: for _ in 0..u64::MAX {
+        match reader.read(piece) {
+            Ok(count) => return Ok(count),
+            Err(error) if error.kind() == ErrorKind::Interrupted => {}
+            Err(_) => return Err(DeviceFault),
+        }
+    }
+    Err(DeviceFault)
+}
+
+// Writes once, however often the call is interrupted.
+fn write_again<W: Write>(writer: &mut W, piece: &[u8]) -> Result<usize, DeviceFault>
+    ensures bound { IfOk result (λ n. n ≤ length piece.now) }
+    ensures bytes { WriteAppends (W.contents writer.old) (W.contents writer.new) result piece.now }
+{
+    'calls: for _ in 0..u64::MAX {
+        match writer.write(piece) {
+            Ok(count) => return Ok(count),
+            Err(error) if error.kind() == ErrorKind::Interrupted => {}
+            Err(_) => return Err(DeviceFault),
+        }
+    }
+    Err(DeviceFault)
+}
 
 /// A source over a reader.
 #[derive(Drop)]
@@ -38,12 +69,12 @@ impl<R: Read> Source for ReaderSource<R> {
             self.failures += 1;
             return Err(DeviceFault);
         }
-        match self.reader.read(piece) {
+        match read_again(&mut self.reader, piece) {
             Ok(count) => {
                 self.given += count as u64;
                 Ok(count)
             }
-            Err(_) => {
+            Err(DeviceFault) => {
                 self.failures += 1;
                 Err(DeviceFault)
             }
@@ -77,13 +108,13 @@ impl<W: Write> Sink for WriterSink<W> {
     ghost failures = { λ s. s.failures };
 
     fn write(&mut self, piece: &[u8]) -> Result<usize, DeviceFault> {
-        match self.writer.write(piece) {
+        match write_again(&mut self.writer, piece) {
             Ok(0) if !piece.is_empty() => {
                 self.failures += 1;
                 Err(DeviceFault)
             }
             Ok(count) => Ok(count),
-            Err(_) => {
+            Err(DeviceFault) => {
                 self.failures += 1;
                 Err(DeviceFault)
             }
