@@ -1,5 +1,7 @@
 -- What no step changes of its hart: register 0 reads 0, and the next instruction is at a multiple of 4.
-use Rattle.std.proofs.Common.{◌≡◌, ℕ, ◌+◌, ◌%◌, Bool, true, false, not, ◌&&◌, cond, eqb, Option, Some, None, refl, arith, inl, inr}
+use Rattle.std.proofs.Common.{◌≡◌, ◌≢◌, ℕ, ◌+◌, ◌%◌, Bool, true, false, not, ◌&&◌, cond, eqb, List, set, Option, Some, None, refl, sym, arith, inl, inr, ◌∙◌}
+use Rattle.std.specs.List.{slice_index}
+use Rattle.std.proofs.lemmas.List.{get_or-set_other}
 use Rattle.std.proofs.lemmas.Bool.{cases_Bool}
 use Rattle.std.proofs.lemmas.Bool.Decides.{nat_tests}
 use Rattle.memory.specs.Access.{fetched}
@@ -19,6 +21,10 @@ use Rattle.hart_step.specs.declared.hart.HartState.{HartState}
 use Rattle.hart_step.specs.declared.hart.HartState.TheVariants.{Running, Exited, Faulted}
 
 -- ---- register 0
+-- another register was written
+pub zero_written : (words : List ℕ) (i v : ℕ) → i ≢ 0 → slice_index words 0 ≡ 0 → slice_index (set words i v) 0 ≡ 0
+zero_written words i v other z = get_or-set_other words i 0 v 0 (λ e. other (sym e)) ∙ z
+
 put-zero : (x : Registers) (rd v : ℕ) → x 0 ≡ 0 → put x rd v 0 ≡ 0
 put-zero x rd v z = elim (cases_Bool (eqb 0 rd && not (eqb rd 0))) [
   | inl both ↦ absurd (let r : ⊥ = grind (arith, nat_tests) in r)

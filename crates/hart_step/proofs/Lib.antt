@@ -8,3 +8,4 @@ pub mod SignedLemmas
 pub mod AccessLemmas
 pub mod LocalityLemmas
 pub mod LocalLemmas
+pub mod WantingLemmas

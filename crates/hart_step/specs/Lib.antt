@@ -3,6 +3,7 @@ pub mod Values
 pub mod Fault
 pub mod Effect
 pub mod Step
+pub mod Wanting
 pub mod Laws
 pub mod Numbers
 pub mod Examples

@@ -80,7 +80,7 @@ fn store_bytes<S: Store>(
 }
 
 /// Stores the low bytes of a value for a hart, which ends the others' reservations of the word, or gives the fault.
-/// After a fault, or where the host refused memory, nothing has changed.
+/// After a fault, or where the host refused memory, nothing has changed. It is refused only where there is no fault.
 pub fn store_value<S: Store>(
     hart: usize,
     store: &mut S,
@@ -98,6 +98,7 @@ pub fn store_value<S: Store>(
         × (S.memory store.new ≡ S.memory store.old) × (marks reserve.new ≡ marks reserve.old))) }
     ensures memory { OnErr result (IsTrue S.grows
         × (S.memory store.new ≡ S.memory store.old) × (marks reserve.new ≡ marks reserve.old)) }
+    ensures stores { OnErr result (store_fault (S.memory store.old) (store_size op) address ≡ None) }
 {
     match store_bytes(store, op, address, value) {
         Ok(()) => {

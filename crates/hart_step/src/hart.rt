@@ -1,4 +1,5 @@
 //! A hart: its registers, where it stands and whether it runs.
+ghost use Rattle.std.specs.Prelude.{◌≡◌, slice_index};
 
 /// Why a hart was stopped by its instruction. The first cause that stands is given, in this order: fetch, illegal,
 /// misaligned, access, jump.
@@ -35,13 +36,15 @@ pub enum HartState {
     Faulted(Cause),
 }
 
-/// The state of one hart.
+/// The state of one hart. Whoever makes or changes one has to leave 0 in `x0`. Unprivileged ISA, "Programmers' Model for Base
+/// Integer ISA".
 #[derive(Clone, Copy, Debug, PartialEq, Eq)]
 pub struct Hart {
-    /// `x0` to `x31`; `x0` is 0 in every hart that a machine has started.
+    /// `x0` to `x31`; `x0` is 0.
     pub registers: [u32; 32],
     /// The address of the next instruction, or of the one that stopped the hart.
     pub pc: u32,
     /// Whether it runs.
     pub state: HartState,
+    pub ghost x0_is_zero: { slice_index registers 0 ≡ 0 },
 }

@@ -1,8 +1,11 @@
 //! What each step keeps, whatever the instruction.
 ghost use Rattle.std.specs.Prelude.{ℕ, Bool};
+ghost use Rattle.hart_step.specs.Hart.{hart_of};
 ghost use Rattle.hart_step.specs.Effect.{Site};
 ghost use Rattle.hart_step.specs.Step.{stepped};
 ghost use Rattle.hart_step.specs.Laws.{Keeps, IsAligned, HasZero};
+
+use crate::hart::Hart;
 
 /// A step keeps all rights, and each byte that may not be written.
 pub fn step_keeps_unwritable()
@@ -17,4 +20,9 @@ pub fn step_keeps_alignment()
 /// A hart whose `x0` is 0 has 0 there after a step.
 pub fn step_keeps_zero()
     ensures { (h : ℕ) (refuse : Bool) (s : Site) → HasZero s.hart → HasZero (stepped h refuse s).hart }
+{}
+
+/// In every hart that can be made `x0` reads 0.
+pub fn every_hart_has_zero(hart: &Hart)
+    ensures { HasZero (hart_of hart.now) }
 {}

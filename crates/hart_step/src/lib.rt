@@ -7,7 +7,7 @@ pub use examples::{
     reservations_in_examples, shifts_in_examples,
 };
 pub use hart::{Cause, Hart, HartState};
-pub use laws::{step_keeps_alignment, step_keeps_unwritable, step_keeps_zero};
+pub use laws::{every_hart_has_zero, step_keeps_alignment, step_keeps_unwritable, step_keeps_zero};
 pub use local::{execute_local, is_local};
 pub use locality::{access_is_in_one_word, local_instruction_is_its_harts, step_is_local};
 pub use numbers::{arithmetic_shift_is_floor_division, signed_order_is_that_of_integers};

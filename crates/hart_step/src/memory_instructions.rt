@@ -1,5 +1,5 @@
 //! The instructions that touch memory, each with its fault.
-ghost use Rattle.std.specs.Prelude.{◌≡◌, ◌+◌, ◌<◌, ◌%◌, ◌^◌, ◌&&◌, not, ℕ, None, Some, Option, OnOk, OnErr, IsTrue};
+ghost use Rattle.std.specs.Prelude.{◌≡◌, ◌+◌, ◌<◌, ◌%◌, ◌^◌, ◌&&◌, not, true, ℕ, None, Some, Option, OnOk, OnErr, IsTrue};
 ghost use Rattle.memory.specs.Memory.{number_at};
 ghost use Rattle.reservations.specs.Marks.{Marks, with_mark, names, ended};
 ghost use Rattle.reservations.specs.Reserve.{marks};
@@ -8,7 +8,7 @@ ghost use Rattle.hart_step.specs.Values.{wrap, extended, load_size, store_size, 
 ghost use Rattle.hart_step.specs.Fault.{load_fault, store_fault, store_cause_of};
 ghost use Rattle.hart_step.specs.Effect.{site, site_of, goes_on, next, stores, conditional, amo};
 ghost use Rattle.hart_step.specs.Step.{unless};
-ghost use Rattle.reservations.specs.declared.reserve.TheConstants.{MAX_HARTS};
+ghost use Rattle.reservations.specs.Limit.{most_harts};
 
 use crate::access::{load, store_value};
 use crate::hart::{Cause, Hart};
@@ -60,6 +60,7 @@ pub fn execute_store<S: Store>(
         (registers_of hart.old.registers) (next hart.old.pc))) }
     ensures err { OnErr result (IsTrue S.grows × (site_of hart.new (S.memory store.new) reserve.new
         ≡ site_of hart.old (S.memory store.old) reserve.old)) }
+    ensures stores { OnErr result (store_fault (S.memory store.old) (store_size op) address ≡ None) }
 {
     match store_value(id, store, reserve, op, address, value)? {
         Ok(()) => advance(hart),
@@ -77,7 +78,7 @@ pub fn load_reserved<S: Store>(
     rd: Reg,
     address: u32,
 )
-    requires { id < MAX_HARTS }
+    requires { id < most_harts }
     ensures { let m = S.memory store.now in
         site_of hart.new m reserve.new
         ≡ unless (load_fault m 4 address) (site_of hart.old m reserve.old)
@@ -115,7 +116,7 @@ pub fn store_conditional<S: Store>(
     operands: Operands,
     refuse: bool,
 ) -> Result<(), AllocError>
-    requires { id < MAX_HARTS }
+    requires { id < most_harts }
     ensures ok { OnOk result (let x = registers_of hart.old.registers in
         let s = site_of hart.old (S.memory store.old) reserve.old in
         site_of hart.new (S.memory store.new) reserve.new
@@ -124,6 +125,9 @@ pub fn store_conditional<S: Store>(
         hart.old.pc operands.rd (x operands.rs1) (x operands.rs2))) }
     ensures err { OnErr result (IsTrue S.grows × (site_of hart.new (S.memory store.new) reserve.new
         ≡ site_of hart.old (S.memory store.old) reserve.old)) }
+    ensures stores { OnErr result (let x = registers_of hart.old.registers in
+        (store_fault (S.memory store.old) 4 (x operands.rs1) ≡ None)
+        × ((names (marks reserve.old id) (x operands.rs1) && not refuse) ≡ true)) }
 {
     let address = get(hart, operands.rs1);
     if refuse || !reserve.holds(id, address) {
@@ -165,6 +169,8 @@ pub fn execute_amo<S: Store>(
         (λ old. amo_result op old (x operands.rs2)))) }
     ensures err { OnErr result (IsTrue S.grows × (site_of hart.new (S.memory store.new) reserve.new
         ≡ site_of hart.old (S.memory store.old) reserve.old)) }
+    ensures stores { OnErr result
+        (store_fault (S.memory store.old) 4 (registers_of hart.old.registers operands.rs1) ≡ None) }
 {
     let address = get(hart, operands.rs1);
     let old = match store.load32(address) {

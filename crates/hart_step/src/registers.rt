@@ -15,6 +15,7 @@ pub fn get(hart: &Hart, register: Reg) -> u32
 }
 
 /// Gives a register a value; `x0` ignores it.
+#[tactic(auto, using(crate::proofs::HartLemmas::zero_written))]
 fn set(hart: &mut Hart, register: Reg, value: u32)
     ensures registers { registers_of hart.new.registers
         ≡ put (registers_of hart.old.registers) register value }

@@ -7,7 +7,8 @@ ghost use Rattle.hart_step.specs.Hart.{hart_of, registers_of, put};
 ghost use Rattle.hart_step.specs.Fault.{jump_fault, call_fault};
 ghost use Rattle.hart_step.specs.Effect.{site, site_of, goes_on, next, exits};
 ghost use Rattle.hart_step.specs.Step.{unless, executed, stepped};
-ghost use Rattle.reservations.specs.declared.reserve.TheConstants.{MAX_HARTS};
+ghost use Rattle.hart_step.specs.Wanting.{Stores, StepStores};
+ghost use Rattle.reservations.specs.Limit.{most_harts};
 
 use crate::data_access::effective_address;
 use crate::hart::{Cause, Hart, HartState};
@@ -53,13 +54,15 @@ fn execute<S: Store>(
     refuse: bool,
     instr: Instr,
 ) -> Result<(), AllocError>
-    requires { id < MAX_HARTS }
+    requires { id < most_harts }
     ensures ok { OnOk result (
         let s = site_of hart.old (S.memory store.old) reserve.old in
         site_of hart.new (S.memory store.new) reserve.new
         ≡ executed (Some instr) s id refuse (registers_of hart.old.registers) hart.old.pc) }
     ensures err { OnErr result (IsTrue S.grows × (site_of hart.new (S.memory store.new) reserve.new
         ≡ site_of hart.old (S.memory store.old) reserve.old)) }
+    ensures stores { OnErr result (Stores instr (site_of hart.old (S.memory store.old) reserve.old)
+        id refuse (registers_of hart.old.registers)) }
 {
     match instr {
         Instr::Load { op, rd, rs1, imm } => {
@@ -106,7 +109,7 @@ fn execute<S: Store>(
 /// has stopped changes nothing. Where `refuse` holds, a store-conditional does not succeed.
 ///
 /// Only the memory of the host may refuse, and then nothing has changed.
-#[tactic(auto, unfolding(crate::specs::Step::stepped))]
+#[tactic(auto, using(crate::proofs::WantingLemmas::step_stores), unfolding(crate::specs::Step::stepped))]
 pub fn step_hart<S: Store>(
     hart: &mut Hart,
     id: usize,
@@ -114,11 +117,15 @@ pub fn step_hart<S: Store>(
     reserve: &mut Reserve,
     refuse: bool,
 ) -> Result<(), AllocError>
-    requires { id < MAX_HARTS }
+    requires { id < most_harts }
     ensures ok { OnOk result (site_of hart.new (S.memory store.new) reserve.new
         ≡ stepped id refuse (site_of hart.old (S.memory store.old) reserve.old)) }
     ensures err { OnErr result (IsTrue S.grows × (site_of hart.new (S.memory store.new) reserve.new
         ≡ site_of hart.old (S.memory store.old) reserve.old)) }
+    // Memory is wanted only for a store: the hart runs, its word is a store, an AMO, or a store-conditional that succeeds,
+    // and nothing faults.
+    ensures stores { OnErr result
+        (StepStores id refuse (site_of hart.old (S.memory store.old) reserve.old)) }
 {
     if hart.state != HartState::Running {
         return Ok(());

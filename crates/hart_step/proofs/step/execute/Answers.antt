@@ -24,3 +24,13 @@ returns-in-StoreConditional-clause-ok g c = rw (c.in-StoreConditional.is) c.stor
 
 pub returns-in-Amo-clause-ok : goal.returns-in-Amo-clause-ok
 returns-in-Amo-clause-ok g c = rw (c.in-Amo.is) c.execute_amo.ensures.ok
+
+pub returns-in-Store-clause-stores : goal.returns-in-Store-clause-stores
+returns-in-Store-clause-stores g c =
+    rw (c.in-Store.is) (rw (c.effective_address-address-in-Store.ensures) at c.execute_store.ensures.stores)
+
+pub returns-in-StoreConditional-clause-stores : goal.returns-in-StoreConditional-clause-stores
+returns-in-StoreConditional-clause-stores g c = rw (c.in-StoreConditional.is) c.store_conditional.ensures.stores
+
+pub returns-in-Amo-clause-stores : goal.returns-in-Amo-clause-stores
+returns-in-Amo-clause-stores g c = rw (c.in-Amo.is) c.execute_amo.ensures.stores
