@@ -3,7 +3,7 @@ ghost use Rattle.std.specs.Prelude.{◌≡◌, ◌<◌, ◌≤◌, [], length, S
 ghost use Rattle.hart_step.specs.Hart.{hart_of};
 ghost use Rattle.machine.specs.Start.{Refuses};
 ghost use Rattle.machine.specs.State.{state};
-ghost use Rattle.reservations.specs.declared.reserve.TheConstants.{MAX_HARTS as most};
+ghost use Rattle.reservations.specs.Limit.{most_harts as most};
 ghost use Rattle.book.specs.Book.{replayed, world_of, slot_of};
 ghost use Rattle.book.specs.Present.{IsFresh, GivesNone};
 

@@ -1,7 +1,7 @@
 -- What a run of threads leaves, and why it is refused.
 use Rattle.std.specs.Prelude.{◌≡◌, ◌⊎◌, ℕ, ◌<◌, ◌≤◌, Bool, true, false, List, [], length, Option, Some, None}
 use Rattle.std.specs.List.{All}
-use Rattle.reservations.specs.declared.reserve.TheConstants.{MAX_HARTS}
+use Rattle.reservations.specs.Limit.{most_harts}
 use Rattle.loader.specs.Image.{ImageValue}
 use Rattle.hart_step.specs.Hart.{HartValue}
 use Rattle.hart_step.specs.declared.hart.HartState.{HartState}
@@ -44,7 +44,7 @@ pub record IsOutcome (image : ImageValue) (inputs : List ℕ) (budget : ℕ) (pl
 -- why a run with n inputs is refused; threads and memory are asked for only where there can be a hart for each
 abbrev pub RunRefuses : ℕ → RunFault → Type 0
 RunRefuses n fault.NoHarts = n ≡ 0
-RunRefuses n fault.TooManyHarts = MAX_HARTS < n
-RunRefuses n fault.StartRefused = (0 < n) × (n ≤ MAX_HARTS)
-RunRefuses n fault.Stale = (0 < n) × (n ≤ MAX_HARTS)
-RunRefuses n fault.Memory = (0 < n) × (n ≤ MAX_HARTS)
+RunRefuses n fault.TooManyHarts = most_harts < n
+RunRefuses n fault.StartRefused = (0 < n) × (n ≤ most_harts)
+RunRefuses n fault.Stale = (0 < n) × (n ≤ most_harts)
+RunRefuses n fault.Memory = (0 < n) × (n ≤ most_harts)

@@ -1,6 +1,6 @@
 //! Harts that run on threads of their own.
 ghost use Rattle.std.specs.Prelude.{◌≡◌, ◌+◌, ◌<◌, ◌≤◌, [], IfOk, IfErr, length, vec_len};
-ghost use Rattle.reservations.specs.declared.reserve.TheConstants.{MAX_HARTS as most};
+ghost use Rattle.reservations.specs.Limit.{most_harts as most};
 ghost use Rattle.hart_threads.specs.Outcome.{IsOutcome, RunRefuses};
 
 use crate::fault::{CommitFault, RunFault};

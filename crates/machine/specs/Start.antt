@@ -2,7 +2,7 @@
 use Rattle.std.specs.Prelude.{◌≡◌, ℕ, ◌+◌, ◌<◌, ◌≤◌, ◌==◌, List, [], ◌∷◌, None, length, if◌then◌else◌}
 use Rattle.loader.specs.Image.{ImageValue}
 use Rattle.memory.specs.Image.{image_memory}
-use Rattle.reservations.specs.declared.reserve.TheConstants.{MAX_HARTS}
+use Rattle.reservations.specs.Limit.{most_harts}
 use Rattle.hart_step.specs.Hart.{HartValue, Registers}
 use Rattle.hart_step.specs.declared.hart.HartState.TheVariants.{Running}
 use Rattle.machine.specs.World.{World}
@@ -33,10 +33,10 @@ started image inputs = record {
 
 -- there can be a hart for each input
 abbrev pub IsStartable : List ℕ → Type 0
-IsStartable inputs = (0 < length inputs) × (length inputs ≤ MAX_HARTS)
+IsStartable inputs = (0 < length inputs) × (length inputs ≤ most_harts)
 
 -- why no machine starts with these inputs: want of memory is told only where there can be a hart for each
 abbrev pub Refuses : List ℕ → StartFault → Type 0
 Refuses inputs NoHarts = length inputs ≡ 0
-Refuses inputs TooManyHarts = MAX_HARTS < length inputs
+Refuses inputs TooManyHarts = most_harts < length inputs
 Refuses inputs Memory = IsStartable inputs

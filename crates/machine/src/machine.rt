@@ -1,6 +1,6 @@
 //! What a machine consists of.
 ghost use Rattle.std.specs.Prelude.{◌≤◌, vec_len};
-ghost use Rattle.reservations.specs.declared.reserve.TheConstants.{MAX_HARTS};
+ghost use Rattle.reservations.specs.Limit.{most_harts};
 
 use hart_step::Hart;
 use reservations::Reserve;
@@ -13,5 +13,5 @@ pub struct Machine<S, A: Allocator> {
     pub(crate) harts: Vec<Hart, A>,
     pub(crate) store: S,
     pub(crate) reserve: Reserve,
-    ghost few: { vec_len harts ≤ MAX_HARTS },
+    ghost few: { vec_len harts ≤ most_harts },
 }

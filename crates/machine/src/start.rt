@@ -3,7 +3,7 @@ ghost use Rattle.std.specs.Prelude.{◌≡◌, ◌≢◌, ℕ, ◌<◌, ◌≤�
 ghost use Rattle.hart_step.specs.Hart.{hart_of};
 ghost use Rattle.machine.specs.Machine.{world};
 ghost use Rattle.machine.specs.Start.{first_hart, first_harts, started, IsStartable, Refuses};
-ghost use Rattle.reservations.specs.declared.reserve.TheConstants.{MAX_HARTS as most};
+ghost use Rattle.reservations.specs.Limit.{most_harts as most};
 
 use crate::machine::Machine;
 use hart_step::{Hart, HartState};

@@ -87,3 +87,39 @@ fn each_of_eight_harts_ends_alone_at_its_87th_step(rt: HostRuntime) {
         }
     }
 }
+
+// As many harts as there may be.
+#[test]
+fn hart_of_thirty_two_ends_alone_at_its_279th_step(rt: HostRuntime) {
+    let inputs = [
+        100, 101, 102, 103, 104, 105, 106, 107, 108, 109, 110, 111, 112, 113, 114, 115, 116, 117,
+        118, 119, 120, 121, 122, 123, 124, 125, 126, 127, 128, 129, 130, 131,
+    ];
+    let Ok(image) = adopt_image(rt.alloc()) else {
+        return assert!(rt; false, "no memory for the image");
+    };
+    for number in [0u32, 5, 31] {
+        let Some(input) = inputs.get(number as usize) else {
+            return assert!(rt; false, "hart {number} has an input");
+        };
+        let choices = [Choice {
+            hart: number,
+            refuse: false,
+        }; 279];
+        let (short, _) = choices.split_at(278);
+        for (schedule, state) in [
+            (short, HartState::Running),
+            (choices.as_slice(), HartState::Exited(*input)),
+        ] {
+            let Ok(harts) = ends(rt.alloc(), &image, &inputs, schedule) else {
+                return assert!(rt; false, "no memory for the run");
+            };
+            let Some(hart) = harts.get(number as usize) else {
+                return assert!(rt; false, "hart {number} is there");
+            };
+            assert_eq!(rt; hart.state, state, "hart {number}");
+            assert_eq!(rt; hart.registers[10], *input, "hart {number}");
+            assert_eq!(rt; hart.registers[11], 1, "hart {number}");
+        }
+    }
+}

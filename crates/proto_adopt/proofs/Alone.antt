@@ -8,7 +8,6 @@ use Rattle.hart_step.specs.Hart.{HartValue, Registers, put}
 use Rattle.hart_step.specs.Values.{wrap}
 use Rattle.hart_step.specs.declared.hart.HartState.TheVariants.{Exited}
 use Rattle.machine.specs.World.{World}
-use Rattle.reservations.specs.declared.reserve.TheConstants.{MAX_HARTS}
 use Rattle.protocol_library.specs.declared.kind.Kind.TheVariants.{AdoptCommit}
 use Rattle.protocol_library.specs.Images.{adopt_words, adopt_image, image_of, IsSame}
 use Rattle.protocol_library.specs.Rules.{KeepsAdoptCommit, EndsAfter, EveryRun, is_exited, is_faulted}
@@ -165,8 +164,8 @@ pub ends_in : (slots : ℕ) (m : ImageValue) → slots ≤ 32 → IsSame m (adop
 ends_in slots m few same = same_runs (λ n. n ≤ slots) (EndsAfter (λ n r. 19 + 14 * n)) m (adopt_image slots) same (always_ends slots few)
 
 -- ---- of the image that is made
-pub made : (m : ImageValue) → m ≡ image_of AdoptCommit → EveryRun (λ n. n ≤ MAX_HARTS) m KeepsAdoptCommit × EveryRun (λ n. n ≤ MAX_HARTS) m (EndsAfter (λ n r. 19 + 14 * n))
+pub made : (m : ImageValue) → m ≡ image_of AdoptCommit → EveryRun (λ n. n ≤ 32) m KeepsAdoptCommit × EveryRun (λ n. n ≤ 32) m (EndsAfter (λ n r. 19 + 14 * n))
 made m same = (
-  equal_runs (λ n. n ≤ MAX_HARTS) KeepsAdoptCommit m (adopt_image MAX_HARTS) same (always_agrees MAX_HARTS (omega arith)),
-  equal_runs (λ n. n ≤ MAX_HARTS) (EndsAfter (λ n r. 19 + 14 * n)) m (adopt_image MAX_HARTS) same (always_ends MAX_HARTS (omega arith)),
+  equal_runs (λ n. n ≤ 32) KeepsAdoptCommit m (adopt_image 32) same (always_agrees 32 (omega arith)),
+  equal_runs (λ n. n ≤ 32) (EndsAfter (λ n r. 19 + 14 * n)) m (adopt_image 32) same (always_ends 32 (omega arith)),
 )

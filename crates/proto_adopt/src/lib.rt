@@ -3,7 +3,6 @@
 
 ghost use Rattle.std.specs.Prelude.{◌≡◌, ◌+◌, ◌*◌, ◌≤◌, ℕ, IfOk};
 ghost use Rattle.loader.specs.Image.{ImageValue};
-ghost use Rattle.reservations.specs.declared.reserve.TheConstants.{MAX_HARTS};
 ghost use Rattle.protocol_library.specs.Images.{adopt_image as image_for, image_of, IsSame};
 ghost use Rattle.protocol_library.specs.Rules.{EveryRun, EndsAfter, KeepsAdoptCommit};
 ghost use Rattle.protocol_library.specs.declared.kind.Kind.TheVariants.{AdoptCommit};
@@ -21,12 +20,12 @@ pub fn adopt_in_every_run()
         → EveryRun (λ n. n ≤ slots) m (EndsAfter (λ n r. 19 + 14 * n)) }
 {}
 
-/// The image of AdoptCommit, with a record for each hart that a machine can have. In each of its runs the harts keep the
-/// rule of adopt-commit, and each of n has exited when it was chosen 19 + 14n times.
+/// The image of AdoptCommit, with a record for each hart that a machine can have, which are 32. In each run of 1 to 32 harts they
+/// keep the rule of adopt-commit, and each of n has exited when it was chosen 19 + 14n times.
 pub fn adopt_image<A: Allocator + Copy>(alloc: A) -> Result<Image<A>, AllocError>
     ensures image { IfOk result (λ m. m ≡ image_of AdoptCommit) }
-    ensures agreed { IfOk result (λ m. EveryRun (λ n. n ≤ MAX_HARTS) m KeepsAdoptCommit) }
-    ensures ended { IfOk result (λ m. EveryRun (λ n. n ≤ MAX_HARTS) m (EndsAfter (λ n r. 19 + 14 * n))) }
+    ensures agreed { IfOk result (λ m. EveryRun (λ n. n ≤ 32) m KeepsAdoptCommit) }
+    ensures ended { IfOk result (λ m. EveryRun (λ n. n ≤ 32) m (EndsAfter (λ n r. 19 + 14 * n))) }
 {
     let image = make_image(alloc, Kind::AdoptCommit)?;
     Ok(image)

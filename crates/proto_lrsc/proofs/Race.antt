@@ -15,7 +15,6 @@ use Rattle.hart_step.specs.declared.hart.HartState.TheVariants.{Exited}
 use Rattle.machine.specs.World.{World, step, run}
 use Rattle.machine.specs.Start.{started, first_harts, first_registers}
 use Rattle.machine.specs.declared.choice.Choice.{Choice}
-use Rattle.reservations.specs.declared.reserve.TheConstants.{MAX_HARTS}
 use Rattle.protocol_library.specs.declared.kind.Kind.TheVariants.{LrSc}
 use Rattle.protocol_library.specs.Images.{lrsc_words, lrsc_image, image_of, IsSame}
 use Rattle.protocol_library.specs.Counts.{chosen}
@@ -577,8 +576,8 @@ pub ends_in : (slots : ℕ) (m : ImageValue) → slots ≤ 32 → IsSame m (lrsc
 ends_in slots m few same = same_runs (λ n. n ≤ slots) (EndsAfter (λ n r. 17 + 4 * r)) m (lrsc_image slots) same (always_ends slots few)
 
 -- ---- of the image that is made
-pub made : (m : ImageValue) → m ≡ image_of LrSc → EveryRun (λ n. n ≤ MAX_HARTS) m KeepsConsensus × EveryRun (λ n. n ≤ MAX_HARTS) m (EndsAfter (λ n r. 17 + 4 * r))
+pub made : (m : ImageValue) → m ≡ image_of LrSc → EveryRun (λ n. n ≤ 32) m KeepsConsensus × EveryRun (λ n. n ≤ 32) m (EndsAfter (λ n r. 17 + 4 * r))
 made m same = (
-  equal_runs (λ n. n ≤ MAX_HARTS) KeepsConsensus m (lrsc_image MAX_HARTS) same (always_agrees MAX_HARTS (omega arith)),
-  equal_runs (λ n. n ≤ MAX_HARTS) (EndsAfter (λ n r. 17 + 4 * r)) m (lrsc_image MAX_HARTS) same (always_ends MAX_HARTS (omega arith)),
+  equal_runs (λ n. n ≤ 32) KeepsConsensus m (lrsc_image 32) same (always_agrees 32 (omega arith)),
+  equal_runs (λ n. n ≤ 32) (EndsAfter (λ n r. 17 + 4 * r)) m (lrsc_image 32) same (always_ends 32 (omega arith)),
 )

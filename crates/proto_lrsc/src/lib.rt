@@ -3,7 +3,6 @@
 
 ghost use Rattle.std.specs.Prelude.{◌≡◌, ◌+◌, ◌*◌, ◌≤◌, ℕ, IfOk};
 ghost use Rattle.loader.specs.Image.{ImageValue};
-ghost use Rattle.reservations.specs.declared.reserve.TheConstants.{MAX_HARTS};
 ghost use Rattle.protocol_library.specs.Images.{lrsc_image as image_for, image_of, IsSame};
 ghost use Rattle.protocol_library.specs.Rules.{EveryRun, EndsAfter, KeepsConsensus};
 ghost use Rattle.protocol_library.specs.declared.kind.Kind.TheVariants.{LrSc};
@@ -22,12 +21,12 @@ pub fn lrsc_in_every_run()
         → EveryRun (λ n. n ≤ slots) m (EndsAfter (λ n r. 17 + 4 * r)) }
 {}
 
-/// The image of LrSc, with a slot for each hart that a machine can have. In each of its runs the harts agree, and each has
-/// exited when it was chosen 17 times, and four times more for each of its own choices that refuse.
+/// The image of LrSc, with a slot for each hart that a machine can have, which are 32. In each run of 1 to 32 harts they agree, and
+/// each has exited when it was chosen 17 times, and four times more for each of its own choices that refuse.
 pub fn lrsc_image<A: Allocator + Copy>(alloc: A) -> Result<Image<A>, AllocError>
     ensures image { IfOk result (λ m. m ≡ image_of LrSc) }
-    ensures agreed { IfOk result (λ m. EveryRun (λ n. n ≤ MAX_HARTS) m KeepsConsensus) }
-    ensures ended { IfOk result (λ m. EveryRun (λ n. n ≤ MAX_HARTS) m (EndsAfter (λ n r. 17 + 4 * r))) }
+    ensures agreed { IfOk result (λ m. EveryRun (λ n. n ≤ 32) m KeepsConsensus) }
+    ensures ended { IfOk result (λ m. EveryRun (λ n. n ≤ 32) m (EndsAfter (λ n r. 17 + 4 * r))) }
 {
     let image = make_image(alloc, Kind::LrSc)?;
     Ok(image)

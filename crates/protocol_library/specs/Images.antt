@@ -3,7 +3,7 @@ use Rattle.std.specs.Prelude.{◌≡◌, ℕ, ◌+◌, ◌-◌, ◌*◌, ◌/◌
 use Rattle.loader.specs.Image.{ImageValue}
 use Rattle.loader.specs.Segment.{SegmentValue}
 use Rattle.memory.specs.Image.{segment_at}
-use Rattle.reservations.specs.declared.reserve.TheConstants.{MAX_HARTS}
+use Rattle.reservations.specs.Limit.{most_harts}
 use Rattle.protocol_library.specs.declared.kind.Kind.{Kind}
 use Rattle.protocol_library.specs.declared.kind.Kind.TheVariants.{Swap, Add, LrSc, AdoptCommit}
 
@@ -142,8 +142,8 @@ words_of AdoptCommit = adopt_words
 abbrev pub zeros_of : Kind → ℕ
 zeros_of Swap = 12
 zeros_of Add = 12
-zeros_of LrSc = 4 + 4 * MAX_HARTS
-zeros_of AdoptCommit = 16 * MAX_HARTS
+zeros_of LrSc = 4 + 4 * most_harts
+zeros_of AdoptCommit = 16 * most_harts
 
 -- the image of an object
 abbrev pub image_of : Kind → ImageValue

@@ -72,7 +72,7 @@ addi a1, zero, 1
 addi a7, zero, 93
 ecall
 .bss
-.zero 36
+.zero 132
 ";
 
 /// Adopt-commit by loads and stores: a record of 16 bytes a hart, with its value, whether it is present, its mark (1 adopt,
@@ -119,7 +119,7 @@ addi a1, s3, 0
 addi a7, zero, 93
 ecall
 .bss
-.zero 128
+.zero 512
 ";
 
 /// The text of an object, one statement a line.

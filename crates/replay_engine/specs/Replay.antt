@@ -3,7 +3,7 @@ use Rattle.std.specs.Prelude.{◌≡◌, ℕ, ◌==◌, nat_lt, List, length, ta
 use Rattle.std.specs.Io.KnownBytes.{Appends}
 use Rattle.std.specs.declared.result.Result.{Result}
 use Rattle.std.specs.declared.result.Result.TheVariants.{Ok, Err}
-use Rattle.reservations.specs.declared.reserve.TheConstants.{MAX_HARTS}
+use Rattle.reservations.specs.Limit.{most_harts}
 use Rattle.loader.specs.Image.{ImageValue}
 use Rattle.protocol_library.specs.declared.kind.Kind.{Kind}
 use Rattle.histories.specs.declared.entry.Entry.{Entry}
@@ -46,7 +46,7 @@ with_history image (Err why) = Err (fault_of_history why)
 abbrev pub after_program : ℕ → List ℕ → Result ImageValue RunFault → Opened
 after_program harts text (Ok image) =
     if harts == 0 then Err (engine.Run run.NoHarts)
-    else (if nat_lt MAX_HARTS harts then Err (engine.Run run.TooManyHarts)
+    else (if nat_lt most_harts harts then Err (engine.Run run.TooManyHarts)
     else with_history image (entries_of harts text))
 after_program harts text (Err why) = Err (engine.Run why)
 

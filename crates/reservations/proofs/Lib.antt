@@ -1,1 +1,2 @@
 pub mod HoldersLemmas
+pub mod NobodyLemmas

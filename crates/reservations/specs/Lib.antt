@@ -1,3 +1,4 @@
+pub mod Limit
 pub mod Marks
 pub mod Holders
 pub mod Reserve

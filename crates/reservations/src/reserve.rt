@@ -6,7 +6,7 @@ ghost use Rattle.reservations.specs.Holders.{Covers};
 use crate::holders::Holders;
 
 /// The most harts that a machine may have.
-pub const MAX_HARTS: usize = 8;
+pub const MAX_HARTS: usize = 32;
 
 /// The word that each hart has reserved, if it has one, by its address. It takes no memory of the host.
 ///
@@ -21,6 +21,7 @@ pub struct Reserve {
 impl Reserve {
     ghost use Rattle.std.specs.Prelude.{◌≡◌, ℕ, ◌<◌, None};
     ghost use Rattle.reservations.specs.Marks.{with_mark, without_mark, names, ended, word_of};
+    ghost use Rattle.reservations.specs.Limit.{most_harts};
     ghost use Rattle.reservations.specs.Reserve.{marks};
 
     /// No hart has a reservation.
@@ -35,7 +36,7 @@ impl Reserve {
 
     /// Reserves a word for a hart, in place of an earlier one.
     pub fn set(&mut self, hart: usize, word: u32)
-        requires { hart < MAX_HARTS }
+        requires { hart < most_harts }
         ensures { marks self.new ≡ with_mark (marks self.old) hart word }
     {
         self.holders = self.holders.with(hart);
@@ -44,7 +45,7 @@ impl Reserve {
 
     /// Ends a hart's reservation.
     pub fn clear(&mut self, hart: usize)
-        requires { hart < MAX_HARTS }
+        requires { hart < most_harts }
         ensures { marks self.new ≡ without_mark (marks self.old) hart }
     {
         self.words[hart] = None;
@@ -53,7 +54,7 @@ impl Reserve {
 
     /// Whether a hart's reservation names this word.
     pub fn holds(&self, hart: usize, word: u32) -> bool
-        requires { hart < MAX_HARTS }
+        requires { hart < most_harts }
         ensures { result ≡ names (marks self.now hart) word }
     {
         match self.words[hart] {

@@ -76,37 +76,76 @@ const OBJECTS: [(Kind, &[u32]); 5] = [
 // How many runs each object has.
 const RUNS: u32 = 1000;
 
-// Pairs that follow from a number, of harts that may not be there and of low numbers.
-fn pairs_of(number: u32) -> [(u32, u32); 4] {
+// An input for each of as many harts as there may be.
+const ALL_HARTS: [u32; 32] = [
+    1, 2, 3, 4, 5, 6, 7, 8, 9, 10, 11, 12, 13, 14, 15, 16, 17, 18, 19, 20, 21, 22, 23, 24, 25, 26,
+    27, 28, 29, 30, 31, 32,
+];
+
+// How many runs all harts have, each with a thread a hart.
+const RUNS_OF_ALL: u32 = 50;
+
+// Pairs that follow from a number, of harts below a bound, which may not be there, and of low numbers.
+fn pairs_of(number: u32, bound: u32) -> [(u32, u32); 4] {
     let mut pairs = [(0, 0); 4];
     let mut drawn = number;
     for pair in &mut pairs {
         drawn = drawn.wrapping_mul(1_664_525).wrapping_add(1_013_904_223);
-        *pair = ((drawn >> 28) % 9, (drawn >> 20) % 32);
+        let hart = (drawn >> 26).checked_rem(bound).unwrap_or(0);
+        *pair = (hart, (drawn >> 20) % 32);
     }
     pairs
+}
+
+// What a run that was done again can be found to lack.
+#[derive(Clone, Copy, Debug, PartialEq, Eq, Drop)]
+enum Lack {
+    Run,
+    Memory,
+    SameEnds,
+    End,
+    Rule(Verdict),
+}
+
+// Runs an object, does its history again and judges it.
+fn kept<A: Allocator + Copy + Send + Sync, R: Threads + Wait + Sync>(
+    rt: &R,
+    alloc: A,
+    kind: Kind,
+    inputs: &[u32],
+    pairs: &[(u32, u32)],
+) -> Result<(), Lack> {
+    let book = run(rt, alloc, kind, inputs, pairs, &OpenGate).ok_or(Lack::Run)?;
+    let choices = choices_of(alloc, book.history()).ok_or(Lack::Memory)?;
+    if !does_again(alloc, &book, &choices) {
+        return Err(Lack::SameEnds);
+    }
+    let ends = book.machine().ends();
+    if ends.iter().any(|hart| hart.state == HartState::Running) {
+        return Err(Lack::End);
+    }
+    match judge(kind, inputs, &choices, ends) {
+        Verdict::Kept => Ok(()),
+        verdict => Err(Lack::Rule(verdict)),
+    }
 }
 
 #[test]
 fn objects_keep_their_rules(rt: HostRuntime) {
     for (kind, inputs) in OBJECTS {
         for number in 0..RUNS {
-            let Some(book) = run(&rt, rt.alloc(), kind, inputs, &pairs_of(number), &OpenGate) else {
-                return assert!(rt; false, "{kind:?}: no run {number}");
-            };
-            let Some(choices) = choices_of(rt.alloc(), book.history()) else {
-                return assert!(rt; false, "{kind:?}: no memory for run {number}");
-            };
-            assert!(rt;
-                does_again(rt.alloc(), &book, &choices),
-                "{kind:?}, run {number}"
-            );
-            let ends = book.machine().ends();
-            let ended = ends.iter().all(|hart| hart.state != HartState::Running);
-            assert!(rt; ended, "{kind:?}, run {number}");
-            let verdict = judge(kind, inputs, &choices, ends);
-            assert_eq!(rt; verdict, Verdict::Kept, "{kind:?}, run {number}");
+            let found = kept(&rt, rt.alloc(), kind, inputs, &pairs_of(number, 9));
+            assert_eq!(rt; found, Ok(()), "{kind:?}, run {number}");
         }
+    }
+}
+
+#[test]
+fn thirty_two_harts_agree(rt: HostRuntime) {
+    for number in 0..RUNS_OF_ALL {
+        let pairs = pairs_of(number, 33);
+        let found = kept(&rt, rt.alloc(), Kind::LrSc, &ALL_HARTS, &pairs);
+        assert_eq!(rt; found, Ok(()), "run {number}");
     }
 }
 

@@ -160,7 +160,7 @@ fn no_budget_leaves_the_opening_state(rt: HostRuntime) {
 // Inputs of which there are too few or too many.
 const REFUSED: [(&[u32], RunFault); 2] = [
     (&[], RunFault::NoHarts),
-    (&[1, 2, 3, 4, 5, 6, 7, 8, 9], RunFault::TooManyHarts),
+    (&[1; 33], RunFault::TooManyHarts),
 ];
 
 #[test]

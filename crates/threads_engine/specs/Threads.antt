@@ -1,6 +1,6 @@
 -- What a run of threads answers: a history, and what a replay of it prints.
 use Rattle.std.specs.Prelude.{◌≡◌, ℕ, ◌<◌, List, Option, Ok, Err, string_bytes}
-use Rattle.reservations.specs.declared.reserve.TheConstants.{MAX_HARTS}
+use Rattle.reservations.specs.Limit.{most_harts}
 use Rattle.loader.specs.Image.{ImageValue}
 use Rattle.protocol_library.specs.declared.kind.Kind.{Kind}
 use Rattle.histories.specs.declared.entry.Entry.{Entry}
@@ -52,7 +52,7 @@ IsRefusal engine.Stale = ⊥
 -- when so many inputs and a program are refused so: the program is looked at first
 abbrev pub Refuses : ℕ → List ℕ → ThreadsEngineFault → Type 0
 Refuses harts program (engine.Run run.NoHarts) = harts ≡ 0
-Refuses harts program (engine.Run run.TooManyHarts) = MAX_HARTS < harts
+Refuses harts program (engine.Run run.TooManyHarts) = most_harts < harts
 Refuses harts program (engine.Run why) = program_of form.Elf program ≡ Err why
 Refuses harts program engine.StartRefused = ⊥
 Refuses harts program engine.Stale = ⊥
