@@ -213,3 +213,84 @@ fn a_store_that_is_refused_memory_changes_nothing(rt: HostRuntime) -> Result<(),
     assert!(rt; finished);
     Ok(())
 }
+
+/// A word in the first and the last page of each chunk of 130 pages from 0x100000 on, and what is stored there.
+const WORDS_BY_CHUNK: [(u32, u32); 6] = [
+    (0x0010_0000, 1),
+    (0x0013_f000, 2),
+    (0x0014_0000, 3),
+    (0x0017_f000, 4),
+    (0x0018_0000, 5),
+    (0x0018_1ffc, 6),
+];
+
+#[test]
+fn pages_of_each_chunk_are_apart(rt: HostRuntime) -> Result<(), ElfFault> {
+    let mut store = store_of(rt.alloc(), &[(0x0010_0000, 0x8_2000, 6, &[])])?;
+    let Ok(first) = store.copy(rt.alloc()) else {
+        return Err(ElfFault::Memory);
+    };
+    for (address, value) in WORDS_BY_CHUNK {
+        assert_eq!(rt; store.store32(address, value), Ok(()), "{address}");
+    }
+    let Ok(mut copy) = store.copy(rt.alloc()) else {
+        return Err(ElfFault::Memory);
+    };
+    for (address, value) in WORDS_BY_CHUNK {
+        assert_eq!(rt; store.load32(address), Ok(value), "{address}");
+        assert_eq!(rt; copy.store32(address, 7), Ok(()), "{address}");
+        assert_eq!(rt; copy.load32(address), Ok(7), "{address}");
+        assert_eq!(rt; store.load32(address), Ok(value), "{address}");
+        assert_eq!(rt; first.load32(address), Ok(0), "{address}");
+    }
+    assert_eq!(rt; store.load32(0x0018_2000), Err(AccessFault::Access));
+    Ok(())
+}
+
+#[test]
+fn a_copy_asks_for_memory_once(rt: HostRuntime) -> Result<(), ElfFault> {
+    let image = image_of(rt.alloc(), &[(0x0010_0000, 0x4_1000, 6, &[])])?;
+    let mut made = 0u64;
+    for passed in 0..400u64 {
+        let heap = Refusing::new(rt.alloc(), passed);
+        if PageStore::from_image(&heap, &image).is_ok() {
+            made = passed;
+            break;
+        }
+    }
+    assert_ne!(rt; made, 0);
+    let heap = Refusing::new(rt.alloc(), made.saturating_add(1));
+    let Ok(store) = PageStore::from_image(&heap, &image) else {
+        return Err(ElfFault::Memory);
+    };
+    assert!(rt; store.copy(&heap).is_ok());
+    assert!(rt; !heap.refused());
+    // The one request more is refused.
+    assert!(rt; store.copy(&heap).is_err());
+    assert!(rt; heap.refused());
+    Ok(())
+}
+
+/// The bytes of a segment that reaches over four pages, and is 0 behind them.
+static SEVENS: [u8; 4100] = [7; 4100];
+
+#[test]
+fn a_segment_reaches_over_pages(rt: HostRuntime) -> Result<(), ElfFault> {
+    let store = store_of(rt.alloc(), &[(0x0000_0ffe, 0x2004, 6, SEVENS.as_slice())])?;
+    for (address, byte) in [
+        (0x0000_0ffd, Err(AccessFault::Access)),
+        (0x0000_0ffe, Ok(7)),
+        (0x0000_0fff, Ok(7)),
+        (0x0000_1000, Ok(7)),
+        (0x0000_1fff, Ok(7)),
+        (0x0000_2001, Ok(7)),
+        (0x0000_2002, Ok(0)),
+        (0x0000_3001, Ok(0)),
+        (0x0000_3002, Err(AccessFault::Access)),
+    ] {
+        assert_eq!(rt; store.load8(address), byte, "{address}");
+    }
+    assert_eq!(rt; store.load32(0x0000_2000), Ok(0x0000_0707));
+    assert_eq!(rt; store.load32(0x0000_3000), Err(AccessFault::Access));
+    Ok(())
+}

@@ -1,11 +1,11 @@
 -- the memory of segments, one after the other, and the pages that they want
-use Rattle.std.proofs.Common.{◌≡◌, ℕ, min, max, ◌+◌, ◌-◌, ◌*◌, ◌/◌, ◌^◌, ◌<◌, ◌≤◌, Bool, true, false, ◌&&◌, eqb, leb, ltb, List, [], ◌∷◌, take, drop, length, get_or, arith, Option, ◌∙◌, sym, ap, ap₂, refl, inl, inr}
-use Rattle.std.proofs.lemmas.Bool.{cases_Bool, cases_eq}
+use Rattle.std.proofs.Common.{◌≡◌, ℕ, min, max, ◌+◌, ◌-◌, ◌*◌, ◌/◌, ◌^◌, ◌<◌, ◌≤◌, Bool, true, false, ◌&&◌, leb, ltb, List, [], ◌∷◌, take, drop, length, get_or, arith, rules, Option, ◌∙◌, sym, ap, ap₂, refl, inl, inr}
+use Rattle.std.proofs.lemmas.Bool.{cases_Bool}
 use Rattle.std.proofs.lemmas.Bool.Decides.{nat_tests}
 use Rattle.std.proofs.lemmas.List.{drop_more, get_or_default}
 use Rattle.std.proofs.lemmas.List.Elements.{All-weaker, All-more}
 use Rattle.std.proofs.Math.Path.{fun_ext}
-use Rattle.std.specs.List.{slice_index, All}
+use Rattle.std.specs.List.{All}
 use Rattle.std.specs.Int.{div_ceil}
 use Rattle.loader.specs.Segment.{SegmentValue}
 use Rattle.loader.specs.Image.{IsSound, span_of}
@@ -13,7 +13,8 @@ use Rattle.loader.specs.Spans.{has_address}
 use Rattle.loader.proofs.Sound.{extent_from_sound}
 use Rattle.memory.specs.Memory.{Memory}
 use Rattle.memory.specs.Image.{segments_memory}
-use Rattle.pages.specs.Building.{unmapped, over, with_byte, IsCovered}
+use Rattle.pages.specs.Building.{unmapped, over, IsCovered}
+use Rattle.pages.specs.Runs.{in_run, with_run}
 
 pub same_memory : (m n : Memory) → ((x : ℕ) → m.rights x ≡ n.rights x) → ((x : ℕ) → m.bytes x ≡ n.bytes x) → m ≡ n
 same_memory m n e f = ap₂ (λ (r : ℕ → Option ℕ) (b : ℕ → ℕ). record { rights = r; bytes = b }) (fun_ext e) (fun_ext f)
@@ -38,7 +39,7 @@ segments-more ss i s m n inside is was new =
     let read : get_or ss (length ss - (i + 1)) s ≡ s = sym (is ∙ ap (λ j. get_or ss j s) one) in
     new ∙ ap (over s) was ∙ sym (ap segments_memory (drop_more ss (length ss - (i + 1)) s (omega arith)) ∙ rw (read, next) (segments-cons s (drop (length ss - i) ss)))
 
--- one byte more of a segment
+-- the first bytes of a segment
 abbrev pub beginning : SegmentValue → ℕ → SegmentValue
 beginning s i = record { base = s.base; size = i; rights = s.rights; bytes = s.bytes }
 
@@ -50,21 +51,29 @@ over_none s m = same_memory _ _
     (λ x. (let off : has_in s 0 x ≡ false = grind (arith, nat_tests) in rw off refl))
     (λ x. (let off : has_in s 0 x ≡ false = grind (arith, nat_tests) in rw off refl))
 
-pub over_more : (s : SegmentValue) (m n : Memory) (i b : ℕ) → n ≡ over (beginning s i) m → b ≡ slice_index s.bytes i → with_byte n (s.base + i) s.rights b ≡ over (beginning s (i + 1)) m
-over_more s m n i b was is = rw was (same_memory _ _
-    (λ x. elim (cases_eq x (s.base + i)) [
-      | inl e ↦ (let t : eqb x (s.base + i) ≡ true = grind (arith, nat_tests) in let h : has_in s (i + 1) x ≡ true = grind (arith, nat_tests) in rw (t, h) refl)
-      | inr ne ↦ (let t : eqb x (s.base + i) ≡ false = grind (arith, nat_tests) in let h : has_in s (i + 1) x ≡ has_in s i x = grind (arith, nat_tests) in rw (t, h) refl)
+-- one run more of it
+run_over : (s : SegmentValue) (m : Memory) (i c : ℕ) → with_run (over (beginning s i) m) (s.base + i) c s.rights s.bytes i ≡ over (beginning s (i + c)) m
+run_over s m i c = same_memory _ _
+    (λ x. elim (cases_Bool (in_run (s.base + i) c x)) [
+      | inl here ↦ (let h : has_in s (i + c) x ≡ true = grind (arith, nat_tests) in rw (here, h) refl)
+      | inr off ↦ (let h : has_in s (i + c) x ≡ has_in s i x = grind (arith, nat_tests) in rw (off, h) refl)
     ])
-    (λ x. elim (cases_eq x (s.base + i)) [
-      | inl e ↦ (let t : eqb x (s.base + i) ≡ true = grind (arith, nat_tests) in let h : has_in s (i + 1) x ≡ true = grind (arith, nat_tests) in
-          let k : x - s.base ≡ i = omega arith in rw (t, h, k) is)
-      | inr ne ↦ (let t : eqb x (s.base + i) ≡ false = grind (arith, nat_tests) in let h : has_in s (i + 1) x ≡ has_in s i x = grind (arith, nat_tests) in rw (t, h) refl)
-    ]))
+    (λ x. elim (cases_Bool (in_run (s.base + i) c x)) [
+      | inl here ↦ (let low : s.base + i ≤ x = search rules in let h : has_in s (i + c) x ≡ true = grind (arith, nat_tests) in
+          let k : i + (x - (s.base + i)) ≡ x - s.base = omega arith in rw (here, h, k) refl)
+      | inr off ↦ (let h : has_in s (i + c) x ≡ has_in s i x = grind (arith, nat_tests) in rw (off, h) refl)
+    ])
 
 -- the same where the segment is seen through its fields
-pub over_more_seen : (s t : SegmentValue) (m n : Memory) (i b : ℕ) → t ≡ s → n ≡ over (beginning s i) m → b ≡ slice_index s.bytes i → with_byte n (t.base + i) t.rights b ≡ over (beginning s (i + 1)) m
-over_more_seen s t m n i b seen was is = rw seen (over_more s m n i b was is)
+pub run_over_seen : (s t : SegmentValue) (m n : Memory) (i c : ℕ) (bytes : List ℕ) → t ≡ s → bytes ≡ t.bytes → n ≡ over (beginning s i) m
+    → with_run n (t.base + i) c t.rights bytes i ≡ over (beginning s (i + c)) m
+run_over_seen s t m n i c bytes seen is was =
+    ap (λ (bs : List ℕ). with_run n (t.base + i) c t.rights bs i) is ∙ ap (λ (u : SegmentValue). with_run n (u.base + i) c u.rights u.bytes i) seen
+    ∙ ap (λ (k : Memory). with_run k (s.base + i) c s.rights s.bytes i) was ∙ run_over s m i c
+
+-- all of it
+pub over_whole : (s : SegmentValue) (i : ℕ) (m : Memory) → i ≡ s.size → over (beginning s i) m ≡ over s m
+over_whole s i m e = ap (λ (n : ℕ). over (beginning s n) m) e
 
 -- the pages from `first` on and below `end` have all addresses of a segment
 abbrev pub IsBetween : ℕ → ℕ → SegmentValue → Type 0

@@ -1,28 +1,37 @@
 -- what pages hold after a store into one of them
-use Rattle.std.proofs.Common.{◌≡◌, ℕ, ◌+◌, ◌-◌, ◌/◌, ◌%◌, ◌<◌, ◌≤◌, Bool, ◌&&◌, leb, ltb, List, length, get_or, set, map, arith, Some, rules, ◌∙◌, sym, ap, inl, inr}
+use Rattle.std.proofs.Common.{◌≡◌, ℕ, zero, suc, ◌+◌, ◌-◌, ◌/◌, ◌%◌, ◌<◌, ◌≤◌, Bool, ◌&&◌, leb, ltb, List, [], ◌∷◌, length, get_or, set, take, arith, Option, Some, None, rules, ◌∙◌, sym, ap, refl, inl, inr}
 use Rattle.std.proofs.lemmas.Bool.{cases_Bool, cases_eq}
 use Rattle.std.proofs.lemmas.Bool.Decides.{nat_tests}
-use Rattle.std.proofs.lemmas.List.{length-map, map-set}
+use Rattle.std.proofs.lemmas.Option.{slice_get_within}
 use Rattle.std.proofs.Math.Path.{fun_ext}
-use Rattle.std.proofs.Math.Seq.{map-set_same}
 use Rattle.std.specs.List.{slice_get, slice_index}
-use Rattle.std.specs.declared.rc.Rc.{Rc}
 use Rattle.memory.specs.Memory.{grants, all_below, granted}
 use Rattle.memory.specs.Access.{written}
 use Rattle.memory.specs.Blocks.{spelled}
 use Rattle.memory.proofs.WriteLemmas.{spelled_in, spelled_out}
-use Rattle.pages.specs.Directory.{DirectoryValue, place_of}
-use Rattle.pages.specs.Pages.{right_at, byte_in, kept_at, pages_memory}
+use Rattle.pages.specs.Directory.{DirectoryValue, proposed, place_of}
+use Rattle.pages.specs.Pages.{right_at, byte_in, kept_at, spans_of, pages_memory}
 use Rattle.pages.specs.Number.{width_of, value_of}
 use Rattle.pages.specs.Store.{memory_of}
+use Rattle.pages.specs.Table.{pages_of}
+use Rattle.pages.specs.Written.{IsWritten}
 use Rattle.pages.specs.declared.number.Number.{Number}
 use Rattle.pages.specs.declared.number.Number.TheVariants.{Byte, Half, Word}
 use Rattle.pages.specs.declared.page.Page.{Page}
-use Rattle.pages.specs.declared.page.PageRights.{PageRights}
+use Rattle.pages.specs.declared.page_rights.Span.{Span}
+use Rattle.pages.specs.declared.page_rights.PageRights.{PageRights}
 use Rattle.pages.specs.declared.layout.Layout.{Layout}
 use Rattle.pages.specs.declared.page_store.PageStore.{PageStore}
-use Rattle.pages.proofs.DirectoryLemmas.{get-set_same, kept-set_other}
-use Rattle.pages.proofs.AccessLemmas.{at_place, owned_place, page_read, granted_is}
+use Rattle.pages.proofs.DirectoryLemmas.{get-set_same, kept-set_other, owner_of}
+use Rattle.pages.proofs.AccessLemmas.{at_place, granted_is}
+use Rattle.pages.proofs.SegmentLemmas.{same_memory}
+
+-- the beginning of a list
+get-take : {X : Type 0} (n : ℕ) (xs : List X) (k : ℕ) → k < n → slice_get (take n xs) k ≡ slice_get xs k
+get-take zero xs k h = absurd (omega arith)
+get-take (suc n) [] k h = refl
+get-take (suc n) (x ∷ xs) zero h = refl
+get-take (suc n) (x ∷ xs) (suc k) h = get-take n xs k (omega arith)
 
 -- an aligned number lies in one page
 pub in_one_page : (number : Number) (a : ℕ) → a % width_of number ≡ 0 → a % 4096 + width_of number ≤ 4096
@@ -30,7 +39,7 @@ in_one_page (Byte v) a e = omega arith
 in_one_page (Half v) a e = omega arith
 in_one_page (Word v) a e = omega arith
 
-module _ (d : DirectoryValue) (rights : List PageRights) (pages : List Page) (n k a v : ℕ) (p q : Page) (at : place_of d (a / 4096) ≡ Some k)
+module _ (d : DirectoryValue) (rights : List (List Span)) (pages : List Page) (n k a v : ℕ) (p q : Page) (at : place_of d (a / 4096) ≡ Some k)
     (is : slice_get pages k ≡ Some p) (inside : k < length pages) (long : length p.bytes ≡ 4096) (room : a % 4096 + n ≤ 4096) (new : q.bytes ≡ spelled n p.bytes (a % 4096) v) where
   same_page : (x : ℕ) → x / 4096 ≡ a / 4096 → byte_in (kept_at (set pages k q) (place_of d (x / 4096))) (x % 4096) ≡ slice_index q.bytes (x % 4096)
   same_page x e = rw (e, at, get-set_same pages k q inside)
@@ -56,21 +65,38 @@ module _ (d : DirectoryValue) (rights : List PageRights) (pages : List Page) (n 
 
 -- the same of a store, whose parts are read one after the other
 module _ {Z : Type 0} (s : PageStore Z) (a k : ℕ) (l : Layout Z) (same : l ≡ s.layout.value) (place : Some k ≡ place_of l.directory (a / 4096)) (inside : k < length l.directory.owners) where
-  pub may_store : (number : Number) (w : ℕ) (g : Bool) (m : Layout Z) (p : PageRights) → a % width_of number ≡ 0 → w ≡ width_of number → m ≡ s.layout.value → p ≡ get_or m.rights.items k p
-      → g ≡ all_below w (λ j. grants 2 (right_at p (a % 4096 + j))) → g ≡ granted 2 (memory_of s) (width_of number) a
+  pub may_store : (number : Number) (w : ℕ) (g : Bool) (m : Layout Z) (p : PageRights Z) → a % width_of number ≡ 0 → w ≡ width_of number → m ≡ s.layout.value → p ≡ get_or m.rights.items k p
+      → g ≡ all_below w (λ j. grants 2 (right_at p.spans.items (a % 4096 + j))) → g ≡ granted 2 (memory_of s) (width_of number) a
   may_store number w g m p aligned width is is_p test =
-      granted_is s a k l same place inside (width_of number) 2 g m p is is_p (in_one_page number a aligned) (test ∙ ap (λ n. all_below n (λ j. grants 2 (right_at p (a % 4096 + j)))) width)
+      granted_is s a k l same place inside (width_of number) 2 g m p is is_p (in_one_page number a aligned) (test ∙ ap (λ n. all_below n (λ j. grants 2 (right_at p.spans.items (a % 4096 + j)))) width)
 
-  pub after_store : (number : Number) (r q : Rc Page Z) → a % width_of number ≡ 0 → r ≡ get_or s.pages.items k r → length r.value.bytes ≡ 4096
-      → q.value.bytes ≡ spelled (width_of number) r.value.bytes (a % 4096) (value_of number)
-      → pages_memory s.layout.value.directory s.layout.value.rights.items (map (λ (t : Rc Page Z). t.value) (set s.pages.items k q)) ≡ written (width_of number) a (value_of number) (memory_of s)
-  after_store number r q aligned read long new =
-      let there : k < length s.pages.items = omega (arith, owned_place s a k l same place inside, s.even, s.pages.ok.0) in
-      ap (pages_memory s.layout.value.directory s.layout.value.rights.items) (map-set (λ (t : Rc Page Z). t.value) s.pages.items k q)
-      ∙ page_stored s.layout.value.directory s.layout.value.rights.items (map (λ (t : Rc Page Z). t.value) s.pages.items) (width_of number) k a (value_of number) r.value q.value (at_place s a k l same place inside)
-      (page_read s a k l same place inside r read) (omega (arith, there, length-map s.pages.items (λ (t : Rc Page Z). t.value))) long (in_one_page number a aligned) new
+  pub after_store : (number : Number) (new : List Page) → a % width_of number ≡ 0 → IsWritten (width_of number) k (a % 4096) (value_of number) (pages_of s.table.chunks.items) new
+      → pages_memory s.layout.value.directory (spans_of s.layout.value.rights.items) new ≡ written (width_of number) a (value_of number) (memory_of s)
+  after_store number new aligned is =
+      let there : k < length (pages_of s.table.chunks.items) = slice_get_within (pages_of s.table.chunks.items) k is.old_page is.there in
+      ap (pages_memory s.layout.value.directory (spans_of s.layout.value.rights.items)) is.pages
+      ∙ page_stored s.layout.value.directory (spans_of s.layout.value.rights.items) (pages_of s.table.chunks.items) (width_of number) k a (value_of number) is.old_page is.new_page (at_place s a k l same place inside)
+      is.there there is.long (in_one_page number a aligned) is.spells
 
-  -- a page that is replaced by one that has the same bytes
-  pub after_refusal : (r q : Rc Page Z) → r ≡ get_or s.pages.items k r → q.value ≡ r.value
-      → pages_memory s.layout.value.directory s.layout.value.rights.items (map (λ (t : Rc Page Z). t.value) (set s.pages.items k q)) ≡ memory_of s
-  after_refusal r q read kept = ap (pages_memory s.layout.value.directory s.layout.value.rights.items) (map-set_same (λ (t : Rc Page Z). t.value) s.pages.items k q r (kept ∙ ap (λ (t : Rc Page Z). t.value) read))
+  -- pages that are as they were
+  pub after_refusal : (new : List Page) → new ≡ pages_of s.table.chunks.items → pages_memory s.layout.value.directory (spans_of s.layout.value.rights.items) new ≡ memory_of s
+  after_refusal new kept = ap (pages_memory s.layout.value.directory (spans_of s.layout.value.rights.items)) kept
+
+-- pages with others behind them
+module _ (d : DirectoryValue) (rights : List (List Span)) (pages new : List Page) (n : ℕ) (len : n ≡ length d.owners) (begins : take n new ≡ pages) where
+  kept-begun : (m : ℕ) (place : Option ℕ) → place_of d m ≡ place → kept_at new place ≡ kept_at pages place
+  kept-begun m None e = refl
+  kept-begun m (Some k) e =
+      let low : k < length d.owners = slice_get_within d.owners k m (owner_of d.owners m k (proposed d m) e) in
+      sym (ap (λ (l : List Page). slice_get l k) (sym begins) ∙ get-take n new k (omega (arith, low, len)))
+
+  pub begun_memory : pages_memory d rights new ≡ pages_memory d rights pages
+  begun_memory = same_memory _ _ (λ x. refl) (λ x. ap (λ q. byte_in q (x % 4096)) (kept-begun (x / 4096) (place_of d (x / 4096)) refl))
+
+-- the same of a table that begins with pages that were filled
+pub filled_memory : {Z : Type 0} (l m : Layout Z) (pages seen new : List Page) (n : ℕ) → l ≡ m → n ≡ length m.directory.owners → n ≡ length pages → seen ≡ pages → take (length seen) new ≡ seen
+    → pages_memory l.directory (spans_of l.rights.items) new ≡ pages_memory m.directory (spans_of m.rights.items) pages
+filled_memory {Z} l m pages seen new n same owned len is begins =
+    ap (λ (k : Layout Z). pages_memory k.directory (spans_of k.rights.items) new) same
+    ∙ begun_memory m.directory (spans_of m.rights.items) seen new (length seen) (ap (λ (ps : List Page). length ps) is ∙ sym len ∙ owned) begins
+    ∙ ap (pages_memory m.directory (spans_of m.rights.items)) is

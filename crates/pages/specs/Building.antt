@@ -1,15 +1,15 @@
 -- Pages that are being filled.
-use Rattle.std.specs.Prelude.{◌≡◌, ℕ, ◌+◌, ◌-◌, ◌*◌, ◌^◌, ◌≤◌, ◌==◌, if◌then◌else◌, Some, None, length, vec_len, slice_index}
+use Rattle.std.specs.Prelude.{◌≡◌, ℕ, ◌+◌, ◌-◌, ◌*◌, ◌^◌, ◌≤◌, if◌then◌else◌, Some, None, length, vec_len, slice_index}
 use Rattle.loader.specs.Segment.{SegmentValue}
 use Rattle.loader.specs.Image.{span_of}
 use Rattle.loader.specs.Spans.{has_address}
 use Rattle.memory.specs.Memory.{Memory}
-use Rattle.pages.specs.Pages.{pages_memory}
+use Rattle.pages.specs.Pages.{spans_of, pages_memory}
 use Rattle.pages.specs.declared.building.Building.{Building}
 
 -- the memory of pages that are being filled
 abbrev pub built : {Z : Type 0} → Building Z → Memory
-built b = pages_memory b.directory b.rights.items b.pages.items
+built b = pages_memory b.directory (spans_of b.rights.items) b.pages.items
 
 -- each place has an owner, rights and bytes, and the pages are those of 32-bit addresses
 pub record IsEven {Z : Type 0} (b : Building Z) : Type 0 where
@@ -26,13 +26,6 @@ abbrev pub over : SegmentValue → Memory → Memory
 over s m = record {
   rights = λ a. if has_address a (span_of s) then Some s.rights else m.rights a;
   bytes = λ a. if has_address a (span_of s) then slice_index s.bytes (a - s.base) else m.bytes a;
-}
-
--- one byte over a memory
-abbrev pub with_byte : Memory → ℕ → ℕ → ℕ → Memory
-with_byte m address right byte = record {
-  rights = λ a. if a == address then Some right else m.rights a;
-  bytes = λ a. if a == address then byte else m.bytes a;
 }
 
 -- the pages from number `first` to `first + count - 1` have all addresses of a segment

@@ -1,6 +1,9 @@
 pub mod Number
 pub mod Directory
 pub mod Pages
+pub mod Runs
+pub mod Table
+pub mod Written
 pub mod Store
 pub mod Held
 pub mod Building

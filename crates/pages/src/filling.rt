@@ -1,23 +1,25 @@
 //! How pages are filled.
-ghost use Rattle.std.specs.Prelude.{◌≡◌, ◌<◌, ◌≤◌, ◌+◌, ◌^◌, ◌/◌, ◌*◌, None, Some, slice_index, IfSome, IfOk, OnOk, All, vec_len, length};
+ghost use Rattle.std.specs.Prelude.{◌≡◌, ◌<◌, ◌≤◌, ◌+◌, ◌^◌, ◌/◌, ◌%◌, ◌*◌, None, Some, IfOk, OnOk, All, length};
 ghost use Rattle.memory.specs.Image.{image_memory};
 ghost use Rattle.pages.specs.Directory.{place_of};
-ghost use Rattle.pages.specs.Building.{built, unmapped, over, with_byte, IsEven, IsCovered};
+ghost use Rattle.pages.specs.Building.{built, unmapped, over, IsEven, IsCovered};
+ghost use Rattle.pages.specs.Runs.{with_run};
 
 use crate::building::Building;
 use crate::directory::Directory;
-use crate::page::{PAGE_SIZE, PAGES, Page, PageRights};
+use crate::page::{PAGE_SIZE, PAGES, Page};
+use crate::page_rights::{PageRights, Span};
 use loader::{Image, Rights, Segment};
 use std::alloc::{AllocError, Allocator};
 
-/// A byte of a segment, 0 after its last.
-fn byte_of<A: Allocator>(segment: &Segment<A>, i: u32) -> u8
-    ensures { result ≡ slice_index segment.now.bytes i }
+/// How many of the bytes that are left are in the page of an address.
+fn run_of(address: u32, left: u32) -> u32
+    requires { 0 < left }
+    ensures some { 0 < result }
+    ensures within { result ≤ left }
+    ensures in_page { address % 4096 + result ≤ 4096 }
 {
-    match segment.bytes.get(i as usize) {
-        Some(byte) => *byte,
-        None => 0,
-    }
+    left.min(PAGE_SIZE as u32 - address % PAGE_SIZE as u32)
 }
 
 impl<A: Allocator + Copy> Building<A> {
@@ -29,14 +31,13 @@ impl<A: Allocator + Copy> Building<A> {
             × (length b.directory.index ≡ count)) }
     {
         Ok(Building {
+            alloc,
             directory: Directory::new(alloc, first, count)?,
             rights: Vec::new(alloc),
             pages: Vec::new(alloc),
         })
     }
-}
 
-impl<A: Allocator> Building<A> {
     /// One page more, in which nothing is mapped.
     fn add_page(&mut self, number: u32) -> Result<usize, AllocError>
         requires even { IsEven self.old }
@@ -51,7 +52,7 @@ impl<A: Allocator> Building<A> {
     {
         let place = self.directory.add(number)?;
         self.rights.push(PageRights {
-            bytes: [None; PAGE_SIZE],
+            spans: Vec::new(self.alloc),
         })?;
         self.pages.push(Page {
             bytes: [0; PAGE_SIZE],
@@ -76,39 +77,65 @@ impl<A: Allocator> Building<A> {
         }
     }
 
-    /// Maps a byte in a page.
-    fn set(&mut self, place: usize, address: u32, rights: Rights, byte: u8)
+    /// Maps bytes in a page: `count` of them, from the `first` on, from an address on.
+    fn set(
+        &mut self,
+        place: usize,
+        address: u32,
+        rights: Rights,
+        bytes: &[u8],
+        first: u32,
+        count: u32,
+    ) -> Result<(), AllocError>
         requires even { IsEven self.old }
         requires inside { place < length self.old.directory.owners }
         requires placed { place_of self.old.directory (address / 4096) ≡ Some place }
-        ensures even { IsEven self.new }
-        ensures memory { built self.new ≡ with_byte (built self.old) address rights.0 byte }
-        ensures room { (self.new.directory.first ≡ self.old.directory.first)
-            × (length self.new.directory.index ≡ length self.old.directory.index) }
+        requires in_page { address % 4096 + count ≤ 4096 }
+        requires small { first + count ≤ 2 ^ 32 }
+        ensures even { OnOk result (IsEven self.new) }
+        ensures memory { OnOk result (built self.new
+            ≡ with_run (built self.old) address count rights.0 bytes.now first) }
+        ensures room { OnOk result ((self.new.directory.first ≡ self.old.directory.first)
+            × (length self.new.directory.index ≡ length self.old.directory.index)) }
     {
         let at = (address % PAGE_SIZE as u32) as usize;
-        self.rights[place].bytes[at] = Some(rights);
-        self.pages[place].bytes[at] = byte;
+        let span = Span {
+            from: at,
+            to: at + count as usize,
+            rights,
+        };
+        self.rights[place].put(span)?;
+        self.pages[place].fill(at, bytes, first as usize, count as usize);
+        Ok(())
     }
 
-    /// Maps a byte.
-    fn put(&mut self, address: u32, rights: Rights, byte: u8) -> Result<(), AllocError>
+    /// Maps bytes that lie in one page: `count` of them, from the `first` on, from an address on.
+    fn put(
+        &mut self,
+        address: u32,
+        rights: Rights,
+        bytes: &[u8],
+        first: u32,
+        count: u32,
+    ) -> Result<(), AllocError>
         requires even { IsEven self.old }
         requires from { self.old.directory.first * 4096 ≤ address }
         requires to { address
             < (self.old.directory.first + length self.old.directory.index) * 4096 }
+        requires in_page { address % 4096 + count ≤ 4096 }
+        requires small { first + count ≤ 2 ^ 32 }
         ensures even { OnOk result (IsEven self.new) }
         ensures memory { OnOk result (built self.new
-            ≡ with_byte (built self.old) address rights.0 byte) }
+            ≡ with_run (built self.old) address count rights.0 bytes.now first) }
         ensures room { OnOk result ((self.new.directory.first ≡ self.old.directory.first)
             × (length self.new.directory.index ≡ length self.old.directory.index)) }
     {
         let place = self.page(address / PAGE_SIZE as u32)?;
-        self.set(place, address, rights, byte);
+        self.set(place, address, rights, bytes, first, count)?;
         Ok(())
     }
 
-    /// Puts a segment over what there is.
+    /// Puts a segment over what there is, page by page.
     fn add<B: Allocator>(&mut self, segment: &Segment<B>) -> Result<(), AllocError>
         requires even { IsEven self.old }
         requires covered { IsCovered self.old.directory.first
@@ -118,8 +145,13 @@ impl<A: Allocator> Building<A> {
         ensures room { OnOk result ((self.new.directory.first ≡ self.old.directory.first)
             × (length self.new.directory.index ≡ length self.old.directory.index)) }
     {
-        'bytes: for i in 0..segment.size {
-            self.put(segment.base + i, segment.rights, byte_of(segment, i))?;
+        let size = segment.size;
+        let mut i = 0;
+        'runs: while i < size {
+            let address = segment.base + i;
+            let count = run_of(address, size - i);
+            self.put(address, segment.rights, &segment.bytes, i, count)?;
+            i += count;
         }
         Ok(())
     }

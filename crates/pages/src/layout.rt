@@ -2,14 +2,14 @@
 ghost use Rattle.std.specs.Prelude.{◌≡◌, ◌+◌, ◌^◌, ◌≤◌, vec_len, length};
 
 use crate::directory::Directory;
-use crate::page::PageRights;
+use crate::page_rights::PageRights;
 use std::alloc::Allocator;
 
-/// Where the pages of a memory are kept, and the rights of their bytes, by place. It never changes, so all copies share one.
+/// Where the pages of a memory are kept, and the rights of their bytes, by place and span. It never changes, so all copies share one.
 #[derive(Drop)]
 pub struct Layout<A: Allocator> {
     pub directory: Directory<A>,
-    pub rights: Vec<PageRights, A>,
+    pub rights: Vec<PageRights<A>, A>,
     ghost even: { vec_len rights ≡ length directory.owners },
     ghost in_range: { directory.first + length directory.index ≤ 2 ^ 20 },
 }

@@ -6,6 +6,7 @@ pub use number::Number;
 pub use page_store::PageStore;
 
 mod building;
+mod chunk;
 mod directory;
 mod filling;
 mod impls;
@@ -13,7 +14,10 @@ mod laws;
 mod layout;
 mod number;
 mod page;
+mod page_rights;
 mod page_store;
 mod reading;
 mod sharing;
+mod table;
+mod wrapping;
 mod writing;

@@ -1,12 +1,11 @@
 //! Pages.
-ghost use Rattle.std.specs.Prelude.{◌≡◌, ◌+◌, ◌<◌, ◌≤◌, length, slice_index};
-ghost use Rattle.memory.specs.Memory.{grants, all_below, number_of};
+ghost use Rattle.std.specs.Prelude.{◌≡◌, ℕ, ◌+◌, ◌^◌, ◌≤◌, length, slice_index};
+ghost use Rattle.memory.specs.Memory.{number_of};
 ghost use Rattle.memory.specs.Blocks.{spelled};
 ghost use Rattle.pages.specs.Number.{width_of, value_of};
-ghost use Rattle.pages.specs.Pages.{right_at};
+ghost use Rattle.pages.specs.Runs.{byte_of_run};
 
 use crate::number::Number;
-use loader::Rights;
 
 /// How many addresses a page has.
 pub const PAGE_SIZE: usize = 4096;
@@ -20,10 +19,14 @@ pub struct Page {
     pub bytes: [u8; PAGE_SIZE],
 }
 
-/// The rights of a page's bytes, none where nothing is mapped.
-#[derive(Clone, Copy, Drop)]
-pub struct PageRights {
-    pub bytes: [Option<Rights>; PAGE_SIZE],
+/// A byte, or 0 behind the last.
+fn byte_or_zero(bytes: &[u8], i: usize) -> u8
+    ensures { result ≡ slice_index bytes.now i }
+{
+    match bytes.get(i) {
+        Some(byte) => *byte,
+        None => 0,
+    }
 }
 
 impl Page {
@@ -73,32 +76,16 @@ impl Page {
             }
         }
     }
-}
 
-impl PageRights {
-    /// Whether a byte has one of the wanted rights.
-    #[inline]
-    pub fn grants_one(&self, at: usize, wanted: Rights) -> bool
-        requires { at < 4096 }
-        ensures { result ≡ grants wanted.0 (right_at self.now at) }
-    {
-        match self.bytes[at] {
-            Some(rights) => rights.grants(wanted),
-            None => false,
-        }
-    }
-
-    /// Whether each of the bytes from an offset on has one of the wanted rights.
-    #[inline]
-    pub fn grants(&self, at: usize, count: usize, wanted: Rights) -> bool
-        requires { at + count ≤ 4096 }
-        ensures { result ≡ all_below count (λ k. grants wanted.0 (right_at self.now (at + k))) }
+    /// Puts `count` bytes from the `first` on into those from an offset on; 0 behind the last.
+    pub fn fill(&mut self, at: usize, bytes: &[u8], first: usize, count: usize)
+        requires room { at + count ≤ 4096 }
+        requires small { first + count ≤ 2 ^ 32 }
+        ensures { (o : ℕ) → slice_index self.new.bytes o
+            ≡ byte_of_run at count bytes.now first (slice_index self.old.bytes o) o }
     {
         'bytes: for k in 0..count {
-            if !self.grants_one(at + k, wanted) {
-                return false;
-            }
+            self.bytes[at + k] = byte_or_zero(bytes, first + k);
         }
-        true
     }
 }

@@ -1,14 +1,29 @@
 //! Reading from pages.
-ghost use Rattle.std.specs.Prelude.{◌≡◌, ◌≤◌, ◌+◌, ◌^◌, ◌%◌, true, false, MatchOption};
+ghost use Rattle.std.specs.Prelude.{◌≡◌, ◌<◌, ◌≤◌, ◌+◌, ◌*◌, ◌^◌, ◌%◌, true, false, Some, MatchOption, slice_get, vec_len};
 ghost use Rattle.memory.specs.Memory.{grants, granted, to_write};
 ghost use Rattle.memory.specs.Access.{peeked};
 ghost use Rattle.memory.specs.Blocks.{number_if};
 ghost use Rattle.pages.specs.Store.{memory_of};
+ghost use Rattle.pages.specs.Table.{pages_of};
 
-use crate::page::PAGE_SIZE;
+use crate::chunk::CHUNK_PAGES;
+use crate::page::{PAGE_SIZE, Page};
 use crate::page_store::PageStore;
+use crate::table::Table;
 use loader::Rights;
 use std::alloc::Allocator;
+use std::rc::Rc;
+
+impl<A: Allocator> Table<A> {
+    /// The page at a place.
+    #[inline]
+    pub fn page(&self, place: usize) -> &Rc<Page, A>
+        requires { place < 64 * vec_len self.now.chunks }
+        ensures { slice_get (pages_of self.now.chunks.items) place ≡ Some result.now.value }
+    {
+        &self.chunks[place / CHUNK_PAGES].pages[place % CHUNK_PAGES]
+    }
+}
 
 impl<A: Allocator + Copy> PageStore<A> {
     /// The byte at an address, whatever its rights, or none where nothing is mapped.
@@ -17,8 +32,8 @@ impl<A: Allocator + Copy> PageStore<A> {
     {
         let place = self.layout.directory.place(address / PAGE_SIZE as u32)?;
         let at = (address % PAGE_SIZE as u32) as usize;
-        self.layout.rights[place].bytes[at]?;
-        Some(self.pages[place].bytes[at])
+        self.layout.rights[place].right(at)?;
+        Some(self.table.page(place).bytes[at])
     }
 
     /// The byte at an address, where it has one of the wanted rights.
@@ -33,7 +48,7 @@ impl<A: Allocator + Copy> PageStore<A> {
         if !self.layout.rights[place].grants_one(at, wanted) {
             return None;
         }
-        Some(self.pages[place].bytes[at])
+        Some(self.table.page(place).bytes[at])
     }
 
     /// Two bytes in one page as a number, where each has one of the wanted rights.
@@ -47,7 +62,7 @@ impl<A: Allocator + Copy> PageStore<A> {
         if !self.layout.rights[place].grants(at, 2, wanted) {
             return None;
         }
-        Some(self.pages[place].read16(at))
+        Some(self.table.page(place).read16(at))
     }
 
     /// Four bytes in one page as a number, where each has one of the wanted rights.
@@ -61,7 +76,7 @@ impl<A: Allocator + Copy> PageStore<A> {
         if !self.layout.rights[place].grants(at, 4, wanted) {
             return None;
         }
-        Some(self.pages[place].read32(at))
+        Some(self.table.page(place).read32(at))
     }
 
     /// What `read32` says, byte by byte, so that they may stand in two pages.

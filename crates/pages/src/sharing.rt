@@ -1,59 +1,58 @@
-//! Pages that may be shared.
-ghost use Rattle.std.specs.Prelude.{◌≡◌, IfOk, map, vec_len, length};
-ghost use Rattle.pages.specs.Building.{built, IsEven};
-ghost use Rattle.pages.specs.Store.{memory_of};
+//! Values that are shared.
+ghost use Rattle.std.specs.Prelude.{◌≡◌, IfOk, vec_len, length};
+ghost use Rattle.pages.specs.Table.{pages_in, pages_of, values_of};
 
-use crate::building::Building;
-use crate::layout::Layout;
+use crate::chunk::Chunk;
 use crate::page::Page;
-use crate::page_store::PageStore;
+use crate::table::Table;
 use std::alloc::{AllocError, Allocator};
 use std::rc::Rc;
 
-/// Each page by itself, to be shared.
-fn wrapped<A: Allocator + Copy>(alloc: A, pages: &[Page]) -> Result<Vec<Rc<Page, A>, A>, AllocError>
-    ensures values { IfOk result (λ ps. map (λ p. p.value) ps.items ≡ pages.now) }
-    ensures len { IfOk result (λ ps. vec_len ps ≡ length pages.now) }
-{
-    let mut shared = Vec::with_capacity(alloc, pages.len())?;
-    'pages: for page in pages {
-        shared.push(Rc::new(alloc, *page)?)?;
-    }
-    Ok(shared)
-}
-
-/// A store of pages that were filled.
-pub fn store_of<A: Allocator + Copy>(
+/// The same values, shared.
+pub fn share<T: Drop, A: Allocator + Copy>(
     alloc: A,
-    building: Building<A>,
-) -> Result<PageStore<A>, AllocError>
-    requires { IsEven building }
-    ensures { IfOk result (λ s. memory_of s ≡ built building) }
+    items: &[Rc<T, A>],
+) -> Result<Vec<Rc<T, A>, A>, AllocError>
+    ensures values { IfOk result (λ cs. values_of cs.items ≡ values_of items.now) }
+    ensures len { IfOk result (λ cs. vec_len cs ≡ length items.now) }
 {
-    let pages = wrapped(alloc, &building.pages)?;
-    let layout = Layout {
-        directory: building.directory,
-        rights: building.rights,
-    };
-    let layout = Rc::new(alloc, layout)?;
-    Ok(PageStore {
-        alloc,
-        layout,
-        pages,
-    })
-}
-
-/// The same pages, shared.
-pub fn share<A: Allocator + Copy>(
-    alloc: A,
-    pages: &[Rc<Page, A>],
-) -> Result<Vec<Rc<Page, A>, A>, AllocError>
-    ensures values { IfOk result (λ ps. map (λ p. p.value) ps.items ≡ map (λ p. p.value) pages.now) }
-    ensures len { IfOk result (λ ps. vec_len ps ≡ length pages.now) }
-{
-    let mut copies = Vec::with_capacity(alloc, pages.len())?;
-    'pages: for page in pages {
-        copies.push(page.clone()?)?;
+    let mut copies = Vec::with_capacity(alloc, items.len())?;
+    'items: for item in items {
+        copies.push(item.clone()?)?;
     }
     Ok(copies)
+}
+
+/// A chunk of pages, which it shares.
+pub fn chunk_of<A: Allocator + Copy>(
+    alloc: A,
+    pages: &[Rc<Page, A>],
+) -> Result<Chunk<A>, AllocError>
+    requires { length pages.now ≡ 64 }
+    ensures { IfOk result (λ c. pages_in c ≡ values_of pages.now) }
+{
+    let pages = share(alloc, pages)?;
+    Ok(Chunk { pages })
+}
+
+impl<A: Allocator + Copy> Chunk<A> {
+    /// Another chunk of the same pages, which both share.
+    pub fn copy(&self, alloc: A) -> Result<Chunk<A>, AllocError>
+        ensures { IfOk result (λ c. pages_in c ≡ pages_in self.now) }
+    {
+        let pages = share(alloc, &self.pages)?;
+        Ok(Chunk { pages })
+    }
+}
+
+impl<A: Allocator + Copy> Table<A> {
+    /// Another table of the same pages, which share all chunks.
+    pub fn copy(&self, alloc: A) -> Result<Table<A>, AllocError>
+        ensures pages { IfOk result (λ t.
+            pages_of t.chunks.items ≡ pages_of self.now.chunks.items) }
+        ensures count { IfOk result (λ t. vec_len t.chunks ≡ vec_len self.now.chunks) }
+    {
+        let chunks = share(alloc, &self.chunks)?;
+        Ok(Table { chunks })
+    }
 }

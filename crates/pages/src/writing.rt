@@ -1,13 +1,17 @@
 //! Writing to pages.
-ghost use Rattle.std.specs.Prelude.{◌≡◌, ◌+◌, ◌≤◌, ◌%◌, length, OnOk, OnErr, true};
+ghost use Rattle.std.specs.Prelude.{◌≡◌, ◌+◌, ◌*◌, ◌<◌, ◌≤◌, ◌%◌, length, vec_len, OnOk, OnErr, true};
 ghost use Rattle.memory.specs.Access.{Stores};
 ghost use Rattle.memory.specs.Blocks.{spelled};
 ghost use Rattle.pages.specs.Number.{width_of, value_of};
 ghost use Rattle.pages.specs.Store.{memory_of};
+ghost use Rattle.pages.specs.Table.{pages_in, pages_of};
+ghost use Rattle.pages.specs.Written.{Writes};
 
+use crate::chunk::{CHUNK_PAGES, Chunk};
 use crate::number::Number;
 use crate::page::{PAGE_SIZE, Page};
 use crate::page_store::PageStore;
+use crate::table::Table;
 use loader::Rights;
 use memory::StoreFault;
 use std::alloc::{AllocError, Allocator};
@@ -36,6 +40,73 @@ fn write<A: Allocator>(
     Ok(())
 }
 
+impl<A: Allocator> Chunk<A> {
+    /// Writes a number in one of the pages, which is copied first where others share it.
+    fn write(&mut self, alloc: A, index: usize, at: usize, number: Number) -> Result<(), AllocError>
+        requires index { index < 64 }
+        requires room { at + width_of number ≤ 4096 }
+        ensures { Writes (width_of number) index at (value_of number)
+            (pages_in self.old) (pages_in self.new) result }
+    {
+        match write(alloc, &mut self.pages[index], at, number) {
+            Ok(()) => Ok(()),
+            Err(AllocError) => Err(AllocError),
+        }
+    }
+}
+
+/// Writes a number in one of a chunk's pages. Where others share the chunk, it is copied first, and they keep theirs.
+fn write_chunk<A: Allocator + Copy>(
+    alloc: A,
+    chunk: &mut Rc<Chunk<A>, A>,
+    index: usize,
+    at: usize,
+    number: Number,
+) -> Result<(), AllocError>
+    requires index { index < 64 }
+    requires room { at + width_of number ≤ 4096 }
+    ensures { Writes (width_of number) index at (value_of number)
+        (pages_in chunk.old.value) (pages_in chunk.new.value) result }
+{
+    if let Some(chunk) = Rc::get_mut(chunk) {
+        return chunk.write(alloc, index, at, number);
+    }
+    let mut copy = chunk.copy(alloc)?;
+    copy.write(alloc, index, at, number)?;
+    *chunk = Rc::new(alloc, copy)?;
+    Ok(())
+}
+
+impl<A: Allocator + Copy> Table<A> {
+    /// Writes a number in the page at a place. That page and its chunk are copied first where others share them, and where
+    /// either can't be copied nothing has changed.
+    pub fn write(
+        &mut self,
+        alloc: A,
+        place: usize,
+        at: usize,
+        number: Number,
+    ) -> Result<(), AllocError>
+        requires inside { place < 64 * vec_len self.old.chunks }
+        requires room { at + width_of number ≤ 4096 }
+        ensures writes { Writes (width_of number) place at (value_of number)
+            (pages_of self.old.chunks.items) (pages_of self.new.chunks.items) result }
+        ensures count { vec_len self.new.chunks ≡ vec_len self.old.chunks }
+    {
+        let index = place % CHUNK_PAGES;
+        match write_chunk(
+            alloc,
+            &mut self.chunks[place / CHUNK_PAGES],
+            index,
+            at,
+            number,
+        ) {
+            Ok(()) => Ok(()),
+            Err(AllocError) => Err(AllocError),
+        }
+    }
+}
+
 impl<A: Allocator + Copy> PageStore<A> {
     /// Stores a number at an address that is a multiple of its width, so in one page.
     #[inline]
@@ -51,7 +122,7 @@ impl<A: Allocator + Copy> PageStore<A> {
         if !self.layout.rights[place].grants(at, number.width() as usize, Rights::WRITE) {
             return Err(StoreFault::Access);
         }
-        match write(self.alloc, &mut self.pages[place], at, number) {
+        match self.table.write(self.alloc, place, at, number) {
             Ok(()) => Ok(()),
             Err(AllocError) => Err(StoreFault::Memory),
         }

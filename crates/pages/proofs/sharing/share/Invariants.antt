@@ -1,8 +1,9 @@
-use Rattle.std.proofs.Common.{◌≡◌, map, take, vec_len}
+use Rattle.std.proofs.Common.{◌≡◌, take, vec_len}
+use Rattle.pages.specs.Table.{values_of}
 use Rattle.pages.proofs.sharing.share.Given as goal
 
-abbrev pub invariant-pages : goal.invariant-pages
-invariant-pages g l = record {
-  values : map (λ p. p.value) l.copies.items ≡ map (λ p. p.value) (take l.page-index l.pages);
-  len : vec_len l.copies ≡ l.page-index;
+abbrev pub invariant-items : goal.invariant-items
+invariant-items g l = record {
+  values : values_of l.copies.items ≡ values_of (take l.item-index l.items);
+  len : vec_len l.copies ≡ l.item-index;
 }

@@ -1,7 +1,7 @@
-use Rattle.std.proofs.Common.{Some, rules, ap, ◌∙◌, sym}
+use Rattle.std.proofs.Common.{Some, ap, ◌∙◌, sym}
 use Rattle.pages.specs.Directory.{DirectoryValue, place_of}
 use Rattle.pages.proofs.DirectoryLemmas.{place-added}
-use Rattle.pages.proofs.BuildLemmas.{page_added, right_nowhere, zero_page}
+use Rattle.pages.proofs.BuildLemmas.{page_added, zero_page}
 use Rattle.pages.proofs.building.Building.add_page.Goals as goal
 
 pub returns-clause-placed : goal.returns-clause-placed
@@ -12,4 +12,4 @@ pub returns-clause-memory : goal.returns-clause-memory
 returns-clause-memory g c =
     rw (c.in_ok-push.ensures.items, c.in_ok-push-2.ensures.items, c.in_ok-place.ensures.added)
     (page_added c.args.self.now.directory c.args.self.now.rights.items c.args.self.now.pages.items c.args.number _ _ c.requires.new c.requires.from c.requires.to
-    (search rules) (search rules) right_nowhere zero_page)
+    (sym c.args.self.now.rights.ok.0 ∙ c.requires.even.rights) (sym c.args.self.now.pages.ok.0 ∙ c.requires.even.pages) c.new.ensures.items zero_page)

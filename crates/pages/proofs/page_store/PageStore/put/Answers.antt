@@ -17,8 +17,8 @@ returns-in-Ok g c = (
   c.requires,
   sym (may_store c.args.self.now c.args.address c.in-Some.place _ c.deref.ensures c.in-Some.ensures.value c.in-Some.ensures.inside c.args.number _ _ _ _
       c.requires c.width.ensures c.deref-2.ensures c.index.ensures c.grants.ensures) ∙ c.if-not-grants.false,
-  after_store c.args.self.now c.args.address c.in-Some.place _ c.deref.ensures c.in-Some.ensures.value c.in-Some.ensures.inside c.args.number _ _
-      c.requires c.index_mut.ensures.value c.in-Ok.ensures.whole c.in-Ok.ensures.ok,
+  after_store c.args.self.now c.args.address c.in-Some.place _ c.deref.ensures c.in-Some.ensures.value c.in-Some.ensures.inside c.args.number _
+      c.requires c.in-Ok.ensures.writes,
 )
 
 pub returns-in-Err : goal.returns-in-Err
@@ -29,5 +29,5 @@ returns-in-Err g c = (
         c.requires c.width.ensures c.deref-2.ensures c.index.ensures c.grants.ensures) ∙ c.if-not-grants.false,
     search rules,
   ),
-  after_refusal c.args.self.now c.args.address c.in-Some.place _ c.deref.ensures c.in-Some.ensures.value c.in-Some.ensures.inside _ _ c.index_mut.ensures.value c.in-Err.ensures.err,
+  after_refusal c.args.self.now c.args.address c.in-Some.place _ c.deref.ensures c.in-Some.ensures.value c.in-Some.ensures.inside _ c.in-Err.ensures.writes,
 )

@@ -9,5 +9,5 @@ returns-then-not-grants g c =
 
 pub returns : goal.returns
 returns g c =
-    given c.args.self.now c.args.address c.in_ok-place.place _ c.deref.ensures c.in_ok-place.ensures.value c.in_ok-place.ensures.inside 2 _ _ _ _ _ _ _
-    c.deref-2.ensures c.index.ensures c.index-2.ensures c.deref-3.ensures (omega arith) c.grants.ensures c.if-not-grants.false c.read16.ensures
+    given c.args.self.now c.args.address c.in_ok-place.place _ c.deref.ensures c.in_ok-place.ensures.value c.in_ok-place.ensures.inside 2 _ _ _ _ _ c.page.result.now _
+    c.deref-2.ensures c.index.ensures c.page.ensures c.deref-3.ensures (omega arith) c.grants.ensures c.if-not-grants.false c.read16.ensures
