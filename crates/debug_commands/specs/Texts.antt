@@ -6,8 +6,8 @@ use Rattle.std.specs.Fmt.{decimal}
 use Rattle.memory.specs.Memory.{Memory}
 use Rattle.memory.specs.Access.{peeked}
 use Rattle.hart_step.specs.Hart.{HartValue}
-use Rattle.hex_word.specs.Digits.{word_text}
-use Rattle.operand_names.specs.Names.{abi}
+use Rattle.names_and_digits.specs.Digits.{word_text}
+use Rattle.names_and_digits.specs.Names.{abi}
 use Rattle.listing.specs.Lines.{line_text}
 use Rattle.ends.specs.Ends.{end_line}
 use Rattle.debugger.specs.Words.{word_at}

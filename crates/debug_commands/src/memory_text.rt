@@ -4,8 +4,8 @@ ghost use Rattle.std.specs.Option.{is_some};
 ghost use Rattle.debug_commands.specs.Texts.{is_mapped_word, cell_text, cell_entry, cells_text};
 
 use debugger::word_at;
-use hex_word::Word;
 use memory::Store;
+use names_and_digits::Word;
 use std::alloc::{AllocError, Allocator};
 
 // Whether the four bytes from an aligned address on are mapped.

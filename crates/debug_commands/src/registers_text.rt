@@ -5,9 +5,8 @@ ghost use Rattle.debug_commands.specs.Texts.{register_entry, registers_from, har
 
 use ends::EndLine;
 use hart_step::Hart;
-use hex_word::Word;
 use isa_table::Reg;
-use operand_names::RegisterName;
+use names_and_digits::{RegisterName, Word};
 use std::alloc::{AllocError, Allocator};
 
 // Appends the line of a register.

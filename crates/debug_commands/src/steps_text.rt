@@ -3,8 +3,8 @@ ghost use Rattle.std.specs.Prelude.{◌≡◌, ◌++◌, Some, OnOk, IfOk, strin
 ghost use Rattle.debug_commands.specs.Texts.{event_text, mark_text, step_line, step_entry, steps_text};
 
 use debugger::{Event, StepView};
-use hex_word::Word;
 use listing::Line;
+use names_and_digits::Word;
 use std::alloc::{AllocError, Allocator};
 use std::fmt;
 

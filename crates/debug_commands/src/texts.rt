@@ -3,7 +3,7 @@ ghost use Rattle.std.specs.Prelude.{◌≡◌, Some, IfOk, string_bytes};
 ghost use Rattle.debug_commands.specs.Texts.{position_text, break_text, watch_text, stop_text, found_text};
 
 use debugger::Stop;
-use hex_word::Word;
+use names_and_digits::Word;
 use std::alloc::{AllocError, Allocator};
 use std::fmt;
 

@@ -13,11 +13,12 @@ use crate::fault::DebugEngineFault;
 use crate::opening::open_session;
 use devices::{Sink, Source, Status};
 use programs::{Input, ProgramForm, RunFault, open_run};
+use progress::Progress;
 use std::alloc::{AllocError, Allocator};
 
 /// `debug`: reads the file to its end, and where it is a program and the inputs are not too many, the choice text to its end; then answers each line of the
 /// commands before it reads the next, until one ends the session or none is left. No command is read where the session
-/// can't be begun.
+/// can't be begun. How far a long start is, is told meanwhile.
 #[tactic(auto, unfolding(crate::specs::Opening::opened))]
 pub fn debug_engine<A: Allocator + Copy, P: Source, C: Source, S: Source, K: Sink>(
     alloc: A,
@@ -26,6 +27,7 @@ pub fn debug_engine<A: Allocator + Copy, P: Source, C: Source, S: Source, K: Sin
     choices: &mut C,
     commands: &mut S,
     sink: &mut K,
+    progress: &mut impl Progress,
 ) -> Result<Status, DebugEngineFault>
     requires program_counts { P.failures program.old < 2 ^ 64 - 1 }
     requires choices_count { C.failures choices.old < 2 ^ 64 - 1 }
@@ -71,7 +73,7 @@ pub fn debug_engine<A: Allocator + Copy, P: Source, C: Source, S: Source, K: Sin
         Ok(run) => run,
         Err(fault) => return Err(DebugEngineFault::Refused(fault)),
     };
-    let mut debugger = match open_session(alloc, run, inputs) {
+    let mut debugger = match open_session(alloc, run, inputs, progress) {
         Ok(debugger) => debugger,
         Err(AllocError) => return Err(DebugEngineFault::Refused(RunFault::Memory)),
     };

@@ -8,13 +8,15 @@ ghost use Rattle.machine.specs.Start.{IsStartable};
 
 use debugger::Debugger;
 use programs::OpenRun;
+use progress::Progress;
 use std::alloc::{AllocError, Allocator};
 
-/// A debugger at the start of a run that is open for these inputs, one a hart.
+/// A debugger at the start of a run that is open for these inputs, one a hart. How far a long run is, is told meanwhile.
 pub fn open_session<A: Allocator + Copy>(
     alloc: A,
     run: OpenRun<A>,
     inputs: &[u32],
+    progress: &mut impl Progress,
 ) -> Result<Debugger<A>, AllocError>
     requires takes { IsStartable inputs.now }
     requires within { All (λ c. c.hart < length inputs.now) run.choices.items }
@@ -22,7 +24,7 @@ pub fn open_session<A: Allocator + Copy>(
         session debugger ≡ first_session run.image inputs.now run.choices.items) }
 {
     let words = Vec::from_slice(alloc, inputs)?;
-    match Debugger::new(alloc, run.image, words, run.choices) {
+    match Debugger::new_with_progress(alloc, run.image, words, run.choices, progress) {
         Ok(debugger) => Ok(debugger),
         // As many inputs as these are refused only for want of memory.
         Err(_) => Err(AllocError),

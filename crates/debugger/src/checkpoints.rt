@@ -5,15 +5,18 @@ ghost use Rattle.debugger.specs.Paged.{paged_world};
 ghost use Rattle.debugger.specs.Kept.{AreKept};
 
 use crate::paged_machine::PagedMachine;
+use crate::telling::tell;
 use crate::track::{BLOCK, Track};
 use machine::Choice;
+use progress::Progress;
 use std::alloc::{AllocError, Allocator};
 
-/// Does the choices once, and keeps a copy of the machine after 0, 256, 512, .. of them.
+/// Does the choices once, and keeps a copy of the machine after 0, 256, 512, .. of them. Tells meanwhile how far it is.
 pub fn checkpoints_of<A: Allocator + Copy>(
     alloc: A,
     first: &PagedMachine<A>,
     choices: &[Choice],
+    progress: &mut impl Progress,
 ) -> Result<Vec<PagedMachine<A>, A>, AllocError>
     requires { All (λ c. c.hart < length (paged_world first.now).harts) choices.now }
     ensures kept { IfOk result (λ machines.
@@ -31,6 +34,7 @@ pub fn checkpoints_of<A: Allocator + Copy>(
             return Err(AllocError);
         };
         kept.push(machine.copy(alloc)?)?;
+        tell(progress, (i + 1) * BLOCK, choices.len());
     }
     Ok(kept)
 }

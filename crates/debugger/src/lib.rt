@@ -23,5 +23,6 @@ mod seeking;
 mod step_view;
 mod stepping;
 mod stop;
+mod telling;
 mod track;
 mod words;

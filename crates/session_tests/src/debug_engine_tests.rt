@@ -3,6 +3,7 @@ use debug_engine::{DebugEngineFault, debug_engine};
 use devices::{Failing, MemorySink, MemorySource, Status};
 use loader::ElfFault;
 use programs::{Input, RunFault};
+use progress::Unheard;
 use refusing::Refusing;
 use std::alloc::{AllocError, Allocator};
 
@@ -44,6 +45,7 @@ fn held<A: Allocator + Copy>(
         &mut choices,
         &mut commands,
         &mut sink,
+        &mut Unheard,
     );
     (result, sink)
 }
@@ -97,7 +99,7 @@ fn what_a_run_refuses_is_refused(rt: HostRuntime) {
     let (result, sink) = held(rt.alloc(), &[], CHOICES, COMMANDS);
     assert_eq!(rt; result, Err(DebugEngineFault::Refused(RunFault::NoHarts)));
     assert_eq!(rt; sink.bytes().len(), 0);
-    let (result, sink) = held(rt.alloc(), &[7; 9], CHOICES, COMMANDS);
+    let (result, sink) = held(rt.alloc(), &[7; 33], CHOICES, COMMANDS);
     assert_eq!(rt;
         result,
         Err(DebugEngineFault::Refused(RunFault::TooManyHarts))
@@ -121,6 +123,7 @@ fn a_failing_device_is_named(rt: HostRuntime) {
         &mut choices,
         &mut commands,
         &mut sink,
+        &mut Unheard,
     );
     assert_eq!(rt;
         result,
@@ -140,6 +143,7 @@ fn a_failing_device_is_named(rt: HostRuntime) {
         &mut choices,
         &mut commands,
         &mut sink,
+        &mut Unheard,
     );
     assert_eq!(rt; result, Err(DebugEngineFault::Commands));
     assert_eq!(rt; sink.bytes(), b"step 0 of 4\n".as_slice());
@@ -155,6 +159,7 @@ fn a_failing_device_is_named(rt: HostRuntime) {
         &mut choices,
         &mut commands,
         &mut sink,
+        &mut Unheard,
     );
     assert_eq!(rt; result, Err(DebugEngineFault::Answers));
     assert_eq!(rt; sink.device().bytes(), b"step 0 of 4\n".as_slice());
@@ -173,6 +178,7 @@ fn a_refused_program_is_told_before_the_choices_fail(rt: HostRuntime) {
         &mut choices,
         &mut commands,
         &mut sink,
+        &mut Unheard,
     );
     assert_eq!(rt;
         result,
@@ -196,6 +202,7 @@ fn a_session_survives_each_refused_request(rt: HostRuntime) {
             &mut choices,
             &mut commands,
             &mut sink,
+            &mut Unheard,
         );
         if !heap.refused() {
             assert_eq!(rt; result, Ok(Status::Done));

@@ -3,7 +3,7 @@ use Rattle.debugger.specs.Paged.{paged_world}
 use Rattle.debugger.proofs.TrackLemmas.{started_all, start_reached}
 use Rattle.debugger.proofs.KeptLemmas.{kept_so}
 use Rattle.debugger.proofs.PointLemmas.{none_aligned}
-use Rattle.debugger.proofs.debugger.Debugger.new.Goals as goal
+use Rattle.debugger.proofs.debugger.Debugger.new_with_progress.Goals as goal
 
 pub checkpoints_of-requires : goal.checkpoints_of-requires
 checkpoints_of-requires g c =
