@@ -41,8 +41,8 @@ fn read_count(counted: &[u8]) -> Option<u32>
     }
 }
 
-// The run that an item at an offset names.
-fn read_run(item: &[u8], at: usize, harts: u32) -> Result<Run, ChoiceFault>
+/// The run that an item at an offset names, for so many harts. For who goes through a text item by item, and holds no list.
+pub fn read_run(item: &[u8], at: usize, harts: u32) -> Result<Run, ChoiceFault>
     ensures { result ≡ run_of harts at item.now }
 {
     let (front, counted) = split_at_byte(item, b'*');

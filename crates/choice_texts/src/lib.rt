@@ -1,7 +1,7 @@
 //! Choice texts: the schedule of a run, as a person writes it.
 #![tactic(auto)]
 
-pub use choice_text::{ChoiceFault, read_choices};
+pub use choice_text::{ChoiceFault, read_choices, read_run};
 pub use laws::{one_list, printed_is_read, printed_runs_are_read, read_as_spelled};
 pub use printing::{print_choices, print_runs};
 pub use run::{MOST_EQUAL, Run};

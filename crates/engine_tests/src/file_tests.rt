@@ -1,8 +1,9 @@
 //! What no clause says: a file that is shown and run by campaigns, where memory is left and where it is refused.
 use engines::{
-    Failing, FileView, FullSink, Input, MemorySink, MemorySource, Plan, ProgramForm, RunFault,
-    Status, Unheard, campaign_engine, file_engine, run_engine,
+    CampaignPlan, Failing, FileView, FullSink, Input, MemorySink, MemorySource, ProgramForm,
+    RunFault, Status, campaign_engine, file_engine, run_engine,
 };
+use progress::Unheard;
 use refusing::Refusing;
 
 // An ELF file of 92 bytes with one segment: `addi a7, zero, 93` and `ecall`.
@@ -21,7 +22,7 @@ const FACTS: &str = "entry 00010000\nsegment 00010000 8 r-x\nsymbols none\nlibra
 const LISTING: &str =
     "# segment 00010000 8\naddi a7, zero, 93  # 00010000 05d00893\necall  # 00010004 00000073\n";
 
-const PLAN: Plan = Plan {
+const PLAN: CampaignPlan = CampaignPlan {
     first: 5,
     count: 3,
     steps: 2,
@@ -84,7 +85,7 @@ fn a_campaign_has_a_line_for_each_seed(rt: HostRuntime) {
 fn a_campaign_without_harts_is_refused(rt: HostRuntime) {
     let mut program = MemorySource::new(&EXITS);
     let mut sink = MemorySink::new(rt.alloc());
-    let plan = Plan {
+    let plan = CampaignPlan {
         first: 0,
         count: 0,
         steps: 0,

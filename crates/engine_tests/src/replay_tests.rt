@@ -48,7 +48,7 @@ static WORKED: [Worked; 16] = [
         answer: Err(ReplayFault::NoHart(4)) },
     Worked { name: "no_harts_before_a_bad_entry", kind: Kind::Swap, inputs: &[], rule: None, history: "x",
         answer: Err(ReplayFault::Run(RunFault::NoHarts)) },
-    Worked { name: "nine_harts_before_a_bad_entry", kind: Kind::Swap, inputs: &[1, 2, 3, 4, 5, 6, 7, 8, 9], rule: None, history: "x",
+    Worked { name: "thirty_three_harts_before_a_bad_entry", kind: Kind::Swap, inputs: &[1; 33], rule: None, history: "x",
         answer: Err(ReplayFault::Run(RunFault::TooManyHarts)) },
 ];
 

@@ -2,10 +2,11 @@
 use crate::object_files::object_file;
 use campaigns::SeedRun;
 use engines::{
-    FileView, MemorySink, MemorySource, Plan, ProgramForm, Status, Unheard, campaign_engine,
-    file_engine, push_runs, run_engine, source_engine,
+    CampaignPlan, FileView, MemorySink, MemorySource, ProgramForm, RunFault, Status,
+    campaign_engine, file_engine, push_runs, run_engine, source_engine,
 };
 use hart_step::{Hart, HartState};
+use progress::Unheard;
 use protocol_library::{Kind, source};
 use refusing::Refusing;
 use std::alloc::{AllocError, Allocator};
@@ -23,7 +24,7 @@ struct Worked {
 
 // The ends are those that another simulator printed of the same files.
 #[rattlefmt::skip]
-static WORKED: [Worked; 14] = [
+static WORKED: [Worked; 17] = [
     Worked { name: "hart_1_alone_then_hart_0", kind: Kind::Swap, inputs: &[7, 9], rule: Some(Kind::Swap),
         choices: "1 1 1 1 1 1 1 1 1 1 1 0 0 0 0 0 0 0 0 0 0 0 0 0 0 0",
         text: "hart 0 exited a0 00000009 a1 00000001\nhart 1 exited a0 00000009 a1 00000001\nverdict kept\n", status: Status::Done },
@@ -63,6 +64,18 @@ static WORKED: [Worked; 14] = [
     Worked { name: "alone_takes_31_steps", kind: Kind::AdoptCommit, inputs: &[5], rule: Some(Kind::AdoptCommit),
         choices: "0 0 0 0 0 0 0 0 0 0 0 0 0 0 0 0 0 0 0 0 0 0 0 0 0 0 0 0 0 0 0",
         text: "hart 0 exited a0 00000005 a1 00000001\nverdict kept\n", status: Status::Done },
+    Worked { name: "two_of_thirty_two_decide", kind: Kind::LrSc, rule: Some(Kind::LrSc),
+        inputs: &[0, 1, 2, 3, 4, 5, 6, 7, 8, 9, 10, 11, 12, 13, 14, 15, 16, 17, 18, 19, 20, 21, 22, 23, 24, 25, 26, 27, 28, 29, 30, 31],
+        choices: "31*16 0*13",
+        text: "hart 0 exited a0 0000001f a1 00000001\nhart 1 running pc 00010000\nhart 2 running pc 00010000\nhart 3 running pc 00010000\nhart 4 running pc 00010000\nhart 5 running pc 00010000\nhart 6 running pc 00010000\nhart 7 running pc 00010000\nhart 8 running pc 00010000\nhart 9 running pc 00010000\nhart 10 running pc 00010000\nhart 11 running pc 00010000\nhart 12 running pc 00010000\nhart 13 running pc 00010000\nhart 14 running pc 00010000\nhart 15 running pc 00010000\nhart 16 running pc 00010000\nhart 17 running pc 00010000\nhart 18 running pc 00010000\nhart 19 running pc 00010000\nhart 20 running pc 00010000\nhart 21 running pc 00010000\nhart 22 running pc 00010000\nhart 23 running pc 00010000\nhart 24 running pc 00010000\nhart 25 running pc 00010000\nhart 26 running pc 00010000\nhart 27 running pc 00010000\nhart 28 running pc 00010000\nhart 29 running pc 00010000\nhart 30 running pc 00010000\nhart 31 exited a0 0000001f a1 00000001\nverdict kept\n", status: Status::Done },
+    Worked { name: "alone_of_thirty_two_takes_279_steps", kind: Kind::AdoptCommit, rule: Some(Kind::AdoptCommit),
+        inputs: &[100, 101, 102, 103, 104, 105, 106, 107, 108, 109, 110, 111, 112, 113, 114, 115, 116, 117, 118, 119, 120, 121, 122, 123, 124, 125, 126, 127, 128, 129, 130, 131],
+        choices: "5*279",
+        text: "hart 0 running pc 00010000\nhart 1 running pc 00010000\nhart 2 running pc 00010000\nhart 3 running pc 00010000\nhart 4 running pc 00010000\nhart 5 exited a0 00000069 a1 00000001\nhart 6 running pc 00010000\nhart 7 running pc 00010000\nhart 8 running pc 00010000\nhart 9 running pc 00010000\nhart 10 running pc 00010000\nhart 11 running pc 00010000\nhart 12 running pc 00010000\nhart 13 running pc 00010000\nhart 14 running pc 00010000\nhart 15 running pc 00010000\nhart 16 running pc 00010000\nhart 17 running pc 00010000\nhart 18 running pc 00010000\nhart 19 running pc 00010000\nhart 20 running pc 00010000\nhart 21 running pc 00010000\nhart 22 running pc 00010000\nhart 23 running pc 00010000\nhart 24 running pc 00010000\nhart 25 running pc 00010000\nhart 26 running pc 00010000\nhart 27 running pc 00010000\nhart 28 running pc 00010000\nhart 29 running pc 00010000\nhart 30 running pc 00010000\nhart 31 running pc 00010000\nverdict kept\n", status: Status::Done },
+    Worked { name: "alone_of_thirty_two_is_not_done_in_278_steps", kind: Kind::AdoptCommit, rule: None,
+        inputs: &[100, 101, 102, 103, 104, 105, 106, 107, 108, 109, 110, 111, 112, 113, 114, 115, 116, 117, 118, 119, 120, 121, 122, 123, 124, 125, 126, 127, 128, 129, 130, 131],
+        choices: "5*278",
+        text: "hart 0 running pc 00010000\nhart 1 running pc 00010000\nhart 2 running pc 00010000\nhart 3 running pc 00010000\nhart 4 running pc 00010000\nhart 5 running pc 00010084\nhart 6 running pc 00010000\nhart 7 running pc 00010000\nhart 8 running pc 00010000\nhart 9 running pc 00010000\nhart 10 running pc 00010000\nhart 11 running pc 00010000\nhart 12 running pc 00010000\nhart 13 running pc 00010000\nhart 14 running pc 00010000\nhart 15 running pc 00010000\nhart 16 running pc 00010000\nhart 17 running pc 00010000\nhart 18 running pc 00010000\nhart 19 running pc 00010000\nhart 20 running pc 00010000\nhart 21 running pc 00010000\nhart 22 running pc 00010000\nhart 23 running pc 00010000\nhart 24 running pc 00010000\nhart 25 running pc 00010000\nhart 26 running pc 00010000\nhart 27 running pc 00010000\nhart 28 running pc 00010000\nhart 29 running pc 00010000\nhart 30 running pc 00010000\nhart 31 running pc 00010000\n", status: Status::Done },
     Worked { name: "an_adopted_value_is_not_decided", kind: Kind::AdoptCommit, inputs: &[0, 0xffff_ffff], rule: Some(Kind::LrSc),
         choices: "0 0 0 0 0 0 0 0 0 0 0 0 0 0 0 0 0 0 0 0 0 0 0 0 0 0 0 0 0 0 0 0 0 0 0 0 0 0 0 1 1 1 1 1 1 1 1 1 1 1 1 1 1 1 1 1 1 1 1 1 1 1 1 1 1 1 1 1 1 1 1 1 1 1 1 1 1 1 1 1 1 1 1 1 1 1 1 1 1 1 1 1 1 1 1 1 1 1 1",
         text: "hart 0 exited a0 00000000 a1 00000001\nhart 1 exited a0 00000000 a1 00000000\nverdict broken\n", status: Status::Broken },
@@ -91,14 +104,78 @@ fn objects_end_as_worked(rt: HostRuntime) {
     }
 }
 
+// Texts with counts, and the lists that they spell, written out.
+#[rattlefmt::skip]
+const WRITTEN_OUT: [(&str, &str); 5] = [
+    ("0*3 1*2", "0 0 0 1 1"),
+    ("1*11 0*15", "1 1 1 1 1 1 1 1 1 1 1 0 0 0 0 0 0 0 0 0 0 0 0 0 0 0"),
+    ("1*7 1!*1 0*6 0!*3 0*2 1*9", "1 1 1 1 1 1 1 1! 0 0 0 0 0 0 0! 0! 0! 0 0 1 1 1 1 1 1 1 1 1"),
+    ("0*1 1 0!*2\t1!\n", "0 1 0! 0! 1!"),
+    ("0*100", "0 0 0 0 0 0 0 0 0 0 0 0 0 0 0 0 0 0 0 0 0 0 0 0 0 0 0 0 0 0 0 0 0 0 0 0 0 0 0 0 0 0 0 0"),
+];
+
+// What a run of an object prints under its rule.
+fn printed<A: Allocator + Copy>(
+    alloc: A,
+    kind: Kind,
+    file: &[u8],
+    text: &str,
+) -> (Result<Status, RunFault>, MemorySink<A>) {
+    let mut program = MemorySource::new(file);
+    let mut choices = MemorySource::new(text.as_bytes());
+    let mut sink = MemorySink::new(alloc);
+    let result = run_engine(
+        alloc,
+        ProgramForm::Elf,
+        &[7, 9],
+        Some(kind),
+        &mut program,
+        &mut choices,
+        &mut sink,
+    );
+    (result, sink)
+}
+
+#[test]
+fn counts_are_the_choices_written_out(rt: HostRuntime) {
+    for kind in Kind::ALL {
+        let Ok(file) = object_file(rt.alloc(), kind) else {
+            return assert!(rt; false, "no memory for the file");
+        };
+        for (counted, listed) in WRITTEN_OUT {
+            let (result, sink) = printed(rt.alloc(), kind, &file, counted);
+            let (wanted, lines) = printed(rt.alloc(), kind, &file, listed);
+            assert_eq!(rt; result, Ok(Status::Done), "{counted}");
+            assert_eq!(rt; wanted, Ok(Status::Done), "{listed}");
+            assert_eq!(rt; sink.bytes(), lines.bytes(), "{counted}");
+        }
+    }
+}
+
+#[test]
+fn bad_item_after_counts_is_told_and_nothing_printed(rt: HostRuntime) {
+    let Ok(file) = object_file(rt.alloc(), Kind::Swap) else {
+        return assert!(rt; false, "no memory for the file");
+    };
+    for (text, fault) in [
+        ("0*100 x", RunFault::BadChoice(6)),
+        ("1*16777216 0*16777217", RunFault::BadChoice(11)),
+        ("0*20 1*20 2", RunFault::NoHart(10)),
+    ] {
+        let (result, sink) = printed(rt.alloc(), Kind::Swap, &file, text);
+        assert_eq!(rt; result, Err(fault), "{text}");
+        assert_eq!(rt; sink.bytes().len(), 0, "{text}");
+    }
+}
+
 #[test]
 fn info_names_the_object(rt: HostRuntime) {
     #[rattlefmt::skip]
     let rows = [
         (Kind::Swap, "entry 00010000\nsegment 00010000 60 r-x\nsegment 00011000 12 rw-\nsymbols none\nlibrary swap\n"),
         (Kind::Add, "entry 00010000\nsegment 00010000 60 r-x\nsegment 00011000 12 rw-\nsymbols none\nlibrary add\n"),
-        (Kind::LrSc, "entry 00010000\nsegment 00010000 64 r-x\nsegment 00011000 36 rw-\nsymbols none\nlibrary lrsc\n"),
-        (Kind::AdoptCommit, "entry 00010000\nsegment 00010000 136 r-x\nsegment 00011000 128 rw-\nsymbols none\nlibrary adopt\n"),
+        (Kind::LrSc, "entry 00010000\nsegment 00010000 64 r-x\nsegment 00011000 132 rw-\nsymbols none\nlibrary lrsc\n"),
+        (Kind::AdoptCommit, "entry 00010000\nsegment 00010000 136 r-x\nsegment 00011000 512 rw-\nsymbols none\nlibrary adopt\n"),
     ];
     for (kind, text) in rows {
         let Ok(file) = object_file(rt.alloc(), kind) else {
@@ -158,7 +235,7 @@ fn each_seed_has_its_verdict(rt: HostRuntime) {
         let Ok(file) = object_file(rt.alloc(), kind) else {
             return assert!(rt; false, "no memory for the file");
         };
-        let plan = Plan {
+        let plan = CampaignPlan {
             first: 5,
             count: 2,
             steps,
@@ -195,7 +272,7 @@ fn lines_of<A: Allocator + Copy>(alloc: A) -> Result<String<A>, AllocError> {
         harts,
         chosen,
     })?;
-    let plan = Plan {
+    let plan = CampaignPlan {
         first: 5,
         count: 1,
         steps: 0,

@@ -14,7 +14,7 @@ struct Worked {
 }
 
 #[rattlefmt::skip]
-static WORKED: [Worked; 63] = [
+static WORKED: [Worked; 64] = [
     Worked { name: "run_stores_and_loads", program: "000112B7 00B2A023 0002A503 05D00893 00000073",
         inputs: &[7, 9], choices: "0 0 1 1 0 0 0 1 1 1",
         answer: Ok(("hart 0 exited a0 00000009 a1 00000007\nhart 1 exited a0 00000009 a1 00000009\n", Status::Done)) },
@@ -143,6 +143,9 @@ static WORKED: [Worked; 63] = [
         answer: Err(RunFault::NoHart(2)) },
     Worked { name: "nine_inputs", program: "000112B7 00B2A023 0002A503 05D00893 00000073",
         inputs: &[1, 1, 1, 1, 1, 1, 1, 1, 1], choices: "0",
+        answer: Ok(("hart 0 running pc 00010004\nhart 1 running pc 00010000\nhart 2 running pc 00010000\nhart 3 running pc 00010000\nhart 4 running pc 00010000\nhart 5 running pc 00010000\nhart 6 running pc 00010000\nhart 7 running pc 00010000\nhart 8 running pc 00010000\n", Status::Done)) },
+    Worked { name: "thirty_three_inputs", program: "000112B7 00B2A023 0002A503 05D00893 00000073",
+        inputs: &[1; 33], choices: "0",
         answer: Err(RunFault::TooManyHarts) },
     Worked { name: "choices_of_a_third_hart", program: "000112B7 00B2A023 0002A503 05D00893 00000073",
         inputs: &[7, 9], choices: "0 2",

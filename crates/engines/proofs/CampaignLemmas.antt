@@ -1,5 +1,5 @@
 -- How far a campaign has come, block by block.
-use Rattle.std.proofs.Common.{⊎_elim, ◌≡◌, ◌≢◌, ℕ, ◌+◌, ◌<◌, ◌≤◌, true, false, cond, eqb, ltb, List, [], ◌∷◌, ◌++◌, ◌⊎◌, length, take, Option, Some, None, Result, Ok, Err, IfOk, IfErr, append-nil, append_assoc, arith, refl, rules, ap, sym, subst, ◌∙◌}
+use Rattle.std.proofs.Common.{⊎_elim, ◌≡◌, ◌≢◌, ℕ, ◌+◌, ◌<◌, ◌≤◌, true, false, cond, eqb, ltb, List, [], ◌∷◌, ◌++◌, ◌⊎◌, length, take, Option, Some, None, Result, Ok, Err, IfOk, IfErr, append-nil, append_assoc, arith, ne_eqb, le-ltb, lt-ltb, refl, rules, ap, sym, subst, ◌∙◌}
 use Rattle.std.proofs.KnownBytes.{Appends-nil, Appends-trans}
 use Rattle.std.proofs.Math.Seq.{take-append-add, take-append_seam}
 use Rattle.std.proofs.lemmas.Grind.{common_steps, flat_map-append}
@@ -8,7 +8,7 @@ use Rattle.std.proofs.lemmas.List.{take-append-le}
 use Rattle.std.specs.Io.KnownBytes.{Appends}
 use Rattle.std.specs.Option.{IfSome}
 use Rattle.loader.specs.Image.{ImageValue}
-use Rattle.reservations.specs.declared.reserve.TheConstants.{MAX_HARTS}
+use Rattle.reservations.specs.Limit.{most_harts}
 use Rattle.campaigns.specs.Campaign.{SeedEnds, plain_runs}
 use Rattle.machine.specs.Start.{IsStartable, Refuses}
 use Rattle.machine.specs.declared.start.StartFault.{StartFault}
@@ -130,34 +130,34 @@ goes_on rule inputs steps all runs block left old now new faulted total stopped 
 pub answer_of_runs : (rule : Option Kind) (inputs : List ℕ) (first count steps : ℕ) (image : ImageValue) → IsStartable inputs
     → after_image rule inputs first count steps (Ok image) ≡ Ok (shown_runs rule inputs steps (plain_runs image inputs steps first count))
 answer_of_runs rule inputs first count steps image startable =
-    ap (λ none. cond none (Err fault.NoHarts) (cond (ltb MAX_HARTS (length inputs)) (Err fault.TooManyHarts) (Ok (shown_runs rule inputs steps (plain_runs image inputs steps first count)))))
+    ap (λ none. cond none (Err fault.NoHarts) (cond (ltb most_harts (length inputs)) (Err fault.TooManyHarts) (Ok (shown_runs rule inputs steps (plain_runs image inputs steps first count)))))
     (some (length inputs) startable.0)
     ∙ ap (λ many. cond many (Err fault.TooManyHarts) (Ok (shown_runs rule inputs steps (plain_runs image inputs steps first count)))) (few (length inputs) startable.1)
   where
     some : (n : ℕ) → 0 < n → eqb n 0 ≡ false
-    some n h = search (rules, common_steps, h)
+    some n h = ne_eqb n 0 (λ none. omega (arith, h, none))
 
-    few : (n : ℕ) → n ≤ MAX_HARTS → ltb MAX_HARTS n ≡ false
-    few n h = search (rules, common_steps, h)
+    few : (n : ℕ) → n ≤ most_harts → ltb most_harts n ≡ false
+    few n h = le-ltb most_harts n h
 
 -- inputs that no run can start with
 answer_of_none : (rule : Option Kind) (inputs : List ℕ) (first count steps : ℕ) (image : ImageValue) → length inputs ≡ 0
     → after_image rule inputs first count steps (Ok image) ≡ Err fault.NoHarts
 answer_of_none rule inputs first count steps image none =
-    ap (λ n. cond (eqb n 0) (Err fault.NoHarts) (cond (ltb MAX_HARTS n) (Err fault.TooManyHarts) (Ok (shown_runs rule inputs steps (plain_runs image inputs steps first count))))) none
+    ap (λ n. cond (eqb n 0) (Err fault.NoHarts) (cond (ltb most_harts n) (Err fault.TooManyHarts) (Ok (shown_runs rule inputs steps (plain_runs image inputs steps first count))))) none
 
-answer_of_many : (rule : Option Kind) (inputs : List ℕ) (first count steps : ℕ) (image : ImageValue) → MAX_HARTS < length inputs
+answer_of_many : (rule : Option Kind) (inputs : List ℕ) (first count steps : ℕ) (image : ImageValue) → most_harts < length inputs
     → after_image rule inputs first count steps (Ok image) ≡ Err fault.TooManyHarts
 answer_of_many rule inputs first count steps image many =
-    ap (λ none. cond none (Err fault.NoHarts) (cond (ltb MAX_HARTS (length inputs)) (Err fault.TooManyHarts) (Ok (shown_runs rule inputs steps (plain_runs image inputs steps first count)))))
+    ap (λ none. cond none (Err fault.NoHarts) (cond (ltb most_harts (length inputs)) (Err fault.TooManyHarts) (Ok (shown_runs rule inputs steps (plain_runs image inputs steps first count)))))
     (some (length inputs) many)
     ∙ ap (λ many. cond many (Err fault.TooManyHarts) (Ok (shown_runs rule inputs steps (plain_runs image inputs steps first count)))) (much (length inputs) many)
   where
-    some : (n : ℕ) → MAX_HARTS < n → eqb n 0 ≡ false
-    some n h = search (rules, common_steps, h)
+    some : (n : ℕ) → most_harts < n → eqb n 0 ≡ false
+    some n h = ne_eqb n 0 (λ none. omega (arith, h, none))
 
-    much : (n : ℕ) → MAX_HARTS < n → ltb MAX_HARTS n ≡ true
-    much n h = search (rules, common_steps, h)
+    much : (n : ℕ) → most_harts < n → ltb most_harts n ≡ true
+    much n h = lt-ltb most_harts n h
 
 -- a refusal of the inputs
 pub answer_of_refused : (rule : Option Kind) (inputs : List ℕ) (first count steps : ℕ) (image : ImageValue) (why : StartFault)

@@ -2,7 +2,7 @@
 use Rattle.std.proofs.Common.{zero, suc, [], ◌∷◌, ◌+◌, get_or, IfOk, ◌≡◌, ℕ, ◌^◌, ◌<◌, Bool, true, false, eqb, cond, ltb, rules, List, length, Option, Some, None, Result, Ok, Err, refl, arith, ap, sym, subst, ◌∙◌}
 use Rattle.std.specs.List.{All}
 use Rattle.std.specs.Option.{IfSome}
-use Rattle.reservations.specs.declared.reserve.TheConstants.{MAX_HARTS}
+use Rattle.reservations.specs.Limit.{most_harts}
 use Rattle.loader.specs.Image.{ImageValue}
 use Rattle.hart_step.specs.Hart.{HartValue}
 use Rattle.machine.specs.World.{run}
@@ -45,9 +45,9 @@ pub object_keeps : (kind : Kind) (image : ImageValue) (inputs : List ℕ) (choic
 object_keeps Swap image inputs choices same meant words there = swap_agrees_in image same inputs choices meant words there
 object_keeps Add image inputs choices same meant words there = add_agrees_in image same inputs choices meant words there
 object_keeps LrSc image inputs choices same meant words there =
-    lrsc_agrees_in MAX_HARTS image (omega arith) same inputs choices meant words there
+    lrsc_agrees_in most_harts image (omega arith) same inputs choices meant words there
 object_keeps AdoptCommit image inputs choices same meant words there =
-    adopt_agrees_in MAX_HARTS image (omega arith) same inputs choices meant words there
+    adopt_agrees_in most_harts image (omega arith) same inputs choices meant words there
 
 -- and so a judge says of it
 pub object_is_kept : (kind : Kind) (image : ImageValue) (inputs : List ℕ) (choices : List Choice) → IsSame image (image_of kind)
@@ -135,9 +135,9 @@ campaign_done rule inputs first count steps bytes words h =
     some zero e = absurd (cc)
     some (suc n) e = omega arith
 
-    none : (b : Bool) → eqb (length inputs) 0 ≡ b → AnswersDone (answer b (ltb MAX_HARTS (length inputs)))
+    none : (b : Bool) → eqb (length inputs) 0 ≡ b → AnswersDone (answer b (ltb most_harts (length inputs)))
     none true e = tt
-    none false e = many (ltb MAX_HARTS (length inputs)) (some (length inputs) e)
+    none false e = many (ltb most_harts (length inputs)) (some (length inputs) e)
 
 certified_done : (s : Status) (rule : Option Kind) (inputs : List ℕ) (first count steps : ℕ) (bytes : List ℕ) (old new : Option (List ℕ))
     → All (λ x. x < 2 ^ 32) inputs → Prints (campaign_answer rule inputs first count steps bytes) s old new

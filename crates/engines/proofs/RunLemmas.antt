@@ -1,21 +1,33 @@
 -- What a run's answer and its parts say of one another.
-use Rattle.std.proofs.Common.{◌≡◌, ℕ, ◌^◌, ◌<◌, List, length, map, Option, Some, None, Ok, ap, sym, subst, ◌∙◌}
+use Rattle.std.proofs.Common.{◌≡◌, ℕ, ◌^◌, ◌<◌, Bool, true, false, cond, eqb, ltb, List, length, map, Option, Some, None, Result, Ok, Err, refl, ap, sym, subst, ◌∙◌}
 use Rattle.std.specs.Option.{IfSome}
 use Rattle.std.specs.List.{All}
+use Rattle.reservations.specs.Limit.{most_harts}
 use Rattle.loader.specs.Image.{ImageValue}
-use Rattle.hart_step.specs.Hart.{hart_of}
+use Rattle.hart_step.specs.Hart.{HartValue, hart_of}
 use Rattle.hart_step.specs.declared.hart.Hart.{Hart}
-use Rattle.machine.specs.World.{World}
+use Rattle.machine.specs.World.{World, run}
 use Rattle.machine.specs.Start.{started}
-use Rattle.machine.proofs.RunLaws.{length-started}
-use Rattle.protocol_library.specs.declared.kind.Kind.{Kind}
-use Rattle.programs.specs.Program.{program_of}
-use Rattle.programs.specs.Opening.{opening}
+use Rattle.machine.specs.Chosen.{is_chosen, ChooseAlike}
 use Rattle.machine.specs.declared.choice.Choice.{Choice}
-use Rattle.engines.specs.Certified.{AnswersKept, IsCertified}
-use Rattle.engines.specs.Run.{Answer, after_opening, run_answer, shown, world_after}
-use Rattle.engines.proofs.CertifiedLemmas.{certified_keeps}
+use Rattle.machine.proofs.RunLaws.{length-started}
+use Rattle.choice_texts.specs.declared.choice_text.ChoiceFault.{ChoiceFault}
+use Rattle.choice_texts.specs.Reading.{choices_of}
+use Rattle.choice_texts.proofs.Agreement.{spells_of, hart_within}
+use Rattle.choice_runs.specs.Harts.{Harts}
+use Rattle.choice_runs.specs.Leads.{LeadsTo}
+use Rattle.protocol_library.specs.declared.kind.Kind.{Kind}
+use Rattle.protocol_library.proofs.ChosenLemmas.{same_verdict}
+use Rattle.ends.specs.Ends.{verdict_on}
+use Rattle.devices.specs.declared.status.Status.{Status}
+use Rattle.programs.specs.Program.{program_of}
+use Rattle.programs.specs.Opening.{Opened, opening, after_program, with_choices}
 use Rattle.programs.specs.declared.program.ProgramForm.{ProgramForm}
+use Rattle.programs.specs.declared.run_fault.RunFault.{RunFault}
+use Rattle.programs.specs.declared.run_fault.RunFault.TheVariants as fault
+use Rattle.engines.specs.Certified.{AnswersKept, IsCertified}
+use Rattle.engines.specs.Run.{Answer, after_opening, run_answer, shown, shown_with, world_after}
+use Rattle.engines.proofs.CertifiedLemmas.{certified_keeps}
 
 -- a machine that was started has a hart for each input
 pub harts-started : (harts : List Hart) (w : World) (image : ImageValue) (inputs : List ℕ)
@@ -23,24 +35,97 @@ pub harts-started : (harts : List Hart) (w : World) (image : ImageValue) (inputs
 harts-started harts w image inputs here begun =
     ap length (sym here) ∙ ap (λ (v : World). length v.harts) begun ∙ length-started image inputs
 
--- what holds of the printed world of a run holds of the answer to what the devices had left
-pub known : (P : Answer → Type 0) (form : ProgramForm) (inputs : List ℕ) (rule : Option Kind) (program text : Option (List ℕ))
-    (image : ImageValue) (choices : List Choice)
-    → IfSome program (λ p. IfSome text (λ c. opening form (length inputs) p c ≡ Ok (image, choices)))
-    → P (Ok (shown rule inputs choices (world_after image inputs choices)))
-    → IfSome program (λ p. IfSome text (λ c. P (run_answer form inputs rule p c)))
-unfolding run_answer
-known P form inputs rule None text image choices opens h = tt
-known P form inputs rule (Some p) None image choices opens h = tt
-known P form inputs rule (Some p) (Some c) image choices opens h =
-    subst (λ o. P (after_opening rule inputs o)) (sym opens) h
+-- a verdict asks no more of choices than which harts they choose
+pub verdict_alike : (rule : Option Kind) (inputs : List ℕ) (a b : List Choice) (harts : List HartValue) → ChooseAlike a b
+    → verdict_on rule inputs a harts ≡ verdict_on rule inputs b harts
+verdict_alike None inputs a b harts alike = refl
+verdict_alike (Some kind) inputs a b harts alike = ap Some (same_verdict kind inputs a b harts alike)
 
--- a run that begins with an object's image keeps its rule, by what the devices had left
-pub known_kept : (form : ProgramForm) (inputs : List ℕ) (rule : Option Kind) (program text : Option (List ℕ)) (image : ImageValue) (choices : List Choice)
-    → All (λ x. x < 2 ^ 32) inputs → All (λ c. c.hart < length inputs) choices → IfSome program (λ p. program_of form p ≡ Ok image)
-    → IfSome program (λ p. IfSome text (λ c. opening form (length inputs) p c ≡ Ok (image, choices)))
+-- the ends of the harts after a text that was run
+pub text_answered : (rule : Option Kind) (image : ImageValue) (inputs text : List ℕ) (old now : World) (chosen : Harts) (harts : List HartValue)
+    (lines : List ℕ) (status : Status) → old ≡ started image inputs → LeadsTo (length inputs) text old now chosen → harts ≡ now.harts
+    → ((choices : List Choice) → ((k : ℕ) → chosen k ≡ is_chosen choices k)
+    → shown_with (verdict_on rule inputs choices harts) harts ≡ (lines, status))
+    → after_opening rule inputs (with_choices image (choices_of (length inputs) text)) ≡ Ok (lines, status)
+text_answered rule image inputs text old now chosen harts lines status begun leads same shows =
+    ap read_as leads.read ∙ ap world_as (sym here) ∙ ap harts_as (sym same) ∙ ap told (shows leads.choices leads.told)
+  where
+    read_as : Result (List Choice) ChoiceFault → Answer
+    read_as r = after_opening rule inputs (with_choices image r)
+
+    world_as : World → Answer
+    world_as w = Ok (shown rule inputs leads.choices w)
+
+    harts_as : List HartValue → Answer
+    harts_as hs = Ok (shown_with (verdict_on rule inputs leads.choices hs) hs)
+
+    told : List ℕ × Status → Answer
+    told a = Ok a
+
+    here : now ≡ world_after image inputs leads.choices
+    here = leads.led ∙ ap (λ w. run w leads.choices) begun
+
+-- a text's answer is the answer to what the devices had left
+pub known_text : (form : ProgramForm) (inputs : List ℕ) (rule : Option Kind) (program text : Option (List ℕ)) (image : ImageValue) (bytes : List ℕ)
+    (answer : Answer) → IfSome program (λ p. IfSome text (λ c. opening form (length inputs) p c ≡ with_choices image (choices_of (length inputs) bytes)))
+    → after_opening rule inputs (with_choices image (choices_of (length inputs) bytes)) ≡ answer
+    → IfSome program (λ p. IfSome text (λ c. run_answer form inputs rule p c ≡ answer))
+unfolding run_answer
+known_text form inputs rule None text image bytes answer opens shows = tt
+known_text form inputs rule (Some p) None image bytes answer opens shows = tt
+known_text form inputs rule (Some p) (Some c) image bytes answer opens shows = ap (after_opening rule inputs) opens ∙ shows
+
+-- ---- certified files
+-- what a run begins with that can begin
+opened_parts : (form : ProgramForm) (n : ℕ) (program text : List ℕ) (image : ImageValue) (choices : List Choice)
+    → opening form n program text ≡ Ok (image, choices) → (program_of form program ≡ Ok image) × (choices_of n text ≡ Ok choices)
+unfolding opening
+opened_parts form n program text image choices opens = first (program_of form program) refl opens
+  where
+    image_in : ImageValue → Opened → ImageValue
+    image_in other (Ok o) = o.0
+    image_in other (Err why) = other
+
+    choices_in : List Choice → Opened → List Choice
+    choices_in other (Ok o) = o.1
+    choices_in other (Err why) = other
+
+    answer : ImageValue → Bool → Bool → Result (List Choice) ChoiceFault → Opened
+    answer i none many r = cond none (Err fault.NoHarts) (cond many (Err fault.TooManyHarts) (with_choices i r))
+
+    rest : (i : ImageValue) → program_of form program ≡ Ok i → (none many : Bool) (r : Result (List Choice) ChoiceFault) → choices_of n text ≡ r
+        → answer i none many r ≡ Ok (image, choices) → (program_of form program ≡ Ok image) × (choices_of n text ≡ Ok choices)
+    rest i reads true many r is e = absurd (cc)
+    rest i reads false true r is e = absurd (cc)
+    rest i reads false false (Err why) is e = absurd (cc)
+    rest i reads false false (Ok cs) is e = (
+      subst (λ x. program_of form program ≡ Ok x) (ap (image_in i) e) reads,
+      subst (λ x. choices_of n text ≡ Ok x) (ap (choices_in cs) e) is,
+    )
+
+    first : (p : Result ImageValue RunFault) → program_of form program ≡ p → after_program n text p ≡ Ok (image, choices)
+        → (program_of form program ≡ Ok image) × (choices_of n text ≡ Ok choices)
+    first (Err why) reads e = absurd (cc)
+    first (Ok i) reads e = rest i reads (eqb n 0) (ltb most_harts n) (choices_of n text) refl e
+
+-- what a run of a certified file answers, whatever the choice text says
+certified_answers : (form : ProgramForm) (inputs : List ℕ) (rule : Option Kind) (program text : List ℕ) → All (λ x. x < 2 ^ 32) inputs
+    → length inputs < 2 ^ 32 → IsCertified form program inputs rule → AnswersKept (run_answer form inputs rule program text)
+unfolding run_answer
+certified_answers form inputs rule program text words few h = by (opening form (length inputs) program text) refl
+  where
+    by : (o : Opened) → opening form (length inputs) program text ≡ o → AnswersKept (after_opening rule inputs o)
+    by (Err why) opens = tt
+    by (Ok o) opens =
+        let parts = opened_parts form (length inputs) program text o.0 o.1 opens in
+        let there = hart_within (length inputs) text o.1 (spells_of (length inputs) text o.1 few parts.1) in
+        subst (λ o. AnswersKept (after_opening rule inputs o)) opens
+        (certified_keeps form inputs rule program text o.0 o.1 words there parts.0 opens h)
+
+-- and so by what the devices had left
+pub known_kept : (form : ProgramForm) (inputs : List ℕ) (rule : Option Kind) (program text : Option (List ℕ)) → All (λ x. x < 2 ^ 32) inputs
+    → length inputs < 2 ^ 32
     → IfSome program (λ p. IfSome text (λ c. IsCertified form p inputs rule → AnswersKept (run_answer form inputs rule p c)))
-known_kept form inputs rule None text image choices words there reads opens = tt
-known_kept form inputs rule (Some p) None image choices words there reads opens = tt
-known_kept form inputs rule (Some p) (Some c) image choices words there reads opens =
-    certified_keeps form inputs rule p c image choices words there reads opens
+known_kept form inputs rule None text words few = tt
+known_kept form inputs rule (Some p) None words few = tt
+known_kept form inputs rule (Some p) (Some c) words few = certified_answers form inputs rule p c words few

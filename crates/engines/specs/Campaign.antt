@@ -6,7 +6,7 @@ use Rattle.std.specs.Io.KnownBytes.{Appends}
 use Rattle.hart_step.specs.Hart.{HartValue}
 use Rattle.hart_step.specs.declared.hart.HartState.{HartState}
 use Rattle.hart_step.specs.declared.hart.HartState.TheVariants.{Running, Exited, Faulted}
-use Rattle.reservations.specs.declared.reserve.TheConstants.{MAX_HARTS}
+use Rattle.reservations.specs.Limit.{most_harts}
 use Rattle.loader.specs.Image.{ImageValue}
 use Rattle.campaigns.specs.Campaign.{SeedEnds, plain_runs}
 use Rattle.scheduler.specs.Schedules.{seeded_choices}
@@ -118,7 +118,7 @@ IfHalts why risen = ⊥
 abbrev pub after_image : Option Kind → List ℕ → ℕ → ℕ → ℕ → Result ImageValue RunFault → Answer
 after_image rule inputs first count steps (Ok image) =
     if length inputs == 0 then Err fault.NoHarts
-    else (if nat_lt MAX_HARTS (length inputs) then Err fault.TooManyHarts
+    else (if nat_lt most_harts (length inputs) then Err fault.TooManyHarts
     else Ok (shown_runs rule inputs steps (plain_runs image inputs steps first count)))
 after_image rule inputs first count steps (Err why) = Err why
 

@@ -1,7 +1,7 @@
 -- Runs of files that are objects, under the rule of their kind.
 use Rattle.std.specs.Prelude.{◌≡◌, ℕ, ◌≤◌, ◌++◌, List, length, Option, Some}
 use Rattle.std.specs.declared.result.Result.TheVariants.{Ok, Err}
-use Rattle.reservations.specs.declared.reserve.TheConstants.{MAX_HARTS}
+use Rattle.reservations.specs.Limit.{most_harts}
 use Rattle.loader.specs.Image.{ImageValue}
 use Rattle.protocol_library.specs.declared.kind.Kind.{Kind}
 use Rattle.protocol_library.specs.declared.kind.Kind.TheVariants.{Swap, Add, LrSc, AdoptCommit}
@@ -18,8 +18,8 @@ use Rattle.devices.specs.declared.status.Status.TheVariants as status
 abbrev pub IsMeantFor : Kind → ℕ → Type 0
 IsMeantFor Swap harts = harts ≡ 2
 IsMeantFor Add harts = harts ≡ 2
-IsMeantFor LrSc harts = harts ≤ MAX_HARTS
-IsMeantFor AdoptCommit harts = harts ≤ MAX_HARTS
+IsMeantFor LrSc harts = harts ≤ most_harts
+IsMeantFor AdoptCommit harts = harts ≤ most_harts
 
 -- a program is the object of the rule's kind, which is for as many harts as there are inputs
 pub record IsCertified (form : ProgramForm) (program inputs : List ℕ) (rule : Option Kind) : Type 0 where

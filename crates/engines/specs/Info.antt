@@ -8,7 +8,7 @@ use Rattle.loader.specs.Segment.{SegmentValue}
 use Rattle.loader.specs.Symbol.{SymbolValue}
 use Rattle.loader.specs.SymbolTable.{Symbols}
 use Rattle.loader.specs.declared.symbol.SymFault.TheVariants as symbols
-use Rattle.hex_word.specs.Digits.{word_text}
+use Rattle.names_and_digits.specs.Digits.{word_text}
 use Rattle.protocol_library.specs.declared.kind.Kind.{Kind}
 use Rattle.protocol_library.specs.Images.{image_of, IsSame}
 use Rattle.protocol_library.specs.Names.{name_of}

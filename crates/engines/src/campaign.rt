@@ -19,6 +19,7 @@ use hart_step::{Hart, HartState};
 use loader::Image;
 use machine::check_inputs;
 use programs::{ProgramForm, RunFault, read_image};
+use progress::Progress;
 use protocol_library::{Kind, Verdict, judge};
 use std::alloc::{AllocError, Allocator};
 use std::fmt;
@@ -27,7 +28,7 @@ use std::thread::Threads;
 /// Which runs a campaign does: one for each of `count` seeds from `first` on, each of so many steps, and each judged by a
 /// rule, if there is one.
 #[derive(Clone, Copy, Debug, PartialEq, Eq)]
-pub struct Plan {
+pub struct CampaignPlan {
     /// The first seed.
     pub first: u64,
     /// How many seeds.
@@ -36,21 +37,6 @@ pub struct Plan {
     pub steps: u64,
     /// The kind whose rule is judged.
     pub rule: Option<Kind>,
-}
-
-/// What is told how far a campaign is.
-pub trait Progress {
-    /// So many seeds are done, and so many of them are bad: their rule is broken, or without a rule a hart was stopped by its
-    /// instruction.
-    fn seeds_done(&mut self, done: u64, bad: u64);
-}
-
-/// Tells nobody.
-#[derive(Clone, Copy, Debug)]
-pub struct Unheard;
-
-impl Progress for Unheard {
-    fn seeds_done(&mut self, _done: u64, _bad: u64) {}
 }
 
 /// A kind of state in which a run may leave a hart.
@@ -115,7 +101,7 @@ impl fmt::Display for SeedLine {
 }
 
 // What a judge says of a run, where there is a rule.
-fn judge_run<A: Allocator>(inputs: &[u32], plan: Plan, run: &SeedRun<A>) -> Option<Verdict>
+fn judge_run<A: Allocator>(inputs: &[u32], plan: CampaignPlan, run: &SeedRun<A>) -> Option<Verdict>
     requires { RemembersChosen (length inputs.now) plan.steps run.now }
     ensures { result ≡ run_verdict plan.rule inputs.now plan.steps (ends_of run.now) }
 {
@@ -172,7 +158,7 @@ fn push_run<A: Allocator>(
 pub fn push_runs<A: Allocator>(
     text: &mut String<A>,
     inputs: &[u32],
-    plan: Plan,
+    plan: CampaignPlan,
     runs: &[SeedRun<A>],
 ) -> Result<usize, AllocError>
     // Each run remembers which harts its seed's schedule chose.
@@ -198,7 +184,7 @@ fn block_text<A: Allocator + Copy + Send + Sync>(
     image: &Image<A>,
     inputs: &[u32],
     block: Block,
-    plan: Plan,
+    plan: CampaignPlan,
 ) -> Result<(String<A>, usize), AllocError>
     requires startable { IsStartable inputs.now }
     requires fits { block.first + block.count ≤ 2 ^ 64 }
@@ -232,7 +218,7 @@ fn write_blocks<A: Allocator + Copy + Send + Sync, K: Sink>(
     alloc: A,
     image: &Image<A>,
     inputs: &[u32],
-    plan: Plan,
+    plan: CampaignPlan,
     sink: &mut K,
     progress: &mut impl Progress,
 ) -> Result<Status, RunFault>
@@ -281,7 +267,7 @@ fn write_campaign<A: Allocator + Copy + Send + Sync, K: Sink>(
     rt: &(impl Threads + Sync),
     alloc: A,
     inputs: &[u32],
-    plan: Plan,
+    plan: CampaignPlan,
     image: &Image<A>,
     sink: &mut K,
     progress: &mut impl Progress,
@@ -318,7 +304,7 @@ pub fn campaign_engine<A: Allocator + Copy + Send + Sync, P: Source, K: Sink>(
     rt: &(impl Threads + Sync),
     alloc: A,
     inputs: &[u32],
-    plan: Plan,
+    plan: CampaignPlan,
     program: &mut P,
     sink: &mut K,
     progress: &mut impl Progress,

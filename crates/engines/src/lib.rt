@@ -1,21 +1,21 @@
 //! What the program's commands do, over any source of bytes and any sink.
 #![tactic(auto)]
 
-pub use campaign::{End, Plan, Progress, Unheard, campaign_engine, push_runs};
+pub use campaign::{CampaignPlan, End, campaign_engine, push_runs};
 pub use devices::{
     DeviceFault, Failing, FullSink, MemorySink, MemorySource, ReadFault, ReaderSource, Sink,
     Source, Status, WriterSink, read_all, write_all,
 };
 pub use ends::{EndLine, ends_text};
 pub use file::{FileView, file_engine, file_text};
-pub use hex_word::Word;
 pub use info::info_text;
 pub use library::source_engine;
+pub use names_and_digits::Word;
 pub use programs::{
     HEX_BASE, HEX_SIZE, HexFault, Input, MOST_WORDS, ProgramForm, RunFault, hex_image, read_hex,
     read_image, read_program,
 };
-pub use run::{run_engine, run_image};
+pub use run::{run_engine, run_text};
 
 mod campaign;
 mod file;

@@ -1,21 +1,31 @@
 //! `run`: a program, inputs and a list of choices in; the harts' ends and the verdict on them out.
 
-ghost use Rattle.std.specs.Prelude.{ℕ, List, ◌≡◌, ◌≢◌, ◌^◌, ◌-◌, ◌<◌, Ok, Err, IfOk, IfErr, IfSome, length, string_bytes};
+ghost use Rattle.std.specs.Prelude.{ℕ, List, ◌≡◌, ◌≢◌, ◌^◌, ◌-◌, ◌<◌, Ok, Err, IfOk, IfErr, IfSome, length, map, string_bytes};
 ghost use Rattle.std.specs.List.{All};
 ghost use Rattle.std.specs.Io.KnownBytes.{Keeps};
 ghost use Rattle.engines.specs.Certified.{AnswersKept, IsCertified};
+ghost use Rattle.programs.specs.Opening.{with_choices};
 ghost use Rattle.programs.specs.Program.{program_of};
-ghost use Rattle.engines.specs.Run.{run_answer, shown, world_after, Prints, BeginsToPrint};
+ghost use Rattle.engines.specs.Run.{after_opening, run_answer, shown_with, Prints, BeginsToPrint};
+ghost use Rattle.hart_step.specs.Hart.{hart_of};
+ghost use Rattle.machine.specs.Chosen.{is_chosen};
+ghost use Rattle.machine.specs.declared.choice.Choice.{Choice};
+ghost use Rattle.choice_texts.specs.Reading.{choices_of};
+ghost use Rattle.choice_runs.specs.Chosen.{harts_of};
+ghost use Rattle.ends.specs.Ends.{verdict_on};
 ghost use Rattle.machine.specs.Start.{IsStartable};
 ghost use Rattle.programs.specs.RunFaults.{IsRefusal, IfReads};
 ghost use Rattle.loader.specs.Image.{ImageValue};
 
+use choice_runs::{Chosen, early_fault, run_choices};
+use choice_texts::ChoiceFault;
 use devices::{Sink, Source, Status, write_all};
 use ends::ends_text;
+use hart_step::Hart;
 use loader::Image;
-use machine::{Choice, Machine};
+use machine::Machine;
 use memory::FlatStore;
-use programs::{Input, ProgramForm, RunFault, open_run};
+use programs::{Input, ProgramForm, RunFault, open_text};
 use protocol_library::Kind;
 use std::alloc::{AllocError, Allocator};
 
@@ -28,35 +38,100 @@ pub(crate) fn see_words(inputs: &[u32])
     }
 }
 
-/// What a run of an image prints and its status. Under a rule the verdict follows the harts' lines.
-pub fn run_image<A: Allocator + Copy>(
+// The harts' lines and, under a rule, the verdict on them, by which harts were chosen.
+fn ends_after<A: Allocator + Copy>(
+    alloc: A,
+    inputs: &[u32],
+    rule: Option<Kind>,
+    chosen: &Chosen,
+    harts: &[Hart],
+) -> Result<(String<A>, Status), AllocError>
+    ensures { IfOk result (λ answer. (choices : List Choice)
+        → ((k : ℕ) → harts_of chosen.now k ≡ is_chosen choices k)
+        → shown_with (verdict_on rule inputs.now choices (map hart_of harts.now)) (map hart_of harts.now)
+        ≡ (string_bytes answer.0, answer.1)) }
+{
+    let picked = chosen.choices(alloc)?;
+    let answer = ends_text(alloc, inputs, &picked, harts, rule)?;
+    Ok(answer)
+}
+
+/// What a run of an image under a choice text prints and its status, or the text's first fault. Under a rule the verdict follows
+/// the harts' lines. The text's choices are taken as they stand in it, and never held. A text with counts is looked through before it
+/// is run, so that its fault is told at once.
+#[tactic(auto, using(crate::proofs::RunLemmas::text_answered))]
+pub fn run_text<A: Allocator + Copy>(
     alloc: A,
     image: &Image<A>,
     inputs: &[u32],
     rule: Option<Kind>,
-    choices: &[Choice],
-) -> Result<(String<A>, Status), AllocError>
+    text: &[u8],
+) -> Result<(String<A>, Status), ChoiceFault>
     requires takes { IsStartable inputs.now }
-    requires within { All (λ c. c.hart < length inputs.now) choices.now }
-    ensures { IfOk result (λ answer.
-        shown rule inputs.now choices.now (world_after image.now inputs.now choices.now)
-        ≡ (string_bytes answer.0, answer.1)) }
+    ensures shown { IfOk result (λ answer.
+        after_opening rule inputs.now (with_choices image.now (choices_of (length inputs.now) text.now))
+        ≡ Ok (string_bytes answer.0, answer.1)) }
+    ensures refused { IfErr result (λ fault. fault ≢ ChoiceFault.Memory
+        → choices_of (length inputs.now) text.now ≡ Err fault) }
 {
+    if let Some(fault) = early_fault(text, inputs.len() as u32) {
+        return Err(fault);
+    }
     let mut machine: Machine<FlatStore<A>, A> = match Machine::start(alloc, image, inputs) {
         Ok(machine) => machine,
         // As many inputs as these are refused only for want of memory.
-        Err(_) => return Err(AllocError),
+        Err(_) => return Err(ChoiceFault::Memory),
     };
-    let Ok(()) = machine.run(choices) else {
-        // A flat store needs no memory of the host for a step.
-        unreachable!()
+    let chosen = match run_choices(&mut machine, text, inputs.len() as u32) {
+        Ok(chosen) => chosen,
+        Err(why) => return Err(why),
     };
-    ends_text(alloc, inputs, choices, machine.ends(), rule)
+    match ends_after(alloc, inputs, rule, &chosen, machine.ends()) {
+        Ok(answer) => Ok(answer),
+        Err(AllocError) => Err(ChoiceFault::Memory),
+    }
+}
+
+// Reads what a run wants, and answers what it prints and its status.
+#[tactic(auto, unfolding(crate::specs::Run::run_answer))]
+fn read_and_run<A: Allocator + Copy, P: Source, C: Source>(
+    alloc: A,
+    form: ProgramForm,
+    inputs: &[u32],
+    rule: Option<Kind>,
+    program: &mut P,
+    choices: &mut C,
+) -> Result<(String<A>, Status), RunFault>
+    requires program_counts { P.failures program.old < 2 ^ 64 - 1 }
+    requires choices_count { C.failures choices.old < 2 ^ 64 - 1 }
+    ensures takes { IfOk result (λ _. IsStartable inputs.now) }
+    ensures shown { IfOk result (λ answer.
+        IfSome (P.left program.old) (λ p. IfSome (C.left choices.old) (λ c.
+        run_answer form inputs.now rule p c ≡ Ok (string_bytes answer.0, answer.1)))) }
+    ensures refused { IfErr result (λ fault. IsRefusal fault
+        → IfSome (P.left program.old) (λ p. IfSome (C.left choices.old) (λ c.
+        run_answer form inputs.now rule p c ≡ Err fault))) }
+    ensures read { IfErr result (λ fault. IfReads fault
+        (P.failures program.old < P.failures program.new)
+        (C.failures choices.old < C.failures choices.new)) }
+    ensures sink_unnamed { IfErr result (λ fault. fault ≢ RunFault.Write) }
+    ensures program_first { result ≡ Err (RunFault.Read Input.Choices)
+        → IfSome (P.left program.old) (λ p. (image : ImageValue) × (program_of form p ≡ Ok image)) }
+    ensures inputs_first { result ≡ Err (RunFault.Read Input.Choices) → IsStartable inputs.now }
+{
+    let run = match open_text(alloc, form, inputs, program, choices) {
+        Ok(run) => run,
+        Err(why) => return Err(why),
+    };
+    match run_text(alloc, &run.image, inputs, rule, &run.text) {
+        Ok(answer) => Ok(answer),
+        Err(why) => Err(RunFault::from(why)),
+    }
 }
 
 /// `run`: reads the program in this form to its end, and where it is one and the inputs are not too many, the choice text to its end; writes how the harts
-/// end, and under a rule the verdict. Nothing is written where what was read is refused.
-#[tactic(auto, unfolding(crate::specs::Run::run_answer))]
+/// end, and under a rule the verdict. Nothing is written where what was read is refused. The choices are taken as they stand in the text,
+/// and never held as a list.
 pub fn run_engine<A: Allocator + Copy, P: Source, C: Source, K: Sink>(
     alloc: A,
     form: ProgramForm,
@@ -99,13 +174,9 @@ pub fn run_engine<A: Allocator + Copy, P: Source, C: Source, K: Sink>(
         IsCertified form p inputs.now rule → AnswersKept (run_answer form inputs.now rule p c)))) }
 {
     see_words(inputs);
-    let run = match open_run(alloc, form, inputs, program, choices) {
-        Ok(run) => run,
-        Err(fault) => return Err(fault),
-    };
-    let (lines, status) = match run_image(alloc, &run.image, inputs, rule, &run.choices) {
+    let (lines, status) = match read_and_run(alloc, form, inputs, rule, program, choices) {
         Ok(answer) => answer,
-        Err(AllocError) => return Err(RunFault::Memory),
+        Err(fault) => return Err(fault),
     };
     match write_all(sink, lines.as_bytes()) {
         Ok(()) => Ok(status),

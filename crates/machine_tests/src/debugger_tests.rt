@@ -2,6 +2,7 @@
 use debugger::{Debugger, MoveFault, Stop, byte_at};
 use loader::{Image, Rights, Segment};
 use machine::Choice;
+use progress::Progress;
 use refusing::Refusing;
 use std::alloc::Allocator;
 
@@ -23,17 +24,22 @@ fn few_choices<A: Allocator + Copy>(alloc: A) -> Option<Vec<Choice, A>> {
     Vec::from_slice(alloc, &turns).ok()
 }
 
-// A thousand choices, of the two harts by turns.
-fn many_choices<A: Allocator + Copy>(alloc: A) -> Option<Vec<Choice, A>> {
+// So many choices, of the two harts by turns.
+fn turns<A: Allocator + Copy>(alloc: A, count: u32) -> Option<Vec<Choice, A>> {
     let mut choices = Vec::new(alloc);
-    for i in 0..1000u32 {
+    for i in 0..count {
         choices.push(turn(i % 2)).ok()?;
     }
     Some(choices)
 }
 
-// A debugger of the program with two harts, of which each stores its own input, at the start of these choices.
-fn begin<A: Allocator + Copy>(alloc: A, choices: Vec<Choice, A>) -> Option<Debugger<A>> {
+// A thousand of them.
+fn many_choices<A: Allocator + Copy>(alloc: A) -> Option<Vec<Choice, A>> {
+    turns(alloc, 1000)
+}
+
+// The image of the program.
+fn image_of<A: Allocator + Copy>(alloc: A) -> Option<Image<A>> {
     let bytes = Vec::from_slice(alloc, &PROGRAM).ok()?;
     let mut segments = Vec::new(alloc);
     let whole = Segment {
@@ -43,7 +49,12 @@ fn begin<A: Allocator + Copy>(alloc: A, choices: Vec<Choice, A>) -> Option<Debug
         bytes,
     };
     segments.push(whole).ok()?;
-    let image = Image::new(alloc, 0x10000, segments).ok()?;
+    Image::new(alloc, 0x10000, segments).ok()
+}
+
+// A debugger of the program with two harts, of which each stores its own input, at the start of these choices.
+fn begin<A: Allocator + Copy>(alloc: A, choices: Vec<Choice, A>) -> Option<Debugger<A>> {
+    let image = image_of(alloc)?;
     let inputs = Vec::from_slice(alloc, &[7, 9]).ok()?;
     if !choices.iter().all(|choice| choice.hart < 2) {
         return None;
@@ -267,4 +278,61 @@ fn no_move_to_a_position_takes_more_than_255_steps(rt: HostRuntime) {
         "past the end"
     );
     assert_eq!(rt; debugger.position(), 3, "after a refusal");
+}
+
+// How often it was told of choices, and what it was told last.
+#[derive(Clone, Copy, Debug, PartialEq, Eq)]
+struct Heard {
+    times: u64,
+    done: u64,
+    all: u64,
+}
+
+impl Progress for Heard {
+    fn choices_done(&mut self, done: u64, all: u64) {
+        self.times = self.times.saturating_add(1);
+        self.done = done;
+        self.all = all;
+    }
+}
+
+// What is told of a start with so many choices; none where it is refused.
+fn heard_of<A: Allocator + Copy>(alloc: A, count: u32) -> Option<Heard> {
+    let mut heard = Heard {
+        times: 0,
+        done: 0,
+        all: 0,
+    };
+    let choices = turns(alloc, count)?;
+    let image = image_of(alloc)?;
+    let inputs = Vec::from_slice(alloc, &[7, 9]).ok()?;
+    if !choices.iter().all(|choice| choice.hart < 2) {
+        return None;
+    }
+    let debugger = Debugger::new_with_progress(alloc, image, inputs, choices, &mut heard);
+    if debugger.is_ok() { Some(heard) } else { None }
+}
+
+// Numbers of choices, how often a start tells of them, and what it tells last: so many are done, of so many.
+const STARTS: [(u32, u64, u64); 4] = [
+    (0, 0, 0),
+    (1000, 0, 0),
+    (1_048_575, 0, 0),
+    (1_048_876, 2, 1_048_876),
+];
+
+#[test]
+fn a_long_start_is_told_of(rt: HostRuntime) {
+    for (count, times, last) in STARTS {
+        let wanted = Heard {
+            times,
+            done: last,
+            all: last,
+        };
+        assert_eq!(rt;
+            heard_of(rt.alloc(), count),
+            Some(wanted),
+            "{count} choices"
+        );
+    }
 }

@@ -1,8 +1,10 @@
-//! Tests of runs: `choice_texts`, `scheduler`, `histories`, `campaigns`, `debugger` and `local_steps`.
+//! Tests of runs: `choice_texts`, `choice_runs`, `scheduler`, `histories`, `campaigns`, `debugger` and `local_steps`.
 #![tactic(auto)]
 
 #[cfg(test)]
 mod campaign_tests;
+#[cfg(test)]
+mod choice_run_tests;
 #[cfg(test)]
 mod choice_text_tests;
 #[cfg(test)]

@@ -174,11 +174,9 @@ fn local_steps_stop_at_the_store_or_the_limit(rt: HostRuntime) {
         let mut hart = hart_at(BASE);
         assert_eq!(rt; local_steps(&mut hart, &code, limit), done, "limit {limit}");
         assert_eq!(rt; hart.pc, pc, "limit {limit}");
-        assert_eq!(rt;
-            hart.registers[5],
-            if done > 0 { 0x11000 } else { 0 },
-            "limit {limit}"
-        );
+        let loaded = hart.registers[5];
+        let expected = if done > 0 { 0x11000 } else { 0 };
+        assert_eq!(rt; loaded, expected, "limit {limit}");
     }
 }
 

@@ -2,7 +2,7 @@
 use Rattle.std.specs.Prelude.{ℕ, ◌==◌, nat_lt, List, if◌then◌else◌}
 use Rattle.std.specs.declared.result.Result.{Result}
 use Rattle.std.specs.declared.result.Result.TheVariants.{Ok, Err}
-use Rattle.reservations.specs.declared.reserve.TheConstants.{MAX_HARTS}
+use Rattle.reservations.specs.Limit.{most_harts}
 use Rattle.loader.specs.Image.{ImageValue}
 use Rattle.machine.specs.declared.choice.Choice.{Choice}
 use Rattle.choice_texts.specs.Reading.{choices_of}
@@ -26,7 +26,7 @@ with_choices image (Err why) = Err (fault_of_choices why)
 abbrev pub after_program : ℕ → List ℕ → Result ImageValue RunFault → Opened
 after_program harts text (Ok image) =
     if harts == 0 then Err run.NoHarts
-    else (if nat_lt MAX_HARTS harts then Err run.TooManyHarts
+    else (if nat_lt most_harts harts then Err run.TooManyHarts
     else with_choices image (choices_of harts text))
 after_program harts text (Err why) = Err why
 

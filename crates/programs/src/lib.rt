@@ -3,7 +3,7 @@
 
 pub use hex::{HexFault, MOST_WORDS, read_hex};
 pub use hex_program::{HEX_BASE, HEX_SIZE, hex_image};
-pub use opening::{OpenRun, open_run};
+pub use opening::{OpenRun, OpenText, open_run, open_text};
 pub use program::{ProgramForm, read_image, read_program};
 pub use run_fault::{Input, RunFault};
 

@@ -4,7 +4,8 @@ ghost use Rattle.std.specs.Prelude.{◌≡◌, ◌≢◌, ◌^◌, ◌-◌, ◌<
 ghost use Rattle.std.specs.List.{All};
 ghost use Rattle.loader.specs.Image.{ImageValue};
 ghost use Rattle.machine.specs.Start.{IsStartable};
-ghost use Rattle.programs.specs.Opening.{opening};
+ghost use Rattle.choice_texts.specs.Reading.{choices_of};
+ghost use Rattle.programs.specs.Opening.{opening, with_choices};
 ghost use Rattle.programs.specs.Program.{program_of};
 ghost use Rattle.programs.specs.RunFaults.{IfReads, IsRefusal};
 
@@ -16,6 +17,62 @@ use loader::Image;
 use machine::{Choice, check_inputs};
 use std::alloc::Allocator;
 
+/// What a run begins with, its choices unread.
+#[derive(Drop)]
+pub struct OpenText<A: Allocator> {
+    /// The program's image.
+    pub image: Image<A>,
+    /// The bytes of the choice text, whatever they say.
+    pub text: Vec<u8, A>,
+}
+
+/// Reads a program in this form to its end, counts the inputs, and takes in the choice text to its end, which may say anything. The
+/// first that is refused decides, and what comes after it is not read.
+#[tactic(auto, unfolding(crate::specs::Opening::opening))]
+pub fn open_text<A: Allocator + Copy, P: Source, C: Source>(
+    alloc: A,
+    form: ProgramForm,
+    inputs: &[u32],
+    program: &mut P,
+    choices: &mut C,
+) -> Result<OpenText<A>, RunFault>
+    requires program_counts { P.failures program.old < 2 ^ 64 - 1 }
+    requires choices_count { C.failures choices.old < 2 ^ 64 - 1 }
+    ensures takes { IfOk result (λ _. IsStartable inputs.now) }
+    ensures image { IfOk result (λ run.
+        IfSome (P.left program.old) (λ p. program_of form p ≡ Ok run.image)) }
+    ensures opened { IfOk result (λ run.
+        IfSome (P.left program.old) (λ p. IfSome (C.left choices.old) (λ c.
+        opening form (length inputs.now) p c
+        ≡ with_choices run.image (choices_of (length inputs.now) run.text.items)))) }
+    ensures refused { IfErr result (λ fault. IsRefusal fault
+        → IfSome (P.left program.old) (λ p. IfSome (C.left choices.old) (λ c.
+        opening form (length inputs.now) p c ≡ Err fault))) }
+    // A device is named only where it failed.
+    ensures read { IfErr result (λ fault. IfReads fault
+        (P.failures program.old < P.failures program.new)
+        (C.failures choices.old < C.failures choices.new)) }
+    ensures sink_unnamed { IfErr result (λ fault. fault ≢ RunFault.Write) }
+    // A fault of the program, and that of the number of inputs, come before one of the device that the choices are read from.
+    ensures program_first { result ≡ Err (RunFault.Read Input.Choices)
+        → IfSome (P.left program.old) (λ p. (image : ImageValue) × (program_of form p ≡ Ok image)) }
+    ensures inputs_first { result ≡ Err (RunFault.Read Input.Choices) → IsStartable inputs.now }
+{
+    let image = match read_image(alloc, form, program) {
+        Ok(image) => image,
+        Err(fault) => return Err(fault),
+    };
+    match check_inputs(inputs) {
+        Ok(()) => {}
+        Err(fault) => return Err(RunFault::from(fault)),
+    }
+    match read_all(alloc, choices) {
+        Ok(text) => Ok(OpenText { image, text }),
+        Err(ReadFault::Device) => Err(RunFault::Read(Input::Choices)),
+        Err(ReadFault::Memory) => Err(RunFault::Memory),
+    }
+}
+
 /// What a run begins with.
 #[derive(Drop)]
 pub struct OpenRun<A: Allocator> {
@@ -26,8 +83,7 @@ pub struct OpenRun<A: Allocator> {
 }
 
 /// Reads a program in this form to its end, counts the inputs, and reads the choice text to its end. The first that is refused
-/// decides, and what comes after it is not read.
-#[tactic(auto, unfolding(crate::specs::Opening::opening))]
+/// decides, and what comes after it is not read. For who needs the list of the choices.
 pub fn open_run<A: Allocator + Copy, P: Source, C: Source>(
     alloc: A,
     form: ProgramForm,
@@ -57,21 +113,15 @@ pub fn open_run<A: Allocator + Copy, P: Source, C: Source>(
         → IfSome (P.left program.old) (λ p. (image : ImageValue) × (program_of form p ≡ Ok image)) }
     ensures inputs_first { result ≡ Err (RunFault.Read Input.Choices) → IsStartable inputs.now }
 {
-    let image = match read_image(alloc, form, program) {
-        Ok(image) => image,
+    let run = match open_text(alloc, form, inputs, program, choices) {
+        Ok(run) => run,
         Err(fault) => return Err(fault),
     };
-    match check_inputs(inputs) {
-        Ok(()) => {}
-        Err(fault) => return Err(RunFault::from(fault)),
-    }
-    let text = match read_all(alloc, choices) {
-        Ok(bytes) => bytes,
-        Err(ReadFault::Device) => return Err(RunFault::Read(Input::Choices)),
-        Err(ReadFault::Memory) => return Err(RunFault::Memory),
-    };
-    match read_choices(alloc, &text, inputs.len() as u32) {
-        Ok(choices) => Ok(OpenRun { image, choices }),
+    match read_choices(alloc, &run.text, inputs.len() as u32) {
+        Ok(choices) => Ok(OpenRun {
+            image: run.image,
+            choices,
+        }),
         Err(fault) => Err(RunFault::from(fault)),
     }
 }

@@ -3,28 +3,30 @@
 ghost use Rattle.std.specs.Prelude.{◌≡◌};
 ghost use Rattle.rvcons.specs.Plans.{plan_of};
 
+use crate::audience::Audience;
 use crate::report::{bad_line, cannot_open, cannot_read, refuse, say};
 use command_line::{CampaignOrder, read_inputs, read_number, read_rule};
 use devices::{ReaderSource, Status, WriterSink};
-use engines::{Plan, Progress, campaign_engine};
+use engines::{CampaignPlan, campaign_engine};
 use programs::RunFault;
+use progress::Progress;
 use protocol_library::Kind;
 use std::rt::Files;
 use std::thread::Threads;
 use std::{fs, io};
 
-// Tells how far a campaign is on standard error, where that is a terminal.
+// Tells a person how far a campaign is.
 #[derive(Drop)]
 struct Line<'a, R> {
     rt: &'a R,
-    is_terminal: bool,
+    audience: Audience,
     // What a bad seed is.
     bad: &'a str,
 }
 
 impl<'a, R: Eprint> Progress for Line<'a, R> {
     fn seeds_done(&mut self, done: u64, bad: u64) {
-        if self.is_terminal {
+        if self.audience == Audience::Person {
             // Where standard error is closed there is nobody to tell.
             let what = self.bad;
             let _ = eprint!(self.rt; "\r{done} seeds done, {bad} {what}");
@@ -34,7 +36,12 @@ impl<'a, R: Eprint> Progress for Line<'a, R> {
 
 // The plan that three numbers write: the first seed, how many seeds and how many steps for each. The seeds end by 2^64, and
 // the steps are below 2^32.
-fn read_plan(rule: Option<Kind>, first: &str, count: &str, steps: &str) -> Option<Plan>
+fn read_campaign_plan(
+    rule: Option<Kind>,
+    first: &str,
+    count: &str,
+    steps: &str,
+) -> Option<CampaignPlan>
     ensures { result ≡ plan_of rule first.now count.now steps.now }
 {
     let Ok(first) = read_number(first, u64::MAX) else {
@@ -49,7 +56,7 @@ fn read_plan(rule: Option<Kind>, first: &str, count: &str, steps: &str) -> Optio
     if count > 0 && first > u64::MAX - (count - 1) {
         return None;
     }
-    Some(Plan {
+    Some(CampaignPlan {
         first,
         count,
         steps,
@@ -57,10 +64,10 @@ fn read_plan(rule: Option<Kind>, first: &str, count: &str, steps: &str) -> Optio
     })
 }
 
-/// Runs a program under the schedule of each seed. Progress is told where standard error is a terminal.
+/// Runs a program under the schedule of each seed. Progress is told to a person.
 pub(crate) fn run_campaign<R: Files + AllocGlobal + Print + Eprint + Threads + Sync>(
     rt: &R,
-    is_terminal: bool,
+    audience: Audience,
     order: &CampaignOrder,
 ) -> Status {
     let inputs = match read_inputs(rt.alloc(), order.inputs) {
@@ -71,7 +78,7 @@ pub(crate) fn run_campaign<R: Files + AllocGlobal + Print + Eprint + Threads + S
         Ok(rule) => rule,
         Err(fault) => return refuse(rt, &fault),
     };
-    let Some(plan) = read_plan(rule, order.first, order.count, order.steps) else {
+    let Some(plan) = read_campaign_plan(rule, order.first, order.count, order.steps) else {
         return bad_line(
             rt,
             "--first, --count and --steps take decimal numbers, first and count together at most 2^64, steps below 2^32, \
@@ -89,11 +96,7 @@ pub(crate) fn run_campaign<R: Files + AllocGlobal + Print + Eprint + Threads + S
     } else {
         "with a fault"
     };
-    let mut line = Line {
-        rt,
-        is_terminal,
-        bad,
-    };
+    let mut line = Line { rt, audience, bad };
     match campaign_engine(
         rt,
         rt.alloc(),

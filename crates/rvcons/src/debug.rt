@@ -1,17 +1,42 @@
 //! Doing `debug`.
 
+use crate::audience::Audience;
 use crate::report::{cannot_open, cannot_read, out_of_memory, refuse};
 use command_line::{DebugOrder, read_inputs};
 use debug_engine::{DebugEngineFault, debug_engine};
 use devices::{ReaderSource, Status, WriterSink};
 use programs::{Input as InputFile, RunFault};
+use progress::Progress;
 use std::fs;
 use std::io::{self, BufReader, Input};
 use std::rt::Files;
 
-/// Answers the commands of standard input, each as it comes. Both files are opened before either is read.
+// Tells a person how far the start of a session is.
+#[derive(Drop)]
+struct Line<'a, R> {
+    rt: &'a R,
+    audience: Audience,
+}
+
+impl<'a, R: Eprint> Progress for Line<'a, R> {
+    fn choices_done(&mut self, done: u64, all: u64) {
+        if self.audience == Audience::Program {
+            return;
+        }
+        // Where standard error is closed there is nobody to tell.
+        let _ = eprint!(self.rt; "\r{done} of {all} choices done");
+        if done == all {
+            // The first answer stands on a line of its own.
+            let _ = eprintln!(self.rt);
+        }
+    }
+}
+
+/// Answers the commands of standard input, each as it comes. Both files are opened before either is read. How far a long
+/// start is, is told to a person.
 pub(crate) fn converse<R: Files + AllocGlobal + Print + Eprint + Input>(
     rt: &R,
+    audience: Audience,
     order: &DebugOrder,
 ) -> Status {
     let inputs = match read_inputs(rt.alloc(), order.inputs) {
@@ -33,6 +58,7 @@ pub(crate) fn converse<R: Files + AllocGlobal + Print + Eprint + Input>(
     let mut choices = ReaderSource::new(choices);
     let mut commands = ReaderSource::new(reader);
     let mut sink = WriterSink::new(io::writer(rt));
+    let mut line = Line { rt, audience };
     match debug_engine(
         rt.alloc(),
         inputs.as_slice(),
@@ -40,6 +66,7 @@ pub(crate) fn converse<R: Files + AllocGlobal + Print + Eprint + Input>(
         &mut choices,
         &mut commands,
         &mut sink,
+        &mut line,
     ) {
         Ok(status) => status,
         Err(fault) => tell(rt, order, fault),

@@ -2,6 +2,7 @@
 #![tactic(auto)]
 
 mod asm;
+mod audience;
 mod campaign;
 mod debug;
 mod file;
@@ -11,6 +12,7 @@ mod report;
 mod run;
 mod threads;
 
+use crate::audience::Audience;
 use crate::report::{bad_line, out_of_memory, refuse};
 use command_line::{Order, read_line};
 use devices::Status;
@@ -22,14 +24,18 @@ use std::sync::Wait;
 use std::thread::Threads;
 
 fn main(rt: HostRuntime) -> ExitCode {
-    let is_terminal = rt.stderr().is_terminal();
-    ExitCode::from(obey(&rt, is_terminal).code())
+    let audience = if rt.stderr().is_terminal() {
+        Audience::Person
+    } else {
+        Audience::Program
+    };
+    ExitCode::from(obey(&rt, audience).code())
 }
 
-// Does what the command line orders. Progress is told where standard error is a terminal.
+// Does what the command line orders. Progress is told to a person.
 fn obey<R: Files + AllocGlobal + Print + Eprint + Env + Threads + Wait + Sync + Input>(
     rt: &R,
-    is_terminal: bool,
+    audience: Audience,
 ) -> Status {
     let args = match std::env::args(rt) {
         Ok(args) => args,
@@ -48,14 +54,14 @@ fn obey<R: Files + AllocGlobal + Print + Eprint + Env + Threads + Wait + Sync + 
     };
     match read_line(rt.alloc(), words.as_slice()) {
         Ok(Order::Asm(order)) => asm::assemble(rt, &order),
-        Ok(Order::Debug(order)) => debug::converse(rt, &order),
+        Ok(Order::Debug(order)) => debug::converse(rt, audience, &order),
         Ok(Order::Lib(order)) => library::print_source(rt, &order),
         Ok(Order::List(order)) => file::show(rt, FileView::Listing, &order),
         Ok(Order::Info(order)) => file::show(rt, FileView::Facts, &order),
         Ok(Order::Run(order)) => run::run(rt, &order),
-        Ok(Order::Threads(order)) => threads::run_on_threads(rt, &order),
+        Ok(Order::Threads(order)) => threads::run_on_threads(rt, audience, &order),
         Ok(Order::Replay(order)) => replay::replay(rt, &order),
-        Ok(Order::Campaign(order)) => campaign::run_campaign(rt, is_terminal, &order),
+        Ok(Order::Campaign(order)) => campaign::run_campaign(rt, audience, &order),
         Err(fault) => refuse(rt, &fault),
     }
 }

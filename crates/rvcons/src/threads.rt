@@ -1,11 +1,11 @@
 //! Doing `threads`.
 
+use crate::audience::{Audience, TellingGate};
 use crate::report::{
     cannot_open, cannot_read, cannot_write, out_of_memory, refuse, say, tell_threads,
 };
 use command_line::{LineFault, ThreadsOrder, read_inputs, read_number, read_plan, read_rule};
 use devices::{ReaderSource, Status, WriterSink, write_all};
-use hart_threads::OpenGate;
 use programs::{Input, RunFault};
 use std::alloc::Global;
 use std::collections::BTreeSet;
@@ -32,9 +32,10 @@ fn read_task(alloc: Global, order: &ThreadsOrder) -> Result<ThreadsTask<Global>,
     })
 }
 
-/// Runs each hart in a thread of its own. The history is written before anything is printed.
+/// Runs each hart in a thread of its own. The history is written before anything is printed. Progress is told to a person.
 pub(crate) fn run_on_threads<R: Files + AllocGlobal + Print + Eprint + Threads + Wait + Sync>(
     rt: &R,
+    audience: Audience,
     order: &ThreadsOrder,
 ) -> Status {
     let task = match read_task(rt.alloc(), order) {
@@ -46,7 +47,8 @@ pub(crate) fn run_on_threads<R: Files + AllocGlobal + Print + Eprint + Threads +
         Err(error) => return cannot_open(rt, order.file, &error),
     };
     let mut program = ReaderSource::new(program);
-    let answer = match threads_engine(rt, rt.alloc(), task, &mut program, &OpenGate) {
+    let gate = TellingGate::new(rt, audience);
+    let answer = match threads_engine(rt, rt.alloc(), task, &mut program, &gate) {
         Ok(answer) => answer,
         Err(ThreadsEngineFault::Run(RunFault::Read(Input::File))) => {
             return cannot_read(rt, order.file);

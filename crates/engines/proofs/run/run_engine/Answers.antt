@@ -1,7 +1,8 @@
+use Rattle.std.proofs.Common.{arith}
 use Rattle.engines.proofs.RunLemmas.{known_kept}
 use Rattle.engines.proofs.run.run_engine.Goals as goal
 
 pub returns-in-Ok-write_all-clause-certified : goal.returns-in-Ok-write_all-clause-certified
 returns-in-Ok-write_all-clause-certified g c =
-    known_kept c.args.form c.args.inputs.now c.args.rule _ _ _ _
-    c.see_words.ensures c.in-Ok.ensures.within c.in-Ok.ensures.image c.in-Ok.ensures.opened
+    let few = c.in-Ok.ensures.takes.1 in
+    known_kept c.args.form c.args.inputs.now c.args.rule _ _ c.see_words.ensures (omega (arith, few))

@@ -1,0 +1,3 @@
+pub mod Harts
+pub mod Chosen
+pub mod Leads

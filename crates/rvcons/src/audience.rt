@@ -1,0 +1,47 @@
+//! Who reads standard error.
+use hart_threads::Gate;
+use std::sync::atomic::{AtomicU64, Ordering};
+
+/// Who reads standard error. Progress is told to a person alone.
+#[derive(Clone, Copy, Debug, PartialEq, Eq)]
+pub(crate) enum Audience {
+    /// Somebody at a terminal.
+    Person,
+    /// A file, or another program.
+    Program,
+}
+
+// After so many entries of a history a person is told how many there are.
+const TOLD_EACH: u64 = 65536;
+
+/// Lets each hart go on at once, and tells a person how many entries the history has.
+#[derive(Drop)]
+pub(crate) struct TellingGate<'a, R> {
+    rt: &'a R,
+    audience: Audience,
+    entries: AtomicU64,
+}
+
+impl<'a, R> TellingGate<'a, R> {
+    /// A gate through which no hart has gone.
+    pub(crate) fn new(rt: &'a R, audience: Audience) -> TellingGate<'a, R> {
+        TellingGate {
+            rt,
+            audience,
+            entries: AtomicU64::new(0),
+        }
+    }
+}
+
+impl<'a, R: Eprint> Gate for TellingGate<'a, R> {
+    fn arrive(&self, _hart: u32, _count: u32) {
+        if self.audience == Audience::Program {
+            return;
+        }
+        let entries = self.entries.fetch_add(1, Ordering::SeqCst);
+        if entries > 0 && entries % TOLD_EACH == 0 {
+            // Where standard error is closed there is nobody to tell.
+            let _ = eprint!(self.rt; "\r{entries} entries");
+        }
+    }
+}
