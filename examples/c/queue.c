@@ -2,8 +2,8 @@
 // it may be filled by the hart that has drawn this place, `place + 1` that it is full, `place + CELLS` that it may be filled again.
 //
 // Inputs: how many values the hart puts, 1 to 8; after each it takes one. The values of all harts differ, and each must be taken once: a hart
-// that takes one a second time stops at an EBREAK, and so does the last hart where one was never taken. Exits with the number of values
-// that all have taken.
+// that takes one a second time stops at an EBREAK, and so does a hart one of whose values nobody has taken in the end. Exits with the number
+// of values that all have taken.
 
 #define HARTS 32
 #define MOST 8
