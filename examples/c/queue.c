@@ -1,7 +1,7 @@
 // A bounded queue for any number of harts that put and take, without a lock (Vyukov). A cell's turn says what comes next in it: `place` that
 // it may be filled by the hart that has drawn this place, `place + 1` that it is full, `place + CELLS` that it may be filled again.
 //
-// Inputs: how many values the hart puts, 1 to 8; after each it takes one. The values of all harts differ, and each must be taken once: a hart
+// Inputs: how many values the hart puts, 0 to 8; after each it takes one. The values of all harts differ, and each must be taken once: a hart
 // that takes one a second time stops at an EBREAK, and so does a hart one of whose values nobody has taken in the end. Exits with the number
 // of values that all have taken.
 
