@@ -3,14 +3,14 @@
 #
 # Inputs: what the hart proposes. For 1 to 32 harts.
 #
-# Hart 0 alone marks that it commits, and says 2 in a1:
+# Hart 0 marks that it commits, and says 2 in a1:
 #
 # $ rvcons asm --out adopt_mark.elf adopt_mark.s
 # $ cat adopt_mark.choices
-# 0*60
+# 0*60 1
 # $ rvcons run adopt_mark.elf --inputs 7,9 --choices adopt_mark.choices --rule adopt
 # hart 0 exited a0 00000007 a1 00000002
-# hart 1 running pc 00010000
+# hart 1 running pc 00010004
 # verdict broken
 # [status 4]
 #

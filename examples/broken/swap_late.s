@@ -4,13 +4,13 @@
 # Inputs: what the hart would like to be decided. For two harts.
 #
 # Hart 0 swaps and has won; before its input stands in its slot, hart 1 swaps, has lost, and reads the slot. It exits
-# with the 0 that stood there, which is nobody's input:
+# with the 0 that stands there, which is nobody's input. (Where hart 0 then goes on, it exits with 7.)
 #
 # $ rvcons asm --out swap_late.elf swap_late.s
 # $ cat swap_late.choices
-# 0*5 1*15 0*6
+# 0*5 1*15
 # $ rvcons run swap_late.elf --inputs 7,9 --choices swap_late.choices --rule swap
-# hart 0 exited a0 00000007 a1 00000001
+# hart 0 running pc 00010014
 # hart 1 exited a0 00000000 a1 00000001
 # verdict broken
 # [status 4]
