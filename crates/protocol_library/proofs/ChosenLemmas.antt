@@ -7,7 +7,7 @@ use Rattle.hart_step.specs.Hart.{HartValue}
 use Rattle.machine.specs.Chosen.{is_chosen, ChooseAlike}
 use Rattle.machine.specs.declared.choice.Choice.{Choice}
 use Rattle.protocol_library.specs.declared.kind.Kind.{Kind}
-use Rattle.protocol_library.specs.declared.kind.Kind.TheVariants.{Swap, Add, LrSc, AdoptCommit}
+use Rattle.protocol_library.specs.declared.kind.Kind.TheVariants.{Swap, Add, LrSc, AdoptCommit, Rounds}
 use Rattle.protocol_library.specs.declared.verdict.Verdict.TheVariants as verdict
 use Rattle.protocol_library.specs.Counts.{chosen}
 use Rattle.protocol_library.specs.Rules.{IsProposed, KeepsConsensus, KeepsAdoptCommit, Keeps}
@@ -63,6 +63,7 @@ keeps Swap inputs a b harts alike kept = consensus inputs a b harts alike kept
 keeps Add inputs a b harts alike kept = consensus inputs a b harts alike kept
 keeps LrSc inputs a b harts alike kept = consensus inputs a b harts alike kept
 keeps AdoptCommit inputs a b harts alike kept = adopt_commit inputs a b harts alike kept
+keeps Rounds inputs a b harts alike kept = adopt_commit inputs a b harts alike kept
 
 same_bool : (x y : Bool) → (x ≡ true → y ≡ true) → (y ≡ true → x ≡ true) → x ≡ y
 same_bool true y f g = sym (f refl)

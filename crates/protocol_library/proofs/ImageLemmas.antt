@@ -5,7 +5,7 @@ use Rattle.loader.specs.Spans.{space_fault}
 use Rattle.loader.specs.declared.fault.ElfFault.{ElfFault}
 use Rattle.protocol_library.specs.Images.{bytes_of, image_of}
 use Rattle.protocol_library.specs.declared.kind.Kind.{Kind}
-use Rattle.protocol_library.specs.declared.kind.Kind.TheVariants.{Swap, Add, LrSc, AdoptCommit}
+use Rattle.protocol_library.specs.declared.kind.Kind.TheVariants.{Swap, Add, LrSc, AdoptCommit, Rounds}
 
 -- the bytes of one word
 abbrev pub four : ℕ → List ℕ
@@ -28,6 +28,7 @@ is_sound Swap = refl
 is_sound Add = refl
 is_sound LrSc = refl
 is_sound AdoptCommit = refl
+is_sound Rounds = refl
 
 pub image_made : (kind : Kind) (image : ImageValue) → Gives (Ok image) (image_or_fault 0x00010000 (image_of kind).segments) → image ≡ image_of kind
 image_made kind image given =

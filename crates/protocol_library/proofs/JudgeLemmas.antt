@@ -9,7 +9,7 @@ use Rattle.hart_step.specs.Hart.{HartValue, hart_of}
 use Rattle.hart_step.specs.declared.hart.Hart.{Hart}
 use Rattle.machine.specs.declared.choice.Choice.{Choice}
 use Rattle.protocol_library.specs.declared.kind.Kind.{Kind}
-use Rattle.protocol_library.specs.declared.kind.Kind.TheVariants.{Swap, Add, LrSc, AdoptCommit}
+use Rattle.protocol_library.specs.declared.kind.Kind.TheVariants.{Swap, Add, LrSc, AdoptCommit, Rounds}
 use Rattle.protocol_library.specs.Counts.{chosen}
 use Rattle.protocol_library.specs.Rules.{is_exited, is_faulted, value_of, flag_of, HasExited, IsProposed, AreAlike, KeepsConsensus, KeepsAdoptCommit, Keeps}
 use Rattle.protocol_library.specs.Judging.{holds, is_like, is_proposed, are_alike, agrees, decides, adopts_or_commits, is_consensus, is_adopt_commit, is_kept}
@@ -184,6 +184,7 @@ kept-decides Swap inputs choices harts = consensus-decides inputs choices harts
 kept-decides Add inputs choices harts = consensus-decides inputs choices harts
 kept-decides LrSc inputs choices harts = consensus-decides inputs choices harts
 kept-decides AdoptCommit inputs choices harts = adopt_commit-decides inputs choices harts
+kept-decides Rounds inputs choices harts = adopt_commit-decides inputs choices harts
 
 pub kept_if : (kind : Kind) (inputs : List ℕ) (choices : List Choice) (harts : List HartValue) → is_kept kind inputs choices harts ≡ true → Keeps kind inputs choices harts
 kept_if kind inputs choices harts = (kept-decides kind inputs choices harts).0

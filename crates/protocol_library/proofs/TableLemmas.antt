@@ -5,7 +5,7 @@ use Rattle.std.specs.Option.{is_some}
 use Rattle.isa_table.specs.Decoded.{decoded}
 use Rattle.protocol_library.specs.Images.{words_of}
 use Rattle.protocol_library.specs.declared.kind.Kind.{Kind}
-use Rattle.protocol_library.specs.declared.kind.Kind.TheVariants.{Swap, Add, LrSc, AdoptCommit}
+use Rattle.protocol_library.specs.declared.kind.Kind.TheVariants.{Swap, Add, LrSc, AdoptCommit, Rounds}
 
 pub all_decode : (kind : Kind) → list_all (λ w. is_some (decoded w)) (words_of kind) ≡ true
 unfolding decoded
@@ -13,6 +13,7 @@ all_decode Swap = refl
 all_decode Add = refl
 all_decode LrSc = refl
 all_decode AdoptCommit = refl
+all_decode Rounds = refl
 
 -- each element of a list that passes a test passes it
 split : (a b : Bool) → (a && b) ≡ true → (a ≡ true) × (b ≡ true)

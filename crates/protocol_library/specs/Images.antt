@@ -5,7 +5,7 @@ use Rattle.loader.specs.Segment.{SegmentValue}
 use Rattle.memory.specs.Image.{segment_at}
 use Rattle.reservations.specs.Limit.{most_harts}
 use Rattle.protocol_library.specs.declared.kind.Kind.{Kind}
-use Rattle.protocol_library.specs.declared.kind.Kind.TheVariants.{Swap, Add, LrSc, AdoptCommit}
+use Rattle.protocol_library.specs.declared.kind.Kind.TheVariants.{Swap, Add, LrSc, AdoptCommit, Rounds}
 
 -- the bytes of words, the lowest byte of each first
 abbrev pub bytes_of : List ℕ → List ℕ
@@ -110,6 +110,52 @@ adopt_words =
     0x00000073 ∷  -- ecall
     []
 
+-- four objects of adopt-commit one after another: who commits in one goes on to the end with its value, who adopts goes on to the next
+-- object with it, 512 bytes behind; register 21, s5, counts the objects that are left
+abbrev pub rounds_words : List ℕ
+rounds_words =
+    0x00011437 ∷  -- lui s0, 0x11
+    0x00400A93 ∷  -- addi s5, zero, 4
+    0x00451493 ∷  -- round: slli s1, a0, 4
+    0x008484B3 ∷  -- add s1, s1, s0
+    0x00461313 ∷  -- slli t1, a2, 4
+    0x00830333 ∷  -- add t1, t1, s0
+    0x00200913 ∷  -- addi s2, zero, 2
+    0x00B4A023 ∷  -- sw a1, 0(s1)
+    0x00100393 ∷  -- addi t2, zero, 1
+    0x0074A223 ∷  -- sw t2, 4(s1)
+    0x00040293 ∷  -- addi t0, s0, 0
+    0x0042A383 ∷  -- look: lw t2, 4(t0)
+    0x00038863 ∷  -- beq t2, zero, next
+    0x0002AE03 ∷  -- lw t3, 0(t0)
+    0x00BE0463 ∷  -- beq t3, a1, next
+    0x00100913 ∷  -- addi s2, zero, 1
+    0x01028293 ∷  -- next: addi t0, t0, 16
+    0xFE6294E3 ∷  -- bne t0, t1, look
+    0x0124A423 ∷  -- sw s2, 8(s1)
+    0x00100993 ∷  -- addi s3, zero, 1
+    0x00058A13 ∷  -- addi s4, a1, 0
+    0x00040293 ∷  -- addi t0, s0, 0
+    0x00100E93 ∷  -- addi t4, zero, 1
+    0x0082A383 ∷  -- mark: lw t2, 8(t0)
+    0x00038A63 ∷  -- beq t2, zero, after
+    0x01D39663 ∷  -- bne t2, t4, commit
+    0x00000993 ∷  -- addi s3, zero, 0
+    0x0080006F ∷  -- jal zero, after
+    0x0002AA03 ∷  -- commit: lw s4, 0(t0)
+    0x01028293 ∷  -- after: addi t0, t0, 16
+    0xFE6292E3 ∷  -- bne t0, t1, mark
+    0x000A0593 ∷  -- addi a1, s4, 0
+    0x00099863 ∷  -- bne s3, zero, out
+    0x20040413 ∷  -- addi s0, s0, 512
+    0xFFFA8A93 ∷  -- addi s5, s5, -1
+    0xF60A9EE3 ∷  -- bne s5, zero, round
+    0x00058513 ∷  -- out: addi a0, a1, 0
+    0x00098593 ∷  -- addi a1, s3, 0
+    0x05D00893 ∷  -- addi a7, zero, 93
+    0x00000073 ∷  -- ecall
+    []
+
 -- the race by an atomic instruction, for two harts
 abbrev pub race_image : ℕ → ImageValue
 race_image word = object_image (race_words word) 12
@@ -130,6 +176,10 @@ lrsc_image slots = object_image lrsc_words (4 + 4 * slots)
 abbrev pub adopt_image : ℕ → ImageValue
 adopt_image slots = object_image adopt_words (16 * slots)
 
+-- four objects of adopt-commit, each with records for 32 harts
+abbrev pub rounds_image : ImageValue
+rounds_image = object_image rounds_words 2048
+
 -- ---- by kind, with as many slots as a machine has harts
 -- the words of an object's text
 abbrev pub words_of : Kind → List ℕ
@@ -137,6 +187,7 @@ words_of Swap = swap_words
 words_of Add = add_words
 words_of LrSc = lrsc_words
 words_of AdoptCommit = adopt_words
+words_of Rounds = rounds_words
 
 -- how many bytes of data an object has
 abbrev pub zeros_of : Kind → ℕ
@@ -144,6 +195,7 @@ zeros_of Swap = 12
 zeros_of Add = 12
 zeros_of LrSc = 4 + 4 * most_harts
 zeros_of AdoptCommit = 16 * most_harts
+zeros_of Rounds = 2048
 
 -- the image of an object
 abbrev pub image_of : Kind → ImageValue

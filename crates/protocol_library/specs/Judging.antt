@@ -4,7 +4,7 @@ use Rattle.std.specs.List.{list_all, list_any}
 use Rattle.hart_step.specs.Hart.{HartValue}
 use Rattle.machine.specs.declared.choice.Choice.{Choice}
 use Rattle.protocol_library.specs.declared.kind.Kind.{Kind}
-use Rattle.protocol_library.specs.declared.kind.Kind.TheVariants.{Swap, Add, LrSc, AdoptCommit}
+use Rattle.protocol_library.specs.declared.kind.Kind.TheVariants.{Swap, Add, LrSc, AdoptCommit, Rounds}
 use Rattle.protocol_library.specs.declared.verdict.Verdict.{Verdict}
 use Rattle.protocol_library.specs.declared.verdict.Verdict.TheVariants as verdict
 use Rattle.protocol_library.specs.Rules.{is_exited, is_faulted, value_of, flag_of}
@@ -72,6 +72,7 @@ is_kept Swap inputs choices harts = is_consensus inputs choices harts
 is_kept Add inputs choices harts = is_consensus inputs choices harts
 is_kept LrSc inputs choices harts = is_consensus inputs choices harts
 is_kept AdoptCommit inputs choices harts = is_adopt_commit inputs choices harts
+is_kept Rounds inputs choices harts = is_adopt_commit inputs choices harts
 
 -- what a judge says of harts
 abbrev pub verdict_of : Kind → List ℕ → List Choice → List HartValue → Verdict

@@ -1,7 +1,7 @@
 -- The names of kinds and of verdicts.
 use Rattle.std.specs.Prelude.{ℕ, List, codes}
 use Rattle.protocol_library.specs.declared.kind.Kind.{Kind}
-use Rattle.protocol_library.specs.declared.kind.Kind.TheVariants.{Swap, Add, LrSc, AdoptCommit}
+use Rattle.protocol_library.specs.declared.kind.Kind.TheVariants.{Swap, Add, LrSc, AdoptCommit, Rounds}
 use Rattle.protocol_library.specs.declared.verdict.Verdict.{Verdict}
 use Rattle.protocol_library.specs.declared.verdict.Verdict.TheVariants.{Kept, Broken}
 
@@ -11,6 +11,7 @@ name_of Swap = codes "swap"
 name_of Add = codes "add"
 name_of LrSc = codes "lrsc"
 name_of AdoptCommit = codes "adopt"
+name_of Rounds = codes "rounds"
 
 -- a verdict's name
 abbrev pub verdict_name : Verdict → List ℕ

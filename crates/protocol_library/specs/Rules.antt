@@ -9,7 +9,7 @@ use Rattle.machine.specs.World.{run}
 use Rattle.machine.specs.Start.{started}
 use Rattle.machine.specs.declared.choice.Choice.{Choice}
 use Rattle.protocol_library.specs.declared.kind.Kind.{Kind}
-use Rattle.protocol_library.specs.declared.kind.Kind.TheVariants.{Swap, Add, LrSc, AdoptCommit}
+use Rattle.protocol_library.specs.declared.kind.Kind.TheVariants.{Swap, Add, LrSc, AdoptCommit, Rounds}
 use Rattle.protocol_library.specs.Counts.{chosen, own, refusals}
 
 -- whether a hart in this state has exited
@@ -87,3 +87,4 @@ Keeps Swap inputs choices harts = KeepsConsensus inputs choices harts
 Keeps Add inputs choices harts = KeepsConsensus inputs choices harts
 Keeps LrSc inputs choices harts = KeepsConsensus inputs choices harts
 Keeps AdoptCommit inputs choices harts = KeepsAdoptCommit inputs choices harts
+Keeps Rounds inputs choices harts = KeepsAdoptCommit inputs choices harts

@@ -31,7 +31,7 @@ fn keeps(kind: Kind, inputs: &[u32], choices: &[Choice], harts: &[Hart]) -> bool
 {
     match kind {
         Kind::Swap | Kind::Add | Kind::LrSc => is_consensus(inputs, choices, harts),
-        Kind::AdoptCommit => is_adopt_commit(inputs, choices, harts),
+        Kind::AdoptCommit | Kind::Rounds => is_adopt_commit(inputs, choices, harts),
     }
 }
 

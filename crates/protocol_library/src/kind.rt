@@ -14,11 +14,19 @@ pub enum Kind {
     LrSc,
     /// Adopt-commit of all harts by loads and stores.
     AdoptCommit,
+    /// Adopt-commit four times over, by loads and stores.
+    Rounds,
 }
 
 impl Kind {
     /// All kinds, in order.
-    pub const ALL: [Kind; 4] = [Kind::Swap, Kind::Add, Kind::LrSc, Kind::AdoptCommit];
+    pub const ALL: [Kind; 5] = [
+        Kind::Swap,
+        Kind::Add,
+        Kind::LrSc,
+        Kind::AdoptCommit,
+        Kind::Rounds,
+    ];
 
     /// The name that a command line has for the kind.
     pub fn name(self) -> &'static str
@@ -29,6 +37,7 @@ impl Kind {
             Kind::Add => "add",
             Kind::LrSc => "lrsc",
             Kind::AdoptCommit => "adopt",
+            Kind::Rounds => "rounds",
         }
     }
 
@@ -41,6 +50,7 @@ impl Kind {
             "add" => Some(Kind::Add),
             "lrsc" => Some(Kind::LrSc),
             "adopt" => Some(Kind::AdoptCommit),
+            "rounds" => Some(Kind::Rounds),
             _ => None,
         }
     }

@@ -122,6 +122,61 @@ ecall
 .zero 512
 ";
 
+/// Four objects of adopt-commit one after another, with 512 bytes of records each: who commits in one is done, who adopts goes on
+/// to the next with its value.
+pub const ROUNDS_SOURCE: &str = ".globl _start
+_start:
+lui s0, 0x11
+addi s5, zero, 4
+round:
+slli s1, a0, 4
+add s1, s1, s0
+slli t1, a2, 4
+add t1, t1, s0
+addi s2, zero, 2
+sw a1, 0(s1)
+addi t2, zero, 1
+sw t2, 4(s1)
+addi t0, s0, 0
+look:
+lw t2, 4(t0)
+beq t2, zero, next
+lw t3, 0(t0)
+beq t3, a1, next
+addi s2, zero, 1
+next:
+addi t0, t0, 16
+bne t0, t1, look
+sw s2, 8(s1)
+addi s3, zero, 1
+addi s4, a1, 0
+addi t0, s0, 0
+addi t4, zero, 1
+mark:
+lw t2, 8(t0)
+beq t2, zero, after
+bne t2, t4, commit
+addi s3, zero, 0
+jal zero, after
+commit:
+lw s4, 0(t0)
+after:
+addi t0, t0, 16
+bne t0, t1, mark
+addi a1, s4, 0
+bne s3, zero, out
+addi s0, s0, 512
+addi s5, s5, -1
+bne s5, zero, round
+out:
+addi a0, a1, 0
+addi a1, s3, 0
+addi a7, zero, 93
+ecall
+.bss
+.zero 2048
+";
+
 /// The text of an object, one statement a line.
 pub fn source(kind: Kind) -> &'static str
     ensures { result.now ≡ source_of kind }
@@ -131,5 +186,6 @@ pub fn source(kind: Kind) -> &'static str
         Kind::Add => ADD_SOURCE,
         Kind::LrSc => LRSC_SOURCE,
         Kind::AdoptCommit => ADOPT_COMMIT_SOURCE,
+        Kind::Rounds => ROUNDS_SOURCE,
     }
 }
