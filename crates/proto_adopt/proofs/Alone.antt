@@ -11,14 +11,14 @@ use Rattle.machine.specs.World.{World}
 use Rattle.protocol_library.specs.declared.kind.Kind.TheVariants.{AdoptCommit}
 use Rattle.protocol_library.specs.Images.{adopt_words, adopt_image, image_of, IsSame}
 use Rattle.protocol_library.specs.Rules.{KeepsAdoptCommit, EndsAfter, EveryRun, is_exited, is_faulted}
-use Rattle.protocol_library.proofs.Runs.{same_runs, equal_runs}
+use Rattle.protocol_library.proofs.Runs.{same_runs, equal_runs, wider_ends}
 use Rattle.protocol_library.proofs.Shape.{on, shaped_memory}
 use Rattle.protocol_library.proofs.Harts.{hart_at, turn}
-use Rattle.proto_adopt.proofs.Flat.{flat}
-use Rattle.proto_adopt.proofs.Instructions.{Point, At1, At2, At3, At4, At5, At6, At7, At8, At9, At10, At11, At12, At13, At14, At15, At16, At17, At18, At19, At20, At21, At22, At23, At24, At25, At26, At27, At28, At29, At30, place, code, stand}
-use Rattle.proto_adopt.proofs.Object.{View, New}
-use Rattle.proto_adopt.proofs.Chain.{Program, Ghosts, Inv, Result, FactsAt, obj, view_at, world, quiet}
-use Rattle.proto_adopt.proofs.Rule.{Closed, End, chain_agrees, chain_ends, small_value, small_good}
+use Rattle.adopt_law.proofs.Flat.{flat}
+use Rattle.adopt_law.proofs.Instructions.{Point, At1, At2, At3, At4, At5, At6, At7, At8, At9, At10, At11, At12, At13, At14, At15, At16, At17, At18, At19, At20, At21, At22, At23, At24, At25, At26, At27, At28, At29, At30, place, code, stand}
+use Rattle.adopt_law.proofs.Object.{View, New}
+use Rattle.adopt_law.proofs.Chain.{Program, Ghosts, Inv, Result, FactsAt, obj, view_at, world, quiet}
+use Rattle.adopt_law.proofs.Rule.{Closed, End, chain_agrees, chain_ends, small_value, small_good}
 
 data Rest : Type 0 where
   At0 At31 At32 At33 Out : Rest
@@ -163,9 +163,18 @@ agrees_in slots m few same = same_runs (λ n. n ≤ slots) KeepsAdoptCommit m (a
 pub ends_in : (slots : ℕ) (m : ImageValue) → slots ≤ 32 → IsSame m (adopt_image slots) → EveryRun (λ n. n ≤ slots) m (EndsAfter (λ n r. 19 + 14 * n))
 ends_in slots m few same = same_runs (λ n. n ≤ slots) (EndsAfter (λ n r. 19 + 14 * n)) m (adopt_image slots) same (always_ends slots few)
 
+below_numeral : (n r : ℕ) → 19 + 14 * n ≤ 20 * n + 27
+below_numeral n r = omega arith
+
+pub bounded_in : (slots : ℕ) (m : ImageValue) → slots ≤ 32 → IsSame m (adopt_image slots) → EveryRun (λ n. n ≤ slots) m (EndsAfter (λ n r. 20 * n + 27))
+bounded_in slots m few same = wider_ends (λ n. n ≤ slots) m (λ n r. 19 + 14 * n) (λ n r. 20 * n + 27) below_numeral (ends_in slots m few same)
+
 -- ---- of the image that is made
 pub made : (m : ImageValue) → m ≡ image_of AdoptCommit → EveryRun (λ n. n ≤ 32) m KeepsAdoptCommit × EveryRun (λ n. n ≤ 32) m (EndsAfter (λ n r. 19 + 14 * n))
 made m same = (
   equal_runs (λ n. n ≤ 32) KeepsAdoptCommit m (adopt_image 32) same (always_agrees 32 (omega arith)),
   equal_runs (λ n. n ≤ 32) (EndsAfter (λ n r. 19 + 14 * n)) m (adopt_image 32) same (always_ends 32 (omega arith)),
 )
+
+pub made_bounded : (m : ImageValue) → m ≡ image_of AdoptCommit → EveryRun (λ n. n ≤ 32) m (EndsAfter (λ n r. 20 * n + 27))
+made_bounded m same = wider_ends (λ n. n ≤ 32) m (λ n r. 19 + 14 * n) (λ n r. 20 * n + 27) below_numeral (made m same).1

@@ -1,8 +1,1 @@
-pub mod Flat
-pub mod Records
-pub mod Instructions
-pub mod Object
-pub mod Chain
-pub mod Moves
-pub mod Rule
 pub mod Alone

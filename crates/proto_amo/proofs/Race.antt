@@ -25,7 +25,7 @@ use Rattle.protocol_library.specs.declared.kind.Kind.TheVariants.{Swap, Add}
 use Rattle.protocol_library.specs.Images.{race_words, race_image, swap_image, add_image, image_of, IsSame}
 use Rattle.protocol_library.specs.Counts.{chosen, own}
 use Rattle.protocol_library.specs.Rules.{KeepsConsensus, HasExited, IsProposed, EndsAfter, EveryRun, is_exited, is_faulted, value_of, flag_of}
-use Rattle.protocol_library.proofs.Runs.{same_runs, equal_runs}
+use Rattle.protocol_library.proofs.Runs.{same_runs, equal_runs, wider_ends}
 use Rattle.protocol_library.proofs.Shape.{on, sight, shaped, shaped_bytes, shaped_memory, word, word_at, may_load, with_word, stores_word, stored_by, first_memory}
 use Rattle.protocol_library.proofs.Harts.{hart_at, turn, step-turn, each_set, all_harts, same_default, first_at, first_count, bump, bump_same, bump_other, spent_after, spent_own}
 
@@ -476,9 +476,24 @@ add_agrees_in m same = same_runs (λ n. n ≡ 2) KeepsConsensus m add_image same
 pub add_ends_in : (m : ImageValue) → IsSame m (image_of Add) → EveryRun (λ n. n ≡ 2) m (EndsAfter (λ n r. 15))
 add_ends_in m same = same_runs (λ n. n ≡ 2) (EndsAfter (λ n r. 15)) m add_image same add_ends
 
+below_numeral : (n r : ℕ) → 15 ≤ 18
+below_numeral n r = omega arith
+
+pub swap_bounded_in : (m : ImageValue) → IsSame m (image_of Swap) → EveryRun (λ n. n ≡ 2) m (EndsAfter (λ n r. 18))
+swap_bounded_in m same = wider_ends (λ n. n ≡ 2) m (λ n r. 15) (λ n r. 18) below_numeral (swap_ends_in m same)
+
+pub add_bounded_in : (m : ImageValue) → IsSame m (image_of Add) → EveryRun (λ n. n ≡ 2) m (EndsAfter (λ n r. 18))
+add_bounded_in m same = wider_ends (λ n. n ≡ 2) m (λ n r. 15) (λ n r. 18) below_numeral (add_ends_in m same)
+
 -- ---- of the image that is made
 pub swap_made : (m : ImageValue) → m ≡ image_of Swap → EveryRun (λ n. n ≡ 2) m KeepsConsensus × EveryRun (λ n. n ≡ 2) m (EndsAfter (λ n r. 15))
 swap_made m same = (equal_runs (λ n. n ≡ 2) KeepsConsensus m swap_image same swap_agrees, equal_runs (λ n. n ≡ 2) (EndsAfter (λ n r. 15)) m swap_image same swap_ends)
 
 pub add_made : (m : ImageValue) → m ≡ image_of Add → EveryRun (λ n. n ≡ 2) m KeepsConsensus × EveryRun (λ n. n ≡ 2) m (EndsAfter (λ n r. 15))
 add_made m same = (equal_runs (λ n. n ≡ 2) KeepsConsensus m add_image same add_agrees, equal_runs (λ n. n ≡ 2) (EndsAfter (λ n r. 15)) m add_image same add_ends)
+
+pub swap_made_bounded : (m : ImageValue) → m ≡ image_of Swap → EveryRun (λ n. n ≡ 2) m (EndsAfter (λ n r. 18))
+swap_made_bounded m same = wider_ends (λ n. n ≡ 2) m (λ n r. 15) (λ n r. 18) below_numeral (swap_made m same).1
+
+pub add_made_bounded : (m : ImageValue) → m ≡ image_of Add → EveryRun (λ n. n ≡ 2) m (EndsAfter (λ n r. 18))
+add_made_bounded m same = wider_ends (λ n. n ≡ 2) m (λ n r. 15) (λ n r. 18) below_numeral (add_made m same).1

@@ -19,7 +19,7 @@ use Rattle.protocol_library.specs.declared.kind.Kind.TheVariants.{LrSc}
 use Rattle.protocol_library.specs.Images.{lrsc_words, lrsc_image, image_of, IsSame}
 use Rattle.protocol_library.specs.Counts.{chosen}
 use Rattle.protocol_library.specs.Rules.{KeepsConsensus, HasExited, IsProposed, EndsAfter, EveryRun, is_exited, is_faulted, value_of, flag_of}
-use Rattle.protocol_library.proofs.Runs.{same_runs, equal_runs}
+use Rattle.protocol_library.proofs.Runs.{same_runs, equal_runs, wider_ends}
 use Rattle.protocol_library.proofs.Shape.{on, shaped, shaped_bytes, shaped_rights, word, word_at, may_load, may_store, stored_at, with_word, stores_word, stored_by, first_memory}
 use Rattle.protocol_library.proofs.Harts.{hart_at, turn, step-turn, same_or_not, each_set, all_harts, same_default, first_at, first_count, bump, bump_if, bump_same, bump_other, bump_if_other, spent_after, refused_after, spent_own, refused_own, lost, lost_same, lost_other}
 
@@ -575,9 +575,18 @@ agrees_in slots m few same = same_runs (λ n. n ≤ slots) KeepsConsensus m (lrs
 pub ends_in : (slots : ℕ) (m : ImageValue) → slots ≤ 32 → IsSame m (lrsc_image slots) → EveryRun (λ n. n ≤ slots) m (EndsAfter (λ n r. 17 + 4 * r))
 ends_in slots m few same = same_runs (λ n. n ≤ slots) (EndsAfter (λ n r. 17 + 4 * r)) m (lrsc_image slots) same (always_ends slots few)
 
+below_numeral : (n r : ℕ) → 17 + 4 * r ≤ 21 + 4 * r
+below_numeral n r = omega arith
+
+pub bounded_in : (slots : ℕ) (m : ImageValue) → slots ≤ 32 → IsSame m (lrsc_image slots) → EveryRun (λ n. n ≤ slots) m (EndsAfter (λ n r. 21 + 4 * r))
+bounded_in slots m few same = wider_ends (λ n. n ≤ slots) m (λ n r. 17 + 4 * r) (λ n r. 21 + 4 * r) below_numeral (ends_in slots m few same)
+
 -- ---- of the image that is made
 pub made : (m : ImageValue) → m ≡ image_of LrSc → EveryRun (λ n. n ≤ 32) m KeepsConsensus × EveryRun (λ n. n ≤ 32) m (EndsAfter (λ n r. 17 + 4 * r))
 made m same = (
   equal_runs (λ n. n ≤ 32) KeepsConsensus m (lrsc_image 32) same (always_agrees 32 (omega arith)),
   equal_runs (λ n. n ≤ 32) (EndsAfter (λ n r. 17 + 4 * r)) m (lrsc_image 32) same (always_ends 32 (omega arith)),
 )
+
+pub made_bounded : (m : ImageValue) → m ≡ image_of LrSc → EveryRun (λ n. n ≤ 32) m (EndsAfter (λ n r. 21 + 4 * r))
+made_bounded m same = wider_ends (λ n. n ≤ 32) m (λ n r. 17 + 4 * r) (λ n r. 21 + 4 * r) below_numeral (made m same).1

@@ -1,11 +1,12 @@
--- What holds in every run of an image holds in every run of one that is the same.
-use Rattle.std.proofs.Common.{◌≡◌, ℕ, List, sym, subst}
+-- What holds in every run of an image holds in every run of one that is the same; and a bound may be larger.
+use Rattle.std.proofs.Common.{◌≡◌, ◌≤◌, ℕ, List, length, sym, subst, arith}
 use Rattle.loader.specs.Image.{ImageValue}
 use Rattle.hart_step.specs.Hart.{HartValue}
 use Rattle.machine.specs.World.{World, run}
 use Rattle.machine.specs.declared.choice.Choice.{Choice}
 use Rattle.protocol_library.specs.Images.{IsSame}
-use Rattle.protocol_library.specs.Rules.{EveryRun}
+use Rattle.protocol_library.specs.Counts.{refusals}
+use Rattle.protocol_library.specs.Rules.{EveryRun, EndsAfter}
 use Rattle.protocol_library.proofs.CellLemmas.{same_start}
 
 module _ (IsMeant : ℕ → Type 0) (Rule : List ℕ → List Choice → List HartValue → Type 0) (m n : ImageValue) where
@@ -15,3 +16,9 @@ module _ (IsMeant : ℕ → Type 0) (Rule : List ℕ → List Choice → List Ha
 
   pub equal_runs : m ≡ n → EveryRun IsMeant n Rule → EveryRun IsMeant m Rule
   equal_runs same every = subst (λ (i : ImageValue). EveryRun IsMeant i Rule) (sym same) every
+
+-- who has exited after so many choices of its own has exited after more
+pub wider_ends : (IsMeant : ℕ → Type 0) (m : ImageValue) (exact wide : ℕ → ℕ → ℕ) → ((n r : ℕ) → exact n r ≤ wide n r) → EveryRun IsMeant m (EndsAfter exact)
+    → EveryRun IsMeant m (EndsAfter wide)
+wider_ends IsMeant m exact wide less every inputs choices meant fits there h d lt many =
+    every inputs choices meant fits there h d lt (omega (arith, less (length inputs) (refusals choices h), many))

@@ -1,4 +1,4 @@
-use Rattle.proto_amo.proofs.Race.{add_made}
+use Rattle.proto_amo.proofs.Race.{add_made, add_made_bounded}
 use Rattle.proto_amo.proofs.add_image.Goals as goal
 
 pub returns-clause-agreed : goal.returns-clause-agreed
@@ -6,3 +6,6 @@ returns-clause-agreed g c = (add_made c.in_ok-image.image c.in_ok-image.ensures)
 
 pub returns-clause-ended : goal.returns-clause-ended
 returns-clause-ended g c = (add_made c.in_ok-image.image c.in_ok-image.ensures).1
+
+pub returns-clause-bounded : goal.returns-clause-bounded
+returns-clause-bounded g c = add_made_bounded c.in_ok-image.image c.in_ok-image.ensures

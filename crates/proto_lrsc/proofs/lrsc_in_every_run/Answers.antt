@@ -1,4 +1,4 @@
-use Rattle.proto_lrsc.proofs.Race.{agrees_in, ends_in}
+use Rattle.proto_lrsc.proofs.Race.{agrees_in, bounded_in, ends_in}
 use Rattle.proto_lrsc.proofs.lrsc_in_every_run.Goals as goal
 
 pub returns-clause-agreed : goal.returns-clause-agreed
@@ -6,3 +6,6 @@ returns-clause-agreed c = agrees_in
 
 pub returns-clause-ended : goal.returns-clause-ended
 returns-clause-ended c = ends_in
+
+pub returns-clause-bounded : goal.returns-clause-bounded
+returns-clause-bounded c = bounded_in

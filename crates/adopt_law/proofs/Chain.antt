@@ -7,10 +7,10 @@ use Rattle.hart_step.specs.Hart.{HartValue, Registers}
 use Rattle.machine.specs.World.{World}
 use Rattle.protocol_library.proofs.Shape.{shaped, shaped_memory}
 use Rattle.protocol_library.proofs.Harts.{hart_at, same_or_not, each_set, bump, bump_same, bump_other}
-use Rattle.proto_adopt.proofs.Flat.{flat, at_round}
-use Rattle.proto_adopt.proofs.Records.{Ghost, Sound, with_ghost, presence_of, mark_of, enters, widens, Marked}
-use Rattle.proto_adopt.proofs.Instructions.{Point, At1, place, code, stand}
-use Rattle.proto_adopt.proofs.Object.{Obj, View, Facts, Frame, Stable, then_is, keeps}
+use Rattle.adopt_law.proofs.Flat.{flat, at_round}
+use Rattle.adopt_law.proofs.Records.{Ghost, Sound, with_ghost, presence_of, mark_of, enters, widens, Marked}
+use Rattle.adopt_law.proofs.Instructions.{Point, At1, place, code, stand}
+use Rattle.adopt_law.proofs.Object.{Obj, View, Facts, Frame, Stable, then_is, keeps}
 
 -- a program that has the object's instructions from `first` on, for n harts: how many objects it chains, what a hart has spent that comes to
 -- each, its register 21 then; its other places, and what holds of a hart there. Only its own view counts

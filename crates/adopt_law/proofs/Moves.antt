@@ -15,11 +15,11 @@ use Rattle.hart_step.specs.Step.{executed}
 use Rattle.machine.specs.World.{World}
 use Rattle.protocol_library.proofs.Shape.{shaped_bytes, word, word_at, with_word, stored_by}
 use Rattle.protocol_library.proofs.Harts.{hart_at, turn, same_or_not}
-use Rattle.proto_adopt.proofs.Flat.{flat, flat_at, flat_with, at_round}
-use Rattle.proto_adopt.proofs.Records.{Ghost, Sound, with_ghost, presence_of, mark_of, Shown, Signed, Marked, Valued, Good, Mixed, Agree, twos, clears, passes, writes_value, writes_presence, writes_mark, other_word, this_word}
-use Rattle.proto_adopt.proofs.Instructions.{Point, At1, At2, At3, At4, At5, At6, At7, At8, At9, At10, At11, At12, At13, At14, At15, At16, At17, At18, At19, At20, At21, At22, At23, At24, At25, At26, At27, At28, At29, At30, place, code, stand, sees, goes, taken, passed_by, gets, puts}
-use Rattle.proto_adopt.proofs.Object.{Facts}
-use Rattle.proto_adopt.proofs.Chain.{Program, Ghosts, Was, Inv, Result, obj, view_at, world, quiet, inside, ghostly, Aside, Held, after, obj_after}
+use Rattle.adopt_law.proofs.Flat.{flat, flat_at, flat_with, at_round}
+use Rattle.adopt_law.proofs.Records.{Ghost, Sound, with_ghost, presence_of, mark_of, Shown, Signed, Marked, Valued, Good, Mixed, Agree, twos, clears, passes, writes_value, writes_presence, writes_mark, other_word, this_word}
+use Rattle.adopt_law.proofs.Instructions.{Point, At1, At2, At3, At4, At5, At6, At7, At8, At9, At10, At11, At12, At13, At14, At15, At16, At17, At18, At19, At20, At21, At22, At23, At24, At25, At26, At27, At28, At29, At30, place, code, stand, sees, goes, taken, passed_by, gets, puts}
+use Rattle.adopt_law.proofs.Object.{Facts}
+use Rattle.adopt_law.proofs.Chain.{Program, Ghosts, Was, Inv, Result, obj, view_at, world, quiet, inside, ghostly, Aside, Held, after, obj_after}
 
 module _ (n : ℕ) (c : Program n) (now : ℕ → Type 0) (input : ℕ → ℕ) (spent : ℕ → ℕ) (harts : List HartValue) (reserved : Marks) (g : Ghosts) (inv : Inv n c now input spent harts g) (h : ℕ) (lt : h < n)
     (refuse : Bool) (among : now h) (few : n ≤ 32) (low : c.first < 0x20000) (in_four : g.round h < 4) (room : 512 * g.round h + 16 * n ≤ c.zeros) where

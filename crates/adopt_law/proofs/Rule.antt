@@ -16,12 +16,12 @@ use Rattle.protocol_library.specs.Counts.{chosen, own}
 use Rattle.protocol_library.specs.Rules.{KeepsAdoptCommit, AreAlike, IsProposed, HasExited, is_exited, is_faulted, value_of, flag_of}
 use Rattle.protocol_library.proofs.Shape.{on, first_memory}
 use Rattle.protocol_library.proofs.Harts.{hart_at, turn, step-turn, all_harts, same_default, first_at, first_count, bump, spent_after, spent_own}
-use Rattle.proto_adopt.proofs.Flat.{flat}
-use Rattle.proto_adopt.proofs.Records.{Ghost, Chain, later, Marked, Valued, Good, mark_of}
-use Rattle.proto_adopt.proofs.Instructions.{Point, At30, place, stand}
-use Rattle.proto_adopt.proofs.Object.{View, at_most}
-use Rattle.proto_adopt.proofs.Chain.{Program, Ghosts, Was, Global, Inv, Reached, Result, FactsAt, obj, view_at, stands, world}
-use Rattle.proto_adopt.proofs.Moves.{moves}
+use Rattle.adopt_law.proofs.Flat.{flat}
+use Rattle.adopt_law.proofs.Records.{Ghost, Chain, later, Marked, Valued, Good, mark_of}
+use Rattle.adopt_law.proofs.Instructions.{Point, At30, place, stand}
+use Rattle.adopt_law.proofs.Object.{View, at_most}
+use Rattle.adopt_law.proofs.Chain.{Program, Ghosts, Was, Global, Inv, Reached, Result, FactsAt, obj, view_at, stands, world}
+use Rattle.adopt_law.proofs.Moves.{moves}
 
 -- what holds of a hart that has exited
 pub record End (n rounds : ℕ) (now : Type 0) (r : ℕ) (v : View) (x : Registers) : Type 0 where

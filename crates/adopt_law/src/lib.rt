@@ -1,0 +1,2 @@
+//! The rule of an adopt-commit object, wherever it stands.
+#![tactic(auto)]
