@@ -12,4 +12,4 @@ pub(crate) const HISTORY: &str =
     "a file of entries, each a hart, + and its local steps before one more step, as 0+3 1+0!; ! refuses a store-conditional";
 
 /// Of `--rule`.
-pub(crate) const RULE: &str = "also judge the rule of an object: swap, add, lrsc or adopt";
+pub(crate) const RULE: &str = "also judge the rule of an object, named as lib has it";

@@ -8,6 +8,7 @@ ghost use Rattle.command_line.specs.LibLine.{lib_app, lib_names, IsLib};
 
 use crate::arguments::{add, headed, needed, text_of};
 use clap::{ArgMatches, Command};
+use protocol_library::KIND_NAMES;
 use std::alloc::{AllocError, Global};
 
 /// `lib K`: prints the source of an object of the library.
@@ -28,10 +29,7 @@ pub(crate) fn lib_command<'a>(alloc: Global) -> Result<Command<'a>, AllocError>
         "Prints the source of an object of the library",
         "Example: rvcons lib swap",
     );
-    add(
-        command,
-        needed(alloc, "K", "the object: swap, add, lrsc or adopt"),
-    )
+    add(command, needed(alloc, "K", KIND_NAMES))
 }
 
 /// The order that clap's matches hold.

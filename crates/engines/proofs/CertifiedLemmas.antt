@@ -9,7 +9,7 @@ use Rattle.machine.specs.World.{run}
 use Rattle.machine.specs.Start.{started}
 use Rattle.machine.specs.declared.choice.Choice.{Choice}
 use Rattle.protocol_library.specs.declared.kind.Kind.{Kind}
-use Rattle.protocol_library.specs.declared.kind.Kind.TheVariants.{Swap, Add, LrSc, AdoptCommit}
+use Rattle.protocol_library.specs.declared.kind.Kind.TheVariants.{Swap, Add, LrSc, AdoptCommit, Rounds}
 use Rattle.protocol_library.specs.declared.verdict.Verdict.{Verdict}
 use Rattle.protocol_library.specs.declared.verdict.Verdict.TheVariants as verdict
 use Rattle.protocol_library.specs.Images.{image_of, IsSame}
@@ -18,6 +18,7 @@ use Rattle.protocol_library.proofs.JudgeLemmas.{kept-decides}
 use Rattle.proto_amo.proofs.Race.{swap_agrees_in, add_agrees_in}
 use Rattle.proto_lrsc.proofs.Race.{agrees_in as lrsc_agrees_in}
 use Rattle.proto_adopt.proofs.Alone.{agrees_in as adopt_agrees_in}
+use Rattle.proto_rounds.proofs.Four.{agrees_in as rounds_agrees_in}
 use Rattle.engines.specs.Certified.{AnswersKept, IsCertified, IsMeantFor}
 use Rattle.ends.specs.Ends.{ends_of, verdict_on}
 use Rattle.programs.specs.Program.{program_of}
@@ -48,6 +49,7 @@ object_keeps LrSc image inputs choices same meant words there =
     lrsc_agrees_in most_harts image (omega arith) same inputs choices meant words there
 object_keeps AdoptCommit image inputs choices same meant words there =
     adopt_agrees_in most_harts image (omega arith) same inputs choices meant words there
+object_keeps Rounds image inputs choices same meant words there = rounds_agrees_in image same inputs choices meant words there
 
 -- and so a judge says of it
 pub object_is_kept : (kind : Kind) (image : ImageValue) (inputs : List ℕ) (choices : List Choice) → IsSame image (image_of kind)

@@ -4,7 +4,7 @@ use Rattle.std.specs.declared.result.Result.TheVariants.{Ok, Err}
 use Rattle.reservations.specs.Limit.{most_harts}
 use Rattle.loader.specs.Image.{ImageValue}
 use Rattle.protocol_library.specs.declared.kind.Kind.{Kind}
-use Rattle.protocol_library.specs.declared.kind.Kind.TheVariants.{Swap, Add, LrSc, AdoptCommit}
+use Rattle.protocol_library.specs.declared.kind.Kind.TheVariants.{Swap, Add, LrSc, AdoptCommit, Rounds}
 use Rattle.protocol_library.specs.declared.verdict.Verdict.TheVariants.{Kept}
 use Rattle.protocol_library.specs.Images.{image_of, IsSame}
 use Rattle.ends.specs.Ends.{verdict_line}
@@ -20,6 +20,7 @@ IsMeantFor Swap harts = harts ≡ 2
 IsMeantFor Add harts = harts ≡ 2
 IsMeantFor LrSc harts = harts ≤ most_harts
 IsMeantFor AdoptCommit harts = harts ≤ most_harts
+IsMeantFor Rounds harts = harts ≤ most_harts
 
 -- a program is the object of the rule's kind, which is for as many harts as there are inputs
 pub record IsCertified (form : ProgramForm) (program inputs : List ℕ) (rule : Option Kind) : Type 0 where

@@ -168,6 +168,9 @@ fn library_of<A: Allocator>(image: &Image<A>) -> Option<Kind>
     if certify(Kind::AdoptCommit, image) {
         return Some(Kind::AdoptCommit);
     }
+    if certify(Kind::Rounds, image) {
+        return Some(Kind::Rounds);
+    }
     None
 }
 

@@ -18,6 +18,9 @@ pub enum Kind {
     Rounds,
 }
 
+/// The names of all kinds, as a text of help or an error lists them.
+pub const KIND_NAMES: &str = "swap, add, lrsc, adopt or rounds";
+
 impl Kind {
     /// All kinds, in order.
     pub const ALL: [Kind; 5] = [

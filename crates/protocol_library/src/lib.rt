@@ -4,7 +4,7 @@
 pub use certifying::certify;
 pub use images::make_image;
 pub use judging::judge;
-pub use kind::Kind;
+pub use kind::{KIND_NAMES, Kind};
 pub use tables::table;
 pub use text::{words, zeros};
 pub use texts::source;

@@ -8,6 +8,7 @@ ghost use Rattle.threads_engine.specs.Threads.{status_of as status_of_threads};
 use command_line::LineFault;
 use devices::Status;
 use programs::RunFault;
+use protocol_library::KIND_NAMES;
 use replay_engine::ReplayFault;
 use std::io;
 use threads_engine::ThreadsEngineFault;
@@ -100,10 +101,7 @@ pub(crate) fn refuse(rt: &(impl Print + Eprint), fault: &LineFault) -> Status {
             rt,
             "a number is not written in decimal digits, or is too large",
         ),
-        LineFault::BadObject => bad_line(
-            rt,
-            "there is no such object; write swap, add, lrsc or adopt",
-        ),
+        LineFault::BadObject => bad_object(rt),
         LineFault::Memory => out_of_memory(rt),
     }
 }
@@ -113,5 +111,14 @@ pub(crate) fn bad_line(rt: &impl Eprint, why: &str) -> Status
     ensures { result ≡ Status.BadLine }
 {
     let _ = eprintln!(rt; "rvcons: {why}");
+    Status::BadLine
+}
+
+/// An object that the command line names is none of the library's.
+fn bad_object(rt: &impl Eprint) -> Status
+    ensures { result ≡ Status.BadLine }
+{
+    let names = KIND_NAMES;
+    let _ = eprintln!(rt; "rvcons: there is no such object; write {names}");
     Status::BadLine
 }
