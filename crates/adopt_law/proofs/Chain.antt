@@ -12,12 +12,13 @@ use Rattle.adopt_law.proofs.Records.{Ghost, Sound, with_ghost, presence_of, mark
 use Rattle.adopt_law.proofs.Instructions.{Point, At1, place, code, stand}
 use Rattle.adopt_law.proofs.Object.{Obj, View, Facts, Frame, Stable, then_is, keeps}
 
--- a program that has the object's instructions from `first` on, for n harts: how many objects it chains, what a hart has spent that comes to
--- each, its register 21 then; its other places, and what holds of a hart there. Only its own view counts
+-- a program that has the object's instructions from `first` on, for n harts: how many data words stand before its first object, how many objects
+-- it chains, 512 bytes apart, what a hart has spent that comes to each, its register 21 then; its other places, and what holds of a hart there. Only its own view counts
 pub record Program (n : ℕ) : Type 1 where
   pub text : List ℕ
   pub zeros : ℕ
   pub first : ℕ
+  pub shift : ℕ
   pub rounds : ℕ
   pub begin : ℕ → ℕ
   pub left : ℕ → ℕ
@@ -28,7 +29,8 @@ pub record Program (n : ℕ) : Type 1 where
   pub low : first < 0x20000
   pub even : first % 4 ≡ 0
   pub few : n ≤ 32
-  pub size : (r : ℕ) → r < rounds → 512 * r + 16 * n ≤ zeros × r < 4
+  pub near : shift < 2 ^ 20
+  pub size : (r : ℕ) → r < rounds → 4 * shift + 512 * r + 16 * n ≤ zeros × r < 4
   pub fetch : (words : ℕ → ℕ) (p : Point) → place p < 116 → fetched (shaped_memory text zeros words) (first + place p) ≡ Some (code p)
 
 -- what is kept beside the machine: the words by object, and for each object and hart its ghost and what it brings; and which object it is at
@@ -58,7 +60,7 @@ pub record Global (n rounds : ℕ) (now : ℕ → Type 0) (input : ℕ → ℕ) 
 
 module _ (n : ℕ) (c : Program n) (now : ℕ → Type 0) where
   abbrev pub obj : Ghosts → ℕ → Obj
-  obj g s = record { n = n; base = 0x11000 + 512 * s; began = c.begin s; left = c.left s; input = g.given s; was = Was n now g.round s; words = g.words s }
+  obj g s = record { n = n; base = 0x11000 + 4 * c.shift + 512 * s; began = c.begin s; left = c.left s; input = g.given s; was = Was n now g.round s; words = g.words s }
 
   abbrev pub view_at : Ghosts → (spent s k : ℕ) → View
   view_at g spent s k = record { value = g.words s (4 * k); presence = g.words s (4 * k + 1); mark = g.words s (4 * k + 2); ghost = g.ghosts s k; spent = spent; input = g.given s k }
@@ -90,7 +92,7 @@ module _ (n : ℕ) (c : Program n) (now : ℕ → Type 0) where
     pub harts : List HartValue
     pub reserved : Marks
     pub g : Ghosts
-    pub is : w ≡ world harts (flat g.words) reserved
+    pub is : w ≡ world harts (flat c.shift g.words) reserved
     pub inv : Inv input spent harts g
 
   keeps_at : (o : Obj) (input' : ℕ → ℕ) (was' : ℕ → Type 0) (words' : ℕ → ℕ) (v : View) (s k : ℕ) (p : Point ⊎ c.Rest) (x : Registers) →
@@ -107,7 +109,7 @@ module _ (n : ℕ) (c : Program n) (now : ℕ → Type 0) where
     Result w = Reached input (bump h spent) w
 
     -- after it, h's own facts and the others'
-    changes : (g' : Ghosts) (reserved' : Marks) (p : Point ⊎ c.Rest) (y : Registers) (w : World) → w ≡ world (set harts h (stands p y)) (flat g'.words) reserved' →
+    changes : (g' : Ghosts) (reserved' : Marks) (p : Point ⊎ c.Rest) (y : Registers) (w : World) → w ≡ world (set harts h (stands p y)) (flat c.shift g'.words) reserved' →
         Global n c.rounds now input g' → FactsAt (obj g' (g'.round h)) (view_at g' (spent h + 1) (g'.round h) h) (g'.round h) h p y →
         ((k : ℕ) → k < n → k ≢ h → (q : Point ⊎ c.Rest) (x : Registers) → FactsAt (obj g (g.round k)) (view_at g (spent k) (g.round k) k) (g.round k) k q x →
         FactsAt (obj g' (g'.round k)) (view_at g' (spent k) (g'.round k) k) (g'.round k) k q x) → Result w
@@ -129,7 +131,7 @@ module _ (n : ℕ) (c : Program n) (now : ℕ → Type 0) where
         still k small ne l = rw (bump_other h k spent ne) (record { point = l.point; regs = l.regs; is = l.is; facts = others k small ne l.point l.regs l.facts })
 
     -- that changes the hart alone
-    pub quiet : (p : Point ⊎ c.Rest) (y : Registers) (w : World) → w ≡ world (set harts h (stands p y)) (flat g.words) reserved →
+    pub quiet : (p : Point ⊎ c.Rest) (y : Registers) (w : World) → w ≡ world (set harts h (stands p y)) (flat c.shift g.words) reserved →
         FactsAt (obj g r) (view_at g (spent h + 1) r h) r h p y → Result w
     quiet p y w e f = changes g reserved p y w e inv.all f (λ k small ne q x f. f)
 
@@ -148,7 +150,7 @@ module _ (n : ℕ) (c : Program n) (now : ℕ → Type 0) where
 
     -- that changes the words or the ghosts of the hart's object
     pub inside : (words' : ℕ → ℕ) (reserved' : Marks) (ghosts' : ℕ → Ghost) (gh : Ghost) (p : Point ⊎ c.Rest) (y : Registers) (w : World) →
-        w ≡ world (set harts h (stands p y)) (flat (at_round g.words r words')) reserved' → Sound n (g.given r) (Was n now g.round r) words' ghosts' →
+        w ≡ world (set harts h (stands p y)) (flat c.shift (at_round g.words r words')) reserved' → Sound n (g.given r) (Was n now g.round r) words' ghosts' →
         ghosts' h ≡ gh → ((k : ℕ) → k ≢ h → ghosts' k ≡ g.ghosts r k) → Aside words' → Held words' →
         FactsAt (obj_after words') (after words' gh) r h p y → Result w
     inside words' reserved' ghosts' gh p y w e sound mine others aside held f =
@@ -198,11 +200,11 @@ module _ (n : ℕ) (c : Program n) (now : ℕ → Type 0) where
         }
 
     -- that changes what is kept of the hart
-    pub ghostly : (gh : Ghost) (p : Point ⊎ c.Rest) (y : Registers) (w : World) → w ≡ world (set harts h (stands p y)) (flat g.words) reserved →
+    pub ghostly : (gh : Ghost) (p : Point ⊎ c.Rest) (y : Registers) (w : World) → w ≡ world (set harts h (stands p y)) (flat c.shift g.words) reserved →
         Sound n (g.given r) (Was n now g.round r) (g.words r) (with_ghost (g.ghosts r) h gh) →
         FactsAt (obj g r) (after (g.words r) gh) r h p y → Result w
     ghostly gh p y w e sound f =
-        inside (g.words r) reserved (with_ghost (g.ghosts r) h gh) gh p y w (e ∙ ap (λ (ws : ℕ → ℕ → ℕ). world (set harts h (stands p y)) (flat ws) reserved) same) sound
+        inside (g.words r) reserved (with_ghost (g.ghosts r) h gh) gh p y w (e ∙ ap (λ (ws : ℕ → ℕ → ℕ). world (set harts h (stands p y)) (flat c.shift ws) reserved) same) sound
         (rw (eq-eqb h h refl)) (λ k ne. rw (ne_eqb k h ne)) (λ k ne. record { value = refl; presence = refl; mark = refl })
         (record { up = λ j q. q; mark = λ j m nz q. q }) f
       where
@@ -231,7 +233,7 @@ module _ (n : ℕ) (c : Program n) (now : ℕ → Type 0) where
     }
 
     -- that comes to the next object, with its value
-    pub next : (y : Registers) (w : World) → w ≡ world (set harts h (stands (inl At1) y)) (flat g.words) reserved → suc r < c.rounds → now h →
+    pub next : (y : Registers) (w : World) → w ≡ world (set harts h (stands (inl At1) y)) (flat c.shift g.words) reserved → suc r < c.rounds → now h →
         (g.ghosts r h).passed ≡ n → brought < 2 ^ 32 → Frame (obj g (suc r)) h y → y 11 ≡ brought → spent h + 1 ≤ c.begin (suc r) → Result w
     next y w e more_to_come mine all_passed fit frame has cost =
         changes gn reserved (inl At1) y w e all own (λ k small ne q x f. rw (ne_eqb k h ne) (others (g.round k) k ne q x f))

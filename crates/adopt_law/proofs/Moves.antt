@@ -22,12 +22,12 @@ use Rattle.adopt_law.proofs.Object.{Facts}
 use Rattle.adopt_law.proofs.Chain.{Program, Ghosts, Was, Inv, Result, obj, view_at, world, quiet, inside, ghostly, Aside, Held, after, obj_after}
 
 module _ (n : ℕ) (c : Program n) (now : ℕ → Type 0) (input : ℕ → ℕ) (spent : ℕ → ℕ) (harts : List HartValue) (reserved : Marks) (g : Ghosts) (inv : Inv n c now input spent harts g) (h : ℕ) (lt : h < n)
-    (refuse : Bool) (among : now h) (few : n ≤ 32) (low : c.first < 0x20000) (in_four : g.round h < 4) (room : 512 * g.round h + 16 * n ≤ c.zeros) where
+    (refuse : Bool) (among : now h) (few : n ≤ 32) (low : c.first < 0x20000) (in_four : g.round h < 4) (near : c.shift < 2 ^ 20) (room : 4 * c.shift + 512 * g.round h + 16 * n ≤ c.zeros) where
   abbrev r : ℕ
   r = g.round h
 
   abbrev base : ℕ
-  base = 0x11000 + 512 * g.round h
+  base = 0x11000 + 4 * c.shift + 512 * g.round h
 
   abbrev words : ℕ → ℕ
   words = g.words (g.round h)
@@ -51,7 +51,7 @@ module _ (n : ℕ) (c : Program n) (now : ℕ → Type 0) (input : ℕ → ℕ) 
   fits k small = inv.all.fits r k small
 
   abbrev before : World
-  before = world n c now harts (flat g.words) reserved
+  before = world n c now harts (flat c.shift g.words) reserved
 
   abbrev To : Type 0
   To = Result n c now input spent harts reserved g inv h lt (turn before h refuse (hart_at harts h))
@@ -60,10 +60,10 @@ module _ (n : ℕ) (c : Program n) (now : ℕ → Type 0) (input : ℕ → ℕ) 
   Here p x = Facts (obj n c now g r) (view_at n c now g (spent h) r h) h p x
 
   abbrev bytes : ℕ → ℕ
-  bytes = shaped_bytes c.text c.zeros (flat g.words)
+  bytes = shaped_bytes c.text c.zeros (flat c.shift g.words)
 
   abbrev Becomes : Point → Registers → Type 0
-  Becomes q y = turn before h refuse (hart_at harts h) ≡ world n c now (set harts h (stand c.first q y)) (flat g.words) reserved
+  Becomes q y = turn before h refuse (hart_at harts h) ≡ world n c now (set harts h (stand c.first q y)) (flat c.shift g.words) reserved
 
   quiet_at : (p : Point) (y : Registers) → Becomes p y → Facts (obj n c now g r) (view_at n c now g (spent h + 1) r h) h p y → To
   quiet_at p y e f = quiet n c now input spent harts reserved g inv h lt (inl p) y _ e f
@@ -80,56 +80,56 @@ module _ (n : ℕ) (c : Program n) (now : ℕ → Type 0) (input : ℕ → ℕ) 
 
   -- an instruction that goes on to the next one, or by imm
   line : (p q : Point) (x y : Registers) → place p < 116 →
-      executed (decoded (code p)) (sees c.text c.zeros harts (flat g.words) reserved h refuse x (c.first + place p)) h refuse x (c.first + place p)
-      ≡ goes_on (sees c.text c.zeros harts (flat g.words) reserved h refuse x (c.first + place p)) y (wrap (c.first + place p + 4)) →
+      executed (decoded (code p)) (sees c.text c.zeros harts (flat c.shift g.words) reserved h refuse x (c.first + place p)) h refuse x (c.first + place p)
+      ≡ goes_on (sees c.text c.zeros harts (flat c.shift g.words) reserved h refuse x (c.first + place p)) y (wrap (c.first + place p + 4)) →
       place q ≡ place p + 4 → hart_at harts h ≡ stand c.first p x → Becomes q y
   line p q x y small does next e =
-      goes c.text c.zeros harts (flat g.words) reserved h refuse x y (c.first + place p) (code p) (c.first + place p + 4) (c.first + place q) does (omega arith) (c.fetch (flat g.words) p small) e
+      goes c.text c.zeros harts (flat c.shift g.words) reserved h refuse x y (c.first + place p) (code p) (c.first + place p + 4) (c.first + place q) does (omega arith) (c.fetch (flat c.shift g.words) p small) e
 
   jump : (p q : Point) (x y : Registers) (imm : ℕ) → place p < 116 →
-      executed (decoded (code p)) (sees c.text c.zeros harts (flat g.words) reserved h refuse x (c.first + place p)) h refuse x (c.first + place p)
-      ≡ goes_on (sees c.text c.zeros harts (flat g.words) reserved h refuse x (c.first + place p)) y (wrap (c.first + place p + imm)) →
+      executed (decoded (code p)) (sees c.text c.zeros harts (flat c.shift g.words) reserved h refuse x (c.first + place p)) h refuse x (c.first + place p)
+      ≡ goes_on (sees c.text c.zeros harts (flat c.shift g.words) reserved h refuse x (c.first + place p)) y (wrap (c.first + place p + imm)) →
       (place p + imm) % 2 ^ 32 ≡ place q → place q < 200 → hart_at harts h ≡ stand c.first p x → Becomes q y
   jump p q x y imm small does next near e =
-      goes c.text c.zeros harts (flat g.words) reserved h refuse x y (c.first + place p) (code p) (c.first + place p + imm) (c.first + place q) does (far (place p) imm (place q) next near) (c.fetch (flat g.words) p small) e
+      goes c.text c.zeros harts (flat c.shift g.words) reserved h refuse x y (c.first + place p) (code p) (c.first + place p + imm) (c.first + place q) does (far (place p) imm (place q) next near) (c.fetch (flat c.shift g.words) p small) e
 
   branch_to : (p q : Point) (x : Registers) (op : BranchOp) (rs1 rs2 imm : ℕ) → place p < 116 → decoded (code p) ≡ Some (Branch op rs1 rs2 imm) → (place p + imm) % 2 ^ 32 ≡ place q → place q < 200 → place q % 4 ≡ 0 →
       is_taken op (x rs1) (x rs2) ≡ true → hart_at harts h ≡ stand c.first p x → Becomes q x
   branch_to p q x op rs1 rs2 imm small means next near even so e =
       jump p q x x imm small
-      (ap (λ (o : Option Instr). executed o (sees c.text c.zeros harts (flat g.words) reserved h refuse x (c.first + place p)) h refuse x (c.first + place p)) means
-      ∙ taken c.text c.zeros harts (flat g.words) reserved h refuse x (c.first + place p) op rs1 rs2 imm so (aligned (place p) imm (place q) next even)) next near e
+      (ap (λ (o : Option Instr). executed o (sees c.text c.zeros harts (flat c.shift g.words) reserved h refuse x (c.first + place p)) h refuse x (c.first + place p)) means
+      ∙ taken c.text c.zeros harts (flat c.shift g.words) reserved h refuse x (c.first + place p) op rs1 rs2 imm so (aligned (place p) imm (place q) next even)) next near e
 
   branch_by : (p q : Point) (x : Registers) (op : BranchOp) (rs1 rs2 imm : ℕ) → place p < 116 → decoded (code p) ≡ Some (Branch op rs1 rs2 imm) → place q ≡ place p + 4 →
       is_taken op (x rs1) (x rs2) ≡ false → hart_at harts h ≡ stand c.first p x → Becomes q x
   branch_by p q x op rs1 rs2 imm small means next so e =
       line p q x x small
-      (ap (λ (o : Option Instr). executed o (sees c.text c.zeros harts (flat g.words) reserved h refuse x (c.first + place p)) h refuse x (c.first + place p)) means
-      ∙ passed_by c.text c.zeros harts (flat g.words) reserved h refuse x (c.first + place p) op rs1 rs2 imm so) next e
+      (ap (λ (o : Option Instr). executed o (sees c.text c.zeros harts (flat c.shift g.words) reserved h refuse x (c.first + place p)) h refuse x (c.first + place p)) means
+      ∙ passed_by c.text c.zeros harts (flat c.shift g.words) reserved h refuse x (c.first + place p) op rs1 rs2 imm so) next e
 
   load : (p q : Point) (x : Registers) (rd rs1 imm k : ℕ) → place p < 116 → decoded (code p) ≡ Some (Load Lw rd rs1 imm) → place q ≡ place p + 4 → 4 * k + 4 ≤ 16 * n →
       wrap (x rs1 + imm) ≡ base + 4 * k → hart_at harts h ≡ stand c.first p x → Becomes q (put x rd (word bytes (wrap (x rs1 + imm))))
   load p q x rd rs1 imm k small means next within is e =
       let s = c.short in
       line p q x (put x rd (word bytes (wrap (x rs1 + imm)))) small
-      (ap (λ (o : Option Instr). executed o (sees c.text c.zeros harts (flat g.words) reserved h refuse x (c.first + place p)) h refuse x (c.first + place p)) means
-      ∙ gets c.text c.zeros harts (flat g.words) reserved h refuse x (c.first + place p) rd rs1 imm (128 * g.round h + k) s (omega arith) (omega arith)) next e
+      (ap (λ (o : Option Instr). executed o (sees c.text c.zeros harts (flat c.shift g.words) reserved h refuse x (c.first + place p)) h refuse x (c.first + place p)) means
+      ∙ gets c.text c.zeros harts (flat c.shift g.words) reserved h refuse x (c.first + place p) rd rs1 imm (c.shift + (128 * g.round h + k)) s (omega arith) (omega arith)) next e
 
   -- what it brings
   loads : (k a : ℕ) → 4 * k + 4 ≤ 16 * n → a ≡ base + 4 * k → (v : ℕ) → words k ≡ v → v < 2 ^ 32 → word bytes a ≡ v
   loads k a within is v q small =
-      let e = flat_at g.words r k (128 * g.round h + k) (omega arith) refl in
-      word_at c.text c.zeros (flat g.words) (128 * g.round h + k) a (omega arith) (omega arith) ∙ rw e (omega arith)
+      let e = flat_at c.shift g.words r k (c.shift + (128 * g.round h + k)) (omega arith) refl in
+      word_at c.text c.zeros (flat c.shift g.words) (c.shift + (128 * g.round h + k)) a (omega arith) (omega arith) ∙ rw e (omega arith)
 
   store : (p q : Point) (x : Registers) (rs1 rs2 imm k v : ℕ) → place p < 116 → decoded (code p) ≡ Some (Store Sw rs1 rs2 imm) → place q ≡ place p + 4 → 4 * k + 4 ≤ 16 * n →
       wrap (x rs1 + imm) ≡ base + 4 * k → x rs2 ≡ v → hart_at harts h ≡ stand c.first p x →
-      turn before h refuse (hart_at harts h) ≡ world n c now (set harts h (stand c.first q x)) (flat (at_round g.words r (with_word words k v))) (stored_by h (wrap (x rs1 + imm)) reserved)
+      turn before h refuse (hart_at harts h) ≡ world n c now (set harts h (stand c.first q x)) (flat c.shift (at_round g.words r (with_word words k v))) (stored_by h (wrap (x rs1 + imm)) reserved)
   store p q x rs1 rs2 imm k v small means next within is what e =
       let s = c.short in
-      puts c.text c.zeros harts (flat g.words) reserved h refuse x (c.first + place p) (code p) (c.first + place q) rs1 rs2 imm (128 * g.round h + k) means s (omega arith) (omega arith) (omega arith)
-      (c.fetch (flat g.words) p small) e
+      puts c.text c.zeros harts (flat c.shift g.words) reserved h refuse x (c.first + place p) (code p) (c.first + place q) rs1 rs2 imm (c.shift + (128 * g.round h + k)) means s (omega arith) (omega arith) (omega arith)
+      (c.fetch (flat c.shift g.words) p small) e
       ∙ ap (λ (ws : ℕ → ℕ). world n c now (set harts h (stand c.first q x)) ws (stored_by h (wrap (x rs1 + imm)) reserved))
-      (flat_with g.words r k (128 * g.round h + k) (x rs2) (omega arith) refl ∙ ap (λ (u : ℕ). flat (at_round g.words r (with_word words k u))) what)
+      (flat_with c.shift g.words r k (c.shift + (128 * g.round h + k)) (x rs2) (omega arith) refl ∙ ap (λ (u : ℕ). flat c.shift (at_round g.words r (with_word words k u))) what)
 
   stored : (p q : Point) (x : Registers) (rs1 rs2 imm k v : ℕ) → place p < 116 → decoded (code p) ≡ Some (Store Sw rs1 rs2 imm) → place q ≡ place p + 4 → 4 * k + 4 ≤ 16 * n →
       wrap (x rs1 + imm) ≡ base + 4 * k → x rs2 ≡ v → hart_at harts h ≡ stand c.first p x → Sound n inp was (with_word words k v) ghosts →

@@ -14,9 +14,9 @@ use Rattle.machine.specs.declared.choice.Choice.{Choice}
 use Rattle.protocol_library.specs.Images.{object_image}
 use Rattle.protocol_library.specs.Counts.{chosen, own}
 use Rattle.protocol_library.specs.Rules.{KeepsAdoptCommit, AreAlike, IsProposed, HasExited, is_exited, is_faulted, value_of, flag_of}
-use Rattle.protocol_library.proofs.Shape.{on, first_memory}
+use Rattle.protocol_library.proofs.Shape.{on, shaped_memory, first_memory}
 use Rattle.protocol_library.proofs.Harts.{hart_at, turn, step-turn, all_harts, same_default, first_at, first_count, bump, spent_after, spent_own}
-use Rattle.adopt_law.proofs.Flat.{flat}
+use Rattle.adopt_law.proofs.Flat.{flat, flat_zero}
 use Rattle.adopt_law.proofs.Records.{Ghost, Chain, later, Marked, Valued, Good, mark_of}
 use Rattle.adopt_law.proofs.Instructions.{Point, At30, place, stand}
 use Rattle.adopt_law.proofs.Object.{View, at_most}
@@ -47,10 +47,10 @@ pub record Closed (n : ℕ) (c : Program n) (bound : ℕ) : Type 1 where
   pub within : (r : ℕ) → r < c.rounds → c.begin r + 14 + 14 * n < bound
   pub past_moves : (now : ℕ → Type 0) (input : ℕ → ℕ) (spent : ℕ → ℕ) (harts : List HartValue) (reserved : Marks) (g : Ghosts) (inv : Inv n c now input spent harts g) (h : ℕ) (lt : h < n) (refuse : Bool) → now h →
       (x : Registers) → hart_at harts h ≡ stand c.first At30 x → FactsAt n c now (obj n c now g (g.round h)) (view_at n c now g (spent h) (g.round h) h) (g.round h) h (inl At30) x →
-      Result n c now input spent harts reserved g inv h lt (turn (world n c now harts (flat g.words) reserved) h refuse (hart_at harts h))
+      Result n c now input spent harts reserved g inv h lt (turn (world n c now harts (flat c.shift g.words) reserved) h refuse (hart_at harts h))
   pub rest_moves : (now : ℕ → Type 0) (input : ℕ → ℕ) (spent : ℕ → ℕ) (harts : List HartValue) (reserved : Marks) (g : Ghosts) (inv : Inv n c now input spent harts g) (h : ℕ) (lt : h < n) (refuse : Bool) → now h →
       (q : c.Rest) (x : Registers) → hart_at harts h ≡ c.rest q x → FactsAt n c now (obj n c now g (g.round h)) (view_at n c now g (spent h) (g.round h) h) (g.round h) h (inr q) x →
-      Result n c now input spent harts reserved g inv h lt (turn (world n c now harts (flat g.words) reserved) h refuse (hart_at harts h))
+      Result n c now input spent harts reserved g inv h lt (turn (world n c now harts (flat c.shift g.words) reserved) h refuse (hart_at harts h))
 
 chosen_mark : (n : ℕ) (input : ℕ → ℕ) (was : ℕ → Type 0) (words : ℕ → ℕ) (gh : Ghost) (k : ℕ) → Marked n input was words gh k → mark_of words k ≡ 2 → was k
 chosen_mark n input was words gh k (inl p) e = absurd (let q = p.0 in omega arith)
@@ -191,7 +191,7 @@ module _ (inputs : List ℕ) (all : List Choice) (c : Program (length inputs)) (
   one : (spent : ℕ → ℕ) (harts : List HartValue) (reserved : Marks) (g : Ghosts) (inv : Inv (length inputs) c present brought spent harts g) (h : ℕ) → h < length inputs → (refuse : Bool) → present h →
       (p : Point ⊎ c.Rest) (x : Registers) → hart_at harts h ≡ stands (length inputs) c present p x →
       FactsAt (length inputs) c present (obj (length inputs) c present g (g.round h)) (view_at (length inputs) c present g (spent h) (g.round h) h) (g.round h) h p x →
-      Arrives (bump h spent) (turn (world (length inputs) c present harts (flat g.words) reserved) h refuse (hart_at harts h))
+      Arrives (bump h spent) (turn (world (length inputs) c present harts (flat c.shift g.words) reserved) h refuse (hart_at harts h))
   one spent harts reserved g inv h lt refuse mine (inl p) x e f = at_point (by_place p) p x e f
     where
       by_place : (p : Point) → (place p < 116) ⊎ (place p ≢ place p ⊎ (p ≡ At30))
@@ -200,9 +200,9 @@ module _ (inputs : List ℕ) (all : List Choice) (c : Program (length inputs)) (
 
       at_point : {q : Point} → (place q < 116) ⊎ (place q ≢ place q ⊎ (q ≡ At30)) → (p : Point) (x : Registers) → hart_at harts h ≡ stand c.first p x →
           FactsAt (length inputs) c present (obj (length inputs) c present g (g.round h)) (view_at (length inputs) c present g (spent h) (g.round h) h) (g.round h) h (inl p) x →
-          Arrives (bump h spent) (turn (world (length inputs) c present harts (flat g.words) reserved) h refuse (hart_at harts h))
+          Arrives (bump h spent) (turn (world (length inputs) c present harts (flat c.shift g.words) reserved) h refuse (hart_at harts h))
       at_point z At30 x e f = shut.past_moves present brought spent harts reserved g inv h lt refuse mine x e f
-      at_point z p x e f = moves (length inputs) c present brought spent harts reserved g inv h lt refuse mine c.few c.low (c.size (g.round h) (inv.all.early h lt)).1 (c.size (g.round h) (inv.all.early h lt)).0
+      at_point z p x e f = moves (length inputs) c present brought spent harts reserved g inv h lt refuse mine c.few c.low (c.size (g.round h) (inv.all.early h lt)).1 c.near (c.size (g.round h) (inv.all.early h lt)).0
           p x (omega arith) e f
   one spent harts reserved g inv h lt refuse mine (inr q) x e f = shut.rest_moves present brought spent harts reserved g inv h lt refuse mine q x e f
 
@@ -211,7 +211,7 @@ module _ (inputs : List ℕ) (all : List Choice) (c : Program (length inputs)) (
       let l = r.inv.each ch.hart lt in
       let there : ch.hart < length r.harts = omega (arith, r.inv.count) in
       subst (λ (v : World). Arrives (bump ch.hart spent) (step v ch)) (sym r.is)
-      (subst (λ (v : World). Arrives (bump ch.hart spent) v) (sym (step-turn (world (length inputs) c present r.harts (flat r.g.words) r.reserved) ch there))
+      (subst (λ (v : World). Arrives (bump ch.hart spent) v) (sym (step-turn (world (length inputs) c present r.harts (flat c.shift r.g.words) r.reserved) ch there))
       (one spent r.harts r.reserved r.g r.inv ch.hart lt ch.refuse mine l.point l.regs l.is l.facts))
 
   runs : (rest : List Choice) (spent : ℕ → ℕ) (w : World) → AllByRecursion (λ ch. record { there : ch.hart < length inputs; among : Contains (chosen all) ch.hart }) rest → Arrives spent w →
@@ -229,7 +229,7 @@ module _ (inputs : List ℕ) (all : List Choice) (c : Program (length inputs)) (
     harts = first_harts 0x10000 (length inputs) 0 inputs;
     reserved = λ h. None;
     g = record { words = λ s k. 0; ghosts = λ s k. first_ghost (get_or inputs k 0); given = λ s k. get_or inputs k 0; round = λ k. 0 };
-    is = ap (λ (m : Memory). record { harts = first_harts 0x10000 (length inputs) 0 inputs; memory = m; reserved = λ h. None }) (first_memory c.text c.zeros c.short);
+    is = ap (λ (m : Memory). record { harts = first_harts 0x10000 (length inputs) 0 inputs; memory = m; reserved = λ h. None }) (first_memory c.text c.zeros c.short ∙ ap (λ (ws : ℕ → ℕ). shaped_memory c.text c.zeros ws) (flat_zero c.shift));
     inv = record {
       count = first_count 0x10000 (length inputs) 0 inputs;
       all = record {

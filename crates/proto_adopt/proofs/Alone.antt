@@ -74,6 +74,7 @@ program n slots few room = record {
   text = adopt_words;
   zeros = 16 * slots;
   first = 0x10004;
+  shift = 0;
   rounds = 1;
   begin = λ r. 1;
   left = λ r. 0;
@@ -84,6 +85,7 @@ program n slots few room = record {
   low = omega arith;
   even = refl;
   few = omega arith;
+  near = omega arith;
   size = λ r lt. (omega arith, omega arith);
   fetch = λ words p small. fetched_at (16 * slots) words p small;
 }
@@ -94,7 +96,7 @@ module _ (n slots : ℕ) (few : slots ≤ 32) (room : n ≤ slots) (now : ℕ �
   c = program n slots few room
 
   abbrev before : World
-  before = world n c now harts (flat g.words) reserved
+  before = world n c now harts (flat 0 g.words) reserved
 
   abbrev To : Type 0
   To = Result n c now input spent harts reserved g inv h lt (turn before h refuse (hart_at harts h))

@@ -108,6 +108,7 @@ program n few = record {
   text = rounds_words;
   zeros = 2048;
   first = 0x10008;
+  shift = 0;
   rounds = 4;
   begin = begin n;
   left = λ r. 4 - r;
@@ -118,6 +119,7 @@ program n few = record {
   low = omega arith;
   even = refl;
   few = few;
+  near = omega arith;
   size = λ r lt. (omega arith, lt);
   fetch = λ words p small. fetched_at 2048 words p small;
 }
@@ -128,7 +130,7 @@ module _ (n : ℕ) (few : n ≤ 32) (now : ℕ → Type 0) (input : ℕ → ℕ)
   c = program n few
 
   abbrev before : World
-  before = world n c now harts (flat g.words) reserved
+  before = world n c now harts (flat 0 g.words) reserved
 
   abbrev To : Type 0
   To = Result n c now input spent harts reserved g inv h lt (turn before h refuse (hart_at harts h))
@@ -143,7 +145,7 @@ module _ (n : ℕ) (few : n ≤ 32) (now : ℕ → Type 0) (input : ℕ → ℕ)
   unfolding decoded
   past x e f = let z = early in quiet n c now input spent harts reserved g inv h lt (inr AtTest) (put x 11 (wrap (x 20 + 0))) _ (ap (turn before h refuse) e) (
     record { zero_is = f.0.zero_is; me = f.0.me; many = f.0.many; passed = f.1; value = (let a = small_value n c now input spent harts g inv h lt in omega arith); good = f.3 },
-    f.0.base,
+    (let b = f.0.base in omega arith),
     (let l = f.0.left in omega arith),
     omega arith,
   )
@@ -159,7 +161,7 @@ module _ (n : ℕ) (few : n ≤ 32) (now : ℕ → Type 0) (input : ℕ → ℕ)
   unfolding decoded
   more x e f (inl p) = next n c now input spent harts reserved g inv h lt x _ (rw (e, ne_eqb (x 21) (x 0) (λ q. absurd (let z = f.0.zero_is in omega arith)))) p mine f.0.passed
       (small_value n c now input spent harts g inv h lt)
-      (record { zero_is = f.0.zero_is; base = f.1; me = f.0.me; many = f.0.many; left = omega arith }) f.0.value (omega arith)
+      (record { zero_is = f.0.zero_is; base = omega (arith, f.1); me = f.0.me; many = f.0.many; left = omega arith }) f.0.value (omega arith)
   more x e f (inr p) = quiet n c now input spent harts reserved g inv h lt (inr AtOut) x _ (rw (e, eq-eqb (x 21) (x 0) (let z = f.0.zero_is in omega arith)))
       (record { passed = f.0.passed; last = inr p }, f.0.zero_is, f.0.value, f.0.good, omega arith)
 

@@ -61,7 +61,7 @@ everywhere ss words zeros text zeroed own a = go (is_covered ss a) refl (inside_
     go false e (inr t) (inr d) = nowhere ss a e ∙ rw (t, d)
 
 -- byte j of a list of words
-byte_at : (ws : List ℕ) (j : ℕ) → get_or (bytes_of ws) j 0 ≡ (get_or ws (j / 4) 0 / 256 ^ (j % 4)) % 256
+pub byte_at : (ws : List ℕ) (j : ℕ) → get_or (bytes_of ws) j 0 ≡ (get_or ws (j / 4) 0 / 256 ^ (j % 4)) % 256
 byte_at [] j = nothing (j % 4)
   where
     nothing : (k : ℕ) → 0 ≡ (0 / 256 ^ k) % 256
