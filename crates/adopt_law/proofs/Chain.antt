@@ -29,7 +29,7 @@ pub record Program (n : ℕ) : Type 1 where
   pub low : first < 0x20000
   pub even : first % 4 ≡ 0
   pub few : n ≤ 32
-  pub near : shift < 2 ^ 20
+  pub near : shift < 2 ^ 24
   pub size : (r : ℕ) → r < rounds → 4 * shift + 512 * r + 16 * n ≤ zeros × r < 4
   pub fetch : (words : ℕ → ℕ) (p : Point) → place p < 116 → fetched (shaped_memory text zeros words) (first + place p) ≡ Some (code p)
 

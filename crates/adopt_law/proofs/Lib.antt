@@ -5,3 +5,5 @@ pub mod Object
 pub mod Chain
 pub mod Moves
 pub mod Rule
+pub mod TextWords
+pub mod Lone

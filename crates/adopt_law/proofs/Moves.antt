@@ -22,7 +22,7 @@ use Rattle.adopt_law.proofs.Object.{Facts}
 use Rattle.adopt_law.proofs.Chain.{Program, Ghosts, Was, Inv, Result, obj, view_at, world, quiet, inside, ghostly, Aside, Held, after, obj_after}
 
 module _ (n : ℕ) (c : Program n) (now : ℕ → Type 0) (input : ℕ → ℕ) (spent : ℕ → ℕ) (harts : List HartValue) (reserved : Marks) (g : Ghosts) (inv : Inv n c now input spent harts g) (h : ℕ) (lt : h < n)
-    (refuse : Bool) (among : now h) (few : n ≤ 32) (low : c.first < 0x20000) (in_four : g.round h < 4) (near : c.shift < 2 ^ 20) (room : 4 * c.shift + 512 * g.round h + 16 * n ≤ c.zeros) where
+    (refuse : Bool) (among : now h) (few : n ≤ 32) (low : c.first < 0x20000) (in_four : g.round h < 4) (near : c.shift < 2 ^ 24) (room : 4 * c.shift + 512 * g.round h + 16 * n ≤ c.zeros) where
   abbrev r : ℕ
   r = g.round h
 
@@ -486,7 +486,7 @@ module _ (n : ℕ) (c : Program n) (now : ℕ → Type 0) (input : ℕ → ℕ) 
       last = f.1.end_at
 
       go : (f.0 + 1 ≡ n) ⊎ (f.0 + 1 ≢ n) → To
-      go (inl q) = quiet_at At30 x (branch_by At29 At30 x Bne 5 6 4294967268 (omega arith) refl refl (ap not (eq-eqb (x 5) (x 6) (omega arith))) e) (f.1.frame, f.4 ∙ q, f.1.value_is, f.1.good_is, omega arith)
+      go (inl q) = quiet_at At30 x (branch_by At29 At30 x Bne 5 6 4294967268 (omega arith) refl refl (ap not (eq-eqb (x 5) (x 6) (omega arith))) e) (f.1.frame, f.4 ∙ q, f.1.value_is, f.1.good_is, omega arith, here)
       go (inr ne) = quiet_at At22 x (branch_to At29 At22 x Bne 5 6 4294967268 (omega arith) refl refl (omega arith) refl (ap not (ne_eqb (x 5) (x 6) (omega arith))) e) (f.0 + 1, f.1, record { there = omega arith; place = f.3 }, f.4, omega arith)
 
   small_value : Valued n inp words (ghosts h) h → (ghosts h).value < 2 ^ 32

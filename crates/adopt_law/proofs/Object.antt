@@ -80,7 +80,7 @@ Passing o v h x = record {
 
 -- past the object
 abbrev pub Past : Obj → View → (h : ℕ) → Registers → Type 0
-Past o v h x = Frame o h x × (v.ghost.passed ≡ o.n) × (x 20 ≡ v.ghost.value) × (x 19 ≡ v.ghost.good) × (v.spent ≤ o.began + 14 + 14 * o.n)
+Past o v h x = Frame o h x × (v.ghost.passed ≡ o.n) × (x 20 ≡ v.ghost.value) × (x 19 ≡ v.ghost.good) × (v.spent ≤ o.began + 14 + 14 * o.n) × o.was h
 
 abbrev pub Facts : Obj → View → (h : ℕ) → Point → Registers → Type 0
 Facts o v h At1 x = Entry o v h x × (v.spent ≤ o.began + 0)
@@ -152,6 +152,7 @@ keeps o input' was' words' v h At24 x s f = (f.0, f.1, f.2, f.3, go f.4, f.5)
     go (inr g) = inr (g.0, s.mark f.0 2 (omega arith) g.1)
 keeps o input' was' words' v h At25 x s f = (f.0, f.1, f.2, f.3, s.mark f.0 1 (omega arith) f.4, f.5)
 keeps o input' was' words' v h At27 x s f = (f.0, f.1, f.2, f.3, s.mark f.0 2 (omega arith) f.4, f.5)
+keeps o input' was' words' v h At30 x s f = (f.0, f.1, f.2, f.3, f.4, s.more h f.5)
 keeps o input' was' words' v h p x s f = f
 
 -- who is in the object has spent no more than this

@@ -92,7 +92,7 @@ module _ (inputs : List ℕ) (all : List Choice) (rounds : ℕ) (g : Ghosts) (go
   abbrev was : ℕ → ℕ → Type 0
   was = Was n now g.round
 
-  abbrev Brought : ℕ → Type 0
+  abbrev pub Brought : ℕ → Type 0
   Brought v = (m : ℕ) × now m × (slice_get inputs m ≡ Some v)
 
   value_from : (s : ℕ) → ((k : ℕ) → was s k → Brought (g.given s k)) → (k : ℕ) → was s k → Brought (g.ghosts s k).value
@@ -124,23 +124,23 @@ module _ (inputs : List ℕ) (all : List Choice) (rounds : ℕ) (g : Ghosts) (go
       subst (λ (u : ℕ). was u k → (g.ghosts u k).passed ≡ n → (g.ghosts u k).value ≡ g.given s h) e
       (λ there done. later n g.given was g.words g.ghosts chain s h lh over one (t - s) k lk there done) there done
 
-  abbrev EndOf : ℕ → Registers → Type 0
+  abbrev pub EndOf : ℕ → Registers → Type 0
   EndOf k x = End n rounds (now k) (g.round k) (record { value = g.words (g.round k) (4 * k); presence = g.words (g.round k) (4 * k + 1); mark = g.words (g.round k) (4 * k + 2); ghost = g.ghosts (g.round k) k; spent = 0; input = g.given (g.round k) k }) x
 
   there : (k : ℕ) → k < n → now k → was (g.round k) k
   there k lk w = record { among = w; small = lk; came = omega arith }
 
-  valid : (h : ℕ) (x : Registers) → h < n → EndOf h x → Brought (x 10)
+  pub valid : (h : ℕ) (x : Registers) → h < n → EndOf h x → Brought (x 10)
   valid h x lh f = let b = value_from (g.round h) (given_from (g.round h)) h (there h lh f.mine) in (b.0, b.1, b.2 ∙ ap (λ (u : ℕ). Some u) (sym f.value))
 
-  answered : (h : ℕ) (x : Registers) → h < n → EndOf h x → (x 11 ≡ 0) ⊎ (x 11 ≡ 1)
+  pub answered : (h : ℕ) (x : Registers) → h < n → EndOf h x → (x 11 ≡ 0) ⊎ (x 11 ≡ 1)
   answered h x lh f = go ((good.sound (g.round h)).good h lh)
     where
       go : Good n (g.given (g.round h)) (was (g.round h)) (g.ghosts (g.round h) h) → (x 11 ≡ 0) ⊎ (x 11 ≡ 1)
       go (inl p) = inr (f.good ∙ p)
       go (inr p) = inl (f.good ∙ p.0)
 
-  committed : (h k : ℕ) (x y : Registers) → h < n → k < n → EndOf h x → EndOf k y → x 11 ≡ 1 → y 10 ≡ x 10
+  pub committed : (h k : ℕ) (x y : Registers) → h < n → k < n → EndOf h x → EndOf k y → x 11 ≡ 1 → y 10 ≡ x 10
   committed h k x y lh lk f e one = go (order (g.round h) (g.round k))
     where
       order : (a b : ℕ) → (a ≤ b) ⊎ (b < a)
@@ -161,7 +161,7 @@ module _ (inputs : List ℕ) (all : List Choice) (rounds : ℕ) (g : Ghosts) (go
               ∙ sym (follows (g.round k) (g.round h) k h (omega arith) lk e.passed its lh (there h lh f.mine) f.passed) ∙ sym f.value
           by_last (inr last) = absurd (let z = good.early h lh in omega arith)
 
-  convergent : AreAlike inputs all → (h : ℕ) (x : Registers) → h < n → EndOf h x → x 11 ≡ 1
+  pub convergent : AreAlike inputs all → (h : ℕ) (x : Registers) → h < n → EndOf h x → x 11 ≡ 1
   convergent alike h x lh f = go ((good.sound (g.round h)).good h lh)
     where
       go : Good n (g.given (g.round h)) (was (g.round h)) (g.ghosts (g.round h) h) → x 11 ≡ 1
