@@ -13,7 +13,7 @@ use Rattle.protocol_library.specs.Counts.{chosen, own}
 use Rattle.protocol_library.specs.Rules.{AreAlike, IsProposed}
 use Rattle.protocol_library.proofs.Shape.{on, shaped_memory, first_memory}
 use Rattle.protocol_library.proofs.Harts.{nobody, hart_at, turn, step-turn, all_harts, bump, spent_after, spent_own}
-use Rattle.adopt_law.specs.Passage.{InEveryPassage, IsBounded, KeepsPassage, StayBefore, Stands, AllEnter, fresh, past_of, place_of}
+use Rattle.adopt_law.specs.Passage.{InEveryPassage, IsBounded, KeepsPassage, StayBefore, HasObject, AllEnter, untouched, past_of, place_of}
 use Rattle.adopt_law.proofs.Flat.{flat, flat_zero}
 use Rattle.adopt_law.proofs.Instructions.{Point, At1, At30, place, stand}
 use Rattle.adopt_law.proofs.Object.{at_most}
@@ -31,7 +31,7 @@ inside first p apart = omega arith
 abbrev answer_of : Registers → Registers
 answer_of x r = if r == 10 then x 20 else x 19
 
-module _ (text : List ℕ) (zeros index shift count : ℕ) (inputs : List ℕ) (few : length inputs ≤ 32) (object : Stands text zeros index shift (length inputs)) where
+module _ (text : List ℕ) (zeros index shift count : ℕ) (inputs : List ℕ) (few : length inputs ≤ 32) (object : HasObject text zeros index shift (length inputs)) where
   abbrev lone : Program (length inputs)
   lone = record {
     text = text;
@@ -92,7 +92,7 @@ module _ (text : List ℕ) (zeros index shift count : ℕ) (inputs : List ℕ) (
     runs (ch ∷ cs) spent w ok stay r = runs cs (bump ch.hart spent) (step w ch) ok.1 stay.1 (steps spent w ch ok.0.there ok.0.among stay.0 r)
 
     module _ (harts : List HartValue) (reserved : Marks) (fits : All (λ x. x < 2 ^ 32) inputs) (enter : AllEnter index shift count inputs harts) where
-      starts : Arrives (λ k. 0) (fresh text zeros harts reserved)
+      starts : Arrives (λ k. 0) (untouched text zeros harts reserved)
       starts = record {
         harts = harts;
         reserved = reserved;
@@ -137,10 +137,10 @@ module _ (text : List ℕ) (zeros index shift count : ℕ) (inputs : List ℕ) (
         };
       }
 
-      module _ (there : All (λ ch. ch.hart < length inputs) all) (stay : StayBefore past (fresh text zeros harts reserved) all) where
-        reached : Arrives (spent_after all (λ k. 0)) (run (fresh text zeros harts reserved) all)
+      module _ (there : All (λ ch. ch.hart < length inputs) all) (stay : StayBefore past (untouched text zeros harts reserved) all) where
+        reached : Arrives (spent_after all (λ k. 0)) (run (untouched text zeros harts reserved) all)
         reached =
-            runs all (λ k. 0) (fresh text zeros harts reserved)
+            runs all (λ k. 0) (untouched text zeros harts reserved)
             (recursion_from_All (λ ch. record { there : ch.hart < length inputs; among : Contains (chosen all) ch.hart }) all
             (λ k d small. record { there = there k d small; among = (k, rw length-map small, get_or-map (λ ch. ch.hart) all k d _ small) }))
             stay starts

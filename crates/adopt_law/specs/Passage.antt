@@ -59,7 +59,7 @@ past_of index = place_of index + 116
 
 -- a text has the object's instructions from number `index` on, and behind `shift` words of the data there is room for a record of four words
 -- for each of n harts
-pub record Stands (text : List ℕ) (zeros index shift n : ℕ) : Type 0 where
+pub record HasObject (text : List ℕ) (zeros index shift n : ℕ) : Type 0 where
   pub short : length text ≤ 1024
   pub whole : index + 29 ≤ length text
   pub same : (j : ℕ) → j < 29 → slice_index text (index + j) ≡ slice_index object_words j
@@ -67,8 +67,8 @@ pub record Stands (text : List ℕ) (zeros index shift n : ℕ) : Type 0 where
   pub few : zeros ≤ 2 ^ 24
 
 -- the world of this text and so many zeros, in which no hart has stored yet
-abbrev pub fresh : List ℕ → ℕ → List HartValue → Marks → World
-fresh text zeros harts reserved = record { harts = harts; memory = image_memory (object_image text zeros); reserved = reserved }
+abbrev pub untouched : List ℕ → ℕ → List HartValue → Marks → World
+untouched text zeros harts reserved = record { harts = harts; memory = image_memory (object_image text zeros); reserved = reserved }
 
 -- a hart that runs
 abbrev pub running : Registers → ℕ → HartValue
@@ -102,10 +102,10 @@ StayBefore past w (c ∷ choices) =
 abbrev pub InEveryPassage : (ℕ → List ℕ → List Choice → List HartValue → Type 0) → Type 0
 InEveryPassage Rule =
     (text : List ℕ) (zeros index shift count : ℕ) (values : List ℕ) (harts : List HartValue) (reserved : Marks) (choices : List Choice)
-    → length values ≤ 32 → All (λ v. v < 2 ^ 32) values → Stands text zeros index shift (length values)
+    → length values ≤ 32 → All (λ v. v < 2 ^ 32) values → HasObject text zeros index shift (length values)
     → AllEnter index shift count values harts → All (λ c. c.hart < length values) choices
-    → StayBefore (past_of index) (fresh text zeros harts reserved) choices
-    → Rule (past_of index) values choices (run (fresh text zeros harts reserved) choices).harts
+    → StayBefore (past_of index) (untouched text zeros harts reserved) choices
+    → Rule (past_of index) values choices (run (untouched text zeros harts reserved) choices).harts
 
 -- adopt-commit (Gafni, "Round-by-Round Fault Detectors", 1998), of harts that come to this place: register 20, s4, has a hart's value, and
 -- register 19, s3, is 1 where it commits to it

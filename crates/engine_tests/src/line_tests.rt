@@ -259,11 +259,12 @@ fn a_rule_is_read(rt: HostRuntime) {
 
 #[test]
 fn objects_are_read(rt: HostRuntime) {
-    let rows: [(&str, Option<Kind>); 7] = [
+    let rows: [(&str, Option<Kind>); 8] = [
         ("swap", Some(Kind::Swap)),
         ("add", Some(Kind::Add)),
         ("lrsc", Some(Kind::LrSc)),
         ("adopt", Some(Kind::AdoptCommit)),
+        ("rounds", Some(Kind::Rounds)),
         ("Swap", None),
         ("swap ", None),
         ("", None),

@@ -8,6 +8,7 @@ pub(crate) fn object_file<A: Allocator>(alloc: A, kind: Kind) -> Result<Vec<u8, 
         Kind::Swap | Kind::Add => 60,
         Kind::LrSc => 64,
         Kind::AdoptCommit => 136,
+        Kind::Rounds => 160,
     };
     let headers = [
         0x464c_457f,

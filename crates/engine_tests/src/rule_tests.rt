@@ -24,7 +24,7 @@ struct Worked {
 
 // The ends are those that another simulator printed of the same files.
 #[rattlefmt::skip]
-static WORKED: [Worked; 17] = [
+static WORKED: [Worked; 22] = [
     Worked { name: "hart_1_alone_then_hart_0", kind: Kind::Swap, inputs: &[7, 9], rule: Some(Kind::Swap),
         choices: "1 1 1 1 1 1 1 1 1 1 1 0 0 0 0 0 0 0 0 0 0 0 0 0 0 0",
         text: "hart 0 exited a0 00000009 a1 00000001\nhart 1 exited a0 00000009 a1 00000001\nverdict kept\n", status: Status::Done },
@@ -76,6 +76,16 @@ static WORKED: [Worked; 17] = [
         inputs: &[100, 101, 102, 103, 104, 105, 106, 107, 108, 109, 110, 111, 112, 113, 114, 115, 116, 117, 118, 119, 120, 121, 122, 123, 124, 125, 126, 127, 128, 129, 130, 131],
         choices: "5*278",
         text: "hart 0 running pc 00010000\nhart 1 running pc 00010000\nhart 2 running pc 00010000\nhart 3 running pc 00010000\nhart 4 running pc 00010000\nhart 5 running pc 00010084\nhart 6 running pc 00010000\nhart 7 running pc 00010000\nhart 8 running pc 00010000\nhart 9 running pc 00010000\nhart 10 running pc 00010000\nhart 11 running pc 00010000\nhart 12 running pc 00010000\nhart 13 running pc 00010000\nhart 14 running pc 00010000\nhart 15 running pc 00010000\nhart 16 running pc 00010000\nhart 17 running pc 00010000\nhart 18 running pc 00010000\nhart 19 running pc 00010000\nhart 20 running pc 00010000\nhart 21 running pc 00010000\nhart 22 running pc 00010000\nhart 23 running pc 00010000\nhart 24 running pc 00010000\nhart 25 running pc 00010000\nhart 26 running pc 00010000\nhart 27 running pc 00010000\nhart 28 running pc 00010000\nhart 29 running pc 00010000\nhart 30 running pc 00010000\nhart 31 running pc 00010000\n", status: Status::Done },
+    Worked { name: "rounds_of_one_hart_take_34_steps", kind: Kind::Rounds, inputs: &[5], rule: Some(Kind::Rounds), choices: "0*34",
+        text: "hart 0 exited a0 00000005 a1 00000001\nverdict kept\n", status: Status::Done },
+    Worked { name: "rounds_of_one_hart_are_not_done_in_33_steps", kind: Kind::Rounds, inputs: &[5], rule: None, choices: "0*33",
+        text: "hart 0 running pc 0001009c\n", status: Status::Done },
+    Worked { name: "rounds_one_after_the_other_commit", kind: Kind::Rounds, inputs: &[0, 0xffff_ffff], rule: Some(Kind::Rounds), choices: "0*42 1*87",
+        text: "hart 0 exited a0 00000000 a1 00000001\nhart 1 exited a0 00000000 a1 00000001\nverdict kept\n", status: Status::Done },
+    Worked { name: "rounds_one_after_the_other_are_not_done_a_step_before", kind: Kind::Rounds, inputs: &[0, 0xffff_ffff], rule: None, choices: "0*42 1*86",
+        text: "hart 0 exited a0 00000000 a1 00000001\nhart 1 running pc 0001009c\n", status: Status::Done },
+    Worked { name: "the_rule_of_rounds_is_that_of_adopt", kind: Kind::Rounds, inputs: &[0, 0xffff_ffff], rule: Some(Kind::AdoptCommit), choices: "1*42 0*87",
+        text: "hart 0 exited a0 ffffffff a1 00000001\nhart 1 exited a0 ffffffff a1 00000001\nverdict kept\n", status: Status::Done },
     Worked { name: "an_adopted_value_is_not_decided", kind: Kind::AdoptCommit, inputs: &[0, 0xffff_ffff], rule: Some(Kind::LrSc),
         choices: "0 0 0 0 0 0 0 0 0 0 0 0 0 0 0 0 0 0 0 0 0 0 0 0 0 0 0 0 0 0 0 0 0 0 0 0 0 0 0 1 1 1 1 1 1 1 1 1 1 1 1 1 1 1 1 1 1 1 1 1 1 1 1 1 1 1 1 1 1 1 1 1 1 1 1 1 1 1 1 1 1 1 1 1 1 1 1 1 1 1 1 1 1 1 1 1 1 1 1",
         text: "hart 0 exited a0 00000000 a1 00000001\nhart 1 exited a0 00000000 a1 00000000\nverdict broken\n", status: Status::Broken },
@@ -176,6 +186,7 @@ fn info_names_the_object(rt: HostRuntime) {
         (Kind::Add, "entry 00010000\nsegment 00010000 60 r-x\nsegment 00011000 12 rw-\nsymbols none\nlibrary add\n"),
         (Kind::LrSc, "entry 00010000\nsegment 00010000 64 r-x\nsegment 00011000 132 rw-\nsymbols none\nlibrary lrsc\n"),
         (Kind::AdoptCommit, "entry 00010000\nsegment 00010000 136 r-x\nsegment 00011000 512 rw-\nsymbols none\nlibrary adopt\n"),
+        (Kind::Rounds, "entry 00010000\nsegment 00010000 160 r-x\nsegment 00011000 2048 rw-\nsymbols none\nlibrary rounds\n"),
     ];
     for (kind, text) in rows {
         let Ok(file) = object_file(rt.alloc(), kind) else {
@@ -201,7 +212,7 @@ fn a_text_is_written(rt: HostRuntime) {
 // Four harts of LrSc agree under each seed, and three harts of Swap never keep its rule once the third has stored.
 #[test]
 fn each_seed_has_its_verdict(rt: HostRuntime) {
-    let rows: [(Kind, &[u32], u64, &str, Status); 4] = [
+    let rows: [(Kind, &[u32], u64, &str, Status); 5] = [
         (
             Kind::LrSc,
             &[4, 5, 6, 7],
@@ -213,6 +224,13 @@ fn each_seed_has_its_verdict(rt: HostRuntime) {
             Kind::AdoptCommit,
             &[4, 5, 6, 7],
             900,
+            "seed 5 exited 4 faulted 0 running 0 kept\nseed 6 exited 4 faulted 0 running 0 kept\n",
+            Status::Done,
+        ),
+        (
+            Kind::Rounds,
+            &[4, 5, 6, 7],
+            4000,
             "seed 5 exited 4 faulted 0 running 0 kept\nseed 6 exited 4 faulted 0 running 0 kept\n",
             Status::Done,
         ),

@@ -1,4 +1,4 @@
-//! Every schedule of two harts, step by step. A state is what the two harts and the three data words are, and how often hart 0
+//! Every schedule of two harts, step by step. A state is what the two harts and their data words are, and how often hart 0
 //! was chosen; schedules that lead to the same state go on as one, and how many they are is counted.
 
 use hart_step::{Hart, HartState};
@@ -13,7 +13,7 @@ use std::alloc::{AllocError, Allocator};
 struct Place<A: Allocator> {
     choices: Vec<Choice, A>,
     harts: Vec<Hart, A>,
-    data: [u32; 3],
+    data: Vec<u32, A>,
     schedules: u64,
 }
 
@@ -23,6 +23,18 @@ fn word_at<S: Store>(store: &S, address: u32) -> u32 {
         Ok(word) => word,
         Err(_) => 0,
     }
+}
+
+// The words that two harts may store to: of each of four objects two records with value, presence and mark. Swap and Add have
+// the first three.
+fn data_of<S: Store, A: Allocator>(alloc: A, store: &S) -> Result<Vec<u32, A>, AllocError> {
+    let mut data = Vec::new(alloc);
+    for object in [0x0001_1000u32, 0x0001_1200, 0x0001_1400, 0x0001_1600] {
+        for place in [0u32, 4, 8, 16, 20, 24] {
+            data.push(word_at(store, object.wrapping_add(place)))?;
+        }
+    }
+    Ok(data)
 }
 
 // How often a hart is chosen.
@@ -53,12 +65,7 @@ fn place_after<A: Allocator + Copy>(
         }
     }
     let harts = Vec::from_slice(alloc, machine.ends())?;
-    let store = machine.store();
-    let data = [
-        word_at(store, 0x0001_1000),
-        word_at(store, 0x0001_1004),
-        word_at(store, 0x0001_1008),
-    ];
+    let data = data_of(alloc, machine.store())?;
     Ok(Place {
         choices,
         harts,
@@ -75,7 +82,7 @@ fn add_place<A: Allocator>(
     let first = own(&place.choices, 0);
     for known in places.iter_mut() {
         if known.harts.as_slice() == place.harts.as_slice()
-            && known.data == place.data
+            && known.data.as_slice() == place.data.as_slice()
             && own(&known.choices, 0) == first
         {
             known.schedules = known.schedules.saturating_add(place.schedules);
@@ -115,30 +122,74 @@ fn has_exited(hart: &Hart) -> bool {
     }
 }
 
-// All schedules of 30 choices, which are 2^30, and each of their beginnings: in each state that they reach the rule is kept,
-// and a hart that was chosen 15 times has exited.
+// What is gone through of an object: so many choices, and the bound on a hart's own.
+#[derive(Clone, Copy)]
+struct Search {
+    kind: Kind,
+    inputs: [u32; 2],
+    choices: u32,
+    bound: usize,
+    schedules: u64,
+}
+
+// All schedules of 30 choices of Swap and Add, of 94 of AdoptCommit, after which both harts have exited or one was left out, and
+// of 120 of Rounds. Numbers of schedules end at 2^64 - 1.
+const SEARCHES: [Search; 4] = [
+    Search {
+        kind: Kind::Swap,
+        inputs: [7, 9],
+        choices: 30,
+        bound: 15,
+        schedules: 1 << 30,
+    },
+    Search {
+        kind: Kind::Add,
+        inputs: [7, 9],
+        choices: 30,
+        bound: 15,
+        schedules: 1 << 30,
+    },
+    Search {
+        kind: Kind::AdoptCommit,
+        inputs: [0, 0xffff_ffff],
+        choices: 94,
+        bound: 47,
+        schedules: u64::MAX,
+    },
+    Search {
+        kind: Kind::Rounds,
+        inputs: [0, 0xffff_ffff],
+        choices: 120,
+        bound: 194,
+        schedules: u64::MAX,
+    },
+];
+
+// In each state that these schedules and their beginnings reach the rule is kept, and a hart that was chosen as often as its bound
+// says has exited.
 #[test]
 fn every_schedule_of_two_harts_keeps_the_rule(rt: HostRuntime) {
-    let inputs = [7, 9];
-    for kind in [Kind::Swap, Kind::Add] {
-        let Ok(image) = make_image(rt.alloc(), kind) else {
+    for search in SEARCHES {
+        let Ok(image) = make_image(rt.alloc(), search.kind) else {
             return assert!(rt; false, "no memory for the image");
         };
-        let Ok(begin) = place_after(rt.alloc(), &image, &inputs, Vec::new(rt.alloc()), 1) else {
+        let none = Vec::new(rt.alloc());
+        let Ok(begin) = place_after(rt.alloc(), &image, &search.inputs, none, 1) else {
             return assert!(rt; false, "no memory for the start");
         };
         let mut places = Vec::new(rt.alloc());
         assert!(rt; places.push(begin).is_ok());
-        for _ in 0..30 {
-            match next_places(rt.alloc(), &image, &inputs, places.as_slice()) {
+        for _ in 0..search.choices {
+            match next_places(rt.alloc(), &image, &search.inputs, places.as_slice()) {
                 Ok(next) => places = next,
                 Err(_) => return assert!(rt; false, "no memory for a step"),
             }
             for place in places.iter() {
                 let harts = place.harts.as_slice();
-                assert_eq!(rt; judge(kind, &inputs, &place.choices, harts), Verdict::Kept);
+                let verdict = judge(search.kind, &search.inputs, &place.choices, harts);
+                assert_eq!(rt; verdict, Verdict::Kept);
                 for (number, hart) in harts.iter().enumerate() {
-                    let often = own(&place.choices, number) >= 15;
+                    let often = own(&place.choices, number) >= search.bound;
                     assert!(rt; !often || has_exited(hart));
                 }
             }
@@ -146,6 +197,6 @@ fn every_schedule_of_two_harts_keeps_the_rule(rt: HostRuntime) {
         let schedules = places
             .iter()
             .fold(0u64, |sum, place| sum.saturating_add(place.schedules));
-        assert_eq!(rt; schedules, 1 << 30);
+        assert_eq!(rt; schedules, search.schedules);
     }
 }

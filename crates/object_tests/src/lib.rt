@@ -1,4 +1,4 @@
-//! Tests of the consensus objects: `protocol_library`, `proto_amo`, `proto_lrsc` and `proto_adopt`.
+//! Tests of the consensus objects: `protocol_library`, `proto_amo`, `proto_lrsc`, `proto_adopt` and `proto_rounds`.
 #![tactic(auto)]
 
 #[cfg(test)]
@@ -9,5 +9,7 @@ mod proto_adopt_tests;
 mod proto_amo_tests;
 #[cfg(test)]
 mod proto_lrsc_tests;
+#[cfg(test)]
+mod proto_rounds_tests;
 #[cfg(test)]
 mod protocol_library_tests;

@@ -4,7 +4,9 @@
 use hart_step::{Cause, Hart, HartState};
 use loader::{Image, Rights, Segment};
 use machine::Choice;
-use protocol_library::{Kind, Verdict, certify, judge, make_image, source, table, words};
+use protocol_library::{
+    KIND_NAMES, Kind, Verdict, certify, judge, make_image, source, table, words,
+};
 use refusing::Refusing;
 use std::alloc::{AllocError, Allocator};
 
@@ -68,8 +70,10 @@ fn each_clause_of_adopt_commit_can_break(rt: HostRuntime) {
     ];
     for (name, other, value, flag, second, mark, wanted) in rows {
         let harts = [hart(EXITED, value, flag), hart(EXITED, second, mark)];
-        let verdict = judge(Kind::AdoptCommit, &[7, other], &choices, &harts);
-        assert_eq!(rt; verdict, wanted, "{name}");
+        for kind in [Kind::AdoptCommit, Kind::Rounds] {
+            let verdict = judge(kind, &[7, other], &choices, &harts);
+            assert_eq!(rt; verdict, wanted, "{name}");
+        }
     }
 }
 
@@ -78,9 +82,25 @@ fn a_name_is_read_back(rt: HostRuntime) {
     for kind in Kind::ALL {
         assert_eq!(rt; Kind::of_name(kind.name()), Some(kind));
     }
-    for name in ["", "Swap", "swaps", "rounds"] {
+    for name in ["", "Swap", "swaps", "round", "roundss"] {
         assert_eq!(rt; Kind::of_name(name), None, "{name}");
     }
+}
+
+#[test]
+fn the_list_of_names_has_each_kind(rt: HostRuntime) {
+    let mut names = String::new(rt.alloc());
+    for (place, kind) in Kind::ALL.iter().enumerate() {
+        let between = match place {
+            0 => "",
+            4 => " or ",
+            _ => ", ",
+        };
+        if names.push_str(between).is_err() || names.push_str(kind.name()).is_err() {
+            return assert!(rt; false, "no memory for the names");
+        }
+    }
+    assert_eq!(rt; names.as_str(), KIND_NAMES);
 }
 
 #[test]
@@ -158,6 +178,7 @@ fn a_text_has_a_line_for_each_instruction(rt: HostRuntime) {
         (Kind::Add, 5),
         (Kind::LrSc, 6),
         (Kind::AdoptCommit, 9),
+        (Kind::Rounds, 11),
     ] {
         match table(rt.alloc(), kind) {
             Ok(table) => {

@@ -65,12 +65,13 @@ fn does_again<A: Allocator + Copy>(alloc: A, book: &Book<A>, choices: &[Choice])
 }
 
 // An object, and its harts' inputs.
-const OBJECTS: [(Kind, &[u32]); 5] = [
+const OBJECTS: [(Kind, &[u32]); 6] = [
     (Kind::Swap, &[7, 9]),
     (Kind::Add, &[4, 6]),
     (Kind::LrSc, &[3, 5, 7, 9]),
     (Kind::LrSc, &[1, 2, 3, 4, 5, 6, 7, 8]),
     (Kind::AdoptCommit, &[2, 2, 5]),
+    (Kind::Rounds, &[2, 2, 5]),
 ];
 
 // How many runs each object has.
