@@ -4,8 +4,8 @@ ghost use Rattle.loader.specs.Image.{IsSound};
 ghost use Rattle.protocol_library.specs.Images.{cell, image_of, IsSame};
 ghost use Rattle.protocol_library.specs.Cells.{known, AgreeOn, AgreeWhereCovered, Differ, Matches, EndInRange};
 
+use crate::entry::{words, zeros};
 use crate::kind::Kind;
-use crate::text::{words, zeros};
 use bitflags::Flags;
 use loader::{Image, Rights, Segment};
 use std::alloc::Allocator;

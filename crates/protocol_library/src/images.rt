@@ -2,8 +2,8 @@
 ghost use Rattle.std.specs.Prelude.{◌≡◌, ◌≤◌, length, IfOk};
 ghost use Rattle.protocol_library.specs.Images.{bytes_of, image_of, object_image};
 
+use crate::entry::{words, zeros};
 use crate::kind::Kind;
-use crate::text::{words, zeros};
 use loader::{Image, Rights, Segment};
 use std::alloc::{AllocError, Allocator};
 

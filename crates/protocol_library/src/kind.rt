@@ -3,6 +3,8 @@
 ghost use Rattle.std.specs.Prelude.{◌≡◌, ◌↔◌, Some};
 ghost use Rattle.protocol_library.specs.Names.{name_of};
 
+use crate::entry::entry;
+
 /// A consensus object: harts that run its program come out with one value of those that they went in with.
 #[derive(Clone, Copy, Debug, PartialEq, Eq)]
 pub enum Kind {
@@ -35,13 +37,7 @@ impl Kind {
     pub fn name(self) -> &'static str
         ensures { result.now ≡ name_of self }
     {
-        match self {
-            Kind::Swap => "swap",
-            Kind::Add => "add",
-            Kind::LrSc => "lrsc",
-            Kind::AdoptCommit => "adopt",
-            Kind::Rounds => "rounds",
-        }
+        entry(self).name
     }
 
     /// The kind of such a name, or `None` where no kind has it.

@@ -2,15 +2,15 @@
 #![tactic(auto)]
 
 pub use certifying::certify;
+pub use entry::{source, words, zeros};
 pub use images::make_image;
 pub use judging::judge;
 pub use kind::{KIND_NAMES, Kind};
 pub use tables::table;
-pub use text::{words, zeros};
-pub use texts::source;
 pub use verdict::Verdict;
 
 mod certifying;
+mod entry;
 mod images;
 mod judging;
 mod kind;

@@ -4,8 +4,8 @@ ghost use Rattle.std.specs.List.{list_all};
 ghost use Rattle.isa_table.specs.Decoded.{decoded};
 ghost use Rattle.protocol_library.specs.Images.{words_of};
 
+use crate::entry::words;
 use crate::kind::Kind;
-use crate::text::words;
 use decoder::decode;
 use isa_table::Instr;
 use std::alloc::{AllocError, Allocator};

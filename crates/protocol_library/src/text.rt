@@ -1,11 +1,7 @@
-//! The machine code of the objects.
-ghost use Rattle.std.specs.Prelude.{◌≡◌};
-ghost use Rattle.protocol_library.specs.Images.{words_of, zeros_of};
+//! The machine code of the objects: the words of each text, which stand at 0x00010000 one after another.
 
-use crate::kind::Kind;
-use reservations::MAX_HARTS;
-
-const SWAP: [u32; 15] = [
+/// Of Swap.
+pub(crate) const SWAP: [u32; 15] = [
     0x0001_1437, // lui s0, 0x11
     0x0025_1293, // slli t0, a0, 2
     0x0082_82B3, // add t0, t0, s0
@@ -23,7 +19,8 @@ const SWAP: [u32; 15] = [
     0x0000_0073, // ecall
 ];
 
-const ADD: [u32; 15] = [
+/// Of Add.
+pub(crate) const ADD: [u32; 15] = [
     0x0001_1437, // lui s0, 0x11
     0x0025_1293, // slli t0, a0, 2
     0x0082_82B3, // add t0, t0, s0
@@ -41,7 +38,8 @@ const ADD: [u32; 15] = [
     0x0000_0073, // ecall
 ];
 
-const LRSC: [u32; 16] = [
+/// Of LrSc.
+pub(crate) const LRSC: [u32; 16] = [
     0x0001_1437, // lui s0, 0x11
     0x0025_1293, // slli t0, a0, 2
     0x0082_82B3, // add t0, t0, s0
@@ -60,7 +58,8 @@ const LRSC: [u32; 16] = [
     0x0000_0073, // ecall
 ];
 
-const ADOPT_COMMIT: [u32; 34] = [
+/// Of AdoptCommit.
+pub(crate) const ADOPT_COMMIT: [u32; 34] = [
     0x0001_1437, // lui s0, 0x11
     0x0045_1493, // slli s1, a0, 4
     0x0084_84B3, // add s1, s1, s0
@@ -97,7 +96,8 @@ const ADOPT_COMMIT: [u32; 34] = [
     0x0000_0073, // ecall
 ];
 
-const ROUNDS: [u32; 40] = [
+/// Of Rounds.
+pub(crate) const ROUNDS: [u32; 40] = [
     0x0001_1437, // lui s0, 0x11
     0x0040_0A93, // addi s5, zero, 4
     0x0045_1493, // round: slli s1, a0, 4
@@ -139,33 +139,3 @@ const ROUNDS: [u32; 40] = [
     0x05D0_0893, // addi a7, zero, 93
     0x0000_0073, // ecall
 ];
-
-/// The words of an object's text, which stand at 0x00010000 one after another.
-pub fn words(kind: Kind) -> &'static [u32]
-    ensures { result.now ≡ words_of kind }
-{
-    match kind {
-        Kind::Swap => &SWAP,
-        Kind::Add => &ADD,
-        Kind::LrSc => &LRSC,
-        Kind::AdoptCommit => &ADOPT_COMMIT,
-        Kind::Rounds => &ROUNDS,
-    }
-}
-
-/// How many bytes of data an object has, which stand at 0x00011000 and are 0 at first.
-pub fn zeros(kind: Kind) -> u32
-    ensures { result ≡ zeros_of kind }
-{
-    let slots = MAX_HARTS as u32;
-    match kind {
-        // the word that is raced for, and the inputs of two harts
-        Kind::Swap | Kind::Add => 12,
-        // the same for each hart
-        Kind::LrSc => 4 + 4 * slots,
-        // a record of four words for each hart
-        Kind::AdoptCommit => 16 * slots,
-        // four objects, of which each has 512 bytes for the records of 32 harts
-        Kind::Rounds => 4 * 512,
-    }
-}

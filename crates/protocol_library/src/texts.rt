@@ -1,8 +1,4 @@
 //! The sources of the objects, as an assembler reads them.
-ghost use Rattle.std.specs.Prelude.{◌≡◌};
-ghost use Rattle.protocol_library.specs.Sources.{source_of};
-
-use crate::kind::Kind;
 
 /// Consensus of two harts by a swap.
 pub const SWAP_SOURCE: &str = ".globl _start
@@ -176,16 +172,3 @@ ecall
 .bss
 .zero 2048
 ";
-
-/// The text of an object, one statement a line.
-pub fn source(kind: Kind) -> &'static str
-    ensures { result.now ≡ source_of kind }
-{
-    match kind {
-        Kind::Swap => SWAP_SOURCE,
-        Kind::Add => ADD_SOURCE,
-        Kind::LrSc => LRSC_SOURCE,
-        Kind::AdoptCommit => ADOPT_COMMIT_SOURCE,
-        Kind::Rounds => ROUNDS_SOURCE,
-    }
-}
