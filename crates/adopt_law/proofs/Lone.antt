@@ -1,5 +1,5 @@
 -- Harts that pass through one object, wherever it stands: a chain of one object without places of its own.
-use Rattle.std.proofs.Common.{◌≡◌, ◌≢◌, ℕ, suc, ◌+◌, ◌*◌, ◌%◌, ◌^◌, ◌<◌, ◌≤◌, Bool, if◌then◌else◌, ◌==◌, List, [], ◌∷◌, length, get_or, refl, sym, ap, ◌∙◌, ◌⊎◌, inl, inr, arith, subst}
+use Rattle.std.proofs.Common.{◌≡◌, ◌≢◌, ℕ, ◌+◌, ◌*◌, ◌%◌, ◌^◌, ◌<◌, ◌≤◌, Bool, if◌then◌else◌, ◌==◌, List, [], ◌∷◌, length, get_or, refl, sym, ap, ◌∙◌, ◌⊎◌, inl, inr, arith, subst}
 use Rattle.std.specs.List.{AllByRecursion, All, Contains}
 use Rattle.std.proofs.lemmas.List.Elements.{recursion_from_All}
 use Rattle.std.proofs.lemmas.List.{get_or-map, length-map}
@@ -10,14 +10,14 @@ use Rattle.hart_step.specs.declared.hart.HartState.TheVariants.{Running}
 use Rattle.machine.specs.World.{World, step, run}
 use Rattle.machine.specs.declared.choice.Choice.{Choice}
 use Rattle.protocol_library.specs.Counts.{chosen, own}
-use Rattle.protocol_library.specs.Rules.{AreAlike, IsProposed}
+use Rattle.protocol_library.specs.Rules.{IsProposed}
 use Rattle.protocol_library.proofs.Shape.{on, shaped_memory, first_memory}
 use Rattle.protocol_library.proofs.Harts.{nobody, hart_at, turn, step-turn, all_harts, bump, spent_after, spent_own}
-use Rattle.adopt_law.specs.Passage.{InEveryPassage, IsBounded, KeepsPassage, StayBefore, HasObject, AllEnter, untouched, past_of, place_of}
+use Rattle.adopt_law.specs.Passage.{InEveryPassage, IsBounded, KeepsPassage, StayBefore, HasObject, AllEnter, untouched, past_of}
 use Rattle.adopt_law.proofs.Flat.{flat, flat_zero}
-use Rattle.adopt_law.proofs.Instructions.{Point, At1, At30, place, stand}
+use Rattle.adopt_law.proofs.Instructions.{Point, At1, At30, place}
 use Rattle.adopt_law.proofs.Object.{at_most}
-use Rattle.adopt_law.proofs.Chain.{Program, Ghosts, Global, Inv, Reached, FactsAt, obj, view_at, stands, world}
+use Rattle.adopt_law.proofs.Chain.{Program, Ghosts, Inv, Reached, FactsAt, obj, view_at, stands, world}
 use Rattle.adopt_law.proofs.Moves.{moves}
 use Rattle.adopt_law.proofs.Rule.{EndOf, first_ghost, valid, answered, committed, convergent}
 use Rattle.adopt_law.proofs.TextWords.{object_fetched}

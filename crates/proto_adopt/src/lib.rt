@@ -8,6 +8,7 @@ ghost use Rattle.protocol_library.specs.Rules.{EveryRun, EndsAfter, KeepsAdoptCo
 ghost use Rattle.protocol_library.specs.declared.kind.Kind.TheVariants.{AdoptCommit};
 
 use loader::Image;
+pub use proto_rounds::rounds_image;
 use protocol_library::{Kind, make_image};
 use std::alloc::{AllocError, Allocator};
 
