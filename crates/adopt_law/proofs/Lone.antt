@@ -13,7 +13,7 @@ use Rattle.protocol_library.specs.Counts.{chosen, own}
 use Rattle.protocol_library.specs.Rules.{IsProposed}
 use Rattle.protocol_library.proofs.Shape.{on, shaped_memory, first_memory}
 use Rattle.protocol_library.proofs.Harts.{nobody, hart_at, turn, step-turn, all_harts, bump, spent_after, spent_own}
-use Rattle.adopt_law.specs.Passage.{InEveryPassage, IsBounded, KeepsPassage, StayBefore, HasObject, AllEnter, untouched, past_of}
+use Rattle.adopt_law.specs.Passage.{InEveryPassage, IsBounded, KeepsPassage, StayBefore, HasObject, AllEnter, base_of, untouched, past_of}
 use Rattle.adopt_law.proofs.Flat.{flat, flat_zero}
 use Rattle.adopt_law.proofs.Instructions.{Point, At1, At30, place}
 use Rattle.adopt_law.proofs.Object.{at_most}
@@ -165,6 +165,26 @@ module _ (text : List ℕ) (zeros index shift count : ℕ) (inputs : List ℕ) (
           at (inl p) x e f = at_point p x e f
           at (inr q) x e f = absurd (let z : 0 ≡ 1 = f in omega arith)
 
+      frame_of : (h : ℕ) → h < length inputs → (hart_at harts h).pc ≡ past →
+          ((hart_at harts h).registers 8 ≡ base_of shift) × ((hart_at harts h).registers 12 ≡ length inputs) × ((hart_at harts h).registers 21 ≡ count)
+      frame_of h lt q =
+          let l = inv.each h lt in
+          subst (λ (t : HartValue). (t.registers 8 ≡ base_of shift) × (t.registers 12 ≡ length inputs) × (t.registers 21 ≡ count)) (sym l.is)
+          (at l.point l.regs (ap (λ (t : HartValue). t.pc) (sym l.is) ∙ q) l.facts)
+        where
+          at_point : (p : Point) (x : Registers) → 0x10000 + 4 * index + place p ≡ past →
+              FactsAt (length inputs) lone present (obj (length inputs) lone present g (g.round h)) (view_at (length inputs) lone present g (spent h) (g.round h) h) (g.round h) h (inl p) x →
+              (x 8 ≡ base_of shift) × (x 12 ≡ length inputs) × (x 21 ≡ count)
+          at_point At30 x e f = (omega (arith, f.0.base, inv.all.early h lt), f.0.many, f.0.left)
+          at_point p x e f = absurd (omega arith)
+
+          at : (p : Point ⊎ Unit {0}) (x : Registers) → (stands (length inputs) lone present p x).pc ≡ past →
+              FactsAt (length inputs) lone present (obj (length inputs) lone present g (g.round h)) (view_at (length inputs) lone present g (spent h) (g.round h) h) (g.round h) h p x →
+              ((stands (length inputs) lone present p x).registers 8 ≡ base_of shift) × ((stands (length inputs) lone present p x).registers 12 ≡ length inputs)
+              × ((stands (length inputs) lone present p x).registers 21 ≡ count)
+          at (inl p) x e f = at_point p x e f
+          at (inr q) x e f = absurd (let z : 0 ≡ 1 = f in omega arith)
+
       within : (h : ℕ) → h < length harts → h < length inputs
       within h lt = omega (arith, inv.count)
 
@@ -172,7 +192,7 @@ module _ (text : List ℕ) (zeros index shift count : ℕ) (inputs : List ℕ) (
       still_runs (inl p) x = refl
       still_runs (inr q) x = refl
 
-      meets : KeepsPassage past inputs all harts
+      meets : KeepsPassage past (base_of shift) count inputs all harts
       meets = record {
         valid = all_harts (λ t. t.pc ≡ past → IsProposed inputs all (t.registers 20)) harts
             (λ h lt q. valid inputs all 1 g inv.all h (answer_of (hart_at harts h).registers) (within h lt) (end_of h (within h lt) q));
@@ -184,6 +204,8 @@ module _ (text : List ℕ) (zeros index shift count : ℕ) (inputs : List ℕ) (
             (end_of h (within h lh) p) (end_of k (within k lk) q) one)));
         convergent = λ alike. all_harts (λ t. t.pc ≡ past → t.registers 19 ≡ 1) harts
             (λ h lt q. convergent inputs all 1 g inv.all alike h (answer_of (hart_at harts h).registers) (within h lt) (end_of h (within h lt) q));
+        framed = all_harts (λ t. t.pc ≡ past → (t.registers 8 ≡ base_of shift) × (t.registers 12 ≡ length inputs) × (t.registers 21 ≡ count)) harts
+            (λ h lt q. frame_of h (within h lt) q);
         sound = all_harts (λ t. t.state ≡ Running) harts (λ h lt.
             let l = inv.each h (within h lt) in
             ap (λ (t : HartValue). t.state) l.is ∙ still_runs l.point l.regs);
@@ -203,7 +225,7 @@ module _ (text : List ℕ) (zeros index shift count : ℕ) (inputs : List ℕ) (
 pub passage_kept : InEveryPassage KeepsPassage
 passage_kept text zeros index shift count inputs harts reserved choices few fits object enter there stay =
     let r = reached text zeros index shift count inputs few object choices harts reserved fits enter there stay in
-    subst (λ (w : World). KeepsPassage (past_of index) inputs choices w.harts) (sym r.is)
+    subst (λ (w : World). KeepsPassage (past_of index) (base_of shift) count inputs choices w.harts) (sym r.is)
     (meets text zeros index shift count inputs few object choices (spent_after choices (λ k. 0)) r.harts r.g r.inv)
 
 pub passage_bounded : InEveryPassage IsBounded

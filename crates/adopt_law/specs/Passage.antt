@@ -99,17 +99,17 @@ StayBefore past w (c ∷ choices) =
 
 -- what holds after every passage of 1 to 32 harts through an object, wherever it stands, whatever they bring, and in every schedule in which
 -- who has come out of it waits
-abbrev pub InEveryPassage : (ℕ → List ℕ → List Choice → List HartValue → Type 0) → Type 0
+abbrev pub InEveryPassage : (ℕ → ℕ → ℕ → List ℕ → List Choice → List HartValue → Type 0) → Type 0
 InEveryPassage Rule =
     (text : List ℕ) (zeros index shift count : ℕ) (values : List ℕ) (harts : List HartValue) (reserved : Marks) (choices : List Choice)
     → length values ≤ 32 → All (λ v. v < 2 ^ 32) values → HasObject text zeros index shift (length values)
     → AllEnter index shift count values harts → All (λ c. c.hart < length values) choices
     → StayBefore (past_of index) (untouched text zeros harts reserved) choices
-    → Rule (past_of index) values choices (run (untouched text zeros harts reserved) choices).harts
+    → Rule (past_of index) (base_of shift) count values choices (run (untouched text zeros harts reserved) choices).harts
 
 -- adopt-commit (Gafni, "Round-by-Round Fault Detectors", 1998), of harts that come to this place: register 20, s4, has a hart's value, and
 -- register 19, s3, is 1 where it commits to it
-pub record KeepsPassage (past : ℕ) (values : List ℕ) (choices : List Choice) (harts : List HartValue) : Type 0 where
+pub record KeepsPassage (past base count : ℕ) (values : List ℕ) (choices : List Choice) (harts : List HartValue) : Type 0 where
   -- a hart comes out with the value of a hart that was chosen
   pub valid : All (λ h. h.pc ≡ past → IsProposed values choices (h.registers 20)) harts
   -- a hart that has come out adopts, 0, or commits, 1
@@ -118,9 +118,11 @@ pub record KeepsPassage (past : ℕ) (values : List ℕ) (choices : List Choice)
   pub committed : All (λ h. All (λ k. h.pc ≡ past → k.pc ≡ past → h.registers 19 ≡ 1 → h.registers 20 ≡ k.registers 20) harts) harts
   -- where the harts that were chosen bring the same value, each hart that has come out commits
   pub convergent : AreAlike values choices → All (λ h. h.pc ≡ past → h.registers 19 ≡ 1) harts
+  -- a hart that has come out still has the address of the records, the number of harts and its count, as whoever chains objects needs
+  pub framed : All (λ h. h.pc ≡ past → (h.registers 8 ≡ base) × (h.registers 12 ≡ length values) × (h.registers 21 ≡ count)) harts
   -- no hart has stopped
   pub sound : All (λ h. h.state ≡ Running) harts
 
 -- no hart takes more steps in the object than this
-abbrev pub IsBounded : ℕ → List ℕ → List Choice → List HartValue → Type 0
-IsBounded past values choices harts = (h : ℕ) → h < length values → own choices h ≤ 14 + 14 * length values
+abbrev pub IsBounded : ℕ → ℕ → ℕ → List ℕ → List Choice → List HartValue → Type 0
+IsBounded past base count values choices harts = (h : ℕ) → h < length values → own choices h ≤ 14 + 14 * length values
