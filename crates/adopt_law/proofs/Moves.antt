@@ -22,7 +22,7 @@ use Rattle.adopt_law.proofs.Object.{Facts}
 use Rattle.adopt_law.proofs.Chain.{Program, Ghosts, Was, Inv, Result, obj, view_at, world, quiet, inside, ghostly, Aside, Held, after, obj_after}
 
 module _ (n : ℕ) (c : Program n) (now : ℕ → Type 0) (input : ℕ → ℕ) (spent : ℕ → ℕ) (harts : List HartValue) (reserved : Marks) (g : Ghosts) (inv : Inv n c now input spent harts g) (h : ℕ) (lt : h < n)
-    (refuse : Bool) (among : now h) (few : n ≤ 32) (low : c.first < 0x20000) (in_four : g.round h < 4) (near : c.shift < 2 ^ 24) (room : 4 * c.shift + 512 * g.round h + 16 * n ≤ c.zeros) where
+    (refuse : Bool) (among : now h) (few : n ≤ 32) (low : c.first < 0x20000) (in_four : g.round h < 4) (little : c.shift < 2 ^ 24) (room : 4 * c.shift + 512 * g.round h + 16 * n ≤ c.zeros) where
   abbrev r : ℕ
   r = g.round h
 
