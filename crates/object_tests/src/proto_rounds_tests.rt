@@ -36,16 +36,13 @@ fn each_refused_request_is_told(rt: HostRuntime) {
     assert!(rt; false, "memory is asked for without end");
 }
 
-// Choices of one hart after another: each with how often.
-type Turns = [(u32, u32); 2];
-
 // The harts after two harts have taken turns so many times, and then each alone as often as is said.
 fn ends<A: Allocator + Copy>(
     alloc: A,
     image: &Image<A>,
     inputs: &[u32],
     strict: u32,
-    alone: Turns,
+    alone: [(u32, u32); 2],
 ) -> Result<Vec<Hart, A>, AllocError> {
     let started: Result<Machine<FlatStore<A>, A>, StartFault> = Machine::start(
         alloc, image, inputs,
@@ -81,7 +78,7 @@ struct Worked {
     name: &'static str,
     inputs: &'static [u32],
     strict: u32,
-    alone: Turns,
+    alone: [(u32, u32); 2],
     harts: &'static [(bool, u32, u32)],
 }
 

@@ -90,7 +90,8 @@ fn a_name_is_read_back(rt: HostRuntime) {
 #[test]
 fn the_list_of_names_has_each_kind(rt: HostRuntime) {
     let mut names = String::new(rt.alloc());
-    for (place, kind) in Kind::ALL.iter().enumerate() {
+    let mut place = 0u32;
+    for kind in Kind::ALL {
         let between = match place {
             0 => "",
             4 => " or ",
@@ -99,6 +100,7 @@ fn the_list_of_names_has_each_kind(rt: HostRuntime) {
         if names.push_str(between).is_err() || names.push_str(kind.name()).is_err() {
             return assert!(rt; false, "no memory for the names");
         }
+        place = place.saturating_add(1);
     }
     assert_eq!(rt; names.as_str(), KIND_NAMES);
 }
