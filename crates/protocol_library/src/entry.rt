@@ -24,7 +24,7 @@ pub(crate) struct Entry {
 }
 
 /// The entry of a kind.
-pub(crate) fn entry(kind: Kind) -> Entry
+pub(crate) fn entry_of(kind: Kind) -> Entry
     ensures name { result.name.now ≡ name_of kind }
     ensures source { result.source.now ≡ source_of kind }
     ensures words { result.words.now ≡ words_of kind }
@@ -73,19 +73,19 @@ pub(crate) fn entry(kind: Kind) -> Entry
 pub fn source(kind: Kind) -> &'static str
     ensures { result.now ≡ source_of kind }
 {
-    entry(kind).source
+    entry_of(kind).source
 }
 
 /// The words of an object's text, which stand at 0x00010000 one after another.
 pub fn words(kind: Kind) -> &'static [u32]
     ensures { result.now ≡ words_of kind }
 {
-    entry(kind).words
+    entry_of(kind).words
 }
 
 /// How many bytes of data an object has, which stand at 0x00011000 and are 0 at first.
 pub fn zeros(kind: Kind) -> u32
     ensures { result ≡ zeros_of kind }
 {
-    entry(kind).zeros
+    entry_of(kind).zeros
 }

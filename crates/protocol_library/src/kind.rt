@@ -3,7 +3,7 @@
 ghost use Rattle.std.specs.Prelude.{◌≡◌, ◌↔◌, Some};
 ghost use Rattle.protocol_library.specs.Names.{name_of};
 
-use crate::entry::entry;
+use crate::entry::entry_of;
 
 /// A consensus object: harts that run its program come out with one value of those that they went in with.
 #[derive(Clone, Copy, Debug, PartialEq, Eq)]
@@ -37,7 +37,7 @@ impl Kind {
     pub fn name(self) -> &'static str
         ensures { result.now ≡ name_of self }
     {
-        entry(self).name
+        entry_of(self).name
     }
 
     /// The kind of such a name, or `None` where no kind has it.
