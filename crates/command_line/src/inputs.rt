@@ -24,6 +24,13 @@ pub(crate) fn part_len(rest: &[u8]) -> usize
     rest.iter().take_while(|byte| **byte != b',').count()
 }
 
+/// Reads a number below 2^32 of one or more decimal digits. Leading zeros are allowed, a sign isn't.
+pub fn read_word(text: &str) -> Option<u32>
+    ensures { result ≡ input_of text.now }
+{
+    read_input(text.as_bytes())
+}
+
 /// Reads one or more decimal inputs below 2^32 with commas between them, as `7,9`. Leading zeros are allowed, a sign isn't.
 pub fn read_inputs<A: Allocator + Copy>(alloc: A, text: &str) -> Result<Vec<u32, A>, LineFault>
     ensures ok { IfOk result (λ inputs. inputs_of text.now ≡ Some inputs.items) }

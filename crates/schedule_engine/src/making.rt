@@ -1,0 +1,66 @@
+//! The list of a schedule that is asked for.
+
+ghost use Rattle.std.specs.Prelude.{◌≡◌, ◌≢◌, ◌<◌, ◌≤◌, Ok, Err, IfOk, IfErr};
+ghost use Rattle.reservations.specs.Limit.{most_harts};
+ghost use Rattle.schedule_engine.specs.Schedule.{made, schedule_of, IsReadBack, IsRefusal};
+
+use crate::fault::ScheduleFault;
+use crate::plan::{Maker, SchedulePlan};
+use machine::Choice;
+use reservations::MAX_HARTS;
+use scheduler::{round_robin, seeded, solo};
+use std::alloc::{AllocError, Allocator};
+
+// So many choices of so many harts.
+fn made<A: Allocator>(
+    alloc: A,
+    maker: Maker,
+    harts: u32,
+    steps: usize,
+) -> Result<Vec<Choice, A>, ScheduleFault>
+    requires { 0 < harts }
+    ensures ok { IfOk result (λ choices. made maker harts steps ≡ Ok choices.items) }
+    ensures err { IfErr result (λ fault. IsRefusal fault → made maker harts steps ≡ Err fault) }
+    ensures sink_unnamed { IfErr result (λ fault. fault ≢ ScheduleFault.Write) }
+{
+    match maker {
+        Maker::Turns => match round_robin(alloc, harts, steps) {
+            Ok(choices) => Ok(choices),
+            Err(AllocError) => Err(ScheduleFault::Memory),
+        },
+        Maker::Only(hart) => {
+            if hart >= harts {
+                return Err(ScheduleFault::NoHart);
+            }
+            match solo(alloc, hart, steps) {
+                Ok(choices) => Ok(choices),
+                Err(AllocError) => Err(ScheduleFault::Memory),
+            }
+        }
+        Maker::Seed(seed) => match seeded(alloc, harts, steps, seed) {
+            Ok(choices) => Ok(choices),
+            Err(AllocError) => Err(ScheduleFault::Memory),
+        },
+    }
+}
+
+/// The list of choices that a plan asks for. There is none for no harts or for more than 32 (BadHarts), nor of one hart alone
+/// that isn't there (NoHart).
+#[tactic(auto, unfolding(crate::specs::Schedule::schedule_of), using(crate::proofs::ScheduleLemmas::plan_is_read_back))]
+pub fn make_schedule<A: Allocator>(
+    alloc: A,
+    plan: SchedulePlan,
+) -> Result<Vec<Choice, A>, ScheduleFault>
+    ensures ok { IfOk result (λ choices. schedule_of plan ≡ Ok choices.items) }
+    ensures read_back { IfOk result (λ _. IsReadBack plan.harts (schedule_of plan)) }
+    ensures err { IfErr result (λ fault. IsRefusal fault → schedule_of plan ≡ Err fault) }
+    ensures sink_unnamed { IfErr result (λ fault. fault ≢ ScheduleFault.Write) }
+{
+    if plan.harts == 0 || plan.harts as usize > MAX_HARTS {
+        return Err(ScheduleFault::BadHarts);
+    }
+    match made(alloc, plan.maker, plan.harts, plan.steps as usize) {
+        Ok(choices) => Ok(choices),
+        Err(fault) => Err(fault),
+    }
+}

@@ -1,0 +1,23 @@
+//! Which schedule is asked for.
+
+/// How the choices of a schedule are made.
+#[derive(Clone, Copy, Debug, PartialEq, Eq)]
+pub enum Maker {
+    /// The harts by turns, from hart 0 on.
+    Turns,
+    /// This hart alone, numbered from 0.
+    Only(u32),
+    /// Drawn from this seed, as a campaign draws them.
+    Seed(u64),
+}
+
+/// A schedule that is asked for.
+#[derive(Clone, Copy, Debug, PartialEq, Eq)]
+pub struct SchedulePlan {
+    /// How many harts there are: 1 to 32 are taken.
+    pub harts: u32,
+    /// How many choices it has.
+    pub steps: u32,
+    /// How they are made.
+    pub maker: Maker,
+}
