@@ -1,4 +1,4 @@
-//! Tests of the engines and of what they stand on: devices, programs, printed ends, the command line, replays.
+//! Tests of the engines and of what they stand on: devices, programs, printed ends, the command line, replays, schedules.
 #![tactic(auto)]
 
 #[cfg(test)]
@@ -15,3 +15,5 @@ mod replay_tests;
 mod rule_tests;
 #[cfg(test)]
 mod run_tests;
+#[cfg(test)]
+mod schedule_tests;

@@ -10,6 +10,7 @@ mod library;
 mod replay;
 mod report;
 mod run;
+mod schedule;
 mod threads;
 
 use crate::audience::Audience;
@@ -62,6 +63,7 @@ fn obey<R: Files + AllocGlobal + Print + Eprint + Env + Threads + Wait + Sync + 
         Ok(Order::Threads(order)) => threads::run_on_threads(rt, audience, &order),
         Ok(Order::Replay(order)) => replay::replay(rt, &order),
         Ok(Order::Campaign(order)) => campaign::run_campaign(rt, audience, &order),
+        Ok(Order::Schedule(order)) => schedule::print_schedule(rt, &order),
         Err(fault) => refuse(rt, &fault),
     }
 }

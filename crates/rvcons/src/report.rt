@@ -4,12 +4,14 @@ ghost use Rattle.std.specs.Prelude.{◌≡◌, ◌≢◌};
 ghost use Rattle.programs.specs.RunFaults.{status_of_fault};
 ghost use Rattle.replay_engine.specs.Replay.{status_of};
 ghost use Rattle.threads_engine.specs.Threads.{status_of as status_of_threads};
+ghost use Rattle.schedule_engine.specs.Schedule.{status_of as status_of_schedule};
 
 use command_line::LineFault;
 use devices::Status;
 use programs::RunFault;
 use protocol_library::KIND_NAMES;
 use replay_engine::ReplayFault;
+use schedule_engine::ScheduleFault;
 use std::io;
 use threads_engine::ThreadsEngineFault;
 
@@ -40,6 +42,14 @@ pub(crate) fn tell(rt: &impl Eprint, fault: ReplayFault) -> Status
 /// Says why a run of threads gives no answer.
 pub(crate) fn tell_threads(rt: &impl Eprint, fault: ThreadsEngineFault) -> Status
     ensures { result ≡ status_of_threads fault }
+{
+    let _ = eprintln!(rt; "rvcons: {fault}");
+    fault.status()
+}
+
+/// Says why no schedule is written.
+pub(crate) fn tell_schedule(rt: &impl Eprint, fault: ScheduleFault) -> Status
+    ensures { result ≡ status_of_schedule fault }
 {
     let _ = eprintln!(rt; "rvcons: {fault}");
     fault.status()
