@@ -110,7 +110,7 @@ fn texts_of_seeds_run_as_their_campaigns_do(rt: HostRuntime) {
         let mut exited = 0u32;
         for byte in ends.bytes() {
             if *byte == b'x' {
-                exited += 1;
+                exited = exited.saturating_add(1);
             }
         }
         let running = 2 - exited.min(2);
