@@ -1,24 +1,18 @@
 -- The harts of schedules that are made, and their texts.
-use Rattle.std.proofs.Common.{◌≡◌, ℕ, ◌+◌, ◌%◌, ◌^◌, ◌<◌, ◌≤◌, Bool, true, false, List, [], ◌∷◌, length, map, take, Option, Result, Ok, Err, refl, arith, ap, sym, subst, ◌∙◌, mod-lt, ltb-true}
+use Rattle.std.proofs.Common.{◌≡◌, ℕ, ◌%◌, ◌^◌, ◌<◌, List, [], ◌∷◌, map, take, Option, Ok, sym, subst, mod-lt}
 use Rattle.std.proofs.lemmas.List.Elements.{All-nil, All-cons}
-use Rattle.std.specs.Prelude.{nat_lt, if◌then◌else◌}
 use Rattle.std.specs.List.{All, range_with_len}
 use Rattle.std.specs.Io.KnownBytes.{Appends}
 use Rattle.rand_core.specs.Steps.{first_words}
 use Rattle.rand_pcg.specs.Lcg.{Lcg}
 use Rattle.rand_pcg.specs.Pcg.{pcg32}
-use Rattle.reservations.specs.Limit.{most_harts}
 use Rattle.machine.specs.declared.choice.Choice.{Choice}
 use Rattle.choice_texts.specs.Printing.{choices_text}
 use Rattle.choice_texts.specs.Reading.{choices_of}
 use Rattle.choice_texts.proofs.Agreement.{choices_of-spelled}
 use Rattle.choice_texts.proofs.PrintLemmas.{text_spells}
 use Rattle.scheduler.specs.Schedules.{plain_choice, turns, alone, choice_of_word, choices_drawn, generator_of, seeded_choices}
-use Rattle.schedule_engine.specs.declared.plan.Maker.{Maker}
-use Rattle.schedule_engine.specs.declared.plan.Maker.TheVariants as maker
-use Rattle.schedule_engine.specs.declared.plan.SchedulePlan.{SchedulePlan}
-use Rattle.schedule_engine.specs.declared.fault.ScheduleFault.TheVariants as fault
-use Rattle.schedule_engine.specs.Schedule.{Scheduled, made, schedule_of, Prints, BeginsToPrint, IsReadBack}
+use Rattle.schedule_engine.specs.Schedule.{Scheduled, Prints, BeginsToPrint, IsReadBack}
 
 -- each choice that is made of something names a hart that is there, if all such do
 map_within : {A : Type 0} (harts : ℕ) (f : A → Choice) → ((x : A) → (f x).hart < harts) → (xs : List A) → All (λ c. c.hart < harts) (map f xs)
@@ -49,27 +43,20 @@ pub read_back : (harts : ℕ) (choices : List Choice) → harts < 2 ^ 32 → All
 read_back harts choices few within =
     choices_of-spelled harts (choices_text choices) choices few (text_spells harts choices few within)
 
-made_is_read_back : (m : Maker) (harts steps : ℕ) (choices : List Choice) → 0 < harts → harts < 2 ^ 32 → made m harts steps ≡ Ok choices
-    → IsReadBack harts (made m harts steps)
-made_is_read_back maker.Turns harts steps choices some few is = read_back harts (turns harts steps) few (turns_within harts steps some)
-made_is_read_back (maker.Seed seed) harts steps choices some few is =
-    read_back harts (seeded_choices harts steps seed) few (seeded_within harts steps seed some)
-made_is_read_back (maker.Only hart) harts steps choices some few is = by (nat_lt hart harts) refl is
-  where
-    answer : Bool → Scheduled
-    answer b = if b then Ok (alone hart steps) else Err fault.NoHart
+-- choices that are those of turns, of one hart that is there, or of a seed
+pub turns_there : (harts steps : ℕ) (choices : List Choice) → 0 < harts → choices ≡ turns harts steps → All (λ c. c.hart < harts) choices
+turns_there harts steps choices some is = subst (All (λ (c : Choice). c.hart < harts)) (sym is) (turns_within harts steps some)
 
-    by : (b : Bool) → nat_lt hart harts ≡ b → answer b ≡ Ok choices → IsReadBack harts (answer b)
-    by true there e = read_back harts (alone hart steps) few (alone_within harts hart steps (ltb-true hart harts there))
-    by false there e = absurd (cc)
+pub alone_there : (harts hart steps : ℕ) (choices : List Choice) → hart < harts → choices ≡ alone hart steps → All (λ c. c.hart < harts) choices
+alone_there harts hart steps choices there is = subst (All (λ (c : Choice). c.hart < harts)) (sym is) (alone_within harts hart steps there)
 
--- the list of a plan is read from its text
-pub plan_is_read_back : (plan : SchedulePlan) (choices : List Choice) → 0 < plan.harts → plan.harts ≤ most_harts
-    → made plan.maker plan.harts plan.steps ≡ Ok choices → schedule_of plan ≡ made plan.maker plan.harts plan.steps
-    → IsReadBack plan.harts (schedule_of plan)
-plan_is_read_back plan choices some few is whole =
-    subst (IsReadBack plan.harts) (sym whole)
-    (made_is_read_back plan.maker plan.harts plan.steps choices some (omega (arith, few)) is)
+pub seeded_there : (harts steps seed : ℕ) (choices : List Choice) → 0 < harts → choices ≡ seeded_choices harts steps seed → All (λ c. c.hart < harts) choices
+seeded_there harts steps seed choices some is = subst (All (λ (c : Choice). c.hart < harts)) (sym is) (seeded_within harts steps seed some)
+
+-- a list of choices of harts that are there is read from its text
+pub is_read_back : (r : Scheduled) (harts : ℕ) (choices : List Choice) → r ≡ Ok choices → harts < 2 ^ 32 → All (λ c. c.hart < harts) choices
+    → IsReadBack harts r
+is_read_back r harts choices is few within = subst (IsReadBack harts) (sym is) (read_back harts choices few within)
 
 -- what was appended is the text of the list
 pub printed : (r : Scheduled) (choices : List Choice) (text : List ℕ) (old new : Option (List ℕ)) → r ≡ Ok choices

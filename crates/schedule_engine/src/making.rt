@@ -1,8 +1,8 @@
 //! The list of a schedule that is asked for.
 
-ghost use Rattle.std.specs.Prelude.{◌≡◌, ◌≢◌, ◌<◌, ◌≤◌, Ok, Err, IfOk, IfErr};
-ghost use Rattle.reservations.specs.Limit.{most_harts};
-ghost use Rattle.schedule_engine.specs.Schedule.{made, schedule_of, IsReadBack, IsRefusal};
+ghost use Rattle.std.specs.Prelude.{◌≡◌, ◌≢◌, ◌<◌, Ok, Err, IfOk, IfErr};
+ghost use Rattle.std.specs.List.{All};
+ghost use Rattle.schedule_engine.specs.Schedule.{made, schedule_of, IsRefusal};
 
 use crate::fault::ScheduleFault;
 use crate::plan::{Maker, SchedulePlan};
@@ -12,6 +12,7 @@ use scheduler::{round_robin, seeded, solo};
 use std::alloc::{AllocError, Allocator};
 
 // So many choices of so many harts.
+#[tactic(auto, using(crate::proofs::ScheduleLemmas::turns_there, crate::proofs::ScheduleLemmas::alone_there, crate::proofs::ScheduleLemmas::seeded_there))]
 fn made<A: Allocator>(
     alloc: A,
     maker: Maker,
@@ -20,6 +21,7 @@ fn made<A: Allocator>(
 ) -> Result<Vec<Choice, A>, ScheduleFault>
     requires { 0 < harts }
     ensures ok { IfOk result (λ choices. made maker harts steps ≡ Ok choices.items) }
+    ensures within { IfOk result (λ choices. All (λ c. c.hart < harts) choices.items) }
     ensures err { IfErr result (λ fault. IsRefusal fault → made maker harts steps ≡ Err fault) }
     ensures sink_unnamed { IfErr result (λ fault. fault ≢ ScheduleFault.Write) }
 {
@@ -46,13 +48,13 @@ fn made<A: Allocator>(
 
 /// The list of choices that a plan asks for. There is none for no harts or for more than 32 (BadHarts), nor of one hart alone
 /// that isn't there (NoHart).
-#[tactic(auto, unfolding(crate::specs::Schedule::schedule_of), using(crate::proofs::ScheduleLemmas::plan_is_read_back))]
+#[tactic(auto, unfolding(crate::specs::Schedule::schedule_of))]
 pub fn make_schedule<A: Allocator>(
     alloc: A,
     plan: SchedulePlan,
 ) -> Result<Vec<Choice, A>, ScheduleFault>
     ensures ok { IfOk result (λ choices. schedule_of plan ≡ Ok choices.items) }
-    ensures read_back { IfOk result (λ _. IsReadBack plan.harts (schedule_of plan)) }
+    ensures within { IfOk result (λ choices. All (λ c. c.hart < plan.harts) choices.items) }
     ensures err { IfErr result (λ fault. IsRefusal fault → schedule_of plan ≡ Err fault) }
     ensures sink_unnamed { IfErr result (λ fault. fault ≢ ScheduleFault.Write) }
 {

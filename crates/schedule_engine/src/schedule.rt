@@ -13,7 +13,7 @@ use std::alloc::{AllocError, Allocator};
 
 /// `schedule`: writes the choice text of the list that a plan asks for, an item a choice. Nothing is written where the plan is
 /// refused.
-#[tactic(auto, using(crate::proofs::ScheduleLemmas::printed, crate::proofs::ScheduleLemmas::begun))]
+#[tactic(auto, using(crate::proofs::ScheduleLemmas::printed, crate::proofs::ScheduleLemmas::begun, crate::proofs::ScheduleLemmas::is_read_back))]
 pub fn schedule_engine<A: Allocator + Copy, K: Sink>(
     alloc: A,
     plan: SchedulePlan,
