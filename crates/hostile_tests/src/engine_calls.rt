@@ -1,0 +1,244 @@
+//! Engines, and the calls on which they and the program stand. Sinks have ample memory.
+use asm_engine::{AssemblyFault, assembled_file, listing_engine};
+use command_line::{LineFault, read_inputs, read_plan};
+use debug_engine::{DebugEngineFault, debug_engine};
+use devices::{MemorySink, MemorySource, ReadFault, Status, read_all};
+use engines::{FileView, ends_text, file_engine, run_engine};
+use hart_step::{Hart, HartState};
+use programs::{HexFault, ProgramForm, RunFault, hex_image, read_hex};
+use progress::Unheard;
+use protocol_library::{Kind, source};
+use replay_engine::{ReplayFault, replay_engine};
+use std::alloc::{AllocError, Allocator, Global};
+
+/// A call.
+#[derive(Clone, Copy, Debug)]
+pub enum EngineCall {
+    Run,
+    List,
+    Info,
+    Replay,
+    Debug,
+    AssembledFile,
+    AssembledListing,
+    EndsText,
+    ReadAll,
+    ReadHex,
+    HexImage,
+    ReadInputs,
+    ReadPlan,
+}
+
+impl EngineCall {
+    /// All of them.
+    pub const ALL: [EngineCall; 13] = [
+        EngineCall::Run,
+        EngineCall::List,
+        EngineCall::Info,
+        EngineCall::Replay,
+        EngineCall::Debug,
+        EngineCall::AssembledFile,
+        EngineCall::AssembledListing,
+        EngineCall::EndsText,
+        EngineCall::ReadAll,
+        EngineCall::ReadHex,
+        EngineCall::HexImage,
+        EngineCall::ReadInputs,
+        EngineCall::ReadPlan,
+    ];
+}
+
+/// Makes a call: whether it gave its full answer, or want of memory and at most a beginning of its output.
+pub fn engine_answer<A: Allocator + Copy>(
+    alloc: A,
+    host: Global,
+    call: EngineCall,
+) -> Result<bool, AllocError> {
+    match call {
+        EngineCall::Run => is_run(alloc, host),
+        EngineCall::List => is_shown(alloc, host, FileView::Listing, LISTING),
+        EngineCall::Info => is_shown(alloc, host, FileView::Facts, FACTS),
+        EngineCall::Replay => is_replayed(alloc, host),
+        EngineCall::Debug => is_debugged(alloc, host),
+        EngineCall::AssembledFile => is_assembled(alloc),
+        EngineCall::AssembledListing => is_listed(alloc, host),
+        EngineCall::EndsText => has_ends(alloc),
+        EngineCall::ReadAll => is_read(alloc),
+        EngineCall::ReadHex => is_hex(alloc),
+        EngineCall::HexImage => {
+            let image = hex_image(alloc, &[19; 20])?;
+            Ok(image.segments().len() == 1)
+        }
+        EngineCall::ReadInputs => has_inputs(alloc),
+        EngineCall::ReadPlan => has_plan(alloc),
+    }
+}
+
+// An ELF file of 92 bytes with one segment: `addi a7, zero, 93` and `ecall`.
+#[rattlefmt::skip]
+static EXITS: [u8; 92] = [
+    127, 69, 76, 70, 1, 1, 1, 0, 0, 0, 0, 0, 0, 0, 0, 0,
+    2, 0, 243, 0, 1, 0, 0, 0, 0, 0, 1, 0, 52, 0, 0, 0,
+    0, 0, 0, 0, 0, 0, 0, 0, 52, 0, 32, 0, 1, 0, 40, 0,
+    0, 0, 0, 0, 1, 0, 0, 0, 84, 0, 0, 0, 0, 0, 1, 0,
+    0, 0, 1, 0, 8, 0, 0, 0, 8, 0, 0, 0, 5, 0, 0, 0,
+    4, 0, 0, 0, 147, 8, 208, 5, 115, 0, 0, 0,
+];
+
+const FACTS: &str = "entry 00010000\nsegment 00010000 8 r-x\nsymbols none\nlibrary none\n";
+
+const LISTING: &str =
+    "# segment 00010000 8\naddi a7, zero, 93  # 00010000 05d00893\necall  # 00010004 00000073\n";
+
+const ENDS: &str = "hart 0 exited a0 00000000 a1 00000007\nhart 1 running pc 00010000\n";
+
+const COMMANDS: &str = "where\ngo\nsteps 0 1\nregs 9\nback\nquit\n";
+
+const ANSWERS: &str =
+    "step 0 of 2\nend\nstep 2 of 2\n0 h0 00010000 addi a7, zero, 93\nbad command\nstep 1 of 2\n";
+
+// What an engine wrote where it was refused memory: nothing.
+fn refused_before<A: Allocator>(sink: &MemorySink<A>) -> Result<bool, AllocError> {
+    if sink.bytes().is_empty() {
+        Err(AllocError)
+    } else {
+        Ok(false)
+    }
+}
+
+fn is_run<A: Allocator + Copy>(alloc: A, host: Global) -> Result<bool, AllocError> {
+    let mut program = MemorySource::new(&EXITS);
+    let mut choices = MemorySource::new(b"0 0");
+    let mut sink = MemorySink::new(host);
+    let result = run_engine(
+        alloc,
+        ProgramForm::Elf,
+        &[7, 9],
+        None,
+        &mut program,
+        &mut choices,
+        &mut sink,
+    );
+    match result {
+        Ok(status) => Ok(status == Status::Done && sink.bytes() == ENDS.as_bytes()),
+        Err(RunFault::Memory) => refused_before(&sink),
+        Err(_) => Ok(false),
+    }
+}
+
+fn is_shown<A: Allocator + Copy>(
+    alloc: A,
+    host: Global,
+    view: FileView,
+    text: &str,
+) -> Result<bool, AllocError> {
+    let mut file = MemorySource::new(&EXITS);
+    let mut sink = MemorySink::new(host);
+    match file_engine(alloc, view, &mut file, &mut sink) {
+        Ok(status) => Ok(status == Status::Done && sink.bytes() == text.as_bytes()),
+        Err(RunFault::Memory) => refused_before(&sink),
+        Err(_) => Ok(false),
+    }
+}
+
+fn is_replayed<A: Allocator + Copy>(alloc: A, host: Global) -> Result<bool, AllocError> {
+    let mut program = MemorySource::new(&EXITS);
+    let mut history = MemorySource::new(b"0+1");
+    let mut sink = MemorySink::new(host);
+    let result = replay_engine(alloc, &[7, 9], None, &mut program, &mut history, &mut sink);
+    match result {
+        Ok(status) => Ok(status == Status::Done && sink.bytes() == ENDS.as_bytes()),
+        Err(ReplayFault::Run(RunFault::Memory)) => refused_before(&sink),
+        Err(_) => Ok(false),
+    }
+}
+
+// Lines are answered as they come, so that a beginning of the answers may be written.
+fn is_debugged<A: Allocator + Copy>(alloc: A, host: Global) -> Result<bool, AllocError> {
+    let mut program = MemorySource::new(&EXITS);
+    let mut choices = MemorySource::new(b"0 0");
+    let mut commands = MemorySource::new(COMMANDS.as_bytes());
+    let mut sink = MemorySink::new(host);
+    let result = debug_engine(
+        alloc,
+        &[7, 9],
+        &mut program,
+        &mut choices,
+        &mut commands,
+        &mut sink,
+        &mut Unheard,
+    );
+    match result {
+        Ok(status) => Ok(status == Status::Done && sink.bytes() == ANSWERS.as_bytes()),
+        Err(DebugEngineFault::Refused(RunFault::Memory)) => refused_before(&sink),
+        Err(DebugEngineFault::Memory) if ANSWERS.as_bytes().starts_with(sink.bytes()) => Err(
+            AllocError,
+        ),
+        Err(_) => Ok(false),
+    }
+}
+
+fn is_assembled<A: Allocator + Copy>(alloc: A) -> Result<bool, AllocError> {
+    let mut sources = [MemorySource::new(source(Kind::Swap).as_bytes())];
+    match assembled_file(alloc, &mut sources) {
+        Ok(file) => Ok(file.len() == 8576),
+        Err(AssemblyFault::Memory) => Err(AllocError),
+        Err(_) => Ok(false),
+    }
+}
+
+fn is_listed<A: Allocator + Copy>(alloc: A, host: Global) -> Result<bool, AllocError> {
+    let mut sources = [MemorySource::new(b"ecall")];
+    let mut sink = MemorySink::new(host);
+    match listing_engine(alloc, &mut sources, &mut sink) {
+        Ok(status) => {
+            let line = "ecall  # 00010000 00000073\n";
+            Ok(status == Status::Done && sink.bytes() == line.as_bytes())
+        }
+        Err(AssemblyFault::Memory) => refused_before(&sink),
+        Err(_) => Ok(false),
+    }
+}
+
+fn has_ends<A: Allocator + Copy>(alloc: A) -> Result<bool, AllocError> {
+    let hart = Hart {
+        registers: [0; 32],
+        pc: 0x0001_0000,
+        state: HartState::Running,
+    };
+    let (text, status) = ends_text(alloc, &[], &[], &[hart], None)?;
+    Ok(status == Status::Done && text.as_str() == "hart 0 running pc 00010000\n")
+}
+
+fn is_read<A: Allocator + Copy>(alloc: A) -> Result<bool, AllocError> {
+    let mut source = MemorySource::new(&EXITS);
+    match read_all(alloc, &mut source) {
+        Ok(bytes) => Ok(bytes.as_slice() == EXITS.as_slice()),
+        Err(ReadFault::Memory) => Err(AllocError),
+        Err(_) => Ok(false),
+    }
+}
+
+fn is_hex<A: Allocator + Copy>(alloc: A) -> Result<bool, AllocError> {
+    match read_hex(alloc, b"00000013 00000013 00000013 00000013 00000073") {
+        Ok(words) => Ok(words.len() == 5),
+        Err(HexFault::Memory) => Err(AllocError),
+        Err(_) => Ok(false),
+    }
+}
+
+fn has_inputs<A: Allocator + Copy>(alloc: A) -> Result<bool, AllocError> {
+    match read_inputs(alloc, "1,2,3,4,5,6,7,8,9,10,11,12") {
+        Ok(inputs) => Ok(inputs.len() == 12),
+        Err(LineFault::Memory) => Err(AllocError),
+        Err(_) => Ok(false),
+    }
+}
+
+fn has_plan<A: Allocator + Copy>(alloc: A) -> Result<bool, AllocError> {
+    match read_plan(alloc, "0:1,0:2,0:3,0:4,0:5,0:6,1:1,1:2,1:3,1:4,1:5,1:6") {
+        Ok(plan) => Ok(plan.len() == 12),
+        Err(LineFault::Memory) => Err(AllocError),
+        Err(_) => Ok(false),
+    }
+}

@@ -1,0 +1,216 @@
+//! Calls that read files and images, and that make memories of them.
+use listing::{line_of, list_image};
+use loader::{ElfFault, Image, Rights, Segment, SymFault, load, symbols};
+use local_steps::Code;
+use memory::{FlatStore, FromImage, Store, StoreFault};
+use pages::PageStore;
+use std::alloc::{AllocError, Allocator};
+
+/// A call.
+#[derive(Clone, Copy, Debug)]
+pub enum FileCall {
+    Load,
+    Symbols,
+    NewImage,
+    LineOf,
+    ListImage,
+    NewCode,
+    FlatStore,
+    FlatCopy,
+    PageStore,
+    StoreIntoPage,
+}
+
+impl FileCall {
+    /// All of them.
+    pub const ALL: [FileCall; 10] = [
+        FileCall::Load,
+        FileCall::Symbols,
+        FileCall::NewImage,
+        FileCall::LineOf,
+        FileCall::ListImage,
+        FileCall::NewCode,
+        FileCall::FlatStore,
+        FileCall::FlatCopy,
+        FileCall::PageStore,
+        FileCall::StoreIntoPage,
+    ];
+}
+
+/// A file of 244 bytes: one segment with `ecall`, a symbol table with one symbol, and its names.
+const WORDS: [u32; 58] = [
+    0x464c_457f,
+    0x0001_0101,
+    0,
+    0,
+    0x00f3_0002,
+    1,
+    0x0001_0000,
+    52,
+    84,
+    0, // the entry; one program header at 52, three sections at 84
+    0x0020_0034,
+    0x0028_0001,
+    3, // the sizes of the headers
+    1,
+    228,
+    0x0001_0000,
+    0,
+    4,
+    4,
+    5,
+    4, // the segment, at 52
+    0,
+    0,
+    0,
+    0,
+    0,
+    0,
+    0,
+    0,
+    0,
+    0, // the null section, at 84
+    0,
+    2,
+    0,
+    0,
+    204,
+    16,
+    2,
+    0,
+    4,
+    16, // the symbol table, at 124
+    0,
+    3,
+    0,
+    0,
+    220,
+    8,
+    0,
+    0,
+    1,
+    0, // its names, at 164
+    1,
+    0x0001_0000,
+    0,
+    0, // "end", at 204
+    0x646e_6500,
+    0, // the names, at 220
+    0x0000_0073, // the text, at 228
+];
+
+fn file<A: Allocator>(alloc: A) -> Result<Vec<u8, A>, AllocError> {
+    let mut bytes = Vec::new(alloc);
+    for word in WORDS {
+        bytes.extend_from_slice(&u32::to_le_bytes(word))?;
+    }
+    Ok(bytes)
+}
+
+/// Makes a call: whether it gave its full answer, or want of memory and nothing changed.
+pub fn file_answer<A: Allocator + Copy>(alloc: A, call: FileCall) -> Result<bool, AllocError> {
+    match call {
+        FileCall::Load => is_loaded(alloc),
+        FileCall::Symbols => has_symbols(alloc),
+        FileCall::NewImage => {
+            let image = image_of(alloc)?;
+            Ok(image.segments().len() == 2)
+        }
+        FileCall::LineOf => {
+            let line = line_of(alloc, 0x0001_0018, 0x0003_8a63)?;
+            Ok(line.as_str() == "beq t2, zero, 0x0001002c")
+        }
+        FileCall::ListImage => {
+            let image = image_of(alloc)?;
+            let text = list_image(alloc, &image)?;
+            Ok(text.as_str() == "# segment 00010000 4\necall  # 00010000 00000073\n")
+        }
+        FileCall::NewCode => {
+            let image = image_of(alloc)?;
+            let code = Code::new(alloc, &image)?;
+            Ok(code.segments().len() == 1)
+        }
+        FileCall::FlatStore => is_flat(alloc),
+        FileCall::FlatCopy => is_copied(alloc),
+        FileCall::PageStore => is_paged(alloc),
+        FileCall::StoreIntoPage => is_stored(alloc),
+    }
+}
+
+fn is_loaded<A: Allocator + Copy>(alloc: A) -> Result<bool, AllocError> {
+    let bytes = file(alloc)?;
+    match load(alloc, &bytes) {
+        Ok(image) => Ok(image.segments().len() == 1),
+        Err(ElfFault::Memory) => Err(AllocError),
+        Err(_) => Ok(false),
+    }
+}
+
+fn has_symbols<A: Allocator + Copy>(alloc: A) -> Result<bool, AllocError> {
+    let bytes = file(alloc)?;
+    match symbols(alloc, &bytes) {
+        Ok(found) => Ok(found.len() == 1),
+        Err(SymFault::Memory) => Err(AllocError),
+        Err(_) => Ok(false),
+    }
+}
+
+// `ecall` at 0x10000, and four bytes that may be written at 0x11000.
+fn image_of<A: Allocator + Copy>(alloc: A) -> Result<Image<A>, AllocError> {
+    let mut segments = Vec::new(alloc);
+    segments.push(Segment {
+        base: 0x0001_0000,
+        size: 4,
+        rights: Rights::of_flags(5),
+        bytes: Vec::from_slice(alloc, &[0x73, 0, 0, 0])?,
+    })?;
+    segments.push(Segment {
+        base: 0x0001_1000,
+        size: 4,
+        rights: Rights::of_flags(6),
+        bytes: Vec::from_slice(alloc, &[1])?,
+    })?;
+    match Image::new(alloc, 0x0001_0000, segments) {
+        Ok(image) => Ok(image),
+        Err(_) => Err(AllocError),
+    }
+}
+
+// Whether a memory has the image's words.
+fn has_words<S: Store>(store: &S) -> bool {
+    store.fetch(0x0001_0000) == Some(0x73) && store.load32(0x0001_1000) == Ok(1)
+}
+
+fn is_flat<A: Allocator + Copy>(alloc: A) -> Result<bool, AllocError> {
+    let image = image_of(alloc)?;
+    let store = FlatStore::from_image(alloc, &image)?;
+    Ok(has_words(&store))
+}
+
+fn is_copied<A: Allocator + Copy>(alloc: A) -> Result<bool, AllocError> {
+    let image = image_of(alloc)?;
+    let store = FlatStore::from_image(alloc, &image)?;
+    let copy = store.copy(alloc)?;
+    Ok(has_words(&store) && has_words(&copy))
+}
+
+fn is_paged<A: Allocator + Copy>(alloc: A) -> Result<bool, AllocError> {
+    let image = image_of(alloc)?;
+    let store = PageStore::from_image(alloc, &image)?;
+    Ok(has_words(&store))
+}
+
+// A copy, and a store into a page that it shares. Where the store is refused, neither has changed.
+fn is_stored<A: Allocator + Copy>(alloc: A) -> Result<bool, AllocError> {
+    let image = image_of(alloc)?;
+    let mut store = PageStore::from_image(alloc, &image)?;
+    let copy = store.copy(alloc)?;
+    let stored = store.store32(0x0001_1000, 7);
+    if stored == Ok(()) {
+        return Ok(has_words(&copy) && store.load32(0x0001_1000) == Ok(7));
+    }
+    if stored == Err(StoreFault::Memory) && has_words(&copy) && has_words(&store) {
+        return Err(AllocError);
+    }
+    Ok(false)
+}

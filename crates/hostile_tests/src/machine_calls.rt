@@ -1,0 +1,210 @@
+//! Calls that make and copy machines, that let paged machines go on, and that make, read and print schedules and histories.
+use choice_texts::{ChoiceFault, print_choices, print_runs, read_choices};
+use debugger::byte_at;
+use histories::{Entry, HistoryFault, print_history, read_history};
+use loader::{Image, Rights, Segment};
+use machine::{Choice, Machine, StartFault};
+use memory::FlatStore;
+use pages::PageStore;
+use scheduler::{round_robin, seeded, solo};
+use std::alloc::{AllocError, Allocator};
+
+/// A call.
+#[derive(Clone, Copy, Debug)]
+pub enum MachineCall {
+    Start,
+    Copy,
+    Step,
+    RoundRobin,
+    Solo,
+    Seeded,
+    ReadChoices,
+    PrintChoices,
+    PrintRuns,
+    ReadHistory,
+    PrintHistory,
+}
+
+impl MachineCall {
+    /// All of them.
+    pub const ALL: [MachineCall; 11] = [
+        MachineCall::Start,
+        MachineCall::Copy,
+        MachineCall::Step,
+        MachineCall::RoundRobin,
+        MachineCall::Solo,
+        MachineCall::Seeded,
+        MachineCall::ReadChoices,
+        MachineCall::PrintChoices,
+        MachineCall::PrintRuns,
+        MachineCall::ReadHistory,
+        MachineCall::PrintHistory,
+    ];
+}
+
+/// Makes a call: whether it gave its full answer, or want of memory and nothing changed.
+pub fn machine_answer<A: Allocator + Copy>(
+    alloc: A,
+    call: MachineCall,
+) -> Result<bool, AllocError> {
+    match call {
+        MachineCall::Start => is_started(alloc),
+        MachineCall::Copy => is_copied(alloc),
+        MachineCall::Step => is_stepped(alloc),
+        MachineCall::RoundRobin => {
+            let choices = round_robin(alloc, 2, 9)?;
+            Ok(choices.len() == 9)
+        }
+        MachineCall::Solo => {
+            let choices = solo(alloc, 1, 9)?;
+            Ok(choices.len() == 9)
+        }
+        MachineCall::Seeded => {
+            let choices = seeded(alloc, 2, 9, 1)?;
+            Ok(choices.len() == 9)
+        }
+        MachineCall::ReadChoices => is_read(alloc),
+        MachineCall::PrintChoices => {
+            let text = print_choices(alloc, &CHOICES)?;
+            Ok(text.as_str() == "0 0 1!\n")
+        }
+        MachineCall::PrintRuns => {
+            let text = print_runs(alloc, &CHOICES)?;
+            Ok(text.as_str() == "0*2 1!\n")
+        }
+        MachineCall::ReadHistory => is_history(alloc),
+        MachineCall::PrintHistory => {
+            let text = print_history(alloc, &ENTRIES)?;
+            Ok(text.as_str() == "0+3 1+0!\n")
+        }
+    }
+}
+
+const TURN: Choice = Choice {
+    hart: 0,
+    refuse: false,
+};
+
+const CHOICES: [Choice; 3] = [
+    TURN,
+    TURN,
+    Choice {
+        hart: 1,
+        refuse: true,
+    },
+];
+
+const ENTRIES: [Entry; 2] = [
+    Entry {
+        hart: 0,
+        local: 3,
+        refuse: false,
+    },
+    Entry {
+        hart: 1,
+        local: 0,
+        refuse: true,
+    },
+];
+
+// `lui t0, 0x11` at 0x10000, then `sb a1, 6(t0)`, and at 0x10008 a jump to itself.
+const PROGRAM: [u8; 12] = [
+    0xb7, 0x12, 0x01, 0x00, 0x23, 0x83, 0xb2, 0x00, 0x6f, 0x00, 0x00, 0x00,
+];
+
+fn image_of<A: Allocator + Copy>(alloc: A) -> Result<Image<A>, AllocError> {
+    let mut segments = Vec::new(alloc);
+    segments.push(Segment {
+        base: 0x0001_0000,
+        size: 0x2000,
+        rights: Rights::ANY,
+        bytes: Vec::from_slice(alloc, &PROGRAM)?,
+    })?;
+    match Image::new(alloc, 0x0001_0000, segments) {
+        Ok(image) => Ok(image),
+        Err(_) => Err(AllocError),
+    }
+}
+
+fn is_started<A: Allocator + Copy>(alloc: A) -> Result<bool, AllocError> {
+    let image = image_of(alloc)?;
+    let started: Result<Machine<FlatStore<A>, A>, StartFault> = Machine::start(
+        alloc,
+        &image,
+        &[7, 9],
+    );
+    match started {
+        Ok(machine) => Ok(machine.ends().len() == 2),
+        Err(StartFault::Memory) => Err(AllocError),
+        Err(_) => Ok(false),
+    }
+}
+
+fn is_copied<A: Allocator + Copy>(alloc: A) -> Result<bool, AllocError> {
+    let image = image_of(alloc)?;
+    let started: Result<Machine<FlatStore<A>, A>, StartFault> = Machine::start(
+        alloc,
+        &image,
+        &[7, 9],
+    );
+    let Ok(machine) = started else {
+        return Err(AllocError);
+    };
+    let copy = machine.copy(alloc)?;
+    Ok(copy.ends() == machine.ends())
+}
+
+// Where the first hart stands.
+fn pc<A: Allocator + Copy>(machine: &Machine<PageStore<A>, A>) -> Option<u32> {
+    Some(machine.ends().first()?.pc)
+}
+
+// The hart's step.
+fn step<A: Allocator + Copy>(machine: &mut Machine<PageStore<A>, A>) -> Result<(), AllocError> {
+    if (TURN.hart as usize) < machine.harts() {
+        machine.step(TURN)?;
+    }
+    Ok(())
+}
+
+// A store into a page that a copied machine shares. Where it is refused, the hart stands where it stood.
+fn is_stepped<A: Allocator + Copy>(alloc: A) -> Result<bool, AllocError> {
+    let image = image_of(alloc)?;
+    let started: Result<Machine<PageStore<A>, A>, StartFault> = Machine::start(
+        alloc,
+        &image,
+        &[7, 9],
+    );
+    let Ok(mut machine) = started else {
+        return Err(AllocError);
+    };
+    let copy = machine.copy(alloc)?;
+    step(&mut machine)?;
+    if step(&mut machine).is_err() {
+        let is_unchanged = pc(&machine) == Some(0x0001_0004);
+        return if is_unchanged {
+            Err(AllocError)
+        } else {
+            Ok(false)
+        };
+    }
+    let stored = byte_at(machine.store(), 0x0001_1006);
+    let kept = byte_at(copy.store(), 0x0001_1006);
+    Ok(stored == 7 && kept == 0)
+}
+
+fn is_read<A: Allocator + Copy>(alloc: A) -> Result<bool, AllocError> {
+    match read_choices(alloc, b"0 1 0! 1 0 1 1! 0 1 0 0 0 1 1 1 0 1 0 1", 2) {
+        Ok(choices) => Ok(choices.len() == 19),
+        Err(ChoiceFault::Memory) => Err(AllocError),
+        Err(_) => Ok(false),
+    }
+}
+
+fn is_history<A: Allocator + Copy>(alloc: A) -> Result<bool, AllocError> {
+    match read_history(alloc, b"0+1 1+0 0+2! 1+1 0+0 1+3 1+1! 0+0 1+4", 2) {
+        Ok(entries) => Ok(entries.len() == 9),
+        Err(HistoryFault::Memory) => Err(AllocError),
+        Err(_) => Ok(false),
+    }
+}

@@ -1,0 +1,182 @@
+//! Calls of a debugger, each at one place: how it is made, its moves, its breakpoints and its commands.
+use debug_commands::{Answer, DebugFault, command};
+use debugger::{Debugger, MoveFault, Stop};
+use loader::{Image, Rights, Segment};
+use machine::Choice;
+use std::alloc::{AllocError, Allocator};
+
+/// A call, behind three of six choices.
+#[derive(Clone, Copy, Debug)]
+pub enum Move {
+    At,
+    Goto,
+    Forward,
+    Back,
+    AddBreak,
+    AddWatch,
+    GoOn,
+    GoBack,
+    Steps,
+    Command(&'static str, &'static str),
+}
+
+impl Move {
+    /// All of them, with a command of each kind and its answer.
+    pub const ALL: [Move; 19] = [
+        Move::At,
+        Move::Goto,
+        Move::Forward,
+        Move::Back,
+        Move::AddBreak,
+        Move::AddWatch,
+        Move::GoOn,
+        Move::GoBack,
+        Move::Steps,
+        Move::Command("where", "step 3 of 6\n"),
+        Move::Command("goto 5", "step 5 of 6\n"),
+        Move::Command("forward", "step 4 of 6\n"),
+        Move::Command("back", "step 2 of 6\n"),
+        Move::Command("break 0x10008", "break 00010008\n"),
+        Move::Command("watch 0x11005", "watch 00011004\n"),
+        Move::Command("go", "watch 00011004\nstep 4 of 6\n"),
+        Move::Command("rgo", "watch 00011004\nstep 2 of 6\n"),
+        Move::Command("steps 1 2", "1 h0 00010004 sb a1, 6(t0)\n"),
+        Move::Command("mem 0x11004 1", "00011004 00070000\n"),
+    ];
+}
+
+// `lui t0, 0x11` at 0x10000, then `sb a1, 6(t0)`, and at 0x10008 a jump to itself.
+const PROGRAM: [u8; 12] = [
+    0xb7, 0x12, 0x01, 0x00, 0x23, 0x83, 0xb2, 0x00, 0x6f, 0x00, 0x00, 0x00,
+];
+
+const fn turn(hart: u32) -> Choice {
+    Choice {
+        hart,
+        refuse: false,
+    }
+}
+
+const TURNS: [Choice; 6] = [turn(0), turn(0), turn(1), turn(1), turn(0), turn(1)];
+
+fn image_of<A: Allocator + Copy>(alloc: A) -> Result<Image<A>, AllocError> {
+    let mut segments = Vec::new(alloc);
+    segments.push(Segment {
+        base: 0x0001_0000,
+        size: 0x2000,
+        rights: Rights::ANY,
+        bytes: Vec::from_slice(alloc, &PROGRAM)?,
+    })?;
+    match Image::new(alloc, 0x0001_0000, segments) {
+        Ok(image) => Ok(image),
+        Err(_) => Err(AllocError),
+    }
+}
+
+// A debugger of two harts, of which each stores its own input.
+fn begin<A: Allocator + Copy>(alloc: A) -> Result<Debugger<A>, AllocError> {
+    let image = image_of(alloc)?;
+    let choices = Vec::from_slice(alloc, &TURNS)?;
+    let inputs = Vec::from_slice(alloc, &[7, 9])?;
+    if !choices.iter().all(|choice| choice.hart < 2) {
+        return Err(AllocError);
+    }
+    match Debugger::new(alloc, image, inputs, choices) {
+        Ok(debugger) => Ok(debugger),
+        Err(_) => Err(AllocError),
+    }
+}
+
+// Where all calls are made, and what the move there has cost.
+const PLACE: usize = 3;
+
+const COST: u64 = 3;
+
+// A debugger at its place, with a breakpoint at the store and the stored word watched.
+fn placed<A: Allocator + Copy>(alloc: A) -> Result<Debugger<A>, AllocError> {
+    let mut debugger = begin(alloc)?;
+    debugger.add_break(0x0001_0004)?;
+    debugger.add_watch(0x0001_1005)?;
+    match debugger.goto(alloc, PLACE) {
+        Ok(()) => Ok(debugger),
+        Err(_) => Err(AllocError),
+    }
+}
+
+/// Makes a call: whether it gave its full answer, or want of memory and the debugger where it was.
+pub fn move_answer<A: Allocator + Copy>(alloc: A, call: Move) -> Result<bool, AllocError> {
+    let mut debugger = placed(alloc)?;
+    match make(alloc, &mut debugger, call) {
+        Ok(is_full) => Ok(is_full),
+        Err(MoveFault::Memory) if debugger.position() == PLACE && debugger.cost() == COST => Err(
+            AllocError,
+        ),
+        Err(_) => Ok(false),
+    }
+}
+
+// Makes a call: whether it gave its full answer.
+fn make<A: Allocator + Copy>(
+    alloc: A,
+    debugger: &mut Debugger<A>,
+    call: Move,
+) -> Result<bool, MoveFault> {
+    match call {
+        Move::At => {
+            let machine = debugger.at(alloc, 5)?;
+            Ok(machine.ends().first().map(|hart| hart.pc) == Some(0x0001_0008))
+        }
+        Move::Goto => {
+            debugger.goto(alloc, 1)?;
+            Ok(debugger.position() == 1)
+        }
+        Move::Forward => {
+            debugger.forward(alloc, 2)?;
+            Ok(debugger.position() == 5)
+        }
+        Move::Back => {
+            debugger.back(alloc, 2)?;
+            Ok(debugger.position() == 1)
+        }
+        Move::AddBreak => is_added(debugger.add_break(0x0001_0008)),
+        Move::AddWatch => is_added(debugger.add_watch(0x0001_1000)),
+        Move::GoOn => is_at_watch(debugger.go_on(alloc)),
+        Move::GoBack => is_at_watch(debugger.go_back(alloc)),
+        Move::Steps => {
+            let views = debugger.steps(alloc, 1, 3)?;
+            Ok(views.len() == 2)
+        }
+        Move::Command(line, wanted) => is_answered(alloc, debugger, line, wanted),
+    }
+}
+
+fn is_added(added: Result<(), AllocError>) -> Result<bool, MoveFault> {
+    match added {
+        Ok(()) => Ok(true),
+        Err(AllocError) => Err(MoveFault::Memory),
+    }
+}
+
+fn is_at_watch(found: Result<Option<Stop>, AllocError>) -> Result<bool, MoveFault> {
+    let watch = Stop::Watch {
+        address: 0x0001_1004,
+    };
+    match found {
+        Ok(stop) => Ok(stop == Some(watch)),
+        Err(AllocError) => Err(MoveFault::Memory),
+    }
+}
+
+fn is_answered<A: Allocator + Copy>(
+    alloc: A,
+    debugger: &mut Debugger<A>,
+    line: &str,
+    wanted: &str,
+) -> Result<bool, MoveFault> {
+    match command(alloc, debugger, line) {
+        Ok(Answer::Text(text)) => Ok(text.as_str() == wanted),
+        Ok(Answer::Quit) => Ok(false),
+        Err(DebugFault::Memory) => Err(MoveFault::Memory),
+        Err(_) => Ok(false),
+    }
+}

@@ -1,0 +1,101 @@
+//! Calls that make statements, programs, listings and files of texts.
+use asm_read::{AsmFault, statements};
+use asm_text::{TextFault, tokens};
+use assembler::{Program, assemble};
+use elf_writer::write_elf;
+use protocol_library::{Kind, source};
+use round_trip::{list, list_source};
+use std::alloc::{AllocError, Allocator};
+
+/// A call.
+#[derive(Clone, Copy, Debug)]
+pub enum TextCall {
+    Tokens,
+    Statements,
+    Assemble,
+    List,
+    ListSource,
+    WriteElf,
+}
+
+impl TextCall {
+    /// All of them.
+    pub const ALL: [TextCall; 6] = [
+        TextCall::Tokens,
+        TextCall::Statements,
+        TextCall::Assemble,
+        TextCall::List,
+        TextCall::ListSource,
+        TextCall::WriteElf,
+    ];
+}
+
+const LETTERS: &str = "a b c d e f g h i j k l m n o p q r s t u v w x y z";
+
+// Seven statements.
+const STATEMENTS: &str =
+    "a: nop\n.word 1, 2, 3, 4, 5, x\n.ascii \"abcdefghijkl\"\n.globl a, b\n.half 1\nj a";
+
+// Twelve bytes of data.
+const SOURCE: &str =
+    ".globl a\na: nop\n1: j 1b\nj 1f\n1: la a0, a\n.align 3\n.data\nb: .word 1, a\n.zero 3\n.ascii \"x\"";
+
+const LISTED: &str = "nop\n.byte 1";
+
+const LISTING: &str = "addi zero, zero, 0  # 00010000 00000013\n.byte 0x01  # 00010004\n";
+
+/// Makes a call: whether it gave its full answer, or want of memory.
+pub fn text_answer<A: Allocator + Copy>(alloc: A, call: TextCall) -> Result<bool, AllocError> {
+    match call {
+        TextCall::Tokens => has_tokens(alloc),
+        TextCall::Statements => has_statements(alloc),
+        TextCall::Assemble => is_assembled(alloc),
+        TextCall::List => {
+            let program = program_of(alloc, LISTED)?;
+            let text = list(alloc, &program)?;
+            Ok(text.as_str() == LISTING)
+        }
+        TextCall::ListSource => {
+            let program = program_of(alloc, LISTED)?;
+            let text = list_source(alloc, &program)?;
+            Ok(text.as_str() == LISTING)
+        }
+        TextCall::WriteElf => {
+            let program = program_of(alloc, source(Kind::Swap))?;
+            let file = write_elf(alloc, &program)?;
+            Ok(file.len() == 8576)
+        }
+    }
+}
+
+// The program of a source that assembles.
+fn program_of<A: Allocator + Copy>(alloc: A, text: &str) -> Result<Program<A>, AllocError> {
+    match assemble(alloc, [text].as_slice()) {
+        Ok(program) => Ok(program),
+        Err(_) => Err(AllocError),
+    }
+}
+
+fn has_tokens<A: Allocator + Copy>(alloc: A) -> Result<bool, AllocError> {
+    match tokens(alloc, LETTERS) {
+        Ok(all) => Ok(all.len() == 26),
+        Err(TextFault::Memory) => Err(AllocError),
+        Err(_) => Ok(false),
+    }
+}
+
+fn has_statements<A: Allocator + Copy>(alloc: A) -> Result<bool, AllocError> {
+    match statements(alloc, [STATEMENTS].as_slice()) {
+        Ok(all) => Ok(all.len() == 7),
+        Err(AsmFault::Memory) => Err(AllocError),
+        Err(_) => Ok(false),
+    }
+}
+
+fn is_assembled<A: Allocator + Copy>(alloc: A) -> Result<bool, AllocError> {
+    match assemble(alloc, [SOURCE].as_slice()) {
+        Ok(program) => Ok(program.bytes().len() == 12),
+        Err(AsmFault::Memory) => Err(AllocError),
+        Err(_) => Ok(false),
+    }
+}
