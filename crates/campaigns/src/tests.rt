@@ -1,7 +1,7 @@
 //! What no clause says of one seed's run, which is private: refused memory.
 use crate::seed_run::run_seed;
 use loader::{Image, Rights, Segment};
-use refusing::Refusing;
+use refusing::{Refusing, Shortage};
 use std::alloc::{AllocError, Allocator};
 
 // Each hart reserves a word, stores its address there if the reservation holds, loads it, and exits with what the
@@ -40,16 +40,20 @@ fn each_refused_request_is_told(rt: HostRuntime) {
     let Ok(image) = program(rt.alloc(), &CONDITIONAL) else {
         return assert!(rt; false, "no memory for the image");
     };
-    for passed in 0..100u64 {
-        let heap = Refusing::new(rt.alloc(), passed);
-        match run_seed(&heap, &image, &[7, 9], 8, 5) {
-            Ok(run) => assert_eq!(rt; run.harts.len(), 2, "at request {passed}"),
-            Err(AllocError) => assert!(rt; heap.refused(), "at request {passed}"),
+    for shortage in Shortage::BOTH {
+        let mut refused = true;
+        for passed in 0..100u64 {
+            let heap = Refusing::of(rt.alloc(), passed, shortage);
+            match run_seed(&heap, &image, &[7, 9], 8, 5) {
+                Ok(run) => assert_eq!(rt; run.harts.len(), 2, "{shortage:?}: at request {passed}"),
+                Err(AllocError) => assert!(rt; heap.refused(), "{shortage:?}: at request {passed}"),
+            }
+            refused = heap.refused();
+            if !refused {
+                assert!(rt; passed > 0, "no memory is asked for");
+                break;
+            }
         }
-        if !heap.refused() {
-            assert!(rt; passed > 0, "no memory is asked for");
-            return;
-        }
+        assert!(rt; !refused, "{shortage:?}: memory is asked for without end");
     }
-    assert!(rt; false, "memory is asked for without end");
 }

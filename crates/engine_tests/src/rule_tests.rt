@@ -8,7 +8,7 @@ use engines::{
 use hart_step::{Hart, HartState};
 use progress::Unheard;
 use protocol_library::{Kind, source};
-use refusing::Refusing;
+use refusing::{Refusing, Shortage};
 use std::alloc::{AllocError, Allocator};
 
 // An object, the inputs, the rule, the choices, and what is printed.
@@ -304,16 +304,23 @@ fn lines_of<A: Allocator + Copy>(alloc: A) -> Result<String<A>, AllocError> {
 // The requests for a block's verdicts and lines.
 #[test]
 fn each_refused_request_of_lines_is_told(rt: HostRuntime) {
-    for passed in 0..100u64 {
-        let heap = Refusing::new(rt.alloc(), passed);
-        match lines_of(&heap) {
-            Ok(text) => assert_eq!(rt; text.as_str(), "seed 5 exited 0 faulted 0 running 2 kept\n"),
-            Err(AllocError) => assert!(rt; heap.refused(), "at request {passed}"),
+    for shortage in Shortage::BOTH {
+        let mut refused = true;
+        for passed in 0..100u64 {
+            let heap = Refusing::of(rt.alloc(), passed, shortage);
+            match lines_of(&heap) {
+                Ok(text) => assert_eq!(rt;
+                    text.as_str(),
+                    "seed 5 exited 0 faulted 0 running 2 kept\n"
+                ),
+                Err(AllocError) => assert!(rt; heap.refused(), "{shortage:?}: at request {passed}"),
+            }
+            refused = heap.refused();
+            if !refused {
+                assert!(rt; passed > 0, "no memory is asked for");
+                break;
+            }
         }
-        if !heap.refused() {
-            assert!(rt; passed > 0, "no memory is asked for");
-            return;
-        }
+        assert!(rt; !refused, "{shortage:?}: memory is asked for without end");
     }
-    assert!(rt; false, "memory is asked for without end");
 }

@@ -6,6 +6,8 @@ mod book_tests;
 #[cfg(test)]
 mod images;
 #[cfg(test)]
+mod memory_tests;
+#[cfg(test)]
 mod object_tests;
 #[cfg(test)]
 mod replay_tests;

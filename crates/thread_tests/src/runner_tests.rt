@@ -6,7 +6,7 @@ use hart_step::{Hart, HartState};
 use hart_threads::{Gate, OpenGate, RunFault, run_threads};
 use histories::print_history;
 use protocol_library::Kind;
-use refusing::Refusing;
+use refusing::{Refusing, Shortage};
 use std::alloc::Allocator;
 use std::sync::Wait;
 use std::sync::atomic::{AtomicU64, Ordering};
@@ -215,23 +215,29 @@ fn two_harts_meet(rt: HostRuntime) {
 
 #[test]
 fn each_refused_request_is_told(rt: HostRuntime) {
-    let mut refused = true;
-    for passed in 0..1000u64 {
-        let heap = Refusing::new(rt.alloc(), passed);
-        match run(&rt, &heap, LR_SC, &[3, 5], 100, &[(0, 7)], &OpenGate) {
-            Ok(book) => assert!(rt;
-                one_value(book.machine().ends()).is_some(),
-                "request {passed}"
-            ),
-            Err(fault) => {
-                assert_eq!(rt; fault, RunFault::Memory, "at request {passed}");
-                assert!(rt; heap.refused(), "at request {passed}");
+    for shortage in Shortage::BOTH {
+        let mut refused = true;
+        for passed in 0..1000u64 {
+            let heap = Refusing::of(rt.alloc(), passed, shortage);
+            match run(&rt, &heap, LR_SC, &[3, 5], 100, &[(0, 7)], &OpenGate) {
+                Ok(book) => assert!(rt;
+                    one_value(book.machine().ends()).is_some(),
+                    "{shortage:?}: request {passed}"
+                ),
+                Err(fault) => {
+                    assert_eq!(rt;
+                        fault,
+                        RunFault::Memory,
+                        "{shortage:?}: at request {passed}"
+                    );
+                    assert!(rt; heap.refused(), "{shortage:?}: at request {passed}");
+                }
+            }
+            refused = heap.refused();
+            if !refused {
+                break;
             }
         }
-        refused = heap.refused();
-        if !refused {
-            break;
-        }
+        assert!(rt; !refused, "{shortage:?}: memory is asked for without end");
     }
-    assert!(rt; !refused, "memory is asked for without end");
 }

@@ -9,8 +9,8 @@ use protocol_library::Kind;
 use refusing::Refusing;
 use std::alloc::Allocator;
 
-// The book of Swap with two inputs, shared.
-fn shared_swap<A: Allocator + Copy>(alloc: A) -> Option<Shared<A>> {
+/// The book of Swap with two inputs, shared.
+pub(crate) fn shared_swap<A: Allocator + Copy>(alloc: A) -> Option<Shared<A>> {
     let image = image_of(alloc, Program::Object(Kind::Swap)).ok()?;
     let inputs = Vec::from_slice(alloc, &[7, 9]).ok()?;
     let book = Book::new(alloc, image, inputs).ok()?;
