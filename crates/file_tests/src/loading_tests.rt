@@ -198,7 +198,13 @@ fn fields_are_looked_at_where_they_count(rt: HostRuntime) -> Result<(), AllocErr
 
 #[test]
 fn segments_are_measured_up_to_the_last_address(rt: HostRuntime) -> Result<(), AllocError> {
-    let rows: [(&str, &[(usize, u32)], Option<ElfFault>); 5] = [
+    let rows: [(&str, &[(usize, u32)], Option<ElfFault>); 7] = [
+        ("the last page", &[(60, 0xffff_f000), (72, 4096)], None),
+        (
+            "a byte more than the last page",
+            &[(60, 0xffff_f000), (72, 4097)],
+            Some(ElfFault::PastEnd),
+        ),
         (
             "an empty segment inside another",
             &[(92, 0x0001_0004), (100, 0), (104, 0)],
@@ -228,6 +234,34 @@ fn segments_are_measured_up_to_the_last_address(rt: HostRuntime) -> Result<(), A
                 (104, 0x8000_0000),
             ],
             Some(ElfFault::TooLarge),
+        ),
+    ];
+    for (name, patches, want) in rows {
+        let file = patched(rt.alloc(), patches)?;
+        assert_eq!(rt; load(rt.alloc(), &file).err(), want, "{name}");
+    }
+    Ok(())
+}
+
+// Headers may lie over one another, and over what a segment is filled from.
+#[test]
+fn headers_may_share_bytes(rt: HostRuntime) -> Result<(), AllocError> {
+    let rows: [(&str, &[(usize, u32)], Option<ElfFault>); 4] = [
+        (
+            "a program header in the file's header, and one behind it",
+            &[(28, 20)],
+            Some(ElfFault::Overlap),
+        ),
+        (
+            "a program header in the file's header",
+            &[(28, 20), (44, 0x0028_0001)],
+            None,
+        ),
+        ("a segment filled from its own header", &[(56, 52)], None),
+        (
+            "two segments filled from the same bytes",
+            &[(88, 116)],
+            None,
         ),
     ];
     for (name, patches, want) in rows {

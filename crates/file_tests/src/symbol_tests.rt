@@ -155,6 +155,40 @@ fn named_symbols_come_in_the_tables_order(rt: HostRuntime) -> Result<(), AllocEr
     Ok(())
 }
 
+// The table, its names and the headers may lie over one another.
+#[test]
+fn tables_may_share_bytes(rt: HostRuntime) -> Result<(), AllocError> {
+    let rows: [(&str, &[(usize, u32)], Result<usize, SymFault>); 6] = [
+        ("names in the symbols", &[(148, 172), (152, 48)], Ok(0)),
+        ("names in the sections", &[(148, 52), (152, 120)], Ok(0)),
+        ("names in the file's header", &[(148, 0), (152, 8)], Ok(3)),
+        (
+            "symbols in the null section",
+            &[(108, 52), (112, 32)],
+            Ok(0),
+        ),
+        (
+            "symbols in their own section's header",
+            &[(108, 92), (112, 48)],
+            Err(SymFault::BadTable),
+        ),
+        (
+            "symbols in the file's header",
+            &[(108, 0), (112, 48)],
+            Err(SymFault::BadTable),
+        ),
+    ];
+    for (name, patches, wanted) in rows {
+        let file = patched(rt.alloc(), patches)?;
+        match (symbols(rt.alloc(), &file), wanted) {
+            (Ok(found), Ok(count)) => assert_eq!(rt; found.len(), count, "{name}"),
+            (Err(fault), Err(wanted)) => assert_eq!(rt; fault, wanted, "{name}"),
+            _ => assert!(rt; false, "{name}"),
+        }
+    }
+    Ok(())
+}
+
 #[test]
 fn a_bad_table_loads(rt: HostRuntime) -> Result<(), AllocError> {
     let file = patched(rt.alloc(), &[(44, 0x0027_0000)])?;

@@ -1,4 +1,4 @@
-//! Tests of hostile use: each call that asks for memory, with each of its requests refused.
+//! Tests of hostile use: calls that are refused memory, and files of strangers.
 #![tactic(auto)]
 
 #[cfg(test)]
@@ -13,5 +13,7 @@ mod memory_tests;
 mod moves;
 #[cfg(test)]
 mod object_calls;
+#[cfg(test)]
+mod stranger_tests;
 #[cfg(test)]
 mod text_calls;
