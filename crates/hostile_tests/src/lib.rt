@@ -1,6 +1,8 @@
-//! Tests of hostile use: calls that are refused memory, and files of strangers.
+//! Tests of hostile use: calls that are refused memory, devices that fail, and files of strangers.
 #![tactic(auto)]
 
+#[cfg(test)]
+mod device_tests;
 #[cfg(test)]
 mod engine_calls;
 #[cfg(test)]

@@ -1,0 +1,314 @@
+//! What no clause says of devices that fail: that each engine comes to its full answer where none does. Each device of each engine fails
+//! at its first call, then at its second, and so on, until it is not called so often.
+use asm_engine::{AssemblyFault, listing_engine};
+use debug_engine::{DebugEngineFault, debug_engine};
+use devices::{Failing, FullSink, MemorySink, MemorySource, Status};
+use engines::{CampaignPlan, FileView, campaign_engine, file_engine, run_engine, source_engine};
+use programs::{Input, ProgramForm, RunFault};
+use progress::Unheard;
+use protocol_library::{Kind, source};
+use replay_engine::{ReplayFault, replay_engine};
+use std::alloc::Global;
+
+#[derive(Clone, Copy, Debug)]
+enum Engine {
+    Run,
+    List,
+    Info,
+    Replay,
+    Campaign,
+    Assemble,
+    Library,
+    Debug,
+}
+
+// A device, by what it is for.
+#[derive(Clone, Copy, Debug, PartialEq, Eq)]
+enum Device {
+    Program,
+    // The choices, or the history.
+    Schedule,
+    Commands,
+    Output,
+}
+
+// An engine and each of its devices.
+const ROWS: [(Engine, &'static [Device]); 8] = [
+    (
+        Engine::Run,
+        &[Device::Program, Device::Schedule, Device::Output],
+    ),
+    (Engine::List, &[Device::Program, Device::Output]),
+    (Engine::Info, &[Device::Program, Device::Output]),
+    (
+        Engine::Replay,
+        &[Device::Program, Device::Schedule, Device::Output],
+    ),
+    (Engine::Campaign, &[Device::Program, Device::Output]),
+    (Engine::Assemble, &[Device::Program, Device::Output]),
+    (Engine::Library, &[Device::Output]),
+    (
+        Engine::Debug,
+        &[
+            Device::Program,
+            Device::Schedule,
+            Device::Commands,
+            Device::Output,
+        ],
+    ),
+];
+
+// The device that fails, and behind how many calls.
+#[derive(Clone, Copy)]
+struct Failure {
+    device: Device,
+    passed: u64,
+}
+
+impl Failure {
+    // Behind how many calls a device fails: the others never do.
+    fn calls(self, device: Device) -> u64 {
+        if device == self.device {
+            self.passed
+        } else {
+            u64::MAX
+        }
+    }
+}
+
+// What came of it.
+#[derive(Clone, Copy, Debug, PartialEq, Eq)]
+enum Outcome {
+    // The full answer.
+    Full,
+    // This device is named, and what was written is what may have been.
+    Failed(Device),
+    Other,
+}
+
+// The outcome that an answer tells, or another one where it may not have written what it has.
+fn checked(outcome: Outcome, written: &[u8], full: &str) -> Outcome {
+    let may_be_written = match outcome {
+        Outcome::Full => written == full.as_bytes(),
+        Outcome::Failed(Device::Program) | Outcome::Failed(Device::Schedule) => written.is_empty(),
+        Outcome::Failed(Device::Commands) | Outcome::Failed(Device::Output) => full
+            .as_bytes()
+            .starts_with(written),
+        Outcome::Other => false,
+    };
+    if may_be_written {
+        outcome
+    } else {
+        Outcome::Other
+    }
+}
+
+// An ELF file of 92 bytes with one segment: `addi a7, zero, 93` and `ecall`.
+#[rattlefmt::skip]
+static EXITS: [u8; 92] = [
+    127, 69, 76, 70, 1, 1, 1, 0, 0, 0, 0, 0, 0, 0, 0, 0,
+    2, 0, 243, 0, 1, 0, 0, 0, 0, 0, 1, 0, 52, 0, 0, 0,
+    0, 0, 0, 0, 0, 0, 0, 0, 52, 0, 32, 0, 1, 0, 40, 0,
+    0, 0, 0, 0, 1, 0, 0, 0, 84, 0, 0, 0, 0, 0, 1, 0,
+    0, 0, 1, 0, 8, 0, 0, 0, 8, 0, 0, 0, 5, 0, 0, 0,
+    4, 0, 0, 0, 147, 8, 208, 5, 115, 0, 0, 0,
+];
+
+// A schedule of no choice, which is read in several pieces.
+static BLANKS: [u8; 40_000] = [b' '; 40_000];
+
+const ENDS: &str = "hart 0 running pc 00010000\nhart 1 running pc 00010000\n";
+
+const FACTS: &str = "entry 00010000\nsegment 00010000 8 r-x\nsymbols none\nlibrary none\n";
+
+const LISTING: &str =
+    "# segment 00010000 8\naddi a7, zero, 93  # 00010000 05d00893\necall  # 00010004 00000073\n";
+
+const SEEDS: &str =
+    "seed 5 exited 1 faulted 0 running 0\nseed 6 exited 1 faulted 0 running 0\nseed 7 exited 1 faulted 0 running 0\n";
+
+const COMMANDS: &[u8] = b"where\nsteps 0 1\nback\nquit\n";
+
+const ANSWERS: &str = "step 0 of 2\n0 h0 00010000 addi a7, zero, 93\npast end\n";
+
+// What the answer of a run, a campaign or a view of a file tells.
+fn told(result: Result<Status, RunFault>) -> Outcome {
+    match result {
+        Ok(Status::Done) => Outcome::Full,
+        Err(RunFault::Read(Input::File)) => Outcome::Failed(Device::Program),
+        Err(RunFault::Read(Input::Choices)) => Outcome::Failed(Device::Schedule),
+        Err(RunFault::Write) => Outcome::Failed(Device::Output),
+        _ => Outcome::Other,
+    }
+}
+
+fn run(alloc: Global, failure: Failure) -> Outcome {
+    let mut program = Failing::new(MemorySource::new(&EXITS), failure.calls(Device::Program));
+    let mut choices = Failing::new(MemorySource::new(&BLANKS), failure.calls(Device::Schedule));
+    let mut sink = Failing::new(MemorySink::new(alloc), failure.calls(Device::Output));
+    let result = run_engine(
+        alloc,
+        ProgramForm::Elf,
+        &[7, 9],
+        None,
+        &mut program,
+        &mut choices,
+        &mut sink,
+    );
+    checked(told(result), sink.device().bytes(), ENDS)
+}
+
+fn show(alloc: Global, failure: Failure, view: FileView, full: &str) -> Outcome {
+    let mut file = Failing::new(MemorySource::new(&EXITS), failure.calls(Device::Program));
+    let mut sink = Failing::new(MemorySink::new(alloc), failure.calls(Device::Output));
+    let result = file_engine(alloc, view, &mut file, &mut sink);
+    checked(told(result), sink.device().bytes(), full)
+}
+
+fn replay(alloc: Global, failure: Failure) -> Outcome {
+    let mut program = Failing::new(MemorySource::new(&EXITS), failure.calls(Device::Program));
+    let mut history = Failing::new(MemorySource::new(&BLANKS), failure.calls(Device::Schedule));
+    let mut sink = Failing::new(MemorySink::new(alloc), failure.calls(Device::Output));
+    let result = replay_engine(alloc, &[7, 9], None, &mut program, &mut history, &mut sink);
+    let outcome = match result {
+        Ok(status) => told(Ok(status)),
+        Err(ReplayFault::Run(fault)) => told(Err(fault)),
+        Err(ReplayFault::History) => Outcome::Failed(Device::Schedule),
+        Err(_) => Outcome::Other,
+    };
+    checked(outcome, sink.device().bytes(), ENDS)
+}
+
+const PLAN: CampaignPlan = CampaignPlan {
+    first: 5,
+    count: 3,
+    steps: 2,
+    rule: None,
+};
+
+fn campaign(rt: &HostRuntime, failure: Failure) -> Outcome {
+    let mut program = Failing::new(MemorySource::new(&EXITS), failure.calls(Device::Program));
+    let mut sink = Failing::new(MemorySink::new(rt.alloc()), failure.calls(Device::Output));
+    let result = campaign_engine(
+        rt,
+        rt.alloc(),
+        &[7],
+        PLAN,
+        &mut program,
+        &mut sink,
+        &mut Unheard,
+    );
+    checked(told(result), sink.device().bytes(), SEEDS)
+}
+
+fn assemble(alloc: Global, failure: Failure) -> Outcome {
+    let mut sources = [Failing::new(MemorySource::new(b"ecall"), failure.calls(Device::Program))];
+    let mut sink = Failing::new(MemorySink::new(alloc), failure.calls(Device::Output));
+    let outcome = match listing_engine(alloc, &mut sources, &mut sink) {
+        Ok(Status::Done) => Outcome::Full,
+        Err(AssemblyFault::Read(0)) => Outcome::Failed(Device::Program),
+        Err(AssemblyFault::Write) => Outcome::Failed(Device::Output),
+        _ => Outcome::Other,
+    };
+    checked(
+        outcome,
+        sink.device().bytes(),
+        "ecall  # 00010000 00000073\n",
+    )
+}
+
+fn library(alloc: Global, failure: Failure) -> Outcome {
+    let mut sink = Failing::new(MemorySink::new(alloc), failure.calls(Device::Output));
+    let result = source_engine(Kind::Swap, &mut sink);
+    checked(told(result), sink.device().bytes(), source(Kind::Swap))
+}
+
+fn debug(alloc: Global, failure: Failure) -> Outcome {
+    let mut program = Failing::new(MemorySource::new(&EXITS), failure.calls(Device::Program));
+    let mut choices = Failing::new(MemorySource::new(b"0 1"), failure.calls(Device::Schedule));
+    let mut commands = Failing::new(MemorySource::new(COMMANDS), failure.calls(Device::Commands));
+    let mut sink = Failing::new(MemorySink::new(alloc), failure.calls(Device::Output));
+    let result = debug_engine(
+        alloc,
+        &[7, 9],
+        &mut program,
+        &mut choices,
+        &mut commands,
+        &mut sink,
+        &mut Unheard,
+    );
+    let outcome = match result {
+        Ok(status) => told(Ok(status)),
+        Err(DebugEngineFault::Refused(fault)) => told(Err(fault)),
+        Err(DebugEngineFault::Commands) => Outcome::Failed(Device::Commands),
+        Err(DebugEngineFault::Answers) => Outcome::Failed(Device::Output),
+        Err(_) => Outcome::Other,
+    };
+    checked(outcome, sink.device().bytes(), ANSWERS)
+}
+
+fn use_engine(rt: &HostRuntime, engine: Engine, failure: Failure) -> Outcome {
+    let alloc = rt.alloc();
+    match engine {
+        Engine::Run => run(alloc, failure),
+        Engine::List => show(alloc, failure, FileView::Listing, LISTING),
+        Engine::Info => show(alloc, failure, FileView::Facts, FACTS),
+        Engine::Replay => replay(alloc, failure),
+        Engine::Campaign => campaign(rt, failure),
+        Engine::Assemble => assemble(alloc, failure),
+        Engine::Library => library(alloc, failure),
+        Engine::Debug => debug(alloc, failure),
+    }
+}
+
+// More calls than a device here has.
+const MOST: u64 = 100;
+
+// How often a device is called. An error tells behind how many calls it failed and something else came of it.
+fn calls_of(rt: &HostRuntime, engine: Engine, device: Device) -> Result<u64, u64> {
+    for passed in 0..MOST {
+        match use_engine(rt, engine, Failure { device, passed }) {
+            Outcome::Full => return Ok(passed),
+            Outcome::Failed(failed) if failed == device => {}
+            _ => return Err(passed),
+        }
+    }
+    Err(MOST)
+}
+
+#[test]
+fn each_call_of_each_device_fails(rt: HostRuntime) {
+    for (engine, devices) in ROWS {
+        for device in devices {
+            match calls_of(&rt, engine, *device) {
+                Ok(calls) => assert!(rt; calls > 0, "{engine:?}: {device:?} is not called"),
+                Err(passed) => assert!(rt; false, "{engine:?}: {device:?} behind {passed} calls"),
+            }
+        }
+    }
+}
+
+#[test]
+fn a_full_sink_is_told(rt: HostRuntime) {
+    let alloc = rt.alloc();
+    for view in [FileView::Listing, FileView::Facts] {
+        let mut file = MemorySource::new(&EXITS);
+        let result = file_engine(alloc, view, &mut file, &mut FullSink::new());
+        assert_eq!(rt; result, Err(RunFault::Write));
+    }
+    let result = source_engine(Kind::Swap, &mut FullSink::new());
+    assert_eq!(rt; result, Err(RunFault::Write));
+    let mut program = MemorySource::new(&EXITS);
+    let mut choices = MemorySource::new(b"0 1");
+    let mut commands = MemorySource::new(COMMANDS);
+    let result = debug_engine(
+        alloc,
+        &[7, 9],
+        &mut program,
+        &mut choices,
+        &mut commands,
+        &mut FullSink::new(),
+        &mut Unheard,
+    );
+    assert_eq!(rt; result, Err(DebugEngineFault::Answers));
+}
