@@ -153,10 +153,11 @@ fn thirty_two_harts_agree(rt: HostRuntime) {
 // How long a hart is held.
 const TURNS: u32 = 10_000_000;
 
-// Holds one of two harts at its first segment until the other one has had three, as many as Swap needs.
+// Holds a hart at its first segment until the others have had so many.
 #[derive(Drop)]
 struct Holding {
     held: u32,
+    enough: u64,
     others: AtomicU64,
 }
 
@@ -167,7 +168,7 @@ impl Gate for Holding {
             return;
         }
         for _ in 0..TURNS {
-            if self.others.load(Ordering::SeqCst) >= 3 {
+            if self.others.load(Ordering::SeqCst) >= self.enough {
                 return;
             }
             thread::yield_now();
@@ -178,8 +179,10 @@ impl Gate for Holding {
 #[test]
 fn hart_that_is_held_takes_the_value_of_the_other(rt: HostRuntime) {
     for (held, value) in [(0, 9), (1, 7)] {
+        // As many segments as Swap needs.
         let gate = Holding {
             held,
+            enough: 3,
             others: AtomicU64::new(0),
         };
         let Some(book) = run(&rt, rt.alloc(), Kind::Swap, &[7, 9], &[], &gate) else {
@@ -188,5 +191,24 @@ fn hart_that_is_held_takes_the_value_of_the_other(rt: HostRuntime) {
         for hart in book.machine().ends() {
             assert_eq!(rt; hart.state, HartState::Exited(value), "held {held}");
         }
+    }
+}
+
+#[test]
+fn three_harts_go_on_while_one_is_held(rt: HostRuntime) {
+    let gate = Holding {
+        held: 0,
+        enough: 9,
+        others: AtomicU64::new(0),
+    };
+    let Some(book) = run(&rt, rt.alloc(), Kind::LrSc, &[3, 5, 7, 9], &[], &gate) else {
+        return assert!(rt; false, "no run");
+    };
+    // Of nine segments three at most are not committed yet.
+    for (place, entry) in book.history().iter().enumerate() {
+        assert!(rt; place >= 6 || entry.hart != 0, "entry {place}");
+    }
+    for hart in book.machine().ends() {
+        assert_ne!(rt; hart.state, HartState::Running);
     }
 }
