@@ -37,7 +37,7 @@ impl FileCall {
     ];
 }
 
-/// A file of 244 bytes: one segment with `ecall`, a symbol table with one symbol, and its names.
+/// A file of 232 bytes: one segment with `ecall`, a symbol table with one symbol, and its names.
 const WORDS: [u32; 58] = [
     0x464c_457f,
     0x0001_0101,

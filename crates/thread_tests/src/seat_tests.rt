@@ -14,6 +14,10 @@ const SWAP: Program = Program::Object(Kind::Swap);
 
 const ADD: Program = Program::Object(Kind::Add);
 
+const JUMP_TO_ITSELF: [u32; 1] = [0x0000_006f];
+
+const LOOP: Program = Program::Writable(&JUMP_TO_ITSELF);
+
 // The book of a program with a hart for each input, shared.
 fn shared_of<A: Allocator + Copy>(alloc: A, program: Program, inputs: &[u32]) -> Option<Shared<A>> {
     let image = image_of(alloc, program).ok()?;
@@ -49,7 +53,7 @@ fn second_of_two_seats_is_stale(rt: HostRuntime) {
 // A jump to itself leaves the slot as it was, so that the other seat still fits.
 #[test]
 fn both_seats_of_a_loop_are_committed(rt: HostRuntime) {
-    let Some(shared) = shared_of(rt.alloc(), Program::Writable(&[0x0000_006f]), &[7]) else {
+    let Some(shared) = shared_of(rt.alloc(), LOOP, &[7]) else {
         return assert!(rt; false, "no book");
     };
     let (Ok(mut one), Ok(mut two)) = (shared.seat(&rt, 0), shared.seat(&rt, 0)) else {
