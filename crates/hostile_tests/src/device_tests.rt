@@ -9,6 +9,7 @@ use progress::Unheard;
 use protocol_library::{Kind, source};
 use replay_engine::{ReplayFault, replay_engine};
 use std::alloc::Global;
+use std::thread::Threads;
 
 #[derive(Clone, Copy, Debug)]
 enum Engine {
@@ -186,18 +187,10 @@ const PLAN: CampaignPlan = CampaignPlan {
     rule: None,
 };
 
-fn campaign(rt: &HostRuntime, failure: Failure) -> Outcome {
+fn campaign<R: Threads + Sync>(rt: &R, alloc: Global, failure: Failure) -> Outcome {
     let mut program = Failing::new(MemorySource::new(&EXITS), failure.calls(Device::Program));
-    let mut sink = Failing::new(MemorySink::new(rt.alloc()), failure.calls(Device::Output));
-    let result = campaign_engine(
-        rt,
-        rt.alloc(),
-        &[7],
-        PLAN,
-        &mut program,
-        &mut sink,
-        &mut Unheard,
-    );
+    let mut sink = Failing::new(MemorySink::new(alloc), failure.calls(Device::Output));
+    let result = campaign_engine(rt, alloc, &[7], PLAN, &mut program, &mut sink, &mut Unheard);
     checked(told(result), sink.device().bytes(), SEEDS)
 }
 
@@ -247,14 +240,18 @@ fn debug(alloc: Global, failure: Failure) -> Outcome {
     checked(outcome, sink.device().bytes(), ANSWERS)
 }
 
-fn use_engine(rt: &HostRuntime, engine: Engine, failure: Failure) -> Outcome {
-    let alloc = rt.alloc();
+fn use_engine<R: Threads + Sync>(
+    rt: &R,
+    alloc: Global,
+    engine: Engine,
+    failure: Failure,
+) -> Outcome {
     match engine {
         Engine::Run => run(alloc, failure),
         Engine::List => show(alloc, failure, FileView::Listing, LISTING),
         Engine::Info => show(alloc, failure, FileView::Facts, FACTS),
         Engine::Replay => replay(alloc, failure),
-        Engine::Campaign => campaign(rt, failure),
+        Engine::Campaign => campaign(rt, alloc, failure),
         Engine::Assemble => assemble(alloc, failure),
         Engine::Library => library(alloc, failure),
         Engine::Debug => debug(alloc, failure),
@@ -265,9 +262,14 @@ fn use_engine(rt: &HostRuntime, engine: Engine, failure: Failure) -> Outcome {
 const MOST: u64 = 100;
 
 // How often a device is called. An error tells behind how many calls it failed and something else came of it.
-fn calls_of(rt: &HostRuntime, engine: Engine, device: Device) -> Result<u64, u64> {
+fn calls_of<R: Threads + Sync>(
+    rt: &R,
+    alloc: Global,
+    engine: Engine,
+    device: Device,
+) -> Result<u64, u64> {
     for passed in 0..MOST {
-        match use_engine(rt, engine, Failure { device, passed }) {
+        match use_engine(rt, alloc, engine, Failure { device, passed }) {
             Outcome::Full => return Ok(passed),
             Outcome::Failed(failed) if failed == device => {}
             _ => return Err(passed),
@@ -280,7 +282,7 @@ fn calls_of(rt: &HostRuntime, engine: Engine, device: Device) -> Result<u64, u64
 fn each_call_of_each_device_fails(rt: HostRuntime) {
     for (engine, devices) in ROWS {
         for device in devices {
-            match calls_of(&rt, engine, *device) {
+            match calls_of(&rt, rt.alloc(), engine, *device) {
                 Ok(calls) => assert!(rt; calls > 0, "{engine:?}: {device:?} is not called"),
                 Err(passed) => assert!(rt; false, "{engine:?}: {device:?} behind {passed} calls"),
             }

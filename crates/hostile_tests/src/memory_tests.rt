@@ -38,10 +38,10 @@ const MOST: u64 = 3000;
 
 // How many requests a call makes. An error tells behind how many the next one was refused and the call gave something else than its
 // full answer or want of memory.
-fn requests_of(rt: &HostRuntime, call: Call, shortage: Shortage) -> Result<u64, u64> {
+fn requests_of(host: Global, call: Call, shortage: Shortage) -> Result<u64, u64> {
     for passed in 0..MOST {
-        let heap = Refusing::of(rt.alloc(), passed, shortage);
-        let is_right = match answer(&heap, rt.alloc(), call) {
+        let heap = Refusing::of(host, passed, shortage);
+        let is_right = match answer(&heap, host, call) {
             Ok(is_full) => is_full,
             Err(AllocError) => heap.refused(),
         };
@@ -60,20 +60,18 @@ fn requests_of(rt: &HostRuntime, call: Call, shortage: Shortage) -> Result<u64, 
 enum Wrong {
     // It asks for no memory, so it is no call for these tests.
     AsksForNone,
-    // Its answer, where one request is refused behind so many others.
-    Once(u64),
-    // The same where all behind it are refused too.
-    ForGood(u64),
+    // Its answer, where memory is short behind so many requests.
+    Behind(Shortage, u64),
 }
 
 // Makes a call with each request refused, once and for good.
-fn tried(rt: &HostRuntime, call: Call) -> Result<(), Wrong> {
-    let once = requests_of(rt, call, Shortage::Once).map_err(|passed| Wrong::Once(passed))?;
-    let for_good = requests_of(rt, call, Shortage::ForGood).map_err(|passed| Wrong::ForGood(
-        passed,
-    ))?;
-    if once == 0 || for_good == 0 {
-        return Err(Wrong::AsksForNone);
+fn tried(host: Global, call: Call) -> Result<(), Wrong> {
+    for shortage in Shortage::BOTH {
+        match requests_of(host, call, shortage) {
+            Ok(0) => return Err(Wrong::AsksForNone),
+            Ok(_) => {}
+            Err(passed) => return Err(Wrong::Behind(shortage, passed)),
+        }
     }
     Ok(())
 }
@@ -81,41 +79,41 @@ fn tried(rt: &HostRuntime, call: Call) -> Result<(), Wrong> {
 #[test]
 fn calls_on_texts_tell_want_of_memory(rt: HostRuntime) {
     for call in TextCall::ALL {
-        assert_eq!(rt; tried(&rt, Call::Text(call)), Ok(()), "{call:?}");
+        assert_eq!(rt; tried(rt.alloc(), Call::Text(call)), Ok(()), "{call:?}");
     }
 }
 
 #[test]
 fn calls_on_files_tell_want_of_memory(rt: HostRuntime) {
     for call in FileCall::ALL {
-        assert_eq!(rt; tried(&rt, Call::File(call)), Ok(()), "{call:?}");
+        assert_eq!(rt; tried(rt.alloc(), Call::File(call)), Ok(()), "{call:?}");
     }
 }
 
 #[test]
 fn calls_on_machines_tell_want_of_memory(rt: HostRuntime) {
     for call in MachineCall::ALL {
-        assert_eq!(rt; tried(&rt, Call::Machine(call)), Ok(()), "{call:?}");
+        assert_eq!(rt; tried(rt.alloc(), Call::Machine(call)), Ok(()), "{call:?}");
     }
 }
 
 #[test]
 fn moves_tell_want_of_memory(rt: HostRuntime) {
     for call in Move::ALL {
-        assert_eq!(rt; tried(&rt, Call::Move(call)), Ok(()), "{call:?}");
+        assert_eq!(rt; tried(rt.alloc(), Call::Move(call)), Ok(()), "{call:?}");
     }
 }
 
 #[test]
 fn calls_on_objects_tell_want_of_memory(rt: HostRuntime) {
     for call in ObjectCall::ALL {
-        assert_eq!(rt; tried(&rt, Call::Object(call)), Ok(()), "{call:?}");
+        assert_eq!(rt; tried(rt.alloc(), Call::Object(call)), Ok(()), "{call:?}");
     }
 }
 
 #[test]
 fn engines_tell_want_of_memory(rt: HostRuntime) {
     for call in EngineCall::ALL {
-        assert_eq!(rt; tried(&rt, Call::Engine(call)), Ok(()), "{call:?}");
+        assert_eq!(rt; tried(rt.alloc(), Call::Engine(call)), Ok(()), "{call:?}");
     }
 }

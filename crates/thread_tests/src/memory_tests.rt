@@ -6,7 +6,7 @@ use book::{Book, PresentFault, SegmentFault};
 use hart_threads::CommitFault;
 use protocol_library::Kind;
 use refusing::{Refusing, Shortage};
-use std::alloc::{AllocError, Allocator};
+use std::alloc::{AllocError, Allocator, Global};
 use std::sync::Wait;
 
 // A call that asks for memory.
@@ -59,9 +59,9 @@ const MOST: u64 = 400;
 
 // How many requests a call makes. An error tells behind how many the next one was refused and the call gave something else than its
 // full answer or want of memory.
-fn requests_of(rt: &HostRuntime, call: Call, shortage: Shortage) -> Result<u64, u64> {
+fn requests_of<R: Wait>(rt: &R, host: Global, call: Call, shortage: Shortage) -> Result<u64, u64> {
     for passed in 0..MOST {
-        let heap = Refusing::of(rt.alloc(), passed, shortage);
+        let heap = Refusing::of(host, passed, shortage);
         let answer = match call {
             Call::Present => is_presented(&heap),
             Call::Commit => is_committed(rt, &heap),
@@ -84,7 +84,7 @@ fn requests_of(rt: &HostRuntime, call: Call, shortage: Shortage) -> Result<u64, 
 fn books_and_seats_tell_want_of_memory(rt: HostRuntime) {
     for call in [Call::Present, Call::Commit] {
         for shortage in Shortage::BOTH {
-            match requests_of(&rt, call, shortage) {
+            match requests_of(&rt, rt.alloc(), call, shortage) {
                 Ok(requests) => assert!(rt; requests > 0, "{call:?}: no memory is asked for"),
                 Err(passed) => assert!(rt; false, "{call:?}, {shortage:?}: at request {passed}"),
             }
