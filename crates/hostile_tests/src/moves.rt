@@ -50,14 +50,12 @@ const PROGRAM: [u8; 12] = [
     0xb7, 0x12, 0x01, 0x00, 0x23, 0x83, 0xb2, 0x00, 0x6f, 0x00, 0x00, 0x00,
 ];
 
-const fn turn(hart: u32) -> Choice {
+fn turn(hart: u32) -> Choice {
     Choice {
         hart,
         refuse: false,
     }
 }
-
-const TURNS: [Choice; 6] = [turn(0), turn(0), turn(1), turn(1), turn(0), turn(1)];
 
 fn image_of<A: Allocator + Copy>(alloc: A) -> Result<Image<A>, AllocError> {
     let mut segments = Vec::new(alloc);
@@ -76,8 +74,9 @@ fn image_of<A: Allocator + Copy>(alloc: A) -> Result<Image<A>, AllocError> {
 // A debugger of two harts, of which each stores its own input.
 fn begin<A: Allocator + Copy>(alloc: A) -> Result<Debugger<A>, AllocError> {
     let image = image_of(alloc)?;
-    let choices = Vec::from_slice(alloc, &TURNS)?;
     let inputs = Vec::from_slice(alloc, &[7, 9])?;
+    let turns = [turn(0), turn(0), turn(1), turn(1), turn(0), turn(1)];
+    let choices = Vec::from_slice(alloc, &turns)?;
     if !choices.iter().all(|choice| choice.hart < 2) {
         return Err(AllocError);
     }
