@@ -5,7 +5,7 @@ use loader::{Image, Rights, Segment};
 use machine::Choice;
 use std::alloc::{AllocError, Allocator};
 
-/// A call, behind three of six choices.
+/// A call, behind three of six choices; those with `Far` behind 600 of a thousand, with checkpoints between.
 #[derive(Clone, Copy, Debug)]
 pub enum Move {
     At,
@@ -17,12 +17,16 @@ pub enum Move {
     GoOn,
     GoBack,
     Steps,
+    FarGoto,
+    FarForward,
+    FarBack,
+    FarGoBack,
     Command(&'static str, &'static str),
 }
 
 impl Move {
     /// All of them, with a command of each kind and its answer.
-    pub const ALL: [Move; 19] = [
+    pub const ALL: [Move; 23] = [
         Move::At,
         Move::Goto,
         Move::Forward,
@@ -32,6 +36,10 @@ impl Move {
         Move::GoOn,
         Move::GoBack,
         Move::Steps,
+        Move::FarGoto,
+        Move::FarForward,
+        Move::FarBack,
+        Move::FarGoBack,
         Move::Command("where", "step 3 of 6\n"),
         Move::Command("goto 5", "step 5 of 6\n"),
         Move::Command("forward", "step 4 of 6\n"),
@@ -71,12 +79,22 @@ fn image_of<A: Allocator + Copy>(alloc: A) -> Result<Image<A>, AllocError> {
     }
 }
 
+// So many choices, each hart twice in turn.
+fn turns<A: Allocator + Copy>(alloc: A, count: u32) -> Result<Vec<Choice, A>, AllocError> {
+    let mut choices = Vec::new(alloc);
+    for number in 0..count {
+        choices.push(turn(number / 2 % 2))?;
+    }
+    Ok(choices)
+}
+
 // A debugger of two harts, of which each stores its own input.
-fn begin<A: Allocator + Copy>(alloc: A) -> Result<Debugger<A>, AllocError> {
+fn begin<A: Allocator + Copy>(
+    alloc: A,
+    choices: Vec<Choice, A>,
+) -> Result<Debugger<A>, AllocError> {
     let image = image_of(alloc)?;
     let inputs = Vec::from_slice(alloc, &[7, 9])?;
-    let turns = [turn(0), turn(0), turn(1), turn(1), turn(0), turn(1)];
-    let choices = Vec::from_slice(alloc, &turns)?;
     if !choices.iter().all(|choice| choice.hart < 2) {
         return Err(AllocError);
     }
@@ -86,30 +104,58 @@ fn begin<A: Allocator + Copy>(alloc: A) -> Result<Debugger<A>, AllocError> {
     }
 }
 
-// Where all calls are made, and what the move there has cost.
-const PLACE: usize = 3;
+// Where a call is made: how many choices there are, behind how many, and what the move there has cost.
+#[derive(Clone, Copy)]
+struct Place {
+    choices: u32,
+    position: usize,
+    cost: u64,
+}
 
-const COST: u64 = 3;
+const NEAR: Place = Place {
+    choices: 6,
+    position: 3,
+    cost: 3,
+};
 
-// A debugger at its place, with a breakpoint at the store and the stored word watched.
-fn placed<A: Allocator + Copy>(alloc: A) -> Result<Debugger<A>, AllocError> {
-    let mut debugger = begin(alloc)?;
+// 88 choices behind a checkpoint.
+const FAR: Place = Place {
+    choices: 1000,
+    position: 600,
+    cost: 88,
+};
+
+fn place_of(call: Move) -> Place {
+    match call {
+        Move::FarGoto | Move::FarForward | Move::FarBack | Move::FarGoBack => FAR,
+        _ => NEAR,
+    }
+}
+
+// A debugger at a place, with a breakpoint at the store and the stored word watched.
+fn placed<A: Allocator + Copy>(alloc: A, place: Place) -> Result<Debugger<A>, AllocError> {
+    let choices = turns(alloc, place.choices)?;
+    let mut debugger = begin(alloc, choices)?;
     debugger.add_break(0x0001_0004)?;
     debugger.add_watch(0x0001_1005)?;
-    match debugger.goto(alloc, PLACE) {
+    match debugger.goto(alloc, place.position) {
         Ok(()) => Ok(debugger),
         Err(_) => Err(AllocError),
     }
 }
 
+// Whether a debugger stands at a place to which it has moved.
+fn is_at<A: Allocator + Copy>(debugger: &Debugger<A>, place: Place) -> bool {
+    debugger.position() == place.position && debugger.cost() == place.cost
+}
+
 /// Makes a call: whether it gave its full answer, or want of memory and the debugger where it was.
 pub fn move_answer<A: Allocator + Copy>(alloc: A, call: Move) -> Result<bool, AllocError> {
-    let mut debugger = placed(alloc)?;
+    let place = place_of(call);
+    let mut debugger = placed(alloc, place)?;
     match make(alloc, &mut debugger, call) {
         Ok(is_full) => Ok(is_full),
-        Err(MoveFault::Memory) if debugger.position() == PLACE && debugger.cost() == COST => Err(
-            AllocError,
-        ),
+        Err(MoveFault::Memory) if is_at(&debugger, place) => Err(AllocError),
         Err(_) => Ok(false),
     }
 }
@@ -125,7 +171,7 @@ fn make<A: Allocator + Copy>(
             let machine = debugger.at(alloc, 5)?;
             Ok(machine.ends().first().map(|hart| hart.pc) == Some(0x0001_0008))
         }
-        Move::Goto => {
+        Move::Goto | Move::FarGoto => {
             debugger.goto(alloc, 1)?;
             Ok(debugger.position() == 1)
         }
@@ -140,13 +186,23 @@ fn make<A: Allocator + Copy>(
         Move::AddBreak => is_added(debugger.add_break(0x0001_0008)),
         Move::AddWatch => is_added(debugger.add_watch(0x0001_1000)),
         Move::GoOn => is_at_watch(debugger.go_on(alloc)),
-        Move::GoBack => is_at_watch(debugger.go_back(alloc)),
-        Move::Steps => {
-            let views = debugger.steps(alloc, 1, 3)?;
-            Ok(views.len() == 2)
+        Move::GoBack | Move::FarGoBack => is_at_watch(debugger.go_back(alloc)),
+        Move::Steps => has_steps(alloc, debugger),
+        Move::FarForward => {
+            debugger.forward(alloc, 400)?;
+            Ok(debugger.position() == 1000)
+        }
+        Move::FarBack => {
+            debugger.back(alloc, 599)?;
+            Ok(debugger.position() == 1)
         }
         Move::Command(line, wanted) => is_answered(alloc, debugger, line, wanted),
     }
+}
+
+fn has_steps<A: Allocator + Copy>(alloc: A, debugger: &Debugger<A>) -> Result<bool, MoveFault> {
+    let views = debugger.steps(alloc, 1, 3)?;
+    Ok(views.len() == 2)
 }
 
 fn is_added(added: Result<(), AllocError>) -> Result<bool, MoveFault> {
