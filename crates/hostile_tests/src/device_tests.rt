@@ -115,9 +115,6 @@ static EXITS: [u8; 92] = [
     4, 0, 0, 0, 147, 8, 208, 5, 115, 0, 0, 0,
 ];
 
-// A schedule of no choice, which is read in several pieces.
-static BLANKS: [u8; 40_000] = [b' '; 40_000];
-
 const ENDS: &str = "hart 0 running pc 00010000\nhart 1 running pc 00010000\n";
 
 const FACTS: &str = "entry 00010000\nsegment 00010000 8 r-x\nsymbols none\nlibrary none\n";
@@ -144,8 +141,10 @@ fn told(result: Result<Status, RunFault>) -> Outcome {
 }
 
 fn run(alloc: Global, failure: Failure) -> Outcome {
+    // No choice, in three pieces.
+    let blanks = [b' '; 40_000];
     let mut program = Failing::new(MemorySource::new(&EXITS), failure.calls(Device::Program));
-    let mut choices = Failing::new(MemorySource::new(&BLANKS), failure.calls(Device::Schedule));
+    let mut choices = Failing::new(MemorySource::new(&blanks), failure.calls(Device::Schedule));
     let mut sink = Failing::new(MemorySink::new(alloc), failure.calls(Device::Output));
     let result = run_engine(
         alloc,
@@ -167,8 +166,10 @@ fn show(alloc: Global, failure: Failure, view: FileView, full: &str) -> Outcome 
 }
 
 fn replay(alloc: Global, failure: Failure) -> Outcome {
+    // No entry, in three pieces.
+    let blanks = [b' '; 40_000];
     let mut program = Failing::new(MemorySource::new(&EXITS), failure.calls(Device::Program));
-    let mut history = Failing::new(MemorySource::new(&BLANKS), failure.calls(Device::Schedule));
+    let mut history = Failing::new(MemorySource::new(&blanks), failure.calls(Device::Schedule));
     let mut sink = Failing::new(MemorySink::new(alloc), failure.calls(Device::Output));
     let result = replay_engine(alloc, &[7, 9], None, &mut program, &mut history, &mut sink);
     let outcome = match result {
