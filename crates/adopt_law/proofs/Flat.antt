@@ -1,5 +1,5 @@
 -- The data words of several objects, by object and by place in it: 128 words each, behind so many words that are no object's and are 0.
-use Rattle.std.proofs.Common.{◌≡◌, ◌≢◌, ℕ, ◌+◌, ◌-◌, ◌*◌, ◌/◌, ◌%◌, ◌<◌, ◌≤◌, Bool, true, false, nat_lt, if◌then◌else◌, ◌==◌, refl, ap, ◌⊎◌, inl, inr, arith, eq-eqb, ne_eqb, lt-ltb}
+use Rattle.std.proofs.Common.{◌≡◌, ◌≢◌, ℕ, ◌+◌, ◌-◌, ◌*◌, ◌/◌, ◌%◌, ◌<◌, ◌≤◌, Bool, true, false, nat_lt, if◌then◌else◌, ◌==◌, refl, ap, ◌⊎◌, inl, inr, arith, eq-eqb, ne_eqb, le-ltb, lt-ltb}
 use Rattle.protocol_library.proofs.Shape.{with_word}
 use Rattle.protocol_library.proofs.Harts.{same_or_not}
 
@@ -14,7 +14,7 @@ under_or_not : (j shift : ℕ) → (j < shift) ⊎ (shift ≤ j)
 under_or_not j shift = grind arith
 
 behind : (j shift : ℕ) → shift ≤ j → nat_lt j shift ≡ false
-behind j shift le = grind arith
+behind j shift le = le-ltb j shift le
 
 pub flat_at : (shift : ℕ) (words : ℕ → ℕ → ℕ) (r q k : ℕ) → q < 128 → k ≡ shift + (128 * r + q) → flat shift words k ≡ words r q
 flat_at shift words r q k small e =

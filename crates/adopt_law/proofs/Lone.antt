@@ -43,7 +43,7 @@ module _ (text : List ℕ) (zeros index shift count : ℕ) (inputs : List ℕ) (
     left = λ r. count;
     Rest = Unit {0};
     rest = λ q x. on x 0;
-    Holds = λ now r v h q x. 0 ≡ 1;
+    Holds = λ now r v h q x. ⊥;
     short = omega (arith, object.short);
     low = omega (arith, object.short, object.whole);
     even = omega arith;
@@ -73,7 +73,7 @@ module _ (text : List ℕ) (zeros index shift count : ℕ) (inputs : List ℕ) (
     one spent harts reserved g inv h lt refuse mine (inl p) x e f away =
         moves (length inputs) lone present brought spent harts reserved g inv h lt refuse mine lone.few lone.low (lone.size (g.round h) (inv.all.early h lt)).1 lone.near
         (lone.size (g.round h) (inv.all.early h lt)).0 p x (inside (0x10000 + 4 * index) p (λ q. away (ap (λ (t : HartValue). t.pc) e ∙ q))) e f
-    one spent harts reserved g inv h lt refuse mine (inr q) x e f away = absurd (let z : 0 ≡ 1 = f in omega arith)
+    one spent harts reserved g inv h lt refuse mine (inr q) x e f away = absurd f
 
     steps : (spent : ℕ → ℕ) (w : World) (ch : Choice) → ch.hart < length inputs → present ch.hart → ((d : HartValue) → (get_or w.harts ch.hart d).pc ≢ past) → Arrives spent w →
         Arrives (bump ch.hart spent) (step w ch)
@@ -163,7 +163,7 @@ module _ (text : List ℕ) (zeros index shift count : ℕ) (inputs : List ℕ) (
               FactsAt (length inputs) lone present (obj (length inputs) lone present g (g.round h)) (view_at (length inputs) lone present g (spent h) (g.round h) h) (g.round h) h p x →
               EndOf inputs all 1 g inv.all h (answer_of (stands (length inputs) lone present p x).registers)
           at (inl p) x e f = at_point p x e f
-          at (inr q) x e f = absurd (let z : 0 ≡ 1 = f in omega arith)
+          at (inr q) x e f = absurd f
 
       frame_of : (h : ℕ) → h < length inputs → (hart_at harts h).pc ≡ past →
           ((hart_at harts h).registers 8 ≡ base_of shift) × ((hart_at harts h).registers 12 ≡ length inputs) × ((hart_at harts h).registers 21 ≡ count)
@@ -183,7 +183,7 @@ module _ (text : List ℕ) (zeros index shift count : ℕ) (inputs : List ℕ) (
               ((stands (length inputs) lone present p x).registers 8 ≡ base_of shift) × ((stands (length inputs) lone present p x).registers 12 ≡ length inputs)
               × ((stands (length inputs) lone present p x).registers 21 ≡ count)
           at (inl p) x e f = at_point p x e f
-          at (inr q) x e f = absurd (let z : 0 ≡ 1 = f in omega arith)
+          at (inr q) x e f = absurd f
 
       within : (h : ℕ) → h < length harts → h < length inputs
       within h lt = omega (arith, inv.count)
@@ -220,7 +220,7 @@ module _ (text : List ℕ) (zeros index shift count : ℕ) (inputs : List ℕ) (
           at (inl p) x f =
               let a = at_most (obj (length inputs) lone present g (g.round h)) (view_at (length inputs) lone present g (spent h) (g.round h) h) h p x lt f in
               omega arith
-          at (inr q) x f = absurd (let z : 0 ≡ 1 = f in omega arith)
+          at (inr q) x f = absurd f
 
 pub passage_kept : InEveryPassage KeepsPassage
 passage_kept text zeros index shift count inputs harts reserved choices few fits object enter there stay =
