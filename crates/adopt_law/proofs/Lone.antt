@@ -156,7 +156,7 @@ module _ (text : List ℕ) (zeros index shift count : ℕ) (inputs : List ℕ) (
           at_point : (p : Point) (x : Registers) → 0x10000 + 4 * index + place p ≡ past →
               FactsAt (length inputs) lone present (obj (length inputs) lone present g (g.round h)) (view_at (length inputs) lone present g (spent h) (g.round h) h) (g.round h) h (inl p) x →
               EndOf inputs all 1 g inv.all h (answer_of x)
-          at_point At30 x e f = record { mine = f.5.among; passed = f.1; value = f.2; good = f.3; last = inr (omega (arith, inv.all.early h lt)) }
+          at_point At30 x e f = record { mine = f.5.among; passed = f.1; value = f.2; good = f.3; last = inr (let early : g.round h < 1 = inv.all.early h lt in omega arith) }
           at_point p x e f = absurd (omega arith)
 
           at : (p : Point ⊎ Unit {0}) (x : Registers) → (stands (length inputs) lone present p x).pc ≡ past →
@@ -175,7 +175,10 @@ module _ (text : List ℕ) (zeros index shift count : ℕ) (inputs : List ℕ) (
           at_point : (p : Point) (x : Registers) → 0x10000 + 4 * index + place p ≡ past →
               FactsAt (length inputs) lone present (obj (length inputs) lone present g (g.round h)) (view_at (length inputs) lone present g (spent h) (g.round h) h) (g.round h) h (inl p) x →
               (x 8 ≡ base_of shift) × (x 12 ≡ length inputs) × (x 21 ≡ count)
-          at_point At30 x e f = (omega (arith, f.0.base, inv.all.early h lt), f.0.many, f.0.left)
+          at_point At30 x e f =
+              let early : g.round h < 1 = inv.all.early h lt in
+              let base : x 8 ≡ 0x11000 + 4 * shift + 512 * g.round h = f.0.base in
+              (omega arith, f.0.many, f.0.left)
           at_point p x e f = absurd (omega arith)
 
           at : (p : Point ⊎ Unit {0}) (x : Registers) → (stands (length inputs) lone present p x).pc ≡ past →
