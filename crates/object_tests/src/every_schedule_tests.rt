@@ -133,7 +133,7 @@ struct Search {
 }
 
 // All schedules of 30 choices of Swap and Add, of 94 of AdoptCommit, after which both harts have exited or one was left out, and
-// of 120 of Rounds. Numbers of schedules end at 2^64 - 1.
+// of 140 of Rounds. Numbers of schedules end at 2^64 - 1.
 const SEARCHES: [Search; 4] = [
     Search {
         kind: Kind::Swap,
@@ -159,7 +159,7 @@ const SEARCHES: [Search; 4] = [
     Search {
         kind: Kind::Rounds,
         inputs: [0, 0xffff_ffff],
-        choices: 120,
+        choices: 140,
         bound: 194,
         schedules: u64::MAX,
     },
