@@ -13,10 +13,10 @@ executable text zeros a low high = rw (in_true 0x10000 (4 * length text) a low h
 text_byte : (text : List ℕ) (zeros : ℕ) (words : ℕ → ℕ) (k j a : ℕ) → j < 4 → length text ≤ 1024 → k < length text → a ≡ 0x10000 + 4 * k + j →
     shaped_bytes text zeros words a ≡ (get_or text k 0 / 256 ^ j) % 256
 text_byte text zeros words k j a small short there e =
-    let at : (a - 0x10000) / 4 ≡ k = omega arith in
+    let word : (a - 0x10000) / 4 ≡ k = omega arith in
     let part : (a - 0x10000) % 4 ≡ j = omega arith in
     rw (in_below 0x11000 zeros a (omega arith), in_true 0x10000 (4 * length text) a (omega arith) (omega arith))
-    (byte_at text (a - 0x10000) ∙ rw (at, part))
+    (byte_at text (a - 0x10000) ∙ rw (word, part))
 
 sum_of : (x : ℕ) → x < 2 ^ 32 → 0 + (x / 256 ^ 0) % 256 * 256 ^ 0 + (x / 256 ^ 1) % 256 * 256 ^ 1 + (x / 256 ^ 2) % 256 * 256 ^ 2 + (x / 256 ^ 3) % 256 * 256 ^ 3 ≡ x
 sum_of x small = omega arith
