@@ -36,9 +36,9 @@ flat_with shift words r q k v small e = λ i j. each j (under_or_not j shift) (s
     each j (inr o) (inr a) b = rw (ne_eqb j k (λ c. a (omega arith)), behind j shift o, ne_eqb ((j - shift) / 128) r a)
 
 -- where all words are 0
-pub flat_zero : (shift : ℕ) → (λ (k : ℕ). 0) ≡ flat shift (λ s k. 0)
+pub flat_zero : (shift : ℕ) → ◌≡◌ {A = ℕ → ℕ} (λ k. 0) (flat shift (λ s k. 0))
 flat_zero shift = λ i k. both (nat_lt k shift) i
   where
-    both : (b : Bool) → 0 ≡ (if b then 0 else 0)
+    both : (b : Bool) → ◌≡◌ {A = ℕ} 0 (if b then 0 else 0)
     both true = refl
     both false = refl
