@@ -132,8 +132,8 @@ struct Search {
     schedules: u64,
 }
 
-// All schedules of 30 choices of Swap and Add, of 94 of AdoptCommit, after which both harts have exited or one was left out, and
-// of 140 of Rounds. Numbers of schedules end at 2^64 - 1.
+// All schedules of 30 choices of Swap and Add, and of 60 of AdoptCommit and Rounds: in some a hart has exited beside one that is
+// still in an object. More of them take longer than a test may.
 const SEARCHES: [Search; 4] = [
     Search {
         kind: Kind::Swap,
@@ -152,16 +152,16 @@ const SEARCHES: [Search; 4] = [
     Search {
         kind: Kind::AdoptCommit,
         inputs: [0, 0xffff_ffff],
-        choices: 94,
+        choices: 60,
         bound: 47,
-        schedules: u64::MAX,
+        schedules: 1 << 60,
     },
     Search {
         kind: Kind::Rounds,
         inputs: [0, 0xffff_ffff],
-        choices: 140,
+        choices: 60,
         bound: 194,
-        schedules: u64::MAX,
+        schedules: 1 << 60,
     },
 ];
 
