@@ -1,6 +1,6 @@
 //! What no clause says of devices that fail: that each engine comes to its full answer where none does. Each device of each engine fails
 //! at its first call, then at its second, and so on, until it is not called so often.
-use asm_engine::{AssemblyFault, listing_engine};
+use asm_engine::{AssemblyFault, assembled_file, listing_engine, write_file};
 use debug_engine::{DebugEngineFault, debug_engine};
 use devices::{Failing, FullSink, MemorySink, MemorySource, Status};
 use engines::{CampaignPlan, FileView, campaign_engine, file_engine, run_engine, source_engine};
@@ -19,6 +19,7 @@ enum Engine {
     Replay,
     Campaign,
     Assemble,
+    AssembleFile,
     Library,
     Debug,
 }
@@ -34,7 +35,7 @@ enum Device {
 }
 
 // An engine and each of its devices.
-const ROWS: [(Engine, &'static [Device]); 8] = [
+const ROWS: [(Engine, &'static [Device]); 9] = [
     (
         Engine::Run,
         &[Device::Program, Device::Schedule, Device::Output],
@@ -47,6 +48,7 @@ const ROWS: [(Engine, &'static [Device]); 8] = [
     ),
     (Engine::Campaign, &[Device::Program, Device::Output]),
     (Engine::Assemble, &[Device::Program, Device::Output]),
+    (Engine::AssembleFile, &[Device::Program, Device::Output]),
     (Engine::Library, &[Device::Output]),
     (
         Engine::Debug,
@@ -88,13 +90,13 @@ enum Outcome {
 }
 
 // The outcome that an answer tells, or another one where it may not have written what it has.
-fn checked(outcome: Outcome, written: &[u8], full: &str) -> Outcome {
+fn checked(outcome: Outcome, written: &[u8], full: &[u8]) -> Outcome {
     let may_be_written = match outcome {
-        Outcome::Full => written == full.as_bytes(),
+        Outcome::Full => written == full,
         Outcome::Failed(Device::Program) | Outcome::Failed(Device::Schedule) => written.is_empty(),
-        Outcome::Failed(Device::Commands) | Outcome::Failed(Device::Output) => full
-            .as_bytes()
-            .starts_with(written),
+        Outcome::Failed(Device::Commands) | Outcome::Failed(Device::Output) => full.starts_with(
+            written,
+        ),
         Outcome::Other => false,
     };
     if may_be_written {
@@ -155,10 +157,10 @@ fn run(alloc: Global, failure: Failure) -> Outcome {
         &mut choices,
         &mut sink,
     );
-    checked(told(result), sink.device().bytes(), ENDS)
+    checked(told(result), sink.device().bytes(), ENDS.as_bytes())
 }
 
-fn show(alloc: Global, failure: Failure, view: FileView, full: &str) -> Outcome {
+fn show(alloc: Global, failure: Failure, view: FileView, full: &[u8]) -> Outcome {
     let mut file = Failing::new(MemorySource::new(&EXITS), failure.calls(Device::Program));
     let mut sink = Failing::new(MemorySink::new(alloc), failure.calls(Device::Output));
     let result = file_engine(alloc, view, &mut file, &mut sink);
@@ -178,7 +180,7 @@ fn replay(alloc: Global, failure: Failure) -> Outcome {
         Err(ReplayFault::History) => Outcome::Failed(Device::Schedule),
         Err(_) => Outcome::Other,
     };
-    checked(outcome, sink.device().bytes(), ENDS)
+    checked(outcome, sink.device().bytes(), ENDS.as_bytes())
 }
 
 const PLAN: CampaignPlan = CampaignPlan {
@@ -192,7 +194,7 @@ fn campaign<R: Threads + Sync>(rt: &R, alloc: Global, failure: Failure) -> Outco
     let mut program = Failing::new(MemorySource::new(&EXITS), failure.calls(Device::Program));
     let mut sink = Failing::new(MemorySink::new(alloc), failure.calls(Device::Output));
     let result = campaign_engine(rt, alloc, &[7], PLAN, &mut program, &mut sink, &mut Unheard);
-    checked(told(result), sink.device().bytes(), SEEDS)
+    checked(told(result), sink.device().bytes(), SEEDS.as_bytes())
 }
 
 fn assemble(alloc: Global, failure: Failure) -> Outcome {
@@ -207,14 +209,34 @@ fn assemble(alloc: Global, failure: Failure) -> Outcome {
     checked(
         outcome,
         sink.device().bytes(),
-        "ecall  # 00010000 00000073\n",
+        b"ecall  # 00010000 00000073\n",
     )
+}
+
+fn assemble_file(alloc: Global, failure: Failure) -> Outcome {
+    let mut sources = [Failing::new(MemorySource::new(b"ecall"), failure.calls(Device::Program))];
+    let mut sink = Failing::new(MemorySink::new(alloc), failure.calls(Device::Output));
+    let file = match assembled_file(alloc, &mut sources) {
+        Ok(file) => file,
+        Err(AssemblyFault::Read(0)) => return Outcome::Failed(Device::Program),
+        Err(_) => return Outcome::Other,
+    };
+    let outcome = match write_file(&mut sink, &file) {
+        Ok(Status::Done) => Outcome::Full,
+        Err(AssemblyFault::Write) => Outcome::Failed(Device::Output),
+        _ => Outcome::Other,
+    };
+    checked(outcome, sink.device().bytes(), &file)
 }
 
 fn library(alloc: Global, failure: Failure) -> Outcome {
     let mut sink = Failing::new(MemorySink::new(alloc), failure.calls(Device::Output));
     let result = source_engine(Kind::Swap, &mut sink);
-    checked(told(result), sink.device().bytes(), source(Kind::Swap))
+    checked(
+        told(result),
+        sink.device().bytes(),
+        source(Kind::Swap).as_bytes(),
+    )
 }
 
 fn debug(alloc: Global, failure: Failure) -> Outcome {
@@ -238,7 +260,7 @@ fn debug(alloc: Global, failure: Failure) -> Outcome {
         Err(DebugEngineFault::Answers) => Outcome::Failed(Device::Output),
         Err(_) => Outcome::Other,
     };
-    checked(outcome, sink.device().bytes(), ANSWERS)
+    checked(outcome, sink.device().bytes(), ANSWERS.as_bytes())
 }
 
 fn use_engine<R: Threads + Sync>(
@@ -249,11 +271,12 @@ fn use_engine<R: Threads + Sync>(
 ) -> Outcome {
     match engine {
         Engine::Run => run(alloc, failure),
-        Engine::List => show(alloc, failure, FileView::Listing, LISTING),
-        Engine::Info => show(alloc, failure, FileView::Facts, FACTS),
+        Engine::List => show(alloc, failure, FileView::Listing, LISTING.as_bytes()),
+        Engine::Info => show(alloc, failure, FileView::Facts, FACTS.as_bytes()),
         Engine::Replay => replay(alloc, failure),
         Engine::Campaign => campaign(rt, alloc, failure),
         Engine::Assemble => assemble(alloc, failure),
+        Engine::AssembleFile => assemble_file(alloc, failure),
         Engine::Library => library(alloc, failure),
         Engine::Debug => debug(alloc, failure),
     }
@@ -300,6 +323,17 @@ fn a_full_sink_is_told(rt: HostRuntime) {
         assert_eq!(rt; result, Err(RunFault::Write));
     }
     let result = source_engine(Kind::Swap, &mut FullSink::new());
+    assert_eq!(rt; result, Err(RunFault::Write));
+    let mut program = MemorySource::new(&EXITS);
+    let result = campaign_engine(
+        &rt,
+        alloc,
+        &[7],
+        PLAN,
+        &mut program,
+        &mut FullSink::new(),
+        &mut Unheard,
+    );
     assert_eq!(rt; result, Err(RunFault::Write));
     let mut program = MemorySource::new(&EXITS);
     let mut choices = MemorySource::new(b"0 1");

@@ -211,8 +211,8 @@ fn has_ends<A: Allocator + Copy>(alloc: A) -> Result<bool, AllocError> {
 }
 
 fn is_read<A: Allocator + Copy>(alloc: A) -> Result<bool, AllocError> {
-    let mut source = MemorySource::new(&EXITS);
-    match read_all(alloc, &mut source) {
+    let mut file = MemorySource::new(&EXITS);
+    match read_all(alloc, &mut file) {
         Ok(bytes) => Ok(bytes.as_slice() == EXITS.as_slice()),
         Err(ReadFault::Memory) => Err(AllocError),
         Err(_) => Ok(false),

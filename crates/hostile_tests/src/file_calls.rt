@@ -102,7 +102,7 @@ const WORDS: [u32; 58] = [
 fn file<A: Allocator>(alloc: A) -> Result<Vec<u8, A>, AllocError> {
     let mut bytes = Vec::new(alloc);
     for word in WORDS {
-        bytes.extend_from_slice(&u32::to_le_bytes(word))?;
+        bytes.extend_from_slice(&word.to_le_bytes())?;
     }
     Ok(bytes)
 }

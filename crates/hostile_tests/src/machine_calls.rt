@@ -1,10 +1,11 @@
 //! Calls that make and copy machines, that let paged machines go on, and that make, read and print schedules and histories.
+use choice_runs::Chosen;
 use choice_texts::{ChoiceFault, print_choices, print_runs, read_choices};
 use debugger::byte_at;
 use histories::{Entry, HistoryFault, print_history, read_history};
 use loader::{Image, Rights, Segment};
-use machine::{Choice, Machine, StartFault};
-use memory::FlatStore;
+use machine::{Choice, Machine};
+use memory::{FlatStore, FromImage};
 use pages::PageStore;
 use scheduler::{round_robin, seeded, solo};
 use std::alloc::{AllocError, Allocator};
@@ -21,13 +22,14 @@ pub enum MachineCall {
     ReadChoices,
     PrintChoices,
     PrintRuns,
+    ChosenHarts,
     ReadHistory,
     PrintHistory,
 }
 
 impl MachineCall {
     /// All of them.
-    pub const ALL: [MachineCall; 11] = [
+    pub const ALL: [MachineCall; 12] = [
         MachineCall::Start,
         MachineCall::Copy,
         MachineCall::Step,
@@ -37,6 +39,7 @@ impl MachineCall {
         MachineCall::ReadChoices,
         MachineCall::PrintChoices,
         MachineCall::PrintRuns,
+        MachineCall::ChosenHarts,
         MachineCall::ReadHistory,
         MachineCall::PrintHistory,
     ];
@@ -71,6 +74,12 @@ pub fn machine_answer<A: Allocator + Copy>(
         MachineCall::PrintRuns => {
             let text = print_runs(alloc, &CHOICES)?;
             Ok(text.as_str() == "0*2 1!\n")
+        }
+        MachineCall::ChosenHarts => {
+            let mut chosen = Chosen::new();
+            chosen.add(31);
+            let choices = chosen.choices(alloc)?;
+            Ok(choices.len() == 1)
         }
         MachineCall::ReadHistory => is_history(alloc),
         MachineCall::PrintHistory => {
@@ -126,30 +135,22 @@ fn image_of<A: Allocator + Copy>(alloc: A) -> Result<Image<A>, AllocError> {
     }
 }
 
-fn is_started<A: Allocator + Copy>(alloc: A) -> Result<bool, AllocError> {
+// A machine with two harts, at its start.
+fn started<S: FromImage<A>, A: Allocator + Copy>(alloc: A) -> Result<Machine<S, A>, AllocError> {
     let image = image_of(alloc)?;
-    let started: Result<Machine<FlatStore<A>, A>, StartFault> = Machine::start(
-        alloc,
-        &image,
-        &[7, 9],
-    );
-    match started {
-        Ok(machine) => Ok(machine.ends().len() == 2),
-        Err(StartFault::Memory) => Err(AllocError),
-        Err(_) => Ok(false),
+    match Machine::start(alloc, &image, &[7, 9]) {
+        Ok(machine) => Ok(machine),
+        Err(_) => Err(AllocError),
     }
 }
 
+fn is_started<A: Allocator + Copy>(alloc: A) -> Result<bool, AllocError> {
+    let machine: Machine<FlatStore<A>, A> = started(alloc)?;
+    Ok(machine.ends().len() == 2)
+}
+
 fn is_copied<A: Allocator + Copy>(alloc: A) -> Result<bool, AllocError> {
-    let image = image_of(alloc)?;
-    let started: Result<Machine<FlatStore<A>, A>, StartFault> = Machine::start(
-        alloc,
-        &image,
-        &[7, 9],
-    );
-    let Ok(machine) = started else {
-        return Err(AllocError);
-    };
+    let machine: Machine<FlatStore<A>, A> = started(alloc)?;
     let copy = machine.copy(alloc)?;
     Ok(copy.ends() == machine.ends())
 }
@@ -159,28 +160,23 @@ fn pc<A: Allocator + Copy>(machine: &Machine<PageStore<A>, A>) -> Option<u32> {
     Some(machine.ends().first()?.pc)
 }
 
-// The hart's step.
-fn step<A: Allocator + Copy>(machine: &mut Machine<PageStore<A>, A>) -> Result<(), AllocError> {
-    if (TURN.hart as usize) < machine.harts() {
-        machine.step(TURN)?;
+// The step of a hart that is there.
+fn step<A: Allocator + Copy>(
+    machine: &mut Machine<PageStore<A>, A>,
+    choice: Choice,
+) -> Result<(), AllocError> {
+    if choice.hart as usize >= machine.harts() {
+        return Ok(());
     }
-    Ok(())
+    machine.step(choice)
 }
 
 // A store into a page that a copied machine shares. Where it is refused, the hart stands where it stood.
 fn is_stepped<A: Allocator + Copy>(alloc: A) -> Result<bool, AllocError> {
-    let image = image_of(alloc)?;
-    let started: Result<Machine<PageStore<A>, A>, StartFault> = Machine::start(
-        alloc,
-        &image,
-        &[7, 9],
-    );
-    let Ok(mut machine) = started else {
-        return Err(AllocError);
-    };
+    let mut machine: Machine<PageStore<A>, A> = started(alloc)?;
     let copy = machine.copy(alloc)?;
-    step(&mut machine)?;
-    if step(&mut machine).is_err() {
+    step(&mut machine, TURN)?;
+    if step(&mut machine, TURN).is_err() {
         let is_unchanged = pc(&machine) == Some(0x0001_0004);
         return if is_unchanged {
             Err(AllocError)

@@ -3,7 +3,7 @@
 use crate::engine_calls::{EngineCall, engine_answer};
 use crate::file_calls::{FileCall, file_answer};
 use crate::machine_calls::{MachineCall, machine_answer};
-use crate::moves::{Move, move_answer};
+use crate::moves::{MoveCall, move_answer};
 use crate::object_calls::{ObjectCall, object_answer};
 use crate::text_calls::{TextCall, text_answer};
 use refusing::{Refusing, Shortage};
@@ -15,7 +15,7 @@ enum Call {
     Text(TextCall),
     File(FileCall),
     Machine(MachineCall),
-    Move(Move),
+    Move(MoveCall),
     Object(ObjectCall),
     Engine(EngineCall),
 }
@@ -99,7 +99,7 @@ fn calls_on_machines_tell_want_of_memory(rt: HostRuntime) {
 
 #[test]
 fn moves_tell_want_of_memory(rt: HostRuntime) {
-    for call in Move::ALL {
+    for call in MoveCall::ALL {
         assert_eq!(rt; tried(rt.alloc(), Call::Move(call)), Ok(()), "{call:?}");
     }
 }

@@ -7,7 +7,7 @@ use std::alloc::{AllocError, Allocator};
 
 /// A call, behind three of six choices; those with `Far` behind 600 of a thousand, with checkpoints between.
 #[derive(Clone, Copy, Debug)]
-pub enum Move {
+pub enum MoveCall {
     At,
     Goto,
     Forward,
@@ -24,32 +24,32 @@ pub enum Move {
     Command(&'static str, &'static str),
 }
 
-impl Move {
+impl MoveCall {
     /// All of them, with a command of each kind and its answer.
-    pub const ALL: [Move; 23] = [
-        Move::At,
-        Move::Goto,
-        Move::Forward,
-        Move::Back,
-        Move::AddBreak,
-        Move::AddWatch,
-        Move::GoOn,
-        Move::GoBack,
-        Move::Steps,
-        Move::FarGoto,
-        Move::FarForward,
-        Move::FarBack,
-        Move::FarGoBack,
-        Move::Command("where", "step 3 of 6\n"),
-        Move::Command("goto 5", "step 5 of 6\n"),
-        Move::Command("forward", "step 4 of 6\n"),
-        Move::Command("back", "step 2 of 6\n"),
-        Move::Command("break 0x10008", "break 00010008\n"),
-        Move::Command("watch 0x11005", "watch 00011004\n"),
-        Move::Command("go", "watch 00011004\nstep 4 of 6\n"),
-        Move::Command("rgo", "watch 00011004\nstep 2 of 6\n"),
-        Move::Command("steps 1 2", "1 h0 00010004 sb a1, 6(t0)\n"),
-        Move::Command("mem 0x11004 1", "00011004 00070000\n"),
+    pub const ALL: [MoveCall; 23] = [
+        MoveCall::At,
+        MoveCall::Goto,
+        MoveCall::Forward,
+        MoveCall::Back,
+        MoveCall::AddBreak,
+        MoveCall::AddWatch,
+        MoveCall::GoOn,
+        MoveCall::GoBack,
+        MoveCall::Steps,
+        MoveCall::FarGoto,
+        MoveCall::FarForward,
+        MoveCall::FarBack,
+        MoveCall::FarGoBack,
+        MoveCall::Command("where", "step 3 of 6\n"),
+        MoveCall::Command("goto 5", "step 5 of 6\n"),
+        MoveCall::Command("forward", "step 4 of 6\n"),
+        MoveCall::Command("back", "step 2 of 6\n"),
+        MoveCall::Command("break 0x10008", "break 00010008\n"),
+        MoveCall::Command("watch 0x11005", "watch 00011004\n"),
+        MoveCall::Command("go", "watch 00011004\nstep 4 of 6\n"),
+        MoveCall::Command("rgo", "watch 00011004\nstep 2 of 6\n"),
+        MoveCall::Command("steps 1 2", "1 h0 00010004 sb a1, 6(t0)\n"),
+        MoveCall::Command("mem 0x11004 1", "00011004 00070000\n"),
     ];
 }
 
@@ -125,9 +125,9 @@ const FAR: Place = Place {
     cost: 88,
 };
 
-fn place_of(call: Move) -> Place {
+fn place_of(call: MoveCall) -> Place {
     match call {
-        Move::FarGoto | Move::FarForward | Move::FarBack | Move::FarGoBack => FAR,
+        MoveCall::FarGoto | MoveCall::FarForward | MoveCall::FarBack | MoveCall::FarGoBack => FAR,
         _ => NEAR,
     }
 }
@@ -150,7 +150,7 @@ fn is_at<A: Allocator + Copy>(debugger: &Debugger<A>, place: Place) -> bool {
 }
 
 /// Makes a call: whether it gave its full answer, or want of memory and the debugger where it was.
-pub fn move_answer<A: Allocator + Copy>(alloc: A, call: Move) -> Result<bool, AllocError> {
+pub fn move_answer<A: Allocator + Copy>(alloc: A, call: MoveCall) -> Result<bool, AllocError> {
     let place = place_of(call);
     let mut debugger = placed(alloc, place)?;
     match make(alloc, &mut debugger, call) {
@@ -164,39 +164,39 @@ pub fn move_answer<A: Allocator + Copy>(alloc: A, call: Move) -> Result<bool, Al
 fn make<A: Allocator + Copy>(
     alloc: A,
     debugger: &mut Debugger<A>,
-    call: Move,
+    call: MoveCall,
 ) -> Result<bool, MoveFault> {
     match call {
-        Move::At => {
+        MoveCall::At => {
             let machine = debugger.at(alloc, 5)?;
             Ok(machine.ends().first().map(|hart| hart.pc) == Some(0x0001_0008))
         }
-        Move::Goto | Move::FarGoto => {
+        MoveCall::Goto | MoveCall::FarGoto => {
             debugger.goto(alloc, 1)?;
             Ok(debugger.position() == 1)
         }
-        Move::Forward => {
+        MoveCall::Forward => {
             debugger.forward(alloc, 2)?;
             Ok(debugger.position() == 5)
         }
-        Move::Back => {
+        MoveCall::Back => {
             debugger.back(alloc, 2)?;
             Ok(debugger.position() == 1)
         }
-        Move::AddBreak => is_added(debugger.add_break(0x0001_0008)),
-        Move::AddWatch => is_added(debugger.add_watch(0x0001_1000)),
-        Move::GoOn => is_at_watch(debugger.go_on(alloc)),
-        Move::GoBack | Move::FarGoBack => is_at_watch(debugger.go_back(alloc)),
-        Move::Steps => has_steps(alloc, debugger),
-        Move::FarForward => {
+        MoveCall::AddBreak => is_added(debugger.add_break(0x0001_0008)),
+        MoveCall::AddWatch => is_added(debugger.add_watch(0x0001_1000)),
+        MoveCall::GoOn => is_at_watch(debugger.go_on(alloc)),
+        MoveCall::GoBack | MoveCall::FarGoBack => is_at_watch(debugger.go_back(alloc)),
+        MoveCall::Steps => has_steps(alloc, debugger),
+        MoveCall::FarForward => {
             debugger.forward(alloc, 400)?;
             Ok(debugger.position() == 1000)
         }
-        Move::FarBack => {
+        MoveCall::FarBack => {
             debugger.back(alloc, 599)?;
             Ok(debugger.position() == 1)
         }
-        Move::Command(line, wanted) => is_answered(alloc, debugger, line, wanted),
+        MoveCall::Command(line, wanted) => is_answered(alloc, debugger, line, wanted),
     }
 }
 

@@ -32,8 +32,8 @@ impl ObjectCall {
 pub fn object_answer<A: Allocator + Copy>(alloc: A, call: ObjectCall) -> Result<bool, AllocError> {
     match call {
         ObjectCall::Table(kind) => {
-            let table = table(alloc, kind)?;
-            Ok(table.len() == words(kind).len())
+            let instructions = table(alloc, kind)?;
+            Ok(instructions.len() == words(kind).len())
         }
         ObjectCall::MakeImage(kind) => {
             let image = make_image(alloc, kind)?;

@@ -54,9 +54,9 @@ fn each_beginning_has_its_answers(rt: HostRuntime) {
 
 // What `info` says of a file.
 fn facts(alloc: Global, file: &[u8]) -> (Result<Status, RunFault>, MemorySink<Global>) {
-    let mut source = MemorySource::new(file);
+    let mut program = MemorySource::new(file);
     let mut sink = MemorySink::new(alloc);
-    let result = file_engine(alloc, FileView::Facts, &mut source, &mut sink);
+    let result = file_engine(alloc, FileView::Facts, &mut program, &mut sink);
     (result, sink)
 }
 

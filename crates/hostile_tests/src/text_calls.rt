@@ -1,6 +1,6 @@
 //! Calls that make statements, programs, listings and files of texts.
 use asm_read::{AsmFault, statements};
-use asm_text::{TextFault, tokens};
+use asm_text::{TextFault, scan_text, tokens};
 use assembler::{Program, assemble};
 use elf_writer::write_elf;
 use protocol_library::{Kind, source};
@@ -10,6 +10,7 @@ use std::alloc::{AllocError, Allocator};
 /// A call.
 #[derive(Clone, Copy, Debug)]
 pub enum TextCall {
+    Scan,
     Tokens,
     Statements,
     Assemble,
@@ -20,7 +21,8 @@ pub enum TextCall {
 
 impl TextCall {
     /// All of them.
-    pub const ALL: [TextCall; 6] = [
+    pub const ALL: [TextCall; 7] = [
+        TextCall::Scan,
         TextCall::Tokens,
         TextCall::Statements,
         TextCall::Assemble,
@@ -47,6 +49,10 @@ const LISTING: &str = "addi zero, zero, 0  # 00010000 00000013\n.byte 0x01  # 00
 /// Makes a call: whether it gave its full answer, or want of memory.
 pub fn text_answer<A: Allocator + Copy>(alloc: A, call: TextCall) -> Result<bool, AllocError> {
     match call {
+        TextCall::Scan => {
+            let scan = scan_text(alloc, LETTERS)?;
+            Ok(scan.tokens.len() == 26)
+        }
         TextCall::Tokens => has_tokens(alloc),
         TextCall::Statements => has_statements(alloc),
         TextCall::Assemble => is_assembled(alloc),

@@ -93,7 +93,7 @@ fn a_seat_goes_into_any_book_that_it_fits(rt: HostRuntime) {
         assert_eq!(rt; seat.advance_local(2), 2);
         let answer = seat.commit(&rt, &other, false);
         assert_eq!(rt; answer.err(), wanted, "hart {hart} in {program:?}");
-        let (left, entries) = if wanted.is_some() { (2, 0) } else { (0, 1) };
+        let (left, entries): (u32, usize) = if wanted.is_some() { (2, 0) } else { (0, 1) };
         assert_eq!(rt; seat.local(), left, "hart {hart} in {program:?}");
         let book = other.into_book();
         assert_eq!(rt; book.history().len(), entries, "hart {hart} in {program:?}");
