@@ -8,6 +8,7 @@ use programs::{Input, ProgramForm, RunFault};
 use progress::Unheard;
 use protocol_library::{Kind, source};
 use replay_engine::{ReplayFault, replay_engine};
+use schedule_engine::{Maker, ScheduleFault, SchedulePlan, schedule_engine};
 use std::alloc::Global;
 use std::thread::Threads;
 
@@ -21,6 +22,7 @@ enum Engine {
     Assemble,
     AssembleFile,
     Library,
+    Schedule,
     Debug,
 }
 
@@ -35,7 +37,7 @@ enum Device {
 }
 
 // An engine and each of its devices.
-const ROWS: [(Engine, &'static [Device]); 9] = [
+const ROWS: [(Engine, &'static [Device]); 10] = [
     (
         Engine::Run,
         &[Device::Program, Device::Schedule, Device::Output],
@@ -50,6 +52,7 @@ const ROWS: [(Engine, &'static [Device]); 9] = [
     (Engine::Assemble, &[Device::Program, Device::Output]),
     (Engine::AssembleFile, &[Device::Program, Device::Output]),
     (Engine::Library, &[Device::Output]),
+    (Engine::Schedule, &[Device::Output]),
     (
         Engine::Debug,
         &[
@@ -239,6 +242,21 @@ fn library(alloc: Global, failure: Failure) -> Outcome {
     )
 }
 
+fn schedule(alloc: Global, failure: Failure) -> Outcome {
+    let plan = SchedulePlan {
+        harts: 2,
+        steps: 5,
+        maker: Maker::Turns,
+    };
+    let mut sink = Failing::new(MemorySink::new(alloc), failure.calls(Device::Output));
+    let outcome = match schedule_engine(alloc, plan, &mut sink) {
+        Ok(Status::Done) => Outcome::Full,
+        Err(ScheduleFault::Write) => Outcome::Failed(Device::Output),
+        _ => Outcome::Other,
+    };
+    checked(outcome, sink.device().bytes(), b"0 1 0 1 0\n")
+}
+
 fn debug(alloc: Global, failure: Failure) -> Outcome {
     let mut program = Failing::new(MemorySource::new(&EXITS), failure.calls(Device::Program));
     let mut choices = Failing::new(MemorySource::new(b"0 1"), failure.calls(Device::Schedule));
@@ -278,6 +296,7 @@ fn use_engine<R: Threads + Sync>(
         Engine::Assemble => assemble(alloc, failure),
         Engine::AssembleFile => assemble_file(alloc, failure),
         Engine::Library => library(alloc, failure),
+        Engine::Schedule => schedule(alloc, failure),
         Engine::Debug => debug(alloc, failure),
     }
 }

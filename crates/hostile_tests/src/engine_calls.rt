@@ -9,6 +9,7 @@ use programs::{HexFault, ProgramForm, RunFault, hex_image, read_hex};
 use progress::Unheard;
 use protocol_library::{Kind, source};
 use replay_engine::{ReplayFault, replay_engine};
+use schedule_engine::{Maker, ScheduleFault, SchedulePlan, schedule_engine};
 use std::alloc::{AllocError, Allocator, Global};
 
 /// A call.
@@ -19,6 +20,7 @@ pub enum EngineCall {
     Info,
     Replay,
     Debug,
+    Schedule,
     AssembledFile,
     AssembledListing,
     EndsText,
@@ -31,12 +33,13 @@ pub enum EngineCall {
 
 impl EngineCall {
     /// All of them.
-    pub const ALL: [EngineCall; 13] = [
+    pub const ALL: [EngineCall; 14] = [
         EngineCall::Run,
         EngineCall::List,
         EngineCall::Info,
         EngineCall::Replay,
         EngineCall::Debug,
+        EngineCall::Schedule,
         EngineCall::AssembledFile,
         EngineCall::AssembledListing,
         EngineCall::EndsText,
@@ -60,6 +63,7 @@ pub fn engine_answer<A: Allocator + Copy>(
         EngineCall::Info => is_shown(alloc, host, FileView::Facts, FACTS),
         EngineCall::Replay => is_replayed(alloc, host),
         EngineCall::Debug => is_debugged(alloc, host),
+        EngineCall::Schedule => is_scheduled(alloc, host),
         EngineCall::AssembledFile => is_assembled(alloc),
         EngineCall::AssembledListing => is_listed(alloc, host),
         EngineCall::EndsText => has_ends(alloc),
@@ -174,6 +178,23 @@ fn is_debugged<A: Allocator + Copy>(alloc: A, host: Global) -> Result<bool, Allo
         Err(DebugEngineFault::Memory) if ANSWERS.as_bytes().starts_with(sink.bytes()) => Err(
             AllocError,
         ),
+        Err(_) => Ok(false),
+    }
+}
+
+fn is_scheduled<A: Allocator + Copy>(alloc: A, host: Global) -> Result<bool, AllocError> {
+    let plan = SchedulePlan {
+        harts: 2,
+        steps: 12,
+        maker: Maker::Seed(1),
+    };
+    let mut sink = MemorySink::new(host);
+    match schedule_engine(alloc, plan, &mut sink) {
+        Ok(status) => {
+            let text = "0 0 1 0 1 0 0 0 0 0 1 0\n";
+            Ok(status == Status::Done && sink.bytes() == text.as_bytes())
+        }
+        Err(ScheduleFault::Memory) => refused_before(&sink),
         Err(_) => Ok(false),
     }
 }

@@ -1,5 +1,5 @@
 //! Calls that make the objects' images and tables.
-use proto_adopt::adopt_image;
+use proto_adopt::{adopt_image, rounds_image};
 use proto_amo::{add_image, swap_image};
 use proto_lrsc::lrsc_image;
 use protocol_library::{Kind, certify, make_image, table, words};
@@ -14,17 +14,19 @@ pub enum ObjectCall {
     AddImage,
     LrScImage,
     AdoptImage,
+    RoundsImage,
 }
 
 impl ObjectCall {
     /// All of them, each with one kind.
-    pub const ALL: [ObjectCall; 6] = [
+    pub const ALL: [ObjectCall; 7] = [
         ObjectCall::Table(Kind::LrSc),
         ObjectCall::MakeImage(Kind::LrSc),
         ObjectCall::SwapImage,
         ObjectCall::AddImage,
         ObjectCall::LrScImage,
         ObjectCall::AdoptImage,
+        ObjectCall::RoundsImage,
     ];
 }
 
@@ -54,6 +56,10 @@ pub fn object_answer<A: Allocator + Copy>(alloc: A, call: ObjectCall) -> Result<
         ObjectCall::AdoptImage => {
             let image = adopt_image(alloc)?;
             Ok(certify(Kind::AdoptCommit, &image))
+        }
+        ObjectCall::RoundsImage => {
+            let image = rounds_image(alloc)?;
+            Ok(certify(Kind::Rounds, &image))
         }
     }
 }
