@@ -2,6 +2,10 @@
 //! turn.
 #![tactic(auto)]
 
+pub use trying::{Call, Wrong, tried};
+
+mod trying;
+
 use std::alloc::{AllocError, Allocator};
 use std::sync::atomic::{AtomicU64, Ordering};
 

@@ -4,40 +4,41 @@ use loader::{ElfFault, Image, Rights, Segment, SymFault, load, symbols};
 use local_steps::Code;
 use memory::{FlatStore, FromImage, Store, StoreFault};
 use pages::PageStore;
-use std::alloc::{AllocError, Allocator};
+use refusing::{Call, tried};
+use std::alloc::{AllocError, Allocator, Global};
 
-/// A call.
+// A call.
 #[derive(Clone, Copy, Debug)]
-pub enum FileCall {
+enum FileCall {
     Load,
     Symbols,
     NewImage,
     LineOf,
     ListImage,
     NewCode,
-    FlatStore,
-    FlatCopy,
-    PageStore,
+    NewFlatStore,
+    CopyFlatStore,
+    NewPageStore,
     StoreIntoPage,
 }
 
 impl FileCall {
-    /// All of them.
-    pub const ALL: [FileCall; 10] = [
+    // All of them.
+    const ALL: [FileCall; 10] = [
         FileCall::Load,
         FileCall::Symbols,
         FileCall::NewImage,
         FileCall::LineOf,
         FileCall::ListImage,
         FileCall::NewCode,
-        FileCall::FlatStore,
-        FileCall::FlatCopy,
-        FileCall::PageStore,
+        FileCall::NewFlatStore,
+        FileCall::CopyFlatStore,
+        FileCall::NewPageStore,
         FileCall::StoreIntoPage,
     ];
 }
 
-/// A file of 232 bytes: one segment with `ecall`, a symbol table with one symbol, and its names.
+// A file of 232 bytes: one segment with `ecall`, a symbol table with one symbol, and its names.
 const WORDS: [u32; 58] = [
     0x464c_457f,
     0x0001_0101,
@@ -107,33 +108,34 @@ fn file<A: Allocator>(alloc: A) -> Result<Vec<u8, A>, AllocError> {
     Ok(bytes)
 }
 
-/// Makes a call: whether it gave its full answer, or want of memory and nothing changed.
-pub fn file_answer<A: Allocator + Copy>(alloc: A, call: FileCall) -> Result<bool, AllocError> {
-    match call {
-        FileCall::Load => is_loaded(alloc),
-        FileCall::Symbols => has_symbols(alloc),
-        FileCall::NewImage => {
-            let image = image_of(alloc)?;
-            Ok(image.segments().len() == 2)
+impl Call for FileCall {
+    fn answer<A: Allocator + Copy>(&self, alloc: A, _host: Global) -> Result<bool, AllocError> {
+        match self {
+            FileCall::Load => is_loaded(alloc),
+            FileCall::Symbols => has_symbols(alloc),
+            FileCall::NewImage => {
+                let image = image_of(alloc)?;
+                Ok(image.segments().len() == 2)
+            }
+            FileCall::LineOf => {
+                let line = line_of(alloc, 0x0001_0018, 0x0003_8a63)?;
+                Ok(line.as_str() == "beq t2, zero, 0x0001002c")
+            }
+            FileCall::ListImage => {
+                let image = image_of(alloc)?;
+                let text = list_image(alloc, &image)?;
+                Ok(text.as_str() == "# segment 00010000 4\necall  # 00010000 00000073\n")
+            }
+            FileCall::NewCode => {
+                let image = image_of(alloc)?;
+                let code = Code::new(alloc, &image)?;
+                Ok(code.segments().len() == 1)
+            }
+            FileCall::NewFlatStore => is_flat(alloc),
+            FileCall::CopyFlatStore => is_copied(alloc),
+            FileCall::NewPageStore => is_paged(alloc),
+            FileCall::StoreIntoPage => is_stored(alloc),
         }
-        FileCall::LineOf => {
-            let line = line_of(alloc, 0x0001_0018, 0x0003_8a63)?;
-            Ok(line.as_str() == "beq t2, zero, 0x0001002c")
-        }
-        FileCall::ListImage => {
-            let image = image_of(alloc)?;
-            let text = list_image(alloc, &image)?;
-            Ok(text.as_str() == "# segment 00010000 4\necall  # 00010000 00000073\n")
-        }
-        FileCall::NewCode => {
-            let image = image_of(alloc)?;
-            let code = Code::new(alloc, &image)?;
-            Ok(code.segments().len() == 1)
-        }
-        FileCall::FlatStore => is_flat(alloc),
-        FileCall::FlatCopy => is_copied(alloc),
-        FileCall::PageStore => is_paged(alloc),
-        FileCall::StoreIntoPage => is_stored(alloc),
     }
 }
 
@@ -213,4 +215,11 @@ fn is_stored<A: Allocator + Copy>(alloc: A) -> Result<bool, AllocError> {
         return Err(AllocError);
     }
     Ok(false)
+}
+
+#[test]
+fn calls_on_files_tell_want_of_memory(rt: HostRuntime) {
+    for call in FileCall::ALL {
+        assert_eq!(rt; tried(rt.alloc(), &call), Ok(()), "{call:?}");
+    }
 }

@@ -3,11 +3,12 @@ use debug_commands::{Answer, DebugFault, command};
 use debugger::{Debugger, MoveFault, Stop};
 use loader::{Image, Rights, Segment};
 use machine::Choice;
-use std::alloc::{AllocError, Allocator};
+use refusing::{Call, tried};
+use std::alloc::{AllocError, Allocator, Global};
 
-/// A call, behind three of six choices; those with `Far` behind 600 of a thousand, with checkpoints between.
+// A call, behind three of six choices; those with `Far` behind 600 of a thousand, with checkpoints between.
 #[derive(Clone, Copy, Debug)]
-pub enum MoveCall {
+enum MoveCall {
     At,
     Goto,
     Forward,
@@ -25,8 +26,8 @@ pub enum MoveCall {
 }
 
 impl MoveCall {
-    /// All of them, with a command of each kind and its answer.
-    pub const ALL: [MoveCall; 23] = [
+    // All of them, with a command of each kind and its answer.
+    const ALL: [MoveCall; 23] = [
         MoveCall::At,
         MoveCall::Goto,
         MoveCall::Forward,
@@ -149,14 +150,15 @@ fn is_at<A: Allocator + Copy>(debugger: &Debugger<A>, place: Place) -> bool {
     debugger.position() == place.position && debugger.cost() == place.cost
 }
 
-/// Makes a call: whether it gave its full answer, or want of memory and the debugger where it was.
-pub fn move_answer<A: Allocator + Copy>(alloc: A, call: MoveCall) -> Result<bool, AllocError> {
-    let place = place_of(call);
-    let mut debugger = placed(alloc, place)?;
-    match make(alloc, &mut debugger, call) {
-        Ok(is_full) => Ok(is_full),
-        Err(MoveFault::Memory) if is_at(&debugger, place) => Err(AllocError),
-        Err(_) => Ok(false),
+impl Call for MoveCall {
+    fn answer<A: Allocator + Copy>(&self, alloc: A, _host: Global) -> Result<bool, AllocError> {
+        let place = place_of(*self);
+        let mut debugger = placed(alloc, place)?;
+        match make(alloc, &mut debugger, *self) {
+            Ok(is_full) => Ok(is_full),
+            Err(MoveFault::Memory) if is_at(&debugger, place) => Err(AllocError),
+            Err(_) => Ok(false),
+        }
     }
 }
 
@@ -233,5 +235,12 @@ fn is_answered<A: Allocator + Copy>(
         Ok(Answer::Quit) => Ok(false),
         Err(DebugFault::Memory) => Err(MoveFault::Memory),
         Err(_) => Ok(false),
+    }
+}
+
+#[test]
+fn moves_tell_want_of_memory(rt: HostRuntime) {
+    for call in MoveCall::ALL {
+        assert_eq!(rt; tried(rt.alloc(), &call), Ok(()), "{call:?}");
     }
 }

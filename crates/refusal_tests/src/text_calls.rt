@@ -4,12 +4,13 @@ use asm_text::{TextFault, scan_text, tokens};
 use assembler::{Program, assemble};
 use elf_writer::write_elf;
 use protocol_library::{Kind, source};
+use refusing::{Call, tried};
 use round_trip::{list, list_source};
-use std::alloc::{AllocError, Allocator};
+use std::alloc::{AllocError, Allocator, Global};
 
-/// A call.
+// A call.
 #[derive(Clone, Copy, Debug)]
-pub enum TextCall {
+enum TextCall {
     Scan,
     Tokens,
     Statements,
@@ -20,8 +21,8 @@ pub enum TextCall {
 }
 
 impl TextCall {
-    /// All of them.
-    pub const ALL: [TextCall; 7] = [
+    // All of them.
+    const ALL: [TextCall; 7] = [
         TextCall::Scan,
         TextCall::Tokens,
         TextCall::Statements,
@@ -46,30 +47,31 @@ const LISTED: &str = "nop\n.byte 1";
 
 const LISTING: &str = "addi zero, zero, 0  # 00010000 00000013\n.byte 0x01  # 00010004\n";
 
-/// Makes a call: whether it gave its full answer, or want of memory.
-pub fn text_answer<A: Allocator + Copy>(alloc: A, call: TextCall) -> Result<bool, AllocError> {
-    match call {
-        TextCall::Scan => {
-            let scan = scan_text(alloc, LETTERS)?;
-            Ok(scan.tokens.len() == 26)
-        }
-        TextCall::Tokens => has_tokens(alloc),
-        TextCall::Statements => has_statements(alloc),
-        TextCall::Assemble => is_assembled(alloc),
-        TextCall::List => {
-            let program = program_of(alloc, LISTED)?;
-            let text = list(alloc, &program)?;
-            Ok(text.as_str() == LISTING)
-        }
-        TextCall::ListSource => {
-            let program = program_of(alloc, LISTED)?;
-            let text = list_source(alloc, &program)?;
-            Ok(text.as_str() == LISTING)
-        }
-        TextCall::WriteElf => {
-            let program = program_of(alloc, source(Kind::Swap))?;
-            let file = write_elf(alloc, &program)?;
-            Ok(file.len() == 8576)
+impl Call for TextCall {
+    fn answer<A: Allocator + Copy>(&self, alloc: A, _host: Global) -> Result<bool, AllocError> {
+        match self {
+            TextCall::Scan => {
+                let scan = scan_text(alloc, LETTERS)?;
+                Ok(scan.tokens.len() == 26)
+            }
+            TextCall::Tokens => has_tokens(alloc),
+            TextCall::Statements => has_statements(alloc),
+            TextCall::Assemble => is_assembled(alloc),
+            TextCall::List => {
+                let program = program_of(alloc, LISTED)?;
+                let text = list(alloc, &program)?;
+                Ok(text.as_str() == LISTING)
+            }
+            TextCall::ListSource => {
+                let program = program_of(alloc, LISTED)?;
+                let text = list_source(alloc, &program)?;
+                Ok(text.as_str() == LISTING)
+            }
+            TextCall::WriteElf => {
+                let program = program_of(alloc, source(Kind::Swap))?;
+                let file = write_elf(alloc, &program)?;
+                Ok(file.len() == 8576)
+            }
         }
     }
 }
@@ -103,5 +105,12 @@ fn is_assembled<A: Allocator + Copy>(alloc: A) -> Result<bool, AllocError> {
         Ok(program) => Ok(program.bytes().len() == 12),
         Err(AsmFault::Memory) => Err(AllocError),
         Err(_) => Ok(false),
+    }
+}
+
+#[test]
+fn calls_on_texts_tell_want_of_memory(rt: HostRuntime) {
+    for call in TextCall::ALL {
+        assert_eq!(rt; tried(rt.alloc(), &call), Ok(()), "{call:?}");
     }
 }

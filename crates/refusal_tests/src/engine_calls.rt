@@ -8,13 +8,14 @@ use hart_step::{Hart, HartState};
 use programs::{HexFault, ProgramForm, RunFault, hex_image, read_hex};
 use progress::Unheard;
 use protocol_library::{Kind, source};
+use refusing::{Call, tried};
 use replay_engine::{ReplayFault, replay_engine};
 use schedule_engine::{Maker, ScheduleFault, SchedulePlan, schedule_engine};
 use std::alloc::{AllocError, Allocator, Global};
 
-/// A call.
+// A call.
 #[derive(Clone, Copy, Debug)]
-pub enum EngineCall {
+enum EngineCall {
     Run,
     List,
     Info,
@@ -32,8 +33,8 @@ pub enum EngineCall {
 }
 
 impl EngineCall {
-    /// All of them.
-    pub const ALL: [EngineCall; 14] = [
+    // All of them.
+    const ALL: [EngineCall; 14] = [
         EngineCall::Run,
         EngineCall::List,
         EngineCall::Info,
@@ -51,30 +52,27 @@ impl EngineCall {
     ];
 }
 
-/// Makes a call: whether it gave its full answer, or want of memory and at most a beginning of its output.
-pub fn engine_answer<A: Allocator + Copy>(
-    alloc: A,
-    host: Global,
-    call: EngineCall,
-) -> Result<bool, AllocError> {
-    match call {
-        EngineCall::Run => is_run(alloc, host),
-        EngineCall::List => is_shown(alloc, host, FileView::Listing, LISTING),
-        EngineCall::Info => is_shown(alloc, host, FileView::Facts, FACTS),
-        EngineCall::Replay => is_replayed(alloc, host),
-        EngineCall::Debug => is_debugged(alloc, host),
-        EngineCall::Schedule => is_scheduled(alloc, host),
-        EngineCall::AssembledFile => is_assembled(alloc),
-        EngineCall::AssembledListing => is_listed(alloc, host),
-        EngineCall::EndsText => has_ends(alloc),
-        EngineCall::ReadAll => is_read(alloc),
-        EngineCall::ReadHex => is_hex(alloc),
-        EngineCall::HexImage => {
-            let image = hex_image(alloc, &[19; 20])?;
-            Ok(image.segments().len() == 1)
+impl Call for EngineCall {
+    fn answer<A: Allocator + Copy>(&self, alloc: A, host: Global) -> Result<bool, AllocError> {
+        match self {
+            EngineCall::Run => is_run(alloc, host),
+            EngineCall::List => is_shown(alloc, host, FileView::Listing, LISTING),
+            EngineCall::Info => is_shown(alloc, host, FileView::Facts, FACTS),
+            EngineCall::Replay => is_replayed(alloc, host),
+            EngineCall::Debug => is_debugged(alloc, host),
+            EngineCall::Schedule => is_scheduled(alloc, host),
+            EngineCall::AssembledFile => is_assembled(alloc),
+            EngineCall::AssembledListing => is_listed(alloc, host),
+            EngineCall::EndsText => has_ends(alloc),
+            EngineCall::ReadAll => is_read(alloc),
+            EngineCall::ReadHex => is_hex(alloc),
+            EngineCall::HexImage => {
+                let image = hex_image(alloc, &[19; 20])?;
+                Ok(image.segments().len() == 1)
+            }
+            EngineCall::ReadInputs => has_inputs(alloc),
+            EngineCall::ReadPlan => has_plan(alloc),
         }
-        EngineCall::ReadInputs => has_inputs(alloc),
-        EngineCall::ReadPlan => has_plan(alloc),
     }
 }
 
@@ -261,5 +259,12 @@ fn has_plan<A: Allocator + Copy>(alloc: A) -> Result<bool, AllocError> {
         Ok(plan) => Ok(plan.len() == 12),
         Err(LineFault::Memory) => Err(AllocError),
         Err(_) => Ok(false),
+    }
+}
+
+#[test]
+fn engines_tell_want_of_memory(rt: HostRuntime) {
+    for call in EngineCall::ALL {
+        assert_eq!(rt; tried(rt.alloc(), &call), Ok(()), "{call:?}");
     }
 }

@@ -7,14 +7,15 @@ use loader::{Image, Rights, Segment};
 use machine::{Choice, Machine};
 use memory::{FlatStore, FromImage};
 use pages::PageStore;
+use refusing::{Call, tried};
 use scheduler::{round_robin, seeded, solo};
-use std::alloc::{AllocError, Allocator};
+use std::alloc::{AllocError, Allocator, Global};
 
-/// A call.
+// A call.
 #[derive(Clone, Copy, Debug)]
-pub enum MachineCall {
+enum MachineCall {
     Start,
-    Copy,
+    CopyMachine,
     Step,
     RoundRobin,
     Solo,
@@ -28,10 +29,10 @@ pub enum MachineCall {
 }
 
 impl MachineCall {
-    /// All of them.
-    pub const ALL: [MachineCall; 12] = [
+    // All of them.
+    const ALL: [MachineCall; 12] = [
         MachineCall::Start,
-        MachineCall::Copy,
+        MachineCall::CopyMachine,
         MachineCall::Step,
         MachineCall::RoundRobin,
         MachineCall::Solo,
@@ -45,46 +46,44 @@ impl MachineCall {
     ];
 }
 
-/// Makes a call: whether it gave its full answer, or want of memory and nothing changed.
-pub fn machine_answer<A: Allocator + Copy>(
-    alloc: A,
-    call: MachineCall,
-) -> Result<bool, AllocError> {
-    match call {
-        MachineCall::Start => is_started(alloc),
-        MachineCall::Copy => is_copied(alloc),
-        MachineCall::Step => is_stepped(alloc),
-        MachineCall::RoundRobin => {
-            let choices = round_robin(alloc, 2, 9)?;
-            Ok(choices.len() == 9)
-        }
-        MachineCall::Solo => {
-            let choices = solo(alloc, 1, 9)?;
-            Ok(choices.len() == 9)
-        }
-        MachineCall::Seeded => {
-            let choices = seeded(alloc, 2, 9, 1)?;
-            Ok(choices.len() == 9)
-        }
-        MachineCall::ReadChoices => is_read(alloc),
-        MachineCall::PrintChoices => {
-            let text = print_choices(alloc, &CHOICES)?;
-            Ok(text.as_str() == "0 0 1!\n")
-        }
-        MachineCall::PrintRuns => {
-            let text = print_runs(alloc, &CHOICES)?;
-            Ok(text.as_str() == "0*2 1!\n")
-        }
-        MachineCall::ChosenHarts => {
-            let mut chosen = Chosen::new();
-            chosen.add(31);
-            let choices = chosen.choices(alloc)?;
-            Ok(choices.len() == 1)
-        }
-        MachineCall::ReadHistory => is_history(alloc),
-        MachineCall::PrintHistory => {
-            let text = print_history(alloc, &ENTRIES)?;
-            Ok(text.as_str() == "0+3 1+0!\n")
+impl Call for MachineCall {
+    fn answer<A: Allocator + Copy>(&self, alloc: A, _host: Global) -> Result<bool, AllocError> {
+        match self {
+            MachineCall::Start => is_started(alloc),
+            MachineCall::CopyMachine => is_copied(alloc),
+            MachineCall::Step => is_stepped(alloc),
+            MachineCall::RoundRobin => {
+                let choices = round_robin(alloc, 2, 9)?;
+                Ok(choices.len() == 9)
+            }
+            MachineCall::Solo => {
+                let choices = solo(alloc, 1, 9)?;
+                Ok(choices.len() == 9)
+            }
+            MachineCall::Seeded => {
+                let choices = seeded(alloc, 2, 9, 1)?;
+                Ok(choices.len() == 9)
+            }
+            MachineCall::ReadChoices => is_read(alloc),
+            MachineCall::PrintChoices => {
+                let text = print_choices(alloc, &CHOICES)?;
+                Ok(text.as_str() == "0 0 1!\n")
+            }
+            MachineCall::PrintRuns => {
+                let text = print_runs(alloc, &CHOICES)?;
+                Ok(text.as_str() == "0*2 1!\n")
+            }
+            MachineCall::ChosenHarts => {
+                let mut chosen = Chosen::new();
+                chosen.add(31);
+                let choices = chosen.choices(alloc)?;
+                Ok(choices.len() == 1)
+            }
+            MachineCall::ReadHistory => is_history(alloc),
+            MachineCall::PrintHistory => {
+                let text = print_history(alloc, &ENTRIES)?;
+                Ok(text.as_str() == "0+3 1+0!\n")
+            }
         }
     }
 }
@@ -202,5 +201,12 @@ fn is_history<A: Allocator + Copy>(alloc: A) -> Result<bool, AllocError> {
         Ok(entries) => Ok(entries.len() == 9),
         Err(HistoryFault::Memory) => Err(AllocError),
         Err(_) => Ok(false),
+    }
+}
+
+#[test]
+fn calls_on_machines_tell_want_of_memory(rt: HostRuntime) {
+    for call in MachineCall::ALL {
+        assert_eq!(rt; tried(rt.alloc(), &call), Ok(()), "{call:?}");
     }
 }

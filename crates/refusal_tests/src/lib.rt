@@ -1,0 +1,15 @@
+//! Tests of want of memory: each call that asks for memory is made with each of its requests refused in turn, once and for good.
+#![tactic(auto)]
+
+#[cfg(test)]
+mod engine_calls;
+#[cfg(test)]
+mod file_calls;
+#[cfg(test)]
+mod machine_calls;
+#[cfg(test)]
+mod moves;
+#[cfg(test)]
+mod object_calls;
+#[cfg(test)]
+mod text_calls;
