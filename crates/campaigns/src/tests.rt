@@ -1,8 +1,8 @@
 //! What no clause says of one seed's run, which is private: refused memory.
 use crate::seed_run::run_seed;
 use loader::{Image, Rights, Segment};
-use refusing::{Refusing, Shortage};
-use std::alloc::{AllocError, Allocator};
+use refusing::{Call, tried};
+use std::alloc::{AllocError, Allocator, Global};
 
 // Each hart reserves a word, stores its address there if the reservation holds, loads it, and exits with what the
 // store-conditional answered.
@@ -34,26 +34,19 @@ fn program<A: Allocator + Copy>(alloc: A, words: &[u32]) -> Result<Image<A>, All
     }
 }
 
-// The requests of one seed's run.
+// The run of one seed.
+#[derive(Clone, Copy, Debug)]
+struct OneSeed;
+
+impl Call for OneSeed {
+    fn answer<A: Allocator + Copy>(&self, alloc: A, host: Global) -> Result<bool, AllocError> {
+        let image = program(host, &CONDITIONAL)?;
+        let run = run_seed(alloc, &image, &[7, 9], 8, 5)?;
+        Ok(run.harts.len() == 2)
+    }
+}
+
 #[test]
 fn each_refused_request_is_told(rt: HostRuntime) {
-    let Ok(image) = program(rt.alloc(), &CONDITIONAL) else {
-        return assert!(rt; false, "no memory for the image");
-    };
-    for shortage in Shortage::BOTH {
-        let mut refused = true;
-        for passed in 0..100u64 {
-            let heap = Refusing::of(rt.alloc(), passed, shortage);
-            match run_seed(&heap, &image, &[7, 9], 8, 5) {
-                Ok(run) => assert_eq!(rt; run.harts.len(), 2, "{shortage:?}: at request {passed}"),
-                Err(AllocError) => assert!(rt; heap.refused(), "{shortage:?}: at request {passed}"),
-            }
-            refused = heap.refused();
-            if !refused {
-                assert!(rt; passed > 0, "no memory is asked for");
-                break;
-            }
-        }
-        assert!(rt; !refused, "{shortage:?}: memory is asked for without end");
-    }
+    assert_eq!(rt; tried(rt.alloc(), &OneSeed), Ok(()));
 }

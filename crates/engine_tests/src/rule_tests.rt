@@ -8,8 +8,8 @@ use engines::{
 use hart_step::{Hart, HartState};
 use progress::Unheard;
 use protocol_library::{Kind, source};
-use refusing::{Refusing, Shortage};
-use std::alloc::{AllocError, Allocator};
+use refusing::{Call, tried};
+use std::alloc::{AllocError, Allocator, Global};
 
 // An object, the inputs, the rule, the choices, and what is printed.
 struct Worked {
@@ -301,26 +301,18 @@ fn lines_of<A: Allocator + Copy>(alloc: A) -> Result<String<A>, AllocError> {
     Ok(text)
 }
 
-// The requests for a block's verdicts and lines.
+// The verdicts and lines of a block.
+#[derive(Clone, Copy, Debug)]
+struct Lines;
+
+impl Call for Lines {
+    fn answer<A: Allocator + Copy>(&self, alloc: A, _host: Global) -> Result<bool, AllocError> {
+        let text = lines_of(alloc)?;
+        Ok(text.as_str() == "seed 5 exited 0 faulted 0 running 2 kept\n")
+    }
+}
+
 #[test]
 fn each_refused_request_of_lines_is_told(rt: HostRuntime) {
-    for shortage in Shortage::BOTH {
-        let mut refused = true;
-        for passed in 0..100u64 {
-            let heap = Refusing::of(rt.alloc(), passed, shortage);
-            match lines_of(&heap) {
-                Ok(text) => assert_eq!(rt;
-                    text.as_str(),
-                    "seed 5 exited 0 faulted 0 running 2 kept\n"
-                ),
-                Err(AllocError) => assert!(rt; heap.refused(), "{shortage:?}: at request {passed}"),
-            }
-            refused = heap.refused();
-            if !refused {
-                assert!(rt; passed > 0, "no memory is asked for");
-                break;
-            }
-        }
-        assert!(rt; !refused, "{shortage:?}: memory is asked for without end");
-    }
+    assert_eq!(rt; tried(rt.alloc(), &Lines), Ok(()));
 }

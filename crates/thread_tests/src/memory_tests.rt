@@ -5,89 +5,64 @@ use crate::seat_tests::shared_swap;
 use book::{Book, PresentFault, SegmentFault};
 use hart_threads::CommitFault;
 use protocol_library::Kind;
-use refusing::{Refusing, Shortage};
+use refusing::{Call, tried};
 use std::alloc::{AllocError, Allocator, Global};
 use std::sync::Wait;
 
-// A call that asks for memory.
-#[derive(Clone, Copy, Debug)]
-enum Call {
-    Present,
-    Commit,
-}
+// A segment of three local steps and one more is presented.
+struct Presented;
 
-// Whether a segment of three local steps and one more was taken, or want of memory and nothing changed.
-fn is_presented<A: Allocator + Copy>(alloc: A) -> Result<bool, AllocError> {
-    let image = image_of(alloc, Program::Object(Kind::Swap))?;
-    let inputs = Vec::from_slice(alloc, &[7, 9])?;
-    let Ok(mut book) = Book::new(alloc, image, inputs) else {
-        return Err(AllocError);
-    };
-    let Ok(mut segment) = book.segment(0) else {
-        return Err(AllocError);
-    };
-    segment.advance(u32::MAX);
-    match book.present(&mut segment) {
-        Ok(()) => Ok(book.history().len() == 1 && segment.local() == 0),
-        Err(PresentFault::Memory) if book.history().is_empty() && segment.local() == 3 => Err(
-            AllocError,
-        ),
-        Err(_) => Ok(false),
-    }
-}
-
-// The same of a seat.
-fn is_committed<A: Allocator + Copy, R: Wait>(rt: &R, alloc: A) -> Result<bool, AllocError> {
-    let Some(shared) = shared_swap(alloc) else {
-        return Err(AllocError);
-    };
-    let mut seat = match shared.seat(rt, 0) {
-        Ok(seat) => seat,
-        Err(SegmentFault::Memory) => return Err(AllocError),
-        Err(_) => return Ok(false),
-    };
-    seat.advance_local(u32::MAX);
-    match seat.commit(rt, &shared, false) {
-        Ok(()) => Ok(seat.local() == 0),
-        Err(CommitFault::Memory) if seat.local() == 3 => Err(AllocError),
-        Err(_) => Ok(false),
-    }
-}
-
-// More requests than a call here makes.
-const MOST: u64 = 400;
-
-// How many requests a call makes. An error tells behind how many the next one was refused and the call gave something else than its
-// full answer or want of memory.
-fn requests_of<R: Wait>(rt: &R, host: Global, call: Call, shortage: Shortage) -> Result<u64, u64> {
-    for passed in 0..MOST {
-        let heap = Refusing::of(host, passed, shortage);
-        let answer = match call {
-            Call::Present => is_presented(&heap),
-            Call::Commit => is_committed(rt, &heap),
+impl Call for Presented {
+    fn answer<A: Allocator + Copy>(&self, alloc: A, _host: Global) -> Result<bool, AllocError> {
+        let image = image_of(alloc, Program::Object(Kind::Swap))?;
+        let inputs = Vec::from_slice(alloc, &[7, 9])?;
+        let Ok(mut book) = Book::new(alloc, image, inputs) else {
+            return Err(AllocError);
         };
-        let is_right = match answer {
-            Ok(is_full) => is_full,
-            Err(AllocError) => heap.refused(),
+        let Ok(mut segment) = book.segment(0) else {
+            return Err(AllocError);
         };
-        if !is_right {
-            return Err(passed);
-        }
-        if !heap.refused() {
-            return Ok(passed);
+        segment.advance(u32::MAX);
+        match book.present(&mut segment) {
+            Ok(()) => Ok(book.history().len() == 1 && segment.local() == 0),
+            Err(PresentFault::Memory) if book.history().is_empty() && segment.local() == 3 => Err(
+                AllocError,
+            ),
+            Err(_) => Ok(false),
         }
     }
-    Err(MOST)
+}
+
+// A seat with as many is committed.
+struct Committed<'a, R: Wait> {
+    rt: &'a R,
+}
+
+impl<'a, R: Wait> Call for Committed<'a, R> {
+    fn answer<A: Allocator + Copy>(&self, alloc: A, _host: Global) -> Result<bool, AllocError> {
+        let Some(shared) = shared_swap(alloc) else {
+            return Err(AllocError);
+        };
+        let mut seat = match shared.seat(self.rt, 0) {
+            Ok(seat) => seat,
+            Err(SegmentFault::Memory) => return Err(AllocError),
+            Err(_) => return Ok(false),
+        };
+        seat.advance_local(u32::MAX);
+        match seat.commit(self.rt, &shared, false) {
+            Ok(()) => Ok(seat.local() == 0),
+            Err(CommitFault::Memory) if seat.local() == 3 => Err(AllocError),
+            Err(_) => Ok(false),
+        }
+    }
 }
 
 #[test]
-fn books_and_seats_tell_want_of_memory(rt: HostRuntime) {
-    for call in [Call::Present, Call::Commit] {
-        for shortage in Shortage::BOTH {
-            match requests_of(&rt, rt.alloc(), call, shortage) {
-                Ok(requests) => assert!(rt; requests > 0, "{call:?}: no memory is asked for"),
-                Err(passed) => assert!(rt; false, "{call:?}, {shortage:?}: at request {passed}"),
-            }
-        }
-    }
+fn a_book_tells_want_of_memory(rt: HostRuntime) {
+    assert_eq!(rt; tried(rt.alloc(), &Presented), Ok(()));
+}
+
+#[test]
+fn a_seat_tells_want_of_memory(rt: HostRuntime) {
+    assert_eq!(rt; tried(rt.alloc(), &Committed { rt: &rt }), Ok(()));
 }
