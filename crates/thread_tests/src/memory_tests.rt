@@ -10,6 +10,7 @@ use std::alloc::{AllocError, Allocator, Global};
 use std::sync::Wait;
 
 // A segment of three local steps and one more is presented.
+#[derive(Clone, Copy, Debug)]
 struct Presented;
 
 impl Call for Presented {
@@ -34,7 +35,8 @@ impl Call for Presented {
 }
 
 // A seat with as many is committed.
-struct Committed<'a, R: Wait> {
+#[derive(Drop)]
+struct Committed<'a, R> {
     rt: &'a R,
 }
 
