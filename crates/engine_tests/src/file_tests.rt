@@ -1,10 +1,9 @@
-//! What no clause says: a file that is shown and run by campaigns, where memory is left and where it is refused.
+//! What no clause says: a file that is shown and run by campaigns, with devices that work and that fail.
 use engines::{
     CampaignPlan, Failing, FileView, FullSink, Input, MemorySink, MemorySource, ProgramForm,
     RunFault, Status, campaign_engine, file_engine, run_engine,
 };
 use progress::Unheard;
-use refusing::Refusing;
 
 // An ELF file of 92 bytes with one segment: `addi a7, zero, 93` and `ecall`.
 #[rattlefmt::skip]
@@ -115,28 +114,4 @@ fn failing_devices_of_a_file_are_told(rt: HostRuntime) {
     let mut sink = FullSink::new();
     let result = file_engine(rt.alloc(), FileView::Facts, &mut file, &mut sink);
     assert_eq!(rt; result, Err(RunFault::Write));
-}
-
-#[test]
-fn each_refused_request_of_a_file_is_told(rt: HostRuntime) {
-    for view in [FileView::Facts, FileView::Listing] {
-        for passed in 0..200u64 {
-            let heap = Refusing::new(rt.alloc(), passed);
-            let mut file = MemorySource::new(&EXITS);
-            let mut sink = MemorySink::new(rt.alloc());
-            let result = file_engine(&heap, view, &mut file, &mut sink);
-            match result {
-                Ok(status) => assert_eq!(rt; status, Status::Done),
-                Err(fault) => {
-                    assert_eq!(rt; fault, RunFault::Memory);
-                    assert!(rt; heap.refused());
-                    assert!(rt; sink.bytes().is_empty());
-                }
-            }
-            if !heap.refused() {
-                assert!(rt; result.is_ok() && passed > 0);
-                break;
-            }
-        }
-    }
 }

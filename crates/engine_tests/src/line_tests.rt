@@ -1,7 +1,6 @@
 //! What no clause says: worked lines and lists.
 use command_line::{LineFault, Order, read_inputs, read_line, read_number, read_object, read_plan};
 use protocol_library::Kind;
-use refusing::Refusing;
 use std::alloc::Global;
 
 #[test]
@@ -31,24 +30,6 @@ fn inputs_are_read(rt: HostRuntime) {
             _ => assert!(rt; false, "{text}"),
         }
     }
-}
-
-#[test]
-fn each_refused_request_is_told(rt: HostRuntime) {
-    for passed in 0..100u64 {
-        let heap = Refusing::new(rt.alloc(), passed);
-        let answer = read_inputs(&heap, "1,2,3,4,5,6,7,8,9,10,11,12");
-        match &answer {
-            Ok(inputs) => assert_eq!(rt; inputs.len(), 12),
-            Err(LineFault::Memory) => assert!(rt; heap.refused()),
-            Err(_) => assert!(rt; false, "at request {passed}"),
-        }
-        if !heap.refused() {
-            assert!(rt; passed > 0, "no memory is asked for");
-            return;
-        }
-    }
-    assert!(rt; false, "memory is asked for without end");
 }
 
 #[test]

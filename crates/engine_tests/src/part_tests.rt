@@ -1,4 +1,4 @@
-//! What no clause says: printed texts, words from another source, failing devices and refused memory.
+//! What no clause says: printed texts, words from another source, and failing devices.
 use choice_texts::ChoiceFault;
 use engines::{
     DeviceFault, Failing, FullSink, HexFault, Input, MemorySink, MemorySource, ReadFault,
@@ -6,7 +6,6 @@ use engines::{
     write_all,
 };
 use hart_step::{Cause, Hart, HartState};
-use refusing::Refusing;
 
 fn hart(a0: u32, a1: u32, pc: u32, state: HartState) -> Hart {
     let mut registers = [0; 32];
@@ -241,28 +240,6 @@ fn a_failing_device_is_told(rt: HostRuntime) {
     let mut sink = FullSink::new();
     assert_eq!(rt; write_all(&mut sink, &bytes), Err(DeviceFault));
     assert_eq!(rt; write_all(&mut sink, &[]), Ok(()));
-}
-
-#[test]
-fn each_refused_request_is_told(rt: HostRuntime) {
-    let harts = [hart(9, 7, 0x10010, HartState::Exited(9)); 4];
-    for passed in 0..100u64 {
-        let heap = Refusing::new(rt.alloc(), passed);
-        if let Err(fault) = read_hex(&heap, b"00000013 00000013 00000013 00000013 00000013") {
-            assert_eq!(rt; fault, HexFault::Memory);
-        }
-        let _ = hex_image(&heap, &[19; 20]);
-        let _ = ends_text(&heap, &[], &[], &harts, None);
-        let mut source = MemorySource::new(&[7; 1300]);
-        if let Err(fault) = read_all(&heap, &mut source) {
-            assert_eq!(rt; fault, ReadFault::Memory);
-        }
-        if !heap.refused() {
-            assert!(rt; passed > 3, "hardly any memory is asked for");
-            return;
-        }
-    }
-    assert!(rt; false, "memory is asked for without end");
 }
 
 #[test]

@@ -1,8 +1,7 @@
-//! What no clause says of replays: worked histories of the objects' files, failing devices, each request for memory refused.
+//! What no clause says of replays: worked histories of the objects' files, and failing devices.
 use crate::object_files::object_file;
 use engines::{Failing, FullSink, Input, MemorySink, MemorySource, RunFault, Status};
 use protocol_library::Kind;
-use refusing::Refusing;
 use replay_engine::{ReplayFault, replay_engine};
 
 // An object, the inputs, the rule, the history, and what is printed or why not.
@@ -83,39 +82,6 @@ fn worked_histories_are_printed(rt: HostRuntime) {
 }
 
 const HISTORY: &[u8] = b"1+10 0+14";
-
-const ENDS: &str = "hart 0 exited a0 00000009 a1 00000001\nhart 1 exited a0 00000009 a1 00000001\n";
-
-#[test]
-fn a_replay_survives_each_refused_request(rt: HostRuntime) {
-    let Ok(file) = object_file(rt.alloc(), Kind::Swap) else {
-        return assert!(rt; false, "no memory for the file");
-    };
-    for passed in 0..1000u64 {
-        let heap = Refusing::new(rt.alloc(), passed);
-        let mut program = MemorySource::new(&file);
-        let mut history = MemorySource::new(HISTORY);
-        let mut sink = MemorySink::new(rt.alloc());
-        let result = replay_engine(&heap, &[7, 9], None, &mut program, &mut history, &mut sink);
-        if result == Ok(Status::Done) {
-            assert_eq!(rt; sink.bytes(), ENDS.as_bytes());
-        } else {
-            assert_eq!(rt;
-                result,
-                Err(ReplayFault::Run(RunFault::Memory)),
-                "after {passed}"
-            );
-            assert!(rt; heap.refused());
-            assert_eq!(rt; sink.bytes().len(), 0);
-        }
-        if !heap.refused() {
-            assert_eq!(rt; result, Ok(Status::Done));
-            assert!(rt; passed > 5, "only {passed} requests");
-            return;
-        }
-    }
-    assert!(rt; false, "memory is asked for without end");
-}
 
 #[test]
 fn a_failing_input_is_named(rt: HostRuntime) {

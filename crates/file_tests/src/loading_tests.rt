@@ -1,8 +1,7 @@
-//! What no clause says of files: the checks on rows by hand, that calls succeed, many segments, and refused memory.
+//! What no clause says of files: the checks on rows by hand, that calls succeed, and many segments.
 
-use loader::{ElfFault, Image, Rights, Segment, load};
-use refusing::Refusing;
-use std::alloc::{AllocError, Allocator, Global};
+use loader::{ElfFault, Rights, load};
+use std::alloc::{AllocError, Global};
 
 /// A file of 128 bytes: two segments side by side, with bytes 1 to 12 behind the headers.
 const WORDS: [u32; 32] = [
@@ -356,61 +355,4 @@ fn many_segments_load(rt: HostRuntime) -> Result<(), AllocError> {
     let shared = many_segments(rt.alloc(), 0x0010_0000)?;
     assert_eq!(rt; load(rt.alloc(), &shared).err(), Some(ElfFault::Overlap));
     Ok(())
-}
-
-#[test]
-fn a_load_tells_each_refused_request(rt: HostRuntime) -> Result<(), AllocError> {
-    let file = patched(rt.alloc(), &[])?;
-    for passed in 0..100u64 {
-        let heap = Refusing::new(rt.alloc(), passed);
-        match load(&heap, &file) {
-            Ok(image) => assert_eq!(rt; image.segments().len(), 2, "at request {passed}"),
-            Err(fault) => {
-                assert_eq!(rt; fault, ElfFault::Memory, "at request {passed}");
-                assert!(rt; heap.refused(), "at request {passed}");
-            }
-        }
-        if !heap.refused() {
-            assert!(rt; passed > 0, "no memory is asked for");
-            return Ok(());
-        }
-    }
-    assert!(rt; false, "memory is asked for without end");
-    Ok(())
-}
-
-/// Two segments with a byte each.
-fn two_segments<A: Allocator + Copy>(alloc: A) -> Result<Vec<Segment<A>, A>, AllocError> {
-    let mut segments = Vec::new(alloc);
-    for base in [0x1000, 0x2000] {
-        segments.push(Segment {
-            base,
-            size: 4,
-            rights: Rights::READ,
-            bytes: Vec::from_slice(alloc, &[7])?,
-        })?;
-    }
-    Ok(segments)
-}
-
-#[test]
-fn an_image_tells_each_refused_request(rt: HostRuntime) {
-    for passed in 0..100u64 {
-        let heap = Refusing::new(rt.alloc(), passed);
-        let Ok(segments) = two_segments(&heap) else {
-            continue;
-        };
-        match Image::new(&heap, 0x1000, segments) {
-            Ok(image) => assert_eq!(rt; image.segments().len(), 2, "at request {passed}"),
-            Err(fault) => {
-                assert_eq!(rt; fault, ElfFault::Memory, "at request {passed}");
-                assert!(rt; heap.refused(), "at request {passed}");
-            }
-        }
-        if !heap.refused() {
-            assert!(rt; passed > 0, "no memory is asked for");
-            return;
-        }
-    }
-    assert!(rt; false, "memory is asked for without end");
 }

@@ -1,7 +1,6 @@
-//! What no clause says of symbols: the rule on rows by hand, that calls succeed, and refused memory.
+//! What no clause says of symbols: the rule on rows by hand, and that calls succeed.
 
 use loader::{SymFault, load, symbols};
-use refusing::Refusing;
 use std::alloc::{AllocError, Global};
 
 /// A file of 232 bytes: a null section, a symbol table at 172 with three symbols, its names at 220; then 4 bytes.
@@ -204,26 +203,5 @@ fn faults_have_texts(rt: HostRuntime) -> Result<(), AllocError> {
     for (fault, text) in rows {
         assert_eq!(rt; fault.to_string(rt.alloc())?.as_str(), text);
     }
-    Ok(())
-}
-
-#[test]
-fn each_refused_request_is_told(rt: HostRuntime) -> Result<(), AllocError> {
-    let file = patched(rt.alloc(), &[])?;
-    for passed in 0..100u64 {
-        let heap = Refusing::new(rt.alloc(), passed);
-        match symbols(&heap, &file) {
-            Ok(found) => assert_eq!(rt; found.len(), 2, "at request {passed}"),
-            Err(fault) => {
-                assert_eq!(rt; fault, SymFault::Memory, "at request {passed}");
-                assert!(rt; heap.refused(), "at request {passed}");
-            }
-        }
-        if !heap.refused() {
-            assert!(rt; passed > 0, "no memory is asked for");
-            return Ok(());
-        }
-    }
-    assert!(rt; false, "memory is asked for without end");
     Ok(())
 }
