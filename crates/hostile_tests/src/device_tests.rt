@@ -135,8 +135,8 @@ const COMMANDS: &[u8] = b"where\nsteps 0 1\nback\nquit\n";
 const ANSWERS: &str = "step 0 of 2\n0 h0 00010000 addi a7, zero, 93\npast end\n";
 
 // What the answer of a run, a campaign or a view of a file tells.
-fn told(result: Result<Status, RunFault>) -> Outcome {
-    match result {
+fn told(answer: Result<Status, RunFault>) -> Outcome {
+    match answer {
         Ok(Status::Done) => Outcome::Full,
         Err(RunFault::Read(Input::File)) => Outcome::Failed(Device::Program),
         Err(RunFault::Read(Input::Choices)) => Outcome::Failed(Device::Schedule),
