@@ -21,10 +21,11 @@ map_within harts f each (x ∷ xs) =
     All-cons (λ (c : Choice). c.hart < harts) (f x) (map f xs) (each x) (map_within harts f each xs)
 
 turns_within : (harts steps : ℕ) → 0 < harts → All (λ c. c.hart < harts) (turns harts steps)
-turns_within harts steps some = map_within harts (λ i. plain_choice (i % harts)) (λ i. mod-lt i some) (range_with_len 0 steps)
+turns_within harts steps some =
+    map_within {A = ℕ} harts (λ i. plain_choice (i % harts)) (λ i. mod-lt i some) (range_with_len 0 steps)
 
 alone_within : (harts hart steps : ℕ) → hart < harts → All (λ c. c.hart < harts) (alone hart steps)
-alone_within harts hart steps there = map_within harts (λ i. plain_choice hart) (λ i. there) (range_with_len 0 steps)
+alone_within harts hart steps there = map_within {A = ℕ} harts (λ i. plain_choice hart) (λ i. there) (range_with_len 0 steps)
 
 word_within : (harts word : ℕ) → 0 < harts → (choice_of_word harts word).hart < harts
 unfolding choice_of_word
@@ -32,7 +33,8 @@ word_within harts word some = mod-lt word some
 
 drawn_within : (harts steps : ℕ) (g : Lcg) → 0 < harts → All (λ c. c.hart < harts) (choices_drawn harts steps g)
 unfolding choices_drawn
-drawn_within harts steps g some = map_within harts (choice_of_word harts) (λ w. word_within harts w some) (first_words pcg32 steps g)
+drawn_within harts steps g some =
+    map_within {A = ℕ} harts (choice_of_word harts) (λ w. word_within harts w some) (first_words pcg32 steps g)
 
 pub seeded_within : (harts steps seed : ℕ) → 0 < harts → All (λ c. c.hart < harts) (seeded_choices harts steps seed)
 seeded_within harts steps seed some = drawn_within harts steps (generator_of seed) some

@@ -15,7 +15,7 @@ use Rattle.campaigns.specs.Campaign.{plain_run}
 use Rattle.devices.specs.declared.status.Status.{Status}
 use Rattle.devices.specs.declared.status.Status.TheVariants as status
 use Rattle.schedule_engine.specs.declared.plan.Maker.{Maker}
-use Rattle.schedule_engine.specs.declared.plan.Maker.TheVariants as maker
+use Rattle.schedule_engine.specs.declared.plan.Maker.TheVariants as makers
 use Rattle.schedule_engine.specs.declared.plan.SchedulePlan.{SchedulePlan}
 use Rattle.schedule_engine.specs.declared.fault.ScheduleFault.{ScheduleFault}
 use Rattle.schedule_engine.specs.declared.fault.ScheduleFault.TheVariants as fault
@@ -26,9 +26,9 @@ Scheduled = Result (List Choice) ScheduleFault
 
 -- so many choices of so many harts
 abbrev pub made : Maker → ℕ → ℕ → Scheduled
-made maker.Turns harts steps = Ok (turns harts steps)
-made (maker.Only hart) harts steps = if nat_lt hart harts then Ok (alone hart steps) else Err fault.NoHart
-made (maker.Seed seed) harts steps = Ok (seeded_choices harts steps seed)
+made makers.Turns harts steps = Ok (turns harts steps)
+made (makers.Only hart) harts steps = if nat_lt hart harts then Ok (alone hart steps) else Err fault.NoHart
+made (makers.Seed seed) harts steps = Ok (seeded_choices harts steps seed)
 
 -- the list of a plan: the number of harts is looked at first
 unfoldable pub schedule_of : SchedulePlan → Scheduled
