@@ -125,7 +125,8 @@ fn texts_of_seeds_run_as_their_campaigns_do(rt: HostRuntime) {
 
 #[test]
 fn failing_sinks_are_told(rt: HostRuntime) {
-    let result = schedule_engine(rt.alloc(), plan(2, 3, Maker::Turns), &mut FullSink::new());
+    let mut sink = FullSink::new();
+    let result = schedule_engine(rt.alloc(), plan(2, 3, Maker::Turns), &mut sink);
     assert_eq!(rt; result, Err(ScheduleFault::Write));
 }
 
