@@ -12,7 +12,7 @@ use scheduler::{round_robin, seeded, solo};
 use std::alloc::{AllocError, Allocator};
 
 // So many choices of so many harts.
-#[tactic(auto, using(crate::proofs::ScheduleLemmas::turns_there, crate::proofs::ScheduleLemmas::alone_there, crate::proofs::ScheduleLemmas::seeded_there))]
+#[tactic(auto, using(crate::proofs::ScheduleLemmas::turns_there, crate::proofs::ScheduleLemmas::seeded_there))]
 fn made<A: Allocator>(
     alloc: A,
     maker: Maker,
