@@ -1,21 +1,26 @@
-//! Every schedule of two harts, step by step. A state is what the two harts and their data words are, and how often hart 0
-//! was chosen; schedules that lead to the same state go on as one, and how many they are is counted.
+//! Every schedule of two harts, step by step. A state is what the two harts and their data words are; schedules that have chosen each
+//! hart as often and lead to the same state go on as one, and how many they are is counted.
 
 use hart_step::{Hart, HartState};
-use loader::Image;
 use machine::{Choice, Machine, StartFault};
 use memory::{FlatStore, Store};
 use protocol_library::{Kind, Verdict, judge, make_image};
 use std::alloc::{AllocError, Allocator};
 
-// A state, one schedule that leads to it, and how many there are.
+// Schedules are counted modulo this prime.
+const MODULUS: u64 = 1_000_000_007;
+
+// A state, how often each hart was chosen on the way to it, and how many schedules lead to it.
 #[derive(Drop)]
 struct Place<A: Allocator> {
-    choices: Vec<Choice, A>,
-    harts: Vec<Hart, A>,
+    machine: Machine<FlatStore<A>, A>,
     data: Vec<u32, A>,
+    chosen: [usize; 2],
     schedules: u64,
 }
+
+// The places that schedules of one length lead to, by how often they have chosen hart 0.
+type Places<A> = Vec<Vec<Place<A>, A>, A>;
 
 // A word of the data, where all are mapped.
 fn word_at<S: Store>(store: &S, address: u32) -> u32 {
@@ -37,81 +42,104 @@ fn data_of<S: Store, A: Allocator>(alloc: A, store: &S) -> Result<Vec<u32, A>, A
     Ok(data)
 }
 
-// How often a hart is chosen.
-fn own(choices: &[Choice], hart: usize) -> usize {
-    choices
-        .iter()
-        .filter(|choice| choice.hart as usize == hart)
-        .count()
-}
-
-// The place that a schedule leads to.
-fn place_after<A: Allocator + Copy>(
-    alloc: A,
-    image: &Image<A>,
-    inputs: &[u32],
-    choices: Vec<Choice, A>,
-    schedules: u64,
-) -> Result<Place<A>, AllocError> {
+// The place before any choice.
+fn first_place<A: Allocator + Copy>(alloc: A, search: &Search) -> Result<Place<A>, AllocError> {
+    let image = make_image(alloc, search.kind)?;
     let started: Result<Machine<FlatStore<A>, A>, StartFault> = Machine::start(
-        alloc, image, inputs,
+        alloc,
+        &image,
+        &search.inputs,
     );
-    let Ok(mut machine) = started else {
+    let Ok(machine) = started else {
         return Err(AllocError);
     };
-    for choice in choices.iter() {
-        if (choice.hart as usize) < machine.harts() {
-            machine.step(*choice)?;
-        }
-    }
-    let harts = Vec::from_slice(alloc, machine.ends())?;
     let data = data_of(alloc, machine.store())?;
     Ok(Place {
-        choices,
-        harts,
+        machine,
         data,
-        schedules,
+        chosen: [0, 0],
+        schedules: 1,
+    })
+}
+
+// The place that one more choice of a hart leads to.
+fn place_after<A: Allocator + Copy>(
+    alloc: A,
+    place: &Place<A>,
+    hart: u32,
+) -> Result<Place<A>, AllocError> {
+    let mut machine = place.machine.copy(alloc)?;
+    if (hart as usize) < machine.harts() {
+        machine.step(Choice {
+            hart,
+            refuse: false,
+        })?;
+    }
+    let data = data_of(alloc, machine.store())?;
+    let mut chosen = place.chosen;
+    if let Some(often) = chosen.get_mut(hart as usize) {
+        *often = often.wrapping_add(1);
+    }
+    Ok(Place {
+        machine,
+        data,
+        chosen,
+        schedules: place.schedules,
     })
 }
 
 // Adds a place, or the number of its schedules to the place of the same state.
 fn add_place<A: Allocator>(
-    places: &mut Vec<Place<A>, A>,
+    column: &mut Vec<Place<A>, A>,
     place: Place<A>,
 ) -> Result<(), AllocError> {
-    let first = own(&place.choices, 0);
-    for known in places.iter_mut() {
-        if known.harts.as_slice() == place.harts.as_slice()
+    for known in column.iter_mut() {
+        if known.machine.ends() == place.machine.ends()
             && known.data.as_slice() == place.data.as_slice()
-            && own(&known.choices, 0) == first
         {
-            known.schedules = known.schedules.saturating_add(place.schedules);
+            known.schedules = known.schedules.wrapping_add(place.schedules) % MODULUS;
             return Ok(());
         }
     }
-    places.push(place)?;
+    column.push(place)?;
+    Ok(())
+}
+
+// Adds the places one choice of a hart further, where it was chosen less often than its bound says.
+fn add_places<A: Allocator + Copy>(
+    alloc: A,
+    column: &mut Vec<Place<A>, A>,
+    places: &[Place<A>],
+    hart: u32,
+    bound: usize,
+) -> Result<(), AllocError> {
+    for place in places {
+        if place
+            .chosen
+            .get(hart as usize)
+            .is_some_and(|often| *often < bound)
+        {
+            add_place(column, place_after(alloc, place, hart)?)?;
+        }
+    }
     Ok(())
 }
 
 // The places that are one choice further.
 fn next_places<A: Allocator + Copy>(
     alloc: A,
-    image: &Image<A>,
-    inputs: &[u32],
-    places: &[Place<A>],
-) -> Result<Vec<Place<A>, A>, AllocError> {
+    places: &[Vec<Place<A>, A>],
+    bound: usize,
+) -> Result<Places<A>, AllocError> {
     let mut next = Vec::new(alloc);
-    for place in places {
-        for hart in 0..2 {
-            let mut choices = Vec::from_slice(alloc, place.choices.as_slice())?;
-            choices.push(Choice {
-                hart,
-                refuse: false,
-            })?;
-            let further = place_after(alloc, image, inputs, choices, place.schedules)?;
-            add_place(&mut next, further)?;
-        }
+    let mut column = Vec::new(alloc);
+    for known in places {
+        add_places(alloc, &mut column, known.as_slice(), 1, bound)?;
+        next.push(column)?;
+        column = Vec::new(alloc);
+        add_places(alloc, &mut column, known.as_slice(), 0, bound)?;
     }
+    next.push(column)?;
     Ok(next)
 }
 
@@ -122,81 +150,109 @@ fn has_exited(hart: &Hart) -> bool {
     }
 }
 
-// What is gone through of an object: so many choices, and the bound on a hart's own.
-#[derive(Clone, Copy)]
+// Whether the rule is kept at a place, and a hart that was chosen as often as its bound says has exited. Of the choices the rule asks
+// which harts they name, so one of each does.
+fn is_kept<A: Allocator>(search: &Search, place: &Place<A>) -> bool {
+    let [first, second] = place.chosen;
+    let harts = place.machine.ends();
+    let ended = harts
+        .iter()
+        .zip(place.chosen)
+        .all(|(hart, often)| often < search.bound || has_exited(hart));
+    let choices = [0, 1].map(|hart| Choice {
+        hart,
+        refuse: false,
+    });
+    let chosen = match (first > 0, second > 0) {
+        (true, true) => &choices[..],
+        (true, false) => &choices[..1],
+        (false, true) => &choices[1..],
+        (false, false) => &choices[..0],
+    };
+    ended && judge(search.kind, &search.inputs, chosen, harts) == Verdict::Kept
+}
+
+// What is gone through of an object: its inputs, the bound on a hart's own choices, after which it has exited, and how many choices.
 struct Search {
     kind: Kind,
     inputs: [u32; 2],
-    choices: u32,
     bound: usize,
+    choices: u32,
     schedules: u64,
 }
 
-// All schedules of 30 choices of Swap and Add, and of 60 of AdoptCommit and Rounds: in some a hart has exited beside one that is
-// still in an object. More of them take longer than a test may.
-const SEARCHES: [Search; 4] = [
-    Search {
-        kind: Kind::Swap,
-        inputs: [7, 9],
-        choices: 30,
-        bound: 15,
-        schedules: 1 << 30,
-    },
-    Search {
-        kind: Kind::Add,
-        inputs: [7, 9],
-        choices: 30,
-        bound: 15,
-        schedules: 1 << 30,
-    },
-    Search {
-        kind: Kind::AdoptCommit,
-        inputs: [0, 0xffff_ffff],
-        choices: 60,
-        bound: 47,
-        schedules: 1 << 60,
-    },
-    Search {
-        kind: Kind::Rounds,
-        inputs: [0, 0xffff_ffff],
-        choices: 60,
-        bound: 194,
-        schedules: 1 << 60,
-    },
-];
+// A hart is chosen as often as its bound says and no more, since it has exited then and a further choice changes nothing. So of Swap, Add
+// and AdoptCommit these are all schedules, `(2 * bound)! / (bound! * bound!)`. Of Rounds they are the `2 ^ 140` of 140 choices, after which
+// both harts have exited in some.
+const SWAP: Search = Search {
+    kind: Kind::Swap,
+    inputs: [7, 9],
+    bound: 15,
+    choices: 30,
+    schedules: 155_117_520,
+};
 
-// In each state that these schedules and their beginnings reach the rule is kept, and a hart that was chosen as often as its bound
-// says has exited.
-#[test]
-fn every_schedule_of_two_harts_keeps_the_rule(rt: HostRuntime) {
-    for search in SEARCHES {
-        let Ok(image) = make_image(rt.alloc(), search.kind) else {
-            return assert!(rt; false, "no memory for the image");
-        };
-        let none = Vec::new(rt.alloc());
-        let Ok(begin) = place_after(rt.alloc(), &image, &search.inputs, none, 1) else {
-            return assert!(rt; false, "no memory for the start");
-        };
-        let mut places = Vec::new(rt.alloc());
-        assert!(rt; places.push(begin).is_ok());
-        for _ in 0..search.choices {
-            match next_places(rt.alloc(), &image, &search.inputs, places.as_slice()) {
-                Ok(next) => places = next,
-                Err(_) => return assert!(rt; false, "no memory for a step"),
-            }
-            for place in places.iter() {
-                let harts = place.harts.as_slice();
-                let verdict = judge(search.kind, &search.inputs, &place.choices, harts);
-                assert_eq!(rt; verdict, Verdict::Kept);
-                for (number, hart) in harts.iter().enumerate() {
-                    let often = own(&place.choices, number) >= search.bound;
-                    assert!(rt; !often || has_exited(hart));
-                }
-            }
+const ADD: Search = Search {
+    kind: Kind::Add,
+    inputs: [7, 9],
+    bound: 15,
+    choices: 30,
+    schedules: 155_117_520,
+};
+
+const ADOPT_COMMIT: Search = Search {
+    kind: Kind::AdoptCommit,
+    inputs: [0, 0xffff_ffff],
+    bound: 47,
+    choices: 94,
+    schedules: 791_779_091,
+};
+
+const ROUNDS: Search = Search {
+    kind: Kind::Rounds,
+    inputs: [0, 0xffff_ffff],
+    bound: 194,
+    choices: 140,
+    schedules: 373798577,
+};
+
+// Goes through the schedules of a search, and answers how many there are: in each state that they and their beginnings reach the rule is
+// kept, and a hart that was chosen as often as its bound says has exited. `None`: in one of them it is not so.
+fn schedules_of<A: Allocator + Copy>(alloc: A, search: &Search) -> Result<Option<u64>, AllocError> {
+    let mut column = Vec::new(alloc);
+    column.push(first_place(alloc, search)?)?;
+    let mut places = Vec::new(alloc);
+    places.push(column)?;
+    for _ in 0..search.choices {
+        places = next_places(alloc, places.as_slice(), search.bound)?;
+        if !places.iter().flatten().all(|place| is_kept(search, place)) {
+            return Ok(None);
         }
-        let schedules = places
-            .iter()
-            .fold(0u64, |sum, place| sum.saturating_add(place.schedules));
-        assert_eq!(rt; schedules, search.schedules);
     }
+    let sum = |sum: u64, place: &Place<A>| sum.wrapping_add(place.schedules) % MODULUS;
+    Ok(Some(places.iter().flatten().fold(0, sum)))
+}
+
+#[test]
+fn every_schedule_of_swap_keeps_the_rule(rt: HostRuntime) {
+    let found = schedules_of(rt.alloc(), &SWAP);
+    assert_eq!(rt; found.ok().flatten(), Some(SWAP.schedules));
+}
+
+#[test]
+fn every_schedule_of_add_keeps_the_rule(rt: HostRuntime) {
+    let found = schedules_of(rt.alloc(), &ADD);
+    assert_eq!(rt; found.ok().flatten(), Some(ADD.schedules));
+}
+
+#[test]
+fn every_schedule_of_adopt_commit_keeps_the_rule(rt: HostRuntime) {
+    let found = schedules_of(rt.alloc(), &ADOPT_COMMIT);
+    assert_eq!(rt; found.ok().flatten(), Some(ADOPT_COMMIT.schedules));
+}
+
+#[test]
+fn every_schedule_of_rounds_keeps_the_rule(rt: HostRuntime) {
+    let found = schedules_of(rt.alloc(), &ROUNDS);
+    assert_eq!(rt; found.ok().flatten(), Some(ROUNDS.schedules));
 }

@@ -64,12 +64,16 @@ fn does_again<A: Allocator + Copy>(alloc: A, book: &Book<A>, choices: &[Choice])
     machine.ends() == book.machine().ends()
 }
 
-// An object, and its harts' inputs.
-const OBJECTS: [(Kind, &[u32]); 6] = [
+// An object of consensus, and its harts' inputs.
+const CONSENSUS: [(Kind, &[u32]); 4] = [
     (Kind::Swap, &[7, 9]),
     (Kind::Add, &[4, 6]),
     (Kind::LrSc, &[3, 5, 7, 9]),
     (Kind::LrSc, &[1, 2, 3, 4, 5, 6, 7, 8]),
+];
+
+// An object of adopt-commit, and its harts' inputs.
+const ADOPT_COMMIT: [(Kind, &[u32]); 2] = [
     (Kind::AdoptCommit, &[2, 2, 5]),
     (Kind::Rounds, &[2, 2, 5]),
 ];
@@ -132,8 +136,18 @@ fn kept<A: Allocator + Copy + Send + Sync, R: Threads + Wait + Sync>(
 }
 
 #[test]
-fn objects_keep_their_rules(rt: HostRuntime) {
-    for (kind, inputs) in OBJECTS {
+fn objects_of_consensus_keep_their_rule(rt: HostRuntime) {
+    for (kind, inputs) in CONSENSUS {
+        for number in 0..RUNS {
+            let found = kept(&rt, rt.alloc(), kind, inputs, &pairs_of(number, 9));
+            assert_eq!(rt; found, Ok(()), "{kind:?}, run {number}");
+        }
+    }
+}
+
+#[test]
+fn objects_of_adopt_commit_keep_their_rule(rt: HostRuntime) {
+    for (kind, inputs) in ADOPT_COMMIT {
         for number in 0..RUNS {
             let found = kept(&rt, rt.alloc(), kind, inputs, &pairs_of(number, 9));
             assert_eq!(rt; found, Ok(()), "{kind:?}, run {number}");
