@@ -150,26 +150,34 @@ fn has_exited(hart: &Hart) -> bool {
     }
 }
 
-// Whether the rule is kept at a place, and a hart that was chosen as often as its bound says has exited. Of the choices the rule asks
-// which harts they name, so one of each does.
-fn is_kept<A: Allocator>(search: &Search, place: &Place<A>) -> bool {
-    let [first, second] = place.chosen;
-    let harts = place.machine.ends();
-    let ended = harts
-        .iter()
-        .zip(place.chosen)
-        .all(|(hart, often)| often < search.bound || has_exited(hart));
-    let choices = [0, 1].map(|hart| Choice {
+fn choice_of(hart: u32) -> Choice {
+    Choice {
         hart,
         refuse: false,
-    });
-    let chosen = match (first > 0, second > 0) {
-        (true, true) => &choices[..],
-        (true, false) => &choices[..1],
-        (false, true) => &choices[1..],
-        (false, false) => &choices[..0],
-    };
-    ended && judge(search.kind, &search.inputs, chosen, harts) == Verdict::Kept
+    }
+}
+
+// The verdict on harts of which each was chosen so often. Of the choices the rule asks which harts they name, so one of each does.
+fn verdict_on(search: &Search, chosen: [usize; 2], harts: &[Hart]) -> Verdict {
+    let [first, second] = chosen;
+    let [a, b] = [choice_of(0), choice_of(1)];
+    match (first > 0, second > 0) {
+        (true, true) => judge(search.kind, &search.inputs, &[a, b], harts),
+        (true, false) => judge(search.kind, &search.inputs, &[a], harts),
+        (false, true) => judge(search.kind, &search.inputs, &[b], harts),
+        (false, false) => judge(search.kind, &search.inputs, &[], harts),
+    }
+}
+
+// Whether the rule is kept at a place, and a hart that was chosen as often as its bound says has exited.
+fn is_kept<A: Allocator>(search: &Search, place: &Place<A>) -> bool {
+    let harts = place.machine.ends();
+    for (hart, often) in harts.iter().zip(place.chosen) {
+        if often >= search.bound && !has_exited(hart) {
+            return false;
+        }
+    }
+    verdict_on(search, place.chosen, harts) == Verdict::Kept
 }
 
 // What is gone through of an object: its inputs, the bound on a hart's own choices, after which it has exited, and how many choices.
