@@ -1,13 +1,17 @@
 -- The command `campaign`.
 use Rattle.std.specs.Prelude.{◌≡◌, List, [], ◌∷◌, Some, codes, option_map}
 use Rattle.clap.specs.Words.{App, Row, Text, first_of, new_app, with_rule}
-use Rattle.command_line.specs.Arguments.{needed, needed_option, optional}
+use Rattle.clap.specs.Walk.{one_of}
+use Rattle.command_line.specs.Arguments.{flag, needed, needed_option, optional, IsSet}
 use Rattle.command_line.specs.declared.campaign_line.CampaignOrder.{CampaignOrder}
 
--- `campaign FILE --inputs L --first S --count C --steps N [--rule K]`
+-- `campaign FILE --inputs L --first S --count C --steps N [--rule K] [--failures] [--summary] [--outcomes]`
 abbrev pub campaign_app : App
 campaign_app =
     with_rule
+    (with_rule
+    (with_rule
+    (with_rule
     (with_rule
     (with_rule
     (with_rule
@@ -17,13 +21,16 @@ campaign_app =
     (needed_option (codes "first")))
     (needed_option (codes "count")))
     (needed_option (codes "steps")))
-    (optional (codes "rule"))
+    (optional (codes "rule")))
+    (flag (codes "failures")))
+    (flag (codes "summary")))
+    (flag (codes "outcomes"))
 
 -- the names of the texts that have to stand
 abbrev pub campaign_names : List Text
 campaign_names = codes "FILE" ∷ codes "inputs" ∷ codes "first" ∷ codes "count" ∷ codes "steps" ∷ []
 
--- each text of the order is the one that clap holds under its name
+-- each text of the order is the one that clap holds under its name, and so are the flags
 abbrev pub IsCampaign : List Row → CampaignOrder → Type 0
 IsCampaign rows order =
     (first_of (codes "FILE") rows ≡ Some order.file.now)
@@ -32,3 +39,6 @@ IsCampaign rows order =
     × (first_of (codes "count") rows ≡ Some order.count.now)
     × (first_of (codes "steps") rows ≡ Some order.steps.now)
     × (first_of (codes "rule") rows ≡ option_map (λ s. s.now) order.rule)
+    × IsSet (one_of (codes "failures") rows) order.failures
+    × IsSet (one_of (codes "summary") rows) order.summary
+    × IsSet (one_of (codes "outcomes") rows) order.outcomes

@@ -7,6 +7,7 @@ pub mod FileLine
 pub mod ReplayLine
 pub mod RunLine
 pub mod ScheduleLine
+pub mod ShrinkLine
 pub mod ThreadsLine
 pub mod Line
 pub mod Numbers

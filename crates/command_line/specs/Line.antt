@@ -10,6 +10,7 @@ use Rattle.command_line.specs.FileLine.{file_app, file_names, IsFile}
 use Rattle.command_line.specs.ReplayLine.{replay_app, replay_names, IsReplay}
 use Rattle.command_line.specs.RunLine.{run_app, run_names, IsRun}
 use Rattle.command_line.specs.ScheduleLine.{schedule_app, schedule_names, IsSchedule}
+use Rattle.command_line.specs.ShrinkLine.{shrink_app, shrink_names, IsShrink}
 use Rattle.command_line.specs.ThreadsLine.{threads_app, threads_names, IsThreads}
 use Rattle.command_line.specs.declared.line.Order.{Order}
 use Rattle.command_line.specs.declared.line.Order.TheVariants as order
@@ -32,6 +33,7 @@ program_app =
     (with_subcommand
     (with_subcommand
     (with_subcommand
+    (with_subcommand
     (with_subcommand bare_app asm_app.top)
     (file_app (codes "list")).top)
     (file_app (codes "info")).top)
@@ -41,7 +43,8 @@ program_app =
     replay_app.top)
     lib_app.top)
     campaign_app.top)
-    schedule_app.top
+    schedule_app.top)
+    shrink_app.top
 
 -- the order is the command that clap met, with its matches
 abbrev pub IsOrder : Option (Text × List Row) → Order → Type 0
@@ -56,6 +59,7 @@ IsOrder (Some found) (order.Replay o) = (found.0 ≡ codes "replay") × IsReplay
 IsOrder (Some found) (order.Lib o) = (found.0 ≡ codes "lib") × IsLib found.1 o
 IsOrder (Some found) (order.Campaign o) = (found.0 ≡ codes "campaign") × IsCampaign found.1 o
 IsOrder (Some found) (order.Schedule o) = (found.0 ≡ codes "schedule") × IsSchedule found.1 o
+IsOrder (Some found) (order.Shrink o) = (found.0 ≡ codes "shrink") × IsShrink found.1 o
 
 -- the matches are of no command of plain texts, or lack a text of it
 pub record IsNoPlain (name : Text) (rows : List Row) : Type 0 where
@@ -68,6 +72,7 @@ pub record IsNoPlain (name : Text) (rows : List Row) : Type 0 where
   pub of_lib : name ≡ codes "lib" → holds_all lib_names rows ≡ false
   pub of_campaign : name ≡ codes "campaign" → holds_all campaign_names rows ≡ false
   pub of_schedule : name ≡ codes "schedule" → holds_all schedule_names rows ≡ false
+  pub of_shrink : name ≡ codes "shrink" → holds_all shrink_names rows ≡ false
 
 -- clap met no command, or one that lacks a text that has to stand
 abbrev pub HasNoOrder : Option (Text × List Row) → Type 0

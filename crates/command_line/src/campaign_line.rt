@@ -6,13 +6,14 @@ ghost use Rattle.clap.specs.declared.builder.command.Command.TheViews.{out-Comma
 ghost use Rattle.command_line.specs.Arguments.{holds_all};
 ghost use Rattle.command_line.specs.CampaignLine.{campaign_app, campaign_names, IsCampaign};
 
-use crate::arguments::{add, headed, needed, needed_option, optional, text_of};
+use crate::arguments::{add, flag, headed, is_set, needed, needed_option, optional, text_of};
 use crate::help::{INPUTS, RULE};
 use clap::{ArgMatches, Command};
 use std::alloc::{AllocError, Global};
 
-/// `campaign FILE --inputs L --first S --count C --steps N [--rule K]`: runs a program under a random schedule for each of C
-/// seeds from S on, and prints a line for each, with a rule also its verdict.
+/// `campaign FILE --inputs L --first S --count C --steps N [--rule K] [--failures] [--summary] [--outcomes]`: runs a program under a
+/// random schedule for each of C seeds from S on, and prints a line for each, with a rule also its verdict; or the lines of bad seeds
+/// alone, or how many seeds end in which way.
 #[derive(Debug, Drop)]
 pub struct CampaignOrder<'a> {
     /// The program's path.
@@ -27,6 +28,12 @@ pub struct CampaignOrder<'a> {
     pub steps: &'a str,
     /// The name of the object whose rule is judged.
     pub rule: Option<&'a str>,
+    /// Whether the lines of bad seeds alone are printed.
+    pub failures: bool,
+    /// Whether it is printed how many seeds end in which way.
+    pub summary: bool,
+    /// Whether ways of ending differ by the harts' results too.
+    pub outcomes: bool,
 }
 
 /// The command as clap takes it.
@@ -48,7 +55,27 @@ pub(crate) fn campaign_command<'a>(alloc: Global) -> Result<Command<'a>, AllocEr
         command,
         needed_option(alloc, "steps", "how many steps for each seed"),
     )?;
-    add(command, optional(alloc, "rule", RULE))
+    let command = add(command, optional(alloc, "rule", RULE))?;
+    let command = add(
+        command,
+        flag(alloc, "failures", "print the lines of bad seeds alone"),
+    )?;
+    let command = add(
+        command,
+        flag(
+            alloc,
+            "summary",
+            "print how many seeds end in which way, in place of a line for each",
+        ),
+    )?;
+    add(
+        command,
+        flag(
+            alloc,
+            "outcomes",
+            "with --summary: tell ends apart by each hart's a0 and a1 too",
+        ),
+    )
 }
 
 /// The order that clap's matches hold.
@@ -64,5 +91,8 @@ pub(crate) fn campaign_order<'a>(matches: &ArgMatches<'a>) -> Option<CampaignOrd
         count: text_of(matches, "count")?,
         steps: text_of(matches, "steps")?,
         rule: text_of(matches, "rule"),
+        failures: is_set(matches, "failures"),
+        summary: is_set(matches, "summary"),
+        outcomes: is_set(matches, "outcomes"),
     })
 }

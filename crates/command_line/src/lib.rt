@@ -14,6 +14,7 @@ pub use plan::read_plan;
 pub use replay_line::ReplayOrder;
 pub use run_line::RunOrder;
 pub use schedule_line::ScheduleOrder;
+pub use shrink_line::ShrinkOrder;
 pub use threads_line::ThreadsOrder;
 
 mod arguments;
@@ -31,4 +32,5 @@ mod plan;
 mod replay_line;
 mod run_line;
 mod schedule_line;
+mod shrink_line;
 mod threads_line;

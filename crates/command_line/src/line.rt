@@ -13,6 +13,7 @@ use crate::lib_line::{LibOrder, lib_command, lib_order};
 use crate::replay_line::{ReplayOrder, replay_command, replay_order};
 use crate::run_line::{RunOrder, run_command, run_order};
 use crate::schedule_line::{ScheduleOrder, schedule_command, schedule_order};
+use crate::shrink_line::{ShrinkOrder, shrink_command, shrink_order};
 use crate::threads_line::{ThreadsOrder, threads_command, threads_order};
 use clap::error::ErrorKind;
 use clap::{ArgMatches, Command};
@@ -41,6 +42,8 @@ pub enum Order<'a> {
     Campaign(CampaignOrder<'a>),
     /// `schedule`
     Schedule(ScheduleOrder<'a>),
+    /// `shrink`
+    Shrink(ShrinkOrder<'a>),
 }
 
 /// Why a command line gives no order.
@@ -84,7 +87,8 @@ fn program<'a>(alloc: Global) -> Result<Command<'a>, AllocError>
     let program = add_command(program, replay_command(alloc))?;
     let program = add_command(program, lib_command(alloc))?;
     let program = add_command(program, campaign_command(alloc))?;
-    add_command(program, schedule_command(alloc))
+    let program = add_command(program, schedule_command(alloc))?;
+    add_command(program, shrink_command(alloc))
 }
 
 // The order of a command of plain texts, by its name and its matches.
@@ -103,6 +107,7 @@ fn plain_order<'a>(name: &str, found: &ArgMatches<'a>) -> Option<Order<'a>>
         "lib" => Some(Order::Lib(lib_order(found)?)),
         "campaign" => Some(Order::Campaign(campaign_order(found)?)),
         "schedule" => Some(Order::Schedule(schedule_order(found)?)),
+        "shrink" => Some(Order::Shrink(shrink_order(found)?)),
         _ => None,
     }
 }

@@ -10,7 +10,10 @@ returns-clause-app c =
     let first = c.in_ok-command-3.ensures.app ∙ ap₂ with_rule inputs c.needed_option-2.ensures.rule in
     let count = c.in_ok-command-4.ensures.app ∙ ap₂ with_rule first c.needed_option-3.ensures.rule in
     let steps = c.in_ok-command-5.ensures.app ∙ ap₂ with_rule count c.needed_option-4.ensures.rule in
-    IfOk-weaker c.add-6.result _ _ (λ r last. last ∙ ap₂ with_rule steps c.optional.ensures.rule) c.add-6.ensures.app
+    let rule = c.in_ok-command-6.ensures.app ∙ ap₂ with_rule steps c.optional.ensures.rule in
+    let failures = c.in_ok-command-7.ensures.app ∙ ap₂ with_rule rule c.flag.ensures.rule in
+    let summary = c.in_ok-command-8.ensures.app ∙ ap₂ with_rule failures c.flag-2.ensures.rule in
+    IfOk-weaker c.add-9.result _ _ (λ r last. last ∙ ap₂ with_rule summary c.flag-3.ensures.rule) c.add-9.ensures.app
 
 pub returns-clause-local : goal.returns-clause-local
 returns-clause-local c =
@@ -19,4 +22,7 @@ returns-clause-local c =
     let first = c.in_ok-command-3.ensures.globals ∙ inputs in
     let count = c.in_ok-command-4.ensures.globals ∙ first in
     let steps = c.in_ok-command-5.ensures.globals ∙ count in
-    IfOk-weaker c.add-6.result _ _ (λ r last. last ∙ steps) c.add-6.ensures.globals
+    let rule = c.in_ok-command-6.ensures.globals ∙ steps in
+    let failures = c.in_ok-command-7.ensures.globals ∙ rule in
+    let summary = c.in_ok-command-8.ensures.globals ∙ failures in
+    IfOk-weaker c.add-9.result _ _ (λ r last. last ∙ summary) c.add-9.ensures.globals

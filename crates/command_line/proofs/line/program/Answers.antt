@@ -25,4 +25,5 @@ returns c =
     let replay = step _ _ _ _ _ threads c.in_ok-program-7.ensures.app c.replay_command.ensures.app in
     let lib = step _ _ _ _ _ replay c.in_ok-program-8.ensures.app c.lib_command.ensures.app in
     let campaign = step _ _ _ _ _ lib c.in_ok-program-9.ensures.app c.campaign_command.ensures.app in
-    IfOk-weaker c.add_command-10.result _ _ (λ r last. step _ _ _ r _ campaign last c.schedule_command.ensures.app) c.add_command-10.ensures.app
+    let schedule = step _ _ _ _ _ campaign c.in_ok-program-10.ensures.app c.schedule_command.ensures.app in
+    IfOk-weaker c.add_command-11.result _ _ (λ r last. step _ _ _ r _ schedule last c.shrink_command.ensures.app) c.add_command-11.ensures.app

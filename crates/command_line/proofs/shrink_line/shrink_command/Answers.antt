@@ -1,0 +1,18 @@
+use Rattle.std.proofs.Common.{ap₂, ◌∙◌}
+use Rattle.std.proofs.lemmas.Result.{IfOk-weaker}
+use Rattle.clap.specs.Words.{with_rule}
+use Rattle.command_line.proofs.shrink_line.shrink_command.Goals as goal
+
+pub returns-clause-app : goal.returns-clause-app
+returns-clause-app c =
+    let file = c.in_ok-command.ensures.app ∙ ap₂ with_rule c.headed-command.ensures.app c.needed.ensures.rule in
+    let inputs = c.in_ok-command-2.ensures.app ∙ ap₂ with_rule file c.needed_option.ensures.rule in
+    let choices = c.in_ok-command-3.ensures.app ∙ ap₂ with_rule inputs c.needed_option-2.ensures.rule in
+    IfOk-weaker c.add-4.result _ _ (λ r last. last ∙ ap₂ with_rule choices c.optional.ensures.rule) c.add-4.ensures.app
+
+pub returns-clause-local : goal.returns-clause-local
+returns-clause-local c =
+    let file = c.in_ok-command.ensures.globals ∙ c.headed-command.ensures.globals in
+    let inputs = c.in_ok-command-2.ensures.globals ∙ file in
+    let choices = c.in_ok-command-3.ensures.globals ∙ inputs in
+    IfOk-weaker c.add-4.result _ _ (λ r last. last ∙ choices) c.add-4.ensures.globals
