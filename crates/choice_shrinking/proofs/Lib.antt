@@ -1,0 +1,3 @@
+pub mod LessLemmas
+pub mod WeightLemmas
+pub mod NeededLemmas

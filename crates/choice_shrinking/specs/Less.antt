@@ -1,0 +1,23 @@
+-- When a list of choices is another with choices left out and marks taken away.
+use Rattle.std.specs.Prelude.{◌≡◌, ◌⊎◌, ℕ, ◌+◌, Bool, true, false, List, [], ◌∷◌}
+use Rattle.machine.specs.declared.choice.Choice.{Choice}
+
+-- a choice is of the hart of another, and has a mark only where that one has it
+abbrev pub IsSofter : Choice → Choice → Type 0
+IsSofter c given = (c.hart ≡ given.hart) × (c.refuse ≡ true → given.refuse ≡ true)
+
+-- a list is another with choices left out and marks taken away: each of its choices is one of the other's, in the same order
+unfoldable pub IsLess : List Choice → List Choice → Type 0
+IsLess [] given = Unit {0}
+IsLess (c ∷ choices) [] = ⊥
+IsLess (c ∷ choices) (d ∷ given) = (IsSofter c d × IsLess choices given) ⊎ IsLess (c ∷ choices) given
+
+-- a choice counts 1, and its mark 1 more
+abbrev pub weight_of : Bool → ℕ
+weight_of true = 2
+weight_of false = 1
+
+-- how many choices and marks there are
+unfoldable pub weight : List Choice → ℕ
+weight [] = 0
+weight (c ∷ choices) = weight_of c.refuse + weight choices

@@ -1,0 +1,3 @@
+pub mod Less
+pub mod Edits
+pub mod Minimal
