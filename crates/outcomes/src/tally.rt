@@ -1,0 +1,89 @@
+//! How many seeds have each outcome.
+
+ghost use Rattle.std.specs.Prelude.{◌≡◌, ◌==◌, ◌+◌, ◌<◌, ◌^◌, IfSome, OnOk, Some, [], length, slice_get};
+ghost use Rattle.outcomes.specs.Outcome.{outcome_of};
+ghost use Rattle.outcomes.specs.Tally.{add_seed, count_after, rows_of, seeds_in};
+
+use crate::outcome::Outcome;
+use indexmap::IndexMap;
+use std::alloc::{AllocError, Allocator};
+use std::hash::{BuildHasherDefault, FoldHasher};
+
+/// The seeds that have an outcome.
+#[derive(Clone, Copy, Debug, PartialEq, Eq)]
+pub struct SeedCount {
+    /// How many there are, 1 at least.
+    pub seeds: u64,
+    /// The first of them.
+    pub first: u64,
+}
+
+// The count of an outcome once one seed more has it.
+fn count_after(count: Option<SeedCount>, seed: u64) -> SeedCount
+    requires { IfSome count (λ c. c.seeds + 1 < 2 ^ 64) }
+    ensures { result ≡ count_after count seed }
+{
+    match count {
+        None => SeedCount {
+            seeds: 1,
+            first: seed,
+        },
+        Some(count) => SeedCount {
+            seeds: count.seeds + 1,
+            first: count.first,
+        },
+    }
+}
+
+/// How many seeds each outcome has, and which is the first of them. The outcomes stand in the order in which they came.
+#[derive(Drop)]
+pub struct Tally<A: Allocator> {
+    rows: IndexMap<Outcome<A>, SeedCount, BuildHasherDefault<FoldHasher>, A>,
+}
+
+impl<A: Allocator + Copy> Tally<A> {
+    /// A tally of no seed.
+    pub fn new(alloc: A) -> Tally<A>
+        ensures { rows_of result ≡ [] }
+    {
+        Tally {
+            rows: IndexMap::new(alloc),
+        }
+    }
+
+    /// Counts a seed under its outcome.
+    pub fn add(&mut self, outcome: Outcome<A>, seed: u64) -> Result<(), AllocError>
+        // Their number fits.
+        requires { seeds_in (rows_of self.old) + 1 < 2 ^ 64 }
+        ensures { OnOk result (rows_of self.new
+            ≡ add_seed (record { seed = seed; outcome = outcome_of outcome }) (rows_of self.old)) }
+    {
+        let count = count_after(self.rows.get(&outcome).copied(), seed);
+        self.rows.insert(outcome, count)?;
+        Ok(())
+    }
+
+    /// How many outcomes there are.
+    pub fn len(&self) -> usize
+        ensures { result ≡ length (rows_of self.now) }
+    {
+        self.rows.len()
+    }
+
+    /// Whether no seed is counted yet.
+    pub fn is_empty(&self) -> bool
+        ensures { result ≡ (length (rows_of self.now) == 0) }
+    {
+        self.rows.is_empty()
+    }
+
+    /// The outcome at a place in their order, from 0, with its seeds.
+    pub fn row(&self, place: usize) -> (&Outcome<A>, SeedCount)
+        requires { place < length (rows_of self.now) }
+        ensures { slice_get (rows_of self.now) place
+            ≡ Some (record { outcome = outcome_of result.0.now; count = result.1 }) }
+    {
+        let (outcome, count) = self.rows.get_index(place).unwrap();
+        (outcome, *count)
+    }
+}
