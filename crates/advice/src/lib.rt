@@ -1,0 +1,12 @@
+//! What words for a person share: the line that is meant, the mark under a part of it, the nearest of some names, and tables of sentences.
+#![tactic(auto)]
+
+pub use mark::push_mark;
+pub use names::nearest;
+pub use source_line::{line_at, push_line};
+pub use table::told_of;
+
+mod mark;
+mod names;
+mod source_line;
+mod table;
