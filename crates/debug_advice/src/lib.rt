@@ -1,0 +1,14 @@
+//! The debugger for a person at a terminal: what is shown beside its answers.
+#![tactic(auto)]
+
+pub use greeting::GREETING;
+pub use lines::line_advice;
+pub use next::next_text;
+pub use prompt::Prompt;
+pub use stored::{StoredWord, watched_word, word_before};
+
+mod greeting;
+mod lines;
+mod next;
+mod prompt;
+mod stored;

@@ -1,0 +1,24 @@
+//! Items of choice texts and histories.
+
+// An item is shown up to so many bytes.
+const MOST_SHOWN: usize = 24;
+
+// Whether a byte stands between items.
+fn is_blank(byte: u8) -> bool {
+    matches!(byte, b' ' | b'\t' | b'\n' | b'\r')
+}
+
+/// The item that begins at a byte, up to 24 bytes of it; `?` where it is no text.
+pub fn item_at(text: &[u8], offset: usize) -> &str {
+    let (_, rest) = text.split_at(offset.min(text.len()));
+    let len = rest
+        .iter()
+        .take(MOST_SHOWN)
+        .take_while(|byte| !is_blank(**byte))
+        .count();
+    let (item, _) = rest.split_at(len.min(rest.len()));
+    match str::from_utf8(item) {
+        Ok(item) => item,
+        Err(_) => "?",
+    }
+}
