@@ -1,19 +1,37 @@
 //! Doing `campaign`.
 
-ghost use Rattle.std.specs.Prelude.{◌≡◌};
+ghost use Rattle.std.specs.Prelude.{◌≡◌, ◌+◌, ◌-◌, ◌<◌, ◌≤◌, ◌^◌};
 ghost use Rattle.rvcons.specs.Plans.{plan_of};
+ghost use Rattle.rvcons.specs.Tellings.{telling_of};
 
 use crate::audience::Audience;
+use crate::explain::{RunFiles, explain_run, read_again, show};
 use crate::report::{bad_line, cannot_open, cannot_read, refuse, say};
+use crate::watching::Watching;
+use choice_texts::print_choices;
 use command_line::{CampaignOrder, read_inputs, read_number, read_rule};
-use devices::{ReaderSource, Status, WriterSink};
+use devices::{ReaderSource, Sink, Source, Status, WriterSink};
 use engines::{CampaignPlan, campaign_engine};
-use programs::RunFault;
+use fault_advice::run_advice;
+use programs::{ProgramForm, RunFault};
 use progress::Progress;
 use protocol_library::Kind;
+use schedule_engine::{Maker, SchedulePlan, make_schedule};
 use std::rt::Files;
 use std::thread::Threads;
 use std::{fs, io};
+use summary_engine::{Detail, SummaryPlan, failures_engine, summary_engine};
+
+/// What is told of a campaign's seeds.
+#[derive(Clone, Copy, Debug, PartialEq, Eq)]
+pub(crate) enum Telling {
+    /// A line for each.
+    All,
+    /// The lines of bad ones alone.
+    Failures,
+    /// How many have each outcome.
+    Summary(Detail),
+}
 
 // Tells a person how far a campaign is.
 #[derive(Drop)]
@@ -64,6 +82,51 @@ fn read_campaign_plan(
     })
 }
 
+// What is told, where the options go together: not failures and a summary, and outcomes only in a summary.
+fn read_telling(failures: bool, summary: bool, outcomes: bool) -> Option<Telling>
+    ensures { result ≡ telling_of failures summary outcomes }
+{
+    match (failures, summary, outcomes) {
+        (false, false, false) => Some(Telling::All),
+        (true, false, false) => Some(Telling::Failures),
+        (false, true, false) => Some(Telling::Summary(Detail::Ends)),
+        (false, true, true) => Some(Telling::Summary(Detail::Results)),
+        _ => None,
+    }
+}
+
+// Runs a program under the schedule of each seed of a plan, and tells of them.
+fn tell_runs<R: AllocGlobal + Eprint + Threads + Sync, P: Source, K: Sink>(
+    rt: &R,
+    telling: Telling,
+    inputs: &[u32],
+    plan: CampaignPlan,
+    program: &mut P,
+    sink: &mut K,
+    line: &mut Line<R>,
+) -> Result<Status, RunFault>
+    requires fits { plan.first + plan.count ≤ 2 ^ 64 }
+    requires program_counts { P.failures program.old < 2 ^ 64 - 1 }
+    requires sink_counts { K.failures sink.old < 2 ^ 64 - 1 }
+{
+    match telling {
+        Telling::All => campaign_engine(rt, rt.alloc(), inputs, plan, program, sink, line),
+        Telling::Failures => failures_engine(rt, rt.alloc(), inputs, plan, program, sink, line),
+        Telling::Summary(detail) => {
+            let plan = SummaryPlan { runs: plan, detail };
+            summary_engine(rt, rt.alloc(), inputs, plan, program, sink, line)
+        }
+    }
+}
+
+// What a bad seed is, for a person.
+fn what_is_bad(rule: Option<Kind>) -> &'static str {
+    match rule {
+        None => "with a fault",
+        Some(_) => "with a broken rule",
+    }
+}
+
 /// Runs a program under the schedule of each seed. Progress is told to a person.
 pub(crate) fn run_campaign<R: Files + AllocGlobal + Print + Eprint + Threads + Sync>(
     rt: &R,
@@ -85,29 +148,93 @@ pub(crate) fn run_campaign<R: Files + AllocGlobal + Print + Eprint + Threads + S
              as --first 0 --count 1000 --steps 40",
         );
     };
+    let Some(telling) = read_telling(order.failures, order.summary, order.outcomes) else {
+        return bad_line(
+            rt,
+            "--outcomes goes with --summary, which doesn't go with --failures",
+        );
+    };
     let program = match fs::open(rt, order.file) {
         Ok(program) => program,
-        Err(error) => return cannot_open(rt, order.file, &error),
+        Err(error) => return cannot_open(rt, audience, order.file, &error),
     };
     let mut program = ReaderSource::new(program);
-    let mut sink = WriterSink::new(io::writer(rt));
-    let bad = if plan.rule.is_some() {
-        "with a broken rule"
-    } else {
-        "with a fault"
-    };
+    let mut sink = Watching::new(rt.alloc(), WriterSink::new(io::writer(rt)));
+    let bad = what_is_bad(plan.rule);
     let mut line = Line { rt, audience, bad };
-    match campaign_engine(
+    match tell_runs(
         rt,
-        rt.alloc(),
+        telling,
         inputs.as_slice(),
         plan,
         &mut program,
         &mut sink,
         &mut line,
     ) {
-        Ok(status) => status,
-        Err(RunFault::Read(_)) => cannot_read(rt, order.file),
-        Err(fault) => say(rt, fault),
+        Ok(status) => {
+            if audience == Audience::Person {
+                let _ = explain_seed(rt, order, inputs.as_slice(), plan.steps, sink.seed());
+            }
+            status
+        }
+        Err(fault) => tell(rt, audience, order, inputs.len(), fault),
     }
+}
+
+// Says why a campaign gives no answer, or ends early.
+fn tell<R: Files + AllocGlobal + Eprint>(
+    rt: &R,
+    audience: Audience,
+    order: &CampaignOrder,
+    harts: usize,
+    fault: RunFault,
+) -> Status {
+    if let RunFault::Read(_) = fault {
+        return cannot_read(rt, order.file);
+    }
+    let status = say(rt, fault);
+    let files = RunFiles {
+        program: order.file,
+        form: ProgramForm::Elf,
+        choices: "",
+        harts,
+    };
+    explain_run(rt, audience, files, fault);
+    status
+}
+
+// Tells how the first seed with a bad run is looked into, and what its faults mean.
+fn explain_seed<R: Files + AllocGlobal + Eprint>(
+    rt: &R,
+    order: &CampaignOrder,
+    inputs: &[u32],
+    steps: u64,
+    seed: Option<u64>,
+) -> Option<()> {
+    let seed = seed?;
+    let (file, texts, harts) = (order.file, order.inputs, inputs.len());
+    // Progress stands on a line of its own.
+    eprintln!(rt;
+        "\nseed {seed} is the first such one. To look into it:\n    \
+         rvcons schedule --harts {harts} --steps {steps} --seed {seed} >seed_{seed}.choices\n    \
+         rvcons debug {file} --inputs {texts} --choices seed_{seed}.choices"
+    )
+    .ok()?;
+    let plan = SchedulePlan {
+        harts: u32::try_from(harts).ok()?,
+        steps: u32::try_from(steps).ok()?,
+        maker: Maker::Seed(seed),
+    };
+    let choices = make_schedule(rt.alloc(), plan).ok()?;
+    let choices = print_choices(rt.alloc(), &choices).ok()?;
+    let program = read_again(rt, file)?;
+    let text = run_advice(
+        rt.alloc(),
+        ProgramForm::Elf,
+        &program,
+        inputs,
+        choices.as_bytes(),
+    )?;
+    show(rt, &text);
+    Some(())
 }

@@ -1,11 +1,13 @@
 //! Doing `debug`.
 
 use crate::audience::Audience;
+use crate::conversation::talk_to_person;
+use crate::explain::{RunFiles, explain_run};
 use crate::report::{cannot_open, cannot_read, out_of_memory, refuse};
 use command_line::{DebugOrder, read_inputs};
 use debug_engine::{DebugEngineFault, debug_engine};
 use devices::{ReaderSource, Status, WriterSink};
-use programs::{Input as InputFile, RunFault};
+use programs::{Input as InputFile, ProgramForm, RunFault};
 use progress::Progress;
 use std::fs;
 use std::io::{self, BufReader, Input};
@@ -33,10 +35,11 @@ impl<'a, R: Eprint> Progress for Line<'a, R> {
 }
 
 /// Answers the commands of standard input, each as it comes. Both files are opened before either is read. How far a long
-/// start is, is told to a person.
+/// start is, is told to a person, and the conversation with one has more than the answers.
 pub(crate) fn converse<R: Files + AllocGlobal + Print + Eprint + Input>(
     rt: &R,
     audience: Audience,
+    talk: Audience,
     order: &DebugOrder,
 ) -> Status {
     let inputs = match read_inputs(rt.alloc(), order.inputs) {
@@ -45,20 +48,26 @@ pub(crate) fn converse<R: Files + AllocGlobal + Print + Eprint + Input>(
     };
     let program = match fs::open(rt, order.file) {
         Ok(program) => program,
-        Err(error) => return cannot_open(rt, order.file, &error),
+        Err(error) => return cannot_open(rt, audience, order.file, &error),
     };
     let choices = match fs::open(rt, order.choices) {
         Ok(choices) => choices,
-        Err(error) => return cannot_open(rt, order.choices, &error),
-    };
-    let Ok(reader) = BufReader::new(rt.alloc(), rt.reader()) else {
-        return out_of_memory(rt);
+        Err(error) => return cannot_open(rt, audience, order.choices, &error),
     };
     let mut program = ReaderSource::new(program);
     let mut choices = ReaderSource::new(choices);
+    let mut line = Line { rt, audience };
+    if talk == Audience::Person {
+        return match talk_to_person(rt, inputs.as_slice(), &mut program, &mut choices, &mut line) {
+            Ok(status) => status,
+            Err(fault) => tell(rt, audience, order, fault, inputs.len()),
+        };
+    }
+    let Ok(reader) = BufReader::new(rt.alloc(), rt.reader()) else {
+        return out_of_memory(rt);
+    };
     let mut commands = ReaderSource::new(reader);
     let mut sink = WriterSink::new(io::writer(rt));
-    let mut line = Line { rt, audience };
     match debug_engine(
         rt.alloc(),
         inputs.as_slice(),
@@ -69,12 +78,18 @@ pub(crate) fn converse<R: Files + AllocGlobal + Print + Eprint + Input>(
         &mut line,
     ) {
         Ok(status) => status,
-        Err(fault) => tell(rt, order, fault),
+        Err(fault) => tell(rt, audience, order, fault, inputs.len()),
     }
 }
 
 // Says why the conversation wasn't held, or ended early.
-fn tell(rt: &impl Eprint, order: &DebugOrder, fault: DebugEngineFault) -> Status {
+fn tell<R: Files + AllocGlobal + Eprint>(
+    rt: &R,
+    audience: Audience,
+    order: &DebugOrder,
+    fault: DebugEngineFault,
+    harts: usize,
+) -> Status {
     match fault {
         DebugEngineFault::Refused(RunFault::Read(InputFile::File)) => cannot_read(rt, order.file),
         DebugEngineFault::Refused(RunFault::Read(InputFile::Choices)) => {
@@ -83,6 +98,15 @@ fn tell(rt: &impl Eprint, order: &DebugOrder, fault: DebugEngineFault) -> Status
         fault => {
             // Where standard error is closed, the status alone tells.
             let _ = eprintln!(rt; "rvcons: {fault}");
+            if let DebugEngineFault::Refused(why) = fault {
+                let files = RunFiles {
+                    program: order.file,
+                    form: ProgramForm::Elf,
+                    choices: order.choices,
+                    harts,
+                };
+                explain_run(rt, audience, files, why);
+            }
             fault.status()
         }
     }

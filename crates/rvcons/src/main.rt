@@ -4,16 +4,21 @@
 mod asm;
 mod audience;
 mod campaign;
+mod conversation;
 mod debug;
+mod explain;
 mod file;
 mod library;
 mod replay;
 mod report;
 mod run;
 mod schedule;
+mod shrink;
 mod threads;
+mod watching;
 
 use crate::audience::Audience;
+use crate::explain::explain_line;
 use crate::report::{bad_line, out_of_memory, refuse};
 use command_line::{Order, read_line};
 use devices::Status;
@@ -30,13 +35,19 @@ fn main(rt: HostRuntime) -> ExitCode {
     } else {
         Audience::Program
     };
-    ExitCode::from(obey(&rt, audience).code())
+    let talk = if rt.stdin().is_terminal() && rt.stdout().is_terminal() {
+        Audience::Person
+    } else {
+        Audience::Program
+    };
+    ExitCode::from(obey(&rt, audience, talk).code())
 }
 
-// Does what the command line orders. Progress is told to a person.
+// Does what the command line orders. Progress, and what a fault means, is told to a person; `talk` is whom the debugger talks with.
 fn obey<R: Files + AllocGlobal + Print + Eprint + Env + Threads + Wait + Sync + Input>(
     rt: &R,
     audience: Audience,
+    talk: Audience,
 ) -> Status {
     let args = match std::env::args(rt) {
         Ok(args) => args,
@@ -54,16 +65,21 @@ fn obey<R: Files + AllocGlobal + Print + Eprint + Env + Threads + Wait + Sync + 
         return out_of_memory(rt);
     };
     match read_line(rt.alloc(), words.as_slice()) {
-        Ok(Order::Asm(order)) => asm::assemble(rt, &order),
-        Ok(Order::Debug(order)) => debug::converse(rt, audience, &order),
+        Ok(Order::Asm(order)) => asm::assemble(rt, audience, &order),
+        Ok(Order::Debug(order)) => debug::converse(rt, audience, talk, &order),
         Ok(Order::Lib(order)) => library::print_source(rt, &order),
-        Ok(Order::List(order)) => file::show(rt, FileView::Listing, &order),
-        Ok(Order::Info(order)) => file::show(rt, FileView::Facts, &order),
-        Ok(Order::Run(order)) => run::run(rt, &order),
+        Ok(Order::List(order)) => file::show(rt, audience, FileView::Listing, &order),
+        Ok(Order::Info(order)) => file::show(rt, audience, FileView::Facts, &order),
+        Ok(Order::Run(order)) => run::run(rt, audience, &order),
         Ok(Order::Threads(order)) => threads::run_on_threads(rt, audience, &order),
-        Ok(Order::Replay(order)) => replay::replay(rt, &order),
+        Ok(Order::Replay(order)) => replay::replay(rt, audience, &order),
         Ok(Order::Campaign(order)) => campaign::run_campaign(rt, audience, &order),
         Ok(Order::Schedule(order)) => schedule::print_schedule(rt, &order),
-        Err(fault) => refuse(rt, &fault),
+        Ok(Order::Shrink(order)) => shrink::shrink(rt, audience, &order),
+        Err(fault) => {
+            let status = refuse(rt, &fault);
+            explain_line(rt, audience, words.as_slice(), &fault);
+            status
+        }
     }
 }

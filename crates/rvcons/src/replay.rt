@@ -1,9 +1,12 @@
 //! Doing `replay`.
 
+use crate::audience::Audience;
+use crate::explain::{RunFiles, explain_entry, explain_hart, explain_run, read_again, show};
 use crate::report::{cannot_open, cannot_read, refuse, tell};
 use command_line::{ReplayOrder, read_inputs, read_rule};
 use devices::{ReaderSource, Status, WriterSink};
-use programs::{Input, RunFault};
+use fault_advice::history_advice;
+use programs::{Input, ProgramForm, RunFault};
 use replay_engine::{ReplayFault, replay_engine};
 use std::rt::Files;
 use std::{fs, io};
@@ -11,6 +14,7 @@ use std::{fs, io};
 /// Runs a program under a history. Both files are opened before either is read.
 pub(crate) fn replay<R: Files + AllocGlobal + Print + Eprint>(
     rt: &R,
+    audience: Audience,
     order: &ReplayOrder,
 ) -> Status {
     let inputs = match read_inputs(rt.alloc(), order.inputs) {
@@ -23,11 +27,11 @@ pub(crate) fn replay<R: Files + AllocGlobal + Print + Eprint>(
     };
     let program = match fs::open(rt, order.file) {
         Ok(program) => program,
-        Err(error) => return cannot_open(rt, order.file, &error),
+        Err(error) => return cannot_open(rt, audience, order.file, &error),
     };
     let history = match fs::open(rt, order.history) {
         Ok(history) => history,
-        Err(error) => return cannot_open(rt, order.history, &error),
+        Err(error) => return cannot_open(rt, audience, order.history, &error),
     };
     let mut program = ReaderSource::new(program);
     let mut history = ReaderSource::new(history);
@@ -40,9 +44,55 @@ pub(crate) fn replay<R: Files + AllocGlobal + Print + Eprint>(
         &mut history,
         &mut sink,
     ) {
-        Ok(status) => status,
+        Ok(status) => {
+            if status == Status::Faulted && audience == Audience::Person {
+                let _ = explain_faults(rt, order, inputs.as_slice());
+            }
+            status
+        }
         Err(ReplayFault::Run(RunFault::Read(Input::File))) => cannot_read(rt, order.file),
         Err(ReplayFault::History) => cannot_read(rt, order.history),
-        Err(fault) => tell(rt, fault),
+        Err(fault) => {
+            let status = tell(rt, fault);
+            explain(rt, audience, order, inputs.len(), fault);
+            status
+        }
     }
+}
+
+// Tells why a replay gives no answer.
+fn explain<R: Files + AllocGlobal + Eprint>(
+    rt: &R,
+    audience: Audience,
+    order: &ReplayOrder,
+    harts: usize,
+    fault: ReplayFault,
+) {
+    match fault {
+        ReplayFault::Run(fault) => {
+            let files = RunFiles {
+                program: order.file,
+                form: ProgramForm::Elf,
+                choices: "",
+                harts,
+            };
+            explain_run(rt, audience, files, fault);
+        }
+        ReplayFault::BadEntry(offset) => explain_entry(rt, audience, order.history, offset),
+        ReplayFault::NoHart(offset) => explain_hart(rt, audience, order.history, harts, offset),
+        ReplayFault::History => {}
+    }
+}
+
+// Tells what the faults mean with which the replay ended, where its files can be read once more.
+fn explain_faults<R: Files + AllocGlobal + Eprint>(
+    rt: &R,
+    order: &ReplayOrder,
+    inputs: &[u32],
+) -> Option<()> {
+    let program = read_again(rt, order.file)?;
+    let history = read_again(rt, order.history)?;
+    let text = history_advice(rt.alloc(), &program, inputs, &history)?;
+    show(rt, &text);
+    Some(())
 }

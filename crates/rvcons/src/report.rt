@@ -5,13 +5,17 @@ ghost use Rattle.programs.specs.RunFaults.{status_of_fault};
 ghost use Rattle.replay_engine.specs.Replay.{status_of};
 ghost use Rattle.threads_engine.specs.Threads.{status_of as status_of_threads};
 ghost use Rattle.schedule_engine.specs.Schedule.{status_of as status_of_schedule};
+ghost use Rattle.shrink_engine.specs.Faults.{status_of as status_of_shrink};
 
+use crate::audience::Audience;
+use crate::explain::explain_path;
 use command_line::LineFault;
 use devices::Status;
 use programs::RunFault;
 use protocol_library::KIND_NAMES;
 use replay_engine::ReplayFault;
 use schedule_engine::ScheduleFault;
+use shrink_engine::ShrinkFault;
 use std::io;
 use threads_engine::ThreadsEngineFault;
 
@@ -55,6 +59,14 @@ pub(crate) fn tell_schedule(rt: &impl Eprint, fault: ScheduleFault) -> Status
     fault.status()
 }
 
+/// Says why nothing is shrunk.
+pub(crate) fn tell_shrink(rt: &impl Eprint, fault: ShrinkFault) -> Status
+    ensures { result ≡ status_of_shrink fault }
+{
+    let _ = eprintln!(rt; "rvcons: {fault}");
+    fault.status()
+}
+
 /// A file can't be opened or read.
 pub(crate) fn cannot_read(rt: &impl Eprint, path: &str) -> Status
     ensures { result ≡ Status.Refused }
@@ -71,15 +83,21 @@ pub(crate) fn cannot_write(rt: &impl Eprint, path: &str) -> Status
     Status::Refused
 }
 
-/// A file can't be opened, for want of memory or for another reason.
-pub(crate) fn cannot_open(rt: &impl Eprint, path: &str, error: &io::Error) -> Status
+/// A file can't be opened, for want of memory or for another reason, which a person is told.
+pub(crate) fn cannot_open(
+    rt: &impl Eprint,
+    audience: Audience,
+    path: &str,
+    error: &io::Error,
+) -> Status
     ensures { result ≢ Status.Done }
 {
     if error.kind() == io::ErrorKind::OutOfMemory {
-        out_of_memory(rt)
-    } else {
-        cannot_read(rt, path)
+        return out_of_memory(rt);
     }
+    let status = cannot_read(rt, path);
+    explain_path(rt, audience, path, error);
+    status
 }
 
 /// Says why a command line gives no order, or prints the help or the version that it asks for.

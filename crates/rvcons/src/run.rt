@@ -1,15 +1,22 @@
 //! Doing `run`.
 
+use crate::audience::Audience;
+use crate::explain::{RunFiles, explain_run, read_again, show};
 use crate::report::{cannot_open, cannot_read, refuse, say};
 use command_line::{RunOrder, read_inputs, read_rule};
 use devices::{ReaderSource, Status, WriterSink};
 use engines::run_engine;
+use fault_advice::run_advice;
 use programs::{Input, ProgramForm, RunFault};
 use std::rt::Files;
 use std::{fs, io};
 
 /// Runs a program under a schedule. Both files are opened before either is read.
-pub(crate) fn run<R: Files + AllocGlobal + Print + Eprint>(rt: &R, order: &RunOrder) -> Status {
+pub(crate) fn run<R: Files + AllocGlobal + Print + Eprint>(
+    rt: &R,
+    audience: Audience,
+    order: &RunOrder,
+) -> Status {
     let inputs = match read_inputs(rt.alloc(), order.inputs) {
         Ok(inputs) => inputs,
         Err(fault) => return refuse(rt, &fault),
@@ -25,11 +32,11 @@ pub(crate) fn run<R: Files + AllocGlobal + Print + Eprint>(rt: &R, order: &RunOr
     };
     let program = match fs::open(rt, order.file) {
         Ok(program) => program,
-        Err(error) => return cannot_open(rt, order.file, &error),
+        Err(error) => return cannot_open(rt, audience, order.file, &error),
     };
     let choices = match fs::open(rt, order.choices) {
         Ok(choices) => choices,
-        Err(error) => return cannot_open(rt, order.choices, &error),
+        Err(error) => return cannot_open(rt, audience, order.choices, &error),
     };
     let mut program = ReaderSource::new(program);
     let mut choices = ReaderSource::new(choices);
@@ -43,9 +50,52 @@ pub(crate) fn run<R: Files + AllocGlobal + Print + Eprint>(rt: &R, order: &RunOr
         &mut choices,
         &mut sink,
     ) {
-        Ok(status) => status,
-        Err(RunFault::Read(Input::File)) => cannot_read(rt, order.file),
-        Err(RunFault::Read(Input::Choices)) => cannot_read(rt, order.choices),
-        Err(fault) => say(rt, fault),
+        Ok(status) => {
+            if status == Status::Faulted && audience == Audience::Person {
+                let _ = explain_faults(rt, form, order, inputs.as_slice());
+            }
+            status
+        }
+        Err(fault) => tell(rt, audience, form, order, inputs.len(), fault),
     }
+}
+
+// Says why a run gives no answer.
+fn tell<R: Files + AllocGlobal + Eprint>(
+    rt: &R,
+    audience: Audience,
+    form: ProgramForm,
+    order: &RunOrder,
+    harts: usize,
+    fault: RunFault,
+) -> Status {
+    match fault {
+        RunFault::Read(Input::File) => cannot_read(rt, order.file),
+        RunFault::Read(Input::Choices) => cannot_read(rt, order.choices),
+        fault => {
+            let status = say(rt, fault);
+            let files = RunFiles {
+                program: order.file,
+                form,
+                choices: order.choices,
+                harts,
+            };
+            explain_run(rt, audience, files, fault);
+            status
+        }
+    }
+}
+
+// Tells what the faults mean with which the run ended, where its files can be read once more.
+fn explain_faults<R: Files + AllocGlobal + Eprint>(
+    rt: &R,
+    form: ProgramForm,
+    order: &RunOrder,
+    inputs: &[u32],
+) -> Option<()> {
+    let program = read_again(rt, order.file)?;
+    let choices = read_again(rt, order.choices)?;
+    let text = run_advice(rt.alloc(), form, &program, inputs, &choices)?;
+    show(rt, &text);
+    Some(())
 }

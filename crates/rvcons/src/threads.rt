@@ -1,12 +1,14 @@
 //! Doing `threads`.
 
 use crate::audience::{Audience, TellingGate};
+use crate::explain::{RunFiles, explain_run, read_again, show};
 use crate::report::{
     cannot_open, cannot_read, cannot_write, out_of_memory, refuse, say, tell_threads,
 };
 use command_line::{LineFault, ThreadsOrder, read_inputs, read_number, read_plan, read_rule};
 use devices::{ReaderSource, Status, WriterSink, write_all};
-use programs::{Input, RunFault};
+use fault_advice::history_advice;
+use programs::{Input, ProgramForm, RunFault};
 use std::alloc::Global;
 use std::collections::BTreeSet;
 use std::rt::Files;
@@ -44,7 +46,7 @@ pub(crate) fn run_on_threads<R: Files + AllocGlobal + Print + Eprint + Threads +
     };
     let program = match fs::open(rt, order.file) {
         Ok(program) => program,
-        Err(error) => return cannot_open(rt, order.file, &error),
+        Err(error) => return cannot_open(rt, audience, order.file, &error),
     };
     let mut program = ReaderSource::new(program);
     let gate = TellingGate::new(rt, audience);
@@ -53,7 +55,11 @@ pub(crate) fn run_on_threads<R: Files + AllocGlobal + Print + Eprint + Threads +
         Err(ThreadsEngineFault::Run(RunFault::Read(Input::File))) => {
             return cannot_read(rt, order.file);
         }
-        Err(fault) => return tell_threads(rt, fault),
+        Err(fault) => {
+            let status = tell_threads(rt, fault);
+            explain(rt, audience, order, fault);
+            return status;
+        }
     };
     if let Some(path) = order.history {
         if let Err(status) = write_history(rt, path, answer.history.as_bytes()) {
@@ -64,7 +70,12 @@ pub(crate) fn run_on_threads<R: Files + AllocGlobal + Print + Eprint + Threads +
         &mut WriterSink::new(io::writer(rt)),
         answer.lines.as_bytes(),
     ) {
-        Ok(()) => answer.status,
+        Ok(()) => {
+            if answer.status == Status::Faulted && audience == Audience::Person {
+                let _ = explain_faults(rt, order, answer.history.as_bytes());
+            }
+            answer.status
+        }
         Err(_) => say(rt, RunFault::Write),
     }
 }
@@ -84,4 +95,39 @@ fn write_history<R: Files + AllocGlobal + Print + Eprint>(
         Ok(()) => Ok(()),
         Err(_) => Err(cannot_write(rt, path)),
     }
+}
+
+// Tells why a run of threads gives no answer.
+fn explain<R: Files + AllocGlobal + Eprint>(
+    rt: &R,
+    audience: Audience,
+    order: &ThreadsOrder,
+    fault: ThreadsEngineFault,
+) {
+    if let ThreadsEngineFault::Run(fault) = fault {
+        let harts = match read_inputs(rt.alloc(), order.inputs) {
+            Ok(inputs) => inputs.len(),
+            Err(_) => 0,
+        };
+        let files = RunFiles {
+            program: order.file,
+            form: ProgramForm::Elf,
+            choices: "",
+            harts,
+        };
+        explain_run(rt, audience, files, fault);
+    }
+}
+
+// Tells what the faults mean with which the run ended, by its history, where its program can be read once more.
+fn explain_faults<R: Files + AllocGlobal + Eprint>(
+    rt: &R,
+    order: &ThreadsOrder,
+    history: &[u8],
+) -> Option<()> {
+    let inputs = read_inputs(rt.alloc(), order.inputs).ok()?;
+    let program = read_again(rt, order.file)?;
+    let text = history_advice(rt.alloc(), &program, inputs.as_slice(), history)?;
+    show(rt, &text);
+    Some(())
 }
