@@ -1,5 +1,5 @@
 //! What no clause says of `shrink`: worked programs, whose only minimal failing lists were found by hand; failing devices.
-use crate::programs::{LOST, NEEDS_SC, OWN_INPUT, TWO_FAULTS, file_of};
+use crate::worked::{LOST, NEEDS_SC, OWN_INPUT, TWO_FAULTS, file_of};
 use choice_shrinking::Unheard;
 use choice_texts::{print_choices, read_choices};
 use devices::{Failing, FullSink, MemorySink, MemorySource, Status};

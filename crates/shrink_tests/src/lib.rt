@@ -6,6 +6,6 @@ mod engine_tests;
 #[cfg(test)]
 mod list_tests;
 #[cfg(test)]
-mod programs;
-#[cfg(test)]
 mod refused_tests;
+#[cfg(test)]
+mod worked;

@@ -1,5 +1,5 @@
 //! Each request of a shrinking refused in turn, once and for good.
-use crate::programs::{TWO_FAULTS, file_of};
+use crate::worked::{TWO_FAULTS, file_of};
 use choice_shrinking::Unheard;
 use devices::{MemorySink, MemorySource, Status};
 use programs::RunFault;
