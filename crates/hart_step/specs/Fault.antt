@@ -3,12 +3,14 @@ use Rattle.std.specs.Prelude.{ℕ, ◌+◌, ◌-◌, ◌%◌, ◌==◌, Option, 
 use Rattle.memory.specs.Memory.{Memory, to_load, to_write, granted}
 use Rattle.memory.specs.declared.store.AccessFault.{AccessFault}
 use Rattle.memory.specs.declared.store.AccessFault.TheVariants as access
+use Rattle.memory.specs.declared.store.FetchFault.{FetchFault}
+use Rattle.memory.specs.declared.store.FetchFault.TheVariants as fetch
 use Rattle.isa_table.specs.declared.instr.Instr.{Instr}
 use Rattle.isa_table.specs.declared.instr.Instr.TheVariants.{Jal, Jalr, Branch, Load, Store, Ecall, Ebreak, LoadReserved, StoreConditional, Amo, Lui, Auipc, Immediate, Shift, Register, Fence}
 use Rattle.hart_step.specs.Hart.{Registers}
 use Rattle.hart_step.specs.Values.{wrap, is_taken, load_size, store_size}
 use Rattle.hart_step.specs.declared.hart.Cause.{Cause}
-use Rattle.hart_step.specs.declared.hart.Cause.TheVariants.{LoadMisaligned, LoadAccess, StoreMisaligned, StoreAccess, JumpMisaligned, BadCall, Break}
+use Rattle.hart_step.specs.declared.hart.Cause.TheVariants.{FetchAccess, Illegal, LoadMisaligned, LoadAccess, StoreMisaligned, StoreAccess, JumpMisaligned, BadCall, Break}
 
 -- a load of n bytes: misaligned comes before access
 abbrev pub load_fault : Memory → ℕ → ℕ → Option Cause
@@ -51,6 +53,11 @@ fault Ebreak m x pc = Some Break
 fault (LoadReserved aq rl rd rs1) m x pc = load_fault m 4 (x rs1)
 fault (StoreConditional aq rl rd rs1 rs2) m x pc = store_fault m 4 (x rs1)
 fault (Amo op aq rl rd rs1 rs2) m x pc = store_fault m 4 (x rs1)
+
+-- the cause of a hart where there is no instruction
+abbrev pub fetch_cause_of : FetchFault → Cause
+fetch_cause_of fetch.Access = FetchAccess
+fetch_cause_of fetch.Illegal = Illegal
 
 -- the cause that a refused load has
 abbrev pub load_cause_of : AccessFault → Cause

@@ -45,6 +45,7 @@ fn load_cause(fault: AccessFault) -> Cause
 }
 
 /// What a load puts into its register, or its fault.
+#[inline]
 pub fn load<S: Store>(store: &S, op: LoadOp, address: u32) -> Result<u32, Cause>
     ensures ok { OnOk result (load_fault (S.memory store.now) (load_size op) address ≡ None) }
     ensures value { IfOk result (λ value.
@@ -63,6 +64,7 @@ pub fn load<S: Store>(store: &S, op: LoadOp, address: u32) -> Result<u32, Cause>
 }
 
 /// Stores the low bytes of a value.
+#[inline]
 fn store_bytes<S: Store>(
     store: &mut S,
     op: StoreOp,
@@ -81,6 +83,7 @@ fn store_bytes<S: Store>(
 
 /// Stores the low bytes of a value for a hart, which ends the others' reservations of the word, or gives the fault.
 /// After a fault, or where the host refused memory, nothing has changed. It is refused only where there is no fault.
+#[inline]
 pub fn store_value<S: Store>(
     hart: usize,
     store: &mut S,

@@ -29,6 +29,7 @@ pub struct Operands {
 }
 
 /// A load. Unprivileged ISA, "Load and Store Instructions".
+#[inline]
 pub fn execute_load<S: Store>(hart: &mut Hart, store: &S, op: LoadOp, rd: Reg, address: u32)
     ensures { (r : Marks) → let m = S.memory store.now in
         let s = site (hart_of hart.old) m r in
@@ -43,6 +44,7 @@ pub fn execute_load<S: Store>(hart: &mut Hart, store: &S, op: LoadOp, rd: Reg, a
 }
 
 /// A store. Unprivileged ISA, "Load and Store Instructions".
+#[inline]
 pub fn execute_store<S: Store>(
     hart: &mut Hart,
     id: usize,
@@ -70,6 +72,7 @@ pub fn execute_store<S: Store>(
 }
 
 /// LR.W: loads a word and reserves it for the hart. Unprivileged ISA, "Load-Reserved/Store-Conditional Instructions".
+#[inline]
 pub fn load_reserved<S: Store>(
     hart: &mut Hart,
     id: usize,
@@ -108,6 +111,7 @@ fn store_cause(fault: AccessFault) -> Cause
 /// SC.W: stores a word if the hart still has it reserved and `refuse` does not hold; `rd` gets 0, or 1 where nothing
 /// is stored. Both ways the reservation is over, but a fault leaves it. Alignment and the right to write are looked at
 /// also where nothing is stored. Unprivileged ISA, "Load-Reserved/Store-Conditional Instructions".
+#[inline]
 pub fn store_conditional<S: Store>(
     hart: &mut Hart,
     id: usize,
@@ -153,6 +157,7 @@ pub fn store_conditional<S: Store>(
 
 /// An AMO: `rd` gets the word that was there, and memory the operation's result, with no step of another hart between.
 /// Unprivileged ISA, "Atomic Memory Operations".
+#[inline]
 pub fn execute_amo<S: Store>(
     hart: &mut Hart,
     id: usize,

@@ -4,11 +4,12 @@ ghost use Rattle.memory.specs.Memory.{Memory};
 ghost use Rattle.reservations.specs.Marks.{Marks};
 ghost use Rattle.reservations.specs.Reserve.{marks};
 ghost use Rattle.hart_step.specs.Hart.{hart_of, registers_of, put};
-ghost use Rattle.hart_step.specs.Fault.{jump_fault, call_fault};
+ghost use Rattle.hart_step.specs.Fault.{jump_fault, call_fault, fetch_cause_of};
 ghost use Rattle.hart_step.specs.Effect.{site, site_of, goes_on, next, exits};
 ghost use Rattle.hart_step.specs.Step.{unless, executed, stepped};
 ghost use Rattle.hart_step.specs.Wanting.{Stores, StepStores};
 ghost use Rattle.reservations.specs.Limit.{most_harts};
+ghost use Rattle.hart_step.specs.declared.hart.HartState.TheVariants.{Running};
 
 use crate::data_access::effective_address;
 use crate::hart::{Cause, Hart, HartState};
@@ -17,9 +18,8 @@ use crate::memory_instructions::{
     Operands, execute_amo, execute_load, execute_store, load_reserved, store_conditional,
 };
 use crate::registers::{fault, get};
-use decoder::decode;
 use isa_table::instr::Instr;
-use memory::Store;
+use memory::{FetchFault, Store};
 use reservations::Reserve;
 use std::alloc::AllocError;
 
@@ -46,6 +46,7 @@ fn environment_call(hart: &mut Hart)
 }
 
 /// One instruction of a running hart: its local half, or what it does with memory and reservations. Only the memory of the host may refuse, and then nothing has changed.
+#[inline]
 fn execute<S: Store>(
     hart: &mut Hart,
     id: usize,
@@ -105,11 +106,48 @@ fn execute<S: Store>(
     Ok(())
 }
 
+/// The fault of a hart where there is no instruction.
+fn fetch_cause(fault: FetchFault) -> Cause
+    ensures { result ≡ fetch_cause_of fault }
+{
+    match fault {
+        FetchFault::Access => Cause::FetchAccess,
+        FetchFault::Illegal => Cause::Illegal,
+    }
+}
+
+/// A step of a hart that runs: what stands at its `pc`, or the fault of a hart where there is no instruction.
+#[inline]
+fn running_step<S: Store>(
+    hart: &mut Hart,
+    id: usize,
+    store: &mut S,
+    reserve: &mut Reserve,
+    refuse: bool,
+) -> Result<(), AllocError>
+    requires id { id < most_harts }
+    requires runs { hart.old.state ≡ Running }
+    ensures ok { OnOk result (site_of hart.new (S.memory store.new) reserve.new
+        ≡ stepped id refuse (site_of hart.old (S.memory store.old) reserve.old)) }
+    ensures err { OnErr result (IsTrue S.grows × (site_of hart.new (S.memory store.new) reserve.new
+        ≡ site_of hart.old (S.memory store.old) reserve.old)) }
+    ensures stores { OnErr result
+        (StepStores id refuse (site_of hart.old (S.memory store.old) reserve.old)) }
+{
+    match store.instruction(hart.pc) {
+        Ok(instr) => execute(hart, id, store, reserve, refuse, instr),
+        Err(why) => {
+            fault(hart, fetch_cause(why));
+            Ok(())
+        }
+    }
+}
+
 /// One event of the machine: a step of hart `id` over the memory and the reservations that all harts share. A hart that
 /// has stopped changes nothing. Where `refuse` holds, a store-conditional does not succeed.
 ///
 /// Only the memory of the host may refuse, and then nothing has changed.
-#[tactic(auto, using(crate::proofs::WantingLemmas::step_stores), unfolding(crate::specs::Step::stepped))]
+#[tactic(auto, unfolding(crate::specs::Step::stepped))]
 pub fn step_hart<S: Store>(
     hart: &mut Hart,
     id: usize,
@@ -127,16 +165,8 @@ pub fn step_hart<S: Store>(
     ensures stores { OnErr result
         (StepStores id refuse (site_of hart.old (S.memory store.old) reserve.old)) }
 {
-    if hart.state != HartState::Running {
-        return Ok(());
+    match hart.state {
+        HartState::Running => running_step(hart, id, store, reserve, refuse),
+        HartState::Exited(_) | HartState::Faulted(_) => Ok(()),
     }
-    let Some(word) = store.fetch(hart.pc) else {
-        fault(hart, Cause::FetchAccess);
-        return Ok(());
-    };
-    let Some(instr) = decode(word) else {
-        fault(hart, Cause::Illegal);
-        return Ok(());
-    };
-    execute(hart, id, store, reserve, refuse, instr)
 }

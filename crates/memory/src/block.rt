@@ -136,8 +136,9 @@ impl<A: Allocator> Block<A> {
         ensures whole { length self.old.bytes ≡ self.old.size }
     {
         let [b0, b1] = value.to_le_bytes();
-        self.bytes[offset] = b0;
-        self.bytes[offset + 1] = b1;
+        let bytes = &mut self.bytes[..];
+        bytes[offset] = b0;
+        bytes[offset + 1] = b1;
     }
 
     /// Puts a number into the four bytes from an offset on.
@@ -148,9 +149,10 @@ impl<A: Allocator> Block<A> {
         ensures whole { length self.old.bytes ≡ self.old.size }
     {
         let [b0, b1, b2, b3] = value.to_le_bytes();
-        self.bytes[offset] = b0;
-        self.bytes[offset + 1] = b1;
-        self.bytes[offset + 2] = b2;
-        self.bytes[offset + 3] = b3;
+        let bytes = &mut self.bytes[..];
+        bytes[offset] = b0;
+        bytes[offset + 1] = b1;
+        bytes[offset + 2] = b2;
+        bytes[offset + 3] = b3;
     }
 }

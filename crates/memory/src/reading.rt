@@ -1,12 +1,12 @@
 //! Reading from blocks.
-ghost use Rattle.std.specs.Prelude.{◌≡◌, ◌+◌, ◌^◌, ◌≤◌, true, false, MatchOption};
+ghost use Rattle.std.specs.Prelude.{◌≡◌, ◌+◌, ◌^◌, ◌≤◌, true, false, Some, IfSome, MatchOption};
 ghost use Rattle.memory.specs.Memory.{grants, granted, to_write};
 ghost use Rattle.memory.specs.Access.{peeked};
 ghost use Rattle.memory.specs.Image.{segments_memory};
 ghost use Rattle.memory.specs.Blocks.{IsInOrder, number_if};
 
 use crate::block::Block;
-use crate::search::{find, place};
+use crate::search::{find, in_last, place};
 use loader::Rights;
 use std::alloc::Allocator;
 
@@ -43,6 +43,26 @@ pub fn read16<A: Allocator>(blocks: &[Block<A>], address: u32, wanted: Rights) -
     requires in_range { address + 2 ≤ 2 ^ 32 }
     ensures { result ≡ number_if wanted.0 (segments_memory blocks.now) 2 address }
 {
+    match in_last(blocks, address, 2) {
+        Some((i, offset)) => {
+            let block = &blocks[i];
+            if block.grants(wanted) {
+                Some(block.read16(offset))
+            } else {
+                None
+            }
+        }
+        None => read16_by_halves(blocks, address, wanted),
+    }
+}
+
+/// What `read16` says, of bytes that may stand in any block.
+#[inline(never)]
+fn read16_by_halves<A: Allocator>(blocks: &[Block<A>], address: u32, wanted: Rights) -> Option<u16>
+    requires order { IsInOrder blocks.now }
+    requires in_range { address + 2 ≤ 2 ^ 32 }
+    ensures { result ≡ number_if wanted.0 (segments_memory blocks.now) 2 address }
+{
     match place(blocks, address, 2) {
         Some((i, offset)) => {
             let block = &blocks[i];
@@ -59,6 +79,46 @@ pub fn read16<A: Allocator>(blocks: &[Block<A>], address: u32, wanted: Rights) -
 /// The four bytes from an address on, where each has one of the wanted rights.
 #[inline]
 pub fn read32<A: Allocator>(blocks: &[Block<A>], address: u32, wanted: Rights) -> Option<u32>
+    requires order { IsInOrder blocks.now }
+    requires in_range { address + 4 ≤ 2 ^ 32 }
+    ensures { result ≡ number_if wanted.0 (segments_memory blocks.now) 4 address }
+{
+    match in_last(blocks, address, 4) {
+        Some((i, offset)) => {
+            let block = &blocks[i];
+            if block.grants(wanted) {
+                Some(block.read32(offset))
+            } else {
+                None
+            }
+        }
+        None => read32_by_halves(blocks, address, wanted),
+    }
+}
+
+/// What `read32` says, if the last block has the four bytes and gives the right.
+#[inline]
+pub fn read32_in_last<A: Allocator>(
+    blocks: &[Block<A>],
+    address: u32,
+    wanted: Rights,
+) -> Option<u32>
+    requires { IsInOrder blocks.now }
+    ensures { IfSome result (λ word.
+        Some word ≡ number_if wanted.0 (segments_memory blocks.now) 4 address) }
+{
+    let (i, offset) = in_last(blocks, address, 4)?;
+    let block = &blocks[i];
+    if block.grants(wanted) {
+        Some(block.read32(offset))
+    } else {
+        None
+    }
+}
+
+/// What `read32` says, of bytes that may stand in any block.
+#[inline(never)]
+fn read32_by_halves<A: Allocator>(blocks: &[Block<A>], address: u32, wanted: Rights) -> Option<u32>
     requires order { IsInOrder blocks.now }
     requires in_range { address + 4 ≤ 2 ^ 32 }
     ensures { result ≡ number_if wanted.0 (segments_memory blocks.now) 4 address }

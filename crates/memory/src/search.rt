@@ -29,9 +29,35 @@ pub fn find<A: Allocator>(blocks: &[Block<A>], address: u32) -> Option<(usize, u
     None
 }
 
+/// The last block, if it has all bytes of an access, as `find` says it. Data mostly stands above code, so it is looked at before
+/// the others.
+#[inline]
+pub fn in_last<A: Allocator>(
+    blocks: &[Block<A>],
+    address: u32,
+    count: usize,
+) -> Option<(usize, usize)>
+    ensures { IfSome result (λ p. StandsAt blocks.now address count p.0 p.1) }
+{
+    if blocks.is_empty() {
+        return None;
+    }
+    let last = blocks.len() - 1;
+    let block = &blocks[last];
+    let base = block.base();
+    if address < base {
+        return None;
+    }
+    let offset = (address - base) as usize;
+    let size = block.size();
+    if size < count || size - count < offset {
+        return None;
+    }
+    Some((last, offset))
+}
+
 /// The block that has all bytes of an access, as `find` says it; none where no block has them all.
 /// No clause says when it is none, since each access that gets none goes byte by byte, to the same answer.
-#[inline]
 pub fn place<A: Allocator>(
     blocks: &[Block<A>],
     address: u32,

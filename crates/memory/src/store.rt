@@ -2,6 +2,9 @@
 ghost use Rattle.std.specs.Prelude.{◌≡◌, Bool, IfOk};
 ghost use Rattle.memory.specs.Memory.{Memory};
 ghost use Rattle.memory.specs.Access.{loaded, fetched, storable, peeked, Stores};
+ghost use Rattle.memory.specs.Instruction.{instruction_at};
+
+use isa_table::Instr;
 
 /// Why a load is refused.
 #[derive(Clone, Copy, Debug, PartialEq, Eq)]
@@ -10,6 +13,15 @@ pub enum AccessFault {
     Misaligned,
     /// A byte of the access lacks the right that it needs.
     Access,
+}
+
+/// Why there is no instruction at an address.
+#[derive(Clone, Copy, Debug, PartialEq, Eq)]
+pub enum FetchFault {
+    /// A byte of the word may not be executed.
+    Access,
+    /// The word is no instruction.
+    Illegal,
 }
 
 /// Why a store is refused; then nothing has changed.
@@ -49,6 +61,10 @@ pub trait Store: Drop {
     /// The instruction word at an address, or none where a byte of it may not be executed.
     fn fetch(&self, address: u32) -> Option<u32>
         ensures { result ≡ fetched (memory self.now) address };
+
+    /// The instruction that the word at an address spells. A store may keep it decoded.
+    fn instruction(&self, address: u32) -> Result<Instr, FetchFault>
+        ensures { result ≡ instruction_at (memory self.now) address };
 
     /// The byte at an address, whatever its rights, or none where nothing is mapped.
     fn peek(&self, address: u32) -> Option<u8>

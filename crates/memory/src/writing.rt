@@ -7,7 +7,7 @@ ghost use Rattle.memory.specs.Blocks.{IsInOrder, Puts};
 
 use crate::block::Block;
 use crate::reading::may_write;
-use crate::search::{find, place};
+use crate::search::{find, in_last, place};
 use loader::Rights;
 use std::alloc::Allocator;
 
@@ -38,6 +38,26 @@ pub fn put16<A: Allocator>(blocks: &mut [Block<A>], address: u32, value: u16) ->
     ensures puts { Puts 2 address value
         (segments_memory blocks.old) (segments_memory blocks.new) result }
 {
+    let Some((i, offset)) = in_last(blocks, address, 2) else {
+        return put16_by_halves(blocks, address, value);
+    };
+    let block = &mut blocks[i];
+    if !block.grants(Rights::WRITE) {
+        return false;
+    }
+    block.write16(offset, value);
+    true
+}
+
+/// What `put16` says, of bytes that may stand in any block.
+#[inline(never)]
+fn put16_by_halves<A: Allocator>(blocks: &mut [Block<A>], address: u32, value: u16) -> bool
+    requires order { IsInOrder blocks.old }
+    requires in_range { address + 2 ≤ 2 ^ 32 }
+    ensures order { IsInOrder blocks.new }
+    ensures puts { Puts 2 address value
+        (segments_memory blocks.old) (segments_memory blocks.new) result }
+{
     let Some((i, offset)) = place(blocks, address, 2) else {
         return scatter16(blocks, address, value);
     };
@@ -52,6 +72,26 @@ pub fn put16<A: Allocator>(blocks: &mut [Block<A>], address: u32, value: u16) ->
 /// Puts a number into the four bytes from an address on, where each may be written; says whether it did.
 #[inline]
 pub fn put32<A: Allocator>(blocks: &mut [Block<A>], address: u32, value: u32) -> bool
+    requires order { IsInOrder blocks.old }
+    requires in_range { address + 4 ≤ 2 ^ 32 }
+    ensures order { IsInOrder blocks.new }
+    ensures puts { Puts 4 address value
+        (segments_memory blocks.old) (segments_memory blocks.new) result }
+{
+    let Some((i, offset)) = in_last(blocks, address, 4) else {
+        return put32_by_halves(blocks, address, value);
+    };
+    let block = &mut blocks[i];
+    if !block.grants(Rights::WRITE) {
+        return false;
+    }
+    block.write32(offset, value);
+    true
+}
+
+/// What `put32` says, of bytes that may stand in any block.
+#[inline(never)]
+fn put32_by_halves<A: Allocator>(blocks: &mut [Block<A>], address: u32, value: u32) -> bool
     requires order { IsInOrder blocks.old }
     requires in_range { address + 4 ≤ 2 ^ 32 }
     ensures order { IsInOrder blocks.new }

@@ -5,3 +5,4 @@ pub mod RightLemmas
 pub mod AccessLemmas
 pub mod StoreLemmas
 pub mod BuildLemmas
+pub mod CodeLemmas

@@ -1,5 +1,6 @@
 //! Pages that were filled, made to be shared.
 ghost use Rattle.std.specs.Prelude.{◌≡◌, ◌+◌, ◌*◌, ◌/◌, ◌%◌, ◌≤◌, IfOk, take, vec_len, length};
+ghost use Rattle.memory.specs.Kept.{IsCodeOf};
 ghost use Rattle.pages.specs.Building.{built, IsEven};
 ghost use Rattle.pages.specs.Store.{memory_of};
 ghost use Rattle.pages.specs.Table.{pages_of, values_of};
@@ -11,6 +12,7 @@ use crate::page::{PAGE_SIZE, Page};
 use crate::page_store::PageStore;
 use crate::sharing::{chunk_of, share};
 use crate::table::Table;
+use memory::Code;
 use std::alloc::{AllocError, Allocator};
 use std::rc::Rc;
 
@@ -79,12 +81,14 @@ fn table_of<A: Allocator + Copy>(alloc: A, pages: &[Page]) -> Result<Table<A>, A
     Ok(Table { chunks })
 }
 
-/// A store of pages that were filled.
+/// A store of pages that were filled, with the code of their memory.
 pub fn store_of<A: Allocator + Copy>(
     alloc: A,
     building: Building<A>,
+    code: Code<A>,
 ) -> Result<PageStore<A>, AllocError>
-    requires { IsEven building }
+    requires even { IsEven building }
+    requires code_is { IsCodeOf (built building) code }
     ensures { IfOk result (λ s. memory_of s ≡ built building) }
 {
     let table = table_of(alloc, &building.pages)?;
@@ -93,9 +97,11 @@ pub fn store_of<A: Allocator + Copy>(
         rights: building.rights,
     };
     let layout = Rc::new(alloc, layout)?;
+    let code = Rc::new(alloc, code)?;
     Ok(PageStore {
         alloc,
         layout,
         table,
+        code,
     })
 }

@@ -15,7 +15,7 @@ pub returns-then-is_some-clause-found : goal.returns-then-is_some-clause-found
 returns-then-is_some-clause-found g c =
     first_here (stop_behind (session c.args.self.now)) c.steps.position c.len-length.result c.in_ok-stop.stop _ (search rules)
     (stop_is (session c.args.self.now) c.steps.position (paged_world c.steps.machine) (paged_world c.step_to_stop.new.machine) c.index-choice.result.now c.in_ok-stop.stop
-    (search rules) (search rules) c.steps.invariant.world c.in_ok-stop.ensures.world c.in_ok-stop.ensures.stop)
+    (omega (arith, c.steps-test.true, c.len-length.ensures)) (search rules) c.steps.invariant.world c.in_ok-stop.ensures.world c.in_ok-stop.ensures.stop)
     (sym c.is_some.ensures ∙ c.if-is_some.true) c.steps.invariant.left
 
 pub returns-then-is_some-clause-world : goal.returns-then-is_some-clause-world
