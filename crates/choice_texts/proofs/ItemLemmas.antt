@@ -1,13 +1,16 @@
 -- What an item that names a run says of its bytes.
-use Rattle.std.proofs.Common.{◌≡◌, ℕ, ◌^◌, ◌<◌, ◌≤◌, lit<, inl, inr, ◌⊎◌, Bool, true, false, List, [], ◌∷◌, ◌++◌, length, drop, get_or, Option, Some, None, Ok, refl, arith, ap, sym, ◌∙◌, lt-ltb, ltb-true, ltb-false, length-append, append_assoc, append-nil, subst}
+use Rattle.std.proofs.Common.{◌≡◌, ℕ, ◌+◌, ◌^◌, ◌<◌, ◌≤◌, lit<, inl, inr, ◌⊎◌, Bool, true, false, List, [], ◌∷◌, ◌++◌, length, drop, get_or, Option, Some, None, Ok, refl, arith, ap, sym, ◌∙◌, lt-ltb, ltb-true, ltb-false, length-append, append_assoc, append-nil, subst}
 use Rattle.std.proofs.lemmas.List.Elements.{All-nil, All-cons, All-append}
 use Rattle.std.specs.Prelude.{◌&&◌, if◌then◌else◌, nat_lt}
 use Rattle.std.specs.List.{All}
+use Rattle.std.specs.Char.{digit_value}
+use Rattle.std.proofs.lemmas.Str.{digit_value_digit}
 use Rattle.item_texts.specs.Items.{is_blank}
 use Rattle.item_texts.specs.Numbers.{IsNumber, mark_of, number_of, has_mark, before_mark, unmarked, before_byte, from_byte}
 use Rattle.item_texts.proofs.Numbers.{NumberTold, number_told, has_mark-marked, before_mark-marked, has_mark-number, digits_plain, mark_plain, number_read}
 use Rattle.item_texts.proofs.ByteLemmas.{HasNone, digits_have_none, have_none-append, before_byte-there, from_byte-there, before_byte-none, from_byte-none}
 use Rattle.choice_texts.specs.declared.run.Run.{Run}
+use Rattle.choice_texts.specs.Runs.{run}
 use Rattle.choice_texts.specs.Grammar.{Counts, NamesRun}
 use Rattle.choice_texts.specs.Reading.{count_in, count_of, run_by, run_of}
 
@@ -143,3 +146,23 @@ pub named_some : (item : List ℕ) (r : Run) → NamesRun item r → 0 < length 
 named_some item r n =
     let some = n.number.numeral.0 in
     omega (arith, some, ap length n.text, length-append n.digits (mark_of r.choice.refuse ++ n.counted))
+
+-- ---- a single digit
+
+digit_named : (b hart : ℕ) → b ≡ hart + 48 → hart < 10 → NamesRun (b ∷ []) (run (record { hart = hart; refuse = false }) 1)
+digit_named b hart is few =
+    let value : digit_value b + 48 ≡ b = digit_value_digit b (omega (arith, is, few)) in
+    record {
+      digits = b ∷ [];
+      counted = [];
+      text = refl;
+      number = record { numeral = (omega arith, (omega (arith, value, is, few), tt)); no_leading_zero = λ zero. refl };
+      value = omega (arith, value, is);
+      count = refl;
+    }
+
+-- it is read as one choice of its hart
+pub digit_run : (harts at hart : ℕ) (item : List ℕ) → item ≡ (hart + 48) ∷ [] → hart < 10 → hart < harts → harts < 2 ^ 32
+    → run_of harts at item ≡ Ok (run (record { hart = hart; refuse = false }) 1)
+digit_run harts at hart item is few there below =
+    ap (run_of harts at) is ∙ run_named ((hart + 48) ∷ []) _ (digit_named (hart + 48) hart refl few) harts at below there

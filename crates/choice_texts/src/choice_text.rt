@@ -1,7 +1,7 @@
 //! Choice texts: `0 1*3 0!` lets hart 0, then three times hart 1, then hart 0 again take a step, the last with its
 //! store-conditional refused.
 
-ghost use Rattle.std.specs.Prelude.{◌≡◌, ◌++◌, ◌<◌, ◌≢◌, IfOk, IfErr, OnOk};
+ghost use Rattle.std.specs.Prelude.{◌≡◌, ◌+◌, ◌++◌, ◌∷◌, [], ◌<◌, ◌≢◌, IfOk, IfErr, IfSome, OnOk};
 ghost use Rattle.std.specs.List.{All};
 ghost use Rattle.choice_texts.specs.Grammar.{Spells, Spoils};
 ghost use Rattle.choice_texts.specs.Runs.{equal_choices};
@@ -41,8 +41,42 @@ fn read_count(counted: &[u8]) -> Option<u32>
     }
 }
 
+// The hart, of so many, that a single digit names.
+#[inline]
+fn read_digit(item: &[u8], harts: u32) -> Option<u32>
+    ensures digit { IfSome result (λ hart. (item.now ≡ (hart + 48) ∷ []) × (hart < 10)) }
+    ensures there { IfSome result (λ hart. hart < harts) }
+{
+    let [byte] = item else {
+        return None;
+    };
+    let hart = u32::from(byte.wrapping_sub(b'0'));
+    if hart > 9 || hart >= harts {
+        return None;
+    }
+    Some(hart)
+}
+
 /// The run that an item at an offset names, for so many harts. For who goes through a text item by item, and holds no list.
+#[inline]
 pub fn read_run(item: &[u8], at: usize, harts: u32) -> Result<Run, ChoiceFault>
+    ensures { result ≡ run_of harts at item.now }
+{
+    // Most items of most texts are so, and need no loop.
+    if let Some(hart) = read_digit(item, harts) {
+        let choice = Choice {
+            hart,
+            refuse: false,
+        };
+        return Ok(Run { choice, count: 1 });
+    }
+    read_any_run(item, at, harts)
+}
+
+// The same, of any shape.
+#[inline(never)]
+#[cold]
+fn read_any_run(item: &[u8], at: usize, harts: u32) -> Result<Run, ChoiceFault>
     ensures { result ≡ run_of harts at item.now }
 {
     let (front, counted) = split_at_byte(item, b'*');
