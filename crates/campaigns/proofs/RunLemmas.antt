@@ -15,24 +15,28 @@ use Rattle.machine.specs.World.{World, run}
 use Rattle.machine.specs.Start.{started}
 use Rattle.machine.proofs.RunLaws.{length-started}
 use Rattle.scheduler.specs.Schedules.{seeded_choices}
-use Rattle.campaigns.specs.Campaign.{SeedEnds, ends_of, plain_run, seed_ends, plain_runs}
+use Rattle.campaigns.specs.Campaign.{SeedEnds, ends_of, ends_from, plain_run, plain_runs}
 use Rattle.campaigns.specs.declared.seed_run.SeedRun.{SeedRun}
 
 -- a machine that was started has a hart for each input
-pub harts-started : (harts : List Hart) (w : World) (image : ImageValue) (inputs : List ℕ)
-    → w.harts ≡ map hart_of harts → w ≡ started image inputs → length (map hart_of harts) ≡ length inputs
-harts-started harts w image inputs here begun =
-    ap length (sym here) ∙ ap (λ (v : World). length v.harts) begun ∙ length-started image inputs
+pub harts-started : (w : World) (image : ImageValue) (inputs : List ℕ) → w ≡ started image inputs → length w.harts ≡ length inputs
+harts-started w image inputs begun = ap (λ (v : World). length v.harts) begun ∙ length-started image inputs
 
--- what a machine's harts are after the run over a seed's list
-pub ends-plain : (image : ImageValue) (inputs : List ℕ) (steps seed : ℕ) (v w : World) (harts : List Hart)
-    → v ≡ started image inputs → w ≡ run v (seeded_choices (length inputs) steps seed) → map hart_of harts ≡ w.harts
-    → record { seed = seed; harts = map hart_of harts } ≡ seed_ends image inputs steps seed
-unfolding plain_run
-ends-plain image inputs steps seed v w harts begun done left =
+-- what a copy's harts are after the run over a seed's list
+pub ends-copied : (harts steps seed : ℕ) (start v w : World) (ends : List Hart)
+    → v ≡ start → w ≡ run v (seeded_choices harts steps seed) → map hart_of ends ≡ w.harts
+    → record { seed = seed; harts = map hart_of ends } ≡ ends_from start harts steps seed
+ends-copied harts steps seed start v w ends copied done left =
     ap (λ hs. record { seed = seed; harts = hs })
     (left ∙ ap (λ (x : World). x.harts) done
-    ∙ ap (λ x. (run x (seeded_choices (length inputs) steps seed)).harts) begun)
+    ∙ ap (λ x. (run x (seeded_choices harts steps seed)).harts) copied)
+
+-- the runs from the world in which a program begins are its plain runs
+pub runs-plain : (image : ImageValue) (inputs : List ℕ) (steps first count : ℕ) (start : World) → start ≡ started image inputs
+    → map (ends_from start (length inputs) steps) (range_with_len first count) ≡ plain_runs image inputs steps first count
+unfolding plain_run
+runs-plain image inputs steps first count start begun =
+    ap (λ w. map (ends_from w (length inputs) steps) (range_with_len first count)) begun
 
 -- places that are counted from 0, and numbers that are counted from a first one
 map-shifted : {X : Type 0} (f : ℕ → X) (a b n : ℕ) → map (λ place. f (a + place)) (range_with_len b n) ≡ map f (range_with_len (a + b) n)

@@ -18,6 +18,11 @@ pub record SeedEnds : Type 0 where
 abbrev pub ends_of : {Z : Type 0} → SeedRun Z → SeedEnds
 ends_of run = record { seed = run.seed; harts = map hart_of run.harts.items }
 
+-- a seed, and the harts that are left by the run from a world over the list of choices that the seed gives
+abbrev pub ends_from : World → ℕ → ℕ → ℕ → SeedEnds
+ends_from world harts steps seed =
+    record { seed = seed; harts = (run world (seeded_choices harts steps seed)).harts }
+
 -- the harts that are left by the run from the start over the list of choices that a seed gives
 unfoldable pub plain_run : ImageValue → List ℕ → ℕ → ℕ → List HartValue
 plain_run image inputs steps seed =

@@ -1,16 +1,18 @@
 //! All seeds of a range on all processors.
 
 ghost use Rattle.std.specs.Prelude.{◌≡◌, ◌+◌, ◌<◌, ◌≤◌, ◌^◌, [], ◌++◌, IfOk, IfSome, IfNone, OnErr, MatchResult, length, map, min};
-ghost use Rattle.std.specs.List.{All};
-ghost use Rattle.campaigns.specs.Campaign.{ends_of, seed_ends, runs_of, plain_runs, RemembersChosen};
+ghost use Rattle.std.specs.List.{All, range_with_len};
+ghost use Rattle.campaigns.specs.Campaign.{ends_of, ends_from, runs_of, plain_runs, RemembersChosen};
+ghost use Rattle.machine.specs.Machine.{world};
 ghost use Rattle.machine.specs.Start.{IsStartable, Refuses};
 ghost use Rattle.campaigns.specs.Blocks.{block_seeds};
 ghost use Rattle.campaigns.specs.Seeds.{seeds_left};
 
-use crate::seed_run::{SeedRun, run_seed};
+use crate::seed_run::{SeedRun, first_machine, run_seed};
 use crate::seeds::Seeds;
 use loader::Image;
-use machine::{StartFault, check_inputs};
+use machine::{Machine, StartFault, check_inputs};
+use memory::FromImage;
 use rayon::prelude::*;
 use std::alloc::{AllocError, Allocator};
 use std::thread::Threads;
@@ -75,7 +77,7 @@ pub fn next_runs<A: Allocator + Copy + Send + Sync, B: Allocator + Sync>(
     Ok(Some(runs))
 }
 
-// The plain runs of seeds, in pieces of one seed at least: a run is worth a thread's time.
+// The plain runs of seeds. One machine is started for all of them.
 fn run_seeds<A: Allocator + Copy + Send + Sync, B: Allocator + Sync>(
     rt: &(impl Threads + Sync),
     alloc: A,
@@ -92,16 +94,38 @@ fn run_seeds<A: Allocator + Copy + Send + Sync, B: Allocator + Sync>(
     ensures chosen { IfOk result (λ runs.
         All (RemembersChosen (length inputs.now) steps) runs.items) }
 {
+    let start = first_machine(alloc, image, inputs)?;
+    let runs = run_each(rt, alloc, &start, inputs.len() as u32, first, count, steps)?;
+    Ok(runs)
+}
+
+// The runs of seeds, each on a copy of a machine, in pieces of one seed at least: a run is worth a thread's time.
+fn run_each<S: FromImage<A> + Sync, A: Allocator + Copy + Send + Sync>(
+    rt: &(impl Threads + Sync),
+    alloc: A,
+    start: &Machine<S, A>,
+    harts: u32,
+    first: u64,
+    count: u64,
+    steps: u64,
+) -> Result<Vec<SeedRun<A>, A>, AllocError>
+    requires some { 0 < harts }
+    requires harts { length (world S.memory start.now).harts ≡ harts }
+    requires fits { first + count ≤ 2 ^ 64 }
+    ensures ends { IfOk result (λ runs. map ends_of runs.items
+        ≡ map (ends_from (world S.memory start.now) harts steps) (range_with_len first count)) }
+    ensures chosen { IfOk result (λ runs. All (RemembersChosen harts steps) runs.items) }
+{
     let runs: Result<Vec<SeedRun<A>, A>, AllocError> = (0..count)
         .into_par_iter()
         .with_min_len(1)
         .map(
             |place: u64| -> Result<SeedRun<A>, AllocError>
-                requires { IsStartable inputs.now × (first + place < 2 ^ 64) }
+                requires { (0 < harts) × (length (world S.memory start.now).harts ≡ harts) × (first + place < 2 ^ 64) }
                 ensures { IfOk result (λ run. (ends_of run
-                    ≡ seed_ends image.entry.now inputs.entry.now steps (first + place))
-                    × RemembersChosen (length inputs.entry.now) steps run) }
-            { run_seed(alloc, image, inputs, steps, first + place) },
+                    ≡ ends_from (world S.memory start.entry.now) harts steps (first + place))
+                    × RemembersChosen harts steps run) }
+            { run_seed(alloc, start, harts, steps, first + place) },
         )
         .collect(rt, alloc)?;
     runs

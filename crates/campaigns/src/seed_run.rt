@@ -4,14 +4,15 @@ ghost use Rattle.std.specs.Prelude.{◌≡◌, ◌<◌, ◌||◌, ◌==◌, ℕ,
 ghost use Rattle.machine.specs.Chosen.{is_chosen, ChooseAlike};
 ghost use Rattle.machine.specs.World.{run};
 ghost use Rattle.machine.specs.Machine.{world};
-ghost use Rattle.machine.specs.Start.{IsStartable};
+ghost use Rattle.machine.specs.State.{state};
+ghost use Rattle.machine.specs.Start.{IsStartable, started};
 ghost use Rattle.scheduler.specs.Schedules.{seeded_choices};
-ghost use Rattle.campaigns.specs.Campaign.{ends_of, seed_ends, RemembersChosen};
+ghost use Rattle.campaigns.specs.Campaign.{ends_of, ends_from, RemembersChosen};
 
 use hart_step::Hart;
 use loader::Image;
 use machine::{Choice, Machine};
-use memory::{FlatStore, Store};
+use memory::{FlatStore, FromImage, Store};
 use scheduler::{draw_choice, seeded_generator};
 use std::alloc::{AllocError, Allocator};
 
@@ -73,23 +74,38 @@ fn run_seeded<S: Store, A: Allocator>(
     Ok(chosen)
 }
 
-// The plain run of one seed.
-pub(crate) fn run_seed<A: Allocator + Copy, B: Allocator>(
+// A machine at the beginning of a program.
+pub(crate) fn first_machine<A: Allocator + Copy, B: Allocator>(
     alloc: A,
     image: &Image<B>,
     inputs: &[u32],
+) -> Result<Machine<FlatStore<A>, A>, AllocError>
+    requires { IsStartable inputs.now }
+    ensures begun { IfOk result (λ machine. state machine ≡ started image.now inputs.now) }
+    ensures harts { IfOk result (λ machine. length (state machine).harts ≡ length inputs.now) }
+{
+    match Machine::start(alloc, image, inputs) {
+        Ok(machine) => Ok(machine),
+        Err(_) => Err(AllocError),
+    }
+}
+
+// The run of one seed on a copy of a machine: whatever was made of the program's code at its start is made for no seed again.
+pub(crate) fn run_seed<S: FromImage<A>, A: Allocator + Copy>(
+    alloc: A,
+    start: &Machine<S, A>,
+    harts: u32,
     steps: u64,
     seed: u64,
 ) -> Result<SeedRun<A>, AllocError>
-    requires { IsStartable inputs.now }
-    ensures ends { IfOk result (λ run. ends_of run ≡ seed_ends image.now inputs.now steps seed) }
-    ensures chosen { IfOk result (RemembersChosen (length inputs.now) steps) }
+    requires some { 0 < harts }
+    requires harts { length (world S.memory start.now).harts ≡ harts }
+    ensures ends { IfOk result (λ run.
+        ends_of run ≡ ends_from (world S.memory start.now) harts steps seed) }
+    ensures chosen { IfOk result (RemembersChosen harts steps) }
 {
-    let mut machine: Machine<FlatStore<A>, A> = match Machine::start(alloc, image, inputs) {
-        Ok(machine) => machine,
-        Err(_) => return Err(AllocError),
-    };
-    let chosen = run_seeded(alloc, &mut machine, inputs.len() as u32, steps, seed)?;
+    let mut machine = start.copy(alloc)?;
+    let chosen = run_seeded(alloc, &mut machine, harts, steps, seed)?;
     Ok(SeedRun {
         seed,
         harts: Vec::from_slice(alloc, machine.ends())?,

@@ -1,5 +1,5 @@
 //! What no clause says of one seed's run, which is private: refused memory.
-use crate::seed_run::run_seed;
+use crate::seed_run::{first_machine, run_seed};
 use loader::{Image, Rights, Segment};
 use refusing::{Call, tried};
 use std::alloc::{AllocError, Allocator, Global};
@@ -41,7 +41,8 @@ struct OneSeed;
 impl Call for OneSeed {
     fn answer<A: Allocator + Copy>(&self, alloc: A, host: Global) -> Result<bool, AllocError> {
         let image = program(host, &CONDITIONAL)?;
-        let run = run_seed(alloc, &image, &[7, 9], 8, 5)?;
+        let start = first_machine(alloc, &image, &[7, 9])?;
+        let run = run_seed(alloc, &start, 2, 8, 5)?;
         Ok(run.harts.len() == 2)
     }
 }
