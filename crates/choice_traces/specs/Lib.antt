@@ -1,0 +1,7 @@
+pub mod Destination
+pub mod Bytes
+pub mod Latest
+pub mod Known
+pub mod Told
+pub mod Met
+pub mod Tells
