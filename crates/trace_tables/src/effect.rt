@@ -1,0 +1,30 @@
+//! A thing that a choice did.
+
+use choice_traces::Written;
+use hart_step::Cause;
+
+/// A thing that a choice did, which its row tells.
+#[derive(Clone, Copy, Debug, PartialEq, Eq)]
+pub enum Effect {
+    /// The store-conditional stored.
+    Succeeds,
+    /// The store-conditional did not store.
+    Fails,
+    /// A register was written.
+    Sets(Written),
+    /// Bytes were stored.
+    Stores {
+        /// The first one's address.
+        address: u32,
+        /// The number that they spelled before, the lowest byte first.
+        before: u32,
+        /// The number that they spell now.
+        after: u32,
+    },
+    /// The hart stopped itself, with this status.
+    Exits(u32),
+    /// The instruction stopped the hart.
+    Faults(Cause),
+    /// The hart had stopped before, and nothing happened.
+    Rests,
+}
