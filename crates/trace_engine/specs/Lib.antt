@@ -1,0 +1,6 @@
+pub mod Left
+pub mod Cursor
+pub mod Teller
+pub mod Output
+pub mod Trace
+pub mod Answer
