@@ -9,6 +9,7 @@ pub mod RunLine
 pub mod ScheduleLine
 pub mod ShrinkLine
 pub mod ThreadsLine
+pub mod TraceLine
 pub mod Line
 pub mod Numbers
 pub mod Inputs

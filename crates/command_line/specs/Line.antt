@@ -12,6 +12,7 @@ use Rattle.command_line.specs.RunLine.{run_app, run_names, IsRun}
 use Rattle.command_line.specs.ScheduleLine.{schedule_app, schedule_names, IsSchedule}
 use Rattle.command_line.specs.ShrinkLine.{shrink_app, shrink_names, IsShrink}
 use Rattle.command_line.specs.ThreadsLine.{threads_app, threads_names, IsThreads}
+use Rattle.command_line.specs.TraceLine.{trace_app, trace_names, IsTrace}
 use Rattle.command_line.specs.declared.line.Order.{Order}
 use Rattle.command_line.specs.declared.line.Order.TheVariants as order
 use Rattle.command_line.specs.declared.line.LineFault.{LineFault}
@@ -34,6 +35,7 @@ program_app =
     (with_subcommand
     (with_subcommand
     (with_subcommand
+    (with_subcommand
     (with_subcommand bare_app asm_app.top)
     (file_app (codes "list")).top)
     (file_app (codes "info")).top)
@@ -44,7 +46,8 @@ program_app =
     lib_app.top)
     campaign_app.top)
     schedule_app.top)
-    shrink_app.top
+    shrink_app.top)
+    trace_app.top
 
 -- the order is the command that clap met, with its matches
 abbrev pub IsOrder : Option (Text × List Row) → Order → Type 0
@@ -60,6 +63,7 @@ IsOrder (Some found) (order.Lib o) = (found.0 ≡ codes "lib") × IsLib found.1 
 IsOrder (Some found) (order.Campaign o) = (found.0 ≡ codes "campaign") × IsCampaign found.1 o
 IsOrder (Some found) (order.Schedule o) = (found.0 ≡ codes "schedule") × IsSchedule found.1 o
 IsOrder (Some found) (order.Shrink o) = (found.0 ≡ codes "shrink") × IsShrink found.1 o
+IsOrder (Some found) (order.Trace o) = (found.0 ≡ codes "trace") × IsTrace found.1 o
 
 -- the matches are of no command of plain texts, or lack a text of it
 pub record IsNoPlain (name : Text) (rows : List Row) : Type 0 where
@@ -73,6 +77,7 @@ pub record IsNoPlain (name : Text) (rows : List Row) : Type 0 where
   pub of_campaign : name ≡ codes "campaign" → holds_all campaign_names rows ≡ false
   pub of_schedule : name ≡ codes "schedule" → holds_all schedule_names rows ≡ false
   pub of_shrink : name ≡ codes "shrink" → holds_all shrink_names rows ≡ false
+  pub of_trace : name ≡ codes "trace" → holds_all trace_names rows ≡ false
 
 -- clap met no command, or one that lacks a text that has to stand
 abbrev pub HasNoOrder : Option (Text × List Row) → Type 0

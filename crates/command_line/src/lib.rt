@@ -16,6 +16,7 @@ pub use run_line::RunOrder;
 pub use schedule_line::ScheduleOrder;
 pub use shrink_line::ShrinkOrder;
 pub use threads_line::ThreadsOrder;
+pub use trace_line::TraceOrder;
 
 mod arguments;
 mod asm_line;
@@ -34,3 +35,4 @@ mod run_line;
 mod schedule_line;
 mod shrink_line;
 mod threads_line;
+mod trace_line;

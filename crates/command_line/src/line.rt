@@ -15,6 +15,7 @@ use crate::run_line::{RunOrder, run_command, run_order};
 use crate::schedule_line::{ScheduleOrder, schedule_command, schedule_order};
 use crate::shrink_line::{ShrinkOrder, shrink_command, shrink_order};
 use crate::threads_line::{ThreadsOrder, threads_command, threads_order};
+use crate::trace_line::{TraceOrder, trace_command, trace_order};
 use clap::error::ErrorKind;
 use clap::{ArgMatches, Command};
 use std::alloc::{AllocError, Global};
@@ -44,6 +45,8 @@ pub enum Order<'a> {
     Schedule(ScheduleOrder<'a>),
     /// `shrink`
     Shrink(ShrinkOrder<'a>),
+    /// `trace`
+    Trace(TraceOrder<'a>),
 }
 
 /// Why a command line gives no order.
@@ -88,7 +91,8 @@ fn program<'a>(alloc: Global) -> Result<Command<'a>, AllocError>
     let program = add_command(program, lib_command(alloc))?;
     let program = add_command(program, campaign_command(alloc))?;
     let program = add_command(program, schedule_command(alloc))?;
-    add_command(program, shrink_command(alloc))
+    let program = add_command(program, shrink_command(alloc))?;
+    add_command(program, trace_command(alloc))
 }
 
 // The order of a command of plain texts, by its name and its matches.
@@ -108,6 +112,7 @@ fn plain_order<'a>(name: &str, found: &ArgMatches<'a>) -> Option<Order<'a>>
         "campaign" => Some(Order::Campaign(campaign_order(found)?)),
         "schedule" => Some(Order::Schedule(schedule_order(found)?)),
         "shrink" => Some(Order::Shrink(shrink_order(found)?)),
+        "trace" => Some(Order::Trace(trace_order(found)?)),
         _ => None,
     }
 }

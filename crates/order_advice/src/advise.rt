@@ -86,7 +86,7 @@ fn push_command<A: Allocator + Copy>(
     match nearest(alloc, &known, *name, EDITS)? {
         Some(near) => writeln!(text, "is {near} meant?"),
         None => text.push_str(
-            "the commands are asm, list, info, run, debug, threads, replay, lib, campaign and schedule; a file stands behind the command\n",
+            "the commands are asm, list, info, run, debug, threads, replay, lib, campaign, schedule, shrink and trace; a file stands behind the command\n",
         ),
     }
 }

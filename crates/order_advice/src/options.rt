@@ -9,7 +9,7 @@ pub(crate) struct Row {
 }
 
 /// The commands.
-pub(crate) const COMMANDS: [Row; 11] = [
+pub(crate) const COMMANDS: [Row; 12] = [
     Row {
         name: "asm",
         options: &["--out"],
@@ -74,10 +74,22 @@ pub(crate) const COMMANDS: [Row; 11] = [
         options: &["--inputs", "--choices", "--rule"],
         example: "rvcons shrink prog.elf --inputs 7,9 --choices seed_5.choices >few.choices",
     },
+    Row {
+        name: "trace",
+        options: &[
+            "--hex",
+            "--inputs",
+            "--choices",
+            "--from",
+            "--to",
+            "--table",
+        ],
+        example: "rvcons trace prog.elf --inputs 7,9 --choices turns.choices --table",
+    },
 ];
 
 /// Names of options that a command doesn't have, with what to write.
-pub(crate) const OTHER_OPTIONS: [(&[&str], &str); 12] = [
+pub(crate) const OTHER_OPTIONS: [(&[&str], &str); 14] = [
     (
         &["--seed", "--seeds", "--random"],
         "a seed's schedule is made by rvcons schedule --harts N --steps M --seed S >FILE and run by --choices FILE; campaign takes seeds by --first and --count",
@@ -120,7 +132,15 @@ pub(crate) const OTHER_OPTIONS: [(&[&str], &str); 12] = [
     ),
     (
         &["--trace", "--verbose", "-v"],
-        "rvcons debug shows the steps: its command steps A B",
+        "rvcons trace prints what each choice did; rvcons debug shows the steps that you ask for: its command steps A B",
+    ),
+    (
+        &["--json", "--markdown", "--md", "--format"],
+        "rvcons trace prints lines of JSON, and with --table a table in Markdown",
+    ),
+    (
+        &["--begin", "--end", "--range", "--from", "--to"],
+        "choices from A to B are told by rvcons trace --from A --to B",
     ),
     (
         &["--first", "--count"],
@@ -129,13 +149,14 @@ pub(crate) const OTHER_OPTIONS: [(&[&str], &str); 12] = [
 ];
 
 /// Names of commands that are not here, with what to write.
-pub(crate) const OTHER_COMMANDS: [(&[&str], &str); 8] = [
+pub(crate) const OTHER_COMMANDS: [(&[&str], &str); 9] = [
     (&["assemble", "as", "build", "compile"], "asm"),
     (&["disasm", "objdump", "dump", "disassemble"], "list"),
     (&["readelf", "nm", "symbols", "show"], "info"),
     (&["exec", "start", "sim", "simulate"], "run"),
-    (&["gdb", "step", "trace"], "debug"),
+    (&["gdb", "step"], "debug"),
     (&["fuzz", "test", "check", "random"], "campaign"),
     (&["choices", "seed"], "schedule"),
+    (&["tell", "log", "record"], "trace"),
     (&["library", "object"], "lib"),
 ];

@@ -1,3 +1,4 @@
 pub mod Plans
 pub mod SchedulePlans
 pub mod Tellings
+pub mod TracePlans

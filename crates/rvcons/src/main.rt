@@ -15,6 +15,7 @@ mod run;
 mod schedule;
 mod shrink;
 mod threads;
+mod trace;
 mod watching;
 
 use crate::audience::Audience;
@@ -76,6 +77,7 @@ fn obey<R: Files + AllocGlobal + Print + Eprint + Env + Threads + Wait + Sync + 
         Ok(Order::Campaign(order)) => campaign::run_campaign(rt, audience, &order),
         Ok(Order::Schedule(order)) => schedule::print_schedule(rt, &order),
         Ok(Order::Shrink(order)) => shrink::shrink(rt, audience, &order),
+        Ok(Order::Trace(order)) => trace::trace(rt, audience, &order),
         Err(fault) => {
             let status = refuse(rt, &fault);
             explain_line(rt, audience, words.as_slice(), &fault);

@@ -26,4 +26,5 @@ returns c =
     let lib = step _ _ _ _ _ replay c.in_ok-program-8.ensures.app c.lib_command.ensures.app in
     let campaign = step _ _ _ _ _ lib c.in_ok-program-9.ensures.app c.campaign_command.ensures.app in
     let schedule = step _ _ _ _ _ campaign c.in_ok-program-10.ensures.app c.schedule_command.ensures.app in
-    IfOk-weaker c.add_command-11.result _ _ (λ r last. step _ _ _ r _ schedule last c.shrink_command.ensures.app) c.add_command-11.ensures.app
+    let shrink = step _ _ _ _ _ schedule c.in_ok-program-11.ensures.app c.shrink_command.ensures.app in
+    IfOk-weaker c.add_command-12.result _ _ (λ r last. step _ _ _ r _ shrink last c.trace_command.ensures.app) c.add_command-12.ensures.app

@@ -1,0 +1,18 @@
+use Rattle.std.proofs.Common.{ap₂, ◌∙◌}
+use Rattle.std.proofs.lemmas.Result.{IfOk-weaker}
+use Rattle.clap.specs.Words.{with_rule}
+use Rattle.command_line.proofs.trace_line.run_words.Goals as goal
+
+pub returns-clause-app : goal.returns-clause-app
+returns-clause-app c =
+    let hex = c.in_ok-command.ensures.app ∙ ap₂ with_rule c.headed-command.ensures.app c.flag.ensures.rule in
+    let file = c.in_ok-command-2.ensures.app ∙ ap₂ with_rule hex c.needed.ensures.rule in
+    let inputs = c.in_ok-command-3.ensures.app ∙ ap₂ with_rule file c.needed_option.ensures.rule in
+    IfOk-weaker c.add-4.result _ _ (λ r last. last ∙ ap₂ with_rule inputs c.needed_option-2.ensures.rule) c.add-4.ensures.app
+
+pub returns-clause-local : goal.returns-clause-local
+returns-clause-local c =
+    let hex = c.in_ok-command.ensures.globals ∙ c.headed-command.ensures.globals in
+    let file = c.in_ok-command-2.ensures.globals ∙ hex in
+    let inputs = c.in_ok-command-3.ensures.globals ∙ file in
+    IfOk-weaker c.add-4.result _ _ (λ r last. last ∙ inputs) c.add-4.ensures.globals
