@@ -1,18 +1,17 @@
 //! Doing `campaign`.
 
-ghost use Rattle.std.specs.Prelude.{◌≡◌, ◌+◌, ◌-◌, ◌<◌, ◌≤◌, ◌^◌};
-ghost use Rattle.rvcons.specs.Plans.{plan_of};
-ghost use Rattle.rvcons.specs.Tellings.{telling_of};
+ghost use Rattle.std.specs.Prelude.{◌+◌, ◌-◌, ◌<◌, ◌≤◌, ◌^◌};
 
 use crate::audience::Audience;
 use crate::explain::{RunFiles, explain_run, read_again, show};
 use crate::report::{bad_line, cannot_open, cannot_read, refuse, say};
 use crate::watching::Watching;
 use choice_texts::print_choices;
-use command_line::{CampaignOrder, read_inputs, read_number, read_rule};
+use command_line::{CampaignOrder, read_inputs, read_rule};
 use devices::{ReaderSource, Sink, Source, Status, WriterSink};
 use engines::{CampaignPlan, campaign_engine};
 use fault_advice::run_advice;
+use order_plans::{Telling, read_campaign_plan, read_telling};
 use programs::{ProgramForm, RunFault};
 use progress::Progress;
 use protocol_library::Kind;
@@ -20,18 +19,7 @@ use schedule_engine::{Maker, SchedulePlan, make_schedule};
 use std::rt::Files;
 use std::thread::Threads;
 use std::{fs, io};
-use summary_engine::{Detail, SummaryPlan, failures_engine, summary_engine};
-
-/// What is told of a campaign's seeds.
-#[derive(Clone, Copy, Debug, PartialEq, Eq)]
-pub(crate) enum Telling {
-    /// A line for each.
-    All,
-    /// The lines of bad ones alone.
-    Failures,
-    /// How many have each outcome.
-    Summary(Detail),
-}
+use summary_engine::{SummaryPlan, failures_engine, summary_engine};
 
 // Tells a person how far a campaign is.
 #[derive(Drop)]
@@ -49,49 +37,6 @@ impl<'a, R: Eprint> Progress for Line<'a, R> {
             let what = self.bad;
             let _ = eprint!(self.rt; "\r{done} seeds done, {bad} {what}");
         }
-    }
-}
-
-// The plan that three numbers write: the first seed, how many seeds and how many steps for each. The seeds end by 2^64, and
-// the steps are below 2^32.
-fn read_campaign_plan(
-    rule: Option<Kind>,
-    first: &str,
-    count: &str,
-    steps: &str,
-) -> Option<CampaignPlan>
-    ensures { result ≡ plan_of rule first.now count.now steps.now }
-{
-    let Ok(first) = read_number(first, u64::MAX) else {
-        return None;
-    };
-    let Ok(count) = read_number(count, u64::MAX) else {
-        return None;
-    };
-    let Ok(steps) = read_number(steps, u64::from(u32::MAX)) else {
-        return None;
-    };
-    if count > 0 && first > u64::MAX - (count - 1) {
-        return None;
-    }
-    Some(CampaignPlan {
-        first,
-        count,
-        steps,
-        rule,
-    })
-}
-
-// What is told, where the options go together: not failures and a summary, and outcomes only in a summary.
-fn read_telling(failures: bool, summary: bool, outcomes: bool) -> Option<Telling>
-    ensures { result ≡ telling_of failures summary outcomes }
-{
-    match (failures, summary, outcomes) {
-        (false, false, false) => Some(Telling::All),
-        (true, false, false) => Some(Telling::Failures),
-        (false, true, false) => Some(Telling::Summary(Detail::Ends)),
-        (false, true, true) => Some(Telling::Summary(Detail::Results)),
-        _ => None,
     }
 }
 

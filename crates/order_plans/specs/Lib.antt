@@ -1,4 +1,4 @@
-pub mod Plans
+pub mod CampaignPlans
 pub mod SchedulePlans
 pub mod Tellings
 pub mod TracePlans

@@ -1,7 +1,7 @@
 -- What is told of a campaign's seeds.
 use Rattle.std.specs.Prelude.{Bool, true, false, Option, Some, None}
-use Rattle.rvcons.specs.declared.campaign.Telling.{Telling}
-use Rattle.rvcons.specs.declared.campaign.Telling.TheVariants as telling
+use Rattle.order_plans.specs.declared.campaign.Telling.{Telling}
+use Rattle.order_plans.specs.declared.campaign.Telling.TheVariants as telling
 use Rattle.summary_engine.specs.declared.plan.Detail.TheVariants as detail
 
 -- what the options for failures, a summary and outcomes ask for, where they go together
