@@ -63,3 +63,14 @@ last_is_greatest stop (suc i) = greatest_here stop i (stop i) (last_stop stop i)
 
 pub earlier_is_greatest : (s : Session) → IsGreatestStop (stop_behind s) (s.position - 1) (earlier_found s).0 (earlier_found s).1
 earlier_is_greatest s = last_is_greatest (stop_behind s) (s.position - 1)
+
+-- what was found, as a position and a reason
+pub found_is_least : (s : Session) (k : ℕ) (why : Option Stop) → s.position ≤ length_of s → k ≡ (next_found s).0 → why ≡ (next_found s).1 → IsLeastStop (stop_behind s) s.position (length_of s) k why
+found_is_least s k why inside at reason =
+    subst (λ (i : ℕ). IsLeastStop (stop_behind s) s.position (length_of s) i why) (sym at)
+    (subst (λ (o : Option Stop). IsLeastStop (stop_behind s) s.position (length_of s) (next_found s).0 o) (sym reason) (next_is_least s inside))
+
+pub found_is_greatest : (s : Session) (k : ℕ) (why : Option Stop) → k ≡ (earlier_found s).0 → why ≡ (earlier_found s).1 → IsGreatestStop (stop_behind s) (s.position - 1) k why
+found_is_greatest s k why at reason =
+    subst (λ (i : ℕ). IsGreatestStop (stop_behind s) (s.position - 1) i why) (sym at)
+    (subst (λ (o : Option Stop). IsGreatestStop (stop_behind s) (s.position - 1) (earlier_found s).0 o) (sym reason) (earlier_is_greatest s))

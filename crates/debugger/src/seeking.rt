@@ -1,6 +1,7 @@
 //! Going on and back to where one has to stop.
-ghost use Rattle.std.specs.Prelude.{◌≡◌, ◌<◌, ◌≤◌, ◌+◌, ◌*◌, OnOk, OnErr, IfOk, IfSome};
+ghost use Rattle.std.specs.Prelude.{◌≡◌, ◌<◌, ◌≤◌, ◌+◌, ◌-◌, ◌*◌, OnOk, OnErr, IfOk, IfSome};
 ghost use Rattle.debugger.specs.Paged.{paged_world};
+ghost use Rattle.debugger.specs.Searches.{IsLeastStop, IsGreatestStop};
 ghost use Rattle.debugger.specs.Session.{session, moved, length_of, world_at, stop_behind, found_or, last_stop, next_found, earlier_found, steps_on, steps_of_search, steps_back};
 
 use crate::debugger::Debugger;
@@ -184,6 +185,9 @@ impl<A: Allocator + Copy> Debugger<A> {
         ensures ok { IfOk result (λ stop.
             (session self.new ≡ moved (session self.old) (next_found (session self.old)).0)
             × (stop ≡ (next_found (session self.old)).1)) }
+        ensures least { IfOk result (λ stop. IsLeastStop (stop_behind (session self.old))
+            (session self.old).position (length_of (session self.old))
+            (session self.new).position stop) }
         ensures cost { OnOk result (self.new.cost
             ≡ steps_on (session self.old) (session self.new).position) }
         ensures err { OnErr result ((session self.new ≡ session self.old)
@@ -201,6 +205,8 @@ impl<A: Allocator + Copy> Debugger<A> {
         ensures ok { IfOk result (λ stop.
             (session self.new ≡ moved (session self.old) (earlier_found (session self.old)).0)
             × (stop ≡ (earlier_found (session self.old)).1)) }
+        ensures greatest { IfOk result (λ stop. IsGreatestStop (stop_behind (session self.old))
+            ((session self.old).position - 1) (session self.new).position stop) }
         ensures cost { OnOk result (self.new.cost
             ≡ steps_back (session self.old) (session self.new).position) }
         ensures err { OnErr result ((session self.new ≡ session self.old)
