@@ -1,4 +1,5 @@
 //! Who reads standard error.
+use crate::progress_line::{WIPE, wipe_line};
 use hart_threads::Gate;
 use std::sync::atomic::{AtomicU64, Ordering};
 
@@ -33,6 +34,15 @@ impl<'a, R> TellingGate<'a, R> {
     }
 }
 
+impl<'a, R: Eprint> TellingGate<'a, R> {
+    /// Wipes what was told, once no hart goes through any more.
+    pub(crate) fn wipe(&self) {
+        if self.entries.load(Ordering::SeqCst) > TOLD_EACH {
+            wipe_line(self.rt, self.audience);
+        }
+    }
+}
+
 impl<'a, R: Eprint> Gate for TellingGate<'a, R> {
     fn arrive(&self, _hart: u32, _count: u32) {
         if self.audience == Audience::Program {
@@ -41,7 +51,7 @@ impl<'a, R: Eprint> Gate for TellingGate<'a, R> {
         let entries = self.entries.fetch_add(1, Ordering::SeqCst);
         if entries > 0 && entries % TOLD_EACH == 0 {
             // Where standard error is closed there is nobody to tell.
-            let _ = eprint!(self.rt; "\r{entries} entries");
+            let _ = eprint!(self.rt; "{WIPE}{entries} entries");
         }
     }
 }

@@ -4,6 +4,7 @@ ghost use Rattle.std.specs.Prelude.{◌+◌, ◌-◌, ◌<◌, ◌≤◌, ◌^�
 
 use crate::audience::Audience;
 use crate::explain::{RunFiles, explain_run, read_again, show};
+use crate::progress_line::{WIPE, wipe_line};
 use crate::report::{bad_line, cannot_open, cannot_read, refuse, say};
 use crate::watching::Watching;
 use choice_texts::print_choices;
@@ -26,16 +27,21 @@ use summary_engine::{SummaryPlan, failures_engine, summary_engine};
 struct Line<'a, R> {
     rt: &'a R,
     audience: Audience,
+    // How many seeds there are.
+    count: u64,
     // What a bad seed is.
     bad: &'a str,
+    // Whether it was told anything.
+    is_shown: bool,
 }
 
 impl<'a, R: Eprint> Progress for Line<'a, R> {
     fn seeds_done(&mut self, done: u64, bad: u64) {
         if self.audience == Audience::Person {
+            self.is_shown = true;
             // Where standard error is closed there is nobody to tell.
-            let what = self.bad;
-            let _ = eprint!(self.rt; "\r{done} seeds done, {bad} {what}");
+            let (count, what) = (self.count, self.bad);
+            let _ = eprint!(self.rt; "{WIPE}{done} of {count} seeds done, {bad} {what}");
         }
     }
 }
@@ -104,10 +110,15 @@ pub(crate) fn run_campaign<R: Files + AllocGlobal + Print + Eprint + Threads + S
         Err(error) => return cannot_open(rt, audience, order.file, &error),
     };
     let mut program = ReaderSource::new(program);
-    let mut sink = Watching::new(rt.alloc(), WriterSink::new(io::writer(rt)));
-    let bad = what_is_bad(plan.rule);
-    let mut line = Line { rt, audience, bad };
-    match tell_runs(
+    let mut sink = Watching::new(rt, audience, WriterSink::new(io::writer(rt)));
+    let mut line = Line {
+        rt,
+        audience,
+        count: plan.count,
+        bad: what_is_bad(plan.rule),
+        is_shown: false,
+    };
+    let answer = tell_runs(
         rt,
         telling,
         inputs.as_slice(),
@@ -115,7 +126,11 @@ pub(crate) fn run_campaign<R: Files + AllocGlobal + Print + Eprint + Threads + S
         &mut program,
         &mut sink,
         &mut line,
-    ) {
+    );
+    if line.is_shown {
+        wipe_line(rt, audience);
+    }
+    match answer {
         Ok(status) => {
             if audience == Audience::Person {
                 let _ = explain_seed(rt, order, inputs.as_slice(), plan.steps, sink.seed());
@@ -158,9 +173,8 @@ fn explain_seed<R: Files + AllocGlobal + Eprint>(
 ) -> Option<()> {
     let seed = seed?;
     let (file, texts, harts) = (order.file, order.inputs, inputs.len());
-    // Progress stands on a line of its own.
     eprintln!(rt;
-        "\nseed {seed} is the first such one. To look into it:\n    \
+        "seed {seed} is the first such one. To look into it:\n    \
          rvcons schedule --harts {harts} --steps {steps} --seed {seed} >seed_{seed}.choices\n    \
          rvcons debug {file} --inputs {texts} --choices seed_{seed}.choices"
     )

@@ -3,6 +3,7 @@
 use crate::audience::Audience;
 use crate::conversation::talk_to_person;
 use crate::explain::{RunFiles, explain_run};
+use crate::progress_line::{WIPE, wipe_line};
 use crate::report::{cannot_open, cannot_read, out_of_memory, refuse};
 use command_line::{DebugOrder, read_inputs};
 use debug_engine::{DebugEngineFault, debug_engine};
@@ -26,10 +27,9 @@ impl<'a, R: Eprint> Progress for Line<'a, R> {
             return;
         }
         // Where standard error is closed there is nobody to tell.
-        let _ = eprint!(self.rt; "\r{done} of {all} choices done");
+        let _ = eprint!(self.rt; "{WIPE}{done} of {all} choices done");
         if done == all {
-            // The first answer stands on a line of its own.
-            let _ = eprintln!(self.rt);
+            wipe_line(self.rt, self.audience);
         }
     }
 }

@@ -9,6 +9,7 @@ mod debug;
 mod explain;
 mod file;
 mod library;
+mod progress_line;
 mod replay;
 mod report;
 mod run;

@@ -2,6 +2,7 @@
 
 use crate::audience::Audience;
 use crate::explain::{RunFiles, explain_run, show};
+use crate::progress_line::WIPE;
 use crate::report::{cannot_open, cannot_read, refuse, say, tell_shrink};
 use choice_shrinking::ChoicesLeft;
 use command_line::{ShrinkOrder, read_inputs, read_rule};
@@ -22,14 +23,14 @@ impl<'a, R: Eprint> ChoicesLeft for Line<'a, R> {
     fn choices_left(&mut self, left: usize) {
         if self.audience == Audience::Person {
             // Where standard error is closed there is nobody to tell.
-            let _ = eprint!(self.rt; "\r{left} choices left   ");
+            let _ = eprint!(self.rt; "{WIPE}{left} choices left");
         }
     }
 
     fn choices_needed(&mut self, needed: usize) {
         if self.audience == Audience::Person {
             // The choice text stands on a line of its own.
-            let _ = eprintln!(self.rt; "\r{needed} choices needed");
+            let _ = eprintln!(self.rt; "{WIPE}{needed} choices needed");
         }
     }
 }

@@ -50,7 +50,9 @@ pub(crate) fn run_on_threads<R: Files + AllocGlobal + Print + Eprint + Threads +
     };
     let mut program = ReaderSource::new(program);
     let gate = TellingGate::new(rt, audience);
-    let answer = match threads_engine(rt, rt.alloc(), task, &mut program, &gate) {
+    let answer = threads_engine(rt, rt.alloc(), task, &mut program, &gate);
+    gate.wipe();
+    let answer = match answer {
         Ok(answer) => answer,
         Err(ThreadsEngineFault::Run(RunFault::Read(Input::File))) => {
             return cannot_read(rt, order.file);

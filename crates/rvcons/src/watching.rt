@@ -1,27 +1,32 @@
-//! A campaign's sink that remembers the first seed with a bad run.
+//! A campaign's sink: it keeps the line of progress apart from what is written, and remembers the first seed with a bad run.
 
 ghost use Rattle.std.specs.Prelude.{◌≡◌};
 
+use crate::audience::Audience;
+use crate::progress_line::wipe_line;
 use devices::{DeviceFault, Sink};
-use std::alloc::Global;
 
-/// Passes bytes on, and looks at the lines of seeds that they make.
+/// Passes bytes on, once the line of progress is wiped, and looks at the lines of seeds that they make.
 #[derive(Drop)]
-pub(crate) struct Watching<K> {
+pub(crate) struct Watching<'a, R, K> {
+    rt: &'a R,
+    audience: Audience,
     sink: K,
     // The beginning of a line that has not ended yet.
     line: Vec<u8>,
     seed: Option<u64>,
 }
 
-impl<K> Watching<K> {
+impl<'a, R: AllocGlobal, K> Watching<'a, R, K> {
     /// Nothing has gone through.
-    pub(crate) fn new(alloc: Global, sink: K) -> Watching<K>
+    pub(crate) fn new(rt: &'a R, audience: Audience, sink: K) -> Watching<'a, R, K>
         ensures { result.sink ≡ sink }
     {
         Watching {
+            rt,
+            audience,
             sink,
-            line: Vec::new(alloc),
+            line: Vec::new(rt.alloc()),
             seed: None,
         }
     }
@@ -71,12 +76,13 @@ fn bad_seed(line: &[u8]) -> Option<u64> {
     }
 }
 
-impl<K: Sink> Sink for Watching<K> {
+impl<'a, R: Eprint, K: Sink> Sink for Watching<'a, R, K> {
     ghost held = { λ s. K.held s.sink };
 
     ghost failures = { λ s. K.failures s.sink };
 
     fn write(&mut self, piece: &[u8]) -> Result<usize, DeviceFault> {
+        wipe_line(self.rt, self.audience);
         let count = self.sink.write(piece)?;
         let (taken, _) = piece.split_at(count);
         self.seed = see(&mut self.line, self.seed, taken);
