@@ -1,0 +1,4 @@
+pub mod AccessLemmas
+pub mod RunLemmas
+pub mod MergeLemmas
+pub mod HartLogLemmas

@@ -1,0 +1,5 @@
+pub mod Banks
+pub mod Runs
+pub mod Segments
+pub mod HartLogs
+pub mod Order

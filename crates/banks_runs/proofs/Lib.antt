@@ -1,0 +1,2 @@
+pub mod WorldLemmas
+pub mod MergedLemmas

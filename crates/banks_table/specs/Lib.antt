@@ -1,0 +1,4 @@
+pub mod Words
+pub mod Carried
+pub mod Table
+pub mod Shown
