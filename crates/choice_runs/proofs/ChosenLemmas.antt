@@ -1,11 +1,9 @@
--- Which harts a list of choices chooses, one choice more, one run more, and by the marks of an array.
-use Rattle.std.proofs.Common.{◌≡◌, ℕ, zero, suc, ◌+◌, ◌<◌, ◌≤◌, Bool, true, false, ◌||◌, ◌&&◌, ◌==◌, cond, ltb, List, [], ◌∷◌, ◌++◌, length, get_or, refl, ap, sym, ◌∙◌, arith, eqb-true, eq-eqb, ne_eqb, ltb-true, ltb-false, lt-ltb, le-ltb}
+-- Which harts a list of choices chooses, one choice more and by the marks of an array.
+use Rattle.std.proofs.Common.{◌≡◌, ℕ, zero, suc, ◌+◌, ◌<◌, ◌≤◌, Bool, true, false, ◌||◌, ◌&&◌, ◌==◌, cond, ltb, List, [], ◌∷◌, ◌++◌, length, get_or, refl, ap, sym, ◌∙◌, arith, eqb-true, eq-eqb, ne_eqb, ltb-false, lt-ltb, le-ltb}
 use Rattle.std.proofs.lemmas.Bool.Decides.{nat_tests}
 use Rattle.std.specs.Prelude.{replicate}
 use Rattle.machine.specs.Chosen.{is_chosen}
 use Rattle.machine.specs.declared.choice.Choice.{Choice}
-use Rattle.choice_texts.specs.declared.run.Run.{Run}
-use Rattle.choice_texts.specs.Runs.{equal_choices}
 use Rattle.choice_runs.specs.Harts.{Harts, with_hart, marked_at}
 
 any-append : (a b : List Choice) (k : ℕ) → is_chosen (a ++ b) k ≡ (is_chosen a k || is_chosen b k)
@@ -19,10 +17,6 @@ any-append (c ∷ a) b k = go (c.hart == k) (any-append a b k)
 or-none : (x : Bool) → (x || false) ≡ x
 or-none true = refl
 or-none false = refl
-
-or-same : (x : Bool) → (x || x) ≡ x
-or-same true = refl
-or-same false = refl
 
 and-all : (x : Bool) → (x && true) ≡ x
 and-all true = refl
@@ -92,15 +86,7 @@ all_marked marks choices i past so_far k = so_far k ∙ by (ltb k i) refl
     by true e = refl
     by false e = sym (beyond marks k (omega (arith, past, ltb-false k i e)))
 
--- ---- one run more
-equal_chosen : (n : ℕ) (c : Choice) (k : ℕ) → 0 < n → is_chosen (replicate n c) k ≡ (c.hart == k)
-equal_chosen zero c k some = absurd (omega (arith, some))
-equal_chosen (suc n) c k some = all n
-  where
-    all : (n : ℕ) → ((c.hart == k) || is_chosen (replicate n c) k) ≡ (c.hart == k)
-    all zero = or-none (c.hart == k)
-    all (suc n) = ap (λ x. (c.hart == k) || x) (all n) ∙ or-same (c.hart == k)
-
+-- ---- one choice more, by harts
 turned : (h k : ℕ) → (k == h) ≡ (h == k)
 turned h k = by (k == h) refl
   where
@@ -114,10 +100,9 @@ either true false = refl
 either false true = refl
 either false false = refl
 
--- the hart of a run was chosen too
-pub run_chosen : (done : List Choice) (named : Run) (harts : Harts) (k : ℕ) → 0 < named.count → harts k ≡ is_chosen done k
-    → with_hart harts named.choice.hart k ≡ is_chosen (done ++ equal_choices named) k
-run_chosen done named harts k some told =
-    let h = named.choice.hart in
-    ap (λ b. cond b true (harts k)) (turned h k) ∙ ap (λ x. cond (h == k) true x) told ∙ either (h == k) (is_chosen done k)
-    ∙ ap (λ x. is_chosen done k || x) (sym (equal_chosen named.count named.choice k some)) ∙ sym (any-append done (equal_choices named) k)
+-- the hart of a choice was chosen too
+pub choice_chosen : (done : List Choice) (c : Choice) (harts : Harts) (k : ℕ) → harts k ≡ is_chosen done k
+    → with_hart harts c.hart k ≡ is_chosen (done ++ c ∷ []) k
+choice_chosen done c harts k told =
+    ap (λ b. cond b true (harts k)) (turned c.hart k) ∙ ap (λ x. cond (c.hart == k) true x) told ∙ either (c.hart == k) (is_chosen done k)
+    ∙ ap (λ x. is_chosen done k || x) (sym (or-none (c.hart == k))) ∙ sym (any-append done (c ∷ []) k)

@@ -1,4 +1,5 @@
 pub mod ReadLemmas
 pub mod ChosenLemmas
 pub mod NamedLemmas
+pub mod LeftLemmas
 pub mod RunLemmas

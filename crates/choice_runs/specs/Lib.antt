@@ -1,3 +1,4 @@
 pub mod Harts
 pub mod Chosen
 pub mod Leads
+pub mod Left

@@ -4,13 +4,14 @@ ghost use Rattle.choice_texts.specs.Reading.{choices_of};
 
 use choice_texts::{ChoiceFault, read_run};
 use item_texts::next_item;
+use memchr::memchr;
 
 /// The first fault of a text that has counts, if there is one: a few bytes of it may stand for minutes of steps, so it is looked through
 /// before it is run. Nothing is said of a text without counts, which is about as fast run as looked through.
 pub fn early_fault(text: &[u8], harts: u32) -> Option<ChoiceFault>
     ensures { IfSome result (λ fault. choices_of harts text.now ≡ Err fault) }
 {
-    if !text.iter().any(|byte| *byte == b'*') {
+    if memchr(b'*', text).is_none() {
         return None;
     }
     first_fault(text, harts)

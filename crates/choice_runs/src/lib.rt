@@ -1,4 +1,4 @@
-//! Choice texts run on a machine, item by item.
+//! Choice texts run on a machine, choice by choice.
 #![tactic(auto)]
 
 pub use checking::early_fault;
@@ -7,4 +7,5 @@ pub use running::run_choices;
 
 mod checking;
 mod chosen;
+mod reading;
 mod running;

@@ -1,17 +1,15 @@
-//! A choice text run on a machine: an item's equal choices in a loop. The list of choices that the text spells is never held, so a
-//! text of a few bytes that spells thousands of millions of them wants no memory.
+//! A choice text run on a machine.
 ghost use Rattle.std.specs.Prelude.{◌≡◌, ◌<◌, ◌≤◌, Err, IfOk, IfErr, length};
 ghost use Rattle.reservations.specs.Limit.{most_harts};
-ghost use Rattle.machine.specs.World.{step, run};
+ghost use Rattle.machine.specs.World.{step};
 ghost use Rattle.machine.specs.State.{state};
-ghost use Rattle.choice_texts.specs.Runs.{equal_choices};
 ghost use Rattle.choice_texts.specs.Reading.{choices_of};
 ghost use Rattle.choice_runs.specs.Chosen.{harts_of};
 ghost use Rattle.choice_runs.specs.Leads.{LeadsTo};
 
 use crate::chosen::Chosen;
-use choice_texts::{ChoiceFault, Run, read_run};
-use item_texts::next_item;
+use crate::reading::Reading;
+use choice_texts::ChoiceFault;
 use machine::{Choice, Machine};
 use memory::FlatStore;
 use std::alloc::Allocator;
@@ -30,27 +28,15 @@ pub fn run_choices<A: Allocator>(
     ensures refused { IfErr result (λ fault. choices_of harts text.now ≡ Err fault) }
 {
     let mut chosen = Chosen::new();
-    let mut from = 0;
-    'items: while let Some((begin, end)) = next_item(text, from) {
-        let named = match read_run(&text[begin..end], begin, harts) {
-            Ok(named) => named,
-            Err(fault) => return Err(fault),
-        };
-        chosen.add(named.choice.hart as usize);
-        run_equal(machine, named);
-        from = end;
+    let mut reading = Reading::begin();
+    // Steps are taken at this one place, so that the compiler puts the step's code here and makes no call of it.
+    'choices: while let Some(choice) = reading.next(text, harts) {
+        chosen.add(choice.hart as usize);
+        take_step(machine, choice);
     }
-    Ok(chosen)
-}
-
-// The choices of a run.
-fn run_equal<A: Allocator>(machine: &mut Machine<FlatStore<A>, A>, named: Run)
-    requires { named.choice.hart < length (state machine.old).harts }
-    ensures ran { state machine.new ≡ run (state machine.old) (equal_choices named) }
-    ensures harts { length (state machine.new).harts ≡ length (state machine.old).harts }
-{
-    'choices: for _ in 0..named.count {
-        take_step(machine, named.choice);
+    match reading.fault {
+        Some(fault) => Err(fault),
+        None => Ok(chosen),
     }
 }
 

@@ -1,47 +1,28 @@
-use Rattle.std.proofs.Common.{refl, sym, ◌∙◌, arith}
+use Rattle.std.proofs.Common.{refl, ◌∙◌, arith}
 use Rattle.machine.specs.State.{state}
-use Rattle.item_texts.specs.Items.{span_of}
 use Rattle.choice_runs.specs.Chosen.{harts_of}
-use Rattle.choice_runs.proofs.NamedLemmas.{named_there}
-use Rattle.choice_runs.proofs.RunLemmas.{begun, item_more, item_bad, all_run}
+use Rattle.choice_runs.specs.Left.{left_of}
+use Rattle.choice_runs.proofs.RunLemmas.{begun, one_more}
 use Rattle.choice_runs.proofs.running.run_choices.Goals as goal
 
-pub items-init : goal.items-init
-items-init g c = record {
-  within = omega arith;
-  harts = refl;
-  so_far = begun c.args.harts c.args.text.now (state c.args.machine.now) _ c.new-chosen.ensures;
-}
-
-pub add-requires : goal.add-requires
-add-requires g c =
-    let there = named_there c.args.harts c.in-Some.begin (span_of c.in-Some.begin c.in-Some.end c.args.text.now) c.in-Ok.named (sym c.in-Ok.ensures) in
-    omega (arith, there.0, c.requires.few)
-
-pub run_equal-requires : goal.run_equal-requires
-run_equal-requires g c =
-    let there = named_there c.args.harts c.in-Some.begin (span_of c.in-Some.begin c.in-Some.end c.args.text.now) c.in-Ok.named (sym c.in-Ok.ensures) in
-    omega (arith, there.0, c.requires.there, c.items.invariant.harts)
-
-pub items-preserved : goal.items-preserved
-items-preserved g c =
-    let first = c.in-Some.ensures.some in
+pub choices-init : goal.choices-init
+choices-init g c =
+    let begin = c.begin-reading.ensures in
     record {
-      within = first.within;
-      harts = c.run_equal.ensures.harts ∙ c.items.invariant.harts;
-      so_far = item_more c.args.harts c.items.from c.in-Some.begin c.in-Some.end c.args.text.now
-          (state c.args.machine.now) (state c.items.machine) (state c.run_equal.new.machine)
-          (harts_of c.items.chosen) (harts_of c.add.new.self) c.in-Ok.named
-          first (sym c.in-Ok.ensures) c.run_equal.ensures.ran c.add.ensures c.items.invariant.so_far;
+      within = omega (arith, begin.within);
+      there = λ some. absurd (omega (arith, some, begin.nothing));
+      harts = refl;
+      so_far = begun c.args.harts c.args.text.now (left_of c.args.harts c.args.text.now c.begin-reading.result) (state c.args.machine.now)
+          (harts_of c.new-chosen.result) (begin.at_front c.args.harts c.args.text.now) c.new-chosen.ensures;
     }
 
-pub returns-in-Err-clause-refused : goal.returns-in-Err-clause-refused
-returns-in-Err-clause-refused g c =
-    item_bad c.args.harts c.items.from c.in-Some.begin c.in-Some.end c.args.text.now
-    (state c.args.machine.now) (state c.items.machine) (harts_of c.items.chosen) c.in-Err.fault
-    c.in-Some.ensures.some (sym c.in-Err.ensures) c.items.invariant.so_far
-
-pub returns-clause-ran : goal.returns-clause-ran
-returns-clause-ran g c =
-    all_run c.args.harts c.items.from c.args.text.now (state c.args.machine.now) (state c.items.machine) (harts_of c.items.chosen)
-    c.in_default.ensures.none c.items.invariant.so_far
+pub choices-preserved : goal.choices-preserved
+choices-preserved g c = record {
+  within = c.next.ensures.within;
+  there = c.next.ensures.there;
+  harts = c.take_step.ensures.harts ∙ c.choices.invariant.harts;
+  so_far = one_more c.args.harts c.args.text.now (left_of c.args.harts c.args.text.now c.choices.reading)
+      (left_of c.args.harts c.args.text.now c.next.new.self) (state c.args.machine.now) (state c.choices.machine) (state c.take_step.new.machine)
+      (harts_of c.choices.chosen) (harts_of c.add.new.self) c.in-Some.choice
+      c.in-Some.ensures.some c.take_step.ensures.taken c.add.ensures c.choices.invariant.so_far;
+}
