@@ -1,14 +1,20 @@
 -- The command `schedule`.
-use Rattle.std.specs.Prelude.{◌≡◌, List, [], ◌∷◌, Some, codes, option_map}
+use Rattle.std.specs.Prelude.{◌≡◌, ℕ, List, [], ◌∷◌, drop, Option, Some, None, codes, if◌then◌else◌, option_map}
+use Rattle.std.specs.Str.{bytes_eq}
 use Rattle.clap.specs.Words.{App, Row, Text, first_of, new_app, with_rule}
 use Rattle.clap.specs.Walk.{one_of}
+use Rattle.item_texts.specs.Numbers.{before_byte, from_byte}
 use Rattle.command_line.specs.Arguments.{flag, needed_option, optional, IsSet}
+use Rattle.command_line.specs.Inputs.{input_of}
+use Rattle.command_line.specs.declared.schedule_line.Draw.{Draw}
+use Rattle.command_line.specs.declared.schedule_line.Draw.TheVariants.{Even, Bursts}
 use Rattle.command_line.specs.declared.schedule_line.ScheduleOrder.{ScheduleOrder}
 
--- `schedule --harts N --steps M [--seed S] [--turns] [--only H]`
+-- `schedule --harts N --steps M [--seed S] [--turns] [--only H] [--schedule KIND]`
 abbrev pub schedule_app : App
 schedule_app =
     with_rule
+    (with_rule
     (with_rule
     (with_rule
     (with_rule
@@ -16,7 +22,8 @@ schedule_app =
     (needed_option (codes "steps")))
     (optional (codes "seed")))
     (flag (codes "turns")))
-    (optional (codes "only"))
+    (optional (codes "only")))
+    (optional (codes "schedule"))
 
 -- the names of the texts that have to stand
 abbrev pub schedule_names : List Text
@@ -30,3 +37,12 @@ IsSchedule rows order =
     × (first_of (codes "seed") rows ≡ option_map (λ s. s.now) order.seed)
     × IsSet (one_of (codes "turns") rows) order.turns
     × (first_of (codes "only") rows ≡ option_map (λ s. s.now) order.only)
+    × (first_of (codes "schedule") rows ≡ option_map (λ s. s.now) order.draw)
+
+-- how a seed's choices are drawn, by a text: `even`, or `bursts:` and one or more decimal digits of a number below 2 ^ 32
+abbrev pub draw_of : List ℕ → Option Draw
+draw_of text =
+    if bytes_eq text (codes "even") then Some Even
+    else (if bytes_eq (before_byte 58 text) (codes "bursts")
+    then option_map (λ mean. Bursts mean) (input_of (drop 1 (from_byte 58 text)))
+    else None)

@@ -13,7 +13,7 @@ pub use objects::{read_object, read_rule};
 pub use plan::read_plan;
 pub use replay_line::ReplayOrder;
 pub use run_line::RunOrder;
-pub use schedule_line::ScheduleOrder;
+pub use schedule_line::{Draw, ScheduleOrder, read_draw};
 pub use shrink_line::ShrinkOrder;
 pub use threads_line::ThreadsOrder;
 pub use trace_line::TraceOrder;

@@ -4,13 +4,27 @@ ghost use Rattle.std.specs.Prelude.{◌≡◌, false, None, IfOk, IfSome};
 ghost use Rattle.clap.specs.Words.{app_of, rows_of, found_of};
 ghost use Rattle.clap.specs.declared.builder.command.Command.TheViews.{out-Command};
 ghost use Rattle.command_line.specs.Arguments.{holds_all};
-ghost use Rattle.command_line.specs.ScheduleLine.{schedule_app, schedule_names, IsSchedule};
+ghost use Rattle.std.specs.Str.{bytes_eq};
+ghost use Rattle.command_line.specs.ScheduleLine.{schedule_app, schedule_names, draw_of, IsSchedule};
 
 use crate::arguments::{add, flag, headed, is_set, needed_option, optional, text_of};
+use crate::inputs::read_input;
+use crate::plan::behind_first;
 use clap::{ArgMatches, Command};
+use item_texts::split_at_byte;
 use std::alloc::{AllocError, Global};
 
-/// `schedule --harts N --steps M [--seed S] [--turns] [--only H]`: prints the choice text of a seed, of turns, or of one hart alone.
+/// How the choices of a seed are drawn.
+#[derive(Clone, Copy, Debug, PartialEq, Eq)]
+pub enum Draw {
+    /// Each from all harts, as a campaign draws them.
+    Even,
+    /// In bursts of one hart, of this mean length.
+    Bursts(u32),
+}
+
+/// `schedule --harts N --steps M [--seed S] [--turns] [--only H] [--schedule KIND]`: prints the choice text of a seed, of turns, or of
+/// one hart alone.
 #[derive(Debug, Drop)]
 pub struct ScheduleOrder<'a> {
     /// How many harts there are.
@@ -23,6 +37,8 @@ pub struct ScheduleOrder<'a> {
     pub turns: bool,
     /// The hart that takes all steps.
     pub only: Option<&'a str>,
+    /// How the choices of the seed are drawn.
+    pub draw: Option<&'a str>,
 }
 
 /// The command as clap takes it.
@@ -53,9 +69,17 @@ pub(crate) fn schedule_command<'a>(alloc: Global) -> Result<Command<'a>, AllocEr
         ),
     )?;
     let command = add(command, flag(alloc, "turns", "let the harts take turns"))?;
-    add(
+    let command = add(
         command,
         optional(alloc, "only", "let this hart, from 0 on, take all steps"),
+    )?;
+    add(
+        command,
+        optional(
+            alloc,
+            "schedule",
+            "how a seed draws them: even, or bursts:MEAN, each of one hart",
+        ),
     )
 }
 
@@ -71,5 +95,28 @@ pub(crate) fn schedule_order<'a>(matches: &ArgMatches<'a>) -> Option<ScheduleOrd
         seed: text_of(matches, "seed"),
         turns: is_set(matches, "turns"),
         only: text_of(matches, "only"),
+        draw: text_of(matches, "schedule"),
     })
+}
+
+// Whether a text is this word.
+fn is_word(text: &[u8], word: &str) -> bool
+    ensures { result ≡ bytes_eq text.now word.now }
+{
+    text == word.as_bytes()
+}
+
+/// Reads how the choices of a seed are drawn: `even`, or `bursts:` and a decimal number below 2^32.
+pub fn read_draw(text: &str) -> Option<Draw>
+    ensures { result ≡ draw_of text.now }
+{
+    if is_word(text.as_bytes(), "even") {
+        return Some(Draw::Even);
+    }
+    let (kind, rest) = split_at_byte(text.as_bytes(), b':');
+    if is_word(kind, "bursts") {
+        let mean = read_input(behind_first(rest))?;
+        return Some(Draw::Bursts(mean));
+    }
+    None
 }

@@ -11,6 +11,8 @@ use Rattle.machine.specs.declared.choice.Choice.{Choice}
 use Rattle.choice_texts.specs.Printing.{choices_text}
 use Rattle.choice_texts.specs.Reading.{choices_of}
 use Rattle.scheduler.specs.Schedules.{turns, alone, seeded_choices}
+use Rattle.burst_schedules.specs.Bursts.{burst_choices}
+use Rattle.burst_schedules.specs.declared.drawing.TheConstants.{MOST_MEAN}
 use Rattle.campaigns.specs.Campaign.{plain_run}
 use Rattle.devices.specs.declared.status.Status.{Status}
 use Rattle.devices.specs.declared.status.Status.TheVariants as status
@@ -24,11 +26,19 @@ use Rattle.schedule_engine.specs.declared.fault.ScheduleFault.TheVariants as fau
 abbrev pub Scheduled : Type 0
 Scheduled = Result (List Choice) ScheduleFault
 
+-- so many choices in bursts: there are none of no choice in the mean, nor of more than there may be
+abbrev pub bursts_made : ℕ → ℕ → ℕ → ℕ → Scheduled
+bursts_made harts mean steps seed =
+    if mean == 0 then Err fault.BadMean
+    else (if nat_lt MOST_MEAN mean then Err fault.BadMean
+    else Ok (burst_choices harts mean steps seed))
+
 -- so many choices of so many harts
 abbrev pub made : Maker → ℕ → ℕ → Scheduled
 made makers.Turns harts steps = Ok (turns harts steps)
 made (makers.Only hart) harts steps = if nat_lt hart harts then Ok (alone hart steps) else Err fault.NoHart
 made (makers.Seed seed) harts steps = Ok (seeded_choices harts steps seed)
+made (makers.Bursts seed mean) harts steps = bursts_made harts mean steps seed
 
 -- the list of a plan: the number of harts is looked at first
 unfoldable pub schedule_of : SchedulePlan → Scheduled
@@ -56,6 +66,7 @@ IsReadBack harts (Err why) = ⊥
 abbrev pub IsRefusal : ScheduleFault → Type 0
 IsRefusal fault.BadHarts = Unit {0}
 IsRefusal fault.NoHart = Unit {0}
+IsRefusal fault.BadMean = Unit {0}
 IsRefusal fault.Write = ⊥
 IsRefusal fault.Memory = ⊥
 
@@ -63,6 +74,7 @@ IsRefusal fault.Memory = ⊥
 abbrev pub status_of : ScheduleFault → Status
 status_of fault.BadHarts = status.BadLine
 status_of fault.NoHart = status.BadLine
+status_of fault.BadMean = status.BadLine
 status_of fault.Write = status.Refused
 status_of fault.Memory = status.NoMemory
 

@@ -15,6 +15,9 @@ pub enum ScheduleFault {
     /// The hart that is to take all steps isn't there.
     #[error("--only takes the number of a hart, from 0 on and below that of --harts")]
     NoHart,
+    /// Bursts of no choice in the mean are asked for, or of more than there may be.
+    #[error("--schedule bursts:MEAN takes a decimal number from 1 to 2147483648, as bursts:100")]
+    BadMean,
     /// The output can't be written.
     #[error("cannot write -")]
     Write,
@@ -29,7 +32,9 @@ impl ScheduleFault {
         ensures { result ≡ status_of self }
     {
         match self {
-            ScheduleFault::BadHarts | ScheduleFault::NoHart => Status::BadLine,
+            ScheduleFault::BadHarts | ScheduleFault::NoHart | ScheduleFault::BadMean => {
+                Status::BadLine
+            }
             ScheduleFault::Write => Status::Refused,
             ScheduleFault::Memory => Status::NoMemory,
         }

@@ -1,4 +1,4 @@
-//! What `schedule` does, over any sink: the choice text of turns, of one hart, or of a seed.
+//! What `schedule` does, over any sink: the choice text of turns, of one hart, or of a seed, evenly or in bursts.
 #![tactic(auto)]
 
 pub use fault::ScheduleFault;

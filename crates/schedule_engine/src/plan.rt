@@ -7,8 +7,15 @@ pub enum Maker {
     Turns,
     /// This hart alone, numbered from 0.
     Only(u32),
-    /// Drawn from this seed, as a campaign draws them.
+    /// Drawn from this seed, each from all harts, as a campaign draws them.
     Seed(u64),
+    /// Drawn from this seed in bursts of one hart.
+    Bursts {
+        /// The seed.
+        seed: u64,
+        /// How many choices a burst has in the mean: 1 to `MOST_MEAN` are taken.
+        mean: u32,
+    },
 }
 
 /// A schedule that is asked for.

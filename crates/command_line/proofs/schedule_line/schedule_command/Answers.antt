@@ -9,7 +9,8 @@ returns-clause-app c =
     let steps = c.in_ok-command-2.ensures.app ∙ ap₂ with_rule harts c.needed_option-2.ensures.rule in
     let seed = c.in_ok-command-3.ensures.app ∙ ap₂ with_rule steps c.optional.ensures.rule in
     let turns = c.in_ok-command-4.ensures.app ∙ ap₂ with_rule seed c.flag.ensures.rule in
-    IfOk-weaker c.add-5.result _ _ (λ r last. last ∙ ap₂ with_rule turns c.optional-2.ensures.rule) c.add-5.ensures.app
+    let only = c.in_ok-command-5.ensures.app ∙ ap₂ with_rule turns c.optional-2.ensures.rule in
+    IfOk-weaker c.add-6.result _ _ (λ r last. last ∙ ap₂ with_rule only c.optional-3.ensures.rule) c.add-6.ensures.app
 
 pub returns-clause-local : goal.returns-clause-local
 returns-clause-local c =
@@ -17,4 +18,5 @@ returns-clause-local c =
     let steps = c.in_ok-command-2.ensures.globals ∙ harts in
     let seed = c.in_ok-command-3.ensures.globals ∙ steps in
     let turns = c.in_ok-command-4.ensures.globals ∙ seed in
-    IfOk-weaker c.add-5.result _ _ (λ r last. last ∙ turns) c.add-5.ensures.globals
+    let only = c.in_ok-command-5.ensures.globals ∙ turns in
+    IfOk-weaker c.add-6.result _ _ (λ r last. last ∙ only) c.add-6.ensures.globals
