@@ -1,5 +1,5 @@
--- What is left of a choice text, one choice less and one item less.
-use Rattle.std.proofs.Common.{◌≡◌, ℕ, suc, ◌+◌, ◌<◌, ◌^◌, ◌==◌, true, false, List, [], ◌∷◌, length, drop, get_or, Ok, Err, refl, arith, ap, sym, ◌∙◌, ne_eqb}
+-- What is left of a choice text, one choice less and one item less, and the items that are one digit or two.
+use Rattle.std.proofs.Common.{◌≡◌, ℕ, suc, ◌+◌, ◌*◌, ◌<◌, ◌^◌, ◌==◌, true, false, List, [], ◌∷◌, length, drop, get_or, Ok, Err, refl, arith, ap, sym, ◌∙◌, ne_eqb}
 use Rattle.std.specs.Prelude.{replicate}
 use Rattle.std.specs.declared.result.Result.{Result}
 use Rattle.std.specs.List.{slice_split, onto_first}
@@ -12,7 +12,10 @@ use Rattle.choice_texts.specs.declared.run.Run.{Run}
 use Rattle.choice_texts.specs.declared.choice_text.ChoiceFault.{ChoiceFault}
 use Rattle.choice_texts.specs.Runs.{run, equal_choices, expanded}
 use Rattle.choice_texts.specs.Reading.{run_of, expanded_after}
-use Rattle.choice_texts.proofs.ItemLemmas.{digit_run}
+use Rattle.std.specs.Char.{digit_value}
+use Rattle.std.proofs.lemmas.Str.{digit_value_digit}
+use Rattle.choice_texts.specs.Grammar.{NamesRun}
+use Rattle.choice_texts.proofs.ItemLemmas.{digit_run, run_named}
 use Rattle.choice_runs.specs.declared.reading.Reading.{Reading}
 use Rattle.choice_runs.specs.Left.{plain, runs_after, left_of}
 
@@ -122,3 +125,53 @@ pub digit_first : (harts from hart : ℕ) (text : List ℕ) → harts < 2 ^ 32 �
 digit_first harts from hart text few inside is low there blank =
     ap (values_named (run_of harts)) (byte_item from (hart + 48) text inside is (digit_plain hart low) blank)
     ∙ ap (λ r. value_then r (runs_after harts text (from + 2))) (digit_run harts from hart ((hart + 48) ∷ []) refl low there few)
+
+-- ---- two digits
+two_digits_named : (tens ones : ℕ) → 0 < tens → tens < 10 → ones < 10
+    → NamesRun ((tens + 48) ∷ (ones + 48) ∷ []) (run (plain (10 * tens + ones)) 1)
+two_digits_named tens ones some low high =
+    let first : digit_value (tens + 48) + 48 ≡ tens + 48 = digit_value_digit (tens + 48) (omega (arith, low)) in
+    let second : digit_value (ones + 48) + 48 ≡ ones + 48 = digit_value_digit (ones + 48) (omega (arith, high)) in
+    record {
+      digits = (tens + 48) ∷ (ones + 48) ∷ [];
+      counted = [];
+      text = refl;
+      number = record {
+        numeral = (omega arith, (omega (arith, first, low), (omega (arith, second, high), tt)));
+        no_leading_zero = λ zero. absurd (omega (arith, zero, some));
+      };
+      value = omega (arith, first, second);
+      count = refl;
+    }
+
+-- two bytes that are no blanks, and a blank behind them
+two_byte_item : (from a b : ℕ) (text : List ℕ) → from + 2 < length text → get_or text from 0 ≡ a → get_or text (from + 1) 0 ≡ b
+    → is_blank a ≡ false → is_blank b ≡ false → is_blank (get_or text (from + 2) 0) ≡ true
+    → items_from from text ≡ record { at = from; text = a ∷ b ∷ [] } ∷ items_from (from + 3) text
+two_byte_item from a b text inside is_a is_b plain_a plain_b blank =
+    let behind = drop (from + 2 + 1) text in
+    let far : from + (length (a ∷ b ∷ []) + 1) ≡ from + 3 = omega arith in
+    let next : from + 1 + 1 ≡ from + 2 = omega arith in
+    let three : from + 2 + 1 ≡ from + 3 = omega arith in
+    let first : drop from text ≡ a ∷ drop (from + 1) text = drop_more text from 0 (omega (arith, inside)) ∙ ap (λ c. c ∷ drop (from + 1) text) is_a in
+    let second : drop (from + 1) text ≡ b ∷ drop (from + 2) text =
+    drop_more text (from + 1) 0 (omega (arith, inside)) ∙ ap (λ c. c ∷ drop (from + 1 + 1) text) is_b ∙ ap (λ k. b ∷ drop k text) next in
+    ap (λ xs. items_of_parts from (slice_split is_blank xs)) first
+    ∙ ap (items_of_parts from) (slice_split-cons_no is_blank a (drop (from + 1) text) plain_a)
+    ∙ ap (λ xs. items_of_parts from (onto_first a (slice_split is_blank xs))) second
+    ∙ ap (λ parts. items_of_parts from (onto_first a parts)) (slice_split-cons_no is_blank b (drop (from + 2) text) plain_b)
+    ∙ ap (λ xs. items_of_parts from (onto_first a (onto_first b (slice_split is_blank xs)))) (drop_more text (from + 2) 0 inside)
+    ∙ ap (λ parts. items_of_parts from (onto_first a (onto_first b parts))) (slice_split-cons_yes is_blank (get_or text (from + 2) 0) behind blank)
+    ∙ ap (λ k. record { at = from; text = a ∷ b ∷ [] } ∷ items_of_parts k (slice_split is_blank behind)) far
+    ∙ ap (λ k. record { at = from; text = a ∷ b ∷ [] } ∷ items_of_parts (from + 3) (slice_split is_blank (drop k text))) three
+
+-- two digits of a hart that is there, and a blank behind them
+pub two_digits_first : (harts from tens ones : ℕ) (text : List ℕ) → harts < 2 ^ 32 → from + 2 < length text
+    → get_or text from 0 ≡ tens + 48 → get_or text (from + 1) 0 ≡ ones + 48 → 0 < tens → tens < 10 → ones < 10
+    → 10 * tens + ones < harts → is_blank (get_or text (from + 2) 0) ≡ true
+    → runs_after harts text from ≡ value_then (Ok (run (plain (10 * tens + ones)) 1)) (runs_after harts text (from + 3))
+two_digits_first harts from tens ones text few inside is_tens is_ones some low high there blank =
+    ap (values_named (run_of harts))
+    (two_byte_item from (tens + 48) (ones + 48) text inside is_tens is_ones (digit_plain tens low) (digit_plain ones high) blank)
+    ∙ ap (λ r. value_then r (runs_after harts text (from + 3)))
+    (run_named ((tens + 48) ∷ (ones + 48) ∷ []) _ (two_digits_named tens ones some low high) harts from few there)

@@ -106,6 +106,33 @@ impl Reading {
             (left_of harts text.now self.old ≡ Ok [])
             (λ fault. left_of harts text.now self.old ≡ Err fault) }
     {
+        // The harts from 10 on.
+        if let Some(hart) = two_digits_at(text, self.from, harts) {
+            self.from += 3;
+            self.choice = Choice {
+                hart,
+                refuse: false,
+            };
+            self.more = 1;
+            return true;
+        }
+        self.read_any_item(text, harts)
+    }
+
+    // The same, by the reader of all items.
+    fn read_any_item(&mut self, text: &[u8], harts: u32) -> bool
+        requires none_left { self.old.more ≡ 0 }
+        requires within { self.old.from ≤ length text.now }
+        ensures within { self.new.from ≤ length text.now }
+        ensures read { result ≡ true → left_of harts text.now self.old ≡ left_of harts text.now self.new }
+        ensures some { result ≡ true → 0 < self.new.more }
+        ensures fits { self.new.more < 2 ^ 32 }
+        ensures there { 0 < self.new.more → self.new.choice.hart < harts }
+        ensures behind { result ≡ true → self.old.from < self.new.from }
+        ensures ended { result ≡ false → MatchOption self.new.fault
+            (left_of harts text.now self.old ≡ Ok [])
+            (λ fault. left_of harts text.now self.old ≡ Err fault) }
+    {
         let Some((begin, end)) = next_item(text, self.from) else {
             self.fault = None;
             return false;
@@ -144,6 +171,28 @@ fn digit_at(text: &[u8], from: usize, harts: u32) -> Option<u32>
     } else {
         None
     }
+}
+
+// The same of two digits.
+#[inline]
+fn two_digits_at(text: &[u8], from: usize, harts: u32) -> Option<u32>
+    requires { from ≤ length text.now }
+    ensures within { IfSome result (λ hart. from + 3 ≤ length text.now) }
+    ensures there { IfSome result (λ hart. hart < harts) }
+    ensures first { IfSome result (λ hart. runs_after harts text.now from
+        ≡ value_then (Ok (run (plain hart) 1)) (runs_after harts text.now (from + 3))) }
+{
+    let after = from + 2;
+    if after >= text.len() {
+        return None;
+    }
+    let tens = u32::from(text[from]).wrapping_sub(u32::from(b'0'));
+    let ones = u32::from(text[from + 1]).wrapping_sub(u32::from(b'0'));
+    if tens == 0 || tens > 9 || ones > 9 || !is_blank(text[after]) {
+        return None;
+    }
+    let hart = 10 * tens + ones;
+    if hart < harts { Some(hart) } else { None }
 }
 
 // The offset behind a blank, if one stands there: the same items follow.

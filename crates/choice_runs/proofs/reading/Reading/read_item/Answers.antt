@@ -1,21 +1,11 @@
-use Rattle.std.proofs.Common.{refl, sym}
-use Rattle.choice_runs.proofs.LeftLemmas.{first_read, item_left, nothing_left, fault_left}
+use Rattle.std.proofs.Common.{◌+◌, refl}
+use Rattle.choice_texts.specs.Runs.{run}
+use Rattle.choice_runs.specs.Left.{plain}
+use Rattle.choice_runs.proofs.LeftLemmas.{item_left}
 use Rattle.choice_runs.proofs.reading.Reading.read_item.Goals as goal
 
-pub returns-in_default-clause-ended : goal.returns-in_default-clause-ended
-returns-in_default-clause-ended c = λ _.
-    nothing_left c.args.harts c.args.text.now c.args.self.now c.requires.none_left c.in_default.ensures.none
-
-pub returns-in-Ok-clause-read : goal.returns-in-Ok-clause-read
-returns-in-Ok-clause-read c = λ _.
+pub returns-in-Some-clause-read : goal.returns-in-Some-clause-read
+returns-in-Some-clause-read c = λ _.
     item_left c.args.harts c.args.text.now c.args.self.now
-    (record { from = c.behind_blank-self.result; choice = c.in-Ok.named.choice; more = c.in-Ok.named.count; fault = c.args.self.now.fault })
-    c.in-Ok.named c.requires.none_left
-    (first_read c.args.harts c.args.self.now.from c.in-Some.begin c.in-Some.end c.behind_blank-self.result c.args.text.now _
-    c.in-Some.ensures.some (sym c.in-Ok.ensures) c.behind_blank-self.ensures.same)
-    refl refl
-
-pub returns-in-Err-clause-ended : goal.returns-in-Err-clause-ended
-returns-in-Err-clause-ended c = λ _.
-    fault_left c.args.harts c.in-Some.begin c.in-Some.end c.args.text.now c.args.self.now c.in-Err.fault c.requires.none_left
-    c.in-Some.ensures.some (sym c.in-Err.ensures)
+    (record { from = c.args.self.now.from + 3; choice = plain c.in-Some.hart; more = 1; fault = c.args.self.now.fault })
+    (run (plain c.in-Some.hart) 1) c.requires.none_left c.in-Some.ensures.first refl refl
