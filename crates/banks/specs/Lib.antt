@@ -1,0 +1,4 @@
+pub mod Stamps
+pub mod Rising
+pub mod BankLog
+pub mod Stored

@@ -1,0 +1,10 @@
+//! Memory in sixteen banks: each with its bytes, its marks and the log of its accesses.
+#![tactic(auto)]
+
+pub use bank::{AddFault, BANKS, Bank, each_bank_is_logged};
+pub use stamp::{next_stamp, stamps_in_examples};
+
+mod bank;
+mod image_words;
+mod order;
+mod stamp;

@@ -1,0 +1,3 @@
+pub mod WeavingLemmas
+pub mod MergedLemmas
+pub mod RisingLemmas

@@ -1,0 +1,3 @@
+pub mod Weaving
+pub mod Logs
+pub mod Rising
