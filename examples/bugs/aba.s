@@ -19,6 +19,17 @@
 #
 # $ rvcons campaign aba.elf --inputs 3,3,3,3 --first 1 --count 20000 --steps 2000 --summary
 # seeds 20000 first 1 exited 4 faulted 0 running 0
+#
+# But bursts do, since one hart sleeps in them while another does much:
+#
+# $ for seed in $(seq 40); do
+# > rvcons schedule --harts 4 --steps 2000 --seed $seed --schedule bursts:30 >seed.choices
+# > rvcons run aba.elf --inputs 3,3,3,3 --choices seed.choices >ends || echo "seed $seed"
+# > done
+# seed 8
+# seed 11
+# seed 21
+# seed 24
 
 .globl _start
 _start:

@@ -20,6 +20,17 @@
 # seeds 998 first 1 exited 2 faulted 0 running 0
 # seeds 2 first 210 exited 1 faulted 1 running 0
 # [status 3]
+#
+# In bursts most seeds find it:
+#
+# $ for seed in $(seq 10); do
+# > rvcons schedule --harts 2 --steps 400 --seed $seed --schedule bursts:30 >seed.choices
+# > rvcons run barrier_early.elf --inputs 2,2 --choices seed.choices >ends || echo "seed $seed"
+# > done
+# seed 1
+# seed 7
+# seed 9
+# seed 10
 
 .globl _start
 _start:

@@ -19,6 +19,15 @@
 # seeds 999 first 1 exited 2 faulted 0 running 0
 # seeds 1 first 114 exited 1 faulted 1 running 0
 # [status 3]
+#
+# Bursts find it more often:
+#
+# $ for seed in $(seq 40); do
+# > rvcons schedule --harts 2 --steps 200 --seed $seed --schedule bursts:10 >seed.choices
+# > rvcons run queue_loses.elf --inputs 0,0 --choices seed.choices >ends || echo "seed $seed"
+# > done
+# seed 16
+# seed 17
 
 .globl _start
 _start:
