@@ -66,7 +66,14 @@ pub(crate) const COMMANDS: [Row; 12] = [
     },
     Row {
         name: "schedule",
-        options: &["--harts", "--steps", "--seed", "--turns", "--only"],
+        options: &[
+            "--harts",
+            "--steps",
+            "--seed",
+            "--turns",
+            "--only",
+            "--schedule",
+        ],
         example: "rvcons schedule --harts 2 --steps 300 --seed 5 >seed_5.choices",
     },
     Row {
