@@ -1,0 +1,34 @@
+//! Where the host refuses memory, an access is not taken.
+use crate::worked::{FIRST, OTHER, access, image_of};
+use banks::{AddFault, Bank};
+use banks_laws::LoggedKind;
+use refusing::{Call, tried};
+use std::alloc::{AllocError, Allocator, Global};
+
+// An access is added.
+#[derive(Clone, Copy, Debug)]
+struct Adding;
+
+impl Call for Adding {
+    fn answer<A: Allocator + Copy>(&self, alloc: A, _host: Global) -> Result<bool, AllocError> {
+        let image = image_of(alloc)?;
+        let mut bank = Bank::new(alloc, &image, &[7], 0);
+        match bank.add(access(1, 0, LoggedKind::Store, FIRST, OTHER)) {
+            Ok(()) => Ok(bank.log().len() == 1),
+            Err(AddFault::Mismatch) => Ok(false),
+            Err(AddFault::Memory) => {
+                // Nothing has changed.
+                if bank.log().is_empty() {
+                    Err(AllocError)
+                } else {
+                    Ok(false)
+                }
+            }
+        }
+    }
+}
+
+#[test]
+fn each_request_of_add_is_refused(rt: HostRuntime) {
+    assert_eq!(rt; tried(rt.alloc(), &Adding), Ok(()));
+}
