@@ -2,3 +2,4 @@ pub mod Harts
 pub mod Chosen
 pub mod Leads
 pub mod Left
+pub mod Spelled

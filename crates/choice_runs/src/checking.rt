@@ -1,15 +1,19 @@
 //! The first fault of a choice text that may take long to run.
-ghost use Rattle.std.specs.Prelude.{◌≡◌, Err, IfSome};
+ghost use Rattle.std.specs.Prelude.{◌≡◌, ◌<◌, ℕ, Err, IfNone, IfSome, length, slice_index};
 ghost use Rattle.choice_texts.specs.Reading.{choices_of};
+ghost use Rattle.choice_runs.specs.Spelled.{IsSpelled};
 
 use choice_texts::{ChoiceFault, read_run};
 use item_texts::next_item;
 use memchr::memchr;
 
 /// The first fault of a text that has counts, if there is one: a few bytes of it may stand for minutes of steps, so it is looked through
-/// before it is run. Nothing is said of a text without counts, which is about as fast run as looked through.
+/// before it is run. Of a text without counts, which is about as fast run as looked through, no fault is told.
 pub fn early_fault(text: &[u8], harts: u32) -> Option<ChoiceFault>
-    ensures { IfSome result (λ fault. choices_of harts text.now ≡ Err fault) }
+    ensures fault { IfSome result (λ fault. choices_of harts text.now ≡ Err fault) }
+    // Where a `*` stands in the text, none is told only where it spells choices.
+    ensures looked { IfNone result ((k : ℕ) → k < length text.now → slice_index text.now k ≡ 42
+        → IsSpelled harts text.now) }
 {
     if memchr(b'*', text).is_none() {
         return None;
@@ -19,7 +23,8 @@ pub fn early_fault(text: &[u8], harts: u32) -> Option<ChoiceFault>
 
 // The fault of the first bad item, if there is one.
 fn first_fault(text: &[u8], harts: u32) -> Option<ChoiceFault>
-    ensures { IfSome result (λ fault. choices_of harts text.now ≡ Err fault) }
+    ensures fault { IfSome result (λ fault. choices_of harts text.now ≡ Err fault) }
+    ensures none { IfNone result (IsSpelled harts text.now) }
 {
     let mut from = 0;
     'items: while let Some((begin, end)) = next_item(text, from) {

@@ -14,7 +14,7 @@ items-preserved c =
           first (sym c.in-Ok.ensures) c.items.invariant.so_far;
     }
 
-pub returns-in-Err : goal.returns-in-Err
-returns-in-Err c =
+pub returns-in-Err-clause-fault : goal.returns-in-Err-clause-fault
+returns-in-Err-clause-fault c =
     item_spoils c.args.harts c.items.from c.in-Some.begin c.in-Some.end c.args.text.now c.in-Err.fault
     c.in-Some.ensures.some (sym c.in-Err.ensures) c.items.invariant.so_far
