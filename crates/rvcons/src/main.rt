@@ -1,30 +1,14 @@
 //! The simulator's program.
 #![tactic(auto)]
 
-mod asm;
-mod audience;
-mod campaign;
-mod conversation;
-mod debug;
-mod explain;
-mod file;
-mod library;
-mod progress_line;
-mod replay;
-mod report;
-mod run;
-mod schedule;
-mod shrink;
-mod threads;
-mod trace;
-mod watching;
-
-use crate::audience::Audience;
-use crate::explain::explain_line;
-use crate::report::{bad_line, out_of_memory, refuse};
+use campaign_command::run_campaign;
 use command_line::{Order, read_line};
+use debug_talk::converse;
 use devices::Status;
 use engines::FileView;
+use file_commands::{assemble, print_source, show_file};
+use reports::{Audience, bad_line, explain_line, out_of_memory, refuse};
+use run_commands::{print_schedule, replay, run, run_on_threads, shrink, trace};
 use std::io::{self, Input, IsTerminal};
 use std::process::ExitCode;
 use std::rt::{Env, Files};
@@ -67,18 +51,18 @@ fn obey<R: Files + AllocGlobal + Print + Eprint + Env + Threads + Wait + Sync + 
         return out_of_memory(rt);
     };
     match read_line(rt.alloc(), words.as_slice()) {
-        Ok(Order::Asm(order)) => asm::assemble(rt, audience, &order),
-        Ok(Order::Debug(order)) => debug::converse(rt, audience, talk, &order),
-        Ok(Order::Lib(order)) => library::print_source(rt, &order),
-        Ok(Order::List(order)) => file::show(rt, audience, FileView::Listing, &order),
-        Ok(Order::Info(order)) => file::show(rt, audience, FileView::Facts, &order),
-        Ok(Order::Run(order)) => run::run(rt, audience, &order),
-        Ok(Order::Threads(order)) => threads::run_on_threads(rt, audience, &order),
-        Ok(Order::Replay(order)) => replay::replay(rt, audience, &order),
-        Ok(Order::Campaign(order)) => campaign::run_campaign(rt, audience, &order),
-        Ok(Order::Schedule(order)) => schedule::print_schedule(rt, &order),
-        Ok(Order::Shrink(order)) => shrink::shrink(rt, audience, &order),
-        Ok(Order::Trace(order)) => trace::trace(rt, audience, &order),
+        Ok(Order::Asm(order)) => assemble(rt, audience, &order),
+        Ok(Order::Debug(order)) => converse(rt, audience, talk, &order),
+        Ok(Order::Lib(order)) => print_source(rt, &order),
+        Ok(Order::List(order)) => show_file(rt, audience, FileView::Listing, &order),
+        Ok(Order::Info(order)) => show_file(rt, audience, FileView::Facts, &order),
+        Ok(Order::Run(order)) => run(rt, audience, &order),
+        Ok(Order::Threads(order)) => run_on_threads(rt, audience, &order),
+        Ok(Order::Replay(order)) => replay(rt, audience, &order),
+        Ok(Order::Campaign(order)) => run_campaign(rt, audience, &order),
+        Ok(Order::Schedule(order)) => print_schedule(rt, &order),
+        Ok(Order::Shrink(order)) => shrink(rt, audience, &order),
+        Ok(Order::Trace(order)) => trace(rt, audience, &order),
         Err(fault) => {
             let status = refuse(rt, &fault);
             explain_line(rt, audience, words.as_slice(), &fault);

@@ -1,18 +1,19 @@
 //! Doing `replay`.
 
-use crate::audience::Audience;
-use crate::explain::{RunFiles, explain_entry, explain_hart, explain_run, read_again, show};
-use crate::report::{cannot_open, cannot_read, refuse, tell};
 use command_line::{ReplayOrder, read_inputs, read_rule};
 use devices::{ReaderSource, Status, WriterSink};
 use fault_advice::history_advice;
 use programs::{Input, ProgramForm, RunFault};
 use replay_engine::{ReplayFault, replay_engine};
+use reports::{
+    Audience, RunFiles, cannot_open, cannot_read, explain_entry, explain_hart, explain_run,
+    read_again, refuse, show, tell,
+};
 use std::rt::Files;
 use std::{fs, io};
 
 /// Runs a program under a history. Both files are opened before either is read.
-pub(crate) fn replay<R: Files + AllocGlobal + Print + Eprint>(
+pub fn replay<R: Files + AllocGlobal + Print + Eprint>(
     rt: &R,
     audience: Audience,
     order: &ReplayOrder,

@@ -2,12 +2,13 @@
 
 ghost use Rattle.std.specs.Prelude.{◌≡◌, ◌≢◌, ◌-◌, ◌^◌, ◌<◌, All, IfErr, IfOk, length, map};
 
-use crate::audience::Audience;
-use crate::explain::{explain_no_text, explain_sources};
-use crate::report::{cannot_open, cannot_read, cannot_write, out_of_memory};
 use asm_engine::{AssemblyFault, assembled_file, listing_engine, write_file};
 use command_line::AsmOrder;
 use devices::{ReaderSource, Source, Status, WriterSink};
+use reports::{
+    Audience, cannot_open, cannot_read, cannot_write, explain_no_text, explain_sources,
+    out_of_memory,
+};
 use std::fs::OpenOptions;
 use std::os::unix::fs::OpenOptionsExt;
 use std::rt::Files;
@@ -38,7 +39,7 @@ fn open_sources<R: Files + AllocGlobal + Print + Eprint>(
 }
 
 /// Assembles sources, all of which are opened before any is read. An output file is opened once its bytes are made.
-pub(crate) fn assemble<R: Files + AllocGlobal + Print + Eprint>(
+pub fn assemble<R: Files + AllocGlobal + Print + Eprint>(
     rt: &R,
     audience: Audience,
     order: &AsmOrder,

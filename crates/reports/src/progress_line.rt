@@ -3,10 +3,10 @@
 use crate::audience::Audience;
 
 /// Goes back to the beginning of a terminal's line and wipes what stands there: CR, and ECMA-48's "Erase in Line".
-pub(crate) const WIPE: &str = "\r\x1b[K";
+pub const WIPE: &str = "\r\x1b[K";
 
 /// Wipes the line, for a person.
-pub(crate) fn wipe_line<R: Eprint>(rt: &R, audience: Audience) {
+pub fn wipe_line<R: Eprint>(rt: &R, audience: Audience) {
     if audience == Audience::Person {
         // Where standard error is closed there is nobody to tell.
         let _ = eprint!(rt; "{WIPE}");

@@ -1,18 +1,16 @@
 //! Doing `trace`.
 
-use crate::audience::Audience;
-use crate::explain::{RunFiles, explain_run};
-use crate::report::{bad_line, cannot_open, cannot_read, refuse, say};
 use command_line::{TraceOrder, read_inputs};
 use devices::{ReaderSource, Status, WriterSink};
 use order_plans::read_trace_plan;
 use programs::{Input, ProgramForm, RunFault};
+use reports::{Audience, RunFiles, bad_line, cannot_open, cannot_read, explain_run, refuse, say};
 use std::rt::Files;
 use std::{fs, io};
 use trace_engine::trace_engine;
 
 /// Prints what each choice of a run did. Both files are opened before either is read.
-pub(crate) fn trace<R: Files + AllocGlobal + Print + Eprint>(
+pub fn trace<R: Files + AllocGlobal + Print + Eprint>(
     rt: &R,
     audience: Audience,
     order: &TraceOrder,

@@ -2,10 +2,6 @@
 
 ghost use Rattle.std.specs.Prelude.{◌+◌, ◌-◌, ◌<◌, ◌≤◌, ◌^◌};
 
-use crate::audience::Audience;
-use crate::explain::{RunFiles, explain_run, read_again, show};
-use crate::progress_line::{WIPE, wipe_line};
-use crate::report::{bad_line, cannot_open, cannot_read, refuse, say};
 use crate::watching::Watching;
 use choice_texts::print_choices;
 use command_line::{CampaignOrder, read_inputs, read_rule};
@@ -16,6 +12,10 @@ use order_plans::{Telling, read_campaign_plan, read_telling};
 use programs::{ProgramForm, RunFault};
 use progress::Progress;
 use protocol_library::Kind;
+use reports::{
+    Audience, RunFiles, WIPE, bad_line, cannot_open, cannot_read, explain_run, read_again, refuse,
+    say, show, wipe_line,
+};
 use schedule_engine::{Maker, SchedulePlan, make_schedule};
 use std::rt::Files;
 use std::thread::Threads;
@@ -79,7 +79,7 @@ fn what_is_bad(rule: Option<Kind>) -> &'static str {
 }
 
 /// Runs a program under the schedule of each seed. Progress is told to a person.
-pub(crate) fn run_campaign<R: Files + AllocGlobal + Print + Eprint + Threads + Sync>(
+pub fn run_campaign<R: Files + AllocGlobal + Print + Eprint + Threads + Sync>(
     rt: &R,
     audience: Audience,
     order: &CampaignOrder,

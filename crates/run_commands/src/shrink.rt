@@ -1,13 +1,12 @@
 //! Doing `shrink`.
 
-use crate::audience::Audience;
-use crate::explain::{RunFiles, explain_run, show};
-use crate::progress_line::WIPE;
-use crate::report::{cannot_open, cannot_read, refuse, say, tell_shrink};
 use choice_shrinking::ChoicesLeft;
 use command_line::{ShrinkOrder, read_inputs, read_rule};
 use devices::{ReaderSource, Status, WriterSink};
 use programs::{Input, ProgramForm, RunFault};
+use reports::{
+    Audience, RunFiles, WIPE, cannot_open, cannot_read, explain_run, refuse, say, show, tell_shrink,
+};
 use shrink_engine::{ShrinkFault, shrink_engine};
 use std::rt::Files;
 use std::{fs, io};
@@ -37,7 +36,7 @@ impl<'a, R: Eprint> ChoicesLeft for Line<'a, R> {
 
 /// Prints a minimal choice text under which a program fails as it does under the given one. Both files are opened before either is
 /// read. How many choices are left is told to a person.
-pub(crate) fn shrink<R: Files + AllocGlobal + Print + Eprint>(
+pub fn shrink<R: Files + AllocGlobal + Print + Eprint>(
     rt: &R,
     audience: Audience,
     order: &ShrinkOrder,

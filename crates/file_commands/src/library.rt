@@ -1,13 +1,13 @@
 //! Doing `lib`.
 
-use crate::report::{refuse, say};
 use command_line::{LibOrder, read_object};
 use devices::{Status, WriterSink};
 use engines::source_engine;
+use reports::{refuse, say};
 use std::io;
 
 /// Prints the source of an object.
-pub(crate) fn print_source<R: AllocGlobal + Print + Eprint>(rt: &R, order: &LibOrder) -> Status {
+pub fn print_source<R: AllocGlobal + Print + Eprint>(rt: &R, order: &LibOrder) -> Status {
     let kind = match read_object(order.object) {
         Ok(kind) => kind,
         Err(fault) => return refuse(rt, &fault),

@@ -1,14 +1,13 @@
 //! Doing `threads`.
 
-use crate::audience::{Audience, TellingGate};
-use crate::explain::{RunFiles, explain_run, read_again, show};
-use crate::report::{
-    cannot_open, cannot_read, cannot_write, out_of_memory, refuse, say, tell_threads,
-};
 use command_line::{LineFault, ThreadsOrder, read_inputs, read_number, read_plan, read_rule};
 use devices::{ReaderSource, Status, WriterSink, write_all};
 use fault_advice::history_advice;
 use programs::{Input, ProgramForm, RunFault};
+use reports::{
+    Audience, RunFiles, TellingGate, cannot_open, cannot_read, cannot_write, explain_run,
+    out_of_memory, read_again, refuse, say, show, tell_threads,
+};
 use std::alloc::Global;
 use std::collections::BTreeSet;
 use std::rt::Files;
@@ -35,7 +34,7 @@ fn read_task(alloc: Global, order: &ThreadsOrder) -> Result<ThreadsTask<Global>,
 }
 
 /// Runs each hart in a thread of its own. The history is written before anything is printed. Progress is told to a person.
-pub(crate) fn run_on_threads<R: Files + AllocGlobal + Print + Eprint + Threads + Wait + Sync>(
+pub fn run_on_threads<R: Files + AllocGlobal + Print + Eprint + Threads + Wait + Sync>(
     rt: &R,
     audience: Audience,
     order: &ThreadsOrder,

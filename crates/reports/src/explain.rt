@@ -14,18 +14,18 @@ use std::{fs, io};
 
 /// The files of a run, as its command line names them, and its harts.
 #[derive(Clone, Copy, Debug)]
-pub(crate) struct RunFiles<'a> {
+pub struct RunFiles<'a> {
     /// The program's file, and its form.
-    pub(crate) program: &'a str,
-    pub(crate) form: ProgramForm,
+    pub program: &'a str,
+    pub form: ProgramForm,
     /// The file of the choices, where there is one.
-    pub(crate) choices: &'a str,
+    pub choices: &'a str,
     /// How many inputs there are.
-    pub(crate) harts: usize,
+    pub harts: usize,
 }
 
 /// The bytes of a plain file.
-pub(crate) fn read_again<R: Files + AllocGlobal>(rt: &R, path: &str) -> Option<Vec<u8>> {
+pub fn read_again<R: Files + AllocGlobal>(rt: &R, path: &str) -> Option<Vec<u8>> {
     let about = fs::metadata(rt, path).ok()?;
     if !about.is_file() {
         return None;
@@ -34,7 +34,7 @@ pub(crate) fn read_again<R: Files + AllocGlobal>(rt: &R, path: &str) -> Option<V
 }
 
 /// Shows whole lines.
-pub(crate) fn show(rt: &impl Eprint, text: &str) {
+pub fn show(rt: &impl Eprint, text: &str) {
     // Where standard error is closed there is nobody to tell.
     let _ = eprint!(rt; "{text}");
 }
@@ -51,7 +51,7 @@ fn texts_of<R: Files + AllocGlobal>(rt: &R, paths: &[&str]) -> Option<Vec<String
 }
 
 /// Explains a fault of sources.
-pub(crate) fn explain_sources<R: Files + AllocGlobal + Eprint>(
+pub fn explain_sources<R: Files + AllocGlobal + Eprint>(
     rt: &R,
     audience: Audience,
     paths: &[&str],
@@ -63,7 +63,7 @@ pub(crate) fn explain_sources<R: Files + AllocGlobal + Eprint>(
 }
 
 /// Explains that a source is no text.
-pub(crate) fn explain_no_text(rt: &impl Eprint, audience: Audience, path: &str) {
+pub fn explain_no_text(rt: &impl Eprint, audience: Audience, path: &str) {
     if audience == Audience::Person {
         let _ = eprintln!(rt;
             "{path}: this is no text in UTF-8: is it a program? rvcons list shows one"
@@ -92,7 +92,7 @@ fn told_of_sources<R: Files + AllocGlobal + Eprint>(
 }
 
 /// Explains why a run gives no answer.
-pub(crate) fn explain_run<R: Files + AllocGlobal + Eprint>(
+pub fn explain_run<R: Files + AllocGlobal + Eprint>(
     rt: &R,
     audience: Audience,
     files: RunFiles<'_>,
@@ -187,7 +187,7 @@ fn told_of_hart<R: Files + AllocGlobal + Eprint>(
 }
 
 /// Explains an item of a history that is no entry, or names no hart.
-pub(crate) fn explain_entry<R: Files + AllocGlobal + Eprint>(
+pub fn explain_entry<R: Files + AllocGlobal + Eprint>(
     rt: &R,
     audience: Audience,
     path: &str,
@@ -210,7 +210,7 @@ fn told_of_entry<R: Files + AllocGlobal + Eprint>(rt: &R, path: &str, offset: us
 }
 
 /// Explains an item of a history that names a hart that isn't there.
-pub(crate) fn explain_hart<R: Files + AllocGlobal + Eprint>(
+pub fn explain_hart<R: Files + AllocGlobal + Eprint>(
     rt: &R,
     audience: Audience,
     path: &str,
@@ -237,7 +237,7 @@ pub(crate) fn explain_path(rt: &impl Eprint, audience: Audience, path: &str, err
 }
 
 /// Explains why a command line gives no order.
-pub(crate) fn explain_line<R: AllocGlobal + Eprint>(
+pub fn explain_line<R: AllocGlobal + Eprint>(
     rt: &R,
     audience: Audience,
     words: &[&str],

@@ -1,15 +1,15 @@
 //! Doing `debug`.
 
-use crate::audience::Audience;
 use crate::conversation::talk_to_person;
-use crate::explain::{RunFiles, explain_run};
-use crate::progress_line::{WIPE, wipe_line};
-use crate::report::{cannot_open, cannot_read, out_of_memory, refuse};
 use command_line::{DebugOrder, read_inputs};
 use debug_engine::{DebugEngineFault, debug_engine};
 use devices::{ReaderSource, Status, WriterSink};
 use programs::{Input as InputFile, ProgramForm, RunFault};
 use progress::Progress;
+use reports::{
+    Audience, RunFiles, WIPE, cannot_open, cannot_read, explain_run, out_of_memory, refuse,
+    wipe_line,
+};
 use std::fs;
 use std::io::{self, BufReader, Input};
 use std::rt::Files;
@@ -36,7 +36,7 @@ impl<'a, R: Eprint> Progress for Line<'a, R> {
 
 /// Answers the commands of standard input, each as it comes. Both files are opened before either is read. How far a long
 /// start is, is told to a person, and the conversation with one has more than the answers.
-pub(crate) fn converse<R: Files + AllocGlobal + Print + Eprint + Input>(
+pub fn converse<R: Files + AllocGlobal + Print + Eprint + Input>(
     rt: &R,
     audience: Audience,
     talk: Audience,

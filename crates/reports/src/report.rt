@@ -20,14 +20,14 @@ use std::io;
 use threads_engine::ThreadsEngineFault;
 
 /// Memory was refused.
-pub(crate) fn out_of_memory(rt: &impl Eprint) -> Status
+pub fn out_of_memory(rt: &impl Eprint) -> Status
     ensures { result ≡ Status.NoMemory }
 {
     say(rt, RunFault::Memory)
 }
 
 /// Says why a run gives no answer.
-pub(crate) fn say(rt: &impl Eprint, fault: RunFault) -> Status
+pub fn say(rt: &impl Eprint, fault: RunFault) -> Status
     ensures { result ≡ status_of_fault fault }
 {
     // Where standard error is closed, the status alone tells.
@@ -36,7 +36,7 @@ pub(crate) fn say(rt: &impl Eprint, fault: RunFault) -> Status
 }
 
 /// Says why a replay gives no answer.
-pub(crate) fn tell(rt: &impl Eprint, fault: ReplayFault) -> Status
+pub fn tell(rt: &impl Eprint, fault: ReplayFault) -> Status
     ensures { result ≡ status_of fault }
 {
     let _ = eprintln!(rt; "rvcons: {fault}");
@@ -44,7 +44,7 @@ pub(crate) fn tell(rt: &impl Eprint, fault: ReplayFault) -> Status
 }
 
 /// Says why a run of threads gives no answer.
-pub(crate) fn tell_threads(rt: &impl Eprint, fault: ThreadsEngineFault) -> Status
+pub fn tell_threads(rt: &impl Eprint, fault: ThreadsEngineFault) -> Status
     ensures { result ≡ status_of_threads fault }
 {
     let _ = eprintln!(rt; "rvcons: {fault}");
@@ -52,7 +52,7 @@ pub(crate) fn tell_threads(rt: &impl Eprint, fault: ThreadsEngineFault) -> Statu
 }
 
 /// Says why no schedule is written.
-pub(crate) fn tell_schedule(rt: &impl Eprint, fault: ScheduleFault) -> Status
+pub fn tell_schedule(rt: &impl Eprint, fault: ScheduleFault) -> Status
     ensures { result ≡ status_of_schedule fault }
 {
     let _ = eprintln!(rt; "rvcons: {fault}");
@@ -60,7 +60,7 @@ pub(crate) fn tell_schedule(rt: &impl Eprint, fault: ScheduleFault) -> Status
 }
 
 /// Says why nothing is shrunk.
-pub(crate) fn tell_shrink(rt: &impl Eprint, fault: ShrinkFault) -> Status
+pub fn tell_shrink(rt: &impl Eprint, fault: ShrinkFault) -> Status
     ensures { result ≡ status_of_shrink fault }
 {
     let _ = eprintln!(rt; "rvcons: {fault}");
@@ -68,7 +68,7 @@ pub(crate) fn tell_shrink(rt: &impl Eprint, fault: ShrinkFault) -> Status
 }
 
 /// A file can't be opened or read.
-pub(crate) fn cannot_read(rt: &impl Eprint, path: &str) -> Status
+pub fn cannot_read(rt: &impl Eprint, path: &str) -> Status
     ensures { result ≡ Status.Refused }
 {
     let _ = eprintln!(rt; "rvcons: cannot read {path}");
@@ -76,7 +76,7 @@ pub(crate) fn cannot_read(rt: &impl Eprint, path: &str) -> Status
 }
 
 /// A file can't be written.
-pub(crate) fn cannot_write(rt: &impl Eprint, path: &str) -> Status
+pub fn cannot_write(rt: &impl Eprint, path: &str) -> Status
     ensures { result ≡ Status.Refused }
 {
     let _ = eprintln!(rt; "rvcons: cannot write {path}");
@@ -84,12 +84,7 @@ pub(crate) fn cannot_write(rt: &impl Eprint, path: &str) -> Status
 }
 
 /// A file can't be opened, for want of memory or for another reason, which a person is told.
-pub(crate) fn cannot_open(
-    rt: &impl Eprint,
-    audience: Audience,
-    path: &str,
-    error: &io::Error,
-) -> Status
+pub fn cannot_open(rt: &impl Eprint, audience: Audience, path: &str, error: &io::Error) -> Status
     ensures { result ≢ Status.Done }
 {
     if error.kind() == io::ErrorKind::OutOfMemory {
@@ -101,7 +96,7 @@ pub(crate) fn cannot_open(
 }
 
 /// Says why a command line gives no order, or prints the help or the version that it asks for.
-pub(crate) fn refuse(rt: &(impl Print + Eprint), fault: &LineFault) -> Status {
+pub fn refuse(rt: &(impl Print + Eprint), fault: &LineFault) -> Status {
     match fault {
         LineFault::Told(error) => {
             let printed = error.print(rt);
@@ -135,7 +130,7 @@ pub(crate) fn refuse(rt: &(impl Print + Eprint), fault: &LineFault) -> Status {
 }
 
 /// The command line is wrong.
-pub(crate) fn bad_line(rt: &impl Eprint, why: &str) -> Status
+pub fn bad_line(rt: &impl Eprint, why: &str) -> Status
     ensures { result ≡ Status.BadLine }
 {
     let _ = eprintln!(rt; "rvcons: {why}");

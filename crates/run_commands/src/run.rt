@@ -1,18 +1,18 @@
 //! Doing `run`.
 
-use crate::audience::Audience;
-use crate::explain::{RunFiles, explain_run, read_again, show};
-use crate::report::{cannot_open, cannot_read, refuse, say};
 use command_line::{RunOrder, read_inputs, read_rule};
 use devices::{ReaderSource, Status, WriterSink};
 use engines::run_engine;
 use fault_advice::run_advice;
 use programs::{Input, ProgramForm, RunFault};
+use reports::{
+    Audience, RunFiles, cannot_open, cannot_read, explain_run, read_again, refuse, say, show,
+};
 use std::rt::Files;
 use std::{fs, io};
 
 /// Runs a program under a schedule. Both files are opened before either is read.
-pub(crate) fn run<R: Files + AllocGlobal + Print + Eprint>(
+pub fn run<R: Files + AllocGlobal + Print + Eprint>(
     rt: &R,
     audience: Audience,
     order: &RunOrder,

@@ -1,5 +1,5 @@
 use Rattle.std.proofs.Common.{◌≡◌, ◌-◌, ◌^◌, ◌<◌, All, length, map}
-use Rattle.rvcons.proofs.asm.open_sources.Given as goal
+use Rattle.file_commands.proofs.asm.open_sources.Given as goal
 
 -- no source has failed yet, and there is one for each path so far
 abbrev pub invariant-paths : goal.invariant-paths

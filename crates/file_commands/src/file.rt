@@ -1,17 +1,15 @@
 //! Doing `list` and `info`.
 
-use crate::audience::Audience;
-use crate::explain::{RunFiles, explain_run};
-use crate::report::{cannot_open, cannot_read, say};
 use command_line::FileOrder;
 use devices::{ReaderSource, Status, WriterSink};
 use engines::{FileView, file_engine};
 use programs::{ProgramForm, RunFault};
+use reports::{Audience, RunFiles, cannot_open, cannot_read, explain_run, say};
 use std::rt::Files;
 use std::{fs, io};
 
 /// Shows a view of an ELF file.
-pub(crate) fn show<R: Files + AllocGlobal + Print + Eprint>(
+pub fn show_file<R: Files + AllocGlobal + Print + Eprint>(
     rt: &R,
     audience: Audience,
     view: FileView,

@@ -2,9 +2,8 @@
 
 ghost use Rattle.std.specs.Prelude.{◌≡◌};
 
-use crate::audience::Audience;
-use crate::progress_line::wipe_line;
 use devices::{DeviceFault, Sink};
+use reports::{Audience, wipe_line};
 
 /// Passes bytes on, once the line of progress is wiped, and looks at the lines of seeds that they make.
 #[derive(Drop)]

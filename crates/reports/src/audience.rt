@@ -5,7 +5,7 @@ use std::sync::atomic::{AtomicU64, Ordering};
 
 /// Who reads standard error. Progress is told to a person alone.
 #[derive(Clone, Copy, Debug, PartialEq, Eq)]
-pub(crate) enum Audience {
+pub enum Audience {
     /// Somebody at a terminal.
     Person,
     /// A file, or another program.
@@ -17,7 +17,7 @@ const TOLD_EACH: u64 = 65536;
 
 /// Lets each hart go on at once, and tells a person how many entries the history has.
 #[derive(Drop)]
-pub(crate) struct TellingGate<'a, R> {
+pub struct TellingGate<'a, R> {
     rt: &'a R,
     audience: Audience,
     entries: AtomicU64,
@@ -25,7 +25,7 @@ pub(crate) struct TellingGate<'a, R> {
 
 impl<'a, R> TellingGate<'a, R> {
     /// A gate through which no hart has gone.
-    pub(crate) fn new(rt: &'a R, audience: Audience) -> TellingGate<'a, R> {
+    pub fn new(rt: &'a R, audience: Audience) -> TellingGate<'a, R> {
         TellingGate {
             rt,
             audience,
@@ -36,7 +36,7 @@ impl<'a, R> TellingGate<'a, R> {
 
 impl<'a, R: Eprint> TellingGate<'a, R> {
     /// Wipes what was told, once no hart goes through any more.
-    pub(crate) fn wipe(&self) {
+    pub fn wipe(&self) {
         if self.entries.load(Ordering::SeqCst) > TOLD_EACH {
             wipe_line(self.rt, self.audience);
         }

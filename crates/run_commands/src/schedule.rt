@@ -1,9 +1,9 @@
 //! Doing `schedule`.
 
-use crate::report::{bad_line, tell_schedule};
 use command_line::{ScheduleOrder, read_draw};
 use devices::{Status, WriterSink};
 use order_plans::read_schedule_plan;
+use reports::{bad_line, tell_schedule};
 use schedule_engine::schedule_engine;
 use std::io;
 
@@ -21,10 +21,7 @@ fn why_no_plan(seed: Option<&str>, draw: Option<&str>) -> &'static str {
 }
 
 /// Prints the choice text of a schedule.
-pub(crate) fn print_schedule<R: AllocGlobal + Print + Eprint>(
-    rt: &R,
-    order: &ScheduleOrder,
-) -> Status {
+pub fn print_schedule<R: AllocGlobal + Print + Eprint>(rt: &R, order: &ScheduleOrder) -> Status {
     let Some(plan) = read_schedule_plan(
         order.harts,
         order.steps,

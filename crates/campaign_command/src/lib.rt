@@ -1,0 +1,7 @@
+//! The command `campaign`.
+#![tactic(auto)]
+
+pub use campaign::run_campaign;
+
+mod campaign;
+mod watching;

@@ -1,0 +1,16 @@
+//! The commands about one run of a program: `run`, `replay`, `threads`, `trace`, `shrink`, and `schedule`, which makes choices for one.
+#![tactic(auto)]
+
+pub use replay::replay;
+pub use run::run;
+pub use schedule::print_schedule;
+pub use shrink::shrink;
+pub use threads::run_on_threads;
+pub use trace::trace;
+
+mod replay;
+mod run;
+mod schedule;
+mod shrink;
+mod threads;
+mod trace;
