@@ -7,7 +7,7 @@ use Rattle.std.specs.List.{list_any, list_all}
 use Rattle.std.specs.Prelude.{◌==◌}
 use Rattle.std.specs.Option.{is_none}
 use Rattle.loader.specs.declared.fault.ElfFault.{ElfFault}
-use Rattle.loader.specs.declared.space.TheConstants.{IMAGE_LIMIT}
+use Rattle.loader.specs.Spans.{image_limit}
 use Rattle.loader.specs.declared.span.Span.{Span}
 use Rattle.loader.specs.Fault.{fault_if}
 use Rattle.loader.specs.Segment.{SegmentValue}
@@ -40,7 +40,7 @@ shared_left ss e = elim (cases_Bool (any_overlap (filter is_filled ss))) [
   | inr miss ↦ miss
 ]
 
-small_left : (ss : List Span) → ltb (IMAGE_LIMIT) (sum_by (λ (s : Span). s.size) ss) ≡ false → ltb (IMAGE_LIMIT) (sum_by (λ (s : Span). s.size) (filter is_filled ss)) ≡ false
+small_left : (ss : List Span) → ltb (image_limit) (sum_by (λ (s : Span). s.size) ss) ≡ false → ltb (image_limit) (sum_by (λ (s : Span). s.size) (filter is_filled ss)) ≡ false
 small_left ss e =
     let parts = sum_by-filter_both is_filled (λ s. not (is_filled s)) (λ s. refl) (λ (s : Span). s.size) ss in
     grind (arith, nat_tests, parts)
@@ -51,7 +51,7 @@ space_left ss e =
     let a = passed (list_any is_over_mem ss) _ _ e in
     let b = passed (list_any is_past_end ss) _ _ a.1 in
     let c = passed (any_overlap ss) _ _ b.1 in
-    let d = passed (ltb (IMAGE_LIMIT) (sum_by (λ (s : Span). s.size) ss)) _ _ c.1 in
+    let d = passed (ltb (image_limit) (sum_by (λ (s : Span). s.size) ss)) _ _ c.1 in
     rw (none_left is_over_mem is_filled ss a.0, none_left is_past_end is_filled ss b.0, shared_left ss c.0, small_left ss d.0) refl
 
 mapped_spans : (ps : List SegmentValue) → map span_of (filter is_mapped ps) ≡ filter is_filled (map span_of ps)

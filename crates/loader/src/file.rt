@@ -5,7 +5,7 @@ ghost use Rattle.loader.specs.File.{loaded, headers_fault, is_table_outside, seg
 ghost use Rattle.loader.specs.Image.{Gives};
 ghost use Rattle.loader.specs.Number.{word_at, half_at};
 ghost use Rattle.loader.specs.ProgramHeader.{is_kept};
-ghost use Rattle.loader.specs.declared.elf.TheConstants.{E_PHOFF, E_PHNUM, HEADER_SIZE, PROGRAM_HEADER_SIZE};
+ghost use Rattle.loader.specs.Codes.{E_PHOFF, E_PHNUM, HEADER_SIZE, PROGRAM_HEADER_SIZE};
 ghost use Rattle.loader.specs.declared.program_header.ProgramHeader.{ProgramHeader};
 
 use crate::elf::{E_ENTRY, E_PHNUM, E_PHOFF, PROGRAM_HEADER_SIZE, PT_LOAD};
