@@ -33,7 +33,7 @@ pub fn a_segments_bytes_are_the_files()
 /// Else the first check that refuses it, in the order of `ElfFault`: each check is looked at only where those before it
 /// pass. Sections are not looked at. No byte of a segment is copied before all checks have passed.
 /// System V ELF, "ELF Header", "Program Header".
-#[tactic(auto, using(crate::proofs::FileLemmas::file_is_sound), unfolding(crate::specs::File::loaded, crate::specs::File::elf_fault, crate::specs::File::file_image, crate::specs::File::program_headers_of))]
+#[tactic(auto, using(crate::proofs::FileLemmas::file_is_sound, crate::proofs::RightsLemmas::files_have_low), unfolding(crate::specs::File::loaded, crate::specs::File::elf_fault, crate::specs::File::file_image, crate::specs::File::program_headers_of))]
 pub fn load<A: Allocator + Copy>(alloc: A, bytes: &[u8]) -> Result<Image<A>, ElfFault>
     ensures { Gives result (loaded bytes.now) }
 {
