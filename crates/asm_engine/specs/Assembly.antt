@@ -6,7 +6,7 @@ use Rattle.std.specs.declared.result.Result.TheVariants.{Ok, Err}
 use Rattle.asm_read.specs.declared.fault.Fault.{Fault}
 use Rattle.assembler.specs.Program.{ProgramValue}
 use Rattle.assembler.specs.Sources.{assembled_texts}
-use Rattle.assembler.specs.declared.program.TheConstants.{TEXT_BASE}
+use Rattle.assembler.specs.Program.{text_start}
 use Rattle.elf_writer.specs.File.{file}
 use Rattle.listing.specs.Listing.{listing}
 use Rattle.round_trip.specs.TextAlone.{text_alone}
@@ -35,11 +35,11 @@ bytes_by bytes (Err why) = Err why
 
 -- the listing of sources' program
 abbrev pub listing_of : List (List ℕ) → Result (List ℕ) AssemblyFault
-listing_of sources = bytes_by (λ program. listing TEXT_BASE program.text) (program_of sources)
+listing_of sources = bytes_by (λ program. listing text_start program.text) (program_of sources)
 
 -- the listing of a program, as the one source, gives a program of the same text and nothing else
 abbrev pub ComesBack : Result ProgramValue AssemblyFault → Type 0
-ComesBack (Ok program) = assembled_texts (listing TEXT_BASE program.text ∷ []) ≡ Ok (text_alone program.text)
+ComesBack (Ok program) = assembled_texts (listing text_start program.text ∷ []) ≡ Ok (text_alone program.text)
 ComesBack (Err why) = Unit {0}
 
 -- the ELF file of sources' program

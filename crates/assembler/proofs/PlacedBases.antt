@@ -4,7 +4,7 @@ use Rattle.asm_read.specs.Statement.{StatementValue, BodyValue}
 use Rattle.asm_read.specs.declared.statement.Section.{Section}
 use Rattle.asm_read.specs.declared.statement.Section.TheVariants as sections
 use Rattle.assembler.specs.declared.cursor.Cursor.{Cursor}
-use Rattle.assembler.specs.declared.program.TheConstants.{TEXT_BASE}
+use Rattle.assembler.specs.Program.{text_start}
 use Rattle.assembler.specs.Program.{round_up}
 use Rattle.assembler.specs.Cursors.{address, address_in, size, step, cursor_after}
 use Rattle.assembler.specs.Assembled.{start_at, data_base, zeros_base, first_cursor}
@@ -50,7 +50,7 @@ same_end t (s ∷ ss) c d e f =
 
 -- the bases of statements
 abbrev pub bases_of : List StatementValue → Bases
-bases_of ss = record { text_base = TEXT_BASE; data_base = data_base ss; zeros_base = zeros_base (data_base ss) ss }
+bases_of ss = record { text_base = text_start; data_base = data_base ss; zeros_base = zeros_base (data_base ss) ss }
 
 -- at the beginning nothing is done
 pub behind_none : (ss : List StatementValue) → IsBehind (bases_of ss) [] (first_cursor ss)
@@ -61,7 +61,7 @@ behind_none ss = record { in_section = refl; at_end = λ t. by t }
     none n = omega arith
 
     by : (t : Section) → address_in t (first_cursor ss) ≡ base_of t (bases_of ss) + 0
-    by sections.Text = none TEXT_BASE
+    by sections.Text = none text_start
     by sections.Data = none (data_base ss)
     by sections.Zeros = none (zeros_base (data_base ss) ss)
 

@@ -5,7 +5,7 @@ use Rattle.asm_read.specs.Statement.{StatementValue}
 use Rattle.asm_read.specs.declared.statement.Section.{Section}
 use Rattle.asm_read.specs.declared.statement.Section.TheVariants as sections
 use Rattle.assembler.specs.declared.cursor.Cursor.{Cursor}
-use Rattle.assembler.specs.declared.program.TheConstants.{TEXT_BASE}
+use Rattle.assembler.specs.Program.{text_start}
 use Rattle.assembler.specs.Program.{ProgramValue}
 use Rattle.assembler.specs.Cursors.{address, address_in, step, cursor_after}
 use Rattle.assembler.specs.Assembled.{start_at, data_base, zeros_base, first_cursor}
@@ -47,7 +47,7 @@ one_word at x y h k = by h.times k.times h.multiple k.multiple h.not_below h.lea
     by n m a b c d e f = omega (arith, a, b, c, d, e, f)
 
 -- the cursor at which placed statements begin
-begins_behind : (bases : Bases) (ss : List StatementValue) → bases.text_base ≡ TEXT_BASE → IsBehind bases [] (start_at bases.data_base bases.zeros_base)
+begins_behind : (bases : Bases) (ss : List StatementValue) → bases.text_base ≡ text_start → IsBehind bases [] (start_at bases.data_base bases.zeros_base)
 unfolding start_at section_behind
 begins_behind bases ss e = record { in_section = refl; at_end = λ t. by t }
   where
@@ -82,6 +82,6 @@ one_layout ss p all bases h =
     record {
       places = places ∙ (ap (λ d. laid (start_at d bases.zeros_base) ss) at_data ∙ ap (λ z. laid (start_at (data_base ss) z) ss) at_zeros);
       sections_begin = ap (λ (n : ℕ). record { text_base = n; data_base = bases.data_base; zeros_base = bases.zeros_base }) h.begins.text_begins
-          ∙ (ap (λ (d : ℕ). record { text_base = TEXT_BASE; data_base = d; zeros_base = bases.zeros_base }) at_data
-          ∙ ap (λ (z : ℕ). record { text_base = TEXT_BASE; data_base = data_base ss; zeros_base = z }) at_zeros);
+          ∙ (ap (λ (d : ℕ). record { text_base = text_start; data_base = d; zeros_base = bases.zeros_base }) at_data
+          ∙ ap (λ (z : ℕ). record { text_base = text_start; data_base = data_base ss; zeros_base = z }) at_zeros);
     }

@@ -8,7 +8,7 @@ use Rattle.asm_read.specs.declared.statement.Section.TheVariants as sections
 use Rattle.asm_read.specs.declared.statement.Body.TheVariants as body
 use Rattle.asm_read.specs.declared.statement.Directive.TheVariants as directive
 use Rattle.assembler.specs.declared.cursor.Cursor.{Cursor}
-use Rattle.assembler.specs.declared.program.TheConstants.{TEXT_BASE, PROGRAM_LIMIT}
+use Rattle.assembler.specs.Program.{text_start, program_limit}
 use Rattle.assembler.specs.Program.{SymbolList, ProgramValue, IsWithinLimit, segment_size}
 use Rattle.assembler.specs.Cursors.{address, step, cursor_after}
 use Rattle.assembler.specs.Placing.{globals_from, symbols_at, unless, place_fault, own_fault, placing}
@@ -70,13 +70,13 @@ unfolding heavy_of is_too_large first_cursor start_at
 none_large ss p within behind text bytes zeros =
     let start = first_cursor ss in
     let end = cursor_after start ss in
-    let text_is : length p.text ≡ end.text_at - TEXT_BASE = behind_base TEXT_BASE end.text_at (length p.text) (behind.at_end sections.Text ∙ ap (λ n. TEXT_BASE + n) (sym text)) in
+    let text_is : length p.text ≡ end.text_at - text_start = behind_base text_start end.text_at (length p.text) (behind.at_end sections.Text ∙ ap (λ n. text_start + n) (sym text)) in
     let bytes_is : length p.bytes ≡ end.data_at - start.data_at = behind_base start.data_at end.data_at (length p.bytes) (behind.at_end sections.Data ∙ ap (λ n. start.data_at + n) (sym bytes)) in
     let zeros_is : p.zeros ≡ end.zeros_at - start.zeros_at = behind_base start.zeros_at end.zeros_at p.zeros (behind.at_end sections.Zeros ∙ ap (λ n. start.zeros_at + n) (sym zeros)) in
-    let small : nat_lt PROGRAM_LIMIT (length p.text + segment_size (length p.bytes) p.zeros) ≡ false = le-ltb PROGRAM_LIMIT (length p.text + segment_size (length p.bytes) p.zeros) within in
-    let small_text : nat_lt PROGRAM_LIMIT ((end.text_at - TEXT_BASE) + segment_size (length p.bytes) p.zeros) ≡ false = subst (λ n. nat_lt PROGRAM_LIMIT (n + segment_size (length p.bytes) p.zeros) ≡ false) text_is small in
-    let small_data : nat_lt PROGRAM_LIMIT ((end.text_at - TEXT_BASE) + segment_size (end.data_at - start.data_at) p.zeros) ≡ false = subst (λ n. nat_lt PROGRAM_LIMIT ((end.text_at - TEXT_BASE) + segment_size n p.zeros) ≡ false) bytes_is small_text in
-    let small_all : nat_lt PROGRAM_LIMIT ((end.text_at - TEXT_BASE) + segment_size (end.data_at - start.data_at) (end.zeros_at - start.zeros_at)) ≡ false = subst (λ n. nat_lt PROGRAM_LIMIT ((end.text_at - TEXT_BASE) + segment_size (end.data_at - start.data_at) n) ≡ false) zeros_is small_data in
+    let small : nat_lt program_limit (length p.text + segment_size (length p.bytes) p.zeros) ≡ false = le-ltb program_limit (length p.text + segment_size (length p.bytes) p.zeros) within in
+    let small_text : nat_lt program_limit ((end.text_at - text_start) + segment_size (length p.bytes) p.zeros) ≡ false = subst (λ n. nat_lt program_limit (n + segment_size (length p.bytes) p.zeros) ≡ false) text_is small in
+    let small_data : nat_lt program_limit ((end.text_at - text_start) + segment_size (end.data_at - start.data_at) p.zeros) ≡ false = subst (λ n. nat_lt program_limit ((end.text_at - text_start) + segment_size n p.zeros) ≡ false) bytes_is small_text in
+    let small_all : nat_lt program_limit ((end.text_at - text_start) + segment_size (end.data_at - start.data_at) (end.zeros_at - start.zeros_at)) ≡ false = subst (λ n. nat_lt program_limit ((end.text_at - text_start) + segment_size (end.data_at - start.data_at) n) ≡ false) zeros_is small_data in
     rw small_all refl
   where
     behind_base : (base n size : ℕ) → n ≡ base + size → size ≡ n - base

@@ -22,7 +22,7 @@ use Rattle.isa_table.specs.declared.instr.Instr.{Instr}
 use Rattle.isa_table.specs.declared.instr.Instr.TheVariants as instr
 use Rattle.assembler.specs.declared.cursor.Cursor.{Cursor}
 use Rattle.assembler.specs.declared.instruction.Pair.{Pair}
-use Rattle.assembler.specs.declared.program.TheConstants.{TEXT_BASE, PROGRAM_LIMIT}
+use Rattle.assembler.specs.Program.{text_start, program_limit}
 use Rattle.assembler.specs.Program.{SymbolList, IsWithinLimit, segment_size, round_up}
 use Rattle.assembler.specs.Numbers.{as_word, lo, hi, is_signed_word, is_between, distance}
 use Rattle.assembler.specs.Operands.{value_of, symbol_value}
@@ -265,16 +265,16 @@ none_sized i c (s ∷ ss) e = by (last_sized (i + 1) (step c s.body) ss) (none_s
         (h.0 ∙ m.0 ∙ n.0, h.1 ∙ m.1 ∙ n.1, h.2 ∙ m.2 ∙ n.2)
 
 -- nothing is not over the limit
-small : (start end : Cursor) → start.text_at ≡ TEXT_BASE → (end.text_at ≡ start.text_at) × (end.data_at ≡ start.data_at) × (end.zeros_at ≡ start.zeros_at) → is_too_large start end ≡ false
+small : (start end : Cursor) → start.text_at ≡ text_start → (end.text_at ≡ start.text_at) × (end.data_at ≡ start.data_at) × (end.zeros_at ≡ start.zeros_at) → is_too_large start end ≡ false
 unfolding is_too_large segment_size
 small start end base same =
-    let t : end.text_at - TEXT_BASE ≡ 0 = omega (arith, base, same.0) in
+    let t : end.text_at - text_start ≡ 0 = omega (arith, base, same.0) in
     let d : end.data_at - start.data_at ≡ 0 = omega (arith, same.1) in
     let z : end.zeros_at - start.zeros_at ≡ 0 = omega (arith, same.2) in
     rw (t, d, z) refl
 
 -- where all is placed, text and data segment aren't over the limit
-light : (globals : Globals) (start : Cursor) (ss : List StatementValue) (symbols : SymbolList) → start.text_at ≡ TEXT_BASE
+light : (globals : Globals) (start : Cursor) (ss : List StatementValue) (symbols : SymbolList) → start.text_at ≡ text_start
     → placing globals [] (heavy_of start (cursor_after start ss) ss) 0 start ss ≡ Ok symbols → is_too_large start (cursor_after start ss) ≡ false
 unfolding heavy_of
 light globals start ss symbols base e = by (is_too_large start (cursor_after start ss)) refl e
@@ -292,16 +292,16 @@ light globals start ss symbols base e = by (is_too_large start (cursor_after sta
     by false p e = p
 
 -- the program of what is placed and valued is within the limit
-pub fits : (globals : Globals) (start : Cursor) (ss : List StatementValue) (symbols : SymbolList) (images : Images) → start.text_at ≡ TEXT_BASE
+pub fits : (globals : Globals) (start : Cursor) (ss : List StatementValue) (symbols : SymbolList) (images : Images) → start.text_at ≡ text_start
     → placing globals [] (heavy_of start (cursor_after start ss) ss) 0 start ss ≡ Ok symbols → valuing symbols [] no_bytes start ss ≡ Ok images
     → IsWithinLimit images.text_bytes images.data_bytes ((cursor_after start ss).zeros_at - start.zeros_at)
 unfolding is_too_large
 fits globals start ss symbols images base placed valued =
     let end = cursor_after start ss in
     let h = valuing_sizes symbols [] no_bytes start ss images valued in
-    let t : length images.text_bytes ≡ end.text_at - TEXT_BASE = omega (arith, h.0, base) in
+    let t : length images.text_bytes ≡ end.text_at - text_start = omega (arith, h.0, base) in
     let d : length images.data_bytes ≡ end.data_at - start.data_at = omega (arith, h.1) in
-    let below = ltb-false PROGRAM_LIMIT ((end.text_at - TEXT_BASE) + segment_size (end.data_at - start.data_at) (end.zeros_at - start.zeros_at)) (light globals start ss symbols base placed) in
+    let below = ltb-false program_limit ((end.text_at - text_start) + segment_size (end.data_at - start.data_at) (end.zeros_at - start.zeros_at)) (light globals start ss symbols base placed) in
     rw (t, d) below
 
 -- the same of the values that the code has
@@ -311,16 +311,16 @@ pub fits_here : (globals : Globals) (start end : Cursor) (heavy : Option ℕ) (s
     → zeros ≡ end.zeros_at - start.zeros_at → IsWithinLimit images.text_bytes images.data_bytes zeros
 unfolding first_cursor start_at
 fits_here globals start end heavy ss symbols images zeros first last where_heavy placed valued z =
-    let base : start.text_at ≡ TEXT_BASE = ap (λ (c : Cursor). c.text_at) first in
+    let base : start.text_at ≡ text_start = ap (λ (c : Cursor). c.text_at) first in
     let p : placing globals [] (heavy_of start (cursor_after start ss) ss) 0 start ss ≡ Ok symbols = cc in
     let e : zeros ≡ (cursor_after start ss).zeros_at - start.zeros_at = cc in
     rw e (fits globals start ss symbols images base p valued)
 
 -- zeros within the limit
-pub zeros_small : (text bytes : List ℕ) (zeros : ℕ) → IsWithinLimit text bytes zeros → zeros ≤ PROGRAM_LIMIT
+pub zeros_small : (text bytes : List ℕ) (zeros : ℕ) → IsWithinLimit text bytes zeros → zeros ≤ program_limit
 unfolding segment_size
 zeros_small text bytes zeros h = by (zeros == 0) refl h
   where
-    by : (b : Bool) → (zeros == 0) ≡ b → length text + (if b then length bytes else round_up (length bytes) 4 + zeros) ≤ PROGRAM_LIMIT → zeros ≤ PROGRAM_LIMIT
+    by : (b : Bool) → (zeros == 0) ≡ b → length text + (if b then length bytes else round_up (length bytes) 4 + zeros) ≤ program_limit → zeros ≤ program_limit
     by true p h = omega (arith, eqb-true zeros 0 p)
     by false p h = omega (arith, h)

@@ -5,7 +5,7 @@ use Rattle.asm_read.specs.Statement.{StatementValue}
 use Rattle.asm_read.specs.declared.fault.Fault.{Fault}
 use Rattle.asm_read.specs.declared.statement.Section.TheVariants as sections
 use Rattle.assembler.specs.declared.cursor.Cursor.{Cursor}
-use Rattle.assembler.specs.declared.program.TheConstants.{TEXT_BASE, PROGRAM_LIMIT}
+use Rattle.assembler.specs.Program.{text_start, program_limit}
 use Rattle.assembler.specs.Program.{SymbolList, ProgramValue, round_up, segment_size}
 use Rattle.assembler.specs.Cursors.{cursor_after}
 use Rattle.assembler.specs.Operands.{address_of}
@@ -15,7 +15,7 @@ use Rattle.assembler.specs.Valuing.{Images, valuing, no_bytes}
 -- the first source's beginning, where data and zeros begin at these addresses
 unfoldable pub start_at : ℕ → ℕ → Cursor
 start_at data_at zeros_at =
-    record { section = sections.Text; text_at = TEXT_BASE; data_at = data_at; zeros_at = zeros_at }
+    record { section = sections.Text; text_at = text_start; data_at = data_at; zeros_at = zeros_at }
 
 -- where the data begins: the first multiple of 4096 behind the text
 unfoldable pub data_base : List StatementValue → ℕ
@@ -32,7 +32,7 @@ first_cursor ss = let data_at = data_base ss in start_at data_at (zeros_base dat
 -- text and data segment are together over the limit
 unfoldable pub is_too_large : Cursor → Cursor → Bool
 is_too_large start end =
-    nat_lt PROGRAM_LIMIT ((end.text_at - TEXT_BASE)
+    nat_lt program_limit ((end.text_at - text_start)
     + segment_size (end.data_at - start.data_at) (end.zeros_at - start.zeros_at))
 
 -- the statement at which TooLarge stands
@@ -45,7 +45,7 @@ symbols_of start end ss = placing (globals_from [] ss) [] (heavy_of start end ss
 
 -- the symbol `_start`, else the text's first address
 unfoldable pub entry_of : SymbolList → ℕ
-entry_of symbols = unwrap_or (address_of symbols (codes "_start")) TEXT_BASE
+entry_of symbols = unwrap_or (address_of symbols (codes "_start")) text_start
 
 -- the program of these sections
 unfoldable pub program_of : Images → ℕ → SymbolList → ProgramValue

@@ -2,7 +2,14 @@
 use Rattle.std.specs.Prelude.{ℕ, ◌+◌, ◌-◌, ◌*◌, ◌/◌, ◌≤◌, ◌==◌, if◌then◌else◌, List, map, length, String}
 use Rattle.std.specs.String.{string_bytes}
 use Rattle.assembler.specs.declared.program.Symbol.{Symbol}
-use Rattle.assembler.specs.declared.program.TheConstants.{PROGRAM_LIMIT}
+
+-- the address of the first byte of the text
+abbrev pub text_start : ℕ
+text_start = 0x0001_0000
+
+-- the most bytes that text and data segment have together: 2^24
+abbrev pub program_limit : ℕ
+program_limit = 0x0100_0000
 
 -- symbols by the bytes of their names, in order of definition
 abbrev pub SymbolList : Type 0
@@ -30,4 +37,4 @@ segment_size bytes zeros = if zeros == 0 then bytes else round_up bytes 4 + zero
 
 -- text and data segment are together within the limit
 abbrev pub IsWithinLimit : List ℕ → List ℕ → ℕ → Type 0
-IsWithinLimit text bytes zeros = length text + segment_size (length bytes) zeros ≤ PROGRAM_LIMIT
+IsWithinLimit text bytes zeros = length text + segment_size (length bytes) zeros ≤ program_limit

@@ -5,6 +5,10 @@ use Rattle.rand_pcg.specs.Pcg.{pcg32}
 use Rattle.machine.specs.declared.choice.Choice.{Choice}
 use Rattle.scheduler.specs.Schedules.{generator_of}
 
+-- the greatest mean of the bursts' lengths, 2^31: the longest burst is then one choice less than 2^32
+abbrev pub most_mean : ℕ
+most_mean = 2_147_483_648
+
 -- where a drawing stands: of how many harts it is and how long bursts are in the mean, the burst's hart, how many of its choices are left, and
 -- the generator of the words to come
 pub record Drawing : Type 0 where

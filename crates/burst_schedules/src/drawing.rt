@@ -1,7 +1,7 @@
 //! Choices in bursts, drawn one at a time.
 
 ghost use Rattle.std.specs.Prelude.{◌≡◌, ℕ, ◌+◌, ◌-◌, ◌*◌, ◌%◌, ◌<◌, ◌≤◌};
-ghost use Rattle.burst_schedules.specs.declared.drawing.TheConstants.{MOST_MEAN};
+ghost use Rattle.burst_schedules.specs.Bursts.{most_mean};
 ghost use Rattle.burst_schedules.specs.Bursts.{Drawing, drawing_of, burst_drawn, in_burst, next_choice, after_choice};
 
 use machine::Choice;
@@ -34,7 +34,7 @@ impl Model for Bursts {
       generator = b.generator;
     } };
 
-    ghost invariant = { λ b. (b.hart < b.harts) × (0 < b.mean) × (b.mean ≤ MOST_MEAN) };
+    ghost invariant = { λ b. (b.hart < b.harts) × (0 < b.mean) × (b.mean ≤ most_mean) };
 }
 
 impl Bursts {
@@ -43,7 +43,7 @@ impl Bursts {
     pub fn new(harts: u32, mean: u32, seed: u64) -> Self
         requires some_harts { 0 < harts }
         requires some_choices { 0 < mean }
-        requires most_choices { mean ≤ MOST_MEAN }
+        requires most_choices { mean ≤ most_mean }
         ensures { result ≡ drawing_of harts mean seed }
     {
         Bursts {

@@ -2,7 +2,7 @@
 
 ghost use Rattle.std.specs.Prelude.{◌≡◌, ◌<◌, ◌≤◌, IfOk};
 ghost use Rattle.std.specs.List.{All};
-ghost use Rattle.burst_schedules.specs.declared.drawing.TheConstants.{MOST_MEAN};
+ghost use Rattle.burst_schedules.specs.Bursts.{most_mean};
 ghost use Rattle.burst_schedules.specs.Bursts.{burst_choices};
 
 use crate::drawing::Bursts;
@@ -20,7 +20,7 @@ pub fn in_bursts<A: Allocator>(
 ) -> Result<Vec<Choice, A>, AllocError>
     requires some_harts { 0 < harts }
     requires some_choices { 0 < mean }
-    requires most_choices { mean ≤ MOST_MEAN }
+    requires most_choices { mean ≤ most_mean }
     ensures list { IfOk result (λ choices. choices.items ≡ burst_choices harts mean steps seed) }
     ensures within { IfOk result (λ choices. All (λ c. c.hart < harts) choices.items) }
 {

@@ -1,7 +1,7 @@
 -- Written files, and what they load as.
 use Rattle.std.specs.Prelude.{ℕ, ◌+◌, ◌-◌, ◌%◌, ◌^◌, ◌==◌, if◌then◌else◌, List, [], ◌∷◌, ◌++◌, length, Result, Ok, Err}
 use Rattle.assembler.specs.Program.{ProgramValue}
-use Rattle.assembler.specs.declared.program.TheConstants.{TEXT_BASE}
+use Rattle.assembler.specs.Program.{text_start}
 use Rattle.loader.specs.Image.{ImageValue}
 use Rattle.loader.specs.Segment.{SegmentValue}
 use Rattle.loader.specs.declared.fault.ElfFault.{ElfFault}
@@ -28,9 +28,9 @@ file p =
 unfoldable pub program_segments : ProgramValue → List SegmentValue
 program_segments p =
     (if length p.text == 0 then []
-    else record { base = TEXT_BASE; size = length p.text; rights = 5; bytes = p.text } ∷ [])
+    else record { base = text_start; size = length p.text; rights = 5; bytes = p.text } ∷ [])
     ++ (if data_size p == 0 then []
-    else record { base = TEXT_BASE + data_distance p; size = data_size p; rights = 6; bytes = p.bytes } ∷ [])
+    else record { base = text_start + data_distance p; size = data_size p; rights = 6; bytes = p.bytes } ∷ [])
 
 -- what the file of a program loads as
 unfoldable pub program_image : ProgramValue → Result ImageValue ElfFault

@@ -1,11 +1,10 @@
 -- Where the parts of a written file stand.
 use Rattle.std.specs.Prelude.{ℕ, ◌+◌, ◌==◌, if◌then◌else◌, length}
 use Rattle.assembler.specs.Program.{ProgramValue, round_up, segment_size}
-use Rattle.elf_writer.specs.declared.layout.TheConstants.{PAGE}
 
 -- how far the data begins after the text's first byte, in memory and in the file
 unfoldable pub data_distance : ProgramValue → ℕ
-data_distance p = round_up (length p.text) PAGE
+data_distance p = round_up (length p.text) 4096
 
 -- the size of the segment of data and zeros
 unfoldable pub data_size : ProgramValue → ℕ

@@ -1,19 +1,18 @@
 -- What stands behind the data of a written file.
 use Rattle.std.specs.Prelude.{ℕ, ◌+◌, ◌-◌, ◌%◌, ◌^◌, List, [], ◌∷◌, ◌++◌, length, codes}
 use Rattle.assembler.specs.Program.{ProgramValue, round_up}
-use Rattle.assembler.specs.declared.program.TheConstants.{TEXT_BASE}
-use Rattle.loader.specs.declared.elf.TheConstants.{SHF_ALLOC, SHF_EXECINSTR, SHF_WRITE, SHT_NOBITS, SHT_PROGBITS, SHT_STRTAB, SHT_SYMTAB, SYMBOL_SIZE}
+use Rattle.assembler.specs.Program.{text_start}
+use Rattle.loader.specs.Codes.{SHF_ALLOC, SHF_EXECINSTR, SHF_WRITE, SHT_NOBITS, SHT_PROGBITS, SHT_STRTAB, SHT_SYMTAB, SYMBOL_SIZE}
 use Rattle.elf_writer.specs.Field.{bytes_of_all, zero_bytes}
 use Rattle.elf_writer.specs.Layout.{data_distance}
 use Rattle.elf_writer.specs.Table.{TablesValue, symbol_tables}
 use Rattle.elf_writer.specs.declared.field.Field.{Field}
 use Rattle.elf_writer.specs.declared.field.Field.TheVariants.{Word}
-use Rattle.elf_writer.specs.declared.layout.TheConstants.{PAGE}
 use Rattle.elf_writer.specs.declared.section.SectionHeader.{SectionHeader}
 
 -- where the data ends in the file
 unfoldable pub data_end : ProgramValue → ℕ
-data_end p = PAGE + data_distance p + length p.bytes
+data_end p = 4096 + data_distance p + length p.bytes
 
 -- the symbol table and its names
 abbrev pub tables_of : ProgramValue → TablesValue
@@ -62,8 +61,8 @@ text_section p = record {
   name = 1;
   kind = SHT_PROGBITS;
   flags = SHF_ALLOC + SHF_EXECINSTR;
-  address = TEXT_BASE;
-  offset = PAGE;
+  address = text_start;
+  offset = 4096;
   size = length p.text;
   link = 0;
   info = 0;
@@ -77,8 +76,8 @@ data_section p = record {
   name = 7;
   kind = SHT_PROGBITS;
   flags = SHF_WRITE + SHF_ALLOC;
-  address = TEXT_BASE + data_distance p;
-  offset = PAGE + data_distance p;
+  address = text_start + data_distance p;
+  offset = 4096 + data_distance p;
   size = length p.bytes;
   link = 0;
   info = 0;
@@ -92,7 +91,7 @@ zeros_section p = record {
   name = 13;
   kind = SHT_NOBITS;
   flags = SHF_WRITE + SHF_ALLOC;
-  address = TEXT_BASE + round_up (data_distance p + length p.bytes) 4;
+  address = text_start + round_up (data_distance p + length p.bytes) 4;
   offset = data_end p;
   size = p.zeros;
   link = 0;

@@ -1,30 +1,29 @@
 -- The header of a written file, and its program headers.
 use Rattle.std.specs.Prelude.{ℕ, ◌+◌, ◌-◌, ◌*◌, ◌==◌, if◌then◌else◌, List, [], ◌∷◌, ◌++◌, length}
 use Rattle.assembler.specs.Program.{ProgramValue}
-use Rattle.assembler.specs.declared.program.TheConstants.{TEXT_BASE}
-use Rattle.loader.specs.declared.elf.TheConstants.{MAGIC, ELFCLASS32, ELFDATA2LSB, EV_CURRENT, ET_EXEC, EM_RISCV, HEADER_SIZE, PROGRAM_HEADER_SIZE, SECTION_HEADER_SIZE, PT_LOAD}
+use Rattle.assembler.specs.Program.{text_start}
+use Rattle.loader.specs.Codes.{MAGIC, ELFCLASS32, ELFDATA2LSB, EV_CURRENT, ET_EXEC, EM_RISCV, HEADER_SIZE, PROGRAM_HEADER_SIZE, SECTION_HEADER_SIZE, PT_LOAD}
 use Rattle.elf_writer.specs.Field.{bytes_of_all, zero_bytes}
 use Rattle.elf_writer.specs.Layout.{data_distance, data_size, header_count}
 use Rattle.elf_writer.specs.declared.field.Field.{Field}
 use Rattle.elf_writer.specs.declared.field.Field.TheVariants.{Byte, Half, Word}
-use Rattle.elf_writer.specs.declared.layout.TheConstants.{PAGE}
 
 -- the program header of a segment to be loaded: its physical address is its address
 unfoldable pub load_fields : ℕ → ℕ → ℕ → ℕ → ℕ → List Field
 load_fields offset address file_size memory_size flags =
-    Word PT_LOAD ∷ Word offset ∷ Word address ∷ Word address ∷ Word file_size ∷ Word memory_size ∷ Word flags ∷ Word PAGE ∷ []
+    Word PT_LOAD ∷ Word offset ∷ Word address ∷ Word address ∷ Word file_size ∷ Word memory_size ∷ Word flags ∷ Word 4096 ∷ []
 
 -- the text, which may be read and executed
 unfoldable pub text_header : ProgramValue → List ℕ
 text_header p =
     if length p.text == 0 then []
-    else bytes_of_all (load_fields PAGE TEXT_BASE (length p.text) (length p.text) 5)
+    else bytes_of_all (load_fields 4096 text_start (length p.text) (length p.text) 5)
 
 -- data and zeros, which may be read and written
 unfoldable pub data_header : ProgramValue → List ℕ
 data_header p =
     if data_size p == 0 then []
-    else bytes_of_all (load_fields (PAGE + data_distance p) (TEXT_BASE + data_distance p) (length p.bytes) (data_size p) 6)
+    else bytes_of_all (load_fields (4096 + data_distance p) (text_start + data_distance p) (length p.bytes) (data_size p) 6)
 
 -- the file's header, with the place of the section headers, of which there are seven; the names of sections are the sixth
 unfoldable pub file_header : ProgramValue → ℕ → List ℕ

@@ -4,7 +4,7 @@ use Rattle.asm_read.specs.declared.statement.Section.{Section}
 use Rattle.asm_read.specs.declared.statement.Section.TheVariants as section
 use Rattle.assembler.specs.Program.{SymbolList}
 use Rattle.assembler.specs.declared.program.Symbol.{Symbol}
-use Rattle.loader.specs.declared.elf.TheConstants.{STB_GLOBAL}
+use Rattle.loader.specs.Codes.{STB_GLOBAL}
 use Rattle.elf_writer.specs.Field.{bytes_of_all, zero_bytes}
 use Rattle.elf_writer.specs.declared.field.Field.{Field}
 use Rattle.elf_writer.specs.declared.field.Field.TheVariants.{Byte, Half, Word}

@@ -26,7 +26,6 @@ use Rattle.isa_table.specs.declared.mnemonic.AmoOp.{AmoOp}
 use Rattle.isa_table.specs.declared.mnemonic.AmoOp.TheVariants.{Amoswap, Amoadd, Amoxor, Amoand}
 use Rattle.isa_table.specs.declared.mnemonic.AmoOp.TheVariants.{Amoor}
 use Rattle.isa_table.specs.declared.mnemonic.AmoOp.TheVariants.{Amomin, Amomax, Amominu, Amomaxu}
-use Rattle.isa_table.specs.declared.codes.TheConstants as codes
 
 -- so many bits of a word, from a place on
 abbrev pub bits : ℕ → ℕ → ℕ → ℕ
@@ -96,103 +95,103 @@ j_immediate w =
 -- the branch of a funct3
 abbrev pub branch_op : ℕ → Option BranchOp
 branch_op funct3 =
-    if funct3 == codes.FUNCT3_BEQ then Some Beq else
-    if funct3 == codes.FUNCT3_BNE then Some Bne else
-    if funct3 == codes.FUNCT3_BLT then Some Blt else
-    if funct3 == codes.FUNCT3_BGE then Some Bge else
-    if funct3 == codes.FUNCT3_BLTU then Some Bltu else
-    if funct3 == codes.FUNCT3_BGEU then Some Bgeu else None
+    if funct3 == 0 then Some Beq else
+    if funct3 == 1 then Some Bne else
+    if funct3 == 4 then Some Blt else
+    if funct3 == 5 then Some Bge else
+    if funct3 == 6 then Some Bltu else
+    if funct3 == 7 then Some Bgeu else None
 
 -- the load of a funct3
 abbrev pub load_op : ℕ → Option LoadOp
 load_op funct3 =
-    if funct3 == codes.FUNCT3_LB then Some Lb else
-    if funct3 == codes.FUNCT3_LH then Some Lh else
-    if funct3 == codes.FUNCT3_LW then Some Lw else
-    if funct3 == codes.FUNCT3_LBU then Some Lbu else
-    if funct3 == codes.FUNCT3_LHU then Some Lhu else None
+    if funct3 == 0 then Some Lb else
+    if funct3 == 1 then Some Lh else
+    if funct3 == 2 then Some Lw else
+    if funct3 == 4 then Some Lbu else
+    if funct3 == 5 then Some Lhu else None
 
 -- the store of a funct3
 abbrev pub store_op : ℕ → Option StoreOp
 store_op funct3 =
-    if funct3 == codes.FUNCT3_SB then Some Sb else
-    if funct3 == codes.FUNCT3_SH then Some Sh else
-    if funct3 == codes.FUNCT3_SW then Some Sw else None
+    if funct3 == 0 then Some Sb else
+    if funct3 == 1 then Some Sh else
+    if funct3 == 2 then Some Sw else None
 
 -- the operation with an immediate of a funct3
 abbrev pub immediate_op : ℕ → Option ImmediateOp
 immediate_op funct3 =
-    if funct3 == codes.FUNCT3_ADDI then Some Addi else
-    if funct3 == codes.FUNCT3_SLTI then Some Slti else
-    if funct3 == codes.FUNCT3_SLTIU then Some Sltiu else
-    if funct3 == codes.FUNCT3_XORI then Some Xori else
-    if funct3 == codes.FUNCT3_ORI then Some Ori else
-    if funct3 == codes.FUNCT3_ANDI then Some Andi else None
+    if funct3 == 0 then Some Addi else
+    if funct3 == 2 then Some Slti else
+    if funct3 == 3 then Some Sltiu else
+    if funct3 == 4 then Some Xori else
+    if funct3 == 6 then Some Ori else
+    if funct3 == 7 then Some Andi else None
 
 -- the shift by an immediate of a funct7 and a funct3
 abbrev pub shift_op : ℕ → ℕ → Option ShiftOp
 shift_op funct7 funct3 =
-    if funct7 == codes.FUNCT7_BASE then
-    (if funct3 == codes.FUNCT3_SLLI then Some Slli else
-    if funct3 == codes.FUNCT3_SRLI then Some Srli else None) else
-    if funct7 == codes.FUNCT7_ALTERNATE then
-    (if funct3 == codes.FUNCT3_SRLI then Some Srai else None) else None
+    if funct7 == 0x00 then
+    (if funct3 == 1 then Some Slli else
+    if funct3 == 5 then Some Srli else None) else
+    if funct7 == 0x20 then
+    (if funct3 == 5 then Some Srai else None) else None
 
 -- the operation on two registers of a funct7 and a funct3
 abbrev pub register_op : ℕ → ℕ → Option RegisterOp
 register_op funct7 funct3 =
-    if funct7 == codes.FUNCT7_BASE then
-    (if funct3 == codes.FUNCT3_ADD then Some Add else
-    if funct3 == codes.FUNCT3_SLL then Some Sll else
-    if funct3 == codes.FUNCT3_SLT then Some Slt else
-    if funct3 == codes.FUNCT3_SLTU then Some Sltu else
-    if funct3 == codes.FUNCT3_XOR then Some Xor else
-    if funct3 == codes.FUNCT3_SRL then Some Srl else
-    if funct3 == codes.FUNCT3_OR then Some Or else
-    if funct3 == codes.FUNCT3_AND then Some And else None) else
-    if funct7 == codes.FUNCT7_ALTERNATE then
-    (if funct3 == codes.FUNCT3_ADD then Some Sub else
-    if funct3 == codes.FUNCT3_SRL then Some Sra else None) else None
+    if funct7 == 0x00 then
+    (if funct3 == 0 then Some Add else
+    if funct3 == 1 then Some Sll else
+    if funct3 == 2 then Some Slt else
+    if funct3 == 3 then Some Sltu else
+    if funct3 == 4 then Some Xor else
+    if funct3 == 5 then Some Srl else
+    if funct3 == 6 then Some Or else
+    if funct3 == 7 then Some And else None) else
+    if funct7 == 0x20 then
+    (if funct3 == 0 then Some Sub else
+    if funct3 == 5 then Some Sra else None) else None
 
 -- the atomic memory operation of bits 31 to 27
 abbrev pub amo_op : ℕ → Option AmoOp
 amo_op funct5 =
-    if funct5 == codes.FUNCT5_AMOADD then Some Amoadd else
-    if funct5 == codes.FUNCT5_AMOSWAP then Some Amoswap else
-    if funct5 == codes.FUNCT5_AMOXOR then Some Amoxor else
-    if funct5 == codes.FUNCT5_AMOOR then Some Amoor else
-    if funct5 == codes.FUNCT5_AMOAND then Some Amoand else
-    if funct5 == codes.FUNCT5_AMOMIN then Some Amomin else
-    if funct5 == codes.FUNCT5_AMOMAX then Some Amomax else
-    if funct5 == codes.FUNCT5_AMOMINU then Some Amominu else
-    if funct5 == codes.FUNCT5_AMOMAXU then Some Amomaxu else None
+    if funct5 == 0b00000 then Some Amoadd else
+    if funct5 == 0b00001 then Some Amoswap else
+    if funct5 == 0b00100 then Some Amoxor else
+    if funct5 == 0b01000 then Some Amoor else
+    if funct5 == 0b01100 then Some Amoand else
+    if funct5 == 0b10000 then Some Amomin else
+    if funct5 == 0b10100 then Some Amomax else
+    if funct5 == 0b11000 then Some Amominu else
+    if funct5 == 0b11100 then Some Amomaxu else None
 
 -- ---- instructions by opcode
 -- a word with the opcode of JALR
 abbrev pub jalr_at : ℕ → Option Instr
 jalr_at w =
-    if funct3 w == codes.FUNCT3_JALR then Some (Jalr (rd w) (rs1 w) (i_immediate w)) else None
+    if funct3 w == 0 then Some (Jalr (rd w) (rs1 w) (i_immediate w)) else None
 
 -- a word with the opcode of FENCE
 abbrev pub fence_at : ℕ → Option Instr
 fence_at w =
-    if funct3 w == codes.FUNCT3_FENCE then
+    if funct3 w == 0 then
     Some (Fence (bits w 28 4) (bits w 24 4) (bits w 20 4) (rs1 w) (rd w)) else None
 
 -- a word with the opcode of the operations with an immediate: for these funct3 a shift
 abbrev pub immediate_at : ℕ → Option Instr
 immediate_at w =
-    if (funct3 w == codes.FUNCT3_SLLI) || (funct3 w == codes.FUNCT3_SRLI) then
+    if (funct3 w == 1) || (funct3 w == 5) then
     option_map (λ op. Shift op (rd w) (rs1 w) (rs2 w)) (shift_op (funct7 w) (funct3 w)) else
     option_map (λ op. Immediate op (rd w) (rs1 w) (i_immediate w)) (immediate_op (funct3 w))
 
 -- a word with the opcode of the A extension; LR has zeros for rs2
 abbrev pub atomic_at : ℕ → Option Instr
 atomic_at w =
-    if funct3 w == codes.FUNCT3_WORD then
-    (if funct5 w == codes.FUNCT5_LR then
+    if funct3 w == 2 then
+    (if funct5 w == 0b00010 then
     (if rs2 w == 0 then Some (LoadReserved (aq w) (rl w) (rd w) (rs1 w)) else None) else
-    if funct5 w == codes.FUNCT5_SC then
+    if funct5 w == 0b00011 then
     Some (StoreConditional (aq w) (rl w) (rd w) (rs1 w) (rs2 w)) else
     option_map (λ op. Amo op (aq w) (rl w) (rd w) (rs1 w) (rs2 w)) (amo_op (funct5 w)))
     else None
@@ -200,25 +199,25 @@ atomic_at w =
 -- ECALL and EBREAK are one word each
 abbrev pub system_at : ℕ → Option Instr
 system_at w =
-    if w == codes.WORD_ECALL then Some Ecall else
-    if w == codes.WORD_EBREAK then Some Ebreak else None
+    if w == 0x00000073 then Some Ecall else
+    if w == 0x00100073 then Some Ebreak else None
 
 -- the instruction that a 32-bit word spells, or none
 unfoldable pub decoded : ℕ → Option Instr
 decoded w =
-    if opcode w == codes.OPCODE_LUI then Some (Lui (rd w) (u_immediate w)) else
-    if opcode w == codes.OPCODE_AUIPC then Some (Auipc (rd w) (u_immediate w)) else
-    if opcode w == codes.OPCODE_JAL then Some (Jal (rd w) (j_immediate w)) else
-    if opcode w == codes.OPCODE_JALR then jalr_at w else
-    if opcode w == codes.OPCODE_BRANCH then
+    if opcode w == 0x37 then Some (Lui (rd w) (u_immediate w)) else
+    if opcode w == 0x17 then Some (Auipc (rd w) (u_immediate w)) else
+    if opcode w == 0x6f then Some (Jal (rd w) (j_immediate w)) else
+    if opcode w == 0x67 then jalr_at w else
+    if opcode w == 0x63 then
     option_map (λ op. Branch op (rs1 w) (rs2 w) (b_immediate w)) (branch_op (funct3 w)) else
-    if opcode w == codes.OPCODE_LOAD then
+    if opcode w == 0x03 then
     option_map (λ op. Load op (rd w) (rs1 w) (i_immediate w)) (load_op (funct3 w)) else
-    if opcode w == codes.OPCODE_STORE then
+    if opcode w == 0x23 then
     option_map (λ op. Store op (rs1 w) (rs2 w) (s_immediate w)) (store_op (funct3 w)) else
-    if opcode w == codes.OPCODE_IMMEDIATE then immediate_at w else
-    if opcode w == codes.OPCODE_REGISTER then
+    if opcode w == 0x13 then immediate_at w else
+    if opcode w == 0x33 then
     option_map (λ op. Register op (rd w) (rs1 w) (rs2 w)) (register_op (funct7 w) (funct3 w)) else
-    if opcode w == codes.OPCODE_FENCE then fence_at w else
-    if opcode w == codes.OPCODE_SYSTEM then system_at w else
-    if opcode w == codes.OPCODE_ATOMIC then atomic_at w else None
+    if opcode w == 0x0f then fence_at w else
+    if opcode w == 0x73 then system_at w else
+    if opcode w == 0x2f then atomic_at w else None

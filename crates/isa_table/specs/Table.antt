@@ -27,7 +27,6 @@ use Rattle.isa_table.specs.declared.mnemonic.AmoOp.{AmoOp}
 use Rattle.isa_table.specs.declared.mnemonic.AmoOp.TheVariants.{Amoswap, Amoadd, Amoxor, Amoand}
 use Rattle.isa_table.specs.declared.mnemonic.AmoOp.TheVariants.{Amoor}
 use Rattle.isa_table.specs.declared.mnemonic.AmoOp.TheVariants.{Amomin, Amomax, Amominu, Amomaxu}
-use Rattle.isa_table.specs.declared.codes.TheConstants as codes
 use Rattle.isa_table.specs.declared.table.Field.{Field}
 use Rattle.isa_table.specs.declared.table.Row.{Row}
 use Rattle.isa_table.specs.declared.table.Operand.{Operand}
@@ -115,85 +114,85 @@ amo_format = rd ∷ rs1 ∷ rs2 ∷ rl ∷ aq ∷ []
 -- ---- codes of the operations
 -- funct3 of a branch
 abbrev pub branch_funct3 : BranchOp → ℕ
-branch_funct3 Beq = codes.FUNCT3_BEQ
-branch_funct3 Bne = codes.FUNCT3_BNE
-branch_funct3 Blt = codes.FUNCT3_BLT
-branch_funct3 Bge = codes.FUNCT3_BGE
-branch_funct3 Bltu = codes.FUNCT3_BLTU
-branch_funct3 Bgeu = codes.FUNCT3_BGEU
+branch_funct3 Beq = 0
+branch_funct3 Bne = 1
+branch_funct3 Blt = 4
+branch_funct3 Bge = 5
+branch_funct3 Bltu = 6
+branch_funct3 Bgeu = 7
 
 -- funct3 of a load
 abbrev pub load_funct3 : LoadOp → ℕ
-load_funct3 Lb = codes.FUNCT3_LB
-load_funct3 Lh = codes.FUNCT3_LH
-load_funct3 Lw = codes.FUNCT3_LW
-load_funct3 Lbu = codes.FUNCT3_LBU
-load_funct3 Lhu = codes.FUNCT3_LHU
+load_funct3 Lb = 0
+load_funct3 Lh = 1
+load_funct3 Lw = 2
+load_funct3 Lbu = 4
+load_funct3 Lhu = 5
 
 -- funct3 of a store
 abbrev pub store_funct3 : StoreOp → ℕ
-store_funct3 Sb = codes.FUNCT3_SB
-store_funct3 Sh = codes.FUNCT3_SH
-store_funct3 Sw = codes.FUNCT3_SW
+store_funct3 Sb = 0
+store_funct3 Sh = 1
+store_funct3 Sw = 2
 
 -- funct3 of an operation on a register and an immediate
 abbrev pub immediate_funct3 : ImmediateOp → ℕ
-immediate_funct3 Addi = codes.FUNCT3_ADDI
-immediate_funct3 Slti = codes.FUNCT3_SLTI
-immediate_funct3 Sltiu = codes.FUNCT3_SLTIU
-immediate_funct3 Xori = codes.FUNCT3_XORI
-immediate_funct3 Ori = codes.FUNCT3_ORI
-immediate_funct3 Andi = codes.FUNCT3_ANDI
+immediate_funct3 Addi = 0
+immediate_funct3 Slti = 2
+immediate_funct3 Sltiu = 3
+immediate_funct3 Xori = 4
+immediate_funct3 Ori = 6
+immediate_funct3 Andi = 7
 
 -- funct3 of a shift by an immediate
 abbrev pub shift_funct3 : ShiftOp → ℕ
-shift_funct3 Slli = codes.FUNCT3_SLLI
-shift_funct3 Srli = codes.FUNCT3_SRLI
-shift_funct3 Srai = codes.FUNCT3_SRLI
+shift_funct3 Slli = 1
+shift_funct3 Srli = 5
+shift_funct3 Srai = 5
 
 -- funct7 of a shift by an immediate
 abbrev pub shift_funct7 : ShiftOp → ℕ
-shift_funct7 Slli = codes.FUNCT7_BASE
-shift_funct7 Srli = codes.FUNCT7_BASE
-shift_funct7 Srai = codes.FUNCT7_ALTERNATE
+shift_funct7 Slli = 0x00
+shift_funct7 Srli = 0x00
+shift_funct7 Srai = 0x20
 
 -- funct3 of an operation on two registers
 abbrev pub register_funct3 : RegisterOp → ℕ
-register_funct3 Add = codes.FUNCT3_ADD
-register_funct3 Sub = codes.FUNCT3_ADD
-register_funct3 Sll = codes.FUNCT3_SLL
-register_funct3 Slt = codes.FUNCT3_SLT
-register_funct3 Sltu = codes.FUNCT3_SLTU
-register_funct3 Xor = codes.FUNCT3_XOR
-register_funct3 Srl = codes.FUNCT3_SRL
-register_funct3 Sra = codes.FUNCT3_SRL
-register_funct3 Or = codes.FUNCT3_OR
-register_funct3 And = codes.FUNCT3_AND
+register_funct3 Add = 0
+register_funct3 Sub = 0
+register_funct3 Sll = 1
+register_funct3 Slt = 2
+register_funct3 Sltu = 3
+register_funct3 Xor = 4
+register_funct3 Srl = 5
+register_funct3 Sra = 5
+register_funct3 Or = 6
+register_funct3 And = 7
 
 -- funct7 of an operation on two registers
 abbrev pub register_funct7 : RegisterOp → ℕ
-register_funct7 Add = codes.FUNCT7_BASE
-register_funct7 Sub = codes.FUNCT7_ALTERNATE
-register_funct7 Sll = codes.FUNCT7_BASE
-register_funct7 Slt = codes.FUNCT7_BASE
-register_funct7 Sltu = codes.FUNCT7_BASE
-register_funct7 Xor = codes.FUNCT7_BASE
-register_funct7 Srl = codes.FUNCT7_BASE
-register_funct7 Sra = codes.FUNCT7_ALTERNATE
-register_funct7 Or = codes.FUNCT7_BASE
-register_funct7 And = codes.FUNCT7_BASE
+register_funct7 Add = 0x00
+register_funct7 Sub = 0x20
+register_funct7 Sll = 0x00
+register_funct7 Slt = 0x00
+register_funct7 Sltu = 0x00
+register_funct7 Xor = 0x00
+register_funct7 Srl = 0x00
+register_funct7 Sra = 0x20
+register_funct7 Or = 0x00
+register_funct7 And = 0x00
 
 -- bits 31 to 27 of an atomic memory operation
 abbrev pub amo_funct5 : AmoOp → ℕ
-amo_funct5 Amoswap = codes.FUNCT5_AMOSWAP
-amo_funct5 Amoadd = codes.FUNCT5_AMOADD
-amo_funct5 Amoxor = codes.FUNCT5_AMOXOR
-amo_funct5 Amoand = codes.FUNCT5_AMOAND
-amo_funct5 Amoor = codes.FUNCT5_AMOOR
-amo_funct5 Amomin = codes.FUNCT5_AMOMIN
-amo_funct5 Amomax = codes.FUNCT5_AMOMAX
-amo_funct5 Amominu = codes.FUNCT5_AMOMINU
-amo_funct5 Amomaxu = codes.FUNCT5_AMOMAXU
+amo_funct5 Amoswap = 0b00001
+amo_funct5 Amoadd = 0b00000
+amo_funct5 Amoxor = 0b00100
+amo_funct5 Amoand = 0b01100
+amo_funct5 Amoor = 0b01000
+amo_funct5 Amomin = 0b10000
+amo_funct5 Amomax = 0b10100
+amo_funct5 Amominu = 0b11000
+amo_funct5 Amomaxu = 0b11100
 
 -- ---- rows
 -- the word of an opcode, funct3 and funct7
@@ -202,25 +201,25 @@ code opcode funct3 funct7 = opcode + funct3 * 2 ^ 12 + funct7 * 2 ^ 25
 
 -- the word of the A extension with these bits 31 to 27
 abbrev pub atomic_code : ℕ → ℕ
-atomic_code funct5 = code codes.OPCODE_ATOMIC codes.FUNCT3_WORD (funct5 * 4)
+atomic_code funct5 = code 0x2f 2 (funct5 * 4)
 
 -- the word of a mnemonic, with zeros for the operands
 abbrev pub fixed_of : Mnemonic → ℕ
-fixed_of Lui = codes.OPCODE_LUI
-fixed_of Auipc = codes.OPCODE_AUIPC
-fixed_of Jal = codes.OPCODE_JAL
-fixed_of Jalr = code codes.OPCODE_JALR codes.FUNCT3_JALR 0
-fixed_of (Branch op) = code codes.OPCODE_BRANCH (branch_funct3 op) 0
-fixed_of (Load op) = code codes.OPCODE_LOAD (load_funct3 op) 0
-fixed_of (Store op) = code codes.OPCODE_STORE (store_funct3 op) 0
-fixed_of (Immediate op) = code codes.OPCODE_IMMEDIATE (immediate_funct3 op) 0
-fixed_of (Shift op) = code codes.OPCODE_IMMEDIATE (shift_funct3 op) (shift_funct7 op)
-fixed_of (Register op) = code codes.OPCODE_REGISTER (register_funct3 op) (register_funct7 op)
-fixed_of Fence = code codes.OPCODE_FENCE codes.FUNCT3_FENCE 0
-fixed_of Ecall = codes.WORD_ECALL
-fixed_of Ebreak = codes.WORD_EBREAK
-fixed_of LoadReserved = atomic_code codes.FUNCT5_LR
-fixed_of StoreConditional = atomic_code codes.FUNCT5_SC
+fixed_of Lui = 0x37
+fixed_of Auipc = 0x17
+fixed_of Jal = 0x6f
+fixed_of Jalr = code 0x67 0 0
+fixed_of (Branch op) = code 0x63 (branch_funct3 op) 0
+fixed_of (Load op) = code 0x03 (load_funct3 op) 0
+fixed_of (Store op) = code 0x23 (store_funct3 op) 0
+fixed_of (Immediate op) = code 0x13 (immediate_funct3 op) 0
+fixed_of (Shift op) = code 0x13 (shift_funct3 op) (shift_funct7 op)
+fixed_of (Register op) = code 0x33 (register_funct3 op) (register_funct7 op)
+fixed_of Fence = code 0x0f 0 0
+fixed_of Ecall = 0x00000073
+fixed_of Ebreak = 0x00100073
+fixed_of LoadReserved = atomic_code 0b00010
+fixed_of StoreConditional = atomic_code 0b00011
 fixed_of (Amo op) = atomic_code (amo_funct5 op)
 
 -- where the operands of a mnemonic stand

@@ -3,6 +3,7 @@
 //! Instructions".
 #![tactic(auto)]
 
+mod code_laws;
 pub mod codes;
 pub mod fields;
 pub mod instr;
@@ -12,6 +13,7 @@ pub mod signed;
 pub mod table;
 pub mod vectors;
 
+pub use code_laws::codes_are_the_manuals;
 pub use fields::{
     BranchOffset, FenceSet, Immediate12, JumpOffset, Order, Reg, ShiftAmount, UpperImmediate,
 };

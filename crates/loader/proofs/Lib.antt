@@ -1,4 +1,5 @@
 pub mod Overlap
+pub mod RightsLemmas
 pub mod Sound
 pub mod HeaderLemmas
 pub mod FileLemmas

@@ -1,5 +1,5 @@
 -- what passes the checks passes them without its empty segments
-use Rattle.std.proofs.Common.{◌≡◌, ℕ, zero, suc, ◌+◌, ◌%◌, ◌^◌, ◌<◌, ◌≤◌, Bool, true, false, not, ◌&&◌, ltb, List, [], ◌∷◌, length, get_or, arith, rules, refl, inl, inr, sum_by, filter, map, Option, Some, None, IsTrue}
+use Rattle.std.proofs.Common.{◌≡◌, ℕ, zero, suc, ◌+◌, ◌%◌, ◌^◌, ◌<◌, ◌≤◌, Bool, true, false, not, ◌&&◌, ltb, List, [], ◌∷◌, length, get_or, arith, rules, refl, inl, inr, sum_by, filter, map, Option, Some, None, IsTrue, ◌∙◌}
 use Rattle.std.proofs.lemmas.Bool.{cases_Bool}
 use Rattle.std.proofs.lemmas.Bool.Decides.{nat_tests}
 use Rattle.std.proofs.lemmas.List.Filters.{sum_by-filter_both}
@@ -7,12 +7,13 @@ use Rattle.std.specs.List.{list_any, list_all}
 use Rattle.std.specs.Prelude.{◌==◌}
 use Rattle.std.specs.Option.{is_none}
 use Rattle.loader.specs.declared.fault.ElfFault.{ElfFault}
-use Rattle.loader.specs.declared.space.TheConstants.{IMAGE_LIMIT}
+use Rattle.loader.specs.Spans.{image_limit}
 use Rattle.loader.specs.declared.span.Span.{Span}
 use Rattle.loader.specs.Fault.{fault_if}
 use Rattle.loader.specs.Segment.{SegmentValue}
 use Rattle.loader.specs.Spans.{has_address, Shares, is_filled, is_over_mem, is_past_end, any_overlap, space_fault}
-use Rattle.loader.specs.Image.{span_of, is_mapped, is_sound, IsSound}
+use Rattle.loader.specs.Image.{span_of, is_mapped, with_low_rights, is_sound, IsSound}
+use Rattle.loader.proofs.RightsLemmas.{same_spans, same_mapped}
 use Rattle.loader.proofs.Overlap.{shared_decides, filled_counts}
 
 pub passed : (b : Bool) (fault : ElfFault) (later : Option ElfFault) → fault_if b fault later ≡ None → (b ≡ false) × (later ≡ None)
@@ -40,7 +41,7 @@ shared_left ss e = elim (cases_Bool (any_overlap (filter is_filled ss))) [
   | inr miss ↦ miss
 ]
 
-small_left : (ss : List Span) → ltb (IMAGE_LIMIT) (sum_by (λ (s : Span). s.size) ss) ≡ false → ltb (IMAGE_LIMIT) (sum_by (λ (s : Span). s.size) (filter is_filled ss)) ≡ false
+small_left : (ss : List Span) → ltb (image_limit) (sum_by (λ (s : Span). s.size) ss) ≡ false → ltb (image_limit) (sum_by (λ (s : Span). s.size) (filter is_filled ss)) ≡ false
 small_left ss e =
     let parts = sum_by-filter_both is_filled (λ s. not (is_filled s)) (λ s. refl) (λ (s : Span). s.size) ss in
     grind (arith, nat_tests, parts)
@@ -51,7 +52,7 @@ space_left ss e =
     let a = passed (list_any is_over_mem ss) _ _ e in
     let b = passed (list_any is_past_end ss) _ _ a.1 in
     let c = passed (any_overlap ss) _ _ b.1 in
-    let d = passed (ltb (IMAGE_LIMIT) (sum_by (λ (s : Span). s.size) ss)) _ _ c.1 in
+    let d = passed (ltb (image_limit) (sum_by (λ (s : Span). s.size) ss)) _ _ c.1 in
     rw (none_left is_over_mem is_filled ss a.0, none_left is_past_end is_filled ss b.0, shared_left ss c.0, small_left ss d.0) refl
 
 mapped_spans : (ps : List SegmentValue) → map span_of (filter is_mapped ps) ≡ filter is_filled (map span_of ps)
@@ -75,8 +76,9 @@ sound_from entry ps ss full same pass aligned =
     let left : space_fault (map span_of ps) ≡ None = rw same (space_left ss pass) in
     rw (aligned, full, left) refl
 
-pub new_is_sound : (entry : ℕ) (ps : List SegmentValue) → space_fault (map span_of ps) ≡ None → entry % 4 ≡ 0 → IsSound entry (filter is_mapped ps)
-new_is_sound entry ps pass aligned = sound_from entry (filter is_mapped ps) (map span_of ps) (all_mapped ps) (mapped_spans ps) pass aligned
+pub new_is_sound : (entry : ℕ) (ps : List SegmentValue) → space_fault (map span_of ps) ≡ None → entry % 4 ≡ 0 → IsSound entry (map with_low_rights (filter is_mapped ps))
+new_is_sound entry ps pass aligned = sound_from entry (map with_low_rights (filter is_mapped ps)) (map span_of ps)
+    (same_mapped (filter is_mapped ps) ∙ all_mapped ps) (same_spans (filter is_mapped ps) ∙ mapped_spans ps) pass aligned
 
 -- what a sound image's segments pass
 pub space_from_sound : (entry : ℕ) (ss : List SegmentValue) → IsSound entry ss → (list_all is_mapped ss ≡ true) × (space_fault (map span_of ss) ≡ None)

@@ -8,7 +8,7 @@ use Rattle.loader.specs.Number.{word_at, half_at}
 use Rattle.loader.specs.ProgramHeader.{program_headers_from, is_load, is_dynamic, is_outside, is_kept, header_span}
 use Rattle.loader.specs.Segment.{SegmentValue}
 use Rattle.loader.specs.Spans.{space_fault}
-use Rattle.loader.specs.declared.elf.TheConstants.{E_ENTRY, E_PHOFF, E_PHNUM, PROGRAM_HEADER_SIZE}
+use Rattle.loader.specs.Codes.{E_ENTRY, E_PHOFF, E_PHNUM, PROGRAM_HEADER_SIZE}
 use Rattle.loader.specs.declared.fault.ElfFault.{ElfFault}
 use Rattle.loader.specs.declared.fault.ElfFault.TheVariants as faults
 use Rattle.loader.specs.declared.program_header.ProgramHeader.{ProgramHeader}

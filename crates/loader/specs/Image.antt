@@ -1,5 +1,5 @@
 -- An image as contracts see it.
-use Rattle.std.specs.Prelude.{◌≡◌, ℕ, ◌%◌, Bool, not, ◌&&◌, ◌==◌, nat_lt, List, map, filter, length, Option, Some, None, Result, Ok, Err, IsTrue}
+use Rattle.std.specs.Prelude.{◌≡◌, ℕ, ◌%◌, Bool, true, not, ◌&&◌, ◌==◌, nat_lt, List, map, filter, length, Option, Some, None, Result, Ok, Err, IsTrue}
 use Rattle.std.specs.Option.{is_none}
 use Rattle.std.specs.List.{list_all}
 use Rattle.loader.specs.Fault.{fault_if, first_fault}
@@ -27,6 +27,18 @@ unfoldable pub is_sound : ℕ → List SegmentValue → Bool
 is_sound entry segments =
     entry % 4 == 0 && list_all is_mapped segments && is_none (space_fault (map span_of segments))
 
+-- a segment with the low three bits of its rights: the bits above them say nothing
+abbrev pub with_low_rights : SegmentValue → SegmentValue
+with_low_rights s = record s { rights = s.rights % 8 }
+
+-- whether a segment's rights are a sum of 1, 2 and 4
+abbrev pub has_low_rights : SegmentValue → Bool
+has_low_rights s = nat_lt s.rights 8
+
+-- no segment has a bit above the low three in its rights
+abbrev pub HaveLowRights : List SegmentValue → Type 0
+HaveLowRights segments = list_all has_low_rights segments ≡ true
+
 -- what each image keeps of its entry and its segments
 abbrev pub IsSound : ℕ → List SegmentValue → Type 0
 IsSound entry segments = IsTrue (is_sound entry segments)
@@ -43,11 +55,12 @@ abbrev pub fault_or : Option ElfFault → ImageValue → Result ImageValue ElfFa
 fault_or (Some fault) image = Err fault
 fault_or None image = Ok image
 
--- the first check that refuses an entry and segments, else the image of the segments that are not empty
+-- the first check that refuses an entry and segments, else the image of the segments that are not empty, each with the low
+-- three bits of its rights
 unfoldable pub image_or_fault : ℕ → List SegmentValue → Result ImageValue ElfFault
 image_or_fault entry segments =
     fault_or (image_fault entry segments)
-    (record { entry = entry; segments = filter is_mapped segments })
+    (record { entry = entry; segments = map with_low_rights (filter is_mapped segments) })
 
 -- a fault is the expected answer; want of memory may stand in any answer's place
 abbrev pub Fails : ElfFault → Result ImageValue ElfFault → Type 0

@@ -1,3 +1,4 @@
+pub mod Codes
 pub mod Number
 pub mod Fault
 pub mod Spans

@@ -1,7 +1,7 @@
 -- Section headers.
 use Rattle.std.specs.Prelude.{ℕ, zero, suc, ◌+◌, Bool, ◌==◌, nat_lt, List, [], ◌∷◌, take, drop}
 use Rattle.loader.specs.Number.{word_at}
-use Rattle.loader.specs.declared.elf.TheConstants.{SH_TYPE, SH_OFFSET, SH_SIZE, SH_LINK, SH_ENTSIZE, SECTION_HEADER_SIZE, SHT_SYMTAB}
+use Rattle.loader.specs.Codes.{SH_TYPE, SH_OFFSET, SH_SIZE, SH_LINK, SH_ENTSIZE, SECTION_HEADER_SIZE, SHT_SYMTAB}
 use Rattle.loader.specs.declared.section.SectionHeader.{SectionHeader}
 
 -- the section header at a place

@@ -4,8 +4,11 @@ use Rattle.std.specs.List.{list_any}
 use Rattle.loader.specs.Fault.{fault_if}
 use Rattle.loader.specs.declared.fault.ElfFault.{ElfFault}
 use Rattle.loader.specs.declared.fault.ElfFault.TheVariants as faults
-use Rattle.loader.specs.declared.space.TheConstants.{IMAGE_LIMIT}
 use Rattle.loader.specs.declared.span.Span.{Span}
+
+-- the most bytes that the segments of an image have together: 2^24
+abbrev pub image_limit : ℕ
+image_limit = 0x0100_0000
 
 -- whether a segment has an address
 abbrev pub has_address : ℕ → Span → Bool
@@ -43,7 +46,7 @@ space_fault ss =
     fault_if (list_any is_over_mem ss) faults.FileOverMem (
     fault_if (list_any is_past_end ss) faults.PastEnd (
     fault_if (any_overlap ss) faults.Overlap (
-    fault_if (nat_lt IMAGE_LIMIT (sum_by (λ s. s.size) ss)) faults.TooLarge
+    fault_if (nat_lt image_limit (sum_by (λ s. s.size) ss)) faults.TooLarge
     None)))
 
 -- whether each segment begins at or after the end of the one before it, the first at or after an address

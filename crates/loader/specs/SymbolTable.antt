@@ -5,7 +5,7 @@ use Rattle.loader.specs.Name.{name_in}
 use Rattle.loader.specs.Number.{word_at, half_at}
 use Rattle.loader.specs.Section.{sections_from, is_symbol_table, is_past_end, bytes_of}
 use Rattle.loader.specs.Symbol.{SymbolValue}
-use Rattle.loader.specs.declared.elf.TheConstants.{E_SHOFF, E_SHNUM, E_SHENTSIZE, HEADER_SIZE, SECTION_HEADER_SIZE, SYMBOL_SIZE, SHT_STRTAB, ST_NAME, ST_VALUE}
+use Rattle.loader.specs.Codes.{E_SHOFF, E_SHNUM, E_SHENTSIZE, HEADER_SIZE, SECTION_HEADER_SIZE, SYMBOL_SIZE, SHT_STRTAB, ST_NAME, ST_VALUE}
 use Rattle.loader.specs.declared.section.SectionHeader.{SectionHeader}
 use Rattle.loader.specs.declared.symbol.SymFault.{SymFault}
 use Rattle.loader.specs.declared.symbol.SymFault.TheVariants as faults

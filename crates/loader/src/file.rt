@@ -5,7 +5,7 @@ ghost use Rattle.loader.specs.File.{loaded, headers_fault, is_table_outside, seg
 ghost use Rattle.loader.specs.Image.{Gives};
 ghost use Rattle.loader.specs.Number.{word_at, half_at};
 ghost use Rattle.loader.specs.ProgramHeader.{is_kept};
-ghost use Rattle.loader.specs.declared.elf.TheConstants.{E_PHOFF, E_PHNUM, HEADER_SIZE, PROGRAM_HEADER_SIZE};
+ghost use Rattle.loader.specs.Codes.{E_PHOFF, E_PHNUM, HEADER_SIZE, PROGRAM_HEADER_SIZE};
 ghost use Rattle.loader.specs.declared.program_header.ProgramHeader.{ProgramHeader};
 
 use crate::elf::{E_ENTRY, E_PHNUM, E_PHOFF, PROGRAM_HEADER_SIZE, PT_LOAD};
@@ -33,7 +33,7 @@ pub fn a_segments_bytes_are_the_files()
 /// Else the first check that refuses it, in the order of `ElfFault`: each check is looked at only where those before it
 /// pass. Sections are not looked at. No byte of a segment is copied before all checks have passed.
 /// System V ELF, "ELF Header", "Program Header".
-#[tactic(auto, using(crate::proofs::FileLemmas::file_is_sound), unfolding(crate::specs::File::loaded, crate::specs::File::elf_fault, crate::specs::File::file_image, crate::specs::File::program_headers_of))]
+#[tactic(auto, using(crate::proofs::FileLemmas::file_is_sound, crate::proofs::RightsLemmas::files_have_low), unfolding(crate::specs::File::loaded, crate::specs::File::elf_fault, crate::specs::File::file_image, crate::specs::File::program_headers_of))]
 pub fn load<A: Allocator + Copy>(alloc: A, bytes: &[u8]) -> Result<Image<A>, ElfFault>
     ensures { Gives result (loaded bytes.now) }
 {

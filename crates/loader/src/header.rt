@@ -1,7 +1,7 @@
 //! The header of a file.
 ghost use Rattle.std.specs.Prelude.{◌≡◌, ◌≤◌, length, IfNone};
 ghost use Rattle.loader.specs.Header.{header_fault};
-ghost use Rattle.loader.specs.declared.elf.TheConstants.{HEADER_SIZE};
+ghost use Rattle.loader.specs.Codes.{HEADER_SIZE};
 
 use crate::elf::{
     E_EHSIZE, E_FLAGS, E_MACHINE, E_PHENTSIZE, E_PHNUM, E_TYPE, E_VERSION, EF_RISCV_RVC, EI_CLASS,

@@ -1,6 +1,6 @@
 //! Images.
 ghost use Rattle.std.specs.Prelude.{◌≡◌, map, filter, IfOk};
-ghost use Rattle.loader.specs.Image.{IsSound, span_of, is_mapped, image_or_fault, Gives};
+ghost use Rattle.loader.specs.Image.{IsSound, HaveLowRights, span_of, is_mapped, with_low_rights, image_or_fault, Gives};
 
 use crate::fault::ElfFault;
 use crate::segment::Segment;
@@ -12,7 +12,8 @@ use std::marker::Model;
 /// Where a program begins, and its segments.
 ///
 /// No segment is empty or has more file bytes than its size; no two share an address; none ends above the last
-/// address; their sizes add up to at most `IMAGE_LIMIT`; the entry is a multiple of 4.
+/// address; their sizes add up to at most `IMAGE_LIMIT`; the entry is a multiple of 4. Rights have no bit but the low three, so
+/// that images with the same rights are the same.
 #[derive(Drop)]
 pub struct Image<A: Allocator> {
     entry: u32,
@@ -20,20 +21,20 @@ pub struct Image<A: Allocator> {
 }
 
 impl<A: Allocator> Model for Image<A> {
-    ghost use Rattle.loader.specs.Image.{ImageValue, IsSound};
+    ghost use Rattle.loader.specs.Image.{ImageValue, IsSound, HaveLowRights};
 
     ghost Value = { ImageValue };
 
     ghost view = { λ m. record { entry = m.entry; segments = m.segments.items } };
 
-    ghost invariant = { λ m. IsSound m.entry m.segments.items };
+    ghost invariant = { λ m. IsSound m.entry m.segments.items × HaveLowRights m.segments.items };
 }
 
 impl<A: Allocator + Copy> Image<A> {
-    /// Makes an image of an entry and segments, of which it leaves out the empty ones.
+    /// Makes an image of an entry and segments, of which it leaves out the empty ones. Of rights it keeps the low three bits.
     ///
     /// The checks come in the order of `ElfFault`, and see the empty segments too.
-    #[tactic(auto, using(crate::proofs::Sound::new_is_sound), unfolding(crate::specs::Image::image_or_fault, crate::specs::Image::image_fault))]
+    #[tactic(auto, using(crate::proofs::Sound::new_is_sound, crate::proofs::RightsLemmas::low_have_low), unfolding(crate::specs::Image::image_or_fault, crate::specs::Image::image_fault))]
     pub fn new(alloc: A, entry: u32, segments: Vec<Segment<A>, A>) -> Result<Image<A>, ElfFault>
         ensures { Gives result (image_or_fault entry segments.items) }
     {
@@ -49,7 +50,7 @@ impl<A: Allocator + Copy> Image<A> {
         if entry % 4 != 0 {
             return Err(ElfFault::EntryAlign);
         }
-        Ok(image_of(entry, mapped_segments(segments)))
+        Ok(image_of(entry, low_rights(mapped_segments(segments))))
     }
 }
 
@@ -65,6 +66,7 @@ impl<A: Allocator> Image<A> {
     pub fn segments(&self) -> &[Segment<A>]
         ensures value { result.now ≡ self.now.segments }
         ensures sound { IsSound self.now.entry self.now.segments }
+        ensures rights { HaveLowRights self.now.segments }
     {
         // Reading the entry tells the proof of `sound` which entry the segments were checked with.
         let _ = &self.entry;
@@ -74,7 +76,8 @@ impl<A: Allocator> Image<A> {
 
 /// An image of what is known to be sound.
 pub(crate) fn image_of<A: Allocator>(entry: u32, segments: Vec<Segment<A>, A>) -> Image<A>
-    requires { IsSound entry segments.items }
+    requires sound { IsSound entry segments.items }
+    requires rights { HaveLowRights segments.items }
     ensures { result ≡ record { entry = entry; segments = segments.items } }
 {
     Image { entry, segments }
@@ -101,4 +104,15 @@ fn mapped_segments<A: Allocator>(segments: Vec<Segment<A>, A>) -> Vec<Segment<A>
     let mut mapped = segments;
     mapped.retain(|s| s.is_mapped());
     mapped
+}
+
+/// Segments with the low three bits of their rights.
+fn low_rights<A: Allocator>(segments: Vec<Segment<A>, A>) -> Vec<Segment<A>, A>
+    ensures { result.items ≡ map with_low_rights segments.items }
+{
+    let mut lowered = segments;
+    for segment in lowered.iter_mut() {
+        segment.rights = segment.rights.low();
+    }
+    lowered
 }

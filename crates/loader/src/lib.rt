@@ -4,6 +4,7 @@
 pub use fault::ElfFault;
 pub use file::{a_segments_bytes_are_the_files, load};
 pub use image::Image;
+pub use laws::{images_are_limited, numbers_are_the_standards};
 pub use rights::Rights;
 pub use segment::Segment;
 pub use space::{IMAGE_LIMIT, overlap_is_a_shared_address};
@@ -15,6 +16,7 @@ mod fault;
 mod file;
 mod header;
 mod image;
+mod laws;
 mod name;
 mod number;
 mod program_header;

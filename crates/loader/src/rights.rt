@@ -49,6 +49,13 @@ impl Rights {
         Rights((p_flags % 8) as u8)
     }
 
+    /// Its low three bits alone: no other bit says anything.
+    pub(crate) fn low(self) -> Rights
+        ensures { result.0 ≡ self.0 % 8 }
+    {
+        Rights(self.0 % 8)
+    }
+
     /// Whether one of the wanted rights is given.
     #[inline]
     pub fn grants(&self, wanted: Rights) -> bool

@@ -3,7 +3,7 @@ ghost use Rattle.std.specs.Prelude.{◌≡◌, ◌↔◌, List, IsTrue, nat_lt, 
 ghost use Rattle.std.specs.List.{list_any};
 ghost use Rattle.loader.specs.Spans.{Shares, any_overlap, space_fault, stands_in_row, is_filled, is_over_mem, is_past_end};
 ghost use Rattle.loader.specs.declared.span.Span.{Span};
-ghost use Rattle.loader.specs.declared.space.TheConstants.{IMAGE_LIMIT};
+ghost use Rattle.loader.specs.Spans.{image_limit};
 
 use crate::fault::ElfFault;
 use crate::span::Span;
@@ -95,7 +95,7 @@ fn stands_in_row(spans: &[Span]) -> bool
 
 /// Whether the sizes add up to more than the limit.
 fn is_too_large(spans: &[Span]) -> bool
-    ensures { result ≡ nat_lt IMAGE_LIMIT (sum_by (λ s. s.size) spans.now) }
+    ensures { result ≡ nat_lt image_limit (sum_by (λ s. s.size) spans.now) }
 {
     let mut total: u64 = 0;
     'spans: for span in spans {

@@ -1,12 +1,13 @@
 -- What each step keeps, every run keeps.
-use Rattle.std.proofs.Common.{◌≡◌, ℕ, suc, ◌+◌, ◌%◌, ◌<◌, Bool, List, [], ◌∷◌, Option, Some, None, length, refl, ap, ◌∙◌, subst}
+use Rattle.std.proofs.Common.{◌≡◌, ℕ, suc, ◌+◌, ◌%◌, ◌<◌, Bool, List, [], ◌∷◌, Option, Some, None, map, length, refl, ap, ◌∙◌, subst}
 use Rattle.std.specs.List.{All, slice_get}
 use Rattle.std.proofs.lemmas.List.{length-set}
 use Rattle.std.proofs.lemmas.List.Elements.{All-set, All-nil, All-cons}
 use Rattle.std.proofs.lemmas.Option.{slice_get_within, get_or_from_slice_get}
 use Rattle.loader.specs.Image.{ImageValue}
 use Rattle.memory.specs.Memory.{Memory, grants, to_write}
-use Rattle.hart_step.specs.Hart.{HartValue}
+use Rattle.hart_step.specs.Hart.{HartValue, hart_of}
+use Rattle.hart_step.specs.declared.hart.Hart.{Hart}
 use Rattle.hart_step.specs.Effect.{Site, site}
 use Rattle.hart_step.specs.Step.{stepped}
 use Rattle.hart_step.specs.Laws.{Keeps, IsAligned, HasZero}
@@ -62,6 +63,11 @@ all-first : (P : HartValue → Type 0) (entry n h : ℕ) (inputs : List ℕ)
 all-first P entry n h [] each = All-nil P
 all-first P entry n h (input ∷ inputs) each =
     All-cons P (first_hart entry n h input) (first_harts entry n (h + 1) inputs) (each h input) (all-first P entry n (h + 1) inputs each)
+
+-- each hart that is made has 0 there
+pub made-zero : (harts : List Hart) → All HasZero (map hart_of harts)
+made-zero [] = All-nil HasZero
+made-zero (h ∷ harts) = All-cons HasZero (hart_of h) (map hart_of harts) h.x0_is_zero (made-zero harts)
 
 pub run-zero : (image : ImageValue) (inputs : List ℕ) (choices : List Choice)
     → All HasZero (run (started image inputs) choices).harts

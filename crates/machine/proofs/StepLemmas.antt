@@ -1,5 +1,5 @@
 -- A step of one hart, placed back into its world.
-use Rattle.std.proofs.Common.{◌≡◌, ℕ, ◌<◌, List, Some, map, length, get_or, set, ◌∙◌, ap, sym, refl, Result, Ok, Err, OnOk, OnErr}
+use Rattle.std.proofs.Common.{◌≡◌, ℕ, ◌<◌, List, Some, map, length, take, subst, get_or, set, ◌∙◌, ap, sym, refl, Result, Ok, Err, OnOk, OnErr}
 use Rattle.std.proofs.lemmas.List.{map-set}
 use Rattle.std.proofs.Math.Seq.{map-set_same}
 use Rattle.std.proofs.lemmas.Option.{slice_get-map, slice_get_read}
@@ -11,7 +11,9 @@ use Rattle.hart_step.specs.Hart.{HartValue, hart_of}
 use Rattle.hart_step.specs.Effect.{Site, site}
 use Rattle.hart_step.specs.Step.{stepped}
 use Rattle.hart_step.specs.declared.hart.Hart.{Hart}
-use Rattle.machine.specs.World.{World, placed, step}
+use Rattle.machine.specs.World.{World, placed, step, run}
+use Rattle.machine.specs.Wanting.{ChoiceStores, NextStores}
+use Rattle.hart_step.specs.Wanting.{StepStores}
 use Rattle.machine.specs.declared.choice.Choice.{Choice}
 
 -- the world of these harts
@@ -33,6 +35,24 @@ step-placed harts c old new m m' r r' inside is taken =
     slice_get-map hart_of harts c.hart ∙ ap (λ o. option_map hart_of o) (slice_get_read harts (length harts) c.hart old refl inside is) in
     let after = step_there (world_with harts m r) c (hart_of old) there in
     sym (after ∙ ap (placed (world_with harts m r) c.hart) (sym taken) ∙ ap (λ hs. record { harts = hs; memory = m'; reserved = r' }) (sym (map-set hart_of harts c.hart new)))
+
+-- the chosen hart's step stores
+pub step-stores : (harts : List Hart) (c : Choice) (old : Hart) (m : Memory) (r : Marks) → c.hart < length harts → old ≡ get_or harts c.hart old
+    → StepStores c.hart c.refuse (site (hart_of old) m r) → ChoiceStores (world_with harts m r) c
+step-stores harts c old m r inside is stored = record {
+  hart = hart_of old;
+  there = slice_get-map hart_of harts c.hart ∙ ap (λ o. option_map hart_of o) (slice_get_read harts (length harts) c.hart old refl inside is);
+  stores = stored;
+}
+
+-- the choice that is not done stores
+pub next_stores : (w v : World) (choices : List Choice) (n : ℕ) (c : Choice) → n < length choices → c ≡ get_or choices n c
+    → v ≡ run w (take n choices) → ChoiceStores v c → NextStores w choices n
+next_stores w v choices n c inside is reached stored = record {
+  choice = c;
+  next = slice_get_read choices (length choices) n c refl inside is;
+  stores = subst (λ u. ChoiceStores u c) reached stored;
+}
 
 -- nothing has changed
 pub world-unchanged : (harts : List Hart) (h : ℕ) (old new : Hart) (m m' : Memory) (r r' : Marks)

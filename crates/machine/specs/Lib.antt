@@ -3,4 +3,5 @@ pub mod Machine
 pub mod State
 pub mod Start
 pub mod Chosen
+pub mod Wanting
 pub mod Example

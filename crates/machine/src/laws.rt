@@ -5,7 +5,12 @@ ghost use Rattle.loader.specs.Image.{ImageValue};
 ghost use Rattle.hart_step.specs.Laws.{Keeps, IsAligned, HasZero};
 ghost use Rattle.machine.specs.World.{World, run};
 ghost use Rattle.machine.specs.Start.{started};
+ghost use Rattle.machine.specs.Machine.{world};
 ghost use Rattle.machine.specs.declared.choice.Choice.{Choice};
+
+use crate::machine::Machine;
+use memory::Store;
+use std::alloc::Allocator;
 
 /// Choices after choices: the run of both together is the run of the later ones from where the earlier ones lead.
 pub fn run_goes_on()
@@ -22,6 +27,11 @@ pub fn run_keeps_harts()
 /// No run changes a right, or a byte that may not be written.
 pub fn run_keeps_unwritable()
     ensures { (w : World) (choices : List Choice) → Keeps w.memory (run w choices).memory }
+{}
+
+/// In every machine that can be made `x0` reads 0 in each hart, whatever harts were put into it.
+pub fn every_machine_has_zero<S: Store, A: Allocator>(machine: &Machine<S, A>)
+    ensures { All HasZero (world S.memory machine.now).harts }
 {}
 
 /// In every run of a program `x0` reads 0 in each hart.

@@ -4,6 +4,7 @@ ghost use Rattle.hart_step.specs.Hart.{hart_of};
 ghost use Rattle.reservations.specs.Reserve.{marks};
 ghost use Rattle.machine.specs.World.{step, run};
 ghost use Rattle.machine.specs.Machine.{world};
+ghost use Rattle.machine.specs.Wanting.{ChoiceStores, NextStores};
 
 use crate::choice::Choice;
 use crate::machine::Machine;
@@ -72,6 +73,8 @@ impl<S: Store, A: Allocator> Machine<S, A> {
         ensures ok { OnOk result (world S.memory self.new ≡ step (world S.memory self.old) choice) }
         ensures err { OnErr result (world S.memory self.new ≡ world S.memory self.old) }
         ensures refused { OnErr result (IsTrue S.grows) }
+        // Memory is wanted only where the chosen hart's step stores.
+        ensures stores { OnErr result (ChoiceStores (world S.memory self.old) choice) }
         ensures harts { length (world S.memory self.new).harts
             ≡ length (world S.memory self.old).harts }
     {
@@ -87,7 +90,7 @@ impl<S: Store, A: Allocator> Machine<S, A> {
 
     /// One event after another. Only the memory of the host may refuse; then the machine stands after the choices that
     /// were done.
-    #[tactic(auto, using(crate::proofs::WorldLemmas::run_more, crate::proofs::WorldLemmas::run_none))]
+    #[tactic(auto, using(crate::proofs::WorldLemmas::run_more, crate::proofs::WorldLemmas::run_none, crate::proofs::StepLemmas::next_stores))]
     pub fn run(&mut self, choices: &[Choice]) -> Result<(), Stopped>
         requires { All (λ c. c.hart < length (world S.memory self.old).harts) choices.now }
         ensures ok { OnOk result (world S.memory self.new
@@ -96,6 +99,8 @@ impl<S: Store, A: Allocator> Machine<S, A> {
             × (world S.memory self.new
             ≡ run (world S.memory self.old) (take stopped.done choices.now))) }
         ensures refused { OnErr result (IsTrue S.grows) }
+        ensures stores { IfErr result (λ stopped.
+            NextStores (world S.memory self.old) choices.now stopped.done) }
         ensures harts { length (world S.memory self.new).harts
             ≡ length (world S.memory self.old).harts }
     {

@@ -5,7 +5,7 @@ use Rattle.std.specs.declared.result.Result.{Result}
 use Rattle.item_texts.specs.Items.{items_from, span_of, IsFirstItem}
 use Rattle.programs.specs.declared.hex.HexFault.{HexFault}
 use Rattle.programs.specs.declared.hex.HexFault.TheVariants.{BadWord, TooMany}
-use Rattle.programs.specs.declared.hex.TheConstants.{MOST_WORDS}
+use Rattle.programs.specs.HexText.{most_words}
 use Rattle.programs.specs.HexText.{word_of, words_of, words_named, word_then, followed_by}
 
 followed_by-more : (words : List ℕ) (word : ℕ) (r : Result (List ℕ) HexFault)
@@ -16,26 +16,26 @@ followed_by-more words word (Err fault) = refl
 -- reading has come so far in a text, and an item follows
 module _ (from begin end number : ℕ) (text : List ℕ) (old : List ℕ) (at : IsFirstItem from text begin end)
     (so_far : words_of text ≡ followed_by old (words_named number (items_from from text))) where
-  next : words_of text ≡ followed_by old (if number == MOST_WORDS then Err (TooMany MOST_WORDS)
+  next : words_of text ≡ followed_by old (if number == most_words then Err (TooMany most_words)
       else word_then (word_of (span_of begin end text)) number (words_named (number + 1) (items_from end text)))
   next = so_far ∙ ap (λ items. followed_by old (words_named number items)) at.first
 
-  pub too_many : number ≡ MOST_WORDS → words_of text ≡ Err (TooMany MOST_WORDS)
+  pub too_many : number ≡ most_words → words_of text ≡ Err (TooMany most_words)
   too_many full =
-      next ∙ ap (λ b. followed_by old (if b then Err (TooMany MOST_WORDS)
-      else word_then (word_of (span_of begin end text)) number (words_named (number + 1) (items_from end text)))) (eq-eqb number MOST_WORDS full)
+      next ∙ ap (λ b. followed_by old (if b then Err (TooMany most_words)
+      else word_then (word_of (span_of begin end text)) number (words_named (number + 1) (items_from end text)))) (eq-eqb number most_words full)
 
-  word_next : (number ≡ MOST_WORDS → ⊥) → (word : Option ℕ) → word_of (span_of begin end text) ≡ word
+  word_next : (number ≡ most_words → ⊥) → (word : Option ℕ) → word_of (span_of begin end text) ≡ word
       → words_of text ≡ followed_by old (word_then word number (words_named (number + 1) (items_from end text)))
   word_next room word e =
-      next ∙ ap (λ b. followed_by old (if b then Err (TooMany MOST_WORDS)
-      else word_then (word_of (span_of begin end text)) number (words_named (number + 1) (items_from end text)))) (ne_eqb number MOST_WORDS room)
+      next ∙ ap (λ b. followed_by old (if b then Err (TooMany most_words)
+      else word_then (word_of (span_of begin end text)) number (words_named (number + 1) (items_from end text)))) (ne_eqb number most_words room)
       ∙ ap (λ word. followed_by old (word_then word number (words_named (number + 1) (items_from end text)))) e
 
-  pub bad_word : (number ≡ MOST_WORDS → ⊥) → word_of (span_of begin end text) ≡ None → words_of text ≡ Err (BadWord number)
+  pub bad_word : (number ≡ most_words → ⊥) → word_of (span_of begin end text) ≡ None → words_of text ≡ Err (BadWord number)
   bad_word room e = word_next room None e
 
-  pub goes_on : (number ≡ MOST_WORDS → ⊥) → (word : ℕ) → word_of (span_of begin end text) ≡ Some word
+  pub goes_on : (number ≡ most_words → ⊥) → (word : ℕ) → word_of (span_of begin end text) ≡ Some word
       → words_of text ≡ followed_by (old ++ word ∷ []) (words_named (number + 1) (items_from end text))
   goes_on room word e = word_next room (Some word) e ∙ followed_by-more old word (words_named (number + 1) (items_from end text))
 

@@ -2,7 +2,14 @@
 use Rattle.std.specs.Prelude.{ℕ, ◌/◌, ◌%◌, List, [], ◌∷◌, ◌++◌}
 use Rattle.loader.specs.Image.{ImageValue}
 use Rattle.loader.specs.Segment.{SegmentValue}
-use Rattle.programs.specs.declared.hex_program.TheConstants.{HEX_BASE, HEX_SIZE}
+
+-- where the words begin, which is also the entry
+abbrev pub hex_base : ℕ
+hex_base = 0x0001_0000
+
+-- the size of the segment in bytes, whatever the number of words
+abbrev pub hex_size : ℕ
+hex_size = 8192
 
 -- the four bytes of a word, the lowest first
 abbrev pub word_bytes : ℕ → List ℕ
@@ -15,7 +22,7 @@ bytes_of (word ∷ words) = word_bytes word ++ bytes_of words
 
 -- one segment with all rights, which begins with the words; the first of them is the entry
 abbrev pub hex_segment : List ℕ → SegmentValue
-hex_segment words = record { base = HEX_BASE; size = HEX_SIZE; rights = 7; bytes = bytes_of words }
+hex_segment words = record { base = hex_base; size = hex_size; rights = 7; bytes = bytes_of words }
 
 abbrev pub hex_image_of : List ℕ → ImageValue
-hex_image_of words = record { entry = HEX_BASE; segments = hex_segment words ∷ [] }
+hex_image_of words = record { entry = hex_base; segments = hex_segment words ∷ [] }

@@ -5,7 +5,10 @@ use Rattle.std.specs.declared.result.Result.TheVariants.{Ok, Err}
 use Rattle.item_texts.specs.Items.{Item, items_from}
 use Rattle.programs.specs.declared.hex.HexFault.{HexFault}
 use Rattle.programs.specs.declared.hex.HexFault.TheVariants.{BadWord, TooMany}
-use Rattle.programs.specs.declared.hex.TheConstants.{MOST_WORDS}
+
+-- the most words of a text
+abbrev pub most_words : ℕ
+most_words = 2048
 
 -- the value of a hexadecimal digit of either case
 abbrev pub hex_digit_of : ℕ → Option ℕ
@@ -35,7 +38,7 @@ word_then (Some word) number rest = followed_by (word ∷ []) rest
 -- the words of items that are numbered from a number on, or the first one's fault
 abbrev pub words_named : ℕ → List Item → Result (List ℕ) HexFault
 words_named number [] = Ok []
-words_named number (item ∷ items) = if number == MOST_WORDS then Err (TooMany MOST_WORDS)
+words_named number (item ∷ items) = if number == most_words then Err (TooMany most_words)
     else word_then (word_of item.text) number (words_named (number + 1) items)
 
 -- the words of a text

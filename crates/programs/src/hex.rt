@@ -62,7 +62,7 @@ fn read_word(item: &[u8]) -> Option<u32>
 pub fn read_hex<A: Allocator + Copy>(alloc: A, bytes: &[u8]) -> Result<Vec<u32, A>, HexFault>
     ensures ok { IfOk result (λ words. words_of bytes.now ≡ Ok words.items) }
     ensures err { IfErr result (λ fault. fault ≢ HexFault.Memory → words_of bytes.now ≡ Err fault) }
-    ensures few { IfOk result (λ words. vec_len words ≤ MOST_WORDS) }
+    ensures few { IfOk result (λ words. vec_len words ≤ most_words) }
 {
     let mut words = Vec::new(alloc);
     let mut from = 0;

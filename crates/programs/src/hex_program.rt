@@ -2,7 +2,7 @@
 
 ghost use Rattle.std.specs.Prelude.{◌≡◌, ◌≤◌, length, IfOk};
 ghost use Rattle.programs.specs.HexImage.{bytes_of, hex_image_of, word_bytes};
-ghost use Rattle.programs.specs.declared.hex.TheConstants.{MOST_WORDS};
+ghost use Rattle.programs.specs.HexText.{most_words};
 
 use loader::{Image, Rights, Segment};
 use std::alloc::{AllocError, Allocator};
@@ -19,7 +19,7 @@ const ALL_RIGHTS: u32 = 7;
 /// The image of at most `MOST_WORDS` words: one segment of `HEX_SIZE` bytes at `HEX_BASE` that may be executed, written and
 /// read, and begins with the words, each in little-endian order. The entry is the first word.
 pub fn hex_image<A: Allocator + Copy>(alloc: A, words: &[u32]) -> Result<Image<A>, AllocError>
-    requires { length words.now ≤ MOST_WORDS }
+    requires { length words.now ≤ most_words }
     ensures { IfOk result (λ image. image ≡ hex_image_of words.now) }
 {
     let mut segments = Vec::new(alloc);

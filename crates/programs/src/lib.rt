@@ -3,12 +3,14 @@
 
 pub use hex::{HexFault, MOST_WORDS, read_hex};
 pub use hex_program::{HEX_BASE, HEX_SIZE, hex_image};
+pub use limits::hex_programs_have_their_place;
 pub use opening::{OpenRun, OpenText, open_run, open_text};
 pub use program::{ProgramForm, read_image, read_program};
 pub use run_fault::{Input, RunFault};
 
 mod hex;
 mod hex_program;
+mod limits;
 mod opening;
 mod program;
 mod run_fault;

@@ -13,7 +13,7 @@ use Rattle.asm_text.specs.Grammar.{is_in_line}
 use Rattle.asm_text.specs.Lexemes.{Lexeme, LineEnd, Lexed, lexed}
 use Rattle.asm_read.specs.Statement.{StatementValue}
 use Rattle.asm_read.specs.Statements.{stated, statement_from, source_from, labels_from, body, sources_from, statements_of}
-use Rattle.assembler.specs.declared.program.TheConstants.{TEXT_BASE}
+use Rattle.assembler.specs.Program.{text_start}
 use Rattle.round_trip.proofs.Atoms.{Gap, Remark, Line, lexemes, afterwards}
 use Rattle.round_trip.proofs.Digits.{hex8, digit_at}
 use Rattle.assembler.specs.Sources.{assembled_texts}
@@ -139,7 +139,7 @@ one_source : (text : List ℕ) (words : List Lexeme) (said : List StatementValue
 unfolding statements_of sources_from
 one_source text words said are says = rw (are, says) refl
 
-pub comes_back : (bytes : List ℕ) → All (λ b. b < 2 ^ 8) bytes → length bytes ≤ 2 ^ 24 → assembled_texts (listing TEXT_BASE bytes ∷ []) ≡ Ok (text_alone bytes)
+pub comes_back : (bytes : List ℕ) → All (λ b. b < 2 ^ 8) bytes → length bytes ≤ 2 ^ 24 → assembled_texts (listing text_start bytes ∷ []) ≡ Ok (text_alone bytes)
 unfolding assembled_texts
 comes_back bytes h le =
     let r : Reads 65536 (listing 65536 bytes) bytes = whole bytes 65536 (are_bytes bytes h) (omega arith) (omega arith) in

@@ -1,7 +1,7 @@
 //! The law that ties the listing to the reader and the assembler.
 ghost use Rattle.std.specs.Prelude.{◌≡◌, ◌<◌, ◌≤◌, ◌^◌, ℕ, List, [], ◌∷◌, length, All, Ok};
 ghost use Rattle.assembler.specs.Sources.{assembled_texts};
-ghost use Rattle.assembler.specs.declared.program.TheConstants.{TEXT_BASE};
+ghost use Rattle.assembler.specs.Program.{text_start};
 ghost use Rattle.listing.specs.Listing.{listing};
 ghost use Rattle.round_trip.specs.TextAlone.{text_alone};
 
@@ -9,5 +9,5 @@ ghost use Rattle.round_trip.specs.TextAlone.{text_alone};
 /// nothing else, where they are as many as a program may have. From another base an absolute target is another offset.
 pub fn a_listing_is_its_source()
     ensures { (bytes : List ℕ) → All (λ b. b < 2 ^ 8) bytes → length bytes ≤ 2 ^ 24
-        → assembled_texts (listing TEXT_BASE bytes ∷ []) ≡ Ok (text_alone bytes) }
+        → assembled_texts (listing text_start bytes ∷ []) ≡ Ok (text_alone bytes) }
 {}

@@ -1,7 +1,7 @@
 //! The listing of a program.
 
 ghost use Rattle.std.specs.Prelude.{◌≡◌, IfOk, string_bytes};
-ghost use Rattle.assembler.specs.declared.program.TheConstants.{TEXT_BASE};
+ghost use Rattle.assembler.specs.Program.{text_start};
 ghost use Rattle.listing.specs.Listing.{listing};
 
 use assembler::{Program, TEXT_BASE};
@@ -13,7 +13,7 @@ const LINE_ROOM: usize = 48;
 
 /// The listing of a program's text: a line for each word, and for each byte behind the last whole word.
 pub fn list<A: Allocator + Copy>(alloc: A, program: &Program<A>) -> Result<String<A>, AllocError>
-    ensures { IfOk result (λ text. string_bytes text ≡ listing TEXT_BASE program.now.text) }
+    ensures { IfOk result (λ text. string_bytes text ≡ listing text_start program.now.text) }
 {
     let bytes = program.text();
     let mut text = String::with_capacity(alloc, bytes.len() / 4 * LINE_ROOM)?;

@@ -2,7 +2,7 @@
 
 ghost use Rattle.std.specs.Prelude.{◌≡◌, ◌≤◌, ◌^◌, [], ◌∷◌, length, Ok, IfOk, string_bytes};
 ghost use Rattle.assembler.specs.Sources.{assembled_texts};
-ghost use Rattle.assembler.specs.declared.program.TheConstants.{TEXT_BASE};
+ghost use Rattle.assembler.specs.Program.{text_start};
 ghost use Rattle.listing.specs.Listing.{listing};
 ghost use Rattle.round_trip.specs.TextAlone.{text_alone};
 
@@ -13,7 +13,7 @@ use std::alloc::{AllocError, Allocator};
 
 // The law of these bytes: nothing is done.
 fn comes_back(bytes: &[u8], source: &str)
-    requires lines { source.now ≡ listing TEXT_BASE bytes.now }
+    requires lines { source.now ≡ listing text_start bytes.now }
     requires within { length bytes.now ≤ 2 ^ 24 }
     ensures { assembled_texts (source.now ∷ []) ≡ Ok (text_alone bytes.now) }
 {
@@ -27,7 +27,7 @@ pub fn list_source<A: Allocator + Copy>(
     program: &Program<A>,
 ) -> Result<String<A>, AllocError>
     ensures back { IfOk result (λ source. assembled_texts (string_bytes source ∷ []) ≡ Ok (text_alone program.now.text)) }
-    ensures lines { IfOk result (λ source. string_bytes source ≡ listing TEXT_BASE program.now.text) }
+    ensures lines { IfOk result (λ source. string_bytes source ≡ listing text_start program.now.text) }
 {
     let source = list(alloc, program)?;
     comes_back(program.text(), &source);

@@ -12,7 +12,7 @@ use Rattle.choice_texts.specs.Printing.{choices_text}
 use Rattle.choice_texts.specs.Reading.{choices_of}
 use Rattle.scheduler.specs.Schedules.{turns, alone, seeded_choices}
 use Rattle.burst_schedules.specs.Bursts.{burst_choices}
-use Rattle.burst_schedules.specs.declared.drawing.TheConstants.{MOST_MEAN}
+use Rattle.burst_schedules.specs.Bursts.{most_mean}
 use Rattle.campaigns.specs.Campaign.{plain_run}
 use Rattle.devices.specs.declared.status.Status.{Status}
 use Rattle.devices.specs.declared.status.Status.TheVariants as status
@@ -30,7 +30,7 @@ Scheduled = Result (List Choice) ScheduleFault
 abbrev pub bursts_made : ℕ → ℕ → ℕ → ℕ → Scheduled
 bursts_made harts mean steps seed =
     if mean == 0 then Err fault.BadMean
-    else (if nat_lt MOST_MEAN mean then Err fault.BadMean
+    else (if nat_lt most_mean mean then Err fault.BadMean
     else Ok (burst_choices harts mean steps seed))
 
 -- so many choices of so many harts

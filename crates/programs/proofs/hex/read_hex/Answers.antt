@@ -1,14 +1,14 @@
 use Rattle.std.proofs.Common.{◌≡◌, ◌+◌, vec_len, arith, ap, sym, ◌∙◌}
 use Rattle.item_texts.specs.Items.{items_from}
 use Rattle.programs.specs.HexText.{words_named, followed_by}
-use Rattle.programs.specs.declared.hex.TheConstants.{MOST_WORDS}
+use Rattle.programs.specs.HexText.{most_words}
 use Rattle.programs.proofs.HexLemmas.{goes_on}
 use Rattle.programs.proofs.hex.read_hex.Goals as goal
 
 pub items-preserved : goal.items-preserved
 items-preserved g c =
     let first = c.in-Some.ensures.some in
-    let room : vec_len c.items.words ≡ MOST_WORDS → ⊥ = λ full. omega arith in (
+    let room : vec_len c.items.words ≡ most_words → ⊥ = λ full. omega arith in (
       first.within,
       omega (arith, c.in-Ok.ensures.len),
       goes_on c.items.from c.in-Some.begin c.in-Some.end (vec_len c.items.words) c.args.bytes.now c.items.words.items first c.items.invariant.2 room c.in-Some-read_word.word (sym c.in-Some-read_word.ensures)

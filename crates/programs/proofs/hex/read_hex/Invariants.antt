@@ -1,13 +1,13 @@
 use Rattle.std.proofs.Common.{◌≡◌, ◌-◌, ◌≤◌, length, vec_len}
 use Rattle.item_texts.specs.Items.{items_from}
 use Rattle.programs.specs.HexText.{words_of, words_named, followed_by}
-use Rattle.programs.specs.declared.hex.TheConstants.{MOST_WORDS}
+use Rattle.programs.specs.HexText.{most_words}
 use Rattle.programs.proofs.hex.read_hex.Given as goal
 
 abbrev pub invariant-items : goal.invariant-items
 invariant-items g l =
     (l.from ≤ length l.bytes)
-    × (vec_len l.words ≤ MOST_WORDS)
+    × (vec_len l.words ≤ most_words)
     × (words_of l.bytes ≡ followed_by l.words.items (words_named (vec_len l.words) (items_from l.from l.bytes)))
 
 abbrev pub decreases-items : goal.decreases-items

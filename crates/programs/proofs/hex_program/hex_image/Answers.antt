@@ -2,7 +2,7 @@ use Rattle.std.proofs.Common.{◌≡◌, ◌∷◌, [], Ok, ap, sym, rules, ◌�
 use Rattle.std.proofs.lemmas.Grind.{common_steps}
 use Rattle.loader.specs.Image.{image_or_fault}
 use Rattle.programs.specs.HexImage.{hex_segment, hex_image_of}
-use Rattle.programs.specs.declared.hex_program.TheConstants.{HEX_BASE}
+use Rattle.programs.specs.HexImage.{hex_base}
 use Rattle.programs.proofs.HexImageLemmas.{hex_image_is}
 use Rattle.programs.proofs.hex_program.hex_image.Goals as goal
 
@@ -10,5 +10,5 @@ pub returns-in-Ok : goal.returns-in-Ok
 returns-in-Ok g c =
     let segments : c.push.new.self.items ≡ hex_segment c.args.words.now ∷ [] = search (rules, common_steps) in
     let same : Ok c.in-Ok.image ≡ Ok (hex_image_of c.args.words.now)
-    = sym c.in-Ok.ensures ∙ ap (image_or_fault HEX_BASE) segments ∙ hex_image_is c.args.words.now c.requires in
+    = sym c.in-Ok.ensures ∙ ap (image_or_fault hex_base) segments ∙ hex_image_is c.args.words.now c.requires in
     cc

@@ -1,0 +1,191 @@
+-- The numbers of ELF files, under the standard's names: System V ELF, "ELF Header", "Program Header", "Sections", "Symbol
+-- Table"; those of RISC-V stand in the RISC-V ELF psABI, "File Header".
+use Rattle.std.specs.Prelude.{ℕ}
+
+-- ---- the first bytes: a number, places, and what stands there
+-- the first four bytes of a file, as a little-endian number
+abbrev pub MAGIC : ℕ
+MAGIC = 0x464c_457f
+
+-- the place of the file's class
+abbrev pub EI_CLASS : ℕ
+EI_CLASS = 4
+
+-- the place of the byte order
+abbrev pub EI_DATA : ℕ
+EI_DATA = 5
+
+-- the place of the version of the first bytes
+abbrev pub EI_VERSION : ℕ
+EI_VERSION = 6
+
+-- addresses and offsets have 32 bits
+abbrev pub ELFCLASS32 : ℕ
+ELFCLASS32 = 1
+
+-- numbers are little-endian
+abbrev pub ELFDATA2LSB : ℕ
+ELFDATA2LSB = 1
+
+-- the one version
+abbrev pub EV_CURRENT : ℕ
+EV_CURRENT = 1
+
+-- ---- places of fields in the header, in bytes
+abbrev pub E_TYPE : ℕ
+E_TYPE = 16
+
+abbrev pub E_MACHINE : ℕ
+E_MACHINE = 18
+
+abbrev pub E_VERSION : ℕ
+E_VERSION = 20
+
+abbrev pub E_ENTRY : ℕ
+E_ENTRY = 24
+
+abbrev pub E_PHOFF : ℕ
+E_PHOFF = 28
+
+abbrev pub E_SHOFF : ℕ
+E_SHOFF = 32
+
+abbrev pub E_FLAGS : ℕ
+E_FLAGS = 36
+
+abbrev pub E_EHSIZE : ℕ
+E_EHSIZE = 40
+
+abbrev pub E_PHENTSIZE : ℕ
+E_PHENTSIZE = 42
+
+abbrev pub E_PHNUM : ℕ
+E_PHNUM = 44
+
+abbrev pub E_SHENTSIZE : ℕ
+E_SHENTSIZE = 46
+
+abbrev pub E_SHNUM : ℕ
+E_SHNUM = 48
+
+-- ---- what the header says
+-- an executable file
+abbrev pub ET_EXEC : ℕ
+ET_EXEC = 2
+
+-- rISC-V
+abbrev pub EM_RISCV : ℕ
+EM_RISCV = 243
+
+-- the bit of e_flags that says that there are compressed instructions
+abbrev pub EF_RISCV_RVC : ℕ
+EF_RISCV_RVC = 1
+
+-- the count of program headers that stands for a larger one, kept elsewhere
+abbrev pub PN_XNUM : ℕ
+PN_XNUM = 0xffff
+
+-- ---- sizes, in bytes
+-- the size of the file's header, in bytes
+abbrev pub HEADER_SIZE : ℕ
+HEADER_SIZE = 52
+
+-- the size of a program header, in bytes
+abbrev pub PROGRAM_HEADER_SIZE : ℕ
+PROGRAM_HEADER_SIZE = 32
+
+-- the size of a section header, in bytes
+abbrev pub SECTION_HEADER_SIZE : ℕ
+SECTION_HEADER_SIZE = 40
+
+-- the size of a symbol, in bytes
+abbrev pub SYMBOL_SIZE : ℕ
+SYMBOL_SIZE = 16
+
+-- ---- places of fields in a program header
+abbrev pub P_TYPE : ℕ
+P_TYPE = 0
+
+abbrev pub P_OFFSET : ℕ
+P_OFFSET = 4
+
+abbrev pub P_VADDR : ℕ
+P_VADDR = 8
+
+abbrev pub P_FILESZ : ℕ
+P_FILESZ = 16
+
+abbrev pub P_MEMSZ : ℕ
+P_MEMSZ = 20
+
+abbrev pub P_FLAGS : ℕ
+P_FLAGS = 24
+
+-- ---- kinds of program headers
+-- a segment to be loaded
+abbrev pub PT_LOAD : ℕ
+PT_LOAD = 1
+
+-- what a dynamic linker needs
+abbrev pub PT_DYNAMIC : ℕ
+PT_DYNAMIC = 2
+
+-- the path of an interpreter
+abbrev pub PT_INTERP : ℕ
+PT_INTERP = 3
+
+-- ---- places of fields in a section header
+abbrev pub SH_TYPE : ℕ
+SH_TYPE = 4
+
+abbrev pub SH_OFFSET : ℕ
+SH_OFFSET = 16
+
+abbrev pub SH_SIZE : ℕ
+SH_SIZE = 20
+
+abbrev pub SH_LINK : ℕ
+SH_LINK = 24
+
+abbrev pub SH_ENTSIZE : ℕ
+SH_ENTSIZE = 36
+
+-- ---- kinds and flags of sections
+-- bytes of the program's
+abbrev pub SHT_PROGBITS : ℕ
+SHT_PROGBITS = 1
+
+-- a symbol table
+abbrev pub SHT_SYMTAB : ℕ
+SHT_SYMTAB = 2
+
+-- a string table
+abbrev pub SHT_STRTAB : ℕ
+SHT_STRTAB = 3
+
+-- zero bytes that the file does not hold
+abbrev pub SHT_NOBITS : ℕ
+SHT_NOBITS = 8
+
+-- a section that may be written in memory
+abbrev pub SHF_WRITE : ℕ
+SHF_WRITE = 1
+
+-- a section that stands in memory
+abbrev pub SHF_ALLOC : ℕ
+SHF_ALLOC = 2
+
+-- a section of instructions
+abbrev pub SHF_EXECINSTR : ℕ
+SHF_EXECINSTR = 4
+
+-- ---- places of fields in a symbol, and a binding
+abbrev pub ST_NAME : ℕ
+ST_NAME = 0
+
+abbrev pub ST_VALUE : ℕ
+ST_VALUE = 4
+
+-- the binding of a symbol that other files see, in the high half of st_info
+abbrev pub STB_GLOBAL : ℕ
+STB_GLOBAL = 1
