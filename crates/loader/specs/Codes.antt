@@ -73,7 +73,7 @@ E_SHNUM = 48
 abbrev pub ET_EXEC : ℕ
 ET_EXEC = 2
 
--- rISC-V
+-- RISC-V
 abbrev pub EM_RISCV : ℕ
 EM_RISCV = 243
 
