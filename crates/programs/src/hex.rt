@@ -1,7 +1,7 @@
 //! Programs as texts of hexadecimal words.
 
 ghost use Rattle.std.specs.Prelude.{◌≡◌, ◌≢◌, ◌≤◌, ◌<◌, ◌^◌, IfOk, IfErr, IfSome, vec_len};
-ghost use Rattle.programs.specs.HexText.{hex_digit_of, word_of, words_of};
+ghost use Rattle.programs.specs.HexText.{hex_digit_of, most_words, word_of, words_of};
 
 use item_texts::next_item;
 use std::alloc::Allocator;
