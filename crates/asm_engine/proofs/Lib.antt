@@ -1,2 +1,3 @@
 pub mod SourcesLemmas
 pub mod AssemblyLemmas
+pub mod OwnLemmas

@@ -6,7 +6,7 @@ use Rattle.std.proofs.lemmas.List.{drop-set-lt, drop_more, get_or-map, get_or-se
 use Rattle.std.proofs.lemmas.List.Elements.{All-get_or}
 use Rattle.std.specs.Io.KnownBytes.{Consumes, IsAtEnd}
 use Rattle.std.proofs.lemmas.Grind.{common_steps}
-use Rattle.std.specs.List.{slice_index, list_all}
+use Rattle.std.specs.List.{list_all}
 use Rattle.std.proofs.lemmas.Str.{is_utf8-from_IsUtf8, IsUtf8-from_is_utf8}
 use Rattle.std.specs.Str.{is_utf8, IsUtf8}
 use Rattle.asm_engine.specs.Sources.{all_known, first_other, known_onto, RisesAt}

@@ -1,5 +1,5 @@
 -- What sources give: their program, its listing and its file, or the first fault.
-use Rattle.std.specs.Prelude.{◌≡◌, ℕ, List, [], ◌∷◌, take, Option, Some, None}
+use Rattle.std.specs.Prelude.{◌≡◌, ℕ, ◌%◌, List, [], ◌∷◌, take, Option, Some, None}
 use Rattle.std.specs.Io.KnownBytes.{Appends}
 use Rattle.std.specs.declared.result.Result.{Result}
 use Rattle.std.specs.declared.result.Result.TheVariants.{Ok, Err}
@@ -9,6 +9,7 @@ use Rattle.assembler.specs.Sources.{assembled_texts}
 use Rattle.assembler.specs.Program.{text_start}
 use Rattle.elf_writer.specs.File.{file}
 use Rattle.listing.specs.Listing.{listing}
+use Rattle.own_instructions.specs.Own.{ListsOwn, LoadsOwn}
 use Rattle.round_trip.specs.TextAlone.{text_alone}
 use Rattle.asm_engine.specs.Sources.{first_other}
 use Rattle.asm_engine.specs.declared.fault.AssemblyFault.{AssemblyFault}
@@ -67,3 +68,21 @@ Begins old new bytes = (n : ℕ) × Appends old new (take n bytes)
 abbrev pub BeginsToWrite : Result (List ℕ) AssemblyFault → Option (List ℕ) → Option (List ℕ) → Type 0
 BeginsToWrite (Ok bytes) old new = Begins old new bytes
 BeginsToWrite (Err why) old new = ⊥
+
+-- the file of sources' program, where its entry is a multiple of 4, loads as the sources' own instructions
+abbrev pub FileIsOwn : List (List ℕ) → List ℕ → Result ProgramValue AssemblyFault → Type 0
+FileIsOwn sources bytes (Ok program) = program.entry % 4 ≡ 0 → LoadsOwn sources program bytes
+FileIsOwn sources bytes (Err why) = ⊥
+
+-- such a file was appended
+abbrev pub WritesOwnFile : List (List ℕ) → Option (List ℕ) → Option (List ℕ) → Type 0
+WritesOwnFile sources old new = (bytes : List ℕ) × Appends old new bytes × FileIsOwn sources bytes (program_of sources)
+
+-- the lines have the sources' own instructions
+abbrev pub LinesAreOwn : List (List ℕ) → List ℕ → Result ProgramValue AssemblyFault → Type 0
+LinesAreOwn sources lines (Ok program) = ListsOwn sources program lines
+LinesAreOwn sources lines (Err why) = ⊥
+
+-- such lines were appended
+abbrev pub WritesOwnLines : List (List ℕ) → Option (List ℕ) → Option (List ℕ) → Type 0
+WritesOwnLines sources old new = (lines : List ℕ) × Appends old new lines × LinesAreOwn sources lines (program_of sources)

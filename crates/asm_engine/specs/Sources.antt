@@ -1,5 +1,5 @@
 -- Sources that are read one after another.
-use Rattle.std.specs.Prelude.{◌≡◌, ℕ, ◌+◌, ◌<◌, List, [], ◌∷◌, Option, Some, None, option_map, length, if◌then◌else◌}
+use Rattle.std.specs.Prelude.{ℕ, ◌+◌, ◌<◌, List, [], ◌∷◌, Option, Some, None, option_map, length, if◌then◌else◌}
 use Rattle.std.specs.List.{slice_index}
 use Rattle.std.specs.Str.{is_utf8}
 use Rattle.asm_engine.specs.declared.fault.AssemblyFault.{AssemblyFault}

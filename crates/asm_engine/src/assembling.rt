@@ -2,7 +2,7 @@
 
 ghost use Rattle.std.specs.Prelude.{◌≡◌, ◌≢◌, ◌-◌, ◌^◌, ◌<◌, Ok, Err, All, IfOk, IfErr, IfSome, map, string_bytes};
 ghost use Rattle.std.specs.Io.KnownBytes.{Appends, Keeps};
-ghost use Rattle.asm_engine.specs.Assembly.{file_of, listing_of, program_of, Begins, ComesBack, BeginsToWrite, IsRefusal, Writes};
+ghost use Rattle.asm_engine.specs.Assembly.{file_of, listing_of, program_of, Begins, ComesBack, BeginsToWrite, FileIsOwn, IsRefusal, Writes, WritesOwnFile, WritesOwnLines};
 ghost use Rattle.asm_engine.specs.Sources.{all_known, IfRead, RisesAt};
 
 use crate::fault::AssemblyFault;
@@ -64,6 +64,9 @@ pub fn assembled_file<A: Allocator + Copy, S: Source>(
     requires { All (λ n. n < 2 ^ 64 - 1) (map S.failures sources.old) }
     ensures made { IfOk result (λ bytes. IfSome (all_known (map S.left sources.old)) (λ all.
         file_of all ≡ Ok bytes.items)) }
+    // It loads as the sources' own instructions.
+    ensures own { IfOk result (λ bytes. IfSome (all_known (map S.left sources.old)) (λ all.
+        FileIsOwn all bytes.items (program_of all))) }
     ensures refused { IfErr result (λ fault. IsRefusal fault
         → IfSome (all_known (map S.left sources.old)) (λ all. file_of all ≡ Err fault)) }
     ensures read { IfErr result (λ fault. IfRead fault
@@ -95,6 +98,41 @@ pub fn write_file<K: Sink>(sink: &mut K, bytes: &[u8]) -> Result<Status, Assembl
     }
 }
 
+/// `asm --out`, whole: reads sources, each to its end in order, and writes the ELF file of their program. The sink is asked for
+/// nothing before the file's bytes are made, so it may open its file then. After a failed write a beginning of them stands there.
+pub fn file_engine<A: Allocator + Copy, S: Source, K: Sink>(
+    alloc: A,
+    sources: &mut [S],
+    sink: &mut K,
+) -> Result<Status, AssemblyFault>
+    requires sources_count { All (λ n. n < 2 ^ 64 - 1) (map S.failures sources.old) }
+    requires sink_counts { K.failures sink.old < 2 ^ 64 - 1 }
+    ensures done { IfOk result (λ status. status ≡ Status.Done) }
+    // The file was appended, and loads as the sources' own instructions.
+    ensures written { IfOk result (λ _. IfSome (all_known (map S.left sources.old)) (λ all.
+        Writes (file_of all) (K.held sink.old) (K.held sink.new))) }
+    ensures own { IfOk result (λ _. IfSome (all_known (map S.left sources.old)) (λ all.
+        WritesOwnFile all (K.held sink.old) (K.held sink.new))) }
+    // What was read is refused, and nothing is written.
+    ensures refused { IfErr result (λ fault. IsRefusal fault
+        → IfSome (all_known (map S.left sources.old)) (λ all. file_of all ≡ Err fault)) }
+    ensures unwritten { IfErr result (λ fault. fault ≢ AssemblyFault.Write
+        → Keeps (K.held sink.old) (K.held sink.new)) }
+    // A device is named only where it failed.
+    ensures read { IfErr result (λ fault. IfRead fault
+        (RisesAt (map S.failures sources.old) (map S.failures sources.new))) }
+    ensures write { result ≡ Err AssemblyFault.Write → K.failures sink.old < K.failures sink.new }
+    ensures begun { result ≡ Err AssemblyFault.Write
+        → IfSome (all_known (map S.left sources.old)) (λ all.
+        BeginsToWrite (file_of all) (K.held sink.old) (K.held sink.new)) }
+{
+    let bytes = match assembled_file(alloc, sources) {
+        Ok(bytes) => bytes,
+        Err(fault) => return Err(fault),
+    };
+    write_file(sink, &bytes)
+}
+
 /// `asm` without `--out`: reads sources, each to its end in order, and writes the listing of their program. Nothing is written
 /// where what was read is refused.
 pub fn listing_engine<A: Allocator + Copy, S: Source, K: Sink>(
@@ -108,6 +146,9 @@ pub fn listing_engine<A: Allocator + Copy, S: Source, K: Sink>(
     ensures done { IfOk result (λ status. status ≡ Status.Done) }
     ensures listed { IfOk result (λ _. IfSome (all_known (map S.left sources.old)) (λ all.
         Writes (listing_of all) (K.held sink.old) (K.held sink.new))) }
+    // Each instruction of the text has its line.
+    ensures own { IfOk result (λ _. IfSome (all_known (map S.left sources.old)) (λ all.
+        WritesOwnLines all (K.held sink.old) (K.held sink.new))) }
     // The listing is a source of the same text.
     ensures back { IfOk result (λ _. IfSome (all_known (map S.left sources.old)) (λ all.
         ComesBack (program_of all))) }

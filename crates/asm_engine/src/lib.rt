@@ -1,7 +1,7 @@
 //! What `asm` does, over any sources of bytes and any sink.
 #![tactic(auto)]
 
-pub use assembling::{assembled_file, listing_engine, write_file};
+pub use assembling::{assembled_file, file_engine, listing_engine, write_file};
 pub use fault::AssemblyFault;
 pub use sources::read_sources;
 

@@ -1,0 +1,4 @@
+pub mod At
+pub mod Tables
+pub mod Parts
+pub mod Whole
