@@ -1,0 +1,4 @@
+pub mod OrderLemmas
+pub mod SetLemmas
+pub mod MatchLemmas
+pub mod MergeLemmas

@@ -1,0 +1,36 @@
+-- What merging answers.
+use Rattle.std.specs.Prelude.{ℕ, List}
+use Rattle.loader.specs.Image.{ImageValue}
+use Rattle.hart_step.specs.Hart.{HartValue}
+use Rattle.machine.specs.World.{run}
+use Rattle.machine.specs.Start.{started}
+use Rattle.machine.specs.declared.choice.Choice.{Choice}
+use Rattle.banks_laws.specs.Banks.{after_log}
+use Rattle.banks_laws.specs.Segments.{HartSlot}
+use Rattle.banks_laws.specs.Order.{IsMatched}
+use Rattle.banks_runs.specs.Merged.{bank_of, first_bank, EndsIn}
+use Rattle.banks.specs.BankLog.{BankLog}
+use Rattle.hart_logs.specs.HartLog.{HartLogValue, slot_in}
+use Rattle.banks_merge.specs.Logs.{bank_log, hart_log, AreOf, StampsRise}
+use Rattle.banks_merge.specs.declared.merging.MergeFault.{MergeFault}
+use Rattle.banks_merge.specs.declared.merging.MergeFault.TheVariants.{Unmatched, OutOfOrder, Memory}
+
+-- an access stands in a hart's log exactly where it stands in its word's bank
+abbrev pub AreMatched : List HartLogValue → List BankLog → Type 0
+AreMatched logs banks = IsMatched bank_of (hart_log logs) (bank_log banks)
+
+-- the slots to which the logs of a program's harts lead
+abbrev pub slots : ImageValue → List ℕ → List HartLogValue → ℕ → HartSlot HartValue
+slots image inputs logs h = slot_in image inputs h (hart_log logs h)
+
+-- the run of choices from the program's start has the logs' slots, the banks' bytes, and as reservation of each hart the word that
+-- its slot names, where that word's bank has its mark
+abbrev pub EndsAsLogged : List HartLogValue → List BankLog → List Choice → Type 0
+EndsAsLogged logs banks choices = (image : ImageValue) (inputs : List ℕ) → AreOf image inputs logs banks
+    → EndsIn image inputs (run (started image inputs) choices) (slots image inputs logs) (λ b. after_log (first_bank image) (bank_log banks b))
+
+-- why logs are not merged
+abbrev pub Refuses : List HartLogValue → List BankLog → MergeFault → Type 0
+Refuses logs banks Unmatched = AreMatched logs banks → ⊥
+Refuses logs banks OutOfOrder = AreMatched logs banks × (StampsRise logs → ⊥)
+Refuses logs banks Memory = Unit {0}

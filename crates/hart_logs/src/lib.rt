@@ -1,0 +1,8 @@
+//! The log of a hart: what it did, and where that has led it.
+#![tactic(auto)]
+
+pub use first::first_hart;
+pub use log::{HartLog, each_hart_log_is_walked};
+
+mod first;
+mod log;

@@ -1,0 +1,127 @@
+//! A hart's log.
+ghost use Rattle.std.specs.Prelude.{◌≡◌, ◌<◌, ◌≤◌, length, []};
+ghost use Rattle.reservations.specs.Limit.{most_harts};
+ghost use Rattle.hart_step.specs.Hart.{hart_of};
+ghost use Rattle.hart_logs.specs.HartLog.{IsOfHart, last_stamp, slot_of};
+
+use crate::first::first_hart;
+use hart_step::Hart;
+use loader::Image;
+use segment_order::LogSegment;
+use std::alloc::Allocator;
+use std::marker::Model;
+
+/// What one hart of a program did, segment by segment, and where that has led it. Nothing is said of its stamps.
+#[derive(Drop)]
+pub struct HartLog<'a, A: Allocator> {
+    image: &'a Image<A>,
+    inputs: &'a [u32],
+    number: u32,
+    hart: Hart,
+    named: Option<u32>,
+    segments: Vec<LogSegment, A>,
+}
+
+impl<'a, A: Allocator> Model for HartLog<'a, A> {
+    ghost use Rattle.hart_logs.specs.HartLog.{HartLogValue, HoldsIn};
+
+    ghost Value = { HartLogValue };
+
+    ghost view = { λ l. record {
+      image = l.image.now;
+      inputs = l.inputs.now;
+      hart = l.number;
+      log = l.segments.items;
+    } };
+
+    ghost invariant = { λ l. HoldsIn l.image.now l.inputs.now l.number l.segments.items l.hart l.named };
+}
+
+impl<'a, A: Allocator> HartLog<'a, A> {
+    /// The log of a hart as its program begins. There is a hart for each input.
+    pub fn new(alloc: A, image: &'a Image<A>, inputs: &'a [u32], number: u32) -> HartLog<'a, A>
+        requires harts { length inputs.now ≤ most_harts }
+        requires there { number < length inputs.now }
+        ensures { result ≡ record {
+          image = image.now;
+          inputs = inputs.now;
+          hart = number;
+          log = [];
+        } }
+    {
+        HartLog {
+            image,
+            inputs,
+            number,
+            hart: first_hart(
+                image.entry(),
+                number,
+                inputs[number as usize],
+                inputs.len() as u32,
+            ),
+            named: None,
+            segments: Vec::new(alloc),
+        }
+    }
+
+    /// The hart's number, from 0.
+    pub fn number(&self) -> u32
+        ensures { result ≡ self.now.hart }
+    {
+        self.number
+    }
+
+    /// The program.
+    pub fn image(&self) -> &Image<A>
+        ensures { result.now ≡ self.now.image }
+    {
+        self.image
+    }
+
+    /// The harts' inputs.
+    pub fn inputs(&self) -> &[u32]
+        ensures { result.now ≡ self.now.inputs }
+    {
+        self.inputs
+    }
+
+    /// The hart to which the log has led.
+    pub fn slot(&self) -> &Hart
+        ensures { hart_of result.now ≡ (slot_of self.now).hart }
+    {
+        &self.hart
+    }
+
+    /// The word that the hart's last LR without a fault named, if no store-conditional without a fault came after it.
+    pub fn named(&self) -> Option<u32>
+        ensures { result ≡ (slot_of self.now).named }
+    {
+        self.named
+    }
+
+    /// What the hart did.
+    pub fn segments(&self) -> &[LogSegment]
+        ensures { result.now ≡ self.now.log }
+    {
+        &self.segments
+    }
+
+    /// The stamp of the last segment, and 0 before the first.
+    pub fn last_stamp(&self) -> u64
+        ensures { result ≡ last_stamp self.now.log }
+    {
+        match self.segments.last() {
+            Some(segment) => segment.stamp,
+            None => 0,
+        }
+    }
+}
+
+/// In every log of a hart that can be made the segments are that hart's alone, and are a walk from where the program begins to
+/// the hart and the word that the log tells.
+pub fn each_hart_log_is_walked<A: Allocator>(log: &HartLog<A>)
+    ensures { IsOfHart log.now }
+{
+    // Reading a field tells the proof what the log keeps.
+    let _ = &log.segments;
+}
