@@ -2,7 +2,8 @@
 #![tactic(auto)]
 
 pub use first::first_hart;
-pub use log::{HartLog, each_hart_log_is_walked};
+pub use log::{AddFault, HartLog, each_hart_log_is_walked};
 
 mod first;
 mod log;
+mod step;

@@ -11,6 +11,15 @@ use segment_order::LogSegment;
 use std::alloc::Allocator;
 use std::marker::Model;
 
+/// Why a segment is not taken; then nothing has changed.
+#[derive(Clone, Copy, Debug, Drop, PartialEq, Eq)]
+pub enum AddFault {
+    /// The segment is of another hart, or its local steps touch something, or its accesses are not those of its last step.
+    Mismatch,
+    /// The host refused memory.
+    Memory,
+}
+
 /// What one hart of a program did, segment by segment, and where that has led it. Nothing is said of its stamps.
 #[derive(Drop)]
 pub struct HartLog<'a, A: Allocator> {
@@ -20,6 +29,9 @@ pub struct HartLog<'a, A: Allocator> {
     hart: Hart,
     named: Option<u32>,
     segments: Vec<LogSegment, A>,
+    // Local steps that have been walked ahead, and the hart after them.
+    walked: u32,
+    reached: Hart,
 }
 
 impl<'a, A: Allocator> Model for HartLog<'a, A> {
@@ -34,7 +46,7 @@ impl<'a, A: Allocator> Model for HartLog<'a, A> {
       log = l.segments.items;
     } };
 
-    ghost invariant = { λ l. HoldsIn l.image.now l.inputs.now l.number l.segments.items l.hart l.named };
+    ghost invariant = { λ l. HoldsIn l.image.now l.inputs.now l.number l.segments.items l.hart l.named l.walked l.reached };
 }
 
 impl<'a, A: Allocator> HartLog<'a, A> {
@@ -49,18 +61,17 @@ impl<'a, A: Allocator> HartLog<'a, A> {
           log = [];
         } }
     {
+        let input = inputs[number as usize];
+        let hart = first_hart(image.entry(), number, input, inputs.len() as u32);
         HartLog {
             image,
             inputs,
             number,
-            hart: first_hart(
-                image.entry(),
-                number,
-                inputs[number as usize],
-                inputs.len() as u32,
-            ),
+            hart,
             named: None,
             segments: Vec::new(alloc),
+            walked: 0,
+            reached: hart,
         }
     }
 
