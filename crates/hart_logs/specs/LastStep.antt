@@ -1,14 +1,16 @@
 -- The last step of a segment, by the accesses that it logs.
-use Rattle.std.specs.Prelude.{◌≡◌, Bool, ◌&&◌, List, [], ◌∷◌, Option, Some, None, option_to_list}
+use Rattle.std.specs.Prelude.{◌≡◌, ℕ, Bool, ◌&&◌, List, [], ◌∷◌, Option, Some, None, option_to_list}
 use Rattle.reservations.specs.Marks.{names}
 use Rattle.loader.specs.Image.{ImageValue}
 use Rattle.hart_step.specs.Hart.{HartValue}
 use Rattle.banks_laws.specs.declared.access.LoggedAccess.{LoggedAccess}
+use Rattle.banks_laws.specs.declared.access.LoggedKind.TheVariants.{CodeRead}
 use Rattle.banks_laws.specs.Banks.{WordBytes}
 use Rattle.banks_laws.specs.Runs.{StepTable, Touch, succeeds}
 use Rattle.banks_laws.specs.Segments.{LoggedSegment, HartSlot, access, data_accesses, slot_after, slot_did}
 use Rattle.banks_laws.specs.HartLogs.{StepFits, step_slot, first}
 use Rattle.hart_logs.specs.HartLog.{image_table, slot_with}
+use Rattle.hart_logs.specs.declared.step.Accesses.{Accesses}
 use Rattle.hart_logs.specs.declared.step.Slot.{Slot}
 
 -- a slot of the code as contracts see it
@@ -35,3 +37,20 @@ data_slot T e s c xs = slot_after T e.refuse s c (T.plan s.hart c) (first xs).va
 abbrev pub SlotIf : Type 0 → HartSlot HartValue → Option Slot → Type 0
 SlotIf P s None = P → ⊥
 SlotIf P s (Some t) = P × (slot_is t ≡ s)
+
+-- the accesses of a segment, as a list
+abbrev pub listed : Option Accesses → List LoggedAccess
+listed None = []
+listed (Some a) = a.first ∷ option_to_list a.second
+
+-- an access is the read of an instruction from a word, whatever it has found there
+abbrev pub IsCodeRead : LoggedSegment → ℕ → LoggedAccess → Type 0
+IsCodeRead e x a = a ≡ record {
+  stamp = e.stamp;
+  hart = e.hart;
+  kind = CodeRead;
+  word = x;
+  before = a.before;
+  after = a.before;
+  mark = a.mark;
+}

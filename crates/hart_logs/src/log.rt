@@ -1,10 +1,13 @@
 //! A hart's log.
-ghost use Rattle.std.specs.Prelude.{◌≡◌, ◌<◌, ◌≤◌, length, []};
+ghost use Rattle.std.specs.Prelude.{◌≡◌, ◌<◌, ◌≤◌, length, [], MatchOption, IfErr, OnErr, OnOk};
 ghost use Rattle.reservations.specs.Limit.{most_harts};
 ghost use Rattle.hart_step.specs.Hart.{hart_of};
-ghost use Rattle.hart_logs.specs.HartLog.{IsOfHart, last_stamp, slot_of};
+ghost use Rattle.banks_laws.specs.HartLogs.{AreLocal, local_hart, segment_slot};
+ghost use Rattle.hart_logs.specs.HartLog.{image_table, last_stamp, slot_of, taken, Fits, IsOfHart, Refuses};
+ghost use Rattle.hart_logs.specs.LastStep.{SlotIf};
 
 use crate::first::first_hart;
+use crate::step::{Slot, last_step, walked};
 use hart_step::Hart;
 use loader::Image;
 use segment_order::LogSegment;
@@ -73,6 +76,57 @@ impl<'a, A: Allocator> HartLog<'a, A> {
             walked: 0,
             reached: hart,
         }
+    }
+
+    /// The hart after so many steps, if they touch nothing.
+    fn after_local(&self, count: u32) -> Option<Hart>
+        ensures { let t = image_table self.now.image in let h = (slot_of self.now).hart in
+            MatchOption result (AreLocal t count h → ⊥)
+            (λ reached. AreLocal t count h × (hart_of reached ≡ local_hart t count h)) }
+    {
+        if count == self.walked {
+            return Some(self.reached);
+        }
+        walked(self.image, &self.hart, count)
+    }
+
+    /// The slot after a segment, if it may come next.
+    fn slot_after(&self, segment: &LogSegment) -> Option<Slot>
+        ensures { SlotIf (Fits self.now segment.now)
+            (segment_slot (image_table self.now.image) segment.now (slot_of self.now)) result }
+    {
+        if segment.hart != self.number {
+            return None;
+        }
+        let hart = match self.after_local(segment.local) {
+            None => return None,
+            Some(hart) => hart,
+        };
+        let slot = Slot {
+            hart,
+            named: self.named,
+        };
+        last_step(self.image, &slot, segment)
+    }
+
+    /// Takes a segment into the log: the hart goes on by its steps.
+    pub fn add(&mut self, segment: LogSegment) -> Result<(), AddFault>
+        ensures ok { OnOk result (Fits self.old segment × (self.new ≡ taken self.old segment)) }
+        ensures fault { IfErr result (λ fault. Refuses self.old segment fault) }
+        ensures err { OnErr result (self.new ≡ self.old) }
+    {
+        let slot = match self.slot_after(&segment) {
+            None => return Err(AddFault::Mismatch),
+            Some(slot) => slot,
+        };
+        let Ok(_) = self.segments.push(segment) else {
+            return Err(AddFault::Memory);
+        };
+        self.hart = slot.hart;
+        self.named = slot.named;
+        self.walked = 0;
+        self.reached = slot.hart;
+        Ok(())
     }
 
     /// The hart's number, from 0.
