@@ -1,10 +1,10 @@
 //! The last step of a segment.
-ghost use Rattle.std.specs.Prelude.{◌≡◌, ◌↔◌, true, false, [], MatchOption, option_to_list};
+ghost use Rattle.std.specs.Prelude.{◌≡◌, ◌↔◌, ◌&&◌, ◌∷◌, true, false, [], MatchOption, option_to_list};
 ghost use Rattle.reservations.specs.Marks.{names};
 ghost use Rattle.hart_step.specs.Hart.{hart_of};
 ghost use Rattle.banks_laws.specs.Banks.{WordBytes, is_store, named_by_kind};
 ghost use Rattle.banks_laws.specs.Runs.{kind_of, succeeds, word_after};
-ghost use Rattle.banks_laws.specs.Segments.{slot_did};
+ghost use Rattle.banks_laws.specs.Segments.{access, code_reads, slot_did};
 ghost use Rattle.banks_laws.specs.HartLogs.{StepFits, step_slot, AreLocal, local_hart};
 ghost use Rattle.banks_table.specs.Carried.{act_of};
 ghost use Rattle.banks_table.specs.Table.{word_in};
@@ -23,7 +23,7 @@ use told_steps::{
 
 /// A hart with the word that its last LR without a fault named, if no store-conditional without a fault came after it.
 #[derive(Clone, Copy, Debug)]
-pub(crate) struct Slot {
+pub struct Slot {
     /// The hart.
     pub hart: Hart,
     /// The word.
@@ -93,6 +93,31 @@ fn is_same(first: &LoggedAccess, second: &LoggedAccess) -> bool
     *first == *second
 }
 
+/// What an access finds: the word's bytes, and whether the hart's mark stands on it.
+#[derive(Clone, Copy, Debug)]
+pub struct Found {
+    /// The bytes, the lowest first.
+    pub bytes: [u8; 4],
+    /// Whether the word's bank has this hart's mark on it.
+    pub mark: bool,
+}
+
+/// The read of the last step's instruction from a word, where it finds these bytes and this mark.
+pub fn code_access(segment: &LogSegment, word: u32, found: Found) -> LoggedAccess
+    ensures { code_reads segment.now (Some word) found.bytes found.mark ≡ result ∷ [] }
+{
+    let bytes = found.bytes;
+    LoggedAccess {
+        stamp: segment.stamp,
+        hart: segment.hart,
+        kind: LoggedKind::CodeRead,
+        word,
+        before: bytes,
+        after: bytes,
+        mark: found.mark,
+    }
+}
+
 /// Whether an access is the read of a step's instruction from a word.
 fn is_code_read(segment: &LogSegment, word: u32, access: &LoggedAccess) -> bool
     ensures { (result ≡ true) ↔ IsCodeRead segment.now word access.now }
@@ -128,6 +153,47 @@ fn bytes_after<A: Allocator>(
     }
 }
 
+/// Whether a touch stores as a store-conditional, where its access finds this mark.
+fn stores(slot: &Slot, segment: &LogSegment, touch: PlannedTouch, mark: bool) -> bool
+    ensures { result ≡ succeeds (as_touch touch).act segment.now.refuse (mark && names slot.now.named touch.word) }
+{
+    let holds = mark && names(slot.named, touch.word);
+    succeeds(touch.kind, segment.refuse, holds)
+}
+
+/// The access of a touch in the last step of a segment, where it finds these bytes and this mark. `code` is the word of the
+/// instruction, where it is one that must be read.
+pub fn data_access<A: Allocator>(
+    image: &Image<A>,
+    slot: &Slot,
+    segment: &LogSegment,
+    code: Option<Word>,
+    touch: PlannedTouch,
+    found: Found,
+) -> LoggedAccess
+    ensures { (c : WordBytes) → let t = image_table image.now in let s = slot_is slot.now in let e = segment.now in
+        code ≡ told_word (t.need s.hart) c → t.plan s.hart c ≡ Some (as_touch touch)
+        → result ≡ access t e s.hart c (as_touch touch) found.bytes found.mark
+        (succeeds (as_touch touch).act e.refuse (found.mark && names s.named touch.word)) }
+{
+    let kind = logged_kind(touch.kind, stores(slot, segment, touch, found.mark));
+    let before = found.bytes;
+    let word = Word {
+        address: touch.word,
+        bytes: before,
+    };
+    let after = bytes_after(image, &slot.hart, code, word, kind);
+    LoggedAccess {
+        stamp: segment.stamp,
+        hart: segment.hart,
+        kind,
+        word: touch.word,
+        before,
+        after,
+        mark: found.mark,
+    }
+}
+
 /// The slot after a step that touches a word, if an access is that of the touch.
 fn touched<A: Allocator>(
     image: &Image<A>,
@@ -142,29 +208,23 @@ fn touched<A: Allocator>(
         → SlotIf (IsTouch t e s c (as_touch touch) access.now)
         (slot_did t s c (as_touch touch) access.now.before (succeeds_at e s (as_touch touch) access.now)) result }
 {
-    let holds = access.mark && names(slot.named, touch.word);
-    let stores = succeeds(touch.kind, segment.refuse, holds);
-    let kind = logged_kind(touch.kind, stores);
-    let word = Word {
-        address: touch.word,
+    let found = Found {
         bytes: access.before,
-    };
-    let expected = LoggedAccess {
-        stamp: segment.stamp,
-        hart: segment.hart,
-        kind,
-        word: touch.word,
-        before: access.before,
-        after: bytes_after(image, &slot.hart, code, word, kind),
         mark: access.mark,
     };
+    let expected = data_access(image, slot, segment, code, touch, found);
     if !is_same(access, &expected) {
         return None;
     }
+    let stores = stores(slot, segment, touch, access.mark);
+    let kind = logged_kind(touch.kind, stores);
     let mut hart = slot.hart;
     let words = ToldWords {
         code,
-        touched: Some(word),
+        touched: Some(Word {
+            address: touch.word,
+            bytes: access.before,
+        }),
     };
     settle(&mut hart, image, words, stores);
     Some(Slot {

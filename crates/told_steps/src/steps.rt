@@ -1,5 +1,5 @@
 //! What a hart's next step needs, touches and does.
-ghost use Rattle.std.specs.Prelude.{◌≡◌, ◌<◌, Some, None, false, IfSome, option_map, if◌then◌else◌};
+ghost use Rattle.std.specs.Prelude.{◌≡◌, ◌<◌, ◌%◌, Some, None, false, IfSome, option_map, if◌then◌else◌};
 ghost use Rattle.memory.specs.Memory.{granted, to_load, to_write};
 ghost use Rattle.memory.specs.Image.{image_memory};
 ghost use Rattle.reservations.specs.Marks.{with_mark};
@@ -80,7 +80,8 @@ fn is_granted<A: Allocator>(image: &Image<A>, access: &Access) -> bool
 /// The word that an access touches, unless it faults.
 fn touch_by<A: Allocator>(image: &Image<A>, access: Option<Access>) -> Option<PlannedTouch>
     requires { IfSome access (λ c. 0 < c.size) }
-    ensures { option_map as_touch result ≡ touch_by (image_memory image.now) access }
+    ensures touch { option_map as_touch result ≡ touch_by (image_memory image.now) access }
+    ensures aligned { IfSome result (λ t. t.word % 4 ≡ 0) }
 {
     let access = access?;
     if !is_granted(image, &access) {
@@ -99,8 +100,9 @@ pub fn planned_touch<A: Allocator>(
     image: &Image<A>,
     code: Option<Word>,
 ) -> Option<PlannedTouch>
-    ensures { (c : WordBytes) → code ≡ told_word ((table (image_memory image.now)).need (hart_of hart.now)) c
+    ensures plan { (c : WordBytes) → code ≡ told_word ((table (image_memory image.now)).need (hart_of hart.now)) c
         → option_map as_touch result ≡ (table (image_memory image.now)).plan (hart_of hart.now) c }
+    ensures aligned { IfSome result (λ t. t.word % 4 ≡ 0) }
 {
     let HartState::Running = hart.state else {
         return None;
