@@ -90,6 +90,20 @@ impl<'a, A: Allocator> Bank<'a, A> {
         self.number
     }
 
+    /// The program.
+    pub fn image(&self) -> &Image<A>
+        ensures { result.now ≡ self.now.image }
+    {
+        self.image
+    }
+
+    /// The harts' inputs.
+    pub fn inputs(&self) -> &[u32]
+        ensures { result.now ≡ self.now.inputs }
+    {
+        self.inputs
+    }
+
     /// The bytes of a word, the lowest first.
     pub fn bytes(&self, word: u32) -> [u8; 4]
         requires { word % 4 ≡ 0 }

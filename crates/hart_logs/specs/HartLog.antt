@@ -1,5 +1,5 @@
 -- What a hart's log is: segments over the table of an image.
-use Rattle.std.specs.Prelude.{◌≡◌, ℕ, ◌-◌, ◌<◌, ◌≤◌, List, length, Option, Some, None, slice_get}
+use Rattle.std.specs.Prelude.{◌≡◌, ℕ, ◌-◌, ◌<◌, ◌≤◌, List, [], ◌∷◌, ◌++◌, length, Option, Some, None, slice_get}
 use Rattle.std.specs.List.{AllByRecursion}
 use Rattle.loader.specs.Image.{ImageValue}
 use Rattle.memory.specs.Image.{image_memory}
@@ -8,9 +8,11 @@ use Rattle.hart_step.specs.Hart.{HartValue, hart_of}
 use Rattle.hart_step.specs.declared.hart.Hart.{Hart}
 use Rattle.banks_laws.specs.Runs.{StepTable}
 use Rattle.banks_laws.specs.Segments.{LoggedSegment, HartSlot, Walks}
-use Rattle.banks_laws.specs.HartLogs.{IsStepwise, slot_after_log}
+use Rattle.banks_laws.specs.HartLogs.{AreLocal, IsStepwise, StepFits, local_hart, local_slot, segment_slot, slot_after_log}
 use Rattle.banks_table.specs.Table.{table}
 use Rattle.banks_runs.specs.Merged.{first_slot}
+use Rattle.hart_logs.specs.declared.log.AddFault.{AddFault}
+use Rattle.hart_logs.specs.declared.log.AddFault.TheVariants.{Mismatch, Memory}
 
 -- the program with its inputs, one a hart; the hart's number, and its segments
 pub record HartLogValue : Type 0 where
@@ -45,16 +47,34 @@ stamp_of (Some e) = e.stamp
 abbrev pub last_stamp : List LoggedSegment → ℕ
 last_stamp log = stamp_of (slice_get log (length log - 1))
 
--- hart and word are those to which the segments lead, which are the hart's own, step by step
-pub record HoldsIn (image : ImageValue) (inputs : List ℕ) (h : ℕ) (log : List LoggedSegment) (hart : Hart) (named : Option ℕ) : Type 0 where
+-- hart and word are those to which the segments lead, which are the hart's own, step by step; and from there so many steps that
+-- touch nothing have reached a hart
+pub record HoldsIn (image : ImageValue) (inputs : List ℕ) (h : ℕ) (log : List LoggedSegment) (hart : Hart) (named : Option ℕ) (walked : ℕ) (reached : Hart) : Type 0 where
   pub harts : length inputs ≤ most_harts
   pub there : h < length inputs
   pub own : AllByRecursion (λ e. e.hart ≡ h) log
   pub steps : IsStepwise (image_table image) (first_slot image inputs h) log
   pub slot : slot_with hart named ≡ slot_in image inputs h log
+  pub local : AreLocal (image_table image) walked (slot_in image inputs h log).hart
+  pub reached_is : hart_of reached ≡ local_hart (image_table image) walked (slot_in image inputs h log).hart
 
 -- all segments are the hart's own, and are a walk from where it begins to the slot
 pub record IsOfHart (l : HartLogValue) : Type 0 where
   pub there : l.hart < length l.inputs
   pub own : AllByRecursion (λ e. e.hart ≡ l.hart) l.log
   pub walks : Walks (image_table l.image) (first_slot l.image l.inputs l.hart) l.log (slot_of l)
+
+-- a segment may come next: it is the hart's, its local steps touch nothing, and its accesses are those of its last step
+pub record Fits (l : HartLogValue) (e : LoggedSegment) : Type 0 where
+  pub hart : e.hart ≡ l.hart
+  pub local : AreLocal (image_table l.image) e.local (slot_of l).hart
+  pub step : StepFits (image_table l.image) e (local_slot (image_table l.image) e.local (slot_of l))
+
+-- the log with a segment more
+abbrev pub taken : HartLogValue → LoggedSegment → HartLogValue
+taken l e = record l { log = l.log ++ e ∷ [] }
+
+-- why a segment is not taken
+abbrev pub Refuses : HartLogValue → LoggedSegment → AddFault → Type 0
+Refuses l e Mismatch = Fits l e → ⊥
+Refuses l e Memory = Fits l e

@@ -1,1 +1,2 @@
 pub mod HartLog
+pub mod LastStep

@@ -1,15 +1,27 @@
 //! A hart's log.
-ghost use Rattle.std.specs.Prelude.{◌≡◌, ◌<◌, ◌≤◌, length, []};
+ghost use Rattle.std.specs.Prelude.{◌≡◌, ◌<◌, ◌≤◌, length, [], MatchOption, IfErr, OnErr, OnOk};
 ghost use Rattle.reservations.specs.Limit.{most_harts};
 ghost use Rattle.hart_step.specs.Hart.{hart_of};
-ghost use Rattle.hart_logs.specs.HartLog.{IsOfHart, last_stamp, slot_of};
+ghost use Rattle.banks_laws.specs.HartLogs.{AreLocal, local_hart, segment_slot};
+ghost use Rattle.hart_logs.specs.HartLog.{image_table, last_stamp, slot_of, taken, Fits, IsOfHart, Refuses};
+ghost use Rattle.hart_logs.specs.LastStep.{SlotIf};
 
 use crate::first::first_hart;
+use crate::step::{Slot, last_step, walked};
 use hart_step::Hart;
 use loader::Image;
 use segment_order::LogSegment;
 use std::alloc::Allocator;
 use std::marker::Model;
+
+/// Why a segment is not taken; then nothing has changed.
+#[derive(Clone, Copy, Debug, Drop, PartialEq, Eq)]
+pub enum AddFault {
+    /// The segment is of another hart, or its local steps touch something, or its accesses are not those of its last step.
+    Mismatch,
+    /// The host refused memory.
+    Memory,
+}
 
 /// What one hart of a program did, segment by segment, and where that has led it. Nothing is said of its stamps.
 #[derive(Drop)]
@@ -20,6 +32,9 @@ pub struct HartLog<'a, A: Allocator> {
     hart: Hart,
     named: Option<u32>,
     segments: Vec<LogSegment, A>,
+    // Local steps that have been walked ahead, and the hart after them.
+    walked: u32,
+    reached: Hart,
 }
 
 impl<'a, A: Allocator> Model for HartLog<'a, A> {
@@ -34,7 +49,7 @@ impl<'a, A: Allocator> Model for HartLog<'a, A> {
       log = l.segments.items;
     } };
 
-    ghost invariant = { λ l. HoldsIn l.image.now l.inputs.now l.number l.segments.items l.hart l.named };
+    ghost invariant = { λ l. HoldsIn l.image.now l.inputs.now l.number l.segments.items l.hart l.named l.walked l.reached };
 }
 
 impl<'a, A: Allocator> HartLog<'a, A> {
@@ -49,19 +64,69 @@ impl<'a, A: Allocator> HartLog<'a, A> {
           log = [];
         } }
     {
+        let input = inputs[number as usize];
+        let hart = first_hart(image.entry(), number, input, inputs.len() as u32);
         HartLog {
             image,
             inputs,
             number,
-            hart: first_hart(
-                image.entry(),
-                number,
-                inputs[number as usize],
-                inputs.len() as u32,
-            ),
+            hart,
             named: None,
             segments: Vec::new(alloc),
+            walked: 0,
+            reached: hart,
         }
+    }
+
+    /// The hart after so many steps, if they touch nothing.
+    fn after_local(&self, count: u32) -> Option<Hart>
+        ensures { let t = image_table self.now.image in let h = (slot_of self.now).hart in
+            MatchOption result (AreLocal t count h → ⊥)
+            (λ reached. AreLocal t count h × (hart_of reached ≡ local_hart t count h)) }
+    {
+        if count == self.walked {
+            return Some(self.reached);
+        }
+        walked(self.image, &self.hart, count)
+    }
+
+    /// The slot after a segment, if it may come next.
+    fn slot_after(&self, segment: &LogSegment) -> Option<Slot>
+        ensures { SlotIf (Fits self.now segment.now)
+            (segment_slot (image_table self.now.image) segment.now (slot_of self.now)) result }
+    {
+        if segment.hart != self.number {
+            return None;
+        }
+        let hart = match self.after_local(segment.local) {
+            None => return None,
+            Some(hart) => hart,
+        };
+        let slot = Slot {
+            hart,
+            named: self.named,
+        };
+        last_step(self.image, &slot, segment)
+    }
+
+    /// Takes a segment into the log: the hart goes on by its steps.
+    pub fn add(&mut self, segment: LogSegment) -> Result<(), AddFault>
+        ensures ok { OnOk result (Fits self.old segment × (self.new ≡ taken self.old segment)) }
+        ensures fault { IfErr result (λ fault. Refuses self.old segment fault) }
+        ensures err { OnErr result (self.new ≡ self.old) }
+    {
+        let slot = match self.slot_after(&segment) {
+            None => return Err(AddFault::Mismatch),
+            Some(slot) => slot,
+        };
+        let Ok(_) = self.segments.push(segment) else {
+            return Err(AddFault::Memory);
+        };
+        self.hart = slot.hart;
+        self.named = slot.named;
+        self.walked = 0;
+        self.reached = slot.hart;
+        Ok(())
     }
 
     /// The hart's number, from 0.

@@ -1,0 +1,55 @@
+//! What the workers of a run share.
+ghost use Rattle.std.specs.Prelude.{◌≡◌, ◌≤◌, IfOk, length, vec_len};
+ghost use Rattle.reservations.specs.Limit.{most_harts};
+ghost use Rattle.banks_runs.specs.Merged.{most_banks};
+
+use banks::{BANKS, Bank};
+use hart_threads::Plan;
+use loader::Image;
+use local_steps::Code;
+use std::alloc::{AllocError, Allocator};
+use std::sync::Mutex;
+
+/// The program, what it is run with, and its banks, each under a lock of its own.
+#[derive(Drop)]
+pub struct Job<'a, A: Allocator> {
+    pub(crate) image: &'a Image<A>,
+    pub(crate) inputs: &'a [u32],
+    pub(crate) code: Code<A>,
+    pub(crate) budget: u32,
+    pub(crate) plan: &'a Plan<A>,
+    pub(crate) banks: Vec<Mutex<Bank<'a, A>>, A>,
+    ghost sixteen: { vec_len banks ≡ 16 },
+    ghost few: { length inputs.now ≤ 32 },
+}
+
+impl<'a, A: Allocator + Copy> Job<'a, A> {
+    /// A run in which nothing was done yet.
+    pub fn new(
+        alloc: A,
+        image: &'a Image<A>,
+        inputs: &'a [u32],
+        budget: u32,
+        plan: &'a Plan<A>,
+    ) -> Result<Job<'a, A>, AllocError>
+        requires { length inputs.now ≤ most_harts }
+        ensures { IfOk result (λ job. job.inputs.now ≡ inputs.now) }
+    {
+        let code = Code::new(alloc, image)?;
+        let mut banks = Vec::with_capacity(alloc, BANKS as usize)?;
+        'banks: for number in 0..BANKS {
+            let bank = Bank::new(alloc, image, inputs, number);
+            if banks.push(Mutex::new(bank)).is_err() {
+                return Err(AllocError);
+            }
+        }
+        Ok(Job {
+            image,
+            inputs,
+            code,
+            budget,
+            plan,
+            banks,
+        })
+    }
+}

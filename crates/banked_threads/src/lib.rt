@@ -1,0 +1,13 @@
+//! Harts on threads of their own, over memory that has a lock for each of its banks.
+#![tactic(auto)]
+
+pub use compare::{are_of_banks, are_of_harts};
+pub use fault::RunFault;
+pub use runner::{Banked, run_banked};
+
+mod compare;
+mod fault;
+mod job;
+mod runner;
+mod step;
+mod worker;

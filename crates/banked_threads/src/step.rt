@@ -1,0 +1,152 @@
+//! One step of a hart under the locks of the banks that it touches.
+ghost use Rattle.std.specs.Prelude.{◌≡◌, ◌<◌, ◌%◌, length, vec_len};
+
+use crate::fault::StepFault;
+use crate::job::Job;
+use banks::{BANKS, Bank, next_stamp};
+use hart_logs::{Found, Slot, code_access, data_access};
+use hart_threads::Gate;
+use segment_order::LogSegment;
+use std::alloc::Allocator;
+use std::sync::Wait;
+use told_steps::{Word, needed_word, planned_touch};
+
+/// A segment of a hart without its stamp and its accesses, and the hart that its last step begins from.
+#[derive(Clone, Copy, Debug)]
+pub struct Walked {
+    pub hart: u32,
+    pub local: u32,
+    pub refuse: bool,
+    pub slot: Slot,
+    /// The stamp of the hart's last segment.
+    pub last_stamp: u64,
+}
+
+impl Walked {
+    /// The segment with a stamp, and no accesses yet.
+    fn stamped(&self, banks: &[u64]) -> Result<LogSegment, StepFault> {
+        match next_stamp(self.last_stamp, banks) {
+            Some(stamp) => Ok(LogSegment {
+                stamp,
+                hart: self.hart,
+                local: self.local,
+                refuse: self.refuse,
+                code_read: None,
+                data_access: None,
+            }),
+            None => Err(StepFault::StampsExhausted),
+        }
+    }
+}
+
+/// The place of the bank of a word.
+fn place_of(word: u32) -> usize
+    ensures { result < 16 }
+{
+    (word / 4 % BANKS) as usize
+}
+
+/// What a bank has at a word.
+fn found_in<A: Allocator>(bank: &Bank<A>, hart: u32, word: u32) -> Found
+    requires aligned { word % 4 ≡ 0 }
+    requires there { hart < 32 }
+{
+    Found {
+        bytes: bank.bytes(word),
+        mark: bank.marks().holds(hart as usize, word),
+    }
+}
+
+/// The last step of a segment whose instruction is code, under the lock of the bank of the word that it touches, if it touches
+/// one.
+fn step_in_code<A: Allocator + Copy, G: Gate, R: Wait>(
+    rt: &R,
+    job: &Job<A>,
+    gate: &G,
+    walked: &Walked,
+) -> Result<LogSegment, StepFault>
+    requires { walked.now.hart < 32 }
+{
+    let Some(touch) = planned_touch(&walked.slot.hart, job.image, None) else {
+        return walked.stamped(&[]);
+    };
+    let place = place_of(touch.word);
+    let mut bank = job.banks[place].lock(rt);
+    let mut segment = walked.stamped(&[bank.last_stamp()])?;
+    let found = found_in(&bank, walked.hart, touch.word);
+    let access = data_access(job.image, &walked.slot, &segment, None, touch, found);
+    gate.held(walked.hart, place as u32);
+    bank.add(access)?;
+    segment.data_access = Some(access);
+    Ok(segment)
+}
+
+/// The last step of a segment whose instruction stands in a word that may be written, under the locks of all banks, in ascending
+/// order: which word it touches isn't known before it is read.
+fn step_outside_code<A: Allocator + Copy, G: Gate, R: Wait>(
+    rt: &R,
+    alloc: A,
+    job: &Job<A>,
+    gate: &G,
+    walked: &Walked,
+    word: u32,
+) -> Result<LogSegment, StepFault>
+    requires { walked.now.hart < 32 }
+{
+    let mut held = Vec::new(alloc);
+    'banks: for bank in &job.banks {
+        if held.push(bank.lock(rt)).is_err() {
+            return Err(StepFault::Memory);
+        }
+    }
+    if word % 4 != 0 || held.len() != BANKS as usize {
+        return Err(StepFault::Stale);
+    }
+    let at = place_of(word);
+    let read = found_in(&held[at], walked.hart, word);
+    let code = Word {
+        address: word,
+        bytes: read.bytes,
+    };
+    let touch = planned_touch(&walked.slot.hart, job.image, Some(code));
+    let place = match touch {
+        Some(touch) => place_of(touch.word),
+        None => at,
+    };
+    let mut segment = walked.stamped(&[held[at].last_stamp(), held[place].last_stamp()])?;
+    let code_read = code_access(&segment, word, read);
+    held[at].add(code_read)?;
+    segment.code_read = Some(code_read);
+    let Some(touch) = touch else {
+        return Ok(segment);
+    };
+    let found = found_in(&held[place], walked.hart, touch.word);
+    let access = data_access(
+        job.image,
+        &walked.slot,
+        &segment,
+        Some(code),
+        touch,
+        found,
+    );
+    gate.held(walked.hart, place as u32);
+    held[place].add(access)?;
+    segment.data_access = Some(access);
+    Ok(segment)
+}
+
+/// The last step of a segment, under the locks of the banks that it touches.
+pub fn step<A: Allocator + Copy, G: Gate, R: Wait>(
+    rt: &R,
+    alloc: A,
+    job: &Job<A>,
+    gate: &G,
+    walked: &Walked,
+) -> Result<LogSegment, StepFault>
+    requires { walked.now.hart < 32 }
+{
+    match needed_word(&walked.slot.hart, job.image) {
+        None => step_in_code(rt, job, gate, walked),
+        Some(word) => step_outside_code(rt, alloc, job, gate, walked, word),
+    }
+}

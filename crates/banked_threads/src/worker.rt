@@ -1,0 +1,50 @@
+//! What one hart's thread does.
+ghost use Rattle.std.specs.Prelude.{◌≡◌, ◌<◌, length};
+
+use crate::fault::StepFault;
+use crate::job::Job;
+use crate::step::{Walked, step};
+use hart_logs::{HartLog, Slot};
+use hart_step::HartState;
+use hart_threads::Gate;
+use local_steps::local_steps;
+use std::alloc::Allocator;
+use std::sync::Wait;
+
+/// Makes a hart's choices until it has stopped or its budget is used up: local steps as long as they come, and one step more
+/// under the locks of the banks that it touches. No lock is held while the gate is asked to let the hart go on.
+pub fn work<'a, A: Allocator + Copy, G: Gate, R: Wait>(
+    rt: &R,
+    alloc: A,
+    job: &Job<'a, A>,
+    gate: &G,
+    hart: u32,
+) -> Result<HartLog<'a, A>, StepFault>
+    requires { hart < length job.now.inputs.now }
+{
+    let mut log = HartLog::new(alloc, job.image, job.inputs, hart);
+    let mut left = job.budget;
+    'choices: while left > 0 {
+        let mut reached = *log.slot();
+        let HartState::Running = reached.state else {
+            return Ok(log);
+        };
+        let local = local_steps(&mut reached, &job.code, left - 1);
+        gate.arrive(hart, local);
+        let number = job.budget.wrapping_sub(left).wrapping_add(local);
+        let walked = Walked {
+            hart,
+            local,
+            refuse: job.plan.contains(&(hart, number)),
+            slot: Slot {
+                hart: reached,
+                named: log.named(),
+            },
+            last_stamp: log.last_stamp(),
+        };
+        let segment = step(rt, alloc, job, gate, &walked)?;
+        log.add(segment)?;
+        left -= local + 1;
+    }
+    Ok(log)
+}

@@ -1,0 +1,3 @@
+pub mod RightsLemmas
+pub mod BytesLemmas
+pub mod StepLemmas

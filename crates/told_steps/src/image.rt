@@ -1,0 +1,94 @@
+//! The rights and the bytes of an image.
+ghost use Rattle.std.specs.Prelude.{◌≡◌, option_map};
+ghost use Rattle.std.specs.Option.{is_some};
+ghost use Rattle.loader.specs.Image.{span_of};
+ghost use Rattle.loader.specs.Spans.{has_address};
+ghost use Rattle.memory.specs.Memory.{grants, granted};
+ghost use Rattle.memory.specs.Image.{segments_memory, segment_at, byte_in, rights_in};
+ghost use Rattle.banks_table.specs.Table.{is_unwritable};
+
+use loader::{Rights, Segment};
+use std::alloc::Allocator;
+
+/// Whether a segment has an address.
+#[inline]
+fn has_address<A: Allocator>(segment: &Segment<A>, address: u64) -> bool
+    ensures { result ≡ has_address address (span_of segment.now) }
+{
+    u64::from(segment.base) <= address
+        && address < u64::from(segment.base) + u64::from(segment.size)
+}
+
+/// The segment that has an address.
+fn segment_at<A: Allocator>(segments: &[Segment<A>], address: u64) -> Option<&Segment<A>>
+    ensures { option_map (λ s. s.now) result ≡ segment_at segments.now address }
+{
+    'segments: for segment in segments {
+        if has_address(segment, address) {
+            return Some(segment);
+        }
+    }
+    None
+}
+
+/// The byte at an address, and 0 where there is none.
+#[tactic(auto, unfolding(memory::specs::Image::segments_memory))]
+pub fn byte_at<A: Allocator>(segments: &[Segment<A>], address: u64) -> u8
+    ensures { result ≡ (segments_memory segments.now).bytes address }
+{
+    let Some(segment) = segment_at(segments, address) else {
+        return 0;
+    };
+    let offset = address.saturating_sub(u64::from(segment.base)) as usize;
+    if offset < segment.bytes.len() {
+        return segment.bytes[offset];
+    }
+    0
+}
+
+/// Whether the byte at an address has one of the wanted rights.
+#[tactic(auto, unfolding(memory::specs::Image::segments_memory))]
+fn grants<A: Allocator>(segments: &[Segment<A>], wanted: Rights, address: u64) -> bool
+    ensures { result ≡ grants wanted.0 ((segments_memory segments.now).rights address) }
+{
+    match segment_at(segments, address) {
+        Some(segment) => segment.rights.grants(wanted),
+        None => false,
+    }
+}
+
+/// Whether there is a byte at an address.
+#[tactic(auto, unfolding(memory::specs::Image::segments_memory))]
+pub fn is_mapped<A: Allocator>(segments: &[Segment<A>], address: u64) -> bool
+    ensures { result ≡ is_some ((segments_memory segments.now).rights address) }
+{
+    segment_at(segments, address).is_some()
+}
+
+/// Whether each of the bytes from an address on has one of the wanted rights.
+pub fn granted<A: Allocator>(
+    segments: &[Segment<A>],
+    wanted: Rights,
+    count: u32,
+    address: u32,
+) -> bool
+    ensures { result ≡ granted wanted.0 (segments_memory segments.now) count address }
+{
+    'bytes: for k in 0..count {
+        if !grants(segments, wanted, u64::from(address) + u64::from(k)) {
+            return false;
+        }
+    }
+    true
+}
+
+/// Whether none of the four bytes from an address on may be written.
+pub fn is_unwritable<A: Allocator>(segments: &[Segment<A>], address: u32) -> bool
+    ensures { result ≡ is_unwritable (segments_memory segments.now) address }
+{
+    let first = u64::from(address);
+    !grants(segments, Rights::WRITE, first)
+        && !grants(segments, Rights::WRITE, first + 1)
+        && !grants(segments, Rights::WRITE, first + 2)
+        && !grants(segments, Rights::WRITE, first + 3)
+}

@@ -1,0 +1,278 @@
+//! An image's memory as a hart is told it.
+ghost use Rattle.std.specs.Prelude.{◌≡◌, ℕ, ◌+◌, ◌<◌, ◌≤◌, false, length};
+ghost use Rattle.std.specs.Option.{is_some};
+ghost use Rattle.memory.specs.Memory.{granted, number_at, to_execute, to_load, to_write};
+ghost use Rattle.memory.specs.Image.{image_memory};
+ghost use Rattle.memory.specs.Blocks.{spelled, Puts};
+ghost use Rattle.banks_table.specs.Words.{bytes_at};
+ghost use Rattle.told_steps.specs.Told.{has_all, told_memory, with_told};
+
+use crate::image::{byte_at, granted, is_mapped};
+use decoder::decode;
+use isa_table::Instr;
+use loader::{Image, Rights};
+use memory::{AccessFault, FetchFault, Store, StoreFault};
+use std::alloc::Allocator;
+
+/// A word with its bytes.
+#[derive(Clone, Copy, Debug, PartialEq, Eq)]
+pub struct Word {
+    /// The address of its first byte.
+    pub address: u32,
+    /// The bytes, the lowest first.
+    pub bytes: [u8; 4],
+}
+
+/// The byte at an address, where that below a word is given.
+#[inline]
+fn byte_over(word: Option<Word>, address: u64, below: u8) -> u8
+    ensures { (bytes : ℕ → ℕ) → bytes address ≡ below → result ≡ with_told bytes word address }
+{
+    let Some(word) = word else {
+        return below;
+    };
+    let first = u64::from(word.address);
+    if first <= address && address < first + 4 {
+        return word.bytes[(address - first) as usize];
+    }
+    below
+}
+
+/// Whether a word has all of the bytes from an address on, so many.
+#[inline]
+fn has_all(word: &Word, address: u32, count: u32) -> bool
+    ensures { result ≡ has_all word.now.address address count }
+{
+    let first = u64::from(word.address);
+    let address = u64::from(address);
+    first <= address && address + u64::from(count) <= first + 4
+}
+
+/// Bytes, of which some from an offset on spell the low digits of a value.
+fn spelled(bytes: [u8; 4], offset: usize, count: usize, value: u32) -> [u8; 4]
+    requires { offset + count ≤ 4 }
+    ensures value { result ≡ spelled count bytes offset value }
+    ensures long { length bytes ≡ 4 }
+{
+    let mut bytes = bytes;
+    let mut rest = value;
+    'digits: for k in 0..count {
+        bytes[offset + k] = (rest % 256) as u8;
+        rest /= 256;
+    }
+    bytes
+}
+
+/// An image's memory with words that are told otherwise, and one word that alone may be written.
+#[derive(Drop)]
+pub struct ToldMemory<'a, A: Allocator> {
+    /// The image.
+    pub image: &'a Image<A>,
+    /// The word of the instruction, where it is told.
+    pub code: Option<Word>,
+    /// The word that the instruction touches, where it is told.
+    pub touched: Option<Word>,
+    /// The word that may be written.
+    pub target: Option<Word>,
+}
+
+impl<'a, A: Allocator> ToldMemory<'a, A> {
+    /// The byte at an address.
+    fn byte(&self, address: u64) -> u8
+        ensures { result ≡ (told_memory (image_memory self.now.image.now) self.now.code self.now.touched self.now.target).bytes address }
+    {
+        let below = byte_at(self.image.segments(), address);
+        let below = byte_over(self.code, address, below);
+        let below = byte_over(self.touched, address, below);
+        byte_over(self.target, address, below)
+    }
+
+    /// The four bytes from an address on.
+    pub fn word_at(&self, address: u32) -> Word
+        ensures address { result.address ≡ address }
+        ensures bytes { result.bytes ≡ bytes_at (told_memory (image_memory self.now.image.now) self.now.code self.now.touched self.now.target).bytes address }
+    {
+        let first = u64::from(address);
+        Word {
+            address,
+            bytes: [
+                self.byte(first),
+                self.byte(first + 1),
+                self.byte(first + 2),
+                self.byte(first + 3),
+            ],
+        }
+    }
+
+    /// Whether each of some bytes may be loaded.
+    #[tactic(auto, using(crate::proofs::RightsLemmas::load_same))]
+    fn may_load(&self, count: u32, address: u32) -> bool
+        ensures { result ≡ granted to_load (told_memory (image_memory self.now.image.now) self.now.code self.now.touched self.now.target) count address }
+    {
+        granted(self.image.segments(), Rights::ANY, count, address)
+    }
+
+    /// Whether each of the four bytes may be executed.
+    #[tactic(auto, using(crate::proofs::RightsLemmas::execute_same))]
+    fn may_execute(&self, address: u32) -> bool
+        ensures { result ≡ granted to_execute (told_memory (image_memory self.now.image.now) self.now.code self.now.touched self.now.target) 4 address }
+    {
+        granted(self.image.segments(), Rights::EXECUTE, 4, address)
+    }
+
+    /// Whether each of some bytes may be written.
+    fn may_write(&self, count: u32, address: u32) -> bool
+        requires { 0 < count }
+        ensures { result ≡ granted to_write (told_memory (image_memory self.now.image.now) self.now.code self.now.touched self.now.target) count address }
+    {
+        let Some(word) = self.target else {
+            return false;
+        };
+        has_all(&word, address, count)
+            && granted(self.image.segments(), Rights::WRITE, count, address)
+    }
+
+    /// The number that the four bytes from an address on spell.
+    fn number_at(&self, address: u32) -> u32
+        ensures { result ≡ number_at (told_memory (image_memory self.now.image.now) self.now.code self.now.touched self.now.target).bytes 4 address }
+    {
+        let first = u64::from(address);
+        u32::from_le_bytes([
+            self.byte(first),
+            self.byte(first + 1),
+            self.byte(first + 2),
+            self.byte(first + 3),
+        ])
+    }
+
+    /// Whether there is a byte at an address.
+    fn is_mapped(&self, address: u32) -> bool
+        ensures { result ≡ is_some ((told_memory (image_memory self.now.image.now) self.now.code self.now.touched self.now.target).rights address) }
+    {
+        is_mapped(self.image.segments(), u64::from(address))
+    }
+
+    /// Stores the low bytes of a value, if each of them may be written.
+    fn put(&mut self, count: u32, address: u32, value: u32) -> bool
+        requires { (0 < count) × (count ≤ 4) }
+        ensures { Puts count address value
+            (told_memory (image_memory self.old.image.now) self.old.code self.old.touched self.old.target)
+            (told_memory (image_memory self.new.image.now) self.new.code self.new.touched self.new.target) result }
+    {
+        let Some(word) = self.target else {
+            return false;
+        };
+        if !has_all(&word, address, count) {
+            return false;
+        }
+        if !granted(self.image.segments(), Rights::WRITE, count, address) {
+            return false;
+        }
+        let offset = (address - word.address) as usize;
+        self.target = Some(Word {
+            address: word.address,
+            bytes: spelled(word.bytes, offset, count as usize, value),
+        });
+        true
+    }
+}
+
+impl<'a, A: Allocator> Store for ToldMemory<'a, A> {
+    ghost memory = { λ s. told_memory (image_memory s.image.now) s.code s.touched s.target };
+
+    ghost grows = { false };
+
+    fn load8(&self, address: u32) -> Result<u8, AccessFault> {
+        if self.may_load(1, address) {
+            Ok(self.byte(u64::from(address)))
+        } else {
+            Err(AccessFault::Access)
+        }
+    }
+
+    fn load16(&self, address: u32) -> Result<u16, AccessFault> {
+        if address % 2 != 0 {
+            return Err(AccessFault::Misaligned);
+        }
+        if !self.may_load(2, address) {
+            return Err(AccessFault::Access);
+        }
+        let first = u64::from(address);
+        Ok(u16::from_le_bytes([self.byte(first), self.byte(first + 1)]))
+    }
+
+    fn load32(&self, address: u32) -> Result<u32, AccessFault> {
+        if address % 4 != 0 {
+            return Err(AccessFault::Misaligned);
+        }
+        if !self.may_load(4, address) {
+            return Err(AccessFault::Access);
+        }
+        Ok(self.number_at(address))
+    }
+
+    fn fetch(&self, address: u32) -> Option<u32> {
+        if self.may_execute(address) {
+            Some(self.number_at(address))
+        } else {
+            None
+        }
+    }
+
+    #[tactic(auto, unfolding(memory::specs::Instruction::instruction_at))]
+    fn instruction(&self, address: u32) -> Result<Instr, FetchFault> {
+        let Some(word) = self.fetch(address) else {
+            return Err(FetchFault::Access);
+        };
+        decode(word).ok_or(FetchFault::Illegal)
+    }
+
+    fn peek(&self, address: u32) -> Option<u8> {
+        if self.is_mapped(address) {
+            Some(self.byte(u64::from(address)))
+        } else {
+            None
+        }
+    }
+
+    fn may_store32(&self, address: u32) -> Result<(), AccessFault> {
+        if address % 4 != 0 {
+            return Err(AccessFault::Misaligned);
+        }
+        if self.may_write(4, address) {
+            Ok(())
+        } else {
+            Err(AccessFault::Access)
+        }
+    }
+
+    fn store8(&mut self, address: u32, value: u8) -> Result<(), StoreFault> {
+        if self.put(1, address, u32::from(value)) {
+            Ok(())
+        } else {
+            Err(StoreFault::Access)
+        }
+    }
+
+    fn store16(&mut self, address: u32, value: u16) -> Result<(), StoreFault> {
+        if address % 2 != 0 {
+            return Err(StoreFault::Misaligned);
+        }
+        if self.put(2, address, u32::from(value)) {
+            Ok(())
+        } else {
+            Err(StoreFault::Access)
+        }
+    }
+
+    fn store32(&mut self, address: u32, value: u32) -> Result<(), StoreFault> {
+        if address % 4 != 0 {
+            return Err(StoreFault::Misaligned);
+        }
+        if self.put(4, address, value) {
+            Ok(())
+        } else {
+            Err(StoreFault::Access)
+        }
+    }
+}

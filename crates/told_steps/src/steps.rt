@@ -1,0 +1,206 @@
+//! What a hart's next step needs, touches and does.
+ghost use Rattle.std.specs.Prelude.{◌≡◌, ◌<◌, ◌%◌, Some, None, false, IfSome, option_map, if◌then◌else◌};
+ghost use Rattle.memory.specs.Memory.{granted, to_load, to_write};
+ghost use Rattle.memory.specs.Image.{image_memory};
+ghost use Rattle.reservations.specs.Marks.{with_mark};
+ghost use Rattle.reservations.specs.Reserve.{marks};
+ghost use Rattle.hart_step.specs.Hart.{hart_of};
+ghost use Rattle.banks_laws.specs.Banks.{WordBytes};
+ghost use Rattle.hart_step.specs.Step.{stepped};
+ghost use Rattle.hart_step.specs.declared.hart.HartState.TheVariants.{Running};
+ghost use Rattle.banks_table.specs.Table.{table, told, word_in};
+ghost use Rattle.told_steps.specs.Told.{as_touch, is_granted, told_memory, told_word, touch_by, wanted, word_at, Leaves};
+
+use crate::image::{granted, is_unwritable};
+use crate::memory::{ToldMemory, Word};
+use hart_step::{Access, AccessKind, Hart, HartState, access_by, step_hart};
+use loader::{Image, Rights};
+use memory::Store;
+use reservations::Reserve;
+use std::alloc::Allocator;
+
+/// The word that a step touches.
+#[derive(Clone, Copy, Debug, PartialEq, Eq)]
+pub struct PlannedTouch {
+    /// What is done with it.
+    pub kind: AccessKind,
+    /// The address of its first byte, a multiple of 4.
+    pub word: u32,
+}
+
+/// The words of which a hart is told the bytes.
+#[derive(Clone, Copy, Debug, PartialEq, Eq)]
+pub struct ToldWords {
+    /// The one that it must read to know its instruction, if it must.
+    pub code: Option<Word>,
+    /// The one that its instruction touches, if it touches one.
+    pub touched: Option<Word>,
+}
+
+/// The word that a hart must read to know its next instruction: none where the hart has stopped or may not execute the word,
+/// and none where it is code, since that is the image's for good.
+pub fn needed_word<A: Allocator>(hart: &Hart, image: &Image<A>) -> Option<u32>
+    ensures { result ≡ (table (image_memory image.now)).need (hart_of hart.now) }
+{
+    let HartState::Running = hart.state else {
+        return None;
+    };
+    let segments = image.segments();
+    if granted(segments, Rights::EXECUTE, 4, hart.pc) && !is_unwritable(segments, hart.pc) {
+        Some(hart.pc)
+    } else {
+        None
+    }
+}
+
+/// The right that an access needs.
+fn wanted(kind: AccessKind) -> Rights
+    ensures { result.0 ≡ wanted kind }
+{
+    match kind {
+        AccessKind::Load | AccessKind::LoadReserved => Rights::ANY,
+        AccessKind::Store | AccessKind::StoreConditional | AccessKind::Amo => Rights::WRITE,
+    }
+}
+
+/// Whether an access has no fault.
+fn is_granted<A: Allocator>(image: &Image<A>, access: &Access) -> bool
+    requires { 0 < access.now.size }
+    ensures { result ≡ is_granted (image_memory image.now) access.now }
+{
+    access.address % access.size == 0
+        && granted(
+            image.segments(),
+            wanted(access.kind),
+            access.size,
+            access.address,
+        )
+}
+
+/// The word that an access touches, unless it faults.
+fn touch_by<A: Allocator>(image: &Image<A>, access: Option<Access>) -> Option<PlannedTouch>
+    requires { IfSome access (λ c. 0 < c.size) }
+    ensures touch { option_map as_touch result ≡ touch_by (image_memory image.now) access }
+    ensures aligned { IfSome result (λ t. t.word % 4 ≡ 0) }
+{
+    let access = access?;
+    if !is_granted(image, &access) {
+        return None;
+    }
+    Some(PlannedTouch {
+        kind: access.kind,
+        word: access.address - access.address % 4,
+    })
+}
+
+/// The word that a hart's next step touches, by the word that it needs: none where the hart has stopped, where its instruction
+/// touches none, and where it faults.
+pub fn planned_touch<A: Allocator>(
+    hart: &Hart,
+    image: &Image<A>,
+    code: Option<Word>,
+) -> Option<PlannedTouch>
+    ensures plan { (c : WordBytes) → code ≡ told_word ((table (image_memory image.now)).need (hart_of hart.now)) c
+        → option_map as_touch result ≡ (table (image_memory image.now)).plan (hart_of hart.now) c }
+    ensures aligned { IfSome result (λ t. t.word % 4 ≡ 0) }
+{
+    let HartState::Running = hart.state else {
+        return None;
+    };
+    let memory = ToldMemory {
+        image,
+        code,
+        touched: None,
+        target: None,
+    };
+    match memory.instruction(hart.pc) {
+        Ok(instr) => touch_by(image, access_by(hart, instr)),
+        Err(_) => None,
+    }
+}
+
+/// The word that a hart's instruction accesses in a memory, with its bytes, if it accesses one.
+fn target_of<A: Allocator>(hart: &Hart, memory: &ToldMemory<A>) -> Option<Word>
+    ensures { result ≡ word_at
+        (told_memory (image_memory memory.now.image.now) memory.now.code memory.now.touched memory.now.target)
+        (hart_of hart.now) }
+{
+    let Ok(instr) = memory.instruction(hart.pc) else {
+        return None;
+    };
+    let access = access_by(hart, instr)?;
+    Some(memory.word_at(access.address - access.address % 4))
+}
+
+/// A reservation of the word that is touched, if a store-conditional is to succeed.
+fn reserve_of(touched: Option<Word>, succeeds: bool) -> Reserve
+    ensures { marks result 0 ≡ (if succeeds then option_map (λ w. w.address) touched else None) }
+{
+    let mut reserve = Reserve::new();
+    let word = match touched {
+        None => return reserve,
+        Some(word) => word,
+    };
+    if succeeds {
+        reserve.set(0, word.address);
+    }
+    reserve
+}
+
+/// A hart's step, where it is told these words, and whether a store-conditional succeeds. Only bytes of the memory that
+/// comes back may have changed.
+fn told_step<'a, A: Allocator>(
+    hart: &mut Hart,
+    image: &'a Image<A>,
+    words: ToldWords,
+    succeeds: bool,
+) -> ToldMemory<'a, A>
+    ensures { (c v : WordBytes) → let m = image_memory image.now in let h = hart_of hart.old in
+        words.code ≡ told_word ((table m).need h) c → words.touched ≡ told_word (word_in ((table m).plan h c)) v
+        → Leaves (hart_of hart.new)
+        (told_memory (image_memory result.image.now) result.code result.touched result.target).bytes
+        (stepped 0 false (told m h c v succeeds)) }
+{
+    let mut memory = ToldMemory {
+        image,
+        code: words.code,
+        touched: words.touched,
+        target: None,
+    };
+    memory.target = target_of(hart, &memory);
+    let mut reserve = reserve_of(words.touched, succeeds);
+    let Ok(()) = step_hart(hart, 0, &mut memory, &mut reserve, false) else {
+        unreachable!();
+    };
+    memory
+}
+
+/// Does a hart's next step, where it is told these words: the one that it needs, and the one that its instruction touches. A
+/// store-conditional succeeds where `succeeds` says so.
+pub fn settle<A: Allocator>(hart: &mut Hart, image: &Image<A>, words: ToldWords, succeeds: bool)
+    ensures { (c v : WordBytes) → let t = table (image_memory image.now) in let h = hart_of hart.old in
+        words.code ≡ told_word (t.need h) c → words.touched ≡ told_word (word_in (t.plan h c)) v
+        → hart_of hart.new ≡ t.after h c v succeeds }
+{
+    let _memory = told_step(hart, image, words, succeeds);
+}
+
+/// The bytes of the touched word after a hart's next step, if that stores, where the hart is told these words.
+pub fn stored_bytes<A: Allocator>(
+    hart: &Hart,
+    image: &Image<A>,
+    code: Option<Word>,
+    touched: Word,
+) -> [u8; 4]
+    ensures { (c v : WordBytes) → let t = table (image_memory image.now) in let h = hart_of hart.now in
+        code ≡ told_word (t.need h) c → Some touched ≡ told_word (word_in (t.plan h c)) v
+        → result ≡ t.stored h c v }
+{
+    let mut hart = *hart;
+    let words = ToldWords {
+        code,
+        touched: Some(touched),
+    };
+    let memory = told_step(&mut hart, image, words, true);
+    memory.word_at(touched.address).bytes
+}
