@@ -5,6 +5,7 @@ pub use failures::{failures_engine, push_failures};
 pub use laws::all_seeds_are_counted;
 pub use plan::{Detail, SummaryPlan};
 pub use rows::summary_text;
+pub use run_outcome::harts_outcome;
 pub use summary::summary_engine;
 pub use tallying::add_runs;
 

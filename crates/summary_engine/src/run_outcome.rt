@@ -64,7 +64,7 @@ fn results<A: Allocator>(
 }
 
 /// The outcome of harts as a run left them, with the verdict on it.
-pub(crate) fn run_outcome<A: Allocator>(
+pub fn harts_outcome<A: Allocator>(
     alloc: A,
     detail: Detail,
     verdict: Option<Verdict>,

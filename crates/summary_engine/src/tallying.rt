@@ -12,7 +12,7 @@ ghost use Rattle.summary_engine.specs.Outcomes.{outcomes_of, run_outcome};
 
 use crate::judging::{is_bad_run, judge_run, status_after};
 use crate::plan::SummaryPlan;
-use crate::run_outcome::run_outcome;
+use crate::run_outcome::harts_outcome;
 use campaigns::{SeedRun, Seeds, next_runs};
 use devices::Status;
 use engines::CampaignPlan;
@@ -34,7 +34,7 @@ fn outcome_of_run<A: Allocator + Copy>(
         outcome_of outcome ≡ (run_outcome plan inputs.now (ends_of run.now)).outcome) }
 {
     let verdict = judge_run(inputs, plan.runs, run);
-    run_outcome(alloc, plan.detail, verdict, &run.harts)
+    harts_outcome(alloc, plan.detail, verdict, &run.harts)
 }
 
 /// Counts runs under their outcomes, and answers how many of them are bad.

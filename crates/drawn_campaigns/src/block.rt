@@ -1,0 +1,67 @@
+//! The runs of a block of seeds, on all processors.
+
+ghost use Rattle.std.specs.Prelude.{◌≡◌, ◌+◌, ◌<◌, ◌≤◌, ◌^◌, IfOk, length, map};
+ghost use Rattle.std.specs.List.{range_with_len};
+ghost use Rattle.machine.specs.Start.{IsStartable};
+ghost use Rattle.machine.specs.Machine.{world};
+ghost use Rattle.drawn_campaigns.specs.Campaign.{end_of, outcome_from, outcomes_of};
+
+use crate::plan::DrawnPlan;
+use crate::seed_end::SeedEnd;
+use crate::seed_run::{first_machine, run_seed};
+use campaigns::Block;
+use loader::Image;
+use machine::Machine;
+use memory::FromImage;
+use rayon::prelude::*;
+use std::alloc::{AllocError, Allocator};
+use std::thread::Threads;
+
+/// How the runs of a block of seeds end, in order. One machine is started for all of them.
+pub fn run_block<A: Allocator + Copy + Send + Sync, B: Allocator + Sync>(
+    rt: &(impl Threads + Sync),
+    alloc: A,
+    image: &Image<B>,
+    inputs: &[u32],
+    plan: DrawnPlan,
+    block: Block,
+) -> Result<Vec<SeedEnd<A>, A>, AllocError>
+    requires startable { IsStartable inputs.now }
+    requires fits { block.first + block.count ≤ 2 ^ 64 }
+    ensures { IfOk result (λ ends. map end_of ends.items
+        ≡ outcomes_of plan image.now inputs.now (range_with_len block.first block.count)) }
+{
+    let start = first_machine(alloc, image, inputs)?;
+    let ends = run_each(rt, alloc, &start, inputs, plan, block)?;
+    Ok(ends)
+}
+
+// The runs of seeds, each on a copy of a machine, in pieces of one seed at least: a run is worth a thread's time.
+fn run_each<S: FromImage<A> + Sync, A: Allocator + Copy + Send + Sync>(
+    rt: &(impl Threads + Sync),
+    alloc: A,
+    start: &Machine<S, A>,
+    inputs: &[u32],
+    plan: DrawnPlan,
+    block: Block,
+) -> Result<Vec<SeedEnd<A>, A>, AllocError>
+    requires startable { IsStartable inputs.now }
+    requires there { length (world S.memory start.now).harts ≡ length inputs.now }
+    requires fits { block.first + block.count ≤ 2 ^ 64 }
+    ensures { IfOk result (λ ends. map end_of ends.items
+        ≡ map (outcome_from (world S.memory start.now) plan inputs.now) (range_with_len block.first block.count)) }
+{
+    let first = block.first;
+    let ends: Result<Vec<SeedEnd<A>, A>, AllocError> = (0..block.count)
+        .into_par_iter()
+        .with_min_len(1)
+        .map(
+            |place: u64| -> Result<SeedEnd<A>, AllocError>
+                requires { IsStartable inputs.now × (length (world S.memory start.now).harts ≡ length inputs.now) × (first + place < 2 ^ 64) }
+                ensures { IfOk result (λ end. end_of end
+                    ≡ outcome_from (world S.memory start.entry.now) plan inputs.entry.now (first + place)) }
+            { run_seed(alloc, start, inputs, plan, first + place) },
+        )
+        .collect(rt, alloc)?;
+    ends
+}

@@ -1,0 +1,27 @@
+//! Which runs are asked for.
+
+use engines::CampaignPlan;
+use schedule_kinds::ScheduleKind;
+use summary_engine::Detail;
+
+/// Whether a run may leave a hart that runs.
+#[derive(Clone, Copy, Debug, PartialEq, Eq)]
+pub enum Exit {
+    /// It may: the steps may have been too few.
+    May,
+    /// It may not: such a run has failed.
+    Must,
+}
+
+/// A campaign under schedules of some kind.
+#[derive(Clone, Copy, Debug, Drop)]
+pub struct DrawnPlan {
+    /// The seeds, the steps of each run, and the rule that is judged, if there is one.
+    pub runs: CampaignPlan,
+    /// How the choices of a seed are made.
+    pub kind: ScheduleKind,
+    /// By what runs are told apart.
+    pub detail: Detail,
+    /// Whether a run may leave a hart that runs.
+    pub exit: Exit,
+}

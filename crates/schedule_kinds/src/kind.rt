@@ -1,0 +1,43 @@
+//! The kinds of schedules that a seed may give.
+
+ghost use Rattle.std.specs.Prelude.{◌≡◌, ◌<◌, ◌≤◌, ◌⊎◌, MatchOption};
+ghost use Rattle.burst_schedules.specs.declared.drawing.TheConstants.{MOST_MEAN};
+
+use burst_schedules::MOST_MEAN;
+
+/// How many choices a burst has in the mean: 1 to `MOST_MEAN`.
+#[derive(Clone, Copy, Debug, Drop)]
+pub struct Mean {
+    choices: u32,
+    ghost within: { (0 < choices) × (choices ≤ MOST_MEAN) },
+}
+
+impl Mean {
+    /// A mean of so many choices: `None` just where it would be 0 or greater than `MOST_MEAN`.
+    pub fn new(choices: u32) -> Option<Mean>
+        ensures { MatchOption result ((choices ≡ 0) ⊎ (MOST_MEAN < choices)) (λ mean. mean.choices ≡ choices) }
+    {
+        if choices == 0 || choices > MOST_MEAN {
+            return None;
+        }
+        Some(Mean { choices })
+    }
+
+    /// How many choices.
+    pub fn choices(self) -> u32
+        ensures is { result ≡ self.choices }
+        ensures some { 0 < result }
+        ensures most { result ≤ MOST_MEAN }
+    {
+        self.choices
+    }
+}
+
+/// How the choices of a seed are made.
+#[derive(Clone, Copy, Debug, Drop)]
+pub enum ScheduleKind {
+    /// Each is drawn from all harts.
+    Even,
+    /// In bursts of one hart, of this mean length.
+    Bursts(Mean),
+}

@@ -1,0 +1,8 @@
+//! How the choices of a campaign's seed are made, and runs over them.
+#![tactic(auto)]
+
+pub use kind::{Mean, ScheduleKind};
+pub use running::run_kind;
+
+mod kind;
+mod running;

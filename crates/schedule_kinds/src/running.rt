@@ -1,0 +1,86 @@
+//! A machine's run over the choices that a seed gives.
+
+ghost use Rattle.std.specs.Prelude.{◌≡◌, ◌<◌, ◌≤◌, IfOk, length};
+ghost use Rattle.reservations.specs.Limit.{most_harts};
+ghost use Rattle.machine.specs.Machine.{world};
+ghost use Rattle.scheduler.specs.Schedules.{seeded_choices};
+ghost use Rattle.burst_schedules.specs.Bursts.{burst_choices};
+ghost use Rattle.choice_runs.specs.Chosen.{harts_of};
+ghost use Rattle.schedule_kinds.specs.Kinds.{kind_choices, RanOver};
+
+use crate::kind::{Mean, ScheduleKind};
+use burst_schedules::Bursts;
+use choice_runs::Chosen;
+use machine::Machine;
+use memory::Store;
+use scheduler::{draw_choice, seeded_generator};
+use std::alloc::{AllocError, Allocator};
+
+/// Runs a machine over the choices that a seed gives, and answers which harts were chosen. Each choice is drawn when its step
+/// comes, so the list is never held.
+#[tactic(auto, unfolding(crate::specs::Kinds::kind_choices))]
+pub fn run_kind<S: Store, A: Allocator>(
+    machine: &mut Machine<S, A>,
+    kind: ScheduleKind,
+    harts: u32,
+    steps: u64,
+    seed: u64,
+) -> Result<Chosen, AllocError>
+    requires some { 0 < harts }
+    requires few { harts ≤ most_harts }
+    requires there { length (world S.memory machine.old).harts ≡ harts }
+    ensures { IfOk result (λ chosen. RanOver (kind_choices kind (world S.memory machine.old) harts steps seed)
+        (world S.memory machine.old) (world S.memory machine.new) (harts_of chosen)) }
+{
+    match kind {
+        ScheduleKind::Even => run_evenly(machine, harts, steps, seed),
+        ScheduleKind::Bursts(mean) => run_in_bursts(machine, mean, harts, steps, seed),
+    }
+}
+
+// Each choice is drawn from all harts.
+fn run_evenly<S: Store, A: Allocator>(
+    machine: &mut Machine<S, A>,
+    harts: u32,
+    steps: u64,
+    seed: u64,
+) -> Result<Chosen, AllocError>
+    requires some { 0 < harts }
+    requires few { harts ≤ most_harts }
+    requires there { length (world S.memory machine.old).harts ≡ harts }
+    ensures { IfOk result (λ chosen. RanOver (seeded_choices harts steps seed)
+        (world S.memory machine.old) (world S.memory machine.new) (harts_of chosen)) }
+{
+    let mut chosen = Chosen::new();
+    let mut generator = seeded_generator(seed);
+    'steps: for _ in 0..steps {
+        let choice = draw_choice(&mut generator, harts);
+        chosen.add(choice.hart as usize);
+        machine.step(choice)?;
+    }
+    Ok(chosen)
+}
+
+// The choices are drawn in bursts of one hart.
+fn run_in_bursts<S: Store, A: Allocator>(
+    machine: &mut Machine<S, A>,
+    mean: Mean,
+    harts: u32,
+    steps: u64,
+    seed: u64,
+) -> Result<Chosen, AllocError>
+    requires some { 0 < harts }
+    requires few { harts ≤ most_harts }
+    requires there { length (world S.memory machine.old).harts ≡ harts }
+    ensures { IfOk result (λ chosen. RanOver (burst_choices harts mean.choices steps seed)
+        (world S.memory machine.old) (world S.memory machine.new) (harts_of chosen)) }
+{
+    let mut chosen = Chosen::new();
+    let mut bursts = Bursts::new(harts, mean.choices(), seed);
+    'steps: for _ in 0..steps {
+        let choice = bursts.next_choice();
+        chosen.add(choice.hart as usize);
+        machine.step(choice)?;
+    }
+    Ok(chosen)
+}
