@@ -1,7 +1,7 @@
 //! The kinds of schedules that a seed may give.
 
 ghost use Rattle.std.specs.Prelude.{◌≡◌, ◌<◌, ◌≤◌, ◌⊎◌, MatchOption};
-ghost use Rattle.burst_schedules.specs.declared.drawing.TheConstants.{MOST_MEAN};
+ghost use Rattle.burst_schedules.specs.Bursts.{most_mean};
 
 use burst_schedules::MOST_MEAN;
 
@@ -9,13 +9,13 @@ use burst_schedules::MOST_MEAN;
 #[derive(Clone, Copy, Debug, Drop)]
 pub struct Mean {
     choices: u32,
-    ghost within: { (0 < choices) × (choices ≤ MOST_MEAN) },
+    ghost within: { (0 < choices) × (choices ≤ most_mean) },
 }
 
 impl Mean {
     /// A mean of so many choices: `None` just where it would be 0 or greater than `MOST_MEAN`.
     pub fn new(choices: u32) -> Option<Mean>
-        ensures { MatchOption result ((choices ≡ 0) ⊎ (MOST_MEAN < choices)) (λ mean. mean.choices ≡ choices) }
+        ensures { MatchOption result ((choices ≡ 0) ⊎ (most_mean < choices)) (λ mean. mean.choices ≡ choices) }
     {
         if choices == 0 || choices > MOST_MEAN {
             return None;
@@ -27,7 +27,7 @@ impl Mean {
     pub fn choices(self) -> u32
         ensures is { result ≡ self.choices }
         ensures some { 0 < result }
-        ensures most { result ≤ MOST_MEAN }
+        ensures most { result ≤ most_mean }
     {
         self.choices
     }
