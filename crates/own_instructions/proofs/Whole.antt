@@ -18,6 +18,7 @@ use Rattle.assembler.specs.Valuing.{instr_bytes, pair_bytes}
 use Rattle.elf_writer.specs.File.{file, program_image}
 use Rattle.elf_writer.proofs.LoadLemmas.{file_loads}
 use Rattle.listing.specs.Listing.{listing}
+use Rattle.source_statements.proofs.Whole.{ok_iff}
 use Rattle.own_instructions.specs.Own.{InImage, InLines, Shows, GivesOwn, ListedIsOwn, WrittenIsOwn}
 use Rattle.own_instructions.proofs.Entry.{entry_small}
 use Rattle.own_instructions.proofs.Images.{Piece, first_part, second_part, image_of, stands_in_text, stands_in_data, data_begins, has_word, has_line, image_lists}
@@ -113,7 +114,7 @@ made texts p e =
 gives : (shown : Section → ℕ → Instr → Type 0) (texts : List (List ℕ)) (p : ProgramValue) (m : Made texts p) → Shown shown m.bases p → GivesOwn shown texts p
 gives shown texts p m g = record {
   statements = m.statements;
-  read = m.read;
+  said = (ok_iff texts m.statements).0 m.read;
   all = m.all;
   bases = m.bases;
   placed = m.placed;

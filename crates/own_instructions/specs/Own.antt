@@ -11,7 +11,6 @@ use Rattle.loader.specs.Segment.{SegmentValue}
 use Rattle.listing.specs.Listing.{listing, word_entry}
 use Rattle.listing.specs.Segments.{ListsSegments}
 use Rattle.asm_read.specs.Statement.{StatementValue, BodyValue}
-use Rattle.asm_read.specs.Statements.{statements_of}
 use Rattle.asm_read.specs.declared.statement.Body.TheVariants as body
 use Rattle.asm_read.specs.declared.statement.Section.{Section}
 use Rattle.asm_read.specs.declared.statement.Section.TheVariants as sections
@@ -20,6 +19,7 @@ use Rattle.assembler.specs.Instructions.{pair_of}
 use Rattle.assembler.specs.Placed.{Standing, Bases, ArePlaced, IsInstr}
 use Rattle.assembler.specs.Program.{ProgramValue, SymbolList}
 use Rattle.assembler.specs.Sources.{assembled_texts}
+use Rattle.source_statements.specs.Reads.{TextsSay}
 use Rattle.elf_writer.specs.File.{program_image}
 
 -- these bytes stand at an address of an image, in one of its segments
@@ -63,11 +63,11 @@ Shows shown symbols before s after (body.Label name) = Unit {0}
 Shows shown symbols before s after (body.LocalLabel digits) = Unit {0}
 Shows shown symbols before s after (body.Directive d) = Unit {0}
 
--- the program is that of the texts, its statements stand where one map of labels puts them, and each instruction statement's
+-- the program is of the statements that the texts say, these stand where one map of labels puts them, and each instruction statement's
 -- instructions are shown
 pub record GivesOwn (shown : Section → ℕ → Instr → Type 0) (texts : List (List ℕ)) (p : ProgramValue) : Type 0 where
   pub statements : List StatementValue
-  pub read : statements_of texts ≡ Ok statements
+  pub said : TextsSay 0 texts statements
   pub all : List Standing
   pub bases : Bases
   pub placed : ArePlaced statements p all bases
