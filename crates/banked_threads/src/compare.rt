@@ -4,6 +4,7 @@ ghost use Rattle.banks.specs.BankLog.{BankLog};
 ghost use Rattle.banks_runs.specs.Merged.{most_banks};
 ghost use Rattle.hart_logs.specs.HartLog.{HartLogValue};
 ghost use Rattle.hart_threads.specs.Outcome.{is_stopped};
+ghost use Rattle.hart_threads.specs.Plan.{is_planned};
 ghost use Rattle.banked_threads.specs.Banked.{choices_in, HasEnded, IsBankOf, IsFlagged, IsHartOf};
 
 use banks::{BANKS, Bank};
@@ -57,6 +58,13 @@ fn is_stopped(hart: &Hart) -> bool
     }
 }
 
+/// Whether a plan holds a hart and the number of its choice.
+fn is_planned<A: Allocator>(plan: &Plan<A>, hart: u32, number: u32) -> bool
+    ensures { result ≡ is_planned plan.now.keys hart number }
+{
+    plan.contains(&(hart, number))
+}
+
 /// How many choices segments stand for, if they are at most `budget` and each segment's refusal is what the plan says.
 fn planned_choices<A: Allocator>(
     segments: &[LogSegment],
@@ -73,7 +81,7 @@ fn planned_choices<A: Allocator>(
         if local >= budget - made {
             return None;
         }
-        if segment.refuse != plan.contains(&(hart, made + local)) {
+        if segment.refuse != is_planned(plan, hart, made + local) {
             return None;
         }
         made += local + 1;
@@ -111,7 +119,12 @@ pub fn is_of_hart<A: Allocator>(
 }
 
 /// Whether a bank is a bank of a run.
-pub fn is_of_bank<A: Allocator>(bank: &Bank<A>, image: &Image<A>, inputs: &[u32], number: u32) -> bool
+pub fn is_of_bank<A: Allocator>(
+    bank: &Bank<A>,
+    image: &Image<A>,
+    inputs: &[u32],
+    number: u32,
+) -> bool
     ensures { result ≡ true → IsBankOf image.now inputs.now number bank.now }
 {
     same_image(bank.image(), image) && *bank.inputs() == *inputs && bank.number() == number
@@ -142,7 +155,11 @@ pub fn are_of_harts<'a, A: Allocator>(
 }
 
 /// Whether banks are all banks of a run, each once and in order.
-pub fn are_of_banks<'a, A: Allocator>(banks: &[Bank<'a, A>], image: &Image<A>, inputs: &[u32]) -> bool
+pub fn are_of_banks<'a, A: Allocator>(
+    banks: &[Bank<'a, A>],
+    image: &Image<A>,
+    inputs: &[u32],
+) -> bool
     ensures { result ≡ true → (length banks.now ≡ most_banks)
         × ((b : ℕ) (k : BankLog) → slice_get banks.now b ≡ Some k → IsBankOf image.now inputs.now b k) }
 {

@@ -24,9 +24,11 @@ pub enum RunFault {
     Memory,
 }
 
-/// Why a hart's thread ends before its hart has.
+/// Why the harts' threads leave no logs.
 #[derive(Clone, Copy, Debug, PartialEq, Eq)]
 pub enum StepFault {
+    /// The host refused a thread.
+    StartRefused,
     /// A step would have needed a stamp of `u64::MAX` or above.
     StampsExhausted,
     /// A bank or a log hasn't taken what a step did. Nothing is known to lead here.

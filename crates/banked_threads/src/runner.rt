@@ -29,12 +29,7 @@ pub struct Banked<'a, A: Allocator> {
 /// Runs a program with a hart for each input, each hart in a thread of its own, until it has stopped or was chosen `budget`
 /// times. A hart does local steps at once with the others; each further step is done under the locks of the banks that it
 /// touches. Refused where a machine can't start, where the host refuses a thread or memory, and where stamps are used up.
-pub fn run_banked<
-    'a,
-    A: Allocator + Copy + Send + Sync,
-    G: Gate + Sync,
-    R: Threads + Wait + Sync,
->(
+pub fn run_banked<'a, A: Allocator + Copy + Send + Sync, G: Gate + Sync, R: Threads + Wait + Sync>(
     rt: &R,
     alloc: A,
     image: &'a Image<A>,
@@ -57,7 +52,13 @@ pub fn run_banked<
     let Ok(job) = Job::new(alloc, image, inputs, budget, plan) else {
         return Err(RunFault::Memory);
     };
-    let logs = run_all(rt, alloc, &job, gate, inputs.len() as u32)?;
+    let logs = match run_all(rt, alloc, &job, gate, inputs.len() as u32) {
+        Ok(logs) => logs,
+        Err(StepFault::StartRefused) => return Err(RunFault::StartRefused),
+        Err(StepFault::StampsExhausted) => return Err(RunFault::StampsExhausted),
+        Err(StepFault::Stale) => return Err(RunFault::Stale),
+        Err(StepFault::Memory) => return Err(RunFault::Memory),
+    };
     let Job { banks, .. } = job;
     let Ok(banks) = unlocked(alloc, banks) else {
         return Err(RunFault::Memory);
@@ -84,27 +85,20 @@ fn unlocked<'a, A: Allocator>(
 
 // Starts a worker for each hart, the last one first, and joins them all. A scope waits for its threads also where it is left
 // early.
-fn run_all<
-    'a,
-    A: Allocator + Copy + Send + Sync,
-    G: Gate + Sync,
-    R: Threads + Wait + Sync,
->(
+fn run_all<'a, A: Allocator + Copy + Send + Sync, G: Gate + Sync, R: Threads + Wait + Sync>(
     rt: &R,
     alloc: A,
     job: &Job<'a, A>,
     gate: &G,
     count: u32,
-) -> Result<Vec<HartLog<'a, A>, A>, RunFault>
-    requires { (count ≡ length job.now.inputs.now) × (0 < count) × (count ≤ most) }
-    ensures { IfErr result (λ fault. RunRefuses count fault) }
+) -> Result<Vec<HartLog<'a, A>, A>, StepFault>
+    requires { count ≡ length job.now.inputs.now }
 {
     thread::scope(
         thread::scope_env(),
         rt,
-        |scope| -> Result<Vec<HartLog<A>, A>, RunFault>
-            requires { (count ≡ length job.now.inputs.now) × (0 < count) × (count ≤ most) }
-            ensures { IfErr result (λ fault. RunRefuses count fault) }
+        |scope| -> Result<Vec<HartLog<A>, A>, StepFault>
+            requires { count ≡ length job.now.inputs.now }
         {
             let mut workers = Vec::new(alloc);
             'harts: for started in 0..count {
@@ -113,18 +107,13 @@ fn run_all<
                     requires { hart < length job.now.inputs.now }
                 { work(rt, alloc, job, gate, hart) };
                 let Ok(thread) = scope.spawn(worker) else {
-                    return Err(RunFault::StartRefused);
+                    return Err(StepFault::StartRefused);
                 };
                 if workers.push(thread).is_err() {
-                    return Err(RunFault::Memory);
+                    return Err(StepFault::Memory);
                 }
             }
-            match join_all(rt, alloc, workers) {
-                Ok(logs) => Ok(logs),
-                Err(StepFault::StampsExhausted) => Err(RunFault::StampsExhausted),
-                Err(StepFault::Stale) => Err(RunFault::Stale),
-                Err(StepFault::Memory) => Err(RunFault::Memory),
-            }
+            join_all(rt, alloc, workers)
         },
     )
 }

@@ -9,7 +9,7 @@ use hart_threads::Gate;
 use segment_order::LogSegment;
 use std::alloc::Allocator;
 use std::sync::Wait;
-use told_steps::{Word, needed_word, planned_touch};
+use told_steps::{PlannedTouch, Word, needed_word, planned_touch};
 
 /// A segment of a hart without its stamp and its accesses, and the hart that its last step begins from.
 #[derive(Clone, Copy, Debug)]
@@ -44,6 +44,17 @@ fn place_of(word: u32) -> usize
     ensures { result < 16 }
 {
     (word / 4 % BANKS) as usize
+}
+
+/// The place of the bank of the word that is touched, or another one where none is.
+fn place_or(touch: Option<PlannedTouch>, other: usize) -> usize
+    requires { other < 16 }
+    ensures { result < 16 }
+{
+    match touch {
+        Some(touch) => place_of(touch.word),
+        None => other,
+    }
 }
 
 /// What a bank has at a word.
@@ -104,15 +115,13 @@ fn step_outside_code<A: Allocator + Copy, G: Gate, R: Wait>(
     }
     let at = place_of(word);
     let read = found_in(&held[at], walked.hart, word);
+    let bytes = read.bytes;
     let code = Word {
         address: word,
-        bytes: read.bytes,
+        bytes,
     };
     let touch = planned_touch(&walked.slot.hart, job.image, Some(code));
-    let place = match touch {
-        Some(touch) => place_of(touch.word),
-        None => at,
-    };
+    let place = place_or(touch, at);
     let mut segment = walked.stamped(&[held[at].last_stamp(), held[place].last_stamp()])?;
     let code_read = code_access(&segment, word, read);
     held[at].add(code_read)?;
@@ -121,14 +130,7 @@ fn step_outside_code<A: Allocator + Copy, G: Gate, R: Wait>(
         return Ok(segment);
     };
     let found = found_in(&held[place], walked.hart, touch.word);
-    let access = data_access(
-        job.image,
-        &walked.slot,
-        &segment,
-        Some(code),
-        touch,
-        found,
-    );
+    let access = data_access(job.image, &walked.slot, &segment, Some(code), touch, found);
     gate.held(walked.hart, place as u32);
     held[place].add(access)?;
     segment.data_access = Some(access);

@@ -8,7 +8,7 @@ use Rattle.banks_laws.specs.Runs.{StepTable, Touch}
 use Rattle.banks_laws.specs.Segments.{LoggedSegment, HartSlot, access, answer, code_reads, data_accesses, slot_after, slot_did}
 use Rattle.banks_laws.specs.HartLogs.{first, data_part, StepFits, step_slot, local_hart, AreLocal}
 use Rattle.banks_table.specs.Table.{word_in}
-use Rattle.told_steps.specs.declared.memory.Word.{Word}
+use Rattle.told_steps.specs.declared.words.Word.{Word}
 use Rattle.told_steps.specs.declared.steps.PlannedTouch.{PlannedTouch}
 use Rattle.told_steps.specs.Told.{as_touch, told_word}
 use Rattle.hart_logs.specs.declared.step.Slot.{Slot}

@@ -17,9 +17,7 @@ use hart_step::{AccessKind, Hart};
 use loader::Image;
 use segment_order::LogSegment;
 use std::alloc::Allocator;
-use told_steps::{
-    PlannedTouch, ToldWords, Word, needed_word, planned_touch, settle, stored_bytes,
-};
+use told_steps::{PlannedTouch, ToldWords, Word, needed_word, planned_touch, settle, stored_bytes};
 
 /// A hart with the word that its last LR without a fault named, if no store-conditional without a fault came after it.
 #[derive(Clone, Copy, Debug)]

@@ -7,7 +7,7 @@ use Rattle.memory.specs.Memory.{Memory, granted, to_write, stored}
 use Rattle.memory.specs.Blocks.{spelled, Puts}
 use Rattle.memory.proofs.WriteLemmas.{spelled_in, spelled_out}
 use Rattle.banks_table.specs.Words.{with_four}
-use Rattle.told_steps.specs.declared.memory.Word.{Word}
+use Rattle.told_steps.specs.declared.words.Word.{Word}
 use Rattle.told_steps.specs.Told.{has_all, rights_told, told_memory, with_told}
 use Rattle.told_steps.proofs.RightsLemmas.{write_same, write_outside, write_nowhere}
 

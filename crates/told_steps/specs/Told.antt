@@ -16,7 +16,7 @@ use Rattle.banks_laws.specs.Banks.{WordBytes}
 use Rattle.banks_laws.specs.Runs.{Touch}
 use Rattle.banks_table.specs.Words.{bytes_at, with_four}
 use Rattle.banks_table.specs.Carried.{act_of, touch_of}
-use Rattle.told_steps.specs.declared.memory.Word.{Word}
+use Rattle.told_steps.specs.declared.words.Word.{Word}
 use Rattle.told_steps.specs.declared.steps.PlannedTouch.{PlannedTouch}
 
 -- the word that a step touches, and how

@@ -12,7 +12,7 @@ ghost use Rattle.banks_table.specs.Table.{table, told, word_in};
 ghost use Rattle.told_steps.specs.Told.{as_touch, is_granted, told_memory, told_word, touch_by, wanted, word_at, Leaves};
 
 use crate::image::{granted, is_unwritable};
-use crate::memory::{ToldMemory, Word};
+use crate::words::{ToldMemory, Word};
 use hart_step::{Access, AccessKind, Hart, HartState, access_by, step_hart};
 use loader::{Image, Rights};
 use memory::Store;

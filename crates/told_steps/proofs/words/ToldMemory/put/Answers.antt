@@ -1,7 +1,7 @@
 use Rattle.std.proofs.Common.{◌∙◌, sym, refl}
 use Rattle.memory.specs.Image.{image_memory}
 use Rattle.told_steps.proofs.BytesLemmas.{puts_inside, puts_refused, puts_outside}
-use Rattle.told_steps.proofs.memory.ToldMemory.put.Goals as goal
+use Rattle.told_steps.proofs.words.ToldMemory.put.Goals as goal
 
 pub returns-then-not-has_all : goal.returns-then-not-has_all
 returns-then-not-has_all g c =

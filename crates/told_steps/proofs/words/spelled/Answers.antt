@@ -1,7 +1,7 @@
 use Rattle.std.proofs.Common.{◌+◌, ◌%◌, ◌∙◌}
 use Rattle.std.proofs.lemmas.List.{length-set}
 use Rattle.told_steps.proofs.BytesLemmas.{spelled_next, digit_next}
-use Rattle.told_steps.proofs.memory.spelled.Goals as goal
+use Rattle.told_steps.proofs.words.spelled.Goals as goal
 
 pub digits-preserved : goal.digits-preserved
 digits-preserved c = record {

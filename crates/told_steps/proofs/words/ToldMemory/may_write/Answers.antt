@@ -1,7 +1,7 @@
 use Rattle.std.proofs.Common.{◌∙◌, sym}
 use Rattle.memory.specs.Image.{image_memory}
 use Rattle.told_steps.proofs.RightsLemmas.{write_same, write_outside}
-use Rattle.told_steps.proofs.memory.ToldMemory.may_write.Goals as goal
+use Rattle.told_steps.proofs.words.ToldMemory.may_write.Goals as goal
 
 pub returns-then-has_all : goal.returns-then-has_all
 returns-then-has_all g c =

@@ -1,6 +1,6 @@
 use Rattle.std.proofs.Common.{◌≡◌, ◌/◌, ◌^◌, length}
 use Rattle.memory.specs.Blocks.{spelled}
-use Rattle.told_steps.proofs.memory.spelled.Given as goal
+use Rattle.told_steps.proofs.words.spelled.Given as goal
 
 abbrev pub invariant-digits : goal.invariant-digits
 invariant-digits l = record {
