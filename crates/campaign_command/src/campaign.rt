@@ -6,8 +6,11 @@ use crate::watching::Watching;
 use choice_texts::print_choices;
 use command_line::{CampaignOrder, read_inputs, read_rule};
 use devices::{ReaderSource, Sink, Source, Status, WriterSink};
+use drawn_campaigns::{DrawnPlan, Exit};
+use drawn_engine::{LinesPlan, Shown, drawn_engine, drawn_summary_engine};
 use engines::{CampaignPlan, campaign_engine};
 use fault_advice::run_advice;
+use kind_plans::read_kind;
 use order_plans::{Telling, read_campaign_plan, read_telling};
 use programs::{ProgramForm, RunFault};
 use progress::Progress;
@@ -17,10 +20,11 @@ use reports::{
     say, show, wipe_line,
 };
 use schedule_engine::{Maker, SchedulePlan, make_schedule};
+use schedule_kinds::ScheduleKind;
 use std::rt::Files;
 use std::thread::Threads;
 use std::{fs, io};
-use summary_engine::{SummaryPlan, failures_engine, summary_engine};
+use summary_engine::{Detail, SummaryPlan, failures_engine, summary_engine};
 
 // Tells a person how far a campaign is.
 #[derive(Drop)]
@@ -46,8 +50,8 @@ impl<'a, R: Eprint> Progress for Line<'a, R> {
     }
 }
 
-// Runs a program under the schedule of each seed of a plan, and tells of them.
-fn tell_runs<R: AllocGlobal + Eprint + Threads + Sync, P: Source, K: Sink>(
+// Runs a program under the even schedule of each seed of a plan, and tells of them.
+fn tell_even_runs<R: AllocGlobal + Eprint + Threads + Sync, P: Source, K: Sink>(
     rt: &R,
     telling: Telling,
     inputs: &[u32],
@@ -70,11 +74,72 @@ fn tell_runs<R: AllocGlobal + Eprint + Threads + Sync, P: Source, K: Sink>(
     }
 }
 
+// Whether each choice is drawn from all harts, and each run may leave harts that run.
+fn is_even(plan: DrawnPlan) -> bool {
+    match (plan.kind, plan.exit) {
+        (ScheduleKind::Even, Exit::May) => true,
+        (ScheduleKind::Even, Exit::Must) | (ScheduleKind::Bursts(_), _) => false,
+    }
+}
+
+// Runs a program under the schedule of each seed of a plan, and tells of them.
+fn tell_runs<R: AllocGlobal + Eprint + Threads + Sync, P: Source, K: Sink>(
+    rt: &R,
+    telling: Telling,
+    inputs: &[u32],
+    plan: DrawnPlan,
+    program: &mut P,
+    sink: &mut K,
+    line: &mut Line<R>,
+) -> Result<Status, RunFault>
+    requires fits { plan.runs.first + plan.runs.count ≤ 2 ^ 64 }
+    requires program_counts { P.failures program.old < 2 ^ 64 - 1 }
+    requires sink_counts { K.failures sink.old < 2 ^ 64 - 1 }
+{
+    if is_even(plan) {
+        return tell_even_runs(rt, telling, inputs, plan.runs, program, sink, line);
+    }
+    match telling {
+        Telling::All => {
+            let plan = LinesPlan {
+                drawn: plan,
+                shown: Shown::All,
+            };
+            drawn_engine(rt, rt.alloc(), inputs, plan, program, sink, line)
+        }
+        Telling::Failures => {
+            let plan = LinesPlan {
+                drawn: plan,
+                shown: Shown::Failures,
+            };
+            drawn_engine(rt, rt.alloc(), inputs, plan, program, sink, line)
+        }
+        Telling::Summary(_) => drawn_summary_engine(
+            rt,
+            rt.alloc(),
+            inputs,
+            plan,
+            program,
+            sink,
+            line,
+        ),
+    }
+}
+
+// By what runs are told apart.
+fn detail_of(telling: Telling) -> Detail {
+    match telling {
+        Telling::All | Telling::Failures => Detail::Ends,
+        Telling::Summary(detail) => detail,
+    }
+}
+
 // What a bad seed is, for a person.
-fn what_is_bad(rule: Option<Kind>) -> &'static str {
-    match rule {
-        None => "with a fault",
-        Some(_) => "with a broken rule",
+fn what_is_bad(rule: Option<Kind>, exit: Exit) -> &'static str {
+    match (rule, exit) {
+        (None, Exit::May) => "with a fault",
+        (Some(_), Exit::May) => "with a broken rule",
+        (_, Exit::Must) => "that failed",
     }
 }
 
@@ -105,6 +170,22 @@ pub fn run_campaign<R: Files + AllocGlobal + Print + Eprint + Threads + Sync>(
             "--outcomes goes with --summary, which doesn't go with --failures",
         );
     };
+    let Some(kind) = read_kind(order.draw) else {
+        return bad_line(
+            rt,
+            "--schedule takes even, or bursts:MEAN with a decimal number from 1 to 2147483648, as bursts:100",
+        );
+    };
+    let plan = DrawnPlan {
+        runs: plan,
+        kind,
+        detail: detail_of(telling),
+        exit: if order.must_exit {
+            Exit::Must
+        } else {
+            Exit::May
+        },
+    };
     let program = match fs::open(rt, order.file) {
         Ok(program) => program,
         Err(error) => return cannot_open(rt, audience, order.file, &error),
@@ -114,8 +195,8 @@ pub fn run_campaign<R: Files + AllocGlobal + Print + Eprint + Threads + Sync>(
     let mut line = Line {
         rt,
         audience,
-        count: plan.count,
-        bad: what_is_bad(plan.rule),
+        count: plan.runs.count,
+        bad: what_is_bad(plan.runs.rule, plan.exit),
         is_shown: false,
     };
     let answer = tell_runs(
@@ -133,7 +214,7 @@ pub fn run_campaign<R: Files + AllocGlobal + Print + Eprint + Threads + Sync>(
     match answer {
         Ok(status) => {
             if audience == Audience::Person {
-                let _ = explain_seed(rt, order, inputs.as_slice(), plan.steps, sink.seed());
+                let _ = explain_seed(rt, order, inputs.as_slice(), plan, sink.seed());
             }
             status
         }
@@ -163,26 +244,44 @@ fn tell<R: Files + AllocGlobal + Eprint>(
     status
 }
 
+// How `schedule` makes the choices of a seed.
+fn maker_of(kind: ScheduleKind, seed: u64) -> Maker {
+    match kind {
+        ScheduleKind::Even => Maker::Seed(seed),
+        ScheduleKind::Bursts(mean) => Maker::Bursts {
+            seed,
+            mean: mean.choices(),
+        },
+    }
+}
+
 // Tells how the first seed with a bad run is looked into, and what its faults mean.
 fn explain_seed<R: Files + AllocGlobal + Eprint>(
     rt: &R,
     order: &CampaignOrder,
     inputs: &[u32],
-    steps: u64,
+    plan: DrawnPlan,
     seed: Option<u64>,
 ) -> Option<()> {
     let seed = seed?;
-    let (file, texts, harts) = (order.file, order.inputs, inputs.len());
-    eprintln!(rt;
+    let (file, texts, harts, steps) = (order.file, order.inputs, inputs.len(), plan.runs.steps);
+    eprint!(rt;
         "seed {seed} is the first such one. To look into it:\n    \
-         rvcons schedule --harts {harts} --steps {steps} --seed {seed} >seed_{seed}.choices\n    \
+         rvcons schedule --harts {harts} --steps {steps} --seed {seed}"
+    )
+    .ok()?;
+    if let Some(draw) = order.draw {
+        eprint!(rt; " --schedule {draw}").ok()?;
+    }
+    eprintln!(rt;
+        " >seed_{seed}.choices\n    \
          rvcons debug {file} --inputs {texts} --choices seed_{seed}.choices"
     )
     .ok()?;
     let plan = SchedulePlan {
         harts: u32::try_from(harts).ok()?,
         steps: u32::try_from(steps).ok()?,
-        maker: Maker::Seed(seed),
+        maker: maker_of(plan.kind, seed),
     };
     let choices = make_schedule(rt.alloc(), plan).ok()?;
     let choices = print_choices(rt.alloc(), &choices).ok()?;

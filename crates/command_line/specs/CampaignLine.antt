@@ -5,10 +5,12 @@ use Rattle.clap.specs.Walk.{one_of}
 use Rattle.command_line.specs.Arguments.{flag, needed, needed_option, optional, IsSet}
 use Rattle.command_line.specs.declared.campaign_line.CampaignOrder.{CampaignOrder}
 
--- `campaign FILE --inputs L --first S --count C --steps N [--rule K] [--failures] [--summary] [--outcomes]`
+-- `campaign FILE --inputs L --first S --count C --steps N [--rule K] [--failures] [--summary] [--outcomes] [--schedule KIND] [--must-exit]`
 abbrev pub campaign_app : App
 campaign_app =
     with_rule
+    (with_rule
+    (with_rule
     (with_rule
     (with_rule
     (with_rule
@@ -24,7 +26,9 @@ campaign_app =
     (optional (codes "rule")))
     (flag (codes "failures")))
     (flag (codes "summary")))
-    (flag (codes "outcomes"))
+    (flag (codes "outcomes")))
+    (optional (codes "schedule")))
+    (flag (codes "must-exit"))
 
 -- the names of the texts that have to stand
 abbrev pub campaign_names : List Text
@@ -42,3 +46,5 @@ IsCampaign rows order =
     × IsSet (one_of (codes "failures") rows) order.failures
     × IsSet (one_of (codes "summary") rows) order.summary
     × IsSet (one_of (codes "outcomes") rows) order.outcomes
+    × (first_of (codes "schedule") rows ≡ option_map (λ s. s.now) order.draw)
+    × IsSet (one_of (codes "must-exit") rows) order.must_exit

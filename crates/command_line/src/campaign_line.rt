@@ -7,13 +7,13 @@ ghost use Rattle.command_line.specs.Arguments.{holds_all};
 ghost use Rattle.command_line.specs.CampaignLine.{campaign_app, campaign_names, IsCampaign};
 
 use crate::arguments::{add, flag, headed, is_set, needed, needed_option, optional, text_of};
-use crate::help::{INPUTS, RULE};
+use crate::help::{DRAW, INPUTS, MUST_EXIT, RULE};
 use clap::{ArgMatches, Command};
 use std::alloc::{AllocError, Global};
 
-/// `campaign FILE --inputs L --first S --count C --steps N [--rule K] [--failures] [--summary] [--outcomes]`: runs a program under a
-/// random schedule for each of C seeds from S on, and prints a line for each, with a rule also its verdict; or the lines of bad seeds
-/// alone, or how many seeds end in which way.
+/// `campaign FILE --inputs L --first S --count C --steps N [--rule K] [--failures] [--summary] [--outcomes] [--schedule KIND]
+/// [--must-exit]`: runs a program under a random schedule for each of C seeds from S on, and prints a line for each, with a rule also its
+/// verdict; or the lines of bad seeds alone, or how many seeds end in which way.
 #[derive(Debug, Drop)]
 pub struct CampaignOrder<'a> {
     /// The program's path.
@@ -34,6 +34,10 @@ pub struct CampaignOrder<'a> {
     pub summary: bool,
     /// Whether ways of ending differ by the harts' results too.
     pub outcomes: bool,
+    /// How the choices of a seed are drawn.
+    pub draw: Option<&'a str>,
+    /// Whether a run that leaves a hart running has failed.
+    pub must_exit: bool,
 }
 
 /// The command as clap takes it.
@@ -68,14 +72,16 @@ pub(crate) fn campaign_command<'a>(alloc: Global) -> Result<Command<'a>, AllocEr
             "print how many seeds end in which way, in place of a line for each",
         ),
     )?;
-    add(
+    let command = add(
         command,
         flag(
             alloc,
             "outcomes",
             "with --summary: tell ends apart by each hart's a0 and a1 too",
         ),
-    )
+    )?;
+    let command = add(command, optional(alloc, "schedule", DRAW))?;
+    add(command, flag(alloc, "must-exit", MUST_EXIT))
 }
 
 /// The order that clap's matches hold.
@@ -94,5 +100,7 @@ pub(crate) fn campaign_order<'a>(matches: &ArgMatches<'a>) -> Option<CampaignOrd
         failures: is_set(matches, "failures"),
         summary: is_set(matches, "summary"),
         outcomes: is_set(matches, "outcomes"),
+        draw: text_of(matches, "schedule"),
+        must_exit: is_set(matches, "must-exit"),
     })
 }

@@ -13,3 +13,10 @@ pub(crate) const HISTORY: &str =
 
 /// Of `--rule`.
 pub(crate) const RULE: &str = "also judge the rule of an object, named as lib has it";
+
+/// Of `--schedule` of a campaign.
+pub(crate) const DRAW: &str =
+    "how a seed draws its choices: even, or bursts:MEAN, each of one hart";
+
+/// Of `--must-exit`.
+pub(crate) const MUST_EXIT: &str = "a hart that still runs at the end is a failure, with status 3";

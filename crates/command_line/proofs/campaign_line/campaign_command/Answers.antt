@@ -13,7 +13,9 @@ returns-clause-app c =
     let rule = c.in_ok-command-6.ensures.app ∙ ap₂ with_rule steps c.optional.ensures.rule in
     let failures = c.in_ok-command-7.ensures.app ∙ ap₂ with_rule rule c.flag.ensures.rule in
     let summary = c.in_ok-command-8.ensures.app ∙ ap₂ with_rule failures c.flag-2.ensures.rule in
-    IfOk-weaker c.add-9.result _ _ (λ r last. last ∙ ap₂ with_rule summary c.flag-3.ensures.rule) c.add-9.ensures.app
+    let outcomes = c.in_ok-command-9.ensures.app ∙ ap₂ with_rule summary c.flag-3.ensures.rule in
+    let schedule = c.in_ok-command-10.ensures.app ∙ ap₂ with_rule outcomes c.optional-2.ensures.rule in
+    IfOk-weaker c.add-11.result _ _ (λ r last. last ∙ ap₂ with_rule schedule c.flag-4.ensures.rule) c.add-11.ensures.app
 
 pub returns-clause-local : goal.returns-clause-local
 returns-clause-local c =
@@ -25,4 +27,6 @@ returns-clause-local c =
     let rule = c.in_ok-command-6.ensures.globals ∙ steps in
     let failures = c.in_ok-command-7.ensures.globals ∙ rule in
     let summary = c.in_ok-command-8.ensures.globals ∙ failures in
-    IfOk-weaker c.add-9.result _ _ (λ r last. last ∙ summary) c.add-9.ensures.globals
+    let outcomes = c.in_ok-command-9.ensures.globals ∙ summary in
+    let schedule = c.in_ok-command-10.ensures.globals ∙ outcomes in
+    IfOk-weaker c.add-11.result _ _ (λ r last. last ∙ schedule) c.add-11.ensures.globals
