@@ -1,7 +1,7 @@
-use Rattle.std.proofs.Common.{rules, ◌≡◌, ◌+◌, ◌<◌, length, drop, ap, slice_index_or}
+use Rattle.std.proofs.Common.{rules, subst, List, ◌≡◌, ◌+◌, ◌<◌, length, drop, ap, slice_index_or}
 use Rattle.std.specs.Prelude.{◌||◌}
 use Rattle.banks_laws.specs.declared.access.LoggedAccess.{LoggedAccess}
-use Rattle.banks_laws.specs.Segments.{accesses}
+use Rattle.banks_laws.specs.Segments.{LoggedSegment, accesses}
 use Rattle.banks_merge.specs.Matching.{is_in, is_among, hart_accesses}
 use Rattle.banks_merge.proofs.SetLemmas.{drop_item, more_in}
 use Rattle.banks_merge.proofs.matching.hart_set.Goals as goal
@@ -13,5 +13,6 @@ logs-preserved g c =
     let x = c.log-item.result in
     let low : i < length xs = search rules in
     let is : x ≡ slice_index_or xs i x = search rules in
-    let put : (a : LoggedAccess) → is_in c.insert_segments.new.set a ≡ (is_among (accesses x.log) a || is_in c.logs.set a) = search rules in
+    let put : (a : LoggedAccess) → is_in c.insert_segments.new.set a ≡ (is_among (accesses x.log) a || is_in c.logs.set a) =
+    subst (λ (es : List LoggedSegment). (a : LoggedAccess) → is_in c.insert_segments.new.set a ≡ (is_among (accesses es) a || is_in c.logs.set a)) c.segments.ensures c.in_ok-insert_segments.ensures in
     more_in c.logs.set c.insert_segments.new.set (hart_accesses (drop i xs)) (accesses x.log) (hart_accesses (drop (i + 1) xs)) (λ a. is_among (hart_accesses xs) a) (ap (λ l. hart_accesses l) (drop_item xs i x low is)) c.logs.invariant put
