@@ -1,12 +1,12 @@
 //! The commands about one run of a program: `run`, `replay`, `threads`, `trace`, `shrink`, and `schedule`, which makes choices for one.
 #![tactic(auto)]
 
-pub use replay::replay;
-pub use run::run;
+pub use replay::replay_history;
+pub use run::run_schedule;
 pub use schedule::print_schedule;
-pub use shrink::shrink;
+pub use shrink::shrink_schedule;
 pub use threads::run_on_threads;
-pub use trace::trace;
+pub use trace::trace_run;
 
 mod replay;
 mod run;

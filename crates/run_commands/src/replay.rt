@@ -13,7 +13,7 @@ use std::rt::Files;
 use std::{fs, io};
 
 /// Runs a program under a history. Both files are opened before either is read.
-pub fn replay<R: Files + AllocGlobal + Print + Eprint>(
+pub fn replay_history<R: Files + AllocGlobal + Print + Eprint>(
     rt: &R,
     audience: Audience,
     order: &ReplayOrder,

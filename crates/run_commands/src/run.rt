@@ -12,7 +12,7 @@ use std::rt::Files;
 use std::{fs, io};
 
 /// Runs a program under a schedule. Both files are opened before either is read.
-pub fn run<R: Files + AllocGlobal + Print + Eprint>(
+pub fn run_schedule<R: Files + AllocGlobal + Print + Eprint>(
     rt: &R,
     audience: Audience,
     order: &RunOrder,

@@ -36,7 +36,7 @@ impl<'a, R: Eprint> ChoicesLeft for Line<'a, R> {
 
 /// Prints a minimal choice text under which a program fails as it does under the given one. Both files are opened before either is
 /// read. How many choices are left is told to a person.
-pub fn shrink<R: Files + AllocGlobal + Print + Eprint>(
+pub fn shrink_schedule<R: Files + AllocGlobal + Print + Eprint>(
     rt: &R,
     audience: Audience,
     order: &ShrinkOrder,

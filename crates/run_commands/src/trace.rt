@@ -10,7 +10,7 @@ use std::{fs, io};
 use trace_engine::trace_engine;
 
 /// Prints what each choice of a run did. Both files are opened before either is read.
-pub fn trace<R: Files + AllocGlobal + Print + Eprint>(
+pub fn trace_run<R: Files + AllocGlobal + Print + Eprint>(
     rt: &R,
     audience: Audience,
     order: &TraceOrder,

@@ -8,7 +8,9 @@ use devices::Status;
 use engines::FileView;
 use file_commands::{assemble, print_source, show_file};
 use reports::{Audience, bad_line, explain_line, out_of_memory, refuse};
-use run_commands::{print_schedule, replay, run, run_on_threads, shrink, trace};
+use run_commands::{
+    print_schedule, replay_history, run_on_threads, run_schedule, shrink_schedule, trace_run,
+};
 use std::io::{self, Input, IsTerminal};
 use std::process::ExitCode;
 use std::rt::{Env, Files};
@@ -56,13 +58,13 @@ fn obey<R: Files + AllocGlobal + Print + Eprint + Env + Threads + Wait + Sync + 
         Ok(Order::Lib(order)) => print_source(rt, &order),
         Ok(Order::List(order)) => show_file(rt, audience, FileView::Listing, &order),
         Ok(Order::Info(order)) => show_file(rt, audience, FileView::Facts, &order),
-        Ok(Order::Run(order)) => run(rt, audience, &order),
+        Ok(Order::Run(order)) => run_schedule(rt, audience, &order),
         Ok(Order::Threads(order)) => run_on_threads(rt, audience, &order),
-        Ok(Order::Replay(order)) => replay(rt, audience, &order),
+        Ok(Order::Replay(order)) => replay_history(rt, audience, &order),
         Ok(Order::Campaign(order)) => run_campaign(rt, audience, &order),
         Ok(Order::Schedule(order)) => print_schedule(rt, &order),
-        Ok(Order::Shrink(order)) => shrink(rt, audience, &order),
-        Ok(Order::Trace(order)) => trace(rt, audience, &order),
+        Ok(Order::Shrink(order)) => shrink_schedule(rt, audience, &order),
+        Ok(Order::Trace(order)) => trace_run(rt, audience, &order),
         Err(fault) => {
             let status = refuse(rt, &fault);
             explain_line(rt, audience, words.as_slice(), &fault);
