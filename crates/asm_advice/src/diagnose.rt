@@ -16,7 +16,7 @@ use std::alloc::{AllocError, Allocator};
 const EDITS: usize = 3;
 
 /// A label of a source.
-#[derive(Clone, Copy, Debug, PartialEq, Eq)]
+#[derive(Clone, Copy)]
 pub(crate) struct Label<'a> {
     pub(crate) name: &'a str,
     pub(crate) path: &'a str,

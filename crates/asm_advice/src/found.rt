@@ -4,7 +4,7 @@ use crate::sentences::Words;
 use crate::statement::Word;
 
 /// What is wrong with a part of a line.
-#[derive(Clone, Copy, Debug, PartialEq, Eq)]
+#[derive(Clone, Copy)]
 pub(crate) struct Found<'a> {
     /// Where the part begins, in bytes from the line's start.
     pub(crate) start: usize,

@@ -4,7 +4,7 @@ use crate::shape::{Operand, Shape};
 use std::fmt;
 
 /// What is wrong, and what to write, shown as a sentence without a line's end.
-#[derive(Clone, Copy, Debug, PartialEq, Eq)]
+#[derive(Clone, Copy)]
 pub enum Words<'a> {
     /// A byte that no token begins with.
     BadByte,

@@ -1,7 +1,7 @@
 //! The operands that each instruction takes.
 
 /// What an operand is.
-#[derive(Clone, Copy, Debug, PartialEq, Eq)]
+#[derive(Clone, Copy, PartialEq, Eq)]
 pub enum Operand {
     Register,
     Immediate,
@@ -37,7 +37,7 @@ impl Operand {
 }
 
 /// The operands of instructions that are written alike.
-#[derive(Clone, Copy, Debug, PartialEq, Eq)]
+#[derive(Clone, Copy, PartialEq, Eq)]
 pub enum Shape {
     Upper,
     Jump,

@@ -4,7 +4,7 @@ use asm_text::{Kind, TextFault, scan_text, text_of};
 use std::alloc::{AllocError, Allocator};
 
 /// A token of a line with its text.
-#[derive(Clone, Copy, Debug, PartialEq, Eq)]
+#[derive(Clone, Copy)]
 pub(crate) struct Word<'a> {
     pub(crate) kind: Kind,
     /// The offset of its first byte in its line.
@@ -20,7 +20,7 @@ impl<'a> Word<'a> {
 }
 
 /// The tokens of a line up to the first that is none.
-#[derive(Debug, Drop)]
+#[derive(Drop)]
 pub(crate) struct LineWords<'a, A: Allocator> {
     pub(crate) words: Vec<Word<'a>, A>,
     pub(crate) fault: Option<TextFault>,
