@@ -24,37 +24,13 @@ any-append (c ∷ a) b k = go (c.hart == k) (any-append a b k)
     go false e = e
 
 -- a choice more
-turn-more : (a : List Choice) (c : Choice) (k : ℕ) → is_chosen (a ++ c ∷ []) k ≡ (is_chosen a k || (c.hart == k))
+pub turn-more : (a : List Choice) (c : Choice) (k : ℕ) → is_chosen (a ++ c ∷ []) k ≡ (is_chosen a k || (c.hart == k))
 turn-more a c k = any-append a (c ∷ []) k ∙ go (is_chosen a k) (c.hart == k)
   where
     go : (x y : Bool) → (x || (y || false)) ≡ (x || y)
     go true y = refl
     go false true = refl
     go false false = refl
-
--- a choice of a hart that was chosen before
-turn-again : (a : List Choice) (c : Choice) (k : ℕ) → is_chosen a c.hart ≡ true → is_chosen a k ≡ (is_chosen a k || (c.hart == k))
-turn-again a c k among = go (c.hart == k) refl
-  where
-    whole : (x : Bool) → x ≡ true → x ≡ (x || true)
-    whole true e = refl
-    whole false e = absurd (cc)
-
-    none : (x : Bool) → x ≡ (x || false)
-    none true = refl
-    none false = refl
-
-    go : (y : Bool) → (c.hart == k) ≡ y → is_chosen a k ≡ (is_chosen a k || y)
-    go true e = whole (is_chosen a k) (ap (is_chosen a) (sym (eqb-true c.hart k e)) ∙ among)
-    go false e = none (is_chosen a k)
-
--- a hart's choice is added
-pub added : (old new : List Choice) (c : Choice) → new ≡ old ++ c ∷ [] → (k : ℕ) → is_chosen new k ≡ (is_chosen old k || (c.hart == k))
-added old new c e k = ap (λ choices. is_chosen choices k) e ∙ turn-more old c k
-
--- a hart's choice is there
-pub there : (old : List Choice) (c : Choice) → is_chosen old c.hart ≡ true → (k : ℕ) → is_chosen old k ≡ (is_chosen old k || (c.hart == k))
-there old c among k = turn-again old c k among
 
 module _ (harts n : ℕ) (g : Lcg) (a : List Choice) (k : ℕ) (whole : Bool)
     (so_far : (is_chosen a k || is_chosen (choices_drawn harts n g) k) ≡ whole) where

@@ -3,6 +3,7 @@
 ghost use Rattle.std.specs.Prelude.{◌≡◌, ◌+◌, ◌<◌, ◌≤◌, ◌^◌, [], ◌++◌, IfOk, IfSome, IfNone, OnErr, MatchResult, length, map, min};
 ghost use Rattle.std.specs.List.{All, range_with_len};
 ghost use Rattle.campaigns.specs.Campaign.{ends_of, ends_from, runs_of, plain_runs, RemembersChosen};
+ghost use Rattle.reservations.specs.Limit.{most_harts};
 ghost use Rattle.machine.specs.Machine.{world};
 ghost use Rattle.machine.specs.Start.{IsStartable, Refuses};
 ghost use Rattle.campaigns.specs.Blocks.{block_seeds};
@@ -110,6 +111,7 @@ fn run_each<S: FromImage<A> + Sync, A: Allocator + Copy + Send + Sync>(
     steps: u64,
 ) -> Result<Vec<SeedRun<A>, A>, AllocError>
     requires some { 0 < harts }
+    requires few { harts ≤ most_harts }
     requires harts { length (world S.memory start.now).harts ≡ harts }
     requires fits { first + count ≤ 2 ^ 64 }
     ensures ends { IfOk result (λ runs. map ends_of runs.items
@@ -121,7 +123,7 @@ fn run_each<S: FromImage<A> + Sync, A: Allocator + Copy + Send + Sync>(
         .with_min_len(1)
         .map(
             |place: u64| -> Result<SeedRun<A>, AllocError>
-                requires { (0 < harts) × (length (world S.memory start.now).harts ≡ harts) × (first + place < 2 ^ 64) }
+                requires { (0 < harts) × (harts ≤ most_harts) × (length (world S.memory start.now).harts ≡ harts) × (first + place < 2 ^ 64) }
                 ensures { IfOk result (λ run. (ends_of run
                     ≡ ends_from (world S.memory start.entry.now) harts steps (first + place))
                     × RemembersChosen harts steps run) }

@@ -1,7 +1,8 @@
 //! The run of one seed.
 
-ghost use Rattle.std.specs.Prelude.{◌≡◌, ◌<◌, ◌||◌, ◌==◌, ℕ, IfOk, length};
-ghost use Rattle.machine.specs.Chosen.{is_chosen, ChooseAlike};
+ghost use Rattle.std.specs.Prelude.{◌≡◌, ◌<◌, ◌≤◌, IfOk, length};
+ghost use Rattle.reservations.specs.Limit.{most_harts};
+ghost use Rattle.machine.specs.Chosen.{ChooseAlike};
 ghost use Rattle.machine.specs.World.{run};
 ghost use Rattle.machine.specs.Machine.{world};
 ghost use Rattle.machine.specs.State.{state};
@@ -9,6 +10,7 @@ ghost use Rattle.machine.specs.Start.{IsStartable, started};
 ghost use Rattle.scheduler.specs.Schedules.{seeded_choices};
 ghost use Rattle.campaigns.specs.Campaign.{ends_of, ends_from, RemembersChosen};
 
+use choice_runs::Chosen;
 use hart_step::Hart;
 use loader::Image;
 use machine::{Choice, Machine};
@@ -28,26 +30,6 @@ pub struct SeedRun<A: Allocator> {
     pub chosen: Vec<Choice, A>,
 }
 
-// Whether a hart is chosen.
-fn is_chosen(choices: &[Choice], hart: u32) -> bool
-    ensures { result ≡ is_chosen choices.now hart }
-{
-    choices.iter().any(|choice| choice.hart == hart)
-}
-
-// Adds a choice, unless one of its hart is there.
-#[tactic(auto, using(crate::proofs::ChosenLemmas::added, crate::proofs::ChosenLemmas::there))]
-fn add_choice<A: Allocator>(chosen: &mut Vec<Choice, A>, choice: Choice) -> Result<(), AllocError>
-    ensures { IfOk result (λ _. (k : ℕ) → is_chosen chosen.new.items k
-        ≡ (is_chosen chosen.old.items k || (choice.hart == k))) }
-{
-    if is_chosen(chosen, choice.hart) {
-        return Ok(());
-    }
-    chosen.push(choice)?;
-    Ok(())
-}
-
 // Runs a machine over the list of choices that a seed gives, and answers a choice of each hart that is chosen. Each choice
 // is drawn when its step comes, so the list is never held.
 fn run_seeded<S: Store, A: Allocator>(
@@ -58,20 +40,22 @@ fn run_seeded<S: Store, A: Allocator>(
     seed: u64,
 ) -> Result<Vec<Choice, A>, AllocError>
     requires some { 0 < harts }
+    requires few { harts ≤ most_harts }
     requires harts { length (world S.memory machine.old).harts ≡ harts }
     ensures ok { IfOk result (λ _. world S.memory machine.new
         ≡ run (world S.memory machine.old) (seeded_choices harts steps seed)) }
     ensures chosen { IfOk result (λ chosen.
         ChooseAlike chosen.items (seeded_choices harts steps seed)) }
 {
-    let mut chosen = Vec::new(alloc);
+    let mut chosen = Chosen::new();
     let mut generator = seeded_generator(seed);
     'steps: for _ in 0..steps {
         let choice = draw_choice(&mut generator, harts);
-        add_choice(&mut chosen, choice)?;
+        chosen.add(choice.hart as usize);
         machine.step(choice)?;
     }
-    Ok(chosen)
+    let picked = chosen.choices(alloc)?;
+    Ok(picked)
 }
 
 // A machine at the beginning of a program.
@@ -99,6 +83,7 @@ pub(crate) fn run_seed<S: FromImage<A>, A: Allocator + Copy>(
     seed: u64,
 ) -> Result<SeedRun<A>, AllocError>
     requires some { 0 < harts }
+    requires few { harts ≤ most_harts }
     requires harts { length (world S.memory start.now).harts ≡ harts }
     ensures ends { IfOk result (λ run.
         ends_of run ≡ ends_from (world S.memory start.now) harts steps seed) }

@@ -1,7 +1,8 @@
-use Rattle.std.proofs.Common.{◌≡◌, ◌<◌, ◌^◌, ◌+◌, ◌-◌, ap, ◌∙◌, arith, length}
+use Rattle.std.proofs.Common.{◌≡◌, ◌<◌, ◌≤◌, ◌^◌, ◌+◌, ◌-◌, ap, ◌∙◌, arith, length}
 use Rattle.std.specs.List.{range_with_len}
 use Rattle.rayon.specs.Numbers.{nat_range}
 use Rattle.rayon.proofs.ToStd.{nat_range-All}
+use Rattle.reservations.specs.Limit.{most_harts}
 use Rattle.campaigns.specs.Campaign.{RemembersChosen, ends_from}
 use Rattle.machine.specs.Machine.{world}
 use Rattle.campaigns.proofs.RunLemmas.{all-listed, all-remember}
@@ -11,8 +12,8 @@ use Rattle.campaigns.proofs.runs.run_each.Goals as goal
 pub collect-requires-clause-ready : goal.collect-requires-clause-ready
 collect-requires-clause-ready g c κs within =
     let ends = c.into_par_iter.ensures in
-    let inside = nat_range-All (λ i. (0 < c.args.harts) × (length (world g.S.Store.memory c.args.start.now).harts ≡ c.args.harts) × (c.args.first + i < 2 ^ 64)) 0 c.args.count
-    (λ i low high. (c.requires.some, c.requires.harts, omega (arith, high, c.requires.fits))) in
+    let inside = nat_range-All (λ i. (0 < c.args.harts) × (c.args.harts ≤ most_harts) × (length (world g.S.Store.memory c.args.start.now).harts ≡ c.args.harts) × (c.args.first + i < 2 ^ 64)) 0 c.args.count
+    (λ i low high. (c.requires.some, c.requires.few, c.requires.harts, omega (arith, high, c.requires.fits))) in
     rw (c.map.ensures.base, c.map.ensures.f, c.with_min_len.ensures.base, ends.0, ends.1) (λ k d lt. (inside k d lt, λ y p. tt))
 
 pub returns-clause-ends : goal.returns-clause-ends
