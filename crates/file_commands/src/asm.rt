@@ -2,15 +2,14 @@
 
 ghost use Rattle.std.specs.Prelude.{◌≡◌, ◌≢◌, ◌-◌, ◌^◌, ◌<◌, All, IfErr, IfOk, length, map};
 
-use asm_engine::{AssemblyFault, assembled_file, listing_engine, write_file};
+use crate::program_file::{OpenFault, ProgramFile};
+use asm_engine::{AssemblyFault, file_engine, listing_engine};
 use command_line::AsmOrder;
 use devices::{ReaderSource, Source, Status, WriterSink};
 use reports::{
     Audience, cannot_open, cannot_read, cannot_write, explain_no_text, explain_sources,
     out_of_memory,
 };
-use std::fs::OpenOptions;
-use std::os::unix::fs::OpenOptionsExt;
 use std::rt::Files;
 use std::{fs, io};
 
@@ -56,32 +55,22 @@ pub fn assemble<R: Files + AllocGlobal + Print + Eprint>(
                 Err(fault) => tell(rt, audience, order, fault),
             }
         }
-        Some(out) => match assembled_file(rt.alloc(), &mut sources) {
-            Ok(bytes) => write_out(rt, out, &bytes),
-            Err(fault) => tell(rt, audience, order, fault),
-        },
+        Some(out) => {
+            let mut file = ProgramFile::new(rt, out);
+            match file_engine(rt.alloc(), &mut sources, &mut file) {
+                Ok(status) => status,
+                Err(AssemblyFault::Write) => tell_unwritten(rt, out, file.open_fault()),
+                Err(fault) => tell(rt, audience, order, fault),
+            }
+        }
     }
 }
 
-// A program may be executed by whom the system's mask of rights lets, as a linker's file is.
-const PROGRAM_MODE: u32 = 0o777;
-
-// Writes the file. One that is new may be executed.
-fn write_out<R: Files + AllocGlobal + Print + Eprint>(rt: &R, path: &str, bytes: &[u8]) -> Status {
-    let opened = OpenOptions::new()
-        .write(true)
-        .create(true)
-        .truncate(true)
-        .mode(PROGRAM_MODE)
-        .open(rt, path);
-    let file = match opened {
-        Ok(file) => file,
-        Err(error) if error.kind() == io::ErrorKind::OutOfMemory => return out_of_memory(rt),
-        Err(_) => return cannot_write(rt, path),
-    };
-    match write_file(&mut WriterSink::new(file), bytes) {
-        Ok(status) => status,
-        Err(_) => cannot_write(rt, path),
+// Says that the output file can't be written, or that memory was refused for opening it.
+fn tell_unwritten<R: Eprint>(rt: &R, path: &str, fault: Option<OpenFault>) -> Status {
+    match fault {
+        Some(OpenFault::Memory) => out_of_memory(rt),
+        Some(OpenFault::Refused) | None => cannot_write(rt, path),
     }
 }
 

@@ -8,3 +8,4 @@ pub use library::print_source;
 mod asm;
 mod file;
 mod library;
+mod program_file;

@@ -1,0 +1,4 @@
+pub mod Each
+pub mod Lexemes
+pub mod Statements
+pub mod Symbols
