@@ -5,10 +5,11 @@ use Rattle.clap.specs.Walk.{one_of}
 use Rattle.command_line.specs.Arguments.{needed, needed_option, flag, optional, IsSet}
 use Rattle.command_line.specs.declared.run_line.RunOrder.{RunOrder}
 
--- `run [--hex] FILE --inputs L --choices C [--rule K]`
+-- `run [--hex] FILE --inputs L --choices C [--rule K] [--must-exit]`
 abbrev pub run_app : App
 run_app =
     with_rule
+    (with_rule
     (with_rule
     (with_rule
     (with_rule
@@ -16,13 +17,14 @@ run_app =
     (needed (codes "FILE")))
     (needed_option (codes "inputs")))
     (needed_option (codes "choices")))
-    (optional (codes "rule"))
+    (optional (codes "rule")))
+    (flag (codes "must-exit"))
 
 -- the names of the texts that have to stand
 abbrev pub run_names : List Text
 run_names = codes "FILE" ∷ codes "inputs" ∷ codes "choices" ∷ []
 
--- each text of the order is the one that clap holds under its name, and so is the flag
+-- each text of the order is the one that clap holds under its name, and so are the flags
 abbrev pub IsRun : List Row → RunOrder → Type 0
 IsRun rows order =
     IsSet (one_of (codes "hex") rows) order.hex
@@ -30,3 +32,4 @@ IsRun rows order =
     × (first_of (codes "inputs") rows ≡ Some order.inputs.now)
     × (first_of (codes "choices") rows ≡ Some order.choices.now)
     × (first_of (codes "rule") rows ≡ option_map (λ s. s.now) order.rule)
+    × IsSet (one_of (codes "must-exit") rows) order.must_exit

@@ -18,5 +18,9 @@ pub(crate) const RULE: &str = "also judge the rule of an object, named as lib ha
 pub(crate) const DRAW: &str =
     "how a seed draws its choices: even, or bursts:MEAN, each of one hart";
 
-/// Of `--must-exit`.
+/// Of `--must-exit` of a run or a campaign.
 pub(crate) const MUST_EXIT: &str = "a hart that still runs at the end is a failure, with status 3";
+
+/// Of `--must-exit` of a shrinking.
+pub(crate) const HANGS: &str =
+    "a run that hangs is a failure: given as many steps more, a hart still runs";

@@ -7,12 +7,12 @@ ghost use Rattle.command_line.specs.Arguments.{holds_all};
 ghost use Rattle.command_line.specs.RunLine.{run_app, run_names, IsRun};
 
 use crate::arguments::{add, flag, headed, is_set, needed, needed_option, optional, text_of};
-use crate::help::{CHOICES, INPUTS, RULE};
+use crate::help::{CHOICES, INPUTS, MUST_EXIT, RULE};
 use clap::{ArgMatches, Command};
 use std::alloc::{AllocError, Global};
 
-/// `run [--hex] FILE --inputs L --choices C [--rule K]`: runs a program under a schedule, and prints each hart's end and, with a
-/// rule, its verdict.
+/// `run [--hex] FILE --inputs L --choices C [--rule K] [--must-exit]`: runs a program under a schedule, and prints each hart's end and,
+/// with a rule, its verdict.
 #[derive(Debug, Drop)]
 pub struct RunOrder<'a> {
     /// Whether the file has words in hexadecimal.
@@ -25,6 +25,8 @@ pub struct RunOrder<'a> {
     pub choices: &'a str,
     /// The name of the object whose rule is judged.
     pub rule: Option<&'a str>,
+    /// Whether a run that leaves a hart running has failed.
+    pub must_exit: bool,
 }
 
 /// The command as clap takes it.
@@ -45,7 +47,8 @@ pub(crate) fn run_command<'a>(alloc: Global) -> Result<Command<'a>, AllocError>
     let command = add(command, needed(alloc, "FILE", "the program, an ELF file"))?;
     let command = add(command, needed_option(alloc, "inputs", INPUTS))?;
     let command = add(command, needed_option(alloc, "choices", CHOICES))?;
-    add(command, optional(alloc, "rule", RULE))
+    let command = add(command, optional(alloc, "rule", RULE))?;
+    add(command, flag(alloc, "must-exit", MUST_EXIT))
 }
 
 /// The order that clap's matches hold.
@@ -59,5 +62,6 @@ pub(crate) fn run_order<'a>(matches: &ArgMatches<'a>) -> Option<RunOrder<'a>>
         inputs: text_of(matches, "inputs")?,
         choices: text_of(matches, "choices")?,
         rule: text_of(matches, "rule"),
+        must_exit: is_set(matches, "must-exit"),
     })
 }

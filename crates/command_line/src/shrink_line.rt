@@ -6,13 +6,13 @@ ghost use Rattle.clap.specs.declared.builder.command.Command.TheViews.{out-Comma
 ghost use Rattle.command_line.specs.Arguments.{holds_all};
 ghost use Rattle.command_line.specs.ShrinkLine.{shrink_app, shrink_names, IsShrink};
 
-use crate::arguments::{add, headed, needed, needed_option, optional, text_of};
-use crate::help::{CHOICES, INPUTS, RULE};
+use crate::arguments::{add, flag, headed, is_set, needed, needed_option, optional, text_of};
+use crate::help::{CHOICES, HANGS, INPUTS, RULE};
 use clap::{ArgMatches, Command};
 use std::alloc::{AllocError, Global};
 
-/// `shrink FILE --inputs L --choices C [--rule K]`: prints a minimal choice text under which a program fails as it does under the
-/// given one.
+/// `shrink FILE --inputs L --choices C [--rule K] [--must-exit]`: prints a minimal choice text under which a program fails as it does
+/// under the given one.
 #[derive(Debug, Drop)]
 pub struct ShrinkOrder<'a> {
     /// The program's path.
@@ -23,6 +23,8 @@ pub struct ShrinkOrder<'a> {
     pub choices: &'a str,
     /// The name of the object whose rule is judged.
     pub rule: Option<&'a str>,
+    /// Whether a run that hangs has failed.
+    pub must_exit: bool,
 }
 
 /// The command as clap takes it.
@@ -39,7 +41,8 @@ pub(crate) fn shrink_command<'a>(alloc: Global) -> Result<Command<'a>, AllocErro
     let command = add(command, needed(alloc, "FILE", "the program, an ELF file"))?;
     let command = add(command, needed_option(alloc, "inputs", INPUTS))?;
     let command = add(command, needed_option(alloc, "choices", CHOICES))?;
-    add(command, optional(alloc, "rule", RULE))
+    let command = add(command, optional(alloc, "rule", RULE))?;
+    add(command, flag(alloc, "must-exit", HANGS))
 }
 
 /// The order that clap's matches hold.
@@ -53,5 +56,6 @@ pub(crate) fn shrink_order<'a>(matches: &ArgMatches<'a>) -> Option<ShrinkOrder<'
         inputs: text_of(matches, "inputs")?,
         choices: text_of(matches, "choices")?,
         rule: text_of(matches, "rule"),
+        must_exit: is_set(matches, "must-exit"),
     })
 }

@@ -2,7 +2,7 @@
 #![tactic(auto)]
 
 pub use block::run_block;
-pub use plan::{DrawnPlan, Exit};
+pub use plan::DrawnPlan;
 pub use seed_end::SeedEnd;
 
 mod block;

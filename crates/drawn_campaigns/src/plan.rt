@@ -1,17 +1,9 @@
 //! Which runs are asked for.
 
 use engines::CampaignPlan;
+use exits::Exit;
 use schedule_kinds::ScheduleKind;
 use summary_engine::Detail;
-
-/// Whether a run may leave a hart that runs.
-#[derive(Clone, Copy, Debug, PartialEq, Eq)]
-pub enum Exit {
-    /// It may: the steps may have been too few.
-    May,
-    /// It may not: such a run has failed.
-    Must,
-}
 
 /// A campaign under schedules of some kind.
 #[derive(Clone, Copy, Debug, Drop)]

@@ -15,7 +15,7 @@ use Rattle.engines.proofs.CampaignLemmas.{begins_at, begins_in}
 use Rattle.devices.specs.declared.status.Status.{Status}
 use Rattle.drawn_campaigns.specs.Campaign.{outcome_from, outcomes_of}
 use Rattle.drawn_campaigns.specs.declared.plan.DrawnPlan.{DrawnPlan}
-use Rattle.drawn_campaigns.specs.declared.plan.Exit.{Exit}
+use Rattle.exits.specs.declared.exit.Exit.{Exit}
 use Rattle.drawn_engine.specs.Failing.{any_breaks, any_fails, breaks, fails, status_by, status_of}
 
 -- the outcomes of seeds and of those behind them

@@ -12,7 +12,7 @@ use Rattle.outcomes.proofs.TallyLemmas.{seeds_in-add, seeds_in-onto, tally_onto-
 use Rattle.devices.specs.declared.status.Status.{Status}
 use Rattle.drawn_campaigns.specs.Campaign.{end_of, outcome_from, outcomes_of, planned_outcomes}
 use Rattle.drawn_campaigns.specs.declared.plan.DrawnPlan.{DrawnPlan}
-use Rattle.drawn_campaigns.specs.declared.plan.Exit.{Exit}
+use Rattle.exits.specs.declared.exit.Exit.{Exit}
 use Rattle.drawn_campaigns.specs.declared.seed_end.SeedEnd.{SeedEnd}
 use Rattle.summary_engine.proofs.RunLemmas.{next_run}
 use Rattle.drawn_engine.specs.Failing.{any_breaks, any_fails, breaks, fails, status_by, status_of}

@@ -3,8 +3,8 @@ use Rattle.std.specs.Prelude.{ℕ, nat_lt, Bool, true, false, ◌||◌, List, Op
 use Rattle.std.specs.List.{list_any}
 use Rattle.devices.specs.declared.status.Status.{Status}
 use Rattle.devices.specs.declared.status.Status.TheVariants as status
-use Rattle.drawn_campaigns.specs.declared.plan.Exit.{Exit}
-use Rattle.drawn_campaigns.specs.declared.plan.Exit.TheVariants.{May, Must}
+use Rattle.exits.specs.Exits.{hangs}
+use Rattle.exits.specs.declared.exit.Exit.{Exit}
 use Rattle.outcomes.specs.Outcome.{OutcomeValue}
 use Rattle.outcomes.specs.Tally.{SeedOutcome}
 use Rattle.protocol_library.specs.declared.verdict.Verdict.{Verdict}
@@ -21,14 +21,9 @@ abbrev pub faults : Option Verdict → ℕ → Bool
 faults None faulted = nat_lt 0 faulted
 faults (Some verdict) faulted = false
 
--- whether each hart has to exit, and harts run
-abbrev pub hangs : Exit → ℕ → Bool
-hangs May running = false
-hangs Must running = nat_lt 0 running
-
 -- whether a run has failed
 abbrev pub fails : Exit → OutcomeValue → Bool
-fails exit outcome = breaks outcome.verdict || (faults outcome.verdict outcome.faulted || hangs exit outcome.running)
+fails exit outcome = breaks outcome.verdict || (faults outcome.verdict outcome.faulted || hangs exit (nat_lt 0 outcome.running))
 
 -- whether a rule is broken in some run
 abbrev pub any_breaks : List SeedOutcome → Bool

@@ -1,7 +1,7 @@
 -- The lines of runs.
 use Rattle.std.specs.Prelude.{ℕ, List, [], ◌∷◌, ◌++◌, if◌then◌else◌}
 use Rattle.std.specs.List.{flat_map}
-use Rattle.drawn_campaigns.specs.declared.plan.Exit.{Exit}
+use Rattle.exits.specs.declared.exit.Exit.{Exit}
 use Rattle.drawn_engine.specs.Failing.{fails}
 use Rattle.drawn_engine.specs.declared.plan.Shown.{Shown}
 use Rattle.drawn_engine.specs.declared.plan.Shown.TheVariants.{All, Failures}

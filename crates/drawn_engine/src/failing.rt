@@ -3,9 +3,9 @@
 ghost use Rattle.std.specs.Prelude.{◌≡◌};
 ghost use Rattle.std.specs.List.{list_any};
 ghost use Rattle.outcomes.specs.Outcome.{outcome_of};
-ghost use Rattle.drawn_engine.specs.Failing.{breaks, faults, fails, hangs};
+ghost use Rattle.drawn_engine.specs.Failing.{breaks, faults, fails};
 
-use drawn_campaigns::Exit;
+use exits::{Exit, hangs};
 use outcomes::Outcome;
 use protocol_library::Verdict;
 use std::alloc::Allocator;
@@ -30,16 +30,6 @@ fn faults(verdict: Option<Verdict>, faulted: usize) -> bool
     }
 }
 
-// Whether each hart has to exit, and of harts that run there are so many.
-fn hangs(exit: Exit, running: usize) -> bool
-    ensures { result ≡ hangs exit running }
-{
-    match exit {
-        Exit::May => false,
-        Exit::Must => running > 0,
-    }
-}
-
 /// Whether a run has failed: its rule is broken, or without a rule a hart was stopped by its instruction, or where each has to
 /// exit one runs.
 pub(crate) fn fails<A: Allocator>(exit: Exit, outcome: &Outcome<A>) -> bool
@@ -47,5 +37,5 @@ pub(crate) fn fails<A: Allocator>(exit: Exit, outcome: &Outcome<A>) -> bool
 {
     breaks(outcome.verdict)
         || faults(outcome.verdict, outcome.faulted)
-        || hangs(exit, outcome.running)
+        || hangs(exit, outcome.running > 0)
 }

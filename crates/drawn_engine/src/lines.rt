@@ -7,7 +7,8 @@ ghost use Rattle.engines.specs.Campaign.{seed_line};
 
 use crate::failing::fails;
 use crate::plan::Shown;
-use drawn_campaigns::{Exit, SeedEnd};
+use drawn_campaigns::SeedEnd;
+use exits::Exit;
 use std::alloc::{AllocError, Allocator};
 use std::fmt;
 

@@ -6,7 +6,8 @@ ghost use Rattle.drawn_engine.specs.Failing.{any_breaks, any_fails, status_by};
 
 use crate::failing::{breaks, fails};
 use devices::Status;
-use drawn_campaigns::{Exit, SeedEnd};
+use drawn_campaigns::SeedEnd;
+use exits::Exit;
 use std::alloc::Allocator;
 
 /// What is known of the runs that were done.

@@ -3,7 +3,7 @@
 
 pub use failure::{Failure, fails_so, failure_of};
 pub use laws::failing_run_fails_so;
-pub use same_failure::{SameFailure, failure_after};
+pub use same_failure::{SameFailure, failure_after, machine_after, take_step};
 
 mod failure;
 mod laws;

@@ -13,10 +13,10 @@ use memory::FlatStore;
 use protocol_library::Kind;
 use std::alloc::{AllocError, Allocator};
 
-// One event. The choice of a hart that isn't there changes nothing.
+/// One event. The choice of a hart that isn't there changes nothing.
 #[tactic(auto, using(crate::proofs::StepLemmas::step_of_nobody))]
 #[inline]
-fn take_step<A: Allocator>(machine: &mut Machine<FlatStore<A>, A>, choice: Choice)
+pub fn take_step<A: Allocator>(machine: &mut Machine<FlatStore<A>, A>, choice: Choice)
     ensures { state machine.new ≡ step (state machine.old) choice }
 {
     if choice.hart as usize >= machine.harts() {
@@ -38,14 +38,15 @@ fn take_steps<A: Allocator>(machine: &mut Machine<FlatStore<A>, A>, choices: &[C
     }
 }
 
-// The machine after choices, from an image's start. It is refused where there can't be a hart for each input, and for want of memory.
-fn machine_after<A: Allocator + Copy>(
+/// The machine after choices, from an image's start. It is refused where there can't be a hart for each input, and for want of memory.
+pub fn machine_after<A: Allocator + Copy>(
     alloc: A,
     image: &Image<A>,
     inputs: &[u32],
     choices: &[Choice],
 ) -> Result<Machine<FlatStore<A>, A>, AllocError>
-    ensures { IfOk result (λ machine. state machine ≡ run (started image.now inputs.now) choices.now) }
+    ensures startable { IfOk result (λ _. IsStartable inputs.now) }
+    ensures after { IfOk result (λ machine. state machine ≡ run (started image.now inputs.now) choices.now) }
 {
     let mut machine: Machine<FlatStore<A>, A> = match Machine::start(alloc, image, inputs) {
         Ok(machine) => machine,

@@ -10,9 +10,9 @@ use Rattle.choice_texts.proofs.Agreement.{choices_of-spelled}
 use Rattle.choice_texts.proofs.PrintLemmas.{runs_spell}
 use Rattle.choice_shrinking.specs.Less.{IsLess}
 use Rattle.choice_shrinking.specs.Minimal.{IsMinimal}
-use Rattle.protocol_library.specs.declared.kind.Kind.{Kind}
-use Rattle.run_failures.specs.Failure.{failure_after, RunFailsSo}
-use Rattle.run_failures.specs.declared.failure.Failure.{Failure}
+use Rattle.exit_failures.specs.ExitFailure.{exit_failure_after, RunFailsAs}
+use Rattle.exit_failures.specs.declared.exit_failure.Demands.{Demands}
+use Rattle.exit_failures.specs.declared.exit_failure.ExitFailure.{ExitFailure}
 use Rattle.shrink_engine.specs.Shrink.{IsShrunk}
 
 -- the choices of a list that is another with some left out name harts that are there, if those of the other do
@@ -26,10 +26,11 @@ within_less n (c ∷ list) (d ∷ given) (inl (soft, less)) all =
 within_less n (c ∷ list) (d ∷ given) (inr less) all =
     within_less n (c ∷ list) given less (λ k e lt. all (suc k) e (omega (arith, lt)))
 
-module _ (rule : Option Kind) (image : ImageValue) (inputs : List ℕ) (given choices printed : List Choice) (text : List ℕ) (how : Failure) where
-  pub is_shrunk : length inputs < 2 ^ 32 → All (λ c. c.hart < length inputs) given → failure_after rule image inputs given ≡ Some how
-      → IsLess choices given → RunFailsSo how image inputs choices → IsMinimal (RunFailsSo how image inputs) choices
-      → printed ≡ choices → text ≡ runs_text printed → IsShrunk rule image inputs given text
+module _ (demands : Demands) (image : ImageValue) (inputs : List ℕ) (given choices printed : List Choice) (text : List ℕ)
+    (how : ExitFailure) where
+  pub is_shrunk : length inputs < 2 ^ 32 → All (λ c. c.hart < length inputs) given → exit_failure_after demands image inputs given ≡ Some how
+      → IsLess choices given → RunFailsAs how image inputs choices → IsMinimal (RunFailsAs how image inputs) choices
+      → printed ≡ choices → text ≡ runs_text printed → IsShrunk demands image inputs given text
   is_shrunk few within given_fails less fails minimal same shows =
       let is : text ≡ runs_text choices = shows ∙ ap runs_text same in
       let there = within_less (length inputs) choices given less within in

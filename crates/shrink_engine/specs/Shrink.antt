@@ -8,43 +8,43 @@ use Rattle.choice_texts.specs.Printing.{runs_text}
 use Rattle.choice_texts.specs.Reading.{choices_of}
 use Rattle.choice_shrinking.specs.Less.{IsLess}
 use Rattle.choice_shrinking.specs.Minimal.{IsMinimal}
-use Rattle.protocol_library.specs.declared.kind.Kind.{Kind}
 use Rattle.programs.specs.Opening.{Opened}
-use Rattle.run_failures.specs.Failure.{failure_after, RunFailsSo}
-use Rattle.run_failures.specs.declared.failure.Failure.{Failure}
+use Rattle.exit_failures.specs.ExitFailure.{exit_failure_after, RunFailsAs}
+use Rattle.exit_failures.specs.declared.exit_failure.Demands.{Demands}
+use Rattle.exit_failures.specs.declared.exit_failure.ExitFailure.{ExitFailure}
 use Rattle.shrink_engine.specs.declared.fault.ShrinkFault.{ShrinkFault}
 use Rattle.shrink_engine.specs.declared.fault.ShrinkFault.TheVariants as engine
 
 -- a text is that of a list of choices which is the given one with choices left out and marks taken away, whose run fails as the given
 -- one's does, and in which each choice and each mark is needed for that
-pub record IsShrunk (rule : Option Kind) (image : ImageValue) (inputs : List ℕ) (given : List Choice) (text : List ℕ) : Type 0 where
+pub record IsShrunk (demands : Demands) (image : ImageValue) (inputs : List ℕ) (given : List Choice) (text : List ℕ) : Type 0 where
   pub choices : List Choice
-  pub how : Failure
-  pub given_fails : failure_after rule image inputs given ≡ Some how
+  pub how : ExitFailure
+  pub given_fails : exit_failure_after demands image inputs given ≡ Some how
   pub less : IsLess choices given
-  pub fails : RunFailsSo how image inputs choices
-  pub minimal : IsMinimal (RunFailsSo how image inputs) choices
+  pub fails : RunFailsAs how image inputs choices
+  pub minimal : IsMinimal (RunFailsAs how image inputs) choices
   pub printed : text ≡ runs_text choices
   pub read : choices_of (length inputs) text ≡ Ok choices
 
 -- such a text was appended
-abbrev pub Shrinks : Option Kind → List ℕ → Opened → Option (List ℕ) → Option (List ℕ) → Type 0
-Shrinks rule inputs (Ok opened) old new =
-    (text : List ℕ) × IsShrunk rule opened.0 inputs opened.1 text × Appends old new text
-Shrinks rule inputs (Err why) old new = ⊥
+abbrev pub Shrinks : Demands → List ℕ → Opened → Option (List ℕ) → Option (List ℕ) → Type 0
+Shrinks demands inputs (Ok opened) old new =
+    (text : List ℕ) × IsShrunk demands opened.0 inputs opened.1 text × Appends old new text
+Shrinks demands inputs (Err why) old new = ⊥
 
 -- a beginning of such a text was appended
-abbrev pub BeginsToShrink : Option Kind → List ℕ → Opened → Option (List ℕ) → Option (List ℕ) → Type 0
-BeginsToShrink rule inputs (Ok opened) old new =
-    (text : List ℕ) × IsShrunk rule opened.0 inputs opened.1 text × ((n : ℕ) × Appends old new (take n text))
-BeginsToShrink rule inputs (Err why) old new = ⊥
+abbrev pub BeginsToShrink : Demands → List ℕ → Opened → Option (List ℕ) → Option (List ℕ) → Type 0
+BeginsToShrink demands inputs (Ok opened) old new =
+    (text : List ℕ) × IsShrunk demands opened.0 inputs opened.1 text × ((n : ℕ) × Appends old new (take n text))
+BeginsToShrink demands inputs (Err why) old new = ⊥
 
 -- why nothing is written of a run that fails or doesn't
-abbrev pub refusal_of : Option Failure → Option ShrinkFault
+abbrev pub refusal_of : Option ExitFailure → Option ShrinkFault
 refusal_of None = Some engine.NothingFails
 refusal_of (Some how) = None
 
 -- why nothing is written, by what a run begins with: a fault of what was read, or that nothing fails
-abbrev pub refusal : Option Kind → List ℕ → Opened → Option ShrinkFault
-refusal rule inputs (Ok opened) = refusal_of (failure_after rule opened.0 inputs opened.1)
-refusal rule inputs (Err why) = Some (engine.Run why)
+abbrev pub refusal : Demands → List ℕ → Opened → Option ShrinkFault
+refusal demands inputs (Ok opened) = refusal_of (exit_failure_after demands opened.0 inputs opened.1)
+refusal demands inputs (Err why) = Some (engine.Run why)

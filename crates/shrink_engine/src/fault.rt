@@ -15,7 +15,8 @@ pub enum ShrinkFault {
     /// was refused: a run of the same would be refused so.
     #[error("{0}")]
     Run(RunFault),
-    /// The run of the choices doesn't fail: under a rule it is kept, and without one no hart has faulted.
+    /// The run of the choices doesn't fail: under a rule it is kept, and without one no hart has faulted; and where each hart has to exit,
+    /// it doesn't hang.
     #[error("shrink fault NothingFails")]
     NothingFails,
 }

@@ -3,17 +3,16 @@
 ghost use Rattle.std.specs.Prelude.{◌≡◌, ◌≢◌, ◌<◌, None, Err, IfOk, IfErr, length, string_bytes};
 ghost use Rattle.std.specs.List.{All};
 ghost use Rattle.machine.specs.Start.{IsStartable};
-ghost use Rattle.run_failures.specs.Failure.{failure_after};
+ghost use Rattle.exit_failures.specs.ExitFailure.{exit_failure_after};
 ghost use Rattle.shrink_engine.specs.Shrink.{IsShrunk};
 
 use crate::fault::ShrinkFault;
 use choice_shrinking::{ChoicesLeft, shrink_choices};
 use choice_texts::print_runs;
+use exit_failures::{Demands, SameExitFailure, exit_failure_after};
 use loader::Image;
 use machine::Choice;
 use programs::RunFault;
-use protocol_library::Kind;
-use run_failures::{SameFailure, failure_after};
 use std::alloc::{AllocError, Allocator};
 
 /// The text of a minimal list of choices that fails as the given one does, or that nothing fails.
@@ -21,22 +20,23 @@ pub(crate) fn shortened<A: Allocator + Copy, L: ChoicesLeft>(
     alloc: A,
     image: &Image<A>,
     inputs: &[u32],
-    rule: Option<Kind>,
+    demands: Demands,
     given: &[Choice],
     left: &mut L,
 ) -> Result<String<A>, ShrinkFault>
     requires takes { IsStartable inputs.now }
     requires within { All (λ c. c.hart < length inputs.now) given.now }
-    ensures shrunk { IfOk result (λ text. IsShrunk rule image.now inputs.now given.now (string_bytes text)) }
-    ensures kept { result ≡ Err ShrinkFault.NothingFails → failure_after rule image.now inputs.now given.now ≡ None }
+    ensures shrunk { IfOk result (λ text. IsShrunk demands image.now inputs.now given.now (string_bytes text)) }
+    ensures kept { result ≡ Err ShrinkFault.NothingFails
+        → exit_failure_after demands image.now inputs.now given.now ≡ None }
     ensures faults { IfErr result (λ fault. fault ≢ ShrinkFault.NothingFails → fault ≡ ShrinkFault.Run RunFault.Memory) }
 {
-    let failure = match failure_after(alloc, rule, image, inputs, given) {
+    let failure = match exit_failure_after(alloc, demands, image, inputs, given) {
         Ok(Some(failure)) => failure,
         Ok(None) => return Err(ShrinkFault::NothingFails),
         Err(AllocError) => return Err(ShrinkFault::Run(RunFault::Memory)),
     };
-    let test = SameFailure {
+    let test = SameExitFailure {
         alloc,
         image,
         inputs,

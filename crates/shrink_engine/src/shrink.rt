@@ -14,17 +14,18 @@ use crate::fault::ShrinkFault;
 use crate::shortening::shortened;
 use choice_shrinking::ChoicesLeft;
 use devices::{Sink, Source, Status, write_all};
+use exit_failures::Demands;
 use programs::{Input, ProgramForm, RunFault, open_run};
-use protocol_library::Kind;
 use std::alloc::Allocator;
 
 /// `shrink`: reads the program to its end, and where it is one and the inputs are not too many, the choice text to its end; writes the
 /// text of some of these choices, in their order and some without their mark, whose run still fails in the same way, and fails so no
-/// more without any one of its choices or marks. Nothing is written where what was read is refused, and where nothing fails.
+/// more without any one of its choices or marks. Where each hart has to exit, a run that hangs has failed. Nothing is written where what
+/// was read is refused, and where nothing fails.
 pub fn shrink_engine<A: Allocator + Copy, P: Source, C: Source, K: Sink, L: ChoicesLeft>(
     alloc: A,
     inputs: &[u32],
-    rule: Option<Kind>,
+    demands: Demands,
     program: &mut P,
     choices: &mut C,
     sink: &mut K,
@@ -37,11 +38,11 @@ pub fn shrink_engine<A: Allocator + Copy, P: Source, C: Source, K: Sink, L: Choi
     ensures done { IfOk result (λ status. status ≡ Status.Done) }
     ensures shrunk { IfOk result (λ _.
         IfSome (P.left program.old) (λ p. IfSome (C.left choices.old) (λ c.
-        Shrinks rule inputs.now (opening ProgramForm.Elf (length inputs.now) p c) (K.held sink.old) (K.held sink.new)))) }
+        Shrinks demands inputs.now (opening ProgramForm.Elf (length inputs.now) p c) (K.held sink.old) (K.held sink.new)))) }
     // What was read is refused, or nothing fails, and nothing is written.
     ensures refused { IfErr result (λ fault. IsRefusal fault
         → IfSome (P.left program.old) (λ p. IfSome (C.left choices.old) (λ c.
-        refusal rule inputs.now (opening ProgramForm.Elf (length inputs.now) p c) ≡ Some fault))) }
+        refusal demands inputs.now (opening ProgramForm.Elf (length inputs.now) p c) ≡ Some fault))) }
     ensures unwritten { IfErr result (λ fault. fault ≢ ShrinkFault.Run RunFault.Write
         → Keeps (K.held sink.old) (K.held sink.new)) }
     // A device is named only where it failed.
@@ -57,13 +58,13 @@ pub fn shrink_engine<A: Allocator + Copy, P: Source, C: Source, K: Sink, L: Choi
     // After a failed write a beginning of such a text stands there.
     ensures begun { result ≡ Err (ShrinkFault.Run RunFault.Write)
         → IfSome (P.left program.old) (λ p. IfSome (C.left choices.old) (λ c.
-        BeginsToShrink rule inputs.now (opening ProgramForm.Elf (length inputs.now) p c) (K.held sink.old) (K.held sink.new))) }
+        BeginsToShrink demands inputs.now (opening ProgramForm.Elf (length inputs.now) p c) (K.held sink.old) (K.held sink.new))) }
 {
     let run = match open_run(alloc, ProgramForm::Elf, inputs, program, choices) {
         Ok(run) => run,
         Err(fault) => return Err(ShrinkFault::Run(fault)),
     };
-    let text = match shortened(alloc, &run.image, inputs, rule, &run.choices, left) {
+    let text = match shortened(alloc, &run.image, inputs, demands, &run.choices, left) {
         Ok(text) => text,
         Err(fault) => return Err(fault),
     };

@@ -8,11 +8,13 @@ returns-clause-app c =
     let file = c.in_ok-command.ensures.app ∙ ap₂ with_rule c.headed-command.ensures.app c.needed.ensures.rule in
     let inputs = c.in_ok-command-2.ensures.app ∙ ap₂ with_rule file c.needed_option.ensures.rule in
     let choices = c.in_ok-command-3.ensures.app ∙ ap₂ with_rule inputs c.needed_option-2.ensures.rule in
-    IfOk-weaker c.add-4.result _ _ (λ r last. last ∙ ap₂ with_rule choices c.optional.ensures.rule) c.add-4.ensures.app
+    let rule = c.in_ok-command-4.ensures.app ∙ ap₂ with_rule choices c.optional.ensures.rule in
+    IfOk-weaker c.add-5.result _ _ (λ r last. last ∙ ap₂ with_rule rule c.flag.ensures.rule) c.add-5.ensures.app
 
 pub returns-clause-local : goal.returns-clause-local
 returns-clause-local c =
     let file = c.in_ok-command.ensures.globals ∙ c.headed-command.ensures.globals in
     let inputs = c.in_ok-command-2.ensures.globals ∙ file in
     let choices = c.in_ok-command-3.ensures.globals ∙ inputs in
-    IfOk-weaker c.add-4.result _ _ (λ r last. last ∙ choices) c.add-4.ensures.globals
+    let rule = c.in_ok-command-4.ensures.globals ∙ choices in
+    IfOk-weaker c.add-5.result _ _ (λ r last. last ∙ rule) c.add-5.ensures.globals

@@ -1,0 +1,2 @@
+pub mod Exiting
+pub mod Judged

@@ -1,0 +1,3 @@
+pub mod TurnLemmas
+pub mod BelowLemmas
+pub mod LawLemmas
