@@ -1,3 +1,4 @@
 pub mod ListLemmas
 pub mod ChoiceLemmas
 pub mod RunLemmas
+pub mod WalkedLemmas

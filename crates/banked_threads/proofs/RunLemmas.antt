@@ -1,10 +1,20 @@
--- What a run leaves, from what was compared.
-use Rattle.std.proofs.Common.{◌≡◌, ℕ, List, length, Some, subst}
+-- What a run leaves, from what was compared; and what merging makes of it.
+use Rattle.std.proofs.Common.{◌≡◌, ℕ, ◌%◌, List, [], length, true, false, Some, subst, refl, sym, eqb, inl, inr, ⊎_elim, arith, rules}
 use Rattle.std.specs.Prelude.{slice_get}
-use Rattle.loader.specs.Image.{ImageValue}
+use Rattle.std.proofs.lemmas.Bool.{cases_Bool}
+use Rattle.std.proofs.lemmas.Bool.Decides.{nat_tests}
+use Rattle.loader.specs.Image.{ImageValue, is_sound, IsSound}
+use Rattle.loader.specs.Segment.{SegmentValue}
+use Rattle.banks_laws.specs.Segments.{LoggedSegment}
+use Rattle.banks_laws.specs.Order.{Rises, Earlier}
 use Rattle.banks_runs.specs.Merged.{most_banks}
 use Rattle.banks.specs.BankLog.{BankLog}
 use Rattle.hart_logs.specs.HartLog.{HartLogValue}
+use Rattle.banks_merge.specs.Logs.{hart_log, AreNumbered, AreOf, StampsRise}
+use Rattle.banks_merge.specs.Merge.{AreMatched, Refuses}
+use Rattle.banks_merge.specs.declared.merging.MergeFault.{MergeFault}
+use Rattle.banks_merge.specs.declared.merging.MergeFault.TheVariants.{Unmatched, OutOfOrder, Memory}
+use Rattle.banks_merge.proofs.MatchLemmas.{hart_at}
 use Rattle.banked_threads.specs.Banked.{IsBanked, IsBankOf, IsHartOf}
 
 abbrev Logs : ImageValue → List ℕ → ℕ → List (ℕ × ℕ) → List HartLogValue → Type 0
@@ -14,9 +24,57 @@ Logs image inputs budget plan logs = (length logs ≡ length inputs)
 abbrev Banks : ImageValue → List ℕ → List BankLog → Type 0
 Banks image inputs banks = (length banks ≡ most_banks) × ((b : ℕ) (k : BankLog) → slice_get banks b ≡ Some k → IsBankOf image inputs b k)
 
-pub is_banked : (image : ImageValue) (inputs : List ℕ) (budget : ℕ) (plan : List (ℕ × ℕ)) (logs logs_seen : List HartLogValue) (banks banks_seen : List BankLog)
-    → logs_seen ≡ logs → banks_seen ≡ banks → Logs image inputs budget plan logs_seen → Banks image inputs banks_seen → IsBanked image inputs budget plan logs banks
-is_banked image inputs budget plan logs logs_seen banks banks_seen e f ls bs =
-    let l = subst (Logs image inputs budget plan) e ls in
-    let b = subst (Banks image inputs) f bs in
-    record { harts = l.0; sixteen = b.0; of_harts = l.1; of_banks = b.1 }
+-- an image that passes its checks begins at an address of a word
+entry_aligned : (entry : ℕ) (ss : List SegmentValue) → IsSound entry ss → entry % 4 ≡ 0
+unfolding is_sound
+entry_aligned entry ss sound = elim (cases_Bool (eqb (entry % 4) 0)) [
+  | inl aligned ↦ grind (arith, nat_tests)
+  | inr crooked ↦ absurd (let no : false ≡ true = rw crooked at sound in search rules)
+]
+
+pub numbered : (image : ImageValue) (inputs : List ℕ) (banks : List BankLog) → Banks image inputs banks → AreNumbered banks
+numbered image inputs banks bs b k at = (bs.1 b k at).number
+
+pub is_banked : (image : ImageValue) (inputs : List ℕ) (budget : ℕ) (plan : List (ℕ × ℕ)) (logs : List HartLogValue) (banks : List BankLog)
+    → IsSound image.entry image.segments → Logs image inputs budget plan logs → Banks image inputs banks → AreMatched logs banks
+    → IsBanked image inputs budget plan logs banks
+is_banked image inputs budget plan logs banks sound ls bs matched = record {
+  entry = entry_aligned image.entry image.segments sound;
+  harts = ls.0;
+  sixteen = bs.0;
+  of_harts = ls.1;
+  of_banks = bs.1;
+  matched = matched;
+}
+
+-- the same of what was looked at
+pub seen_banked : (image : ImageValue) (inputs : List ℕ) (budget : ℕ) (plan : List (ℕ × ℕ)) (logs logs_seen : List HartLogValue) (banks banks_seen : List BankLog)
+    → logs_seen ≡ logs → banks_seen ≡ banks → IsBanked image inputs budget plan logs_seen banks_seen → IsBanked image inputs budget plan logs banks
+seen_banked image inputs budget plan logs logs_seen banks banks_seen e f banked =
+    subst (λ (ls : List HartLogValue). IsBanked image inputs budget plan ls banks) e
+    (subst (λ (bs : List BankLog). IsBanked image inputs budget plan logs_seen bs) f banked)
+
+-- ---- merging
+pub are_of_one : (image : ImageValue) (inputs : List ℕ) (budget : ℕ) (plan : List (ℕ × ℕ)) (logs : List HartLogValue) (banks : List BankLog)
+    → IsBanked image inputs budget plan logs banks → AreOf image inputs logs banks
+are_of_one image inputs budget plan logs banks banked = record {
+  entry = banked.entry;
+  harts = banked.harts;
+  sixteen = banked.sixteen;
+  of_harts = λ h l at. let of = banked.of_harts h l at in record { same_image = of.same_image; same_inputs = of.same_inputs; number = of.number };
+  of_banks = λ b k at. let of = banked.of_banks b k at in record { same_image = of.same_image; same_inputs = of.same_inputs; number = of.number };
+}
+
+stamps_rise : (image : ImageValue) (inputs : List ℕ) (budget : ℕ) (plan : List (ℕ × ℕ)) (logs : List HartLogValue) (banks : List BankLog)
+    → IsBanked image inputs budget plan logs banks → StampsRise logs
+stamps_rise image inputs budget plan logs banks banked h = ⊎_elim
+    (λ (e : hart_log logs h ≡ []). subst (λ (es : List LoggedSegment). Rises Earlier es) (sym e) tt)
+    (λ (p : (l : HartLogValue) × (slice_get logs h ≡ Some l) × (hart_log logs h ≡ l.log)).
+    subst (λ (es : List LoggedSegment). Rises Earlier es) (sym p.2) (banked.of_harts h p.0 p.1).rising)
+    (hart_at logs h)
+
+pub memory_alone : (image : ImageValue) (inputs : List ℕ) (budget : ℕ) (plan : List (ℕ × ℕ)) (logs : List HartLogValue) (banks : List BankLog)
+    → IsBanked image inputs budget plan logs banks → (fault : MergeFault) → Refuses logs banks fault → fault ≡ Memory
+memory_alone image inputs budget plan logs banks banked Unmatched refused = absurd (refused banked.matched)
+memory_alone image inputs budget plan logs banks banked OutOfOrder refused = absurd (refused.1 (stamps_rise image inputs budget plan logs banks banked))
+memory_alone image inputs budget plan logs banks banked Memory refused = refl

@@ -1,5 +1,5 @@
 -- What a run of threads over banks leaves, and why it is refused.
-use Rattle.std.specs.Prelude.{◌≡◌, ◌⊎◌, ℕ, ◌+◌, ◌<◌, ◌≤◌, true, List, [], ◌∷◌, Some, length, map, slice_get, slice_index_or}
+use Rattle.std.specs.Prelude.{◌≡◌, ◌⊎◌, ℕ, ◌+◌, ◌%◌, ◌<◌, ◌≤◌, true, List, [], ◌∷◌, Some, length, slice_get}
 use Rattle.reservations.specs.Limit.{most_harts}
 use Rattle.loader.specs.Image.{ImageValue}
 use Rattle.hart_threads.specs.Outcome.{is_stopped}
@@ -7,6 +7,7 @@ use Rattle.hart_threads.specs.Plan.{is_planned}
 use Rattle.banks_laws.specs.Segments.{LoggedSegment}
 use Rattle.banks_laws.specs.Order.{Rises, Earlier}
 use Rattle.banks_runs.specs.Merged.{most_banks}
+use Rattle.banks_merge.specs.Merge.{AreMatched}
 use Rattle.banks.specs.BankLog.{BankLog}
 use Rattle.hart_logs.specs.HartLog.{HartLogValue, slot_of}
 use Rattle.banked_threads.specs.declared.fault.RunFault.{RunFault}
@@ -44,12 +45,15 @@ pub record IsBankOf (image : ImageValue) (inputs : List ℕ) (b : ℕ) (k : Bank
   pub same_inputs : k.inputs ≡ inputs
   pub number : k.number ≡ b
 
--- what a run leaves: the log of each hart and each bank, once and in order
+-- what a run of a program, whose entry is an address of a word, leaves: the log of each hart and each bank, once and in order, where
+-- an access stands in its hart's log exactly where it stands in its word's bank
 pub record IsBanked (image : ImageValue) (inputs : List ℕ) (budget : ℕ) (plan : List (ℕ × ℕ)) (logs : List HartLogValue) (banks : List BankLog) : Type 0 where
+  pub entry : image.entry % 4 ≡ 0
   pub harts : length logs ≡ length inputs
   pub sixteen : length banks ≡ most_banks
   pub of_harts : (h : ℕ) (l : HartLogValue) → slice_get logs h ≡ Some l → IsHartOf image inputs budget plan h l
   pub of_banks : (b : ℕ) (k : BankLog) → slice_get banks b ≡ Some k → IsBankOf image inputs b k
+  pub matched : AreMatched logs banks
 
 -- why a run with n inputs is refused; threads and memory are asked for only where there can be a hart for each
 abbrev pub RunRefuses : ℕ → RunFault → Type 0

@@ -1,1 +1,2 @@
 pub mod Banked
+pub mod Walked

@@ -1,6 +1,8 @@
 //! What the workers of a run share.
 ghost use Rattle.std.specs.Prelude.{◌≡◌, ◌≤◌, IfOk, length, vec_len};
+ghost use Rattle.memory.specs.Image.{image_memory, segments_memory};
 ghost use Rattle.reservations.specs.Limit.{most_harts};
+ghost use Rattle.local_steps.specs.CodeMemory.{code_in};
 ghost use Rattle.banks_runs.specs.Merged.{most_banks};
 
 use banks::{BANKS, Bank};
@@ -21,6 +23,7 @@ pub struct Job<'a, A: Allocator> {
     pub(crate) banks: Vec<Mutex<Bank<'a, A>>, A>,
     ghost sixteen: { vec_len banks ≡ 16 },
     ghost few: { length inputs.now ≤ 32 },
+    ghost its_code: { segments_memory code ≡ code_in (image_memory image.now) },
 }
 
 impl<'a, A: Allocator + Copy> Job<'a, A> {

@@ -3,7 +3,7 @@ ghost use Rattle.std.specs.Prelude.{◌≡◌, ◌<◌, ◌≤◌, IfOk, IfErr, 
 ghost use Rattle.reservations.specs.Limit.{most_harts as most};
 ghost use Rattle.banked_threads.specs.Banked.{IsBanked, RunRefuses};
 
-use crate::compare::{are_of_banks, are_of_harts};
+use crate::compare::are_of_a_run;
 use crate::fault::{RunFault, StepFault};
 use crate::job::Job;
 use crate::worker::work;
@@ -63,7 +63,10 @@ pub fn run_banked<'a, A: Allocator + Copy + Send + Sync, G: Gate + Sync, R: Thre
     let Ok(banks) = unlocked(alloc, banks) else {
         return Err(RunFault::Memory);
     };
-    if !are_of_harts(&logs, image, inputs, plan, budget) || !are_of_banks(&banks, image, inputs) {
+    let Ok(all) = are_of_a_run(alloc, &logs, &banks, image, inputs, plan, budget) else {
+        return Err(RunFault::Memory);
+    };
+    if !all {
         return Err(RunFault::Stale);
     }
     Ok(Banked { logs, banks })

@@ -1,17 +1,20 @@
 //! One step of a hart under the locks of the banks that it touches.
-ghost use Rattle.std.specs.Prelude.{◌≡◌, ◌<◌, ◌%◌, length, vec_len};
+ghost use Rattle.std.specs.Prelude.{◌≡◌, ◌<◌, ◌%◌, None, IfOk, OnOk, length, vec_len};
+ghost use Rattle.hart_step.specs.Hart.{hart_of};
+ghost use Rattle.hart_logs.specs.HartLog.{image_table};
+ghost use Rattle.banked_threads.specs.Walked.{IsWalked, Stays};
 
 use crate::fault::StepFault;
 use crate::job::Job;
 use banks::{BANKS, Bank, next_stamp};
-use hart_logs::{Found, Slot, code_access, data_access};
+use hart_logs::{Found, HartLog, Slot, code_access, data_access};
 use hart_threads::Gate;
 use segment_order::LogSegment;
 use std::alloc::Allocator;
 use std::sync::Wait;
 use told_steps::{PlannedTouch, Word, needed_word, planned_touch};
 
-/// A segment of a hart without its stamp and its accesses, and the hart that its last step begins from.
+/// A segment of a hart without its stamp and its accesses, and the slot that its last step begins from.
 #[derive(Clone, Copy, Debug)]
 pub struct Walked {
     pub hart: u32,
@@ -24,7 +27,9 @@ pub struct Walked {
 
 impl Walked {
     /// The segment with a stamp, and no accesses yet.
-    fn stamped(&self, banks: &[u64]) -> Result<LogSegment, StepFault> {
+    fn stamped(&self, banks: &[u64]) -> Result<LogSegment, StepFault>
+        ensures { IfOk result (λ e. (e.hart ≡ self.now.hart) × (e.local ≡ self.now.local)) }
+    {
         match next_stamp(self.last_stamp, banks) {
             Some(stamp) => Ok(LogSegment {
                 stamp,
@@ -68,28 +73,31 @@ fn found_in<A: Allocator>(bank: &Bank<A>, hart: u32, word: u32) -> Found
     }
 }
 
-/// The last step of a segment whose instruction is code, under the lock of the bank of the word that it touches, if it touches
-/// one.
+/// Takes a segment whose last step is of code into its hart's log, and what that touches into its bank, whose lock it holds.
 fn step_in_code<A: Allocator + Copy, G: Gate, R: Wait>(
     rt: &R,
     job: &Job<A>,
     gate: &G,
+    log: &mut HartLog<A>,
     walked: &Walked,
-) -> Result<LogSegment, StepFault>
-    requires { walked.now.hart < 32 }
+) -> Result<(), StepFault>
+    requires few { walked.now.hart < 32 }
+    requires next { IsWalked job.now.image.now log.old walked.now }
+    requires code { (image_table job.now.image.now).need (hart_of walked.now.slot.hart) ≡ None }
+    ensures { OnOk result (Stays log.old log.new) }
 {
     let Some(touch) = planned_touch(&walked.slot.hart, job.image, None) else {
-        return walked.stamped(&[]);
+        log.add(walked.stamped(&[])?)?;
+        return Ok(());
     };
     let place = place_of(touch.word);
     let mut bank = job.banks[place].lock(rt);
-    let mut segment = walked.stamped(&[bank.last_stamp()])?;
+    let segment = walked.stamped(&[bank.last_stamp()])?;
     let found = found_in(&bank, walked.hart, touch.word);
-    let access = data_access(job.image, &walked.slot, &segment, None, touch, found);
     gate.held(walked.hart, place as u32);
+    let access = log.add_touch(segment, touch, found)?;
     bank.add(access)?;
-    segment.data_access = Some(access);
-    Ok(segment)
+    Ok(())
 }
 
 /// The last step of a segment whose instruction stands in a word that may be written, under the locks of all banks, in ascending
@@ -137,18 +145,25 @@ fn step_outside_code<A: Allocator + Copy, G: Gate, R: Wait>(
     Ok(segment)
 }
 
-/// The last step of a segment, under the locks of the banks that it touches.
+/// Takes a segment into its hart's log, and what its last step touches into the banks, under whose locks it is done.
 pub fn step<A: Allocator + Copy, G: Gate, R: Wait>(
     rt: &R,
     alloc: A,
     job: &Job<A>,
     gate: &G,
+    log: &mut HartLog<A>,
     walked: &Walked,
-) -> Result<LogSegment, StepFault>
-    requires { walked.now.hart < 32 }
+) -> Result<(), StepFault>
+    requires few { walked.now.hart < 32 }
+    requires next { IsWalked job.now.image.now log.old walked.now }
+    ensures { OnOk result (Stays log.old log.new) }
 {
     match needed_word(&walked.slot.hart, job.image) {
-        None => step_in_code(rt, job, gate, walked),
-        Some(word) => step_outside_code(rt, alloc, job, gate, walked, word),
+        None => step_in_code(rt, job, gate, log, walked),
+        Some(word) => {
+            let segment = step_outside_code(rt, alloc, job, gate, walked, word)?;
+            log.add(segment)?;
+            Ok(())
+        }
     }
 }

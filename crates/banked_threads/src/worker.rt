@@ -4,10 +4,9 @@ ghost use Rattle.std.specs.Prelude.{◌≡◌, ◌<◌, length};
 use crate::fault::StepFault;
 use crate::job::Job;
 use crate::step::{Walked, step};
-use hart_logs::{HartLog, Slot};
+use hart_logs::{Ahead, HartLog, Slot};
 use hart_step::HartState;
 use hart_threads::Gate;
-use local_steps::local_steps;
 use std::alloc::Allocator;
 use std::sync::Wait;
 
@@ -25,11 +24,13 @@ pub fn work<'a, A: Allocator + Copy, G: Gate, R: Wait>(
     let mut log = HartLog::new(alloc, job.image, job.inputs, hart);
     let mut left = job.budget;
     'choices: while left > 0 {
-        let mut reached = *log.slot();
-        let HartState::Running = reached.state else {
+        let HartState::Running = log.slot().state else {
             return Ok(log);
         };
-        let local = local_steps(&mut reached, &job.code, left - 1);
+        let Ahead {
+            local,
+            hart: reached,
+        } = log.walk_ahead(&job.code, left - 1);
         gate.arrive(hart, local);
         let number = job.budget.wrapping_sub(left).wrapping_add(local);
         let walked = Walked {
@@ -42,8 +43,7 @@ pub fn work<'a, A: Allocator + Copy, G: Gate, R: Wait>(
             },
             last_stamp: log.last_stamp(),
         };
-        let segment = step(rt, alloc, job, gate, &walked)?;
-        log.add(segment)?;
+        step(rt, alloc, job, gate, &mut log, &walked)?;
         left -= local + 1;
     }
     Ok(log)

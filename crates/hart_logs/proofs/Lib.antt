@@ -1,2 +1,3 @@
 pub mod LogLemmas
 pub mod StepLemmas
+pub mod AheadLemmas

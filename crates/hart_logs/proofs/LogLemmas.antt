@@ -1,17 +1,22 @@
 -- What every log of a hart keeps, and what a segment more makes of it.
-use Rattle.std.proofs.Common.{◌≡◌, ℕ, List, [], ◌∷◌, ◌++◌, Option, Some, None, refl, ap, sym, subst, ◌∙◌}
+use Rattle.std.proofs.Common.{◌≡◌, ℕ, Bool, ◌&&◌, List, [], ◌∷◌, ◌++◌, Option, Some, None, refl, ap, ap₂, sym, subst, ◌∙◌}
 use Rattle.std.specs.List.{AllByRecursion}
 use Rattle.loader.specs.Image.{ImageValue}
 use Rattle.hart_step.specs.Hart.{HartValue, hart_of}
 use Rattle.hart_step.specs.declared.hart.Hart.{Hart}
-use Rattle.banks_laws.specs.Runs.{StepTable}
-use Rattle.banks_laws.specs.Segments.{LoggedSegment, HartSlot}
+use Rattle.reservations.specs.Marks.{names}
+use Rattle.banks_laws.specs.declared.access.LoggedAccess.{LoggedAccess}
+use Rattle.banks_laws.specs.Banks.{WordBytes}
+use Rattle.banks_laws.specs.Runs.{StepTable, Touch, succeeds}
+use Rattle.banks_laws.specs.Segments.{LoggedSegment, HartSlot, access, slot_did}
 use Rattle.banks_laws.specs.HartLogs.{AreLocal, IsStepwise, StepFits, step_slot, local_hart, local_slot, segment_slot, slot_after_log}
 use Rattle.banks_laws.proofs.HartLogLemmas.{stepwise_walks}
 use Rattle.banks_runs.specs.Merged.{first_slot}
+use Rattle.told_steps.specs.Told.{told_word}
 use Rattle.hart_logs.specs.declared.step.Slot.{Slot}
-use Rattle.hart_logs.specs.HartLog.{HartLogValue, image_table, slot_in, slot_of, Fits, HoldsIn, IsOfHart}
-use Rattle.hart_logs.specs.LastStep.{slot_is, SlotIf}
+use Rattle.hart_logs.specs.HartLog.{HartLogValue, image_table, slot_in, slot_of, with_access, Fits, HoldsIn, IsOfHart, TouchesNext}
+use Rattle.hart_logs.specs.LastStep.{slot_is, succeeds_at, IsTouch, SlotIf}
+use Rattle.hart_logs.proofs.StepLemmas.{fits_in_code, fits_touch}
 
 pub is_of_hart : (image : ImageValue) (inputs : List ℕ) (h : ℕ) (log : List LoggedSegment) (hart : Hart) (named : Option ℕ) (walked : ℕ) (reached : Hart)
     → HoldsIn image inputs h log hart named walked reached → IsOfHart (record { image = image; inputs = inputs; hart = h; log = log })
@@ -87,3 +92,60 @@ fits_seen l0 l e0 e s r p q own local hart named h =
     (subst (λ (n : ℕ). AreLocal (image_table l.image) n (slot_of l).hart) count local)
     (λ i. record { hart = hart2 i; named = named2 i })
     (subst (λ (x : HartLogValue). SlotIf (StepFits (image_table x.image) e (slot_is s)) (step_slot (image_table x.image) e (slot_is s)) r) p h)
+
+-- ---- a segment that touches a word of which all is known
+access_is_touch : (T : StepTable HartValue) (e : LoggedSegment) (s : HartSlot HartValue) (c : WordBytes) (t : Touch) (a : LoggedAccess) (v : WordBytes) (m : Bool)
+    → a ≡ access T e s.hart c t v m (succeeds t.act e.refuse (m && names s.named t.word)) → IsTouch T e s c t a
+access_is_touch T e s c t a v m is =
+    let before : a.before ≡ v = ap (λ (x : LoggedAccess). x.before) is in
+    let mark : a.mark ≡ m = ap (λ (x : LoggedAccess). x.mark) is in
+    is ∙ ap₂ (λ (w : WordBytes) (n : Bool). access T e s.hart c t w n (succeeds t.act e.refuse (n && names s.named t.word))) (sym before) (sym mark)
+
+did_by_access : (T : StepTable HartValue) (e : LoggedSegment) (s : HartSlot HartValue) (c : WordBytes) (t : Touch) (a : LoggedAccess) (v : WordBytes) (m : Bool)
+    → a ≡ access T e s.hart c t v m (succeeds t.act e.refuse (m && names s.named t.word))
+    → slot_did T s c t v (succeeds t.act e.refuse (m && names s.named t.word)) ≡ slot_did T s c t a.before (succeeds_at e s t a)
+did_by_access T e s c t a v m is =
+    let before : a.before ≡ v = ap (λ (x : LoggedAccess). x.before) is in
+    let mark : a.mark ≡ m = ap (λ (x : LoggedAccess). x.mark) is in
+    ap₂ (λ (w : WordBytes) (n : Bool). slot_did T s c t w (succeeds t.act e.refuse (n && names s.named t.word))) (sym before) (sym mark)
+
+-- what the code has, as the log has it
+pub next_fits : (l : HartLogValue) (e : LoggedSegment) (t : Touch) (s r : Slot) (a : LoggedAccess) (v : WordBytes) (m : Bool) → TouchesNext l e t
+    → slot_is s ≡ local_slot (image_table l.image) e.local (slot_of l)
+    → a ≡ access (image_table l.image) e (slot_is s).hart [] t v m (succeeds t.act e.refuse (m && names s.named t.word))
+    → slot_is r ≡ slot_did (image_table l.image) (slot_is s) [] t v (succeeds t.act e.refuse (m && names s.named t.word))
+    → Fits l (with_access e a) × (slot_is r ≡ segment_slot (image_table l.image) (with_access e a) (slot_of l))
+next_fits l e t s r a v m next is a_is r_is =
+    let T = image_table l.image in
+    let f = with_access e a in
+    let need : T.need (slot_is s).hart ≡ None = ap (λ (u : HartSlot HartValue). T.need u.hart) is ∙ next.need in
+    let plan : T.plan (slot_is s).hart [] ≡ Some t = ap (λ (u : HartSlot HartValue). T.plan u.hart []) is ∙ next.plan in
+    fits_by l f s (Some r) next.hart next.local is
+    (fits_in_code T f (slot_is s) (a ∷ []) (Some r) need refl
+    (fits_touch T f (slot_is s) [] t a (Some r) plan
+    (access_is_touch T f (slot_is s) [] t a v m a_is, r_is ∙ did_by_access T f (slot_is s) [] t a v m a_is)))
+
+-- the same of what the code has seen
+pub record NextSeen (image : ImageValue) (inputs : List ℕ) (h : ℕ) (log : List LoggedSegment) (e : LoggedSegment) (t : Touch) (s r : Slot) (a : LoggedAccess) (v : WordBytes) (m : Bool) : Type 0 where
+  pub access_is : (c : WordBytes) → None ≡ told_word ((image_table image).need (slot_is s).hart) c → (image_table image).plan (slot_is s).hart c ≡ Some t
+      → a ≡ access (image_table image) e (slot_is s).hart c t v m (succeeds t.act e.refuse (m && names s.named t.word))
+  pub slot_after_is : (c : WordBytes) → None ≡ told_word ((image_table image).need (slot_is s).hart) c → (image_table image).plan (slot_is s).hart c ≡ Some t
+      → slot_is r ≡ slot_did (image_table image) (slot_is s) c t v (succeeds t.act e.refuse (m && names s.named t.word))
+
+pub seen_fits : (image : ImageValue) (inputs : List ℕ) (h : ℕ) (log : List LoggedSegment) (hart : Hart) (named : Option ℕ) (walked : ℕ) (reached : Hart) (l : HartLogValue) (e : LoggedSegment) (t : Touch) (s r : Slot) (a : LoggedAccess) (v : WordBytes) (m : Bool) (count : ℕ)
+    → HoldsIn image inputs h log hart named walked reached → record { image = image; inputs = inputs; hart = h; log = log } ≡ l → TouchesNext l e t → count ≡ e.local
+    → hart_of s.hart ≡ local_hart (image_table l.image) count (slot_of l).hart → s.named ≡ named → NextSeen image inputs h log e t s r a v m
+    → Fits (record { image = image; inputs = inputs; hart = h; log = log }) (with_access e a)
+    × (slot_is r ≡ segment_slot (image_table image) (with_access e a) (slot_in image inputs h log))
+seen_fits image inputs h log hart named walked reached l e t s r a v m count holds view next counted to named_is seen =
+    let L : HartLogValue = record { image = image; inputs = inputs; hart = h; log = log } in
+    let T = image_table image in
+    let here : TouchesNext L e t = subst (λ (x : HartLogValue). TouchesNext x e t) (sym view) next in
+    let hart_there : hart_of s.hart ≡ local_hart T e.local (slot_of L).hart =
+    to ∙ ap (λ (n : ℕ). local_hart (image_table l.image) n (slot_of l).hart) counted ∙ sym (ap (λ (x : HartLogValue). local_hart (image_table x.image) e.local (slot_of x).hart) view) in
+    let named_there : s.named ≡ (slot_of L).named = named_is ∙ ap (λ (x : HartSlot HartValue). x.named) holds.slot in
+    let at : slot_is s ≡ local_slot T e.local (slot_of L) = λ i. record { hart = hart_there i; named = named_there i } in
+    let need : T.need (slot_is s).hart ≡ None = ap (λ (u : HartValue). T.need u) hart_there ∙ here.need in
+    let plan : T.plan (slot_is s).hart [] ≡ Some t = ap (λ (u : HartValue). T.plan u []) hart_there ∙ here.plan in
+    let told : None ≡ told_word (T.need (slot_is s).hart) [] = sym (ap (λ (o : Option ℕ). told_word o []) need) in
+    next_fits L e t s r a v m here at (seen.access_is [] told plan) (seen.slot_after_is [] told plan)

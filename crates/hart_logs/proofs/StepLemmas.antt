@@ -1,5 +1,5 @@
 -- Which accesses are those of a segment's last step.
-use Rattle.std.proofs.Common.{◌≡◌, ℕ, zero, suc, ◌+◌, Bool, true, false, List, [], ◌∷◌, ◌++◌, Option, Some, None, refl, ap, ap₂, sym, subst, ◌∙◌}
+use Rattle.std.proofs.Common.{◌≡◌, ℕ, suc, false, List, [], ◌∷◌, ◌++◌, Option, Some, None, refl, ap, ap₂, sym, subst, ◌∙◌}
 use Rattle.std.specs.Prelude.{option_map}
 use Rattle.hart_step.specs.Hart.{HartValue}
 use Rattle.banks_laws.specs.declared.access.LoggedAccess.{LoggedAccess}
@@ -8,8 +8,6 @@ use Rattle.banks_laws.specs.Runs.{StepTable, Touch}
 use Rattle.banks_laws.specs.Segments.{LoggedSegment, HartSlot, access, answer, code_reads, data_accesses, slot_after, slot_did}
 use Rattle.banks_laws.specs.HartLogs.{first, data_part, StepFits, step_slot, local_hart, AreLocal}
 use Rattle.banks_table.specs.Table.{word_in}
-use Rattle.told_steps.specs.declared.words.Word.{Word}
-use Rattle.told_steps.specs.declared.steps.PlannedTouch.{PlannedTouch}
 use Rattle.told_steps.specs.Told.{as_touch, told_word}
 use Rattle.hart_logs.specs.declared.step.Slot.{Slot}
 use Rattle.hart_logs.specs.LastStep.{slot_is, succeeds_at, data_slot, IsCodeRead, IsTouch, DataFits, SlotIf}

@@ -6,11 +6,13 @@ use Rattle.memory.specs.Image.{image_memory}
 use Rattle.reservations.specs.Limit.{most_harts}
 use Rattle.hart_step.specs.Hart.{HartValue, hart_of}
 use Rattle.hart_step.specs.declared.hart.Hart.{Hart}
-use Rattle.banks_laws.specs.Runs.{StepTable}
+use Rattle.banks_laws.specs.declared.access.LoggedAccess.{LoggedAccess}
+use Rattle.banks_laws.specs.Runs.{StepTable, Touch}
 use Rattle.banks_laws.specs.Segments.{LoggedSegment, HartSlot, Walks}
-use Rattle.banks_laws.specs.HartLogs.{AreLocal, IsStepwise, StepFits, local_hart, local_slot, segment_slot, slot_after_log}
+use Rattle.banks_laws.specs.HartLogs.{AreLocal, IsStepwise, StepFits, local_hart, local_slot, slot_after_log}
 use Rattle.banks_table.specs.Table.{table}
 use Rattle.banks_runs.specs.Merged.{first_slot}
+use Rattle.hart_logs.specs.declared.log.Ahead.{Ahead}
 use Rattle.hart_logs.specs.declared.log.AddFault.{AddFault}
 use Rattle.hart_logs.specs.declared.log.AddFault.TheVariants.{Mismatch, Memory}
 
@@ -64,11 +66,27 @@ pub record IsOfHart (l : HartLogValue) : Type 0 where
   pub own : AllByRecursion (λ e. e.hart ≡ l.hart) l.log
   pub walks : Walks (image_table l.image) (first_slot l.image l.inputs l.hart) l.log (slot_of l)
 
+-- a hart is so many steps ahead of the log, which touch nothing
+pub record IsAhead (l : HartLogValue) (a : Ahead) : Type 0 where
+  pub local : AreLocal (image_table l.image) a.local (slot_of l).hart
+  pub hart : hart_of a.hart ≡ local_hart (image_table l.image) a.local (slot_of l).hart
+
 -- a segment may come next: it is the hart's, its local steps touch nothing, and its accesses are those of its last step
 pub record Fits (l : HartLogValue) (e : LoggedSegment) : Type 0 where
   pub hart : e.hart ≡ l.hart
   pub local : AreLocal (image_table l.image) e.local (slot_of l).hart
   pub step : StepFits (image_table l.image) e (local_slot (image_table l.image) e.local (slot_of l))
+
+-- a segment with an access, and no other
+abbrev pub with_access : LoggedSegment → LoggedAccess → LoggedSegment
+with_access e a = record e { accesses = a ∷ [] }
+
+-- a segment may come next that touches a word: it is the hart's, its local steps touch nothing, and its last step is of code
+pub record TouchesNext (l : HartLogValue) (e : LoggedSegment) (t : Touch) : Type 0 where
+  pub hart : e.hart ≡ l.hart
+  pub local : AreLocal (image_table l.image) e.local (slot_of l).hart
+  pub need : (image_table l.image).need (local_hart (image_table l.image) e.local (slot_of l).hart) ≡ None
+  pub plan : (image_table l.image).plan (local_hart (image_table l.image) e.local (slot_of l).hart) [] ≡ Some t
 
 -- the log with a segment more
 abbrev pub taken : HartLogValue → LoggedSegment → HartLogValue

@@ -1,15 +1,14 @@
 -- The last step of a segment, by the accesses that it logs.
 use Rattle.std.specs.Prelude.{◌≡◌, ℕ, Bool, ◌&&◌, List, [], ◌∷◌, Option, Some, None, option_to_list}
 use Rattle.reservations.specs.Marks.{names}
-use Rattle.loader.specs.Image.{ImageValue}
 use Rattle.hart_step.specs.Hart.{HartValue}
 use Rattle.banks_laws.specs.declared.access.LoggedAccess.{LoggedAccess}
 use Rattle.banks_laws.specs.declared.access.LoggedKind.TheVariants.{CodeRead}
 use Rattle.banks_laws.specs.Banks.{WordBytes}
 use Rattle.banks_laws.specs.Runs.{StepTable, Touch, succeeds}
-use Rattle.banks_laws.specs.Segments.{LoggedSegment, HartSlot, access, data_accesses, slot_after, slot_did}
-use Rattle.banks_laws.specs.HartLogs.{StepFits, step_slot, first}
-use Rattle.hart_logs.specs.HartLog.{image_table, slot_with}
+use Rattle.banks_laws.specs.Segments.{LoggedSegment, HartSlot, access, data_accesses, slot_after}
+use Rattle.banks_laws.specs.HartLogs.{first}
+use Rattle.hart_logs.specs.HartLog.{slot_with}
 use Rattle.hart_logs.specs.declared.step.Accesses.{Accesses}
 use Rattle.hart_logs.specs.declared.step.Slot.{Slot}
 

@@ -1,18 +1,25 @@
 //! A hart's log.
-ghost use Rattle.std.specs.Prelude.{◌≡◌, ◌<◌, ◌≤◌, length, [], MatchOption, IfErr, OnErr, OnOk};
+ghost use Rattle.std.specs.Prelude.{◌≡◌, ◌<◌, ◌≤◌, length, [], MatchOption, IfOk, IfErr, OnErr, OnOk};
 ghost use Rattle.reservations.specs.Limit.{most_harts};
 ghost use Rattle.hart_step.specs.Hart.{hart_of};
+ghost use Rattle.memory.specs.Image.{image_memory, segments_memory};
+ghost use Rattle.local_steps.specs.CodeMemory.{code_in};
 ghost use Rattle.banks_laws.specs.HartLogs.{AreLocal, local_hart, segment_slot};
-ghost use Rattle.hart_logs.specs.HartLog.{image_table, last_stamp, slot_of, taken, Fits, IsOfHart, Refuses};
+ghost use Rattle.hart_logs.specs.HartLog.{image_table, last_stamp, slot_of, taken, with_access, Fits, IsAhead, IsOfHart, Refuses, TouchesNext};
+ghost use Rattle.hart_logs.specs.declared.log.AddFault.{AddFault};
+ghost use Rattle.told_steps.specs.Told.{as_touch};
 ghost use Rattle.hart_logs.specs.LastStep.{SlotIf};
 
 use crate::first::first_hart;
-use crate::step::{Slot, last_step, walked};
+use crate::step::{Found, Slot, data_access, last_step, slot_touched, walked};
+use banks_laws::LoggedAccess;
 use hart_step::Hart;
 use loader::Image;
+use local_steps::{Code, local_steps};
 use segment_order::LogSegment;
 use std::alloc::Allocator;
 use std::marker::Model;
+use told_steps::PlannedTouch;
 
 /// Why a segment is not taken; then nothing has changed.
 #[derive(Clone, Copy, Debug, Drop, PartialEq, Eq)]
@@ -21,6 +28,15 @@ pub enum AddFault {
     Mismatch,
     /// The host refused memory.
     Memory,
+}
+
+/// A hart some local steps ahead of its log.
+#[derive(Clone, Copy, Debug)]
+pub struct Ahead {
+    /// How many steps.
+    pub local: u32,
+    /// The hart after them.
+    pub hart: Hart,
 }
 
 /// What one hart of a program did, segment by segment, and where that has led it. Nothing is said of its stamps.
@@ -90,6 +106,24 @@ impl<'a, A: Allocator> HartLog<'a, A> {
         walked(self.image, &self.hart, count)
     }
 
+    /// Does local steps ahead of the log, over the image's code, until the next one isn't local or `limit` have been done. A
+    /// segment of so many local steps that comes next is taken without doing them again.
+    pub fn walk_ahead(&mut self, code: &Code<A>, limit: u32) -> Ahead
+        requires { segments_memory code.now ≡ code_in (image_memory self.old.image) }
+        ensures same { self.new ≡ self.old }
+        ensures ahead { IsAhead self.old result }
+        ensures limit { result.local ≤ limit }
+    {
+        let mut reached = self.hart;
+        let local = local_steps(&mut reached, code, limit);
+        self.walked = local;
+        self.reached = reached;
+        Ahead {
+            local,
+            hart: reached,
+        }
+    }
+
     /// The slot after a segment, if it may come next.
     fn slot_after(&self, segment: &LogSegment) -> Option<Slot>
         ensures { SlotIf (Fits self.now segment.now)
@@ -127,6 +161,40 @@ impl<'a, A: Allocator> HartLog<'a, A> {
         self.walked = 0;
         self.reached = slot.hart;
         Ok(())
+    }
+
+    /// Takes a segment in whose last step is of code and touches a word, and tells the access, where the word has these bytes
+    /// and this mark. The segment comes without accesses. What is known before isn't looked at again.
+    pub fn add_touch(
+        &mut self,
+        segment: LogSegment,
+        touch: PlannedTouch,
+        found: Found,
+    ) -> Result<LoggedAccess, AddFault>
+        requires { TouchesNext self.old segment (as_touch touch) }
+        ensures ok { IfOk result (λ access. Fits self.old (with_access segment access)
+            × (self.new ≡ taken self.old (with_access segment access))) }
+        ensures finds { IfOk result (λ access. (access.before ≡ found.bytes) × (access.mark ≡ found.mark)) }
+        ensures fault { IfErr result (λ fault. fault ≡ AddFault.Memory) }
+        ensures err { OnErr result (self.new ≡ self.old) }
+    {
+        let Some(hart) = self.after_local(segment.local) else {
+            unreachable!();
+        };
+        let slot = Slot {
+            hart,
+            named: self.named,
+        };
+        let access = data_access(self.image, &slot, &segment, None, touch, found);
+        let after = slot_touched(self.image, &slot, &segment, None, touch, found);
+        let Ok(_) = self.segments.push(with_access(segment, access)) else {
+            return Err(AddFault::Memory);
+        };
+        self.hart = after.hart;
+        self.named = after.named;
+        self.walked = 0;
+        self.reached = after.hart;
+        Ok(access)
     }
 
     /// The hart's number, from 0.
@@ -179,6 +247,20 @@ impl<'a, A: Allocator> HartLog<'a, A> {
             Some(segment) => segment.stamp,
             None => 0,
         }
+    }
+}
+
+/// A segment with an access to its data, and no other.
+fn with_access(segment: LogSegment, access: LoggedAccess) -> LogSegment
+    ensures { result ≡ with_access segment access }
+{
+    LogSegment {
+        stamp: segment.stamp,
+        hart: segment.hart,
+        local: segment.local,
+        refuse: segment.refuse,
+        code_read: None,
+        data_access: Some(access),
     }
 }
 

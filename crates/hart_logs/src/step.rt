@@ -192,6 +192,38 @@ pub fn data_access<A: Allocator>(
     }
 }
 
+/// The slot after a step that touches a word and finds these bytes and this mark there.
+pub(crate) fn slot_touched<A: Allocator>(
+    image: &Image<A>,
+    slot: &Slot,
+    segment: &LogSegment,
+    code: Option<Word>,
+    touch: PlannedTouch,
+    found: Found,
+) -> Slot
+    ensures { (c : WordBytes) → let t = image_table image.now in let s = slot_is slot.now in let e = segment.now in
+        code ≡ told_word (t.need s.hart) c → t.plan s.hart c ≡ Some (as_touch touch)
+        → slot_is result ≡ slot_did t s c (as_touch touch) found.bytes
+        (succeeds (as_touch touch).act e.refuse (found.mark && names s.named touch.word)) }
+{
+    let stores = stores(slot, segment, touch, found.mark);
+    let kind = logged_kind(touch.kind, stores);
+    let bytes = found.bytes;
+    let mut hart = slot.hart;
+    let words = ToldWords {
+        code,
+        touched: Some(Word {
+            address: touch.word,
+            bytes,
+        }),
+    };
+    settle(&mut hart, image, words, stores);
+    Slot {
+        hart,
+        named: named_after(kind, touch.word, slot.named),
+    }
+}
+
 /// The slot after a step that touches a word, if an access is that of the touch.
 fn touched<A: Allocator>(
     image: &Image<A>,
@@ -214,21 +246,7 @@ fn touched<A: Allocator>(
     if !is_same(access, &expected) {
         return None;
     }
-    let stores = stores(slot, segment, touch, access.mark);
-    let kind = logged_kind(touch.kind, stores);
-    let mut hart = slot.hart;
-    let words = ToldWords {
-        code,
-        touched: Some(Word {
-            address: touch.word,
-            bytes: access.before,
-        }),
-    };
-    settle(&mut hart, image, words, stores);
-    Some(Slot {
-        hart,
-        named: named_after(kind, touch.word, slot.named),
-    })
+    Some(slot_touched(image, slot, segment, code, touch, found))
 }
 
 /// The slot after a step that touches no data.

@@ -1,4 +1,3 @@
-use Rattle.std.proofs.Common.{arith}
 use Rattle.banked_threads.proofs.ListLemmas.{below_next, below_all}
 use Rattle.banked_threads.proofs.compare.are_of_harts.Goals as goal
 

@@ -1,4 +1,4 @@
-use Rattle.std.proofs.Common.{arith, ap, sym, ◌≡◌, ◌+◌, ◌≤◌, ◌∙◌, refl, drop, []}
+use Rattle.std.proofs.Common.{arith, ap, ◌≡◌, ◌+◌, ◌∙◌, refl}
 use Rattle.banks_laws.specs.Segments.{LoggedSegment}
 use Rattle.hart_threads.specs.Plan.{is_planned}
 use Rattle.banked_threads.proofs.ListLemmas.{drop_here, drop_none}

@@ -1,10 +1,8 @@
-use Rattle.std.proofs.Common.{◌∙◌, sym, refl, ap, Some, Option, option_to_list}
-use Rattle.hart_step.specs.Hart.{hart_of}
+use Rattle.std.proofs.Common.{◌∙◌, sym, ap, Option}
 use Rattle.hart_logs.specs.HartLog.{image_table}
 use Rattle.hart_logs.specs.LastStep.{listed, slot_is}
 use Rattle.hart_logs.specs.declared.step.Accesses.{Accesses}
 use Rattle.told_steps.specs.Told.{told_word}
-use Rattle.told_steps.specs.declared.words.Word.{Word}
 use Rattle.hart_logs.proofs.StepLemmas.{fits_outside}
 use Rattle.hart_logs.proofs.step.step_outside_code.Goals as goal
 

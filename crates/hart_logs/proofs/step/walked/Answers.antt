@@ -1,7 +1,5 @@
-use Rattle.std.proofs.Common.{arith, ap, sym, refl, [], None, ◌≡◌, ◌+◌, ◌-◌, suc, Option, ℕ}
-use Rattle.hart_step.specs.Hart.{hart_of}
+use Rattle.std.proofs.Common.{arith, ap, sym, [], ◌≡◌, ◌+◌, ◌-◌, suc, Option, ℕ}
 use Rattle.told_steps.specs.Told.{told_word}
-use Rattle.hart_logs.specs.HartLog.{image_table}
 use Rattle.hart_logs.proofs.StepLemmas.{leads_first, leads_next, not_local, all_local, told_none}
 use Rattle.hart_logs.proofs.step.walked.Goals as goal
 

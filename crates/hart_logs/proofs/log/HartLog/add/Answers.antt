@@ -1,4 +1,4 @@
-use Rattle.std.proofs.Common.{sym, subst, ap, ◌∙◌, ◌≡◌}
+use Rattle.std.proofs.Common.{sym, subst, ◌≡◌}
 use Rattle.banks_laws.specs.HartLogs.{segment_slot}
 use Rattle.hart_logs.specs.HartLog.{HartLogValue, image_table, slot_of, Fits}
 use Rattle.hart_logs.specs.LastStep.{slot_is}
