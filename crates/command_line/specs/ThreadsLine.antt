@@ -1,13 +1,17 @@
 -- The command `threads`.
-use Rattle.std.specs.Prelude.{◌≡◌, List, [], ◌∷◌, Some, codes, option_map}
+use Rattle.std.specs.Prelude.{◌≡◌, Bool, true, false, List, [], ◌∷◌, Some, codes, option_map}
 use Rattle.clap.specs.Words.{App, Row, Text, first_of, new_app, with_rule}
-use Rattle.command_line.specs.Arguments.{needed, needed_option, optional}
+use Rattle.clap.specs.Walk.{one_of}
+use Rattle.command_line.specs.Arguments.{flag, needed, needed_option, optional, IsSet}
+use Rattle.command_line.specs.declared.threads_line.Locks.{Locks}
+use Rattle.command_line.specs.declared.threads_line.Locks.TheVariants as locks
 use Rattle.command_line.specs.declared.threads_line.ThreadsOrder.{ThreadsOrder}
 
--- `threads FILE --inputs L --budget N [--refuse P] [--history OUT] [--rule K]`
+-- `threads FILE --inputs L --budget N [--refuse P] [--history OUT] [--rule K] [--banked]`
 abbrev pub threads_app : App
 threads_app =
     with_rule
+    (with_rule
     (with_rule
     (with_rule
     (with_rule
@@ -17,13 +21,19 @@ threads_app =
     (needed_option (codes "budget")))
     (optional (codes "refuse")))
     (optional (codes "history")))
-    (optional (codes "rule"))
+    (optional (codes "rule")))
+    (flag (codes "banked"))
 
 -- the names of the texts that have to stand
 abbrev pub threads_names : List Text
 threads_names = codes "FILE" ∷ codes "inputs" ∷ codes "budget" ∷ []
 
--- each text of the order is the one that clap holds under its name
+-- whether harts lock banks
+abbrev pub are_banks : Locks → Bool
+are_banks locks.One = false
+are_banks locks.Banks = true
+
+-- each text of the order is the one that clap holds under its name, and so is the flag
 abbrev pub IsThreads : List Row → ThreadsOrder → Type 0
 IsThreads rows order =
     (first_of (codes "FILE") rows ≡ Some order.file.now)
@@ -32,3 +42,4 @@ IsThreads rows order =
     × (first_of (codes "refuse") rows ≡ option_map (λ s. s.now) order.refuse)
     × (first_of (codes "history") rows ≡ option_map (λ s. s.now) order.history)
     × (first_of (codes "rule") rows ≡ option_map (λ s. s.now) order.rule)
+    × IsSet (one_of (codes "banked") rows) (are_banks order.locks)

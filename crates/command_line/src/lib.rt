@@ -15,7 +15,7 @@ pub use replay_line::ReplayOrder;
 pub use run_line::RunOrder;
 pub use schedule_line::{Draw, ScheduleOrder, read_draw};
 pub use shrink_line::ShrinkOrder;
-pub use threads_line::ThreadsOrder;
+pub use threads_line::{Locks, ThreadsOrder};
 pub use trace_line::TraceOrder;
 
 mod arguments;

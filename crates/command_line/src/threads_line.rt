@@ -1,18 +1,41 @@
 //! The command `threads`.
 
-ghost use Rattle.std.specs.Prelude.{◌≡◌, false, None, IfOk, IfSome};
+ghost use Rattle.std.specs.Prelude.{◌≡◌, false, None, IfOk, IfSome, codes};
+ghost use Rattle.clap.specs.Walk.{one_of};
 ghost use Rattle.clap.specs.Words.{app_of, rows_of, found_of};
 ghost use Rattle.clap.specs.declared.builder.command.Command.TheViews.{out-Command};
-ghost use Rattle.command_line.specs.Arguments.{holds_all};
-ghost use Rattle.command_line.specs.ThreadsLine.{threads_app, threads_names, IsThreads};
+ghost use Rattle.command_line.specs.Arguments.{holds_all, IsSet};
+ghost use Rattle.command_line.specs.ThreadsLine.{are_banks, threads_app, threads_names, IsThreads};
 
-use crate::arguments::{add, headed, needed, needed_option, optional, text_of};
+use crate::arguments::{add, flag, headed, is_set, needed, needed_option, optional, text_of};
 use crate::help::{INPUTS, RULE};
 use clap::{ArgMatches, Command};
 use std::alloc::{AllocError, Global};
 
-/// `threads FILE --inputs L --budget N [--refuse P] [--history OUT] [--rule K]`: runs each hart in a thread of its own, writes the
-/// history of what they did, and prints each hart's end and, with a rule, its verdict.
+// What help says of `--budget`.
+const BUDGET: &str = "how many steps each hart may take, below 2^32";
+
+// Of `--refuse`.
+const REFUSE: &str =
+    "which store-conditionals are refused: pairs of a hart and the number of its step from 0, as 0:7,1:3";
+
+// Of `--history`, which is written here.
+const WRITTEN: &str = "the file that the history is written to";
+
+// Of `--banked`.
+const BANKED: &str = "a lock for each of sixteen banks of memory, in place of one lock for all";
+
+/// What harts lock for a step on what they share.
+#[derive(Clone, Copy, Debug, PartialEq, Eq)]
+pub enum Locks {
+    /// One lock for all memory.
+    One,
+    /// A lock for each bank of memory.
+    Banks,
+}
+
+/// `threads FILE --inputs L --budget N [--refuse P] [--history OUT] [--rule K] [--banked]`: runs each hart in a thread of its own,
+/// writes the history of what they did, and prints each hart's end and, with a rule, its verdict.
 #[derive(Debug, Drop)]
 pub struct ThreadsOrder<'a> {
     /// The program's path.
@@ -27,6 +50,8 @@ pub struct ThreadsOrder<'a> {
     pub history: Option<&'a str>,
     /// The name of the object whose rule is judged.
     pub rule: Option<&'a str>,
+    /// What harts lock.
+    pub locks: Locks,
 }
 
 /// The command as clap takes it.
@@ -42,27 +67,22 @@ pub(crate) fn threads_command<'a>(alloc: Global) -> Result<Command<'a>, AllocErr
     );
     let command = add(command, needed(alloc, "FILE", "the program, an ELF file"))?;
     let command = add(command, needed_option(alloc, "inputs", INPUTS))?;
-    let command = add(
-        command,
-        needed_option(
-            alloc,
-            "budget",
-            "how many steps each hart may take, below 2^32",
-        ),
-    )?;
-    let command = add(
-        command,
-        optional(
-            alloc,
-            "refuse",
-            "which store-conditionals are refused: pairs of a hart and the number of its step from 0, as 0:7,1:3",
-        ),
-    )?;
-    let command = add(
-        command,
-        optional(alloc, "history", "the file that the history is written to"),
-    )?;
-    add(command, optional(alloc, "rule", RULE))
+    let command = add(command, needed_option(alloc, "budget", BUDGET))?;
+    let command = add(command, optional(alloc, "refuse", REFUSE))?;
+    let command = add(command, optional(alloc, "history", WRITTEN))?;
+    let command = add(command, optional(alloc, "rule", RULE))?;
+    add(command, flag(alloc, "banked", BANKED))
+}
+
+// What harts lock, by clap's matches.
+fn locks_of<'a>(matches: &ArgMatches<'a>) -> Locks
+    ensures { IsSet (one_of (codes "banked") (rows_of (found_of matches.now))) (are_banks result) }
+{
+    if is_set(matches, "banked") {
+        Locks::Banks
+    } else {
+        Locks::One
+    }
 }
 
 /// The order that clap's matches hold.
@@ -78,5 +98,6 @@ pub(crate) fn threads_order<'a>(matches: &ArgMatches<'a>) -> Option<ThreadsOrder
         refuse: text_of(matches, "refuse"),
         history: text_of(matches, "history"),
         rule: text_of(matches, "rule"),
+        locks: locks_of(matches),
     })
 }

@@ -10,7 +10,8 @@ returns-clause-app c =
     let budget = c.in_ok-command-3.ensures.app ∙ ap₂ with_rule inputs c.needed_option-2.ensures.rule in
     let refuse = c.in_ok-command-4.ensures.app ∙ ap₂ with_rule budget c.optional.ensures.rule in
     let history = c.in_ok-command-5.ensures.app ∙ ap₂ with_rule refuse c.optional-2.ensures.rule in
-    IfOk-weaker c.add-6.result _ _ (λ r last. last ∙ ap₂ with_rule history c.optional-3.ensures.rule) c.add-6.ensures.app
+    let rule = c.in_ok-command-6.ensures.app ∙ ap₂ with_rule history c.optional-3.ensures.rule in
+    IfOk-weaker c.add-7.result _ _ (λ r last. last ∙ ap₂ with_rule rule c.flag.ensures.rule) c.add-7.ensures.app
 
 pub returns-clause-local : goal.returns-clause-local
 returns-clause-local c =
@@ -19,4 +20,5 @@ returns-clause-local c =
     let budget = c.in_ok-command-3.ensures.globals ∙ inputs in
     let refuse = c.in_ok-command-4.ensures.globals ∙ budget in
     let history = c.in_ok-command-5.ensures.globals ∙ refuse in
-    IfOk-weaker c.add-6.result _ _ (λ r last. last ∙ history) c.add-6.ensures.globals
+    let rule = c.in_ok-command-6.ensures.globals ∙ history in
+    IfOk-weaker c.add-7.result _ _ (λ r last. last ∙ rule) c.add-7.ensures.globals

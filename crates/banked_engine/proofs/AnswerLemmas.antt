@@ -1,0 +1,121 @@
+-- What is answered of a run's logs, and that a certified file keeps its rule.
+use Rattle.std.proofs.Common.{◌≡◌, ℕ, ◌^◌, ◌%◌, ◌<◌, List, map, length, Option, Some, None, Ok, refl, ap, sym, subst, ◌∙◌}
+use Rattle.std.specs.Prelude.{string_bytes}
+use Rattle.std.specs.Option.{IfSome}
+use Rattle.std.specs.List.{All}
+use Rattle.loader.specs.Image.{ImageValue}
+use Rattle.hart_step.specs.Hart.{HartValue}
+use Rattle.machine.specs.World.{World}
+use Rattle.machine.specs.declared.choice.Choice.{Choice}
+use Rattle.banks_laws.specs.Banks.{after_log}
+use Rattle.banks_runs.specs.Merged.{first_bank, EndsIn}
+use Rattle.merged_choices.specs.Merged.{IsMergeOf}
+use Rattle.banks.specs.BankLog.{BankLog}
+use Rattle.hart_logs.specs.HartLog.{HartLogValue}
+use Rattle.banks_merge.specs.Logs.{bank_log, segments_of_all, StampsRise}
+use Rattle.banks_merge.specs.Merge.{slots, AreMatched, EndsAsLogged}
+use Rattle.banked_threads.specs.Banked.{IsBanked}
+use Rattle.histories.specs.History.{expanded}
+use Rattle.histories.specs.Printing.{history_text}
+use Rattle.choice_histories.specs.Plain.{plain_entry}
+use Rattle.choice_histories.proofs.PlainLemmas.{plain_expands}
+use Rattle.protocol_library.specs.declared.kind.Kind.{Kind}
+use Rattle.ends.specs.Ends.{verdict_on}
+use Rattle.devices.specs.declared.status.Status.{Status}
+use Rattle.programs.specs.Program.{program_of}
+use Rattle.programs.specs.declared.program.ProgramForm.TheVariants as form
+use Rattle.engines.specs.Certified.{IsCertified, EndsKept}
+use Rattle.engines.specs.Run.{shown, shown_with, world_after}
+use Rattle.replay_engine.proofs.KeptLemmas.{certified_shown}
+use Rattle.threads_engine.specs.declared.threads.ThreadsAnswer.{ThreadsAnswer}
+use Rattle.banked_engine.specs.BankedAnswer.{hart_of_log, IsAnswer, IsMergedRun, IsOfRun, IsUnmatched}
+use Rattle.banked_engine.proofs.RunLemmas.{are_of, choices_within, harts_are, stamps_rise}
+
+module _ (image : ImageValue) (inputs : List ℕ) (budget : ℕ) (plan : List (ℕ × ℕ)) (logs : List HartLogValue) (banks : List BankLog) (b : IsBanked image inputs budget plan logs banks) (choices : List Choice) where
+  pub merged_run : image.entry % 4 ≡ 0 → AreMatched logs banks → IsMergeOf (segments_of_all logs) choices → EndsAsLogged logs banks choices
+      → IsMergedRun image inputs budget plan choices
+  merged_run entry matched merged ends = record {
+    logs = logs;
+    banks = banks;
+    banked = b;
+    matched = matched;
+    merged = merged;
+    ends = ends image inputs (are_of image inputs budget plan logs banks b entry);
+  }
+
+  -- what is printed of the logs' harts is the printed world after the choices
+  pub printed : (rule : Option Kind) (harts : List HartValue) (answer : List ℕ × Status)
+      → EndsIn image inputs (world_after image inputs choices) (slots image inputs logs) (λ n. after_log (first_bank image) (bank_log banks n))
+      → harts ≡ map hart_of_log logs → shown_with (verdict_on rule inputs choices harts) harts ≡ answer
+      → shown rule inputs choices (world_after image inputs choices) ≡ answer
+  printed rule harts answer ends are shows =
+      let same : (world_after image inputs choices).harts ≡ harts
+      = harts_are image inputs budget plan logs banks b (world_after image inputs choices) (λ n. after_log (first_bank image) (bank_log banks n)) ends ∙ sym are in
+      ap (λ (hs : List HartValue). shown_with (verdict_on rule inputs choices hs) hs) same ∙ shows
+
+  pub of_run : {A : Type 0} (rule : Option Kind) (harts : List HartValue) (answer : ThreadsAnswer A) → image.entry % 4 ≡ 0 → AreMatched logs banks
+      → IsMergeOf (segments_of_all logs) choices → EndsAsLogged logs banks choices → string_bytes answer.history ≡ history_text (map plain_entry choices)
+      → harts ≡ map hart_of_log logs → shown_with (verdict_on rule inputs choices harts) harts ≡ (string_bytes answer.lines, answer.status)
+      → IsOfRun image inputs budget plan rule answer
+  unfolding merged_run
+  of_run rule harts answer entry matched merged ends text are shows =
+      let run = merged_run entry matched merged ends in
+      record {
+        choices = choices;
+        run = run;
+        entries = map plain_entry choices;
+        each = refl;
+        stand = plain_expands choices;
+        text = text;
+        prints = ap (λ (cs : List Choice). shown rule inputs cs (world_after image inputs cs)) (plain_expands choices)
+            ∙ printed rule harts (string_bytes answer.lines, answer.status) run.ends are shows;
+      }
+
+-- the answer to a program that was read
+pub answered : {A : Type 0} (image : ImageValue) (inputs : List ℕ) (budget : ℕ) (plan : List (ℕ × ℕ)) (left : Option (List ℕ)) (rule : Option Kind) (answer : ThreadsAnswer A)
+    → IfSome left (λ p. program_of form.Elf p ≡ Ok image) → IsOfRun image inputs budget plan rule answer
+    → IfSome left (λ p. IsAnswer inputs budget plan rule p answer)
+answered image inputs budget plan None rule answer reads run = tt
+answered image inputs budget plan (Some p) rule answer reads run = record { image = image; reads = reads; of_run = run }
+
+-- lines of inputs and choices as they were seen
+pub seen_lines : (rule : Option Kind) (inputs inputs_seen : List ℕ) (choices choices_seen : List Choice) (harts : List HartValue) (answer : List ℕ × Status)
+    → inputs_seen ≡ inputs → choices_seen ≡ choices → shown_with (verdict_on rule inputs_seen choices_seen harts) harts ≡ answer
+    → shown_with (verdict_on rule inputs choices harts) harts ≡ answer
+seen_lines rule inputs inputs_seen choices choices_seen harts answer same_inputs same_choices shows =
+    (λ i. shown_with (verdict_on rule (sym same_inputs i) (sym same_choices i) harts) harts) ∙ shows
+
+-- logs of a program that was read and don't match
+pub unmatched : (image : ImageValue) (inputs inputs_seen : List ℕ) (budget : ℕ) (plan : List (ℕ × ℕ)) (logs logs_seen : List HartLogValue) (banks banks_seen : List BankLog)
+    (left : Option (List ℕ)) → inputs_seen ≡ inputs → logs_seen ≡ logs → banks_seen ≡ banks → IfSome left (λ p. program_of form.Elf p ≡ Ok image)
+    → IsBanked image inputs_seen budget plan logs banks → (AreMatched logs_seen banks_seen → ⊥) → IfSome left (λ p. IsUnmatched inputs budget plan p)
+unmatched image inputs inputs_seen budget plan logs logs_seen banks banks_seen None same_inputs same_logs same_banks reads b none = tt
+unmatched image inputs inputs_seen budget plan logs logs_seen banks banks_seen (Some p) same_inputs same_logs same_banks reads b none = record {
+  image = image;
+  logs = logs;
+  banks = banks;
+  reads = reads;
+  banked = subst (λ (xs : List ℕ). IsBanked image xs budget plan logs banks) same_inputs b;
+  unmatched = λ m. none (subst (λ (ls : List HartLogValue). AreMatched ls banks_seen) (sym same_logs) (subst (λ (bs : List BankLog). AreMatched logs bs) (sym same_banks) m));
+}
+
+-- the stamps of a run's logs rise
+pub seen_rising : (image : ImageValue) (inputs : List ℕ) (budget : ℕ) (plan : List (ℕ × ℕ)) (logs logs_seen : List HartLogValue) (banks : List BankLog)
+    → logs_seen ≡ logs → IsBanked image inputs budget plan logs banks → StampsRise logs_seen
+seen_rising image inputs budget plan logs logs_seen banks same b =
+    subst (λ (ls : List HartLogValue). StampsRise ls) (sym same) (stamps_rise image inputs budget plan logs banks b)
+
+-- a certified file keeps its rule
+kept : {A : Type 0} (image : ImageValue) (inputs : List ℕ) (budget : ℕ) (plan : List (ℕ × ℕ)) (program : List ℕ) (rule : Option Kind) (answer : ThreadsAnswer A)
+    → All (λ x. x < 2 ^ 32) inputs → program_of form.Elf program ≡ Ok image → IsOfRun image inputs budget plan rule answer → IsCertified form.Elf program inputs rule
+    → EndsKept (string_bytes answer.lines) answer.status
+kept image inputs budget plan program rule answer words reads o certified =
+    let there : All (λ c. c.hart < length inputs) o.choices = choices_within o.run.logs o.choices (length inputs) o.run.banked.harts o.run.merged in
+    subst (λ (a : List ℕ × Status). EndsKept a.0 a.1) o.prints
+    (certified_shown inputs rule program image (expanded o.entries) words (subst (λ (cs : List Choice). All (λ c. c.hart < length inputs) cs) (sym o.stand) there) reads certified)
+
+pub kept_of : {A : Type 0} (image : ImageValue) (inputs : List ℕ) (budget : ℕ) (plan : List (ℕ × ℕ)) (left : Option (List ℕ)) (rule : Option Kind) (answer : ThreadsAnswer A)
+    → All (λ x. x < 2 ^ 32) inputs → IfSome left (λ p. program_of form.Elf p ≡ Ok image) → IsOfRun image inputs budget plan rule answer
+    → IfSome left (λ p. IsCertified form.Elf p inputs rule → EndsKept (string_bytes answer.lines) answer.status)
+kept_of image inputs budget plan None rule answer words reads run = tt
+kept_of image inputs budget plan (Some p) rule answer words reads run = λ certified. kept image inputs budget plan p rule answer words reads run certified

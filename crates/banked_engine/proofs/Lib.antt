@@ -1,0 +1,3 @@
+pub mod ImageLemmas
+pub mod RunLemmas
+pub mod AnswerLemmas

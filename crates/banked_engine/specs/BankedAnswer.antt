@@ -1,0 +1,109 @@
+-- What a run of threads over banks answers: the choices of the one run that the logs are, and what a replay of them prints.
+use Rattle.std.specs.Prelude.{◌≡◌, ℕ, ◌<◌, List, map, length, Option, Ok, Err, string_bytes}
+use Rattle.reservations.specs.Limit.{most_harts}
+use Rattle.loader.specs.Image.{ImageValue}
+use Rattle.hart_step.specs.Hart.{HartValue}
+use Rattle.machine.specs.declared.choice.Choice.{Choice}
+use Rattle.banks_laws.specs.Banks.{after_log}
+use Rattle.banks_runs.specs.Merged.{first_bank, EndsIn}
+use Rattle.banks.specs.BankLog.{BankLog}
+use Rattle.hart_logs.specs.HartLog.{HartLogValue, slot_of}
+use Rattle.merged_choices.specs.Merged.{IsMergeOf}
+use Rattle.banks_merge.specs.Logs.{bank_log, segments_of_all}
+use Rattle.banks_merge.specs.Merge.{slots, AreMatched}
+use Rattle.banked_threads.specs.Banked.{IsBanked}
+use Rattle.banked_threads.specs.declared.fault.RunFault.{RunFault}
+use Rattle.banked_threads.specs.declared.fault.RunFault.TheVariants as banked
+use Rattle.histories.specs.declared.entry.Entry.{Entry}
+use Rattle.histories.specs.History.{expanded}
+use Rattle.histories.specs.Printing.{history_text}
+use Rattle.choice_histories.specs.Plain.{plain_entry}
+use Rattle.protocol_library.specs.declared.kind.Kind.{Kind}
+use Rattle.programs.specs.Program.{program_of}
+use Rattle.programs.specs.declared.program.ProgramForm.TheVariants as form
+use Rattle.programs.specs.declared.run_fault.RunFault.TheVariants as run
+use Rattle.devices.specs.declared.status.Status.{Status}
+use Rattle.devices.specs.declared.status.Status.TheVariants as status
+use Rattle.engines.specs.Run.{shown, world_after}
+use Rattle.threads_engine.specs.Threads as one_lock
+use Rattle.threads_engine.specs.declared.fault.ThreadsEngineFault.TheVariants as threads
+use Rattle.threads_engine.specs.declared.threads.ThreadsAnswer.{ThreadsAnswer}
+use Rattle.banked_engine.specs.declared.fault.BankedEngineFault.{BankedEngineFault}
+use Rattle.banked_engine.specs.declared.fault.BankedEngineFault.TheVariants as engine
+
+-- the hart to which a log leads
+abbrev pub hart_of_log : HartLogValue → HartValue
+hart_of_log l = (slot_of l).hart
+
+-- choices are those of logs that a run of threads leaves, merged; they lead to the logs' harts, the banks' bytes and the
+-- reservations that slots and banks tell
+pub record IsMergedRun (image : ImageValue) (inputs : List ℕ) (budget : ℕ) (plan : List (ℕ × ℕ)) (choices : List Choice) : Type 0 where
+  pub logs : List HartLogValue
+  pub banks : List BankLog
+  pub banked : IsBanked image inputs budget plan logs banks
+  pub matched : AreMatched logs banks
+  pub merged : IsMergeOf (segments_of_all logs) choices
+  pub ends : EndsIn image inputs (world_after image inputs choices) (slots image inputs logs) (λ b. after_log (first_bank image) (bank_log banks b))
+
+-- an answer has the history of such choices, an entry for each, and what a replay of the history prints
+pub record IsOfRun {A : Type 0} (image : ImageValue) (inputs : List ℕ) (budget : ℕ) (plan : List (ℕ × ℕ)) (rule : Option Kind) (answer : ThreadsAnswer A) : Type 0 where
+  pub choices : List Choice
+  pub run : IsMergedRun image inputs budget plan choices
+  pub entries : List Entry
+  pub each : entries ≡ map plain_entry choices
+  pub stand : expanded entries ≡ choices
+  pub text : string_bytes answer.history ≡ history_text entries
+  pub prints : shown rule inputs (expanded entries) (world_after image inputs (expanded entries))
+      ≡ (string_bytes answer.lines, answer.status)
+
+-- an answer is that of a run of the file's program
+pub record IsAnswer {A : Type 0} (inputs : List ℕ) (budget : ℕ) (plan : List (ℕ × ℕ)) (rule : Option Kind) (program : List ℕ) (answer : ThreadsAnswer A) : Type 0 where
+  pub image : ImageValue
+  pub reads : program_of form.Elf program ≡ Ok image
+  pub of_run : IsOfRun image inputs budget plan rule answer
+
+-- a run of the file's program leaves logs that don't match
+pub record IsUnmatched (inputs : List ℕ) (budget : ℕ) (plan : List (ℕ × ℕ)) (program : List ℕ) : Type 0 where
+  pub image : ImageValue
+  pub logs : List HartLogValue
+  pub banks : List BankLog
+  pub reads : program_of form.Elf program ≡ Ok image
+  pub banked : IsBanked image inputs budget plan logs banks
+  pub unmatched : AreMatched logs banks → ⊥
+
+-- a fault of the threads
+abbrev pub fault_of_run : RunFault → BankedEngineFault
+fault_of_run banked.NoHarts = engine.Threads (threads.Run run.NoHarts)
+fault_of_run banked.TooManyHarts = engine.Threads (threads.Run run.TooManyHarts)
+fault_of_run banked.StartRefused = engine.Threads threads.StartRefused
+fault_of_run banked.StampsExhausted = engine.StampsExhausted
+fault_of_run banked.Stale = engine.Threads threads.Stale
+fault_of_run banked.Memory = engine.Threads (threads.Run run.Memory)
+
+-- a fault of the program, of the number of inputs, or of the logs that were left; and of no device, thread, stamp or memory
+abbrev pub IsRefusal : BankedEngineFault → Type 0
+IsRefusal (engine.Threads why) = one_lock.IsRefusal why
+IsRefusal engine.StampsExhausted = ⊥
+IsRefusal engine.Unmatched = Unit {0}
+IsRefusal engine.OutOfOrder = ⊥
+
+-- when a task and a program are refused so
+abbrev pub Refuses : List ℕ → ℕ → List (ℕ × ℕ) → List ℕ → BankedEngineFault → Type 0
+Refuses inputs budget plan program (engine.Threads why) = one_lock.Refuses (length inputs) program why
+Refuses inputs budget plan program engine.StampsExhausted = ⊥
+Refuses inputs budget plan program engine.Unmatched = IsUnmatched inputs budget plan program
+Refuses inputs budget plan program engine.OutOfOrder = ⊥
+
+-- a fact of the program's file where a fault names it
+abbrev pub IfReads : BankedEngineFault → Type 0 → Type 0
+IfReads (engine.Threads why) file = one_lock.IfReads why file
+IfReads engine.StampsExhausted file = Unit {0}
+IfReads engine.Unmatched file = Unit {0}
+IfReads engine.OutOfOrder file = Unit {0}
+
+-- the status of a fault
+abbrev pub status_of : BankedEngineFault → Status
+status_of (engine.Threads why) = one_lock.status_of why
+status_of engine.StampsExhausted = status.Refused
+status_of engine.Unmatched = status.Refused
+status_of engine.OutOfOrder = status.Refused

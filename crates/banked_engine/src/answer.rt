@@ -1,0 +1,57 @@
+//! What is answered of a run's harts and choices.
+
+ghost use Rattle.std.specs.Prelude.{◌≡◌, IfOk, map, string_bytes};
+ghost use Rattle.hart_step.specs.Hart.{hart_of};
+ghost use Rattle.histories.specs.Printing.{history_text};
+ghost use Rattle.choice_histories.specs.Plain.{plain_entry};
+ghost use Rattle.ends.specs.Ends.{verdict_on};
+ghost use Rattle.engines.specs.Run.{shown_with};
+ghost use Rattle.banked_engine.specs.BankedAnswer.{hart_of_log};
+
+use choice_histories::history_of;
+use ends::ends_text;
+use hart_logs::HartLog;
+use hart_step::Hart;
+use histories::print_history;
+use machine::Choice;
+use protocol_library::Kind;
+use std::alloc::{AllocError, Allocator};
+use threads_engine::ThreadsAnswer;
+
+/// The hart to which each log leads.
+pub(crate) fn harts_of<A: Allocator>(
+    alloc: A,
+    logs: &[HartLog<A>],
+) -> Result<Vec<Hart, A>, AllocError>
+    ensures { IfOk result (λ harts. map hart_of harts.items ≡ map hart_of_log logs.now) }
+{
+    let mut harts = Vec::new(alloc);
+    'logs: for log in logs {
+        harts.push(*log.slot())?;
+    }
+    Ok(harts)
+}
+
+/// Choices as the text of a history, and the lines of harts that they have led to, under a rule with the verdict.
+pub(crate) fn answer_of<A: Allocator + Copy>(
+    alloc: A,
+    inputs: &[u32],
+    rule: Option<Kind>,
+    choices: &[Choice],
+    harts: &[Hart],
+) -> Result<ThreadsAnswer<A>, AllocError>
+    ensures history { IfOk result (λ answer.
+        string_bytes answer.history ≡ history_text (map plain_entry choices.now)) }
+    ensures lines { IfOk result (λ answer.
+        shown_with (verdict_on rule inputs.now choices.now (map hart_of harts.now)) (map hart_of harts.now)
+        ≡ (string_bytes answer.lines, answer.status)) }
+{
+    let entries = history_of(alloc, choices)?;
+    let history = print_history(alloc, &entries)?;
+    let (lines, status) = ends_text(alloc, inputs, choices, harts, rule)?;
+    Ok(ThreadsAnswer {
+        history,
+        lines,
+        status,
+    })
+}

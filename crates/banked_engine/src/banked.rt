@@ -1,0 +1,137 @@
+//! `threads --banked`: a program, inputs, a budget and a plan in; the history that the harts' logs are, their ends and the verdict
+//! on them out.
+
+ghost use Rattle.std.specs.Prelude.{◌≡◌, ◌≢◌, ◌^◌, ◌-◌, ◌%◌, ◌<◌, IfOk, IfErr, IfSome, Err};
+ghost use Rattle.engines.specs.Certified.{IsCertified};
+ghost use Rattle.machine.specs.Start.{IsStartable};
+ghost use Rattle.programs.specs.declared.program.ProgramForm.{ProgramForm};
+ghost use Rattle.banked_threads.specs.Banked.{IsBanked};
+ghost use Rattle.threads_engine.specs.Threads.{IsKept};
+ghost use Rattle.banks_merge.specs.Merge.{Refuses as NotMerged};
+ghost use Rattle.banked_engine.specs.BankedAnswer.{fault_of_run, IfReads, IsAnswer, IsOfRun, IsRefusal, Refuses};
+
+use crate::answer::{answer_of, harts_of};
+use crate::fault::BankedEngineFault;
+use banked_threads::{RunFault as BankedFault, run_banked};
+use banks::Bank;
+use banks_merge::{MergeFault, merge};
+use devices::Source;
+use hart_logs::HartLog;
+use hart_threads::Gate;
+use loader::Image;
+use programs::{ProgramForm, RunFault, read_image};
+use replay_engine::see_words;
+use std::alloc::Allocator;
+use std::sync::Wait;
+use std::thread::Threads;
+use threads_engine::{ThreadsAnswer, ThreadsEngineFault, ThreadsTask};
+
+/// `threads --banked`: reads the program to its end, and runs it with a thread for each hart and a lock for each bank of memory.
+/// What is answered is what a replay of the answered history prints.
+pub fn banked_engine<
+    A: Allocator + Copy + Send + Sync,
+    P: Source,
+    G: Gate + Sync,
+    R: Threads + Wait + Sync,
+>(
+    rt: &R,
+    alloc: A,
+    task: ThreadsTask<A>,
+    program: &mut P,
+    gate: &G,
+) -> Result<ThreadsAnswer<A>, BankedEngineFault>
+    requires { P.failures program.old < 2 ^ 64 - 1 }
+    ensures answer { IfOk result (λ answer. IfSome (P.left program.old) (λ p.
+        IsAnswer task.inputs.items task.budget task.plan.keys task.rule p answer)) }
+    ensures startable { IfOk result (λ _. IsStartable task.inputs.items) }
+    // A file that is an object, run by as many harts as it is for, never has a broken verdict of its kind's rule.
+    ensures certified { IfOk result (λ answer. IfSome (P.left program.old) (λ p.
+        IsCertified ProgramForm.Elf p task.inputs.items task.rule → IsKept answer)) }
+    // What was read is refused, and no thread was started; or threads have left logs that don't match.
+    ensures refused { IfErr result (λ fault. IsRefusal fault → IfSome (P.left program.old) (λ p.
+        Refuses task.inputs.items task.budget task.plan.keys p fault)) }
+    ensures in_order { result ≢ Err BankedEngineFault.OutOfOrder }
+    // The program's device is named only where it failed, and no other is.
+    ensures read { IfErr result (λ fault. IfReads fault (P.failures program.old < P.failures program.new)) }
+    ensures sink_unnamed { IfErr result (λ fault.
+        fault ≢ BankedEngineFault.Threads (ThreadsEngineFault.Run RunFault.Write)) }
+{
+    see_words(&task.inputs);
+    let image = match read_image(alloc, ProgramForm::Elf, program) {
+        Ok(image) => image,
+        Err(fault) => return Err(BankedEngineFault::Threads(ThreadsEngineFault::Run(fault))),
+    };
+    see_entry(&image);
+    let banked = match run_banked(
+        rt,
+        alloc,
+        &image,
+        &task.inputs,
+        task.budget,
+        &task.plan,
+        gate,
+    ) {
+        Ok(banked) => banked,
+        Err(fault) => return Err(fault_of_banked(fault)),
+    };
+    match answer_of_logs(alloc, &image, &task, &banked.logs, &banked.banks) {
+        Ok(answer) => Ok(answer),
+        Err(MergeFault::Unmatched) => Err(BankedEngineFault::Unmatched),
+        Err(MergeFault::OutOfOrder) => Err(BankedEngineFault::OutOfOrder),
+        Err(MergeFault::Memory) => Err(BankedEngineFault::Threads(ThreadsEngineFault::Run(
+            RunFault::Memory,
+        ))),
+    }
+}
+
+// Looks at an image's entry, so that it is known to be the address of a word.
+fn see_entry<A: Allocator>(image: &Image<A>)
+    ensures { image.now.entry % 4 ≡ 0 }
+{
+    // Segments are told with what was checked of them and of the entry.
+    let _ = image.segments();
+}
+
+// The logs of a run as the one run that they are.
+fn answer_of_logs<A: Allocator + Copy>(
+    alloc: A,
+    image: &Image<A>,
+    task: &ThreadsTask<A>,
+    logs: &[HartLog<A>],
+    banks: &[Bank<A>],
+) -> Result<ThreadsAnswer<A>, MergeFault>
+    requires entry { image.now.entry % 4 ≡ 0 }
+    requires banked { IsBanked image.now task.now.inputs.items task.now.budget task.now.plan.keys logs.now banks.now }
+    ensures answer { IfOk result (λ answer.
+        IsOfRun image.now task.now.inputs.items task.now.budget task.now.plan.keys task.now.rule answer) }
+    ensures fault { IfErr result (λ fault. NotMerged logs.now banks.now fault) }
+{
+    let choices = merge(alloc, logs, banks)?;
+    let Ok(harts) = harts_of(alloc, logs) else {
+        return Err(MergeFault::Memory);
+    };
+    let Ok(answer) = answer_of(alloc, &task.inputs, task.rule, &choices, &harts) else {
+        return Err(MergeFault::Memory);
+    };
+    Ok(answer)
+}
+
+// A fault of the threads, as one of the command.
+fn fault_of_banked(fault: BankedFault) -> BankedEngineFault
+    ensures { result ≡ fault_of_run fault }
+{
+    match fault {
+        BankedFault::NoHarts => BankedEngineFault::Threads(ThreadsEngineFault::Run(
+            RunFault::NoHarts,
+        )),
+        BankedFault::TooManyHarts => BankedEngineFault::Threads(ThreadsEngineFault::Run(
+            RunFault::TooManyHarts,
+        )),
+        BankedFault::StartRefused => BankedEngineFault::Threads(ThreadsEngineFault::StartRefused),
+        BankedFault::StampsExhausted => BankedEngineFault::StampsExhausted,
+        BankedFault::Stale => BankedEngineFault::Threads(ThreadsEngineFault::Stale),
+        BankedFault::Memory => BankedEngineFault::Threads(ThreadsEngineFault::Run(
+            RunFault::Memory,
+        )),
+    }
+}

@@ -1,0 +1,9 @@
+//! What `threads --banked` does, over any source.
+#![tactic(auto)]
+
+pub use banked::banked_engine;
+pub use fault::BankedEngineFault;
+
+mod answer;
+mod banked;
+mod fault;
