@@ -1,3 +1,4 @@
 pub mod RightsLemmas
 pub mod BytesLemmas
 pub mod StepLemmas
+pub mod ImageLemmas

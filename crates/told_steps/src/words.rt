@@ -7,7 +7,7 @@ ghost use Rattle.memory.specs.Blocks.{spelled, Puts};
 ghost use Rattle.banks_table.specs.Words.{bytes_at};
 ghost use Rattle.told_steps.specs.Told.{has_all, told_memory, with_told};
 
-use crate::image::{byte_at, granted, is_mapped};
+use crate::image::{byte_at, bytes_at, granted, is_mapped};
 use decoder::decode;
 use isa_table::Instr;
 use loader::{Image, Rights};
@@ -36,6 +36,23 @@ fn byte_over(word: Option<Word>, address: u64, below: u8) -> u8
         return word.bytes[(address - first) as usize];
     }
     below
+}
+
+/// The four bytes from an address on, where those below a word are given.
+#[inline]
+fn bytes_over(word: Option<Word>, address: u32, below: [u8; 4]) -> [u8; 4]
+    ensures { (bytes : ℕ → ℕ) → bytes_at bytes address ≡ below → result ≡ bytes_at (with_told bytes word) address }
+{
+    if word.is_none() {
+        return below;
+    }
+    let first = u64::from(address);
+    [
+        byte_over(word, first, below[0]),
+        byte_over(word, first + 1, below[1]),
+        byte_over(word, first + 2, below[2]),
+        byte_over(word, first + 3, below[3]),
+    ]
 }
 
 /// Whether a word has all of the bytes from an address on, so many.
@@ -88,20 +105,22 @@ impl<'a, A: Allocator> ToldMemory<'a, A> {
     }
 
     /// The four bytes from an address on.
+    fn bytes_from(&self, address: u32) -> [u8; 4]
+        ensures { result ≡ bytes_at (told_memory (image_memory self.now.image.now) self.now.code self.now.touched self.now.target).bytes address }
+    {
+        let below = bytes_at(self.image.segments(), address);
+        let below = bytes_over(self.code, address, below);
+        let below = bytes_over(self.touched, address, below);
+        bytes_over(self.target, address, below)
+    }
+
+    /// The word of the four bytes from an address on.
     pub fn word_at(&self, address: u32) -> Word
         ensures address { result.address ≡ address }
         ensures bytes { result.bytes ≡ bytes_at (told_memory (image_memory self.now.image.now) self.now.code self.now.touched self.now.target).bytes address }
     {
-        let first = u64::from(address);
-        Word {
-            address,
-            bytes: [
-                self.byte(first),
-                self.byte(first + 1),
-                self.byte(first + 2),
-                self.byte(first + 3),
-            ],
-        }
+        let bytes = self.bytes_from(address);
+        Word { address, bytes }
     }
 
     /// Whether each of some bytes may be loaded.
@@ -136,13 +155,7 @@ impl<'a, A: Allocator> ToldMemory<'a, A> {
     fn number_at(&self, address: u32) -> u32
         ensures { result ≡ number_at (told_memory (image_memory self.now.image.now) self.now.code self.now.touched self.now.target).bytes 4 address }
     {
-        let first = u64::from(address);
-        u32::from_le_bytes([
-            self.byte(first),
-            self.byte(first + 1),
-            self.byte(first + 2),
-            self.byte(first + 3),
-        ])
+        u32::from_le_bytes(self.bytes_from(address))
     }
 
     /// Whether there is a byte at an address.
