@@ -1,5 +1,7 @@
 //! What no clause says: worked lines and lists.
-use command_line::{LineFault, Order, read_inputs, read_line, read_number, read_object, read_plan};
+use command_line::{
+    LineFault, Locks, Order, read_inputs, read_line, read_number, read_object, read_plan,
+};
 use protocol_library::Kind;
 use std::alloc::Global;
 
@@ -173,6 +175,7 @@ fn threads_are_read(rt: HostRuntime) {
             "0:7",
             "--history",
             "h",
+            "--banked",
         ],
     ) {
         Ok(Order::Threads(order)) => {
@@ -182,6 +185,7 @@ fn threads_are_read(rt: HostRuntime) {
             assert_eq!(rt; order.refuse.unwrap_or(""), "0:7");
             assert_eq!(rt; order.history.unwrap_or(""), "h");
             assert!(rt; order.rule.is_none());
+            assert_eq!(rt; order.locks, Locks::Banks);
         }
         _ => assert!(rt; false, "threads"),
     }

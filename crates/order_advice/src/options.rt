@@ -37,7 +37,14 @@ pub(crate) const COMMANDS: [Row; 12] = [
     },
     Row {
         name: "threads",
-        options: &["--inputs", "--budget", "--refuse", "--history", "--rule"],
+        options: &[
+            "--inputs",
+            "--budget",
+            "--refuse",
+            "--history",
+            "--rule",
+            "--banked",
+        ],
         example: "rvcons threads prog.elf --inputs 7,9 --budget 1000 --history out.history",
     },
     Row {

@@ -3,12 +3,13 @@
 ghost use Rattle.std.specs.Prelude.{◌≡◌, ◌≢◌};
 ghost use Rattle.programs.specs.RunFaults.{status_of_fault};
 ghost use Rattle.replay_engine.specs.Replay.{status_of};
-ghost use Rattle.threads_engine.specs.Threads.{status_of as status_of_threads};
+ghost use Rattle.banked_engine.specs.BankedAnswer.{status_of as status_of_threads};
 ghost use Rattle.schedule_engine.specs.Schedule.{status_of as status_of_schedule};
 ghost use Rattle.shrink_engine.specs.Faults.{status_of as status_of_shrink};
 
 use crate::audience::Audience;
 use crate::explain::explain_path;
+use banked_engine::BankedEngineFault;
 use command_line::LineFault;
 use devices::Status;
 use programs::RunFault;
@@ -17,7 +18,6 @@ use replay_engine::ReplayFault;
 use schedule_engine::ScheduleFault;
 use shrink_engine::ShrinkFault;
 use std::io;
-use threads_engine::ThreadsEngineFault;
 
 /// Memory was refused.
 pub fn out_of_memory(rt: &impl Eprint) -> Status
@@ -43,8 +43,8 @@ pub fn tell(rt: &impl Eprint, fault: ReplayFault) -> Status
     fault.status()
 }
 
-/// Says why a run of threads gives no answer.
-pub fn tell_threads(rt: &impl Eprint, fault: ThreadsEngineFault) -> Status
+/// Says why a run of threads gives no answer, whatever harts lock.
+pub fn tell_threads(rt: &impl Eprint, fault: BankedEngineFault) -> Status
     ensures { result ≡ status_of_threads fault }
 {
     let _ = eprintln!(rt; "rvcons: {fault}");

@@ -1,8 +1,14 @@
 //! Doing `threads`.
 
-use command_line::{LineFault, ThreadsOrder, read_inputs, read_number, read_plan, read_rule};
-use devices::{ReaderSource, Status, WriterSink, write_all};
+ghost use Rattle.std.specs.Prelude.{◌^◌, ◌-◌, ◌<◌};
+
+use banked_engine::{BankedEngineFault, banked_engine};
+use command_line::{
+    LineFault, Locks, ThreadsOrder, read_inputs, read_number, read_plan, read_rule,
+};
+use devices::{ReaderSource, Source, Status, WriterSink, write_all};
 use fault_advice::history_advice;
+use hart_threads::Gate;
 use programs::{Input, ProgramForm, RunFault};
 use reports::{
     Audience, RunFiles, TellingGate, cannot_open, cannot_read, cannot_write, explain_run,
@@ -14,7 +20,7 @@ use std::rt::Files;
 use std::sync::Wait;
 use std::thread::Threads;
 use std::{fs, io};
-use threads_engine::{ThreadsEngineFault, ThreadsTask, threads_engine};
+use threads_engine::{ThreadsAnswer, ThreadsEngineFault, ThreadsTask, threads_engine};
 
 // What the order's texts say.
 fn read_task(alloc: Global, order: &ThreadsOrder) -> Result<ThreadsTask<Global>, LineFault> {
@@ -33,6 +39,25 @@ fn read_task(alloc: Global, order: &ThreadsOrder) -> Result<ThreadsTask<Global>,
     })
 }
 
+// Runs a task under the locks that are ordered.
+fn run_task<P: Source, G: Gate + Sync, R: AllocGlobal + Threads + Wait + Sync>(
+    rt: &R,
+    locks: Locks,
+    task: ThreadsTask<Global>,
+    program: &mut P,
+    gate: &G,
+) -> Result<ThreadsAnswer<Global>, BankedEngineFault>
+    requires { P.failures program.old < 2 ^ 64 - 1 }
+{
+    match locks {
+        Locks::One => match threads_engine(rt, rt.alloc(), task, program, gate) {
+            Ok(answer) => Ok(answer),
+            Err(fault) => Err(BankedEngineFault::Threads(fault)),
+        },
+        Locks::Banks => banked_engine(rt, rt.alloc(), task, program, gate),
+    }
+}
+
 /// Runs each hart in a thread of its own. The history is written before anything is printed. Progress is told to a person.
 pub fn run_on_threads<R: Files + AllocGlobal + Print + Eprint + Threads + Wait + Sync>(
     rt: &R,
@@ -49,19 +74,21 @@ pub fn run_on_threads<R: Files + AllocGlobal + Print + Eprint + Threads + Wait +
     };
     let mut program = ReaderSource::new(program);
     let gate = TellingGate::new(rt, audience);
-    let answer = threads_engine(rt, rt.alloc(), task, &mut program, &gate);
+    let answer = run_task(rt, order.locks, task, &mut program, &gate);
     gate.wipe();
-    let answer = match answer {
-        Ok(answer) => answer,
-        Err(ThreadsEngineFault::Run(RunFault::Read(Input::File))) => {
-            return cannot_read(rt, order.file);
-        }
-        Err(fault) => {
-            let status = tell_threads(rt, fault);
-            explain(rt, audience, order, fault);
-            return status;
-        }
-    };
+    match answer {
+        Ok(answer) => write_answer(rt, audience, order, &answer),
+        Err(fault) => tell_fault(rt, audience, order, fault),
+    }
+}
+
+// Writes the history where it is asked for, and prints how the harts ended.
+fn write_answer<R: Files + AllocGlobal + Print + Eprint>(
+    rt: &R,
+    audience: Audience,
+    order: &ThreadsOrder,
+    answer: &ThreadsAnswer<Global>,
+) -> Status {
     if let Some(path) = order.history {
         if let Err(status) = write_history(rt, path, answer.history.as_bytes()) {
             return status;
@@ -98,26 +125,32 @@ fn write_history<R: Files + AllocGlobal + Print + Eprint>(
     }
 }
 
-// Tells why a run of threads gives no answer.
-fn explain<R: Files + AllocGlobal + Eprint>(
+// Tells why a run of threads gives no answer, and a person what is wrong with what was read.
+fn tell_fault<R: Files + AllocGlobal + Eprint>(
     rt: &R,
     audience: Audience,
     order: &ThreadsOrder,
-    fault: ThreadsEngineFault,
-) {
-    if let ThreadsEngineFault::Run(fault) = fault {
-        let harts = match read_inputs(rt.alloc(), order.inputs) {
-            Ok(inputs) => inputs.len(),
-            Err(_) => 0,
-        };
-        let files = RunFiles {
-            program: order.file,
-            form: ProgramForm::Elf,
-            choices: "",
-            harts,
-        };
-        explain_run(rt, audience, files, fault);
+    fault: BankedEngineFault,
+) -> Status {
+    let BankedEngineFault::Threads(ThreadsEngineFault::Run(why)) = fault else {
+        return tell_threads(rt, fault);
+    };
+    if why == RunFault::Read(Input::File) {
+        return cannot_read(rt, order.file);
     }
+    let harts = match read_inputs(rt.alloc(), order.inputs) {
+        Ok(inputs) => inputs.len(),
+        Err(_) => 0,
+    };
+    let files = RunFiles {
+        program: order.file,
+        form: ProgramForm::Elf,
+        choices: "",
+        harts,
+    };
+    let status = tell_threads(rt, fault);
+    explain_run(rt, audience, files, why);
+    status
 }
 
 // Tells what the faults mean with which the run ended, by its history, where its program can be read once more.
