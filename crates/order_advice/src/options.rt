@@ -27,7 +27,7 @@ pub(crate) const COMMANDS: [Row; 12] = [
     },
     Row {
         name: "run",
-        options: &["--hex", "--inputs", "--choices", "--rule"],
+        options: &["--hex", "--inputs", "--choices", "--rule", "--must-exit"],
         example: "rvcons run prog.elf --inputs 7,9 --choices turns.choices",
     },
     Row {
@@ -68,6 +68,8 @@ pub(crate) const COMMANDS: [Row; 12] = [
             "--failures",
             "--summary",
             "--outcomes",
+            "--schedule",
+            "--must-exit",
         ],
         example: "rvcons campaign prog.elf --inputs 7,9 --first 1 --count 1000 --steps 300",
     },
@@ -85,7 +87,7 @@ pub(crate) const COMMANDS: [Row; 12] = [
     },
     Row {
         name: "shrink",
-        options: &["--inputs", "--choices", "--rule"],
+        options: &["--inputs", "--choices", "--rule", "--must-exit"],
         example: "rvcons shrink prog.elf --inputs 7,9 --choices seed_5.choices >few.choices",
     },
     Row {

@@ -1,13 +1,20 @@
 //! Doing `run`.
 
+ghost use Rattle.std.specs.Prelude.{◌-◌, ◌<◌, ◌^◌};
+
 use command_line::{RunOrder, read_inputs, read_rule};
-use devices::{ReaderSource, Status, WriterSink};
+use devices::{ReaderSource, Sink, Source, Status, WriterSink};
 use engines::run_engine;
+use exit_engine::exit_engine;
+use exit_failures::Demands;
+use exits::Exit;
 use fault_advice::run_advice;
 use programs::{Input, ProgramForm, RunFault};
+use protocol_library::Kind;
 use reports::{
     Audience, RunFiles, cannot_open, cannot_read, explain_run, read_again, refuse, say, show,
 };
+use std::alloc::Allocator;
 use std::rt::Files;
 use std::{fs, io};
 
@@ -41,11 +48,16 @@ pub fn run_schedule<R: Files + AllocGlobal + Print + Eprint>(
     let mut program = ReaderSource::new(program);
     let mut choices = ReaderSource::new(choices);
     let mut sink = WriterSink::new(io::writer(rt));
-    match run_engine(
+    let exit = if order.must_exit {
+        Exit::Must
+    } else {
+        Exit::May
+    };
+    match run_program(
         rt.alloc(),
         form,
         inputs.as_slice(),
-        rule,
+        Demands { rule, exit },
         &mut program,
         &mut choices,
         &mut sink,
@@ -57,6 +69,27 @@ pub fn run_schedule<R: Files + AllocGlobal + Print + Eprint>(
             status
         }
         Err(fault) => tell(rt, audience, form, order, inputs.len(), fault),
+    }
+}
+
+// Runs a program under a schedule, with the engine for what is asked of the run.
+fn run_program<A: Allocator + Copy, P: Source, C: Source, K: Sink>(
+    alloc: A,
+    form: ProgramForm,
+    inputs: &[u32],
+    demands: Demands,
+    program: &mut P,
+    choices: &mut C,
+    sink: &mut K,
+) -> Result<Status, RunFault>
+    requires program_counts { P.failures program.old < 2 ^ 64 - 1 }
+    requires choices_count { C.failures choices.old < 2 ^ 64 - 1 }
+    requires sink_counts { K.failures sink.old < 2 ^ 64 - 1 }
+{
+    let rule = demands.rule;
+    match demands.exit {
+        Exit::May => run_engine(alloc, form, inputs, rule, program, choices, sink),
+        Exit::Must => exit_engine(alloc, form, inputs, rule, program, choices, sink),
     }
 }
 

@@ -3,6 +3,8 @@
 use choice_shrinking::ChoicesLeft;
 use command_line::{ShrinkOrder, read_inputs, read_rule};
 use devices::{ReaderSource, Status, WriterSink};
+use exit_failures::Demands;
+use exits::Exit;
 use programs::{Input, ProgramForm, RunFault};
 use reports::{
     Audience, RunFiles, WIPE, cannot_open, cannot_read, explain_run, refuse, say, show, tell_shrink,
@@ -61,10 +63,15 @@ pub fn shrink_schedule<R: Files + AllocGlobal + Print + Eprint>(
     let mut choices = ReaderSource::new(choices);
     let mut sink = WriterSink::new(io::writer(rt));
     let mut line = Line { rt, audience };
+    let exit = if order.must_exit {
+        Exit::Must
+    } else {
+        Exit::May
+    };
     match shrink_engine(
         rt.alloc(),
         inputs.as_slice(),
-        rule,
+        Demands { rule, exit },
         &mut program,
         &mut choices,
         &mut sink,
@@ -72,6 +79,15 @@ pub fn shrink_schedule<R: Files + AllocGlobal + Print + Eprint>(
     ) {
         Ok(status) => status,
         Err(fault) => tell(rt, audience, order, inputs.len(), fault),
+    }
+}
+
+// What would have been a failure, for a person.
+fn what_would_fail(must_exit: bool) -> &'static str {
+    if must_exit {
+        "no hart faults under these choices, or with --rule the rule is kept, and given as many steps more all harts stop: run shows how they end\n"
+    } else {
+        "no hart faults under these choices, or with --rule the rule is kept: run shows how the harts end\n"
     }
 }
 
@@ -100,10 +116,7 @@ fn tell<R: Files + AllocGlobal + Eprint>(
         ShrinkFault::NothingFails => {
             let status = tell_shrink(rt, fault);
             if audience == Audience::Person {
-                show(
-                    rt,
-                    "no hart faults under these choices, or with --rule the rule is kept: run shows how the harts end\n",
-                );
+                show(rt, what_would_fail(order.must_exit));
             }
             status
         }
