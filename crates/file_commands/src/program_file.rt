@@ -33,7 +33,10 @@ pub struct ProgramFile<'a, R: Files> {
 impl<'a, R: Files> ProgramFile<'a, R> {
     /// The file at a path, which isn't opened yet.
     pub fn new(rt: &'a R, path: &'a str) -> ProgramFile<'a, R>
-        ensures { ⟦<ProgramFile<'a, R> as Sink>⟧.failures result ≡ 0 }
+        ensures path { result.path.now ≡ path.now }
+        ensures unopened { result.file ≡ None }
+        ensures no_fault { result.open_fault ≡ None }
+        ensures failures { ⟦<ProgramFile<'a, R> as Sink>⟧.failures result ≡ 0 }
     {
         ProgramFile {
             rt,
