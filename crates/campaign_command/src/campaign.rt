@@ -3,9 +3,8 @@
 ghost use Rattle.std.specs.Prelude.{◌+◌, ◌-◌, ◌<◌, ◌≤◌, ◌^◌};
 
 use crate::watching::Watching;
-use choice_texts::print_choices;
 use command_line::{CampaignOrder, read_inputs, read_rule};
-use devices::{ReaderSource, Sink, Source, Status, WriterSink};
+use devices::{MemorySink, MemorySource, ReaderSource, Sink, Source, Status, WriterSink};
 use drawn_campaigns::DrawnPlan;
 use drawn_engine::{LinesPlan, Shown, drawn_engine, drawn_summary_engine};
 use engines::{CampaignPlan, campaign_engine};
@@ -20,8 +19,8 @@ use reports::{
     Audience, RunFiles, WIPE, bad_line, cannot_open, cannot_read, explain_run, read_again, refuse,
     say, show, wipe_line,
 };
-use schedule_engine::{Maker, SchedulePlan, make_schedule};
 use schedule_kinds::ScheduleKind;
+use seed_choices::{SeedPlan, seed_choices_engine};
 use std::rt::Files;
 use std::thread::Threads;
 use std::{fs, io};
@@ -79,7 +78,9 @@ fn tell_even_runs<R: AllocGlobal + Eprint + Threads + Sync, P: Source, K: Sink>(
 fn is_even(plan: DrawnPlan) -> bool {
     match (plan.kind, plan.exit) {
         (ScheduleKind::Even, Exit::May) => true,
-        (ScheduleKind::Even, Exit::Must) | (ScheduleKind::Bursts(_), _) => false,
+        (ScheduleKind::Even, Exit::Must)
+        | (ScheduleKind::Bursts(_), _)
+        | (ScheduleKind::Priorities(_), _) => false,
     }
 }
 
@@ -174,7 +175,8 @@ pub fn run_campaign<R: Files + AllocGlobal + Print + Eprint + Threads + Sync>(
     let Some(kind) = read_kind(order.draw) else {
         return bad_line(
             rt,
-            "--schedule takes even, or bursts:MEAN with a decimal number from 1 to 2147483648, as bursts:100",
+            "--schedule takes even, bursts:MEAN with a decimal number from 1 to 2147483648, or priorities:DEPTH with one from 1 to 1000, \
+             as bursts:100",
         );
     };
     let plan = DrawnPlan {
@@ -245,17 +247,6 @@ fn tell<R: Files + AllocGlobal + Eprint>(
     status
 }
 
-// How `schedule` makes the choices of a seed.
-fn maker_of(kind: ScheduleKind, seed: u64) -> Maker {
-    match kind {
-        ScheduleKind::Even => Maker::Seed(seed),
-        ScheduleKind::Bursts(mean) => Maker::Bursts {
-            seed,
-            mean: mean.choices(),
-        },
-    }
-}
-
 // Tells how the first seed with a bad run is looked into, and what its faults mean.
 fn explain_seed<R: Files + AllocGlobal + Eprint>(
     rt: &R,
@@ -274,25 +265,35 @@ fn explain_seed<R: Files + AllocGlobal + Eprint>(
     if let Some(draw) = order.draw {
         eprint!(rt; " --schedule {draw}").ok()?;
     }
+    if let ScheduleKind::Priorities(_) = plan.kind {
+        eprint!(rt; " --inputs {texts} {file}").ok()?;
+    }
     eprintln!(rt;
         " >seed_{seed}.choices\n    \
          rvcons debug {file} --inputs {texts} --choices seed_{seed}.choices"
     )
     .ok()?;
-    let plan = SchedulePlan {
-        harts: u32::try_from(harts).ok()?,
-        steps: u32::try_from(steps).ok()?,
-        maker: maker_of(plan.kind, seed),
+    let plan = SeedPlan {
+        kind: plan.kind,
+        steps,
+        seed,
     };
-    let choices = make_schedule(rt.alloc(), plan).ok()?;
-    let choices = print_choices(rt.alloc(), &choices).ok()?;
     let program = read_again(rt, file)?;
+    let mut choices = MemorySink::new(rt.alloc());
+    seed_choices_engine(
+        rt.alloc(),
+        inputs,
+        plan,
+        &mut MemorySource::new(&program),
+        &mut choices,
+    )
+    .ok()?;
     let text = run_advice(
         rt.alloc(),
         ProgramForm::Elf,
         &program,
         inputs,
-        choices.as_bytes(),
+        choices.bytes(),
     )?;
     show(rt, &text);
     Some(())

@@ -7,6 +7,10 @@ use Rattle.clap.specs.declared.builder.ArgAction.TheVariants.{SetTrue, Append}
 abbrev pub needed : Text → Rule
 needed id = record (new_rule id) { required = true }
 
+-- a word that may be left out
+abbrev pub allowed : Text → Rule
+allowed id = new_rule id
+
 -- words, of which one at least has to stand
 abbrev pub many : Text → Rule
 many id = record (new_rule id) { required = true; action = Some Append }

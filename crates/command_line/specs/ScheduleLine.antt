@@ -4,16 +4,18 @@ use Rattle.std.specs.Str.{bytes_eq}
 use Rattle.clap.specs.Words.{App, Row, Text, first_of, new_app, with_rule}
 use Rattle.clap.specs.Walk.{one_of}
 use Rattle.item_texts.specs.Numbers.{before_byte, from_byte}
-use Rattle.command_line.specs.Arguments.{flag, needed_option, optional, IsSet}
+use Rattle.command_line.specs.Arguments.{allowed, flag, needed_option, optional, IsSet}
 use Rattle.command_line.specs.Inputs.{input_of}
 use Rattle.command_line.specs.declared.schedule_line.Draw.{Draw}
-use Rattle.command_line.specs.declared.schedule_line.Draw.TheVariants.{Even, Bursts}
+use Rattle.command_line.specs.declared.schedule_line.Draw.TheVariants.{Even, Bursts, Priorities}
 use Rattle.command_line.specs.declared.schedule_line.ScheduleOrder.{ScheduleOrder}
 
--- `schedule --harts N --steps M [--seed S] [--turns] [--only H] [--schedule KIND]`
+-- `schedule --harts N --steps M [--seed S] [--turns] [--only H] [--schedule KIND] [--inputs L] [FILE]`
 abbrev pub schedule_app : App
 schedule_app =
     with_rule
+    (with_rule
+    (with_rule
     (with_rule
     (with_rule
     (with_rule
@@ -23,7 +25,9 @@ schedule_app =
     (optional (codes "seed")))
     (flag (codes "turns")))
     (optional (codes "only")))
-    (optional (codes "schedule"))
+    (optional (codes "schedule")))
+    (optional (codes "inputs")))
+    (allowed (codes "FILE"))
 
 -- the names of the texts that have to stand
 abbrev pub schedule_names : List Text
@@ -38,11 +42,15 @@ IsSchedule rows order =
     × IsSet (one_of (codes "turns") rows) order.turns
     × (first_of (codes "only") rows ≡ option_map (λ s. s.now) order.only)
     × (first_of (codes "schedule") rows ≡ option_map (λ s. s.now) order.draw)
+    × (first_of (codes "inputs") rows ≡ option_map (λ s. s.now) order.inputs)
+    × (first_of (codes "FILE") rows ≡ option_map (λ s. s.now) order.file)
 
--- how a seed's choices are drawn, by a text: `even`, or `bursts:` and one or more decimal digits of a number below 2 ^ 32
+-- how a seed's choices are drawn, by a text: `even`, or `bursts:` or `priorities:` and one or more decimal digits of a number below 2 ^ 32
 abbrev pub draw_of : List ℕ → Option Draw
 draw_of text =
     if bytes_eq text (codes "even") then Some Even
     else (if bytes_eq (before_byte 58 text) (codes "bursts")
     then option_map (λ mean. Bursts mean) (input_of (drop 1 (from_byte 58 text)))
-    else None)
+    else (if bytes_eq (before_byte 58 text) (codes "priorities")
+    then option_map (λ depth. Priorities depth) (input_of (drop 1 (from_byte 58 text)))
+    else None))

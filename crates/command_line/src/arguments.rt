@@ -4,7 +4,7 @@ ghost use Rattle.std.specs.Prelude.{◌≡◌, false, IfOk, IsOkAnd, map, option
 ghost use Rattle.clap.specs.Walk.{one_of};
 ghost use Rattle.clap.specs.Words.{all_of, app_of, first_of, new_app, with_rule, with_subcommand, rows_of, found_of, rule_of};
 ghost use Rattle.clap.specs.declared.builder.command.Command.TheViews.{out-Command};
-ghost use Rattle.command_line.specs.Arguments.{flag, many, needed, needed_option, optional, IsSet};
+ghost use Rattle.command_line.specs.Arguments.{allowed, flag, many, needed, needed_option, optional, IsSet};
 
 use clap::{Arg, ArgAction, ArgMatches, Command};
 use std::alloc::{AllocError, Global};
@@ -28,6 +28,14 @@ pub(crate) fn needed<'a>(alloc: Global, id: &'a str, help: &'a str) -> Arg<'a>
     ensures local { result.global ≡ false }
 {
     Arg::new(alloc, id).required(true).help(help)
+}
+
+/// A word that may be left out.
+pub(crate) fn allowed<'a>(alloc: Global, id: &'a str, help: &'a str) -> Arg<'a>
+    ensures rule { rule_of result ≡ allowed id.entry.now }
+    ensures local { result.global ≡ false }
+{
+    Arg::new(alloc, id).help(help)
 }
 
 /// Words, of which one at least has to stand.

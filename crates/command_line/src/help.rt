@@ -16,7 +16,7 @@ pub(crate) const RULE: &str = "also judge the rule of an object, named as lib ha
 
 /// Of `--schedule` of a campaign.
 pub(crate) const DRAW: &str =
-    "how a seed draws its choices: even, or bursts:MEAN, each of one hart";
+    "how a seed draws its choices: even, bursts:MEAN, each of one hart, or priorities:DEPTH";
 
 /// Of `--must-exit` of a run or a campaign.
 pub(crate) const MUST_EXIT: &str = "a hart that still runs at the end is a failure, with status 3";

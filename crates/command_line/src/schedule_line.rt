@@ -7,7 +7,7 @@ ghost use Rattle.command_line.specs.Arguments.{holds_all};
 ghost use Rattle.std.specs.Str.{bytes_eq};
 ghost use Rattle.command_line.specs.ScheduleLine.{schedule_app, schedule_names, draw_of, IsSchedule};
 
-use crate::arguments::{add, flag, headed, is_set, needed_option, optional, text_of};
+use crate::arguments::{add, allowed, flag, headed, is_set, needed_option, optional, text_of};
 use crate::inputs::read_input;
 use crate::plan::behind_first;
 use clap::{ArgMatches, Command};
@@ -21,10 +21,12 @@ pub enum Draw {
     Even,
     /// In bursts of one hart, of this mean length.
     Bursts(u32),
+    /// By priorities, of this depth.
+    Priorities(u32),
 }
 
-/// `schedule --harts N --steps M [--seed S] [--turns] [--only H] [--schedule KIND]`: prints the choice text of a seed, of turns, or of
-/// one hart alone.
+/// `schedule --harts N --steps M [--seed S] [--turns] [--only H] [--schedule KIND] [--inputs L] [FILE]`: prints the choice text of a seed, of
+/// turns, or of one hart alone.
 #[derive(Debug, Drop)]
 pub struct ScheduleOrder<'a> {
     /// How many harts there are.
@@ -39,6 +41,10 @@ pub struct ScheduleOrder<'a> {
     pub only: Option<&'a str>,
     /// How the choices of the seed are drawn.
     pub draw: Option<&'a str>,
+    /// The harts' inputs, where the choices are those of a run.
+    pub inputs: Option<&'a str>,
+    /// The path of that run's program.
+    pub file: Option<&'a str>,
 }
 
 /// The command as clap takes it.
@@ -73,12 +79,28 @@ pub(crate) fn schedule_command<'a>(alloc: Global) -> Result<Command<'a>, AllocEr
         command,
         optional(alloc, "only", "let this hart, from 0 on, take all steps"),
     )?;
-    add(
+    let command = add(
         command,
         optional(
             alloc,
             "schedule",
-            "how a seed draws them: even, or bursts:MEAN, each of one hart",
+            "how a seed draws them: even, bursts:MEAN, each of one hart, or priorities:DEPTH, in a run of FILE",
+        ),
+    )?;
+    let command = add(
+        command,
+        optional(
+            alloc,
+            "inputs",
+            "with priorities:DEPTH: one decimal input below 2^32 for each hart, as 7,9",
+        ),
+    )?;
+    add(
+        command,
+        allowed(
+            alloc,
+            "FILE",
+            "with priorities:DEPTH: the program, an ELF file",
         ),
     )
 }
@@ -96,6 +118,8 @@ pub(crate) fn schedule_order<'a>(matches: &ArgMatches<'a>) -> Option<ScheduleOrd
         turns: is_set(matches, "turns"),
         only: text_of(matches, "only"),
         draw: text_of(matches, "schedule"),
+        inputs: text_of(matches, "inputs"),
+        file: text_of(matches, "FILE"),
     })
 }
 
@@ -106,7 +130,7 @@ fn is_word(text: &[u8], word: &str) -> bool
     text == word.as_bytes()
 }
 
-/// Reads how the choices of a seed are drawn: `even`, or `bursts:` and a decimal number below 2^32.
+/// Reads how the choices of a seed are drawn: `even`, or `bursts:` or `priorities:` and a decimal number below 2^32.
 pub fn read_draw(text: &str) -> Option<Draw>
     ensures { result ≡ draw_of text.now }
 {
@@ -117,6 +141,10 @@ pub fn read_draw(text: &str) -> Option<Draw>
     if is_word(kind, "bursts") {
         let mean = read_input(behind_first(rest))?;
         return Some(Draw::Bursts(mean));
+    }
+    if is_word(kind, "priorities") {
+        let depth = read_input(behind_first(rest))?;
+        return Some(Draw::Priorities(depth));
     }
     None
 }

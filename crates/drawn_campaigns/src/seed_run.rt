@@ -73,6 +73,7 @@ pub(crate) fn run_seed<S: FromImage<A>, A: Allocator + Copy>(
 {
     let mut machine = start.copy(alloc)?;
     let chosen = run_kind(
+        alloc,
         &mut machine,
         plan.kind,
         inputs.len() as u32,

@@ -1,6 +1,8 @@
-//! How the choices of a campaign's seeds are made, as the text of an order says it.
+//! How the choices of seeds are made, and which are asked for, as the texts of an order say it.
 #![tactic(auto)]
 
 pub use kind::read_kind;
+pub use seed::read_seed_plan;
 
 mod kind;
+mod seed;

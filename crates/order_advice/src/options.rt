@@ -82,6 +82,7 @@ pub(crate) const COMMANDS: [Row; 12] = [
             "--turns",
             "--only",
             "--schedule",
+            "--inputs",
         ],
         example: "rvcons schedule --harts 2 --steps 300 --seed 5 >seed_5.choices",
     },

@@ -9,10 +9,11 @@ use Rattle.command_line.specs.ScheduleLine.{draw_of}
 use Rattle.command_line.specs.declared.schedule_line.Draw.{Draw}
 use Rattle.command_line.specs.declared.schedule_line.Draw.TheVariants as draws
 
--- the maker of a seed below 2 ^ 64, by how its choices are drawn
+-- the maker of a seed below 2 ^ 64, by how its choices are drawn; there is none by priorities, whose choices are those of a run
 abbrev pub seed_maker : Draw → List ℕ → Option Maker
 seed_maker draws.Even text = option_map (λ seed. makers.Seed seed) (number_below (2 ^ 64) text)
 seed_maker (draws.Bursts mean) text = option_map (λ seed. makers.Bursts seed mean) (number_below (2 ^ 64) text)
+seed_maker (draws.Priorities depth) text = None
 
 -- how the choices of a seed are drawn: evenly, where nothing is said
 abbrev pub draw_by : Option (Bor (List ℕ)) → Option Draw

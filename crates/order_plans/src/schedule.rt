@@ -16,6 +16,8 @@ fn seed_maker(draw: Draw, seed: &str) -> Option<Maker>
     match draw {
         Draw::Even => Some(Maker::Seed(seed)),
         Draw::Bursts(mean) => Some(Maker::Bursts { seed, mean }),
+        // These are the choices of a run, and no plan without a program has them.
+        Draw::Priorities(_) => None,
     }
 }
 
@@ -67,7 +69,7 @@ fn read_maker(
 
 /// The plan that an order's texts write: decimal numbers of harts and of steps below 2^32, and one of a seed below 2^64, turns, and a hart below 2^32;
 /// with a seed how its choices are drawn, `even` or `bursts:` and a number below 2^32. `None` just where a number is none or too large, not exactly one of the
-/// three is given, or how choices are drawn is said otherwise or without a seed.
+/// three is given, or how choices are drawn is said otherwise or without a seed; so also by priorities, whose choices are those of a run.
 pub fn read_schedule_plan(
     harts: &str,
     steps: &str,

@@ -1,27 +1,97 @@
 //! Doing `schedule`.
 
-use command_line::{ScheduleOrder, read_draw};
-use devices::{Status, WriterSink};
+use command_line::{Draw, ScheduleOrder, read_draw, read_inputs, read_word};
+use devices::{ReaderSource, Status, WriterSink};
+use kind_plans::{read_kind, read_seed_plan};
 use order_plans::read_schedule_plan;
-use reports::{bad_line, tell_schedule};
+use programs::{ProgramForm, RunFault};
+use reports::{
+    Audience, RunFiles, bad_line, cannot_open, cannot_read, explain_run, refuse, say, tell_schedule,
+};
 use schedule_engine::schedule_engine;
-use std::io;
+use schedule_kinds::ScheduleKind;
+use seed_choices::seed_choices_engine;
+use std::rt::Files;
+use std::{fs, io};
+
+const KINDS: &str =
+    "--schedule takes even, bursts:MEAN with a decimal number from 1 to 2147483648, or priorities:DEPTH with one from 1 to 1000, \
+                     as bursts:100";
+
+const NUMBERS: &str =
+    "--harts and --steps take decimal numbers, and one of --seed S, --turns and --only H says how the choices are made, \
+                       as --harts 2 --steps 40 --seed 5";
+
+const OF_A_RUN: &str =
+    "--schedule priorities:DEPTH takes --seed, and --inputs and a program, whose run the choices are of, \
+                        as --seed 5 --schedule priorities:3 --inputs 7,9 swap.elf";
 
 // Why there is no plan.
 fn why_no_plan(seed: Option<&str>, draw: Option<&str>) -> &'static str {
     match draw {
-        Some(text) if read_draw(text).is_none() =>
-            "--schedule takes even, or bursts:MEAN with a decimal number from 1 to 2147483648, as bursts:100",
+        Some(text) if read_draw(text).is_none() => KINDS,
         Some(_) if seed.is_none() =>
             "--schedule says how the choices of a seed are drawn, as --seed 5 --schedule bursts:100",
-        Some(_) | None =>
-            "--harts and --steps take decimal numbers, and one of --seed S, --turns and --only H says how the choices are made, \
-             as --harts 2 --steps 40 --seed 5",
+        Some(_) | None => NUMBERS,
+    }
+}
+
+// A run that choices are of.
+#[derive(Clone, Copy, Drop)]
+struct RunOrder<'a> {
+    kind: ScheduleKind,
+    seed: &'a str,
+    inputs: &'a str,
+    file: &'a str,
+}
+
+// Whether choices that are drawn so are those of a run.
+fn is_of_a_run(draw: Option<&str>) -> bool {
+    match draw {
+        Some(text) => matches!(read_draw(text), Some(Draw::Priorities(_))),
+        None => false,
+    }
+}
+
+// The run that the choices of an order are of: there is one just by priorities, of a seed alone, with inputs and a program.
+fn run_of<'a>(order: &ScheduleOrder<'a>) -> Result<Option<RunOrder<'a>>, &'static str> {
+    if !is_of_a_run(order.draw) {
+        return match (order.inputs, order.file) {
+            (None, None) => Ok(None),
+            _ => Err("--inputs and a program go with --schedule priorities:DEPTH"),
+        };
+    }
+    let Some(kind) = read_kind(order.draw) else {
+        return Err(KINDS);
+    };
+    match (
+        order.seed,
+        order.turns,
+        order.only,
+        order.inputs,
+        order.file,
+    ) {
+        (Some(seed), false, None, Some(inputs), Some(file)) => Ok(Some(RunOrder {
+            kind,
+            seed,
+            inputs,
+            file,
+        })),
+        _ => Err(OF_A_RUN),
     }
 }
 
 /// Prints the choice text of a schedule.
-pub fn print_schedule<R: AllocGlobal + Print + Eprint>(rt: &R, order: &ScheduleOrder) -> Status {
+pub fn print_schedule<R: Files + AllocGlobal + Print + Eprint>(
+    rt: &R,
+    audience: Audience,
+    order: &ScheduleOrder,
+) -> Status {
+    match run_of(order) {
+        Ok(Some(run)) => return print_run_choices(rt, audience, order, run),
+        Ok(None) => {}
+        Err(why) => return bad_line(rt, why),
+    }
     let Some(plan) = read_schedule_plan(
         order.harts,
         order.steps,
@@ -36,5 +106,48 @@ pub fn print_schedule<R: AllocGlobal + Print + Eprint>(rt: &R, order: &ScheduleO
     match schedule_engine(rt.alloc(), plan, &mut sink) {
         Ok(status) => status,
         Err(fault) => tell_schedule(rt, fault),
+    }
+}
+
+// Prints the choice text of a seed's choices in a run.
+fn print_run_choices<R: Files + AllocGlobal + Print + Eprint>(
+    rt: &R,
+    audience: Audience,
+    order: &ScheduleOrder,
+    run: RunOrder,
+) -> Status {
+    let inputs = match read_inputs(rt.alloc(), run.inputs) {
+        Ok(inputs) => inputs,
+        Err(fault) => return refuse(rt, &fault),
+    };
+    let Some(harts) = read_word(order.harts) else {
+        return bad_line(rt, NUMBERS);
+    };
+    if harts as usize != inputs.len() {
+        return bad_line(rt, "--inputs has an input for each of --harts");
+    }
+    let Some(plan) = read_seed_plan(run.kind, order.steps, run.seed) else {
+        return bad_line(rt, NUMBERS);
+    };
+    let program = match fs::open(rt, run.file) {
+        Ok(program) => program,
+        Err(error) => return cannot_open(rt, audience, run.file, &error),
+    };
+    let mut program = ReaderSource::new(program);
+    let mut sink = WriterSink::new(io::writer(rt));
+    match seed_choices_engine(rt.alloc(), inputs.as_slice(), plan, &mut program, &mut sink) {
+        Ok(status) => status,
+        Err(RunFault::Read(_)) => cannot_read(rt, run.file),
+        Err(fault) => {
+            let status = say(rt, fault);
+            let files = RunFiles {
+                program: run.file,
+                form: ProgramForm::Elf,
+                choices: "",
+                harts: inputs.len(),
+            };
+            explain_run(rt, audience, files, fault);
+            status
+        }
     }
 }

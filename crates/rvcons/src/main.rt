@@ -62,7 +62,7 @@ fn obey<R: Files + AllocGlobal + Print + Eprint + Env + Threads + Wait + Sync + 
         Ok(Order::Threads(order)) => run_on_threads(rt, audience, &order),
         Ok(Order::Replay(order)) => replay_history(rt, audience, &order),
         Ok(Order::Campaign(order)) => run_campaign(rt, audience, &order),
-        Ok(Order::Schedule(order)) => print_schedule(rt, &order),
+        Ok(Order::Schedule(order)) => print_schedule(rt, audience, &order),
         Ok(Order::Shrink(order)) => shrink_schedule(rt, audience, &order),
         Ok(Order::Trace(order)) => trace_run(rt, audience, &order),
         Err(fault) => {

@@ -2,8 +2,10 @@
 
 ghost use Rattle.std.specs.Prelude.{◌≡◌, ◌<◌, ◌≤◌, ◌⊎◌, MatchOption};
 ghost use Rattle.burst_schedules.specs.Bursts.{most_mean};
+ghost use Rattle.priority_schedules.specs.Priorities.{most_depth};
 
 use burst_schedules::MOST_MEAN;
+use priority_schedules::MOST_DEPTH;
 
 /// How many choices a burst has in the mean: 1 to `MOST_MEAN`.
 #[derive(Clone, Copy, Debug, Drop)]
@@ -33,6 +35,34 @@ impl Mean {
     }
 }
 
+/// How deep a schedule by priorities looks, 1 to `MOST_DEPTH`: it has one change point less.
+#[derive(Clone, Copy, Debug, Drop)]
+pub struct Depth {
+    number: u32,
+    ghost within: { (0 < number) × (number ≤ most_depth) },
+}
+
+impl Depth {
+    /// A depth: `None` just where it would be 0 or greater than `MOST_DEPTH`.
+    pub fn new(number: u32) -> Option<Depth>
+        ensures { MatchOption result ((number ≡ 0) ⊎ (most_depth < number)) (λ depth. depth.number ≡ number) }
+    {
+        if number == 0 || number > MOST_DEPTH {
+            return None;
+        }
+        Some(Depth { number })
+    }
+
+    /// The depth as a number.
+    pub fn number(self) -> u32
+        ensures is { result ≡ self.number }
+        ensures some { 0 < result }
+        ensures most { result ≤ most_depth }
+    {
+        self.number
+    }
+}
+
 /// How the choices of a seed are made.
 #[derive(Clone, Copy, Debug, Drop)]
 pub enum ScheduleKind {
@@ -40,4 +70,6 @@ pub enum ScheduleKind {
     Even,
     /// In bursts of one hart, of this mean length.
     Bursts(Mean),
+    /// By priorities, of this depth: they depend on which harts have stopped, so they are those of a run.
+    Priorities(Depth),
 }

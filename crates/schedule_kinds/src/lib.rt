@@ -1,7 +1,7 @@
 //! How the choices of a campaign's seed are made, and runs over them.
 #![tactic(auto)]
 
-pub use kind::{Mean, ScheduleKind};
+pub use kind::{Depth, Mean, ScheduleKind};
 pub use running::run_kind;
 
 mod kind;

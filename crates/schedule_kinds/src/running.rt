@@ -5,21 +5,24 @@ ghost use Rattle.reservations.specs.Limit.{most_harts};
 ghost use Rattle.machine.specs.Machine.{world};
 ghost use Rattle.scheduler.specs.Schedules.{seeded_choices};
 ghost use Rattle.burst_schedules.specs.Bursts.{burst_choices};
+ghost use Rattle.priority_schedules.specs.Priorities.{priority_choices};
 ghost use Rattle.choice_runs.specs.Chosen.{harts_of};
 ghost use Rattle.schedule_kinds.specs.Kinds.{kind_choices, RanOver};
 
-use crate::kind::{Mean, ScheduleKind};
+use crate::kind::{Depth, Mean, ScheduleKind};
 use burst_schedules::Bursts;
 use choice_runs::Chosen;
 use machine::Machine;
 use memory::Store;
+use priority_schedules::Priorities;
 use scheduler::{draw_choice, seeded_generator};
 use std::alloc::{AllocError, Allocator};
 
 /// Runs a machine over the choices that a seed gives, and answers which harts were chosen. Each choice is drawn when its step
 /// comes, so the list is never held.
 #[tactic(auto, unfolding(crate::specs::Kinds::kind_choices))]
-pub fn run_kind<S: Store, A: Allocator>(
+pub fn run_kind<S: Store, A: Allocator + Copy>(
+    alloc: A,
     machine: &mut Machine<S, A>,
     kind: ScheduleKind,
     harts: u32,
@@ -35,6 +38,9 @@ pub fn run_kind<S: Store, A: Allocator>(
     match kind {
         ScheduleKind::Even => run_evenly(machine, harts, steps, seed),
         ScheduleKind::Bursts(mean) => run_in_bursts(machine, mean, harts, steps, seed),
+        ScheduleKind::Priorities(depth) => {
+            run_by_priorities(alloc, machine, depth, harts, steps, seed)
+        }
     }
 }
 
@@ -79,6 +85,35 @@ fn run_in_bursts<S: Store, A: Allocator>(
     let mut bursts = Bursts::new(harts, mean.choices(), seed);
     'steps: for _ in 0..steps {
         let choice = bursts.next_choice();
+        chosen.add(choice.hart as usize);
+        machine.step(choice)?;
+    }
+    Ok(chosen)
+}
+
+// The choices are drawn by priorities, each as the harts stand when its step comes.
+fn run_by_priorities<S: Store, A: Allocator + Copy>(
+    alloc: A,
+    machine: &mut Machine<S, A>,
+    depth: Depth,
+    harts: u32,
+    steps: u64,
+    seed: u64,
+) -> Result<Chosen, AllocError>
+    requires some { 0 < harts }
+    requires few { harts ≤ most_harts }
+    requires there { length (world S.memory machine.old).harts ≡ harts }
+    ensures { IfOk result (λ chosen. RanOver (priority_choices (world S.memory machine.old) harts depth.number steps seed)
+        (world S.memory machine.old) (world S.memory machine.new) (harts_of chosen)) }
+{
+    let mut chosen = Chosen::new();
+    // A change point is at one of the steps.
+    if steps == 0 {
+        return Ok(chosen);
+    }
+    let mut priorities = Priorities::new(alloc, harts, depth.number(), steps, seed)?;
+    'steps: for place in 0..steps {
+        let choice = priorities.next_choice(place, machine.ends())?;
         chosen.add(choice.hart as usize);
         machine.step(choice)?;
     }

@@ -1,29 +1,49 @@
 //! What no clause says of `shrink`: worked programs, whose only minimal failing lists were found by hand; failing devices.
-use crate::worked::{LOST, NEEDS_SC, OWN_INPUT, TWO_FAULTS, file_of};
+use crate::worked::{CROSSED, LOST, NEEDS_SC, OWN_INPUT, TWO_FAULTS, file_of};
 use choice_shrinking::Unheard;
 use choice_texts::{print_choices, read_choices};
 use devices::{Failing, FullSink, MemorySink, MemorySource, Status};
+use exit_failures::Demands;
+use exits::Exit;
 use programs::{Input, RunFault};
 use protocol_library::Kind;
 use scheduler::seeded;
 use shrink_engine::{ShrinkFault, shrink_engine};
 use std::alloc::Allocator;
 
-// A program, its inputs, the rule, a choice text, and the text that is left of it.
+// A program, its inputs, what is asked of its runs, a choice text, and the text that is left of it.
 #[derive(Clone, Copy)]
 struct Row<'a> {
     source: &'a str,
     inputs: [u32; 2],
-    rule: Option<Kind>,
+    demands: Demands,
     given: &'a str,
     left: &'a str,
 }
+
+// No hart may fault, but it may run.
+const NO_FAULT: Demands = Demands {
+    rule: None,
+    exit: Exit::May,
+};
+
+// No hart may fault, and each has to exit.
+const ALL_EXIT: Demands = Demands {
+    rule: None,
+    exit: Exit::Must,
+};
+
+// Consensus by AMOSWAP is kept.
+const AGREED: Demands = Demands {
+    rule: Some(Kind::Swap),
+    exit: Exit::May,
+};
 
 // Hart 0 needs 14 steps to its EBREAK, hart 1 nine to its AMO, all of them between hart 0's load and its store.
 const UPDATE_LOST: Row = Row {
     source: LOST,
     inputs: [2, 2],
-    rule: None,
+    demands: NO_FAULT,
     given: "0*3 1*12 0*14 1*3",
     left: "0*3 1*9 0*11\n",
 };
@@ -32,7 +52,7 @@ const UPDATE_LOST: Row = Row {
 const MARKS_GO: Row = Row {
     source: LOST,
     inputs: [2, 2],
-    rule: None,
+    demands: NO_FAULT,
     given: "0! 0*2 1!*5 1*7 0*14 1 0! 1!*3 0!*40",
     left: "0*3 1*9 0*11\n",
 };
@@ -41,7 +61,7 @@ const MARKS_GO: Row = Row {
 const SAME_FAULT: Row = Row {
     source: TWO_FAULTS,
     inputs: [0, 0],
-    rule: None,
+    demands: NO_FAULT,
     given: "1*6 0*8",
     left: "1*4 0*6\n",
 };
@@ -50,7 +70,7 @@ const SAME_FAULT: Row = Row {
 const ONE_MARK: Row = Row {
     source: NEEDS_SC,
     inputs: [0, 0],
-    rule: None,
+    demands: NO_FAULT,
     given: "1 0!*6 1!*9 0!*3",
     left: "0*3 0! 0*2\n",
 };
@@ -59,9 +79,27 @@ const ONE_MARK: Row = Row {
 const BROKEN_RULE: Row = Row {
     source: OWN_INPUT,
     inputs: [7, 9],
-    rule: Some(Kind::Swap),
+    demands: AGREED,
     given: "0!*5 1*6",
     left: "0*4 1*4\n",
+};
+
+// Each hart has taken the lock that the other wants. Before the last of these steps either could still take both.
+const DEADLOCK: Row = Row {
+    source: CROSSED,
+    inputs: [0, 0],
+    demands: ALL_EXIT,
+    given: "0*9 1!*20",
+    left: "0*8 1*8\n",
+};
+
+// A fault counts before a hang.
+const FAULT_FIRST: Row = Row {
+    source: LOST,
+    inputs: [2, 2],
+    demands: ALL_EXIT,
+    given: "0*3 1*12 0*14",
+    left: "0*3 1*9 0*11\n",
 };
 
 // What a shrinking answers, and what it has written; none for want of memory.
@@ -69,7 +107,7 @@ fn shrunk<A: Allocator + Copy>(
     alloc: A,
     source: &str,
     inputs: &[u32],
-    rule: Option<Kind>,
+    demands: Demands,
     given: &str,
 ) -> Option<(Result<Status, ShrinkFault>, MemorySink<A>)> {
     let file = file_of(alloc, source)?;
@@ -79,7 +117,7 @@ fn shrunk<A: Allocator + Copy>(
     let result = shrink_engine(
         alloc,
         inputs,
-        rule,
+        demands,
         &mut program,
         &mut choices,
         &mut sink,
@@ -90,10 +128,23 @@ fn shrunk<A: Allocator + Copy>(
 
 #[test]
 fn worked_lists_are_shrunk(rt: HostRuntime) {
-    let rows = [UPDATE_LOST, MARKS_GO, SAME_FAULT, ONE_MARK, BROKEN_RULE];
+    let rows = [
+        UPDATE_LOST,
+        MARKS_GO,
+        SAME_FAULT,
+        ONE_MARK,
+        BROKEN_RULE,
+        DEADLOCK,
+        FAULT_FIRST,
+    ];
     for row in rows {
-        let Some((result, sink)) = shrunk(rt.alloc(), row.source, &row.inputs, row.rule, row.given)
-        else {
+        let Some((result, sink)) = shrunk(
+            rt.alloc(),
+            row.source,
+            &row.inputs,
+            row.demands,
+            row.given,
+        ) else {
             panic!(rt; "no memory");
         };
         let left = row.left;
@@ -102,37 +153,57 @@ fn worked_lists_are_shrunk(rt: HostRuntime) {
     }
 }
 
-// A source, the inputs, the rule, a choice text, and the fault.
+// A source, the inputs, what is asked of its runs, a choice text, and the fault.
 #[test]
 fn what_does_not_fail_is_refused(rt: HostRuntime) {
-    let rows: [(&str, &[u32], Option<Kind>, &str, ShrinkFault); 6] = [
-        (LOST, &[2, 2], None, "0*15 1*15", ShrinkFault::NothingFails),
-        (LOST, &[2, 2], None, "", ShrinkFault::NothingFails),
+    let rows: [(&str, &[u32], Demands, &str, ShrinkFault); 7] = [
+        (
+            LOST,
+            &[2, 2],
+            NO_FAULT,
+            "0*15 1*15",
+            ShrinkFault::NothingFails,
+        ),
+        (LOST, &[2, 2], NO_FAULT, "", ShrinkFault::NothingFails),
+        // Too few steps are no hang.
+        (
+            CROSSED,
+            &[0, 0],
+            ALL_EXIT,
+            "0*8 1*6",
+            ShrinkFault::NothingFails,
+        ),
         (
             OWN_INPUT,
             &[7, 9],
-            None,
+            NO_FAULT,
             "0*5 1*6",
             ShrinkFault::NothingFails,
         ),
         (
             OWN_INPUT,
             &[7, 7],
-            Some(Kind::Swap),
+            AGREED,
             "0*5 1*6",
             ShrinkFault::NothingFails,
         ),
-        (LOST, &[], None, "0 2", ShrinkFault::Run(RunFault::NoHarts)),
+        (
+            LOST,
+            &[],
+            NO_FAULT,
+            "0 2",
+            ShrinkFault::Run(RunFault::NoHarts),
+        ),
         (
             LOST,
             &[2, 2],
-            None,
+            NO_FAULT,
             "0 2",
             ShrinkFault::Run(RunFault::NoHart(2)),
         ),
     ];
-    for (source, inputs, rule, given, fault) in rows {
-        let Some((result, sink)) = shrunk(rt.alloc(), source, inputs, rule, given) else {
+    for (source, inputs, demands, given, fault) in rows {
+        let Some((result, sink)) = shrunk(rt.alloc(), source, inputs, demands, given) else {
             panic!(rt; "no memory");
         };
         assert_eq!(rt; result, Err(fault), "{given}");
@@ -151,7 +222,7 @@ fn failing_devices_are_told(rt: HostRuntime) {
     let result = shrink_engine(
         rt.alloc(),
         &[0, 0],
-        None,
+        NO_FAULT,
         &mut program,
         &mut choices,
         &mut sink,
@@ -168,7 +239,7 @@ fn failing_devices_are_told(rt: HostRuntime) {
     let result = shrink_engine(
         rt.alloc(),
         &[0, 0],
-        None,
+        NO_FAULT,
         &mut program,
         &mut choices,
         &mut full,
@@ -187,7 +258,7 @@ fn left_of<A: Allocator + Copy>(alloc: A, file: &[u8], seed: u64) -> Option<usiz
     shrink_engine(
         alloc,
         &[2, 2],
-        None,
+        NO_FAULT,
         &mut program,
         &mut choices,
         &mut sink,

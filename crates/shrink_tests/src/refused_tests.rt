@@ -2,6 +2,8 @@
 use crate::worked::{TWO_FAULTS, file_of};
 use choice_shrinking::Unheard;
 use devices::{MemorySink, MemorySource, Status};
+use exit_failures::Demands;
+use exits::Exit;
 use programs::RunFault;
 use refusing::{Call, tried};
 use shrink_engine::{ShrinkFault, shrink_engine};
@@ -21,7 +23,10 @@ impl<'a> Call for Shrinking<'a> {
         let result = shrink_engine(
             alloc,
             &[0, 0],
-            None,
+            Demands {
+                rule: None,
+                exit: Exit::May,
+            },
             &mut program,
             &mut choices,
             &mut sink,

@@ -72,6 +72,30 @@ _start:
     ecall
 ";
 
+// Takes two locks, hart 1 in the other order.
+pub(crate) const CROSSED: &str = ".globl _start
+_start:
+    la s0, locks
+    slli t0, a0, 2
+    add s1, s0, t0
+    xori t0, t0, 4
+    add s2, s0, t0
+    li t1, 1
+first:
+    amoswap.w t0, t1, (s1)
+    bnez t0, first
+second:
+    amoswap.w t0, t1, (s2)
+    bnez t0, second
+    sw zero, 0(s2)
+    sw zero, 0(s1)
+    li a7, 93
+    ecall
+
+.data
+locks: .word 0, 0
+";
+
 // The ELF file of a source, or nothing for want of memory.
 pub(crate) fn file_of<A: Allocator + Copy>(alloc: A, source: &str) -> Option<Vec<u8, A>> {
     let mut sources = [MemorySource::new(source.as_bytes())];

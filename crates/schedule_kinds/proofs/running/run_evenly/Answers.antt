@@ -1,9 +1,9 @@
-use Rattle.std.proofs.Common.{◌≡◌, ◌-◌, ◌+◌, arith, ap, ap₂, subst, sym, refl, ◌∙◌}
+use Rattle.std.proofs.Common.{◌≡◌, ◌-◌, ◌+◌, arith, ap₂, ◌∙◌}
 use Rattle.machine.specs.Machine.{world}
 use Rattle.choice_runs.specs.Chosen.{harts_of}
 use Rattle.scheduler.specs.Schedules.{choices_drawn, seeded_choices}
 use Rattle.scheduler.proofs.ScheduleLemmas.{drawn-none}
-use Rattle.schedule_kinds.proofs.RunLemmas.{SoFar, begun, one_more, all_done, evenly_next}
+use Rattle.schedule_kinds.proofs.RunLemmas.{begun, one_more, all_done, evenly_next}
 use Rattle.schedule_kinds.proofs.running.run_evenly.Goals as goal
 
 pub steps-init : goal.steps-init

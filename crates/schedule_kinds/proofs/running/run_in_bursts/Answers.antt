@@ -1,9 +1,9 @@
-use Rattle.std.proofs.Common.{◌≡◌, ◌-◌, ◌+◌, arith, ap, ap₂, subst, sym, refl, ◌∙◌}
+use Rattle.std.proofs.Common.{◌≡◌, ◌-◌, ◌+◌, arith, ap, ap₂, ◌∙◌}
 use Rattle.machine.specs.Machine.{world}
 use Rattle.choice_runs.specs.Chosen.{harts_of}
 use Rattle.burst_schedules.specs.Bursts.{choices_drawn, burst_choices, drawing_of, Drawing}
 use Rattle.burst_schedules.proofs.BurstLemmas.{after-harts}
-use Rattle.schedule_kinds.proofs.RunLemmas.{SoFar, begun, one_more, all_done, burst_next, bursts-none}
+use Rattle.schedule_kinds.proofs.RunLemmas.{begun, one_more, all_done, burst_next, bursts-none}
 use Rattle.schedule_kinds.proofs.running.run_in_bursts.Goals as goal
 
 pub steps-init : goal.steps-init
