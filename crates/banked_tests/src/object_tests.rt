@@ -18,8 +18,8 @@ const OBJECTS: [(Kind, &[u32]); 5] = [
     (Kind::Rounds, &[2, 2, 5]),
 ];
 
-// How many runs each object has: a thousand together.
-const RUNS: u32 = 200;
+// How many runs each object has.
+const RUNS: u32 = 1000;
 
 // More choices than a hart of any object needs.
 const BUDGET: u32 = 500;
