@@ -3,7 +3,6 @@
 ghost use Rattle.std.specs.Prelude.{◌≡◌, ◌+◌, ◌*◌, ◌/◌, ◌%◌, ◌^◌, ◌<◌};
 ghost use Rattle.isa_table.specs.Ranges.{IsSignedWord};
 ghost use Rattle.isa_table.specs.Spells.{bit};
-ghost use Rattle.isa_table.specs.declared.codes.TheConstants.{OPCODE_FENCE};
 
 use isa_table::{BranchOffset, FenceSet, Immediate12, JumpOffset, Reg, UpperImmediate, codes};
 
@@ -143,7 +142,7 @@ fn jump_field(offset: u32) -> u32
 /// The word of a fence.
 #[tactic(auto, using(isa_table::proofs::Or::places))]
 pub(crate) fn fence_word(mode: FenceSet, pred: FenceSet, succ: FenceSet, rs1: Reg, rd: Reg) -> u32
-    ensures value { result ≡ OPCODE_FENCE + rd * 2 ^ 7 + rs1 * 2 ^ 15
+    ensures value { result ≡ 0x0f + rd * 2 ^ 7 + rs1 * 2 ^ 15
         + succ * 2 ^ 20 + pred * 2 ^ 24 + mode * 2 ^ 28 }
     ensures registers { (rs1 < 2 ^ 5) × (rd < 2 ^ 5) }
     ensures sets { (mode < 2 ^ 4) × (pred < 2 ^ 4) × (succ < 2 ^ 4) }

@@ -1,8 +1,8 @@
 -- How the choices of a campaign's seeds are made.
 use Rattle.std.specs.Prelude.{◌≡◌, ℕ, ◌<◌, ◌⊎◌, List, Option, Some, None}
 use Rattle.std.specs.Borrow.{Bor}
-use Rattle.burst_schedules.specs.declared.drawing.TheConstants.{MOST_MEAN}
-use Rattle.priority_schedules.specs.declared.drawing.TheConstants.{MOST_DEPTH}
+use Rattle.burst_schedules.specs.Bursts.{most_mean}
+use Rattle.priority_schedules.specs.Priorities.{most_depth}
 use Rattle.command_line.specs.ScheduleLine.{draw_of}
 use Rattle.command_line.specs.declared.schedule_line.Draw.{Draw}
 use Rattle.command_line.specs.declared.schedule_line.Draw.TheVariants as draws
@@ -17,14 +17,14 @@ draw_said (Some text) = draw_of text.now
 
 -- bursts of this mean length, if there can be such
 abbrev pub MeansBursts : ℕ → Option ScheduleKind → Type 0
-MeansBursts mean None = (mean ≡ 0) ⊎ (MOST_MEAN < mean)
+MeansBursts mean None = (mean ≡ 0) ⊎ (most_mean < mean)
 MeansBursts mean (Some kinds.Even) = ⊥
 MeansBursts mean (Some (kinds.Bursts long)) = long.choices ≡ mean
 MeansBursts mean (Some (kinds.Priorities depth)) = ⊥
 
 -- priorities of this depth, if there can be such
 abbrev pub MeansPriorities : ℕ → Option ScheduleKind → Type 0
-MeansPriorities depth None = (depth ≡ 0) ⊎ (MOST_DEPTH < depth)
+MeansPriorities depth None = (depth ≡ 0) ⊎ (most_depth < depth)
 MeansPriorities depth (Some kinds.Even) = ⊥
 MeansPriorities depth (Some (kinds.Bursts mean)) = ⊥
 MeansPriorities depth (Some (kinds.Priorities deep)) = deep.number ≡ depth

@@ -1,6 +1,6 @@
 //! Schedules that are made: by turns, of one hart, and at random.
 
-ghost use Rattle.std.specs.Prelude.{◌≡◌, ℕ, ◌<◌, IfOk};
+ghost use Rattle.std.specs.Prelude.{◌≡◌, ℕ, ◌<◌, ◌%◌, IfOk};
 ghost use Rattle.rand_pcg.specs.Pcg.{pcg32};
 ghost use Rattle.scheduler.specs.Schedules.{turns, alone, choice_of_word, generator_of, seeded_choices};
 
@@ -53,6 +53,22 @@ pub fn seeded_generator(seed: u64) -> Lcg64Xsh32
     Lcg64Xsh32::seed_from_u64(seed)
 }
 
+// A word's remainder by the number of harts. By a power of two that is a mask: a division by a number that the compiler doesn't know takes ten
+// times as long, and the next step waits for it.
+fn hart_of_word(word: u32, harts: u32) -> u32
+    requires { 0 < harts }
+    ensures { result ≡ word % harts }
+{
+    match harts {
+        2 => word % 2,
+        4 => word % 4,
+        8 => word % 8,
+        16 => word % 16,
+        32 => word % 32,
+        _ => word % harts,
+    }
+}
+
 /// Draws one word and the choice that it stands for: hart `word mod harts`, with the store-conditional refused where
 /// `(word div 65536) mod 16` is 0.
 #[tactic(auto, unfolding(crate::specs::Schedules::choice_of_word))]
@@ -64,7 +80,7 @@ pub fn draw_choice(generator: &mut Lcg64Xsh32, harts: u32) -> Choice
 {
     let word = generator.next_word();
     Choice {
-        hart: word % harts,
+        hart: hart_of_word(word, harts),
         refuse: word / 65536 % 16 == 0,
     }
 }
