@@ -28,7 +28,7 @@ use Rattle.engines.specs.Certified.{IsCertified, EndsKept}
 use Rattle.engines.specs.Run.{shown, shown_with, world_after}
 use Rattle.replay_engine.proofs.KeptLemmas.{certified_shown}
 use Rattle.threads_engine.specs.declared.threads.ThreadsAnswer.{ThreadsAnswer}
-use Rattle.banked_engine.specs.BankedAnswer.{hart_of_log, IsAnswer, IsMergedRun, IsOfRun, IsUnmatched}
+use Rattle.banked_engine.specs.BankedAnswer.{hart_of_log, IsAnswer, IsMergedRun, IsOfRun}
 use Rattle.banked_engine.proofs.RunLemmas.{are_of, choices_within, harts_are, stamps_rise}
 
 module _ (image : ImageValue) (inputs : List ℕ) (budget : ℕ) (plan : List (ℕ × ℕ)) (logs : List HartLogValue) (banks : List BankLog) (b : IsBanked image inputs budget plan logs banks) (choices : List Choice) where
@@ -85,19 +85,11 @@ pub seen_lines : (rule : Option Kind) (inputs inputs_seen : List ℕ) (choices c
 seen_lines rule inputs inputs_seen choices choices_seen harts answer same_inputs same_choices shows =
     (λ i. shown_with (verdict_on rule (sym same_inputs i) (sym same_choices i) harts) harts) ∙ shows
 
--- logs of a program that was read and don't match
-pub unmatched : (image : ImageValue) (inputs inputs_seen : List ℕ) (budget : ℕ) (plan : List (ℕ × ℕ)) (logs logs_seen : List HartLogValue) (banks banks_seen : List BankLog)
-    (left : Option (List ℕ)) → inputs_seen ≡ inputs → logs_seen ≡ logs → banks_seen ≡ banks → IfSome left (λ p. program_of form.Elf p ≡ Ok image)
-    → IsBanked image inputs_seen budget plan logs banks → (AreMatched logs_seen banks_seen → ⊥) → IfSome left (λ p. IsUnmatched inputs budget plan p)
-unmatched image inputs inputs_seen budget plan logs logs_seen banks banks_seen None same_inputs same_logs same_banks reads b none = tt
-unmatched image inputs inputs_seen budget plan logs logs_seen banks banks_seen (Some p) same_inputs same_logs same_banks reads b none = record {
-  image = image;
-  logs = logs;
-  banks = banks;
-  reads = reads;
-  banked = subst (λ (xs : List ℕ). IsBanked image xs budget plan logs banks) same_inputs b;
-  unmatched = λ m. none (subst (λ (ls : List HartLogValue). AreMatched ls banks_seen) (sym same_logs) (subst (λ (bs : List BankLog). AreMatched logs bs) (sym same_banks) m));
-}
+-- the logs of a run match
+pub seen_matched : (image : ImageValue) (inputs : List ℕ) (budget : ℕ) (plan : List (ℕ × ℕ)) (logs logs_seen : List HartLogValue) (banks banks_seen : List BankLog)
+    → logs_seen ≡ logs → banks_seen ≡ banks → IsBanked image inputs budget plan logs banks → AreMatched logs_seen banks_seen
+seen_matched image inputs budget plan logs logs_seen banks banks_seen same_logs same_banks b =
+    subst (λ (ls : List HartLogValue). AreMatched ls banks_seen) (sym same_logs) (subst (λ (bs : List BankLog). AreMatched logs bs) (sym same_banks) b.matched)
 
 -- the stamps of a run's logs rise
 pub seen_rising : (image : ImageValue) (inputs : List ℕ) (budget : ℕ) (plan : List (ℕ × ℕ)) (logs logs_seen : List HartLogValue) (banks : List BankLog)

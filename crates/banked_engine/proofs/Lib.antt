@@ -1,3 +1,2 @@
-pub mod ImageLemmas
 pub mod RunLemmas
 pub mod AnswerLemmas

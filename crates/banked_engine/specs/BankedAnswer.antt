@@ -62,15 +62,6 @@ pub record IsAnswer {A : Type 0} (inputs : List ℕ) (budget : ℕ) (plan : List
   pub reads : program_of form.Elf program ≡ Ok image
   pub of_run : IsOfRun image inputs budget plan rule answer
 
--- a run of the file's program leaves logs that don't match
-pub record IsUnmatched (inputs : List ℕ) (budget : ℕ) (plan : List (ℕ × ℕ)) (program : List ℕ) : Type 0 where
-  pub image : ImageValue
-  pub logs : List HartLogValue
-  pub banks : List BankLog
-  pub reads : program_of form.Elf program ≡ Ok image
-  pub banked : IsBanked image inputs budget plan logs banks
-  pub unmatched : AreMatched logs banks → ⊥
-
 -- a fault of the threads
 abbrev pub fault_of_run : RunFault → BankedEngineFault
 fault_of_run banked.NoHarts = engine.Threads (threads.Run run.NoHarts)
@@ -80,18 +71,18 @@ fault_of_run banked.StampsExhausted = engine.StampsExhausted
 fault_of_run banked.Stale = engine.Threads threads.Stale
 fault_of_run banked.Memory = engine.Threads (threads.Run run.Memory)
 
--- a fault of the program, of the number of inputs, or of the logs that were left; and of no device, thread, stamp or memory
+-- a fault of the program or of the number of inputs, and of no device, thread, stamp or memory
 abbrev pub IsRefusal : BankedEngineFault → Type 0
 IsRefusal (engine.Threads why) = one_lock.IsRefusal why
 IsRefusal engine.StampsExhausted = ⊥
-IsRefusal engine.Unmatched = Unit {0}
+IsRefusal engine.Unmatched = ⊥
 IsRefusal engine.OutOfOrder = ⊥
 
 -- when a task and a program are refused so
 abbrev pub Refuses : List ℕ → ℕ → List (ℕ × ℕ) → List ℕ → BankedEngineFault → Type 0
 Refuses inputs budget plan program (engine.Threads why) = one_lock.Refuses (length inputs) program why
 Refuses inputs budget plan program engine.StampsExhausted = ⊥
-Refuses inputs budget plan program engine.Unmatched = IsUnmatched inputs budget plan program
+Refuses inputs budget plan program engine.Unmatched = ⊥
 Refuses inputs budget plan program engine.OutOfOrder = ⊥
 
 -- a fact of the program's file where a fault names it

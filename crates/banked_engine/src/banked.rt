@@ -1,7 +1,7 @@
 //! `threads --banked`: a program, inputs, a budget and a plan in; the history that the harts' logs are, their ends and the verdict
 //! on them out.
 
-ghost use Rattle.std.specs.Prelude.{◌≡◌, ◌≢◌, ◌^◌, ◌-◌, ◌%◌, ◌<◌, IfOk, IfErr, IfSome, Err};
+ghost use Rattle.std.specs.Prelude.{◌≡◌, ◌≢◌, ◌^◌, ◌-◌, ◌<◌, IfOk, IfErr, IfSome, Err};
 ghost use Rattle.engines.specs.Certified.{IsCertified};
 ghost use Rattle.machine.specs.Start.{IsStartable};
 ghost use Rattle.programs.specs.declared.program.ProgramForm.{ProgramForm};
@@ -47,9 +47,11 @@ pub fn banked_engine<
     // A file that is an object, run by as many harts as it is for, never has a broken verdict of its kind's rule.
     ensures certified { IfOk result (λ answer. IfSome (P.left program.old) (λ p.
         IsCertified ProgramForm.Elf p task.inputs.items task.rule → IsKept answer)) }
-    // What was read is refused, and no thread was started; or threads have left logs that don't match.
+    // What was read is refused, and no thread was started.
     ensures refused { IfErr result (λ fault. IsRefusal fault → IfSome (P.left program.old) (λ p.
         Refuses task.inputs.items task.budget task.plan.keys p fault)) }
+    // Logs that threads have left match, and are in order.
+    ensures matched { result ≢ Err BankedEngineFault.Unmatched }
     ensures in_order { result ≢ Err BankedEngineFault.OutOfOrder }
     // The program's device is named only where it failed, and no other is.
     ensures read { IfErr result (λ fault. IfReads fault (P.failures program.old < P.failures program.new)) }
@@ -61,7 +63,6 @@ pub fn banked_engine<
         Ok(image) => image,
         Err(fault) => return Err(BankedEngineFault::Threads(ThreadsEngineFault::Run(fault))),
     };
-    see_entry(&image);
     let banked = match run_banked(
         rt,
         alloc,
@@ -84,14 +85,6 @@ pub fn banked_engine<
     }
 }
 
-// Looks at an image's entry, so that it is known to be the address of a word.
-fn see_entry<A: Allocator>(image: &Image<A>)
-    ensures { image.now.entry % 4 ≡ 0 }
-{
-    // Segments are told with what was checked of them and of the entry.
-    let _ = image.segments();
-}
-
 // The logs of a run as the one run that they are.
 fn answer_of_logs<A: Allocator + Copy>(
     alloc: A,
@@ -100,8 +93,7 @@ fn answer_of_logs<A: Allocator + Copy>(
     logs: &[HartLog<A>],
     banks: &[Bank<A>],
 ) -> Result<ThreadsAnswer<A>, MergeFault>
-    requires entry { image.now.entry % 4 ≡ 0 }
-    requires banked { IsBanked image.now task.now.inputs.items task.now.budget task.now.plan.keys logs.now banks.now }
+    requires { IsBanked image.now task.now.inputs.items task.now.budget task.now.plan.keys logs.now banks.now }
     ensures answer { IfOk result (λ answer.
         IsOfRun image.now task.now.inputs.items task.now.budget task.now.plan.keys task.now.rule answer) }
     ensures fault { IfErr result (λ fault. NotMerged logs.now banks.now fault) }

@@ -17,7 +17,7 @@ pub enum BankedEngineFault {
     /// A step would have needed a stamp of `u64::MAX` or above.
     #[error("stamps exhausted")]
     StampsExhausted,
-    /// An access stands in a hart's log and not in its bank's, or the other way round. Nothing is known to lead here.
+    /// An access stands in a hart's log and not in its bank's, or the other way round. No run leads here.
     #[error("merge fault Unmatched")]
     Unmatched,
     /// The stamps of a hart's log don't rise. No run leads here.

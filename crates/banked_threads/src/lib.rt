@@ -12,4 +12,6 @@ mod job;
 mod laws;
 mod runner;
 mod step;
+#[cfg(test)]
+mod tests;
 mod worker;

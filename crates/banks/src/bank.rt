@@ -9,7 +9,6 @@ ghost use Rattle.banks.specs.BankLog.{Fits, IsOfBank, Refuses, state_of, taken};
 ghost use Rattle.banks.specs.Stamps.{last_stamp};
 ghost use Rattle.banks.specs.Stored.{value_in, StoresAt};
 
-use crate::image_words::word_at;
 use crate::order::may_follow;
 use banks_laws::{LoggedAccess, LoggedKind};
 use loader::Image;
@@ -17,6 +16,7 @@ use reservations::Reserve;
 use std::alloc::Allocator;
 use std::collections::BTreeMap;
 use std::marker::Model;
+use told_steps::bytes_at;
 
 /// How many banks there are.
 pub const BANKS: u32 = 16;
@@ -106,7 +106,6 @@ impl<'a, A: Allocator> Bank<'a, A> {
 
     /// The bytes of a word, the lowest first.
     pub fn bytes(&self, word: u32) -> [u8; 4]
-        requires { word % 4 ≡ 0 }
         ensures { result ≡ (state_of self.now).values word }
     {
         value_at(&self.changed, self.image, word)
@@ -193,12 +192,11 @@ fn value_at<A: Allocator>(
     image: &Image<A>,
     word: u32,
 ) -> [u8; 4]
-    requires { word % 4 ≡ 0 }
     ensures { result ≡ value_in image.now changed.now word }
 {
     match changed.get(&word) {
         Some(bytes) => *bytes,
-        None => word_at(image, word),
+        None => bytes_at(image.segments(), word),
     }
 }
 

@@ -5,6 +5,5 @@ pub use bank::{AddFault, BANKS, Bank, each_bank_is_logged};
 pub use stamp::{next_stamp, stamps_in_examples};
 
 mod bank;
-mod image_words;
 mod order;
 mod stamp;

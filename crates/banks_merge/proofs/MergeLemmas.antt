@@ -1,6 +1,7 @@
 -- What merged logs lead to.
-use Rattle.std.proofs.Common.{◌≡◌, ℕ, zero, suc, ◌<◌, ◌≤◌, ◌+◌, Bool, true, false, List, [], ◌∷◌, ◌++◌, Some, Vec, drop, length, refl, ap, sym, ◌∙◌, subst, ⊎_elim, arith, append_assoc}
+use Rattle.std.proofs.Common.{◌≡◌, ℕ, zero, suc, ◌<◌, ◌≤◌, ◌+◌, Bool, true, false, List, [], ◌∷◌, ◌++◌, Some, drop, length, refl, ap, sym, ◌∙◌, subst, ⊎_elim, arith, append_assoc}
 use Rattle.std.specs.Prelude.{◌↔◌, slice_get, slice_index_or}
+use Rattle.std.specs.Borrow.{Bor}
 use Rattle.std.specs.List.{AllByRecursion}
 use Rattle.std.proofs.lemmas.Bool.{cases_lt}
 use Rattle.std.proofs.lemmas.List.{length-map, map-append}
@@ -58,15 +59,15 @@ all_rising logs i full so_far = (
   λ rise. refl,
 )
 
--- ---- copies
-pub more_logs : {A : Type 0} (out more : List (Vec LoggedSegment A)) (logs : List HartLogValue) (i : ℕ) (x : HartLogValue) (v : Vec LoggedSegment A)
-    → i < length logs → x ≡ slice_index_or logs i x → v.items ≡ x.log → more ≡ out ++ v ∷ []
+-- ---- the logs that are referred to
+pub more_logs : (out more : List (Bor (List LoggedSegment))) (logs : List HartLogValue) (i : ℕ) (x : HartLogValue) (v : Bor (List LoggedSegment))
+    → i < length logs → x ≡ slice_index_or logs i x → v.now ≡ x.log → more ≡ out ++ v ∷ []
     → logs_of out ++ segments_of_all (drop i logs) ≡ segments_of_all logs → logs_of more ++ segments_of_all (drop (i + 1) logs) ≡ segments_of_all logs
-more_logs {A} out more logs i x v low is copied pushed so_far =
-    ap (λ (vs : List (Vec LoggedSegment A)). logs_of vs ++ segments_of_all (drop (i + 1) logs)) pushed
-    ∙ ap (λ (l : List (List LoggedSegment)). l ++ segments_of_all (drop (i + 1) logs)) (map-append (λ (w : Vec LoggedSegment A). w.items) out (v ∷ []))
-    ∙ append_assoc (logs_of out) (v.items ∷ []) (segments_of_all (drop (i + 1) logs))
-    ∙ ap (λ (es : List LoggedSegment). logs_of out ++ es ∷ segments_of_all (drop (i + 1) logs)) copied
+more_logs out more logs i x v low is its pushed so_far =
+    ap (λ (vs : List (Bor (List LoggedSegment))). logs_of vs ++ segments_of_all (drop (i + 1) logs)) pushed
+    ∙ ap (λ (l : List (List LoggedSegment)). l ++ segments_of_all (drop (i + 1) logs)) (map-append (λ (w : Bor (List LoggedSegment)). w.now) out (v ∷ []))
+    ∙ append_assoc (logs_of out) (v.now ∷ []) (segments_of_all (drop (i + 1) logs))
+    ∙ ap (λ (es : List LoggedSegment). logs_of out ++ es ∷ segments_of_all (drop (i + 1) logs)) its
     ∙ ap (λ (ls : List HartLogValue). logs_of out ++ segments_of_all ls) (sym (drop_item logs i x low is))
     ∙ so_far
 
@@ -128,7 +129,7 @@ ends_of logs banks choices walked kept matched leads image inputs are =
     let few : length (segments_of_all logs) ≤ length inputs = (let e = length-map logs (λ (l : HartLogValue). l.log) in let f = are.harts in omega (arith, e, f)) in
     leads image inputs (slots image inputs logs) (bank_log banks) are.entry few (are_logs image inputs logs banks are walked kept) matched
 
--- what is said of the logs is said of their copies
-pub of_copies : {A : Type 0} (P : List (List LoggedSegment) → Type 0) (copies : List (Vec LoggedSegment A)) (logs : List HartLogValue) → logs_of copies ≡ segments_of_all logs
-    → P (segments_of_all logs) → P (logs_of copies)
-of_copies P copies logs is p = subst P (sym is) p
+-- what is said of the logs is said of what refers to them
+pub of_seen : (P : List (List LoggedSegment) → Type 0) (all : List (Bor (List LoggedSegment))) (logs : List HartLogValue) → logs_of all ≡ segments_of_all logs
+    → P (segments_of_all logs) → P (logs_of all)
+of_seen P all logs is p = subst P (sym is) p

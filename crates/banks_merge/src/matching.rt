@@ -1,14 +1,16 @@
 //! Whether the same accesses stand in the logs of harts and of banks.
-ghost use Rattle.std.specs.Prelude.{◌≡◌, ◌||◌, ◌↔◌, [], ◌∷◌, option_to_list, IfOk, OnOk, true};
+ghost use Rattle.std.specs.Prelude.{◌≡◌, ◌||◌, ◌↔◌, [], ◌∷◌, option_to_list, length, IfOk, OnOk, true};
 ghost use Rattle.banks_laws.specs.declared.access.LoggedAccess.{LoggedAccess};
 ghost use Rattle.banks_laws.specs.Order.{IsMatched};
 ghost use Rattle.banks_laws.specs.Segments.{accesses};
-ghost use Rattle.banks_runs.specs.Merged.{bank_of};
+ghost use Rattle.access_order.specs.AccessOrder.{logs_of, segments_of, AreOrdered};
+ghost use Rattle.banks_runs.specs.Merged.{bank_of, most_banks};
 ghost use Rattle.banks_merge.specs.Logs.{bank_log, hart_log, AreNumbered};
 ghost use Rattle.banks_merge.specs.Matching.{are_in, bank_accesses, hart_accesses, is_among, is_in, Covers};
 
 use crate::seen::see_banks;
-use banks::Bank;
+use access_order::are_ordered;
+use banks::{BANKS, Bank};
 use banks_laws::LoggedAccess;
 use hart_logs::HartLog;
 use segment_order::LogSegment;
@@ -203,6 +205,15 @@ fn harts_have_all<A: Allocator + Copy>(
     Ok(banks_are_in(&set, banks))
 }
 
+// Whether there are all banks, with the accesses of each hart in the order of its own log. Logs that threads have left are so, and to see it
+// takes a look at each access and no memory.
+fn are_in_order<A: Allocator>(logs: &[HartLog<A>], banks: &[Bank<A>]) -> bool
+    ensures { result ≡ true
+        → (length banks.now ≡ most_banks) × AreOrdered (segments_of logs.now) (logs_of banks.now) }
+{
+    banks.len() == BANKS as usize && are_ordered(logs, banks)
+}
+
 /// Whether an access stands in a hart's log exactly where it stands in the log of its word's bank. Each bank stands at the place
 /// of its number.
 pub fn is_matched<A: Allocator + Copy>(
@@ -213,6 +224,9 @@ pub fn is_matched<A: Allocator + Copy>(
     requires { AreNumbered banks.now }
     ensures { IfOk result (λ matched. (matched ≡ true) ↔ IsMatched bank_of (hart_log logs.now) (bank_log banks.now)) }
 {
+    if are_in_order(logs, banks) {
+        return Ok(true);
+    }
     see_banks(banks);
     let in_banks = banks_have_all(alloc, logs, banks)?;
     if !in_banks {

@@ -87,27 +87,15 @@ fn choices_of<A: Allocator + Copy>(
 }
 
 // The segments of each log.
-fn segments_of_all<A: Allocator + Copy>(
+fn segments_of_all<'l, 'a, A: Allocator + Copy>(
     alloc: A,
-    logs: &[HartLog<A>],
-) -> Result<Vec<Vec<LogSegment, A>, A>, AllocError>
+    logs: &'l [HartLog<'a, A>],
+) -> Result<Vec<&'l [LogSegment], A>, AllocError>
     ensures { IfOk result (λ all. logs_of all.items ≡ segments_of_all logs.now) }
 {
     let mut all = Vec::new(alloc);
     'logs: for log in logs {
-        let copies = copied(alloc, log.segments())?;
-        all.push(copies)?;
+        all.push(log.segments())?;
     }
     Ok(all)
-}
-
-// The same segments again.
-fn copied<A: Allocator>(alloc: A, segments: &[LogSegment]) -> Result<Vec<LogSegment, A>, AllocError>
-    ensures { IfOk result (λ copies. copies.items ≡ segments.now) }
-{
-    let mut copies = Vec::new(alloc);
-    'segments: for segment in segments {
-        copies.push(segment.copy())?;
-    }
-    Ok(copies)
 }

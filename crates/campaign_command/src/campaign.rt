@@ -1,6 +1,6 @@
 //! Doing `campaign`.
 
-ghost use Rattle.std.specs.Prelude.{◌+◌, ◌-◌, ◌<◌, ◌≤◌, ◌^◌};
+ghost use Rattle.std.specs.Prelude.{◌+◌, ◌-◌, ◌<◌, ◌≤◌, ◌^◌, IfOk};
 
 use crate::watching::Watching;
 use command_line::{CampaignOrder, read_inputs, read_rule};
@@ -145,6 +145,59 @@ fn what_is_bad(rule: Option<Kind>, exit: Exit) -> &'static str {
     }
 }
 
+// What is asked of a campaign: what is told of its runs, and which they are.
+#[derive(Clone, Copy, Debug)]
+struct Asked {
+    telling: Telling,
+    plan: DrawnPlan,
+}
+
+// What an order asks of a campaign, or the status of a line that can't be read.
+fn read_asked<R: Eprint>(
+    rt: &R,
+    order: &CampaignOrder,
+    rule: Option<Kind>,
+) -> Result<Asked, Status>
+    ensures { IfOk result (λ asked. asked.plan.runs.first + asked.plan.runs.count ≤ 2 ^ 64) }
+{
+    let Some(runs) = read_campaign_plan(rule, order.first, order.count, order.steps) else {
+        return Err(bad_line(
+            rt,
+            "--first, --count and --steps take decimal numbers, first and count together at most 2^64, steps below 2^32, \
+             as --first 0 --count 1000 --steps 40",
+        ));
+    };
+    let Some(telling) = read_telling(order.failures, order.summary, order.outcomes) else {
+        return Err(bad_line(
+            rt,
+            "--outcomes goes with --summary, which doesn't go with --failures",
+        ));
+    };
+    let Some(kind) = read_kind(order.draw) else {
+        return Err(bad_line(
+            rt,
+            "--schedule takes even, bursts:MEAN with a decimal number from 1 to 2147483648, or priorities:DEPTH with one from 1 to 1000, \
+             as bursts:100",
+        ));
+    };
+    let plan = DrawnPlan {
+        runs,
+        kind,
+        detail: detail_of(telling),
+        exit: exit_of(order),
+    };
+    Ok(Asked { telling, plan })
+}
+
+// Whether harts may still run at the end.
+fn exit_of(order: &CampaignOrder) -> Exit {
+    if order.must_exit {
+        Exit::Must
+    } else {
+        Exit::May
+    }
+}
+
 /// Runs a program under the schedule of each seed. Progress is told to a person.
 pub fn run_campaign<R: Files + AllocGlobal + Print + Eprint + Threads + Sync>(
     rt: &R,
@@ -159,41 +212,31 @@ pub fn run_campaign<R: Files + AllocGlobal + Print + Eprint + Threads + Sync>(
         Ok(rule) => rule,
         Err(fault) => return refuse(rt, &fault),
     };
-    let Some(plan) = read_campaign_plan(rule, order.first, order.count, order.steps) else {
-        return bad_line(
-            rt,
-            "--first, --count and --steps take decimal numbers, first and count together at most 2^64, steps below 2^32, \
-             as --first 0 --count 1000 --steps 40",
-        );
-    };
-    let Some(telling) = read_telling(order.failures, order.summary, order.outcomes) else {
-        return bad_line(
-            rt,
-            "--outcomes goes with --summary, which doesn't go with --failures",
-        );
-    };
-    let Some(kind) = read_kind(order.draw) else {
-        return bad_line(
-            rt,
-            "--schedule takes even, bursts:MEAN with a decimal number from 1 to 2147483648, or priorities:DEPTH with one from 1 to 1000, \
-             as bursts:100",
-        );
-    };
-    let plan = DrawnPlan {
-        runs: plan,
-        kind,
-        detail: detail_of(telling),
-        exit: if order.must_exit {
-            Exit::Must
-        } else {
-            Exit::May
-        },
+    let asked = match read_asked(rt, order, rule) {
+        Ok(asked) => asked,
+        Err(status) => return status,
     };
     let program = match fs::open(rt, order.file) {
         Ok(program) => program,
         Err(error) => return cannot_open(rt, audience, order.file, &error),
     };
     let mut program = ReaderSource::new(program);
+    tell_campaign(rt, audience, order, inputs.as_slice(), asked, &mut program)
+}
+
+// Runs a program under the schedule of each seed and tells of it, with words for a person where one looks on.
+fn tell_campaign<R: Files + AllocGlobal + Print + Eprint + Threads + Sync, P: Source>(
+    rt: &R,
+    audience: Audience,
+    order: &CampaignOrder,
+    inputs: &[u32],
+    asked: Asked,
+    program: &mut P,
+) -> Status
+    requires fits { asked.plan.runs.first + asked.plan.runs.count ≤ 2 ^ 64 }
+    requires program_counts { P.failures program.old < 2 ^ 64 - 1 }
+{
+    let Asked { telling, plan } = asked;
     let mut sink = Watching::new(rt, audience, WriterSink::new(io::writer(rt)));
     let mut line = Line {
         rt,
@@ -202,22 +245,14 @@ pub fn run_campaign<R: Files + AllocGlobal + Print + Eprint + Threads + Sync>(
         bad: what_is_bad(plan.runs.rule, plan.exit),
         is_shown: false,
     };
-    let answer = tell_runs(
-        rt,
-        telling,
-        inputs.as_slice(),
-        plan,
-        &mut program,
-        &mut sink,
-        &mut line,
-    );
+    let answer = tell_runs(rt, telling, inputs, plan, program, &mut sink, &mut line);
     if line.is_shown {
         wipe_line(rt, audience);
     }
     match answer {
         Ok(status) => {
             if audience == Audience::Person {
-                let _ = explain_seed(rt, order, inputs.as_slice(), plan, sink.seed());
+                let _ = explain_seed(rt, order, inputs, plan, sink.seed());
             }
             status
         }

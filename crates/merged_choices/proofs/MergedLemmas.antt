@@ -54,9 +54,9 @@ segments_more out more es rest e all is so_far pushed =
     ap (λ (l : List Choice). l ++ choices_of rest) pushed ∙ append_assoc out (choices_of_one e) (choices_of rest)
     ∙ ap (λ (l : List Choice). out ++ l) (sym (more_segments e rest)) ∙ ap (λ (l : List LoggedSegment). out ++ choices_of l) (sym is) ∙ so_far
 
-pub drop_is : (es : List LoggedSegment) (i : ℕ) (e : LoggedSegment) → i < length es → e ≡ slice_index_or es i e → drop i es ≡ e ∷ drop (i + 1) es
+pub drop_is : {A : Type 0} (es : List A) (i : ℕ) (e : A) → i < length es → e ≡ slice_index_or es i e → drop i es ≡ e ∷ drop (i + 1) es
 drop_is [] i e low is = absurd (omega (arith, low))
-drop_is (x ∷ es) zero e low is = ap (λ (y : LoggedSegment). y ∷ es) (sym is)
+drop_is {A} (x ∷ es) zero e low is = ap (λ (y : A). y ∷ es) (sym is)
 drop_is (x ∷ es) (suc i) e low is =
     let same : suc (i + 1) ≡ suc i + 1 = omega arith in
     drop_is es i e (omega (arith, low)) is ∙ ap (λ (k : ℕ). e ∷ drop k (x ∷ es)) same

@@ -6,7 +6,7 @@ ghost use Rattle.std.specs.List.{AllByRecursion};
 ghost use Rattle.banks_laws.specs.Order.{Rises, Earlier};
 ghost use Rattle.banks_runs.specs.Merged.{choices_of};
 ghost use Rattle.segment_order.specs.Weaving.{log_of};
-ghost use Rattle.segment_order.specs.Logs.{logs_of};
+ghost use Rattle.segment_order.specs.Logs.{logs_of, seen};
 ghost use Rattle.merged_choices.specs.Merged.{plain, choices_of_one, IsMergeOf, LeadsTo};
 
 use machine::Choice;
@@ -18,7 +18,7 @@ use std::alloc::{AllocError, Allocator};
 /// Where the same accesses stand in logs of a program's banks, the run of these choices ends as the logs do.
 pub fn choices_in_order<A: Allocator + Copy>(
     alloc: A,
-    logs: &[Vec<LogSegment, A>],
+    logs: &[&[LogSegment]],
 ) -> Result<Vec<Choice, A>, AllocError>
     requires own { (h : ℕ) → AllByRecursion (λ e. e.hart ≡ h) (log_of (logs_of logs.now) h) }
     requires rising { (h : ℕ) → Rises Earlier (log_of (logs_of logs.now) h) }
@@ -31,8 +31,11 @@ pub fn choices_in_order<A: Allocator + Copy>(
 }
 
 /// The choices of segments, one after another.
-fn choices_of<A: Allocator>(alloc: A, segments: &[LogSegment]) -> Result<Vec<Choice, A>, AllocError>
-    ensures { IfOk result (λ choices. choices.items ≡ choices_of segments.now) }
+fn choices_of<A: Allocator>(
+    alloc: A,
+    segments: &[&LogSegment],
+) -> Result<Vec<Choice, A>, AllocError>
+    ensures { IfOk result (λ choices. choices.items ≡ choices_of (seen segments.now)) }
 {
     let mut choices = Vec::new(alloc);
     'segments: for segment in segments {

@@ -32,11 +32,7 @@ pub fn run_schedule<R: Files + AllocGlobal + Print + Eprint>(
         Ok(rule) => rule,
         Err(fault) => return refuse(rt, &fault),
     };
-    let form = if order.hex {
-        ProgramForm::Hex
-    } else {
-        ProgramForm::Elf
-    };
+    let form = form_of(order);
     let program = match fs::open(rt, order.file) {
         Ok(program) => program,
         Err(error) => return cannot_open(rt, audience, order.file, &error),
@@ -48,16 +44,11 @@ pub fn run_schedule<R: Files + AllocGlobal + Print + Eprint>(
     let mut program = ReaderSource::new(program);
     let mut choices = ReaderSource::new(choices);
     let mut sink = WriterSink::new(io::writer(rt));
-    let exit = if order.must_exit {
-        Exit::Must
-    } else {
-        Exit::May
-    };
     match run_program(
         rt.alloc(),
         form,
         inputs.as_slice(),
-        Demands { rule, exit },
+        demands_of(order, rule),
         &mut program,
         &mut choices,
         &mut sink,
@@ -70,6 +61,25 @@ pub fn run_schedule<R: Files + AllocGlobal + Print + Eprint>(
         }
         Err(fault) => tell(rt, audience, form, order, inputs.len(), fault),
     }
+}
+
+// The form of the program.
+fn form_of(order: &RunOrder) -> ProgramForm {
+    if order.hex {
+        ProgramForm::Hex
+    } else {
+        ProgramForm::Elf
+    }
+}
+
+// What is demanded of the run.
+fn demands_of(order: &RunOrder, rule: Option<Kind>) -> Demands {
+    let exit = if order.must_exit {
+        Exit::Must
+    } else {
+        Exit::May
+    };
+    Demands { rule, exit }
 }
 
 // Runs a program under a schedule, with the engine for what is asked of the run.

@@ -1,9 +1,12 @@
 -- Two lists woven to one: step by step, with the elements of both, in order.
 use Rattle.std.proofs.Common.{◌≡◌, ℕ, zero, suc, ◌+◌, ◌<◌, ◌≤◌, Bool, true, false, List, [], ◌∷◌, ◌++◌, length, drop, refl, ap, sym, ◌∙◌, arith, append_assoc, append-nil, inl, inr, ⊎_elim}
+use Rattle.std.specs.Borrow.{Bor}
+use Rattle.std.proofs.lemmas.List.{drop-map, length-map, map-append}
 use Rattle.std.specs.Prelude.{◌⊎◌, slice_index_or, if◌then◌else◌}
 use Rattle.banks_laws.specs.Segments.{LoggedSegment}
 use Rattle.banks_laws.specs.Order.{In}
 use Rattle.segment_order.specs.Weaving.{comes_first, woven}
+use Rattle.segment_order.specs.Logs.{seen}
 
 drop_there : (xs : List LoggedSegment) (i : ℕ) (d : LoggedSegment) → i < length xs → drop i xs ≡ slice_index_or xs i d ∷ drop (i + 1) xs
 drop_there [] i d low = absurd (omega (arith, low))
@@ -129,3 +132,23 @@ pub take_rest : (xs ys out both more all : List LoggedSegment) (i j : ℕ) → (
 take_rest xs ys out both more all i j past so_far first second =
     second ∙ ap (λ (l : List LoggedSegment). l ++ drop j ys) first ∙ append_assoc out (drop i xs) (drop j ys)
     ∙ ap (λ (l : List LoggedSegment). out ++ l) (sym (rest_of_both xs ys i j past)) ∙ so_far
+
+-- ---- segments that are referred to
+pub seen_low : (xs : List (Bor LoggedSegment)) (i : ℕ) → i < length xs → i < length (seen xs)
+seen_low xs i low = let e = length-map xs (λ (r : Bor LoggedSegment). r.now) in omega (arith, low, e)
+
+pub seen_past : (xs : List (Bor LoggedSegment)) (i : ℕ) → length xs ≤ i → length (seen xs) ≤ i
+seen_past xs i past = let e = length-map xs (λ (r : Bor LoggedSegment). r.now) in omega (arith, past, e)
+
+pub seen_at : (xs : List (Bor LoggedSegment)) (i : ℕ) (x : Bor LoggedSegment) → i < length xs → x ≡ slice_index_or xs i x → x.now ≡ slice_index_or (seen xs) i x.now
+seen_at [] i x low is = absurd (omega (arith, low))
+seen_at (y ∷ xs) zero x low is = ap (λ (r : Bor LoggedSegment). r.now) is
+seen_at (y ∷ xs) (suc i) x low is = seen_at xs i x (omega (arith, low)) is
+
+pub seen_push : (out more : List (Bor LoggedSegment)) (z : Bor LoggedSegment) → more ≡ out ++ z ∷ [] → seen more ≡ seen out ++ z.now ∷ []
+seen_push out more z e = ap seen e ∙ map-append (λ (r : Bor LoggedSegment). r.now) out (z ∷ [])
+
+pub seen_rest : (out more xs : List (Bor LoggedSegment)) (i : ℕ) → more ≡ out ++ drop i xs → seen more ≡ seen out ++ drop i (seen xs)
+seen_rest out more xs i e =
+    ap seen e ∙ map-append (λ (r : Bor LoggedSegment). r.now) out (drop i xs)
+    ∙ ap (λ (l : List LoggedSegment). seen out ++ l) (sym (drop-map (λ (r : Bor LoggedSegment). r.now) i xs))

@@ -1,6 +1,4 @@
 //! A segment of a hart's log.
-ghost use Rattle.std.specs.Prelude.{◌≡◌};
-
 use banks_laws::LoggedAccess;
 use std::marker::Model;
 
@@ -34,20 +32,4 @@ impl Model for LogSegment {
       refuse = s.refuse;
       accesses = option_to_list s.code_read ++ option_to_list s.data_access;
     } };
-}
-
-impl LogSegment {
-    /// The same segment again.
-    pub fn copy(&self) -> LogSegment
-        ensures { result ≡ self.now }
-    {
-        LogSegment {
-            stamp: self.stamp,
-            hart: self.hart,
-            local: self.local,
-            refuse: self.refuse,
-            code_read: self.code_read,
-            data_access: self.data_access,
-        }
-    }
 }

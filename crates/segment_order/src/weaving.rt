@@ -3,7 +3,7 @@ ghost use Rattle.std.specs.Prelude.{◌≡◌, ℕ, ◌++◌, [], drop, IfOk, On
 ghost use Rattle.std.specs.List.{AllByRecursion};
 ghost use Rattle.banks_laws.specs.Order.{Rises, Earlier, IsMerged};
 ghost use Rattle.segment_order.specs.Weaving.{comes_first, log_of, woven, woven_with};
-ghost use Rattle.segment_order.specs.Logs.{logs_of};
+ghost use Rattle.segment_order.specs.Logs.{logs_of, seen};
 
 use crate::segment::LogSegment;
 use std::alloc::{AllocError, Allocator};
@@ -16,38 +16,38 @@ fn comes_first(first: &LogSegment, second: &LogSegment) -> bool
 }
 
 /// Puts what a list has from a place on behind another.
-fn push_from<A: Allocator>(
-    out: &mut Vec<LogSegment, A>,
-    segments: &[LogSegment],
+fn push_from<'s, A: Allocator>(
+    out: &mut Vec<&'s LogSegment, A>,
+    segments: &[&'s LogSegment],
     from: usize,
 ) -> Result<(), AllocError>
     ensures { OnOk result (out.new.items ≡ out.old.items ++ drop from segments.now) }
 {
     let mut i = from;
     'segments: while i < segments.len() {
-        out.push(segments[i].copy())?;
+        out.push(segments[i])?;
         i += 1;
     }
     Ok(())
 }
 
 /// Two lists in order as one: again and again the first of both heads.
-fn weave<A: Allocator>(
+fn weave<'s, A: Allocator>(
     alloc: A,
-    first: &[LogSegment],
-    second: &[LogSegment],
-) -> Result<Vec<LogSegment, A>, AllocError>
-    ensures { IfOk result (λ out. out.items ≡ woven first.now second.now) }
+    first: &[&'s LogSegment],
+    second: &[&'s LogSegment],
+) -> Result<Vec<&'s LogSegment, A>, AllocError>
+    ensures { IfOk result (λ out. seen out.items ≡ woven (seen first.now) (seen second.now)) }
 {
     let mut out = Vec::new(alloc);
     let mut i = 0;
     let mut j = 0;
     'segments: while i < first.len() && j < second.len() {
-        if comes_first(&first[i], &second[j]) {
-            out.push(first[i].copy())?;
+        if comes_first(first[i], second[j]) {
+            out.push(first[i])?;
             i += 1;
         } else {
-            out.push(second[j].copy())?;
+            out.push(second[j])?;
             j += 1;
         }
     }
@@ -58,13 +58,13 @@ fn weave<A: Allocator>(
 
 /// The segments of all logs, log h being that of hart h, in the order of their stamps, and of the harts' numbers where stamps
 /// are equal. In each log stamps rise.
-pub fn in_order<A: Allocator + Copy>(
+pub fn in_order<'s, A: Allocator + Copy>(
     alloc: A,
-    logs: &[Vec<LogSegment, A>],
-) -> Result<Vec<LogSegment, A>, AllocError>
+    logs: &[&'s [LogSegment]],
+) -> Result<Vec<&'s LogSegment, A>, AllocError>
     requires own { (h : ℕ) → AllByRecursion (λ e. e.hart ≡ h) (log_of (logs_of logs.now) h) }
     requires rising { (h : ℕ) → Rises Earlier (log_of (logs_of logs.now) h) }
-    ensures { IfOk result (λ out. IsMerged (log_of (logs_of logs.now)) out.items) }
+    ensures { IfOk result (λ out. IsMerged (log_of (logs_of logs.now)) (seen out.items)) }
 {
     let out = all_woven(alloc, logs)?;
     Ok(out)
@@ -72,15 +72,30 @@ pub fn in_order<A: Allocator + Copy>(
 
 /// All logs woven, one after another.
 #[tactic(auto, unfolding(crate::specs::Weaving::woven_with))]
-fn all_woven<A: Allocator + Copy>(
+fn all_woven<'s, A: Allocator + Copy>(
     alloc: A,
-    logs: &[Vec<LogSegment, A>],
-) -> Result<Vec<LogSegment, A>, AllocError>
-    ensures { IfOk result (λ out. out.items ≡ woven_with [] (logs_of logs.now)) }
+    logs: &[&'s [LogSegment]],
+) -> Result<Vec<&'s LogSegment, A>, AllocError>
+    ensures { IfOk result (λ out. seen out.items ≡ woven_with [] (logs_of logs.now)) }
 {
     let mut out = Vec::new(alloc);
     'logs: for log in logs {
-        out = weave(alloc, &out, log)?;
+        let more = references(alloc, *log)?;
+        out = weave(alloc, &out, &more)?;
+    }
+    Ok(out)
+}
+
+/// References to the segments of a log.
+fn references<'s, A: Allocator>(
+    alloc: A,
+    log: &'s [LogSegment],
+) -> Result<Vec<&'s LogSegment, A>, AllocError>
+    ensures { IfOk result (λ out. seen out.items ≡ log.now) }
+{
+    let mut out = Vec::new(alloc);
+    'segments: for segment in log {
+        out.push(segment)?;
     }
     Ok(out)
 }

@@ -1,6 +1,7 @@
 //! Steps of a hart that knows its image, and is told the bytes of two words at most.
 #![tactic(auto)]
 
+pub use image::bytes_at;
 pub use steps::{PlannedTouch, ToldWords, needed_word, planned_touch, settle, stored_bytes};
 pub use words::Word;
 

@@ -1,5 +1,6 @@
-use Rattle.std.proofs.Common.{rules, ◌≡◌, ◌+◌, ◌<◌, length, drop, slice_index_or}
+use Rattle.std.proofs.Common.{rules, ◌≡◌, ◌+◌, ◌<◌, length, drop, slice_index_or, ap}
 use Rattle.banks_runs.specs.Merged.{choices_of}
+use Rattle.segment_order.specs.Logs.{seen}
 use Rattle.merged_choices.proofs.MergedLemmas.{drop_is, segments_more}
 use Rattle.merged_choices.proofs.choices_of.Goals as goal
 
@@ -10,4 +11,4 @@ segments-preserved g c =
     let e = c.segment-item.result in
     let low : i < length es = search rules in
     let is : e ≡ slice_index_or es i e = search rules in
-    segments_more c.segments.choices.items c.push_choices.new.choices.items (drop i es) (drop (i + 1) es) e (choices_of es) (drop_is es i e low is) c.segments.invariant c.in_ok-push_choices.ensures
+    segments_more c.segments.choices.items c.push_choices.new.choices.items (seen (drop i es)) (seen (drop (i + 1) es)) e.now (choices_of (seen es)) (ap seen (drop_is es i e low is)) c.segments.invariant c.in_ok-push_choices.ensures

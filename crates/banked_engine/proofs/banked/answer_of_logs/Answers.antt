@@ -8,7 +8,7 @@ use Rattle.banked_engine.proofs.banked.answer_of_logs.Goals as goal
 
 pub merge-requires : goal.merge-requires
 merge-requires g c =
-    are_of_one c.args.image.now c.args.task.now.inputs.items c.args.task.now.budget c.args.task.now.plan.keys c.args.logs.now c.args.banks.now c.requires.banked c.requires.entry
+    are_of_one c.args.image.now c.args.task.now.inputs.items c.args.task.now.budget c.args.task.now.plan.keys c.args.logs.now c.args.banks.now c.requires c.requires.entry
 
 pub returns-clause-answer : goal.returns-clause-answer
 returns-clause-answer g c =
@@ -16,7 +16,7 @@ returns-clause-answer g c =
     let choices = c.in_ok-choices.choices.items in
     let harts = map hart_of c.deref-3.result.now in
     let merged = c.in_ok-choices.ensures in
-    of_run c.args.image.now task.inputs.items task.budget task.plan.keys c.args.logs.now c.args.banks.now c.requires.banked choices task.rule harts c.in-Ok-answer_of.answer
+    of_run c.args.image.now task.inputs.items task.budget task.plan.keys c.args.logs.now c.args.banks.now c.requires choices task.rule harts c.in-Ok-answer_of.answer
     c.requires.entry merged.matched merged.merged merged.ends
     (c.in-Ok-answer_of.ensures.history ∙ ap (λ cs. history_text (map plain_entry cs)) c.deref-2.ensures.value)
     (ap (λ hs. map hart_of hs) c.deref-3.ensures.value ∙ c.in-Ok.ensures)

@@ -1,6 +1,17 @@
-use Rattle.std.proofs.Common.{sym, ◌∙◌}
+use Rattle.std.proofs.Common.{refl, sym, ◌∙◌}
+use Rattle.std.proofs.lemmas.List.{length-map}
+use Rattle.banks.specs.BankLog.{BankLog}
+use Rattle.access_order.specs.AccessOrder.{logs_of, segments_of}
+use Rattle.access_order.proofs.OrderLemmas.{ordered_match}
 use Rattle.banks_merge.proofs.MatchLemmas.{matched_if, there_if, back_if}
 use Rattle.banks_merge.proofs.matching.is_matched.Goals as goal
+
+pub returns-then-are_in_order : goal.returns-then-are_in_order
+returns-then-are_in_order g c =
+    let is = c.are_in_order.ensures c.if-are_in_order.true in (
+      λ e. ordered_match (segments_of c.args.logs.now) (logs_of c.args.banks.now) (length-map c.args.banks.now (λ (k : BankLog). k.log) ∙ is.0) is.1,
+      λ matched. refl,
+    )
 
 pub returns-then-not-in_banks : goal.returns-then-not-in_banks
 returns-then-not-in_banks g c = (

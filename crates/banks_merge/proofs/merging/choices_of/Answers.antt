@@ -5,16 +5,16 @@ use Rattle.banks_laws.specs.Order.{Rises, Earlier}
 use Rattle.segment_order.specs.Weaving.{log_of}
 use Rattle.segment_order.specs.Logs.{logs_of}
 use Rattle.merged_choices.specs.Merged.{IsMergeOf, LeadsTo}
-use Rattle.banks_merge.proofs.MergeLemmas.{of_copies}
+use Rattle.banks_merge.proofs.MergeLemmas.{of_seen}
 use Rattle.banks_merge.proofs.merging.choices_of.Goals as goal
 
 pub choices_in_order-requires-clause-own : goal.choices_in_order-requires-clause-own
 choices_in_order-requires-clause-own g c =
-    of_copies (λ ls. (h : ℕ) → AllByRecursion (λ e. e.hart ≡ h) (log_of ls h)) c.deref.result.now c.args.logs.now (ap logs_of c.deref.ensures.value ∙ c.in_ok-all.ensures) c.requires.own
+    of_seen (λ ls. (h : ℕ) → AllByRecursion (λ e. e.hart ≡ h) (log_of ls h)) c.deref.result.now c.args.logs.now (ap logs_of c.deref.ensures.value ∙ c.in_ok-all.ensures) c.requires.own
 
 pub choices_in_order-requires-clause-rising : goal.choices_in_order-requires-clause-rising
 choices_in_order-requires-clause-rising g c =
-    of_copies (λ ls. (h : ℕ) → Rises Earlier (log_of ls h)) c.deref.result.now c.args.logs.now (ap logs_of c.deref.ensures.value ∙ c.in_ok-all.ensures) c.requires.rising
+    of_seen (λ ls. (h : ℕ) → Rises Earlier (log_of ls h)) c.deref.result.now c.args.logs.now (ap logs_of c.deref.ensures.value ∙ c.in_ok-all.ensures) c.requires.rising
 
 pub returns-clause-merged : goal.returns-clause-merged
 returns-clause-merged g c =
