@@ -4,6 +4,8 @@ ghost use Rattle.reservations.specs.Limit.{most_harts};
 ghost use Rattle.hart_step.specs.Hart.{hart_of};
 ghost use Rattle.memory.specs.Image.{image_memory, segments_memory};
 ghost use Rattle.local_steps.specs.CodeMemory.{code_in};
+ghost use Rattle.local_steps.specs.LocalStep.{class_of};
+ghost use Rattle.local_steps.specs.declared.stepping.Class.TheVariants.{Shared};
 ghost use Rattle.banks_laws.specs.HartLogs.{AreLocal, local_hart, segment_slot};
 ghost use Rattle.hart_logs.specs.HartLog.{image_table, last_stamp, slot_of, taken, with_access, Fits, IsAhead, IsOfHart, Refuses, TouchesNext};
 ghost use Rattle.hart_logs.specs.declared.log.AddFault.{AddFault};
@@ -113,6 +115,8 @@ impl<'a, A: Allocator> HartLog<'a, A> {
         ensures same { self.new ≡ self.old }
         ensures ahead { IsAhead self.old result }
         ensures limit { result.local ≤ limit }
+        ensures stops { result.local < limit
+            → class_of (segments_memory code.now) (hart_of result.hart) ≡ Shared }
     {
         let mut reached = self.hart;
         let local = local_steps(&mut reached, code, limit);
