@@ -153,11 +153,7 @@ struct Asked {
 }
 
 // What an order asks of a campaign, or the status of a line that can't be read.
-fn read_asked<R: Eprint>(
-    rt: &R,
-    order: &CampaignOrder,
-    rule: Option<Kind>,
-) -> Result<Asked, Status>
+fn read_asked<R: Eprint>(rt: &R, order: &CampaignOrder, rule: Option<Kind>) -> Result<Asked, Status>
     ensures { IfOk result (λ asked. asked.plan.runs.first + asked.plan.runs.count ≤ 2 ^ 64) }
 {
     let Some(runs) = read_campaign_plan(rule, order.first, order.count, order.steps) else {
