@@ -22,14 +22,12 @@
 #
 # But bursts do, since one hart sleeps in them while another does much:
 #
-# $ for seed in $(seq 40); do
-# > rvcons schedule --harts 4 --steps 2000 --seed $seed --schedule bursts:30 >seed.choices
-# > rvcons run aba.elf --inputs 3,3,3,3 --choices seed.choices >ends || echo "seed $seed"
-# > done
-# seed 8
-# seed 11
-# seed 21
-# seed 24
+# $ rvcons campaign aba.elf --inputs 3,3,3,3 --first 1 --count 40 --steps 2000 --schedule bursts:30 --failures
+# seed 8 exited 2 faulted 2 running 0
+# seed 11 exited 2 faulted 2 running 0
+# seed 21 exited 3 faulted 1 running 0
+# seed 24 exited 3 faulted 1 running 0
+# [status 3]
 
 .globl _start
 _start:

@@ -23,14 +23,12 @@
 #
 # In bursts most seeds find it:
 #
-# $ for seed in $(seq 10); do
-# > rvcons schedule --harts 2 --steps 400 --seed $seed --schedule bursts:30 >seed.choices
-# > rvcons run barrier_early.elf --inputs 2,2 --choices seed.choices >ends || echo "seed $seed"
-# > done
-# seed 1
-# seed 7
-# seed 9
-# seed 10
+# $ rvcons campaign barrier_early.elf --inputs 2,2 --first 1 --count 10 --steps 400 --schedule bursts:30 --failures
+# seed 1 exited 0 faulted 1 running 1
+# seed 7 exited 0 faulted 1 running 1
+# seed 9 exited 0 faulted 1 running 1
+# seed 10 exited 0 faulted 1 running 1
+# [status 3]
 
 .globl _start
 _start:

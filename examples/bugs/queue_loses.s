@@ -22,12 +22,10 @@
 #
 # Bursts find it more often:
 #
-# $ for seed in $(seq 40); do
-# > rvcons schedule --harts 2 --steps 200 --seed $seed --schedule bursts:10 >seed.choices
-# > rvcons run queue_loses.elf --inputs 0,0 --choices seed.choices >ends || echo "seed $seed"
-# > done
-# seed 16
-# seed 17
+# $ rvcons campaign queue_loses.elf --inputs 0,0 --first 1 --count 40 --steps 200 --schedule bursts:10 --failures
+# seed 16 exited 1 faulted 1 running 0
+# seed 17 exited 1 faulted 1 running 0
+# [status 3]
 
 .globl _start
 _start:
