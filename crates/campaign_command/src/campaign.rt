@@ -78,9 +78,8 @@ fn tell_plain_runs<R: AllocGlobal + Eprint + Threads + Sync, P: Source, K: Sink>
 fn is_plain(plan: DrawnPlan) -> bool {
     match (plan.kind.order, plan.exit) {
         (HartOrder::Even, Exit::May) => plan.kind.refusals.is_usual(),
-        (HartOrder::Even, Exit::Must)
-        | (HartOrder::Bursts(_), _)
-        | (HartOrder::Priorities(_), _) => false,
+        (HartOrder::Even, Exit::Must) | (HartOrder::Bursts(_), _) | (HartOrder::Priorities(_), _) =>
+            false,
     }
 }
 

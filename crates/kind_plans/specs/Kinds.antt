@@ -3,9 +3,10 @@ use Rattle.std.specs.Prelude.{◌≡◌, ℕ, ◌<◌, ◌⊎◌, List, Option, 
 use Rattle.std.specs.Borrow.{Bor}
 use Rattle.burst_schedules.specs.Bursts.{most_mean}
 use Rattle.priority_schedules.specs.Priorities.{most_depth}
-use Rattle.refusals.specs.Refusing.{most_one_in, IsOneIn}
-use Rattle.refusals.specs.declared.chance.Refusals.{Refusals}
-use Rattle.refusals.specs.declared.chance.Refusals.TheVariants as refusing
+use Rattle.refusals.specs.Limit.{most_one_in}
+use Rattle.refusals.specs.Refusing.{IsOneIn}
+use Rattle.refusals.specs.declared.refusal.Refusals.{Refusals}
+use Rattle.refusals.specs.declared.refusal.Refusals.TheVariants as refusing
 use Rattle.command_line.specs.Refused.{refused_of}
 use Rattle.command_line.specs.ScheduleLine.{draw_of}
 use Rattle.command_line.specs.declared.refused.Refused.{Refused}

@@ -9,7 +9,7 @@ use Rattle.command_line.specs.declared.schedule_line.Draw.{Draw}
 use Rattle.command_line.specs.declared.schedule_line.Draw.TheVariants as draws
 use Rattle.command_line.specs.declared.refused.Refused.{Refused}
 use Rattle.kind_plans.specs.Kinds.{draw_said, refused_said, MeansRefusals}
-use Rattle.refusals.specs.declared.chance.Refusals.{Refusals}
+use Rattle.refusals.specs.declared.refusal.Refusals.{Refusals}
 
 -- the maker of a seed below 2 ^ 64, by how its choices are drawn and which of them refuse a store-conditional; there is none by priorities, whose
 -- choices are those of a run
