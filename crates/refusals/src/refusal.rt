@@ -26,9 +26,10 @@ impl Refusals {
     pub fn is_usual(self) -> bool
         ensures { (result ≡ true) ↔ IsOneIn 16 self }
     {
-        match self {
-            Refusals::Never => false,
-            Refusals::OneIn(chance) => chance.one_in() == 16,
+        if let Refusals::OneIn(chance) = self {
+            chance.one_in() == 16
+        } else {
+            false
         }
     }
 
