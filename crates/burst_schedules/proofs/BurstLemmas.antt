@@ -1,11 +1,13 @@
 -- Bursts, drawn a choice at a time.
-use Rattle.std.proofs.Common.{◌≡◌, ◌≢◌, ℕ, zero, suc, ◌+◌, ◌-◌, ◌*◌, ◌/◌, ◌%◌, ◌<◌, ◌≤◌, ◌==◌, List, [], ◌∷◌, ◌++◌, append-nil, append_assoc, refl, arith, ap, sym, subst, ◌∙◌, mod-lt, if◌then◌else◌}
+use Rattle.std.proofs.Common.{◌≡◌, ◌≢◌, ℕ, zero, suc, ◌+◌, ◌-◌, ◌*◌, ◌%◌, ◌<◌, ◌≤◌, Bool, List, [], ◌∷◌, ◌++◌, append-nil, append_assoc, refl, arith, ap, sym, subst, ◌∙◌, mod-lt, if◌then◌else◌}
 use Rattle.std.proofs.lemmas.Bool.{ne_eqb}
 use Rattle.std.proofs.lemmas.List.Elements.{All-nil, All-cons}
 use Rattle.std.specs.List.{All}
 use Rattle.machine.specs.declared.choice.Choice.{Choice}
 use Rattle.rand_pcg.specs.Lcg.{Lcg}
 use Rattle.rand_pcg.specs.Pcg.{pcg32}
+use Rattle.refusals.specs.Refusing.{is_refused}
+use Rattle.refusals.specs.declared.refusal.Refusals.{Refusals}
 use Rattle.burst_schedules.specs.Bursts.{Drawing, burst_drawn, in_burst, next_choice, after_choice, choices_drawn, drawing_of, burst_choices}
 
 -- a burst ends where none of its choices is left
@@ -23,25 +25,36 @@ same d some = ap (λ b. if b then burst_drawn d else d) (ne_eqb d.left 0 some)
 
 -- two words draw a burst
 pub drawn : (d : Drawing) (hart left : ℕ) (g h : Lcg) → d.left ≡ 0 → (hart, g) ≡ pcg32 d.generator → (left, h) ≡ pcg32 g → 0 < d.mean
-    → record { harts = d.harts; mean = d.mean; hart = hart % d.harts; left = left % (d.mean - 1 + d.mean) + 1; generator = h } ≡ in_burst d
+    → record { harts = d.harts; mean = d.mean; refusals = d.refusals; hart = hart % d.harts; left = left % (d.mean - 1 + d.mean) + 1; generator = h } ≡ in_burst d
 unfolding burst_drawn
 drawn d hart left g h none first second some =
     let greatest : d.mean - 1 + d.mean ≡ 2 * d.mean - 1 = omega (arith, some) in
-    ap (λ n. record { harts = d.harts; mean = d.mean; hart = hart % d.harts; left = left % n + 1; generator = h }) greatest
+    ap (λ n. record { harts = d.harts; mean = d.mean; refusals = d.refusals; hart = hart % d.harts; left = left % n + 1; generator = h }) greatest
     ∙ ap (λ p. record d { hart = hart % d.harts; left = p.0 % (2 * d.mean - 1) + 1; generator = p.1 }) second
     ∙ ap (λ p. record d { hart = p.0 % d.harts; left = (pcg32 p.1).0 % (2 * d.mean - 1) + 1; generator = (pcg32 p.1).1 }) first
     ∙ sym (begun d none)
 
+-- the refusals stay
+in_burst-refusals : (d : Drawing) → (in_burst d).refusals ≡ d.refusals
+unfolding burst_drawn
+in_burst-refusals d = stands d d.left refl
+  where
+    stands : (d : Drawing) (n : ℕ) → d.left ≡ n → (in_burst d).refusals ≡ d.refusals
+    stands d zero is = ap (λ b. b.refusals) (begun d is)
+    stands d (suc n) is = ap (λ b. b.refusals) (same d (λ none. absurd (omega (arith, none, is))))
+
 -- a word more draws the next choice
 pub chosen : (d e : Drawing) (word : ℕ) (g : Lcg) → e ≡ in_burst d → (word, g) ≡ pcg32 e.generator
-    → record { hart = e.hart; refuse = word / 65536 % 16 == 0 } ≡ next_choice d
+    → (refuse : Bool) → refuse ≡ is_refused e.refusals word → record { hart = e.hart; refuse = refuse } ≡ next_choice d
 unfolding next_choice
-chosen d e word g is took =
-    ap {A = ℕ × Lcg} (λ p. record { hart = e.hart; refuse = p.0 / 65536 % 16 == 0 }) took
-    ∙ ap {A = Drawing} (λ b. record { hart = b.hart; refuse = (pcg32 b.generator).0 / 65536 % 16 == 0 }) is
+chosen d e word g is took refuse refused =
+    let kept : e.refusals ≡ d.refusals = ap (λ b. b.refusals) is ∙ in_burst-refusals d in
+    ap {A = Bool} {B = Choice} (λ r. record { hart = e.hart; refuse = r }) (refused ∙ ap (λ r. is_refused r word) kept)
+    ∙ ap {A = ℕ × Lcg} {B = Choice} (λ p. record { hart = e.hart; refuse = is_refused d.refusals p.0 }) took
+    ∙ ap {A = Drawing} {B = Choice} (λ b. record { hart = b.hart; refuse = is_refused d.refusals (pcg32 b.generator).0 }) is
 
 pub left_behind : (d e : Drawing) (word : ℕ) (g : Lcg) → e ≡ in_burst d → (word, g) ≡ pcg32 e.generator
-    → record { harts = e.harts; mean = e.mean; hart = e.hart; left = e.left - 1; generator = g } ≡ after_choice d
+    → record { harts = e.harts; mean = e.mean; refusals = e.refusals; hart = e.hart; left = e.left - 1; generator = g } ≡ after_choice d
 unfolding after_choice
 left_behind d e word g is took =
     ap {A = ℕ × Lcg} (λ p. record e { left = e.left - 1; generator = p.1 }) took
@@ -85,9 +98,10 @@ drawn_within (suc steps) d there =
     (subst (λ n. All (λ (c : Choice). c.hart < n) (choices_drawn steps (after_choice d))) (after-harts d)
     (drawn_within steps (after_choice d) (after-there d there)))
 
-pub burst_choices-within : (harts mean steps seed : ℕ) → 0 < harts → All (λ c. c.hart < harts) (burst_choices harts mean steps seed)
+pub burst_choices-within : (refusals : Refusals) (harts mean steps seed : ℕ) → 0 < harts
+    → All (λ c. c.hart < harts) (burst_choices refusals harts mean steps seed)
 unfolding drawing_of
-burst_choices-within harts mean steps seed some = drawn_within steps (drawing_of harts mean seed) some
+burst_choices-within refusals harts mean steps seed some = drawn_within steps (drawing_of harts mean refusals seed) some
 
 drawn-suc : (n : ℕ) (d : Drawing) → choices_drawn (suc n) d ≡ next_choice d ∷ choices_drawn n (after_choice d)
 unfolding choices_drawn

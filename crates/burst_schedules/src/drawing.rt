@@ -7,6 +7,7 @@ ghost use Rattle.burst_schedules.specs.Bursts.{Drawing, drawing_of, burst_drawn,
 use machine::Choice;
 use rand_core::utils::NextWord;
 use rand_pcg::Lcg64Xsh32;
+use refusals::Refusals;
 use scheduler::seeded_generator;
 use std::marker::Model;
 
@@ -18,6 +19,7 @@ pub const MOST_MEAN: u32 = 2_147_483_648;
 pub struct Bursts {
     harts: u32,
     mean: u32,
+    refusals: Refusals,
     hart: u32,
     left: u32,
     generator: Lcg64Xsh32,
@@ -29,6 +31,7 @@ impl Model for Bursts {
     ghost view = { λ b. record {
       harts = b.harts;
       mean = b.mean;
+      refusals = b.refusals;
       hart = b.hart;
       left = b.left;
       generator = b.generator;
@@ -38,17 +41,18 @@ impl Model for Bursts {
 }
 
 impl Bursts {
-    /// The drawing that a seed starts, of bursts of so many harts and of this mean length.
+    /// The drawing that a seed starts, of bursts of so many harts and of this mean length, whose choices refuse so.
     #[tactic(auto, unfolding(crate::specs::Bursts::drawing_of))]
-    pub fn new(harts: u32, mean: u32, seed: u64) -> Self
+    pub fn new(harts: u32, mean: u32, refusals: Refusals, seed: u64) -> Self
         requires some_harts { 0 < harts }
         requires some_choices { 0 < mean }
         requires most_choices { mean ≤ most_mean }
-        ensures { result ≡ drawing_of harts mean seed }
+        ensures { result ≡ drawing_of harts mean refusals seed }
     {
         Bursts {
             harts,
             mean,
+            refusals,
             hart: 0,
             left: 0,
             generator: seeded_generator(seed),
@@ -81,7 +85,7 @@ impl Bursts {
         self.left -= 1;
         Choice {
             hart: self.hart,
-            refuse: word / 65536 % 16 == 0,
+            refuse: self.refusals.refuses(word),
         }
     }
 }

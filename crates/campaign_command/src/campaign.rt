@@ -10,7 +10,7 @@ use drawn_engine::{LinesPlan, Shown, drawn_engine, drawn_summary_engine};
 use engines::{CampaignPlan, campaign_engine};
 use exits::Exit;
 use fault_advice::run_advice;
-use kind_plans::read_kind;
+use kind_plans::{read_kind, why_no_kind};
 use order_plans::{Telling, read_campaign_plan, read_telling};
 use programs::{ProgramForm, RunFault};
 use progress::Progress;
@@ -19,7 +19,7 @@ use reports::{
     Audience, RunFiles, WIPE, bad_line, cannot_open, cannot_read, explain_run, read_again, refuse,
     say, show, wipe_line,
 };
-use schedule_kinds::ScheduleKind;
+use schedule_kinds::HartOrder;
 use seed_choices::{SeedPlan, seed_choices_engine};
 use std::rt::Files;
 use std::thread::Threads;
@@ -50,8 +50,8 @@ impl<'a, R: Eprint> Progress for Line<'a, R> {
     }
 }
 
-// Runs a program under the even schedule of each seed of a plan, and tells of them.
-fn tell_even_runs<R: AllocGlobal + Eprint + Threads + Sync, P: Source, K: Sink>(
+// Runs a program under the plain schedule of each seed of a plan, and tells of them.
+fn tell_plain_runs<R: AllocGlobal + Eprint + Threads + Sync, P: Source, K: Sink>(
     rt: &R,
     telling: Telling,
     inputs: &[u32],
@@ -74,13 +74,12 @@ fn tell_even_runs<R: AllocGlobal + Eprint + Threads + Sync, P: Source, K: Sink>(
     }
 }
 
-// Whether each choice is drawn from all harts, and each run may leave harts that run.
-fn is_even(plan: DrawnPlan) -> bool {
-    match (plan.kind, plan.exit) {
-        (ScheduleKind::Even, Exit::May) => true,
-        (ScheduleKind::Even, Exit::Must)
-        | (ScheduleKind::Bursts(_), _)
-        | (ScheduleKind::Priorities(_), _) => false,
+// Whether each choice is drawn from all harts, with the usual refusals, and each run may leave harts that run.
+fn is_plain(plan: DrawnPlan) -> bool {
+    match (plan.kind.order, plan.exit) {
+        (HartOrder::Even, Exit::May) => plan.kind.refusals.is_usual(),
+        (HartOrder::Even, Exit::Must) | (HartOrder::Bursts(_), _) | (HartOrder::Priorities(_), _) =>
+            false,
     }
 }
 
@@ -98,8 +97,8 @@ fn tell_runs<R: AllocGlobal + Eprint + Threads + Sync, P: Source, K: Sink>(
     requires program_counts { P.failures program.old < 2 ^ 64 - 1 }
     requires sink_counts { K.failures sink.old < 2 ^ 64 - 1 }
 {
-    if is_even(plan) {
-        return tell_even_runs(rt, telling, inputs, plan.runs, program, sink, line);
+    if is_plain(plan) {
+        return tell_plain_runs(rt, telling, inputs, plan.runs, program, sink, line);
     }
     match telling {
         Telling::All => {
@@ -169,12 +168,8 @@ fn read_asked<R: Eprint>(rt: &R, order: &CampaignOrder, rule: Option<Kind>) -> R
             "--outcomes goes with --summary, which doesn't go with --failures",
         ));
     };
-    let Some(kind) = read_kind(order.draw) else {
-        return Err(bad_line(
-            rt,
-            "--schedule takes even, bursts:MEAN with a decimal number from 1 to 2147483648, or priorities:DEPTH with one from 1 to 1000, \
-             as bursts:100",
-        ));
+    let Some(kind) = read_kind(order.draw, order.refusals) else {
+        return Err(bad_line(rt, why_no_kind(order.refusals)));
     };
     let plan = DrawnPlan {
         runs,
@@ -278,6 +273,36 @@ fn tell<R: Files + AllocGlobal + Eprint>(
     status
 }
 
+// Tells the commands by which the run of a seed is looked into.
+fn show_commands<R: Eprint>(
+    rt: &R,
+    order: &CampaignOrder,
+    harts: usize,
+    plan: DrawnPlan,
+    seed: u64,
+) -> Option<()> {
+    let (file, texts, steps) = (order.file, order.inputs, plan.runs.steps);
+    eprint!(rt;
+        "seed {seed} is the first such one. To look into it:\n    \
+         rvcons schedule --harts {harts} --steps {steps} --seed {seed}"
+    )
+    .ok()?;
+    if let Some(draw) = order.draw {
+        eprint!(rt; " --schedule {draw}").ok()?;
+    }
+    if let Some(refusals) = order.refusals {
+        eprint!(rt; " --refusals {refusals}").ok()?;
+    }
+    if let HartOrder::Priorities(_) = plan.kind.order {
+        eprint!(rt; " --inputs {texts} {file}").ok()?;
+    }
+    eprintln!(rt;
+        " >seed_{seed}.choices\n    \
+         rvcons debug {file} --inputs {texts} --choices seed_{seed}.choices"
+    )
+    .ok()
+}
+
 // Tells how the first seed with a bad run is looked into, and what its faults mean.
 fn explain_seed<R: Files + AllocGlobal + Eprint>(
     rt: &R,
@@ -287,29 +312,13 @@ fn explain_seed<R: Files + AllocGlobal + Eprint>(
     seed: Option<u64>,
 ) -> Option<()> {
     let seed = seed?;
-    let (file, texts, harts, steps) = (order.file, order.inputs, inputs.len(), plan.runs.steps);
-    eprint!(rt;
-        "seed {seed} is the first such one. To look into it:\n    \
-         rvcons schedule --harts {harts} --steps {steps} --seed {seed}"
-    )
-    .ok()?;
-    if let Some(draw) = order.draw {
-        eprint!(rt; " --schedule {draw}").ok()?;
-    }
-    if let ScheduleKind::Priorities(_) = plan.kind {
-        eprint!(rt; " --inputs {texts} {file}").ok()?;
-    }
-    eprintln!(rt;
-        " >seed_{seed}.choices\n    \
-         rvcons debug {file} --inputs {texts} --choices seed_{seed}.choices"
-    )
-    .ok()?;
+    show_commands(rt, order, inputs.len(), plan, seed)?;
     let plan = SeedPlan {
         kind: plan.kind,
-        steps,
+        steps: plan.runs.steps,
         seed,
     };
-    let program = read_again(rt, file)?;
+    let program = read_again(rt, order.file)?;
     let mut choices = MemorySink::new(rt.alloc());
     seed_choices_engine(
         rt.alloc(),

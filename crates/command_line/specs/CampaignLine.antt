@@ -5,10 +5,12 @@ use Rattle.clap.specs.Walk.{one_of}
 use Rattle.command_line.specs.Arguments.{flag, needed, needed_option, optional, IsSet}
 use Rattle.command_line.specs.declared.campaign_line.CampaignOrder.{CampaignOrder}
 
--- `campaign FILE --inputs L --first S --count C --steps N [--rule K] [--failures] [--summary] [--outcomes] [--schedule KIND] [--must-exit]`
+-- `campaign FILE --inputs L --first S --count C --steps N [--rule K] [--failures] [--summary] [--outcomes] [--schedule KIND]
+-- [--refusals never|one-in:N] [--must-exit]`
 abbrev pub campaign_app : App
 campaign_app =
     with_rule
+    (with_rule
     (with_rule
     (with_rule
     (with_rule
@@ -28,6 +30,7 @@ campaign_app =
     (flag (codes "summary")))
     (flag (codes "outcomes")))
     (optional (codes "schedule")))
+    (optional (codes "refusals")))
     (flag (codes "must-exit"))
 
 -- the names of the texts that have to stand
@@ -47,4 +50,5 @@ IsCampaign rows order =
     × IsSet (one_of (codes "summary") rows) order.summary
     × IsSet (one_of (codes "outcomes") rows) order.outcomes
     × (first_of (codes "schedule") rows ≡ option_map (λ s. s.now) order.draw)
+    × (first_of (codes "refusals") rows ≡ option_map (λ s. s.now) order.refusals)
     × IsSet (one_of (codes "must-exit") rows) order.must_exit

@@ -6,6 +6,7 @@ pub mod LibLine
 pub mod FileLine
 pub mod ReplayLine
 pub mod RunLine
+pub mod Refused
 pub mod ScheduleLine
 pub mod ShrinkLine
 pub mod ThreadsLine

@@ -10,10 +10,11 @@ use Rattle.command_line.specs.declared.schedule_line.Draw.{Draw}
 use Rattle.command_line.specs.declared.schedule_line.Draw.TheVariants.{Even, Bursts, Priorities}
 use Rattle.command_line.specs.declared.schedule_line.ScheduleOrder.{ScheduleOrder}
 
--- `schedule --harts N --steps M [--seed S] [--turns] [--only H] [--schedule KIND] [--inputs L] [FILE]`
+-- `schedule --harts N --steps M [--seed S] [--turns] [--only H] [--schedule KIND] [--refusals never|one-in:N] [--inputs L] [FILE]`
 abbrev pub schedule_app : App
 schedule_app =
     with_rule
+    (with_rule
     (with_rule
     (with_rule
     (with_rule
@@ -26,6 +27,7 @@ schedule_app =
     (flag (codes "turns")))
     (optional (codes "only")))
     (optional (codes "schedule")))
+    (optional (codes "refusals")))
     (optional (codes "inputs")))
     (allowed (codes "FILE"))
 
@@ -42,6 +44,7 @@ IsSchedule rows order =
     × IsSet (one_of (codes "turns") rows) order.turns
     × (first_of (codes "only") rows ≡ option_map (λ s. s.now) order.only)
     × (first_of (codes "schedule") rows ≡ option_map (λ s. s.now) order.draw)
+    × (first_of (codes "refusals") rows ≡ option_map (λ s. s.now) order.refusals)
     × (first_of (codes "inputs") rows ≡ option_map (λ s. s.now) order.inputs)
     × (first_of (codes "FILE") rows ≡ option_map (λ s. s.now) order.file)
 

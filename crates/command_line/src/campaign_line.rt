@@ -7,13 +7,13 @@ ghost use Rattle.command_line.specs.Arguments.{holds_all};
 ghost use Rattle.command_line.specs.CampaignLine.{campaign_app, campaign_names, IsCampaign};
 
 use crate::arguments::{add, flag, headed, is_set, needed, needed_option, optional, text_of};
-use crate::help::{DRAW, INPUTS, MUST_EXIT, RULE};
+use crate::help::{DRAW, INPUTS, MUST_EXIT, REFUSALS, RULE};
 use clap::{ArgMatches, Command};
 use std::alloc::{AllocError, Global};
 
 /// `campaign FILE --inputs L --first S --count C --steps N [--rule K] [--failures] [--summary] [--outcomes] [--schedule KIND]
-/// [--must-exit]`: runs a program under a random schedule for each of C seeds from S on, and prints a line for each, with a rule also its
-/// verdict; or the lines of bad seeds alone, or how many seeds end in which way.
+/// [--refusals never|one-in:N] [--must-exit]`: runs a program under a random schedule for each of C seeds from S on, and prints a line for each,
+/// with a rule also its verdict; or the lines of bad seeds alone, or how many seeds end in which way.
 #[derive(Debug, Drop)]
 pub struct CampaignOrder<'a> {
     /// The program's path.
@@ -36,6 +36,8 @@ pub struct CampaignOrder<'a> {
     pub outcomes: bool,
     /// How the choices of a seed are drawn.
     pub draw: Option<&'a str>,
+    /// How often they refuse a store-conditional.
+    pub refusals: Option<&'a str>,
     /// Whether a run that leaves a hart running has failed.
     pub must_exit: bool,
 }
@@ -81,6 +83,7 @@ pub(crate) fn campaign_command<'a>(alloc: Global) -> Result<Command<'a>, AllocEr
         ),
     )?;
     let command = add(command, optional(alloc, "schedule", DRAW))?;
+    let command = add(command, optional(alloc, "refusals", REFUSALS))?;
     add(command, flag(alloc, "must-exit", MUST_EXIT))
 }
 
@@ -101,6 +104,7 @@ pub(crate) fn campaign_order<'a>(matches: &ArgMatches<'a>) -> Option<CampaignOrd
         summary: is_set(matches, "summary"),
         outcomes: is_set(matches, "outcomes"),
         draw: text_of(matches, "schedule"),
+        refusals: text_of(matches, "refusals"),
         must_exit: is_set(matches, "must-exit"),
     })
 }

@@ -18,6 +18,10 @@ pub(crate) const RULE: &str = "also judge the rule of an object, named as lib ha
 pub(crate) const DRAW: &str =
     "how a seed draws its choices: even, bursts:MEAN, each of one hart, or priorities:DEPTH";
 
+/// Of `--refusals`.
+pub(crate) const REFUSALS: &str =
+    "how often drawn choices refuse a store-conditional: never, or one-in:N in the mean; one-in:16 is usual";
+
 /// Of `--must-exit` of a run or a campaign.
 pub(crate) const MUST_EXIT: &str = "a hart that still runs at the end is a failure, with status 3";
 

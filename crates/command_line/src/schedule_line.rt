@@ -8,6 +8,7 @@ ghost use Rattle.std.specs.Str.{bytes_eq};
 ghost use Rattle.command_line.specs.ScheduleLine.{schedule_app, schedule_names, draw_of, IsSchedule};
 
 use crate::arguments::{add, allowed, flag, headed, is_set, needed_option, optional, text_of};
+use crate::help::REFUSALS;
 use crate::inputs::read_input;
 use crate::plan::behind_first;
 use clap::{ArgMatches, Command};
@@ -25,8 +26,8 @@ pub enum Draw {
     Priorities(u32),
 }
 
-/// `schedule --harts N --steps M [--seed S] [--turns] [--only H] [--schedule KIND] [--inputs L] [FILE]`: prints the choice text of a seed, of
-/// turns, or of one hart alone.
+/// `schedule --harts N --steps M [--seed S] [--turns] [--only H] [--schedule KIND] [--refusals never|one-in:N] [--inputs L] [FILE]`: prints
+/// the choice text of a seed, of turns, or of one hart alone.
 #[derive(Debug, Drop)]
 pub struct ScheduleOrder<'a> {
     /// How many harts there are.
@@ -41,6 +42,8 @@ pub struct ScheduleOrder<'a> {
     pub only: Option<&'a str>,
     /// How the choices of the seed are drawn.
     pub draw: Option<&'a str>,
+    /// How often they refuse a store-conditional.
+    pub refusals: Option<&'a str>,
     /// The harts' inputs, where the choices are those of a run.
     pub inputs: Option<&'a str>,
     /// The path of that run's program.
@@ -87,6 +90,7 @@ pub(crate) fn schedule_command<'a>(alloc: Global) -> Result<Command<'a>, AllocEr
             "how a seed draws them: even, bursts:MEAN, each of one hart, or priorities:DEPTH, in a run of FILE",
         ),
     )?;
+    let command = add(command, optional(alloc, "refusals", REFUSALS))?;
     let command = add(
         command,
         optional(
@@ -118,13 +122,14 @@ pub(crate) fn schedule_order<'a>(matches: &ArgMatches<'a>) -> Option<ScheduleOrd
         turns: is_set(matches, "turns"),
         only: text_of(matches, "only"),
         draw: text_of(matches, "schedule"),
+        refusals: text_of(matches, "refusals"),
         inputs: text_of(matches, "inputs"),
         file: text_of(matches, "FILE"),
     })
 }
 
-// Whether a text is this word.
-fn is_word(text: &[u8], word: &str) -> bool
+/// Whether a text is this word.
+pub(crate) fn is_word(text: &[u8], word: &str) -> bool
     ensures { result ≡ bytes_eq text.now word.now }
 {
     text == word.as_bytes()

@@ -6,6 +6,7 @@ use engines::{
 };
 use progress::Unheard;
 use protocol_library::Kind;
+use refusals::Refusals;
 use refusing::Refusing;
 use schedule_engine::{Maker, ScheduleFault, SchedulePlan, schedule_engine};
 
@@ -21,6 +22,13 @@ fn plan(harts: u32, steps: u32, maker: Maker) -> SchedulePlan {
     }
 }
 
+fn usual(seed: u64) -> Maker {
+    Maker::Seed {
+        seed,
+        refusals: Refusals::usual(),
+    }
+}
+
 // The words of the seeds were drawn by a generator that was written apart from this one, from PCG's paper and `rand_core`'s rule.
 #[test]
 fn schedules_are_printed(rt: HostRuntime) {
@@ -30,14 +38,11 @@ fn schedules_are_printed(rt: HostRuntime) {
         (plan(32, 2, Maker::Only(31)), "31 31\n"),
         (plan(1, 0, Maker::Turns), ""),
         (
-            plan(2, 20, Maker::Seed(2)),
+            plan(2, 20, usual(2)),
             "0 1! 1 0 0 1 1 1 0 0 1 0 1 0 0 1! 1 0 0 0\n",
         ),
-        (plan(2, 12, Maker::Seed(1)), "0 0 1 0 1 0 0 0 0 0 1 0\n"),
-        (
-            plan(3, 12, Maker::Seed(u64::MAX)),
-            "1 1 1 1 2 2 2 1 2 0 2 2!\n",
-        ),
+        (plan(2, 12, usual(1)), "0 0 1 0 1 0 0 0 0 0 1 0\n"),
+        (plan(3, 12, usual(u64::MAX)), "1 1 1 1 2 2 2 1 2 0 2 2!\n"),
     ];
     for (plan, text) in rows {
         let mut sink = MemorySink::new(rt.alloc());
@@ -51,7 +56,7 @@ fn schedules_are_printed(rt: HostRuntime) {
 fn plans_that_cannot_be_are_refused(rt: HostRuntime) {
     let rows = [
         (plan(0, 3, Maker::Turns), ScheduleFault::BadHarts),
-        (plan(33, 3, Maker::Seed(1)), ScheduleFault::BadHarts),
+        (plan(33, 3, usual(1)), ScheduleFault::BadHarts),
         (plan(0, 3, Maker::Only(0)), ScheduleFault::BadHarts),
         (plan(2, 3, Maker::Only(2)), ScheduleFault::NoHart),
         (plan(32, 0, Maker::Only(u32::MAX)), ScheduleFault::NoHart),
@@ -91,7 +96,7 @@ fn texts_of_seeds_run_as_their_campaigns_do(rt: HostRuntime) {
     let mut wanted = String::new(rt.alloc());
     for seed in 0..SEEDS {
         let mut text = MemorySink::new(rt.alloc());
-        let made = schedule_engine(rt.alloc(), plan(2, STEPS, Maker::Seed(seed)), &mut text);
+        let made = schedule_engine(rt.alloc(), plan(2, STEPS, usual(seed)), &mut text);
         assert_eq!(rt; made, Ok(Status::Done));
         let mut program = MemorySource::new(&file);
         let mut choices = MemorySource::new(text.bytes());
@@ -132,7 +137,7 @@ fn failing_sinks_are_told(rt: HostRuntime) {
 
 #[test]
 fn each_refused_request_is_told(rt: HostRuntime) {
-    for maker in [Maker::Turns, Maker::Only(1), Maker::Seed(5)] {
+    for maker in [Maker::Turns, Maker::Only(1), usual(5)] {
         for passed in 0..200u64 {
             let heap = Refusing::new(rt.alloc(), passed);
             let mut sink = MemorySink::new(rt.alloc());

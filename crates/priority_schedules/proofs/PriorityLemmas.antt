@@ -1,5 +1,5 @@
 -- Priorities: how they are drawn, and what is chosen by them.
-use Rattle.std.proofs.Common.{◌≡◌, ◌≢◌, ℕ, zero, suc, ◌+◌, ◌-◌, ◌/◌, ◌%◌, ◌<◌, ◌≤◌, ◌==◌, Bool, true, false, not, List, [], ◌∷◌, ◌++◌, Option, Some, None, length, take, drop, filter, insert, refl, arith, ap, sym, subst, ◌∙◌, mod-lt, true≢false, if◌then◌else◌, inl, inr, ◌⊎◌}
+use Rattle.std.proofs.Common.{◌≡◌, ◌≢◌, ℕ, zero, suc, ◌+◌, ◌-◌, ◌%◌, ◌<◌, ◌≤◌, ◌==◌, Bool, true, false, not, List, [], ◌∷◌, ◌++◌, Option, Some, None, length, take, drop, filter, insert, refl, arith, ap, sym, subst, ◌∙◌, mod-lt, true≢false, if◌then◌else◌, inl, inr, ◌⊎◌}
 use Rattle.std.proofs.lemmas.Bool.{eq-eqb, eqb-true, ne_eqb}
 use Rattle.std.proofs.lemmas.List.{take-append-drop, length_push}
 use Rattle.std.proofs.lemmas.List.Edits.{length-insert}
@@ -13,6 +13,8 @@ use Rattle.machine.specs.World.{World, step, run}
 use Rattle.machine.specs.declared.choice.Choice.{Choice}
 use Rattle.machine.proofs.RunLaws.{run_length}
 use Rattle.scheduler.specs.Schedules.{generator_of}
+use Rattle.refusals.specs.Refusing.{is_refused}
+use Rattle.refusals.specs.declared.refusal.Refusals.{Refusals}
 use Rattle.priority_schedules.specs.Priorities.{Drawing, with_hart, with_harts, with_point, with_points, drawing_of, goes, runs, first_running, next_choice, fallen, is_point, order_after, after_choice, choices_drawn, priority_choices, NeverWaits}
 
 -- ---- drawing
@@ -67,12 +69,14 @@ all_drawn harts depth steps seed e f g begun ordered pointed =
     pointed ∙ ap (with_points steps (depth - 1)) (ordered ∙ ap (λ h. with_harts harts (record { order = []; points = []; generator = h })) begun)
 
 -- ---- the next choice
-pub chosen : (harts : List HartValue) (d : Drawing) (hart word : ℕ) (g : Lcg) → hart ≡ first_running harts d.order
-    → (word, g) ≡ pcg32 d.generator → record { hart = hart; refuse = word / 65536 % 16 == 0 } ≡ next_choice harts d
+pub chosen : (refusals : Refusals) (harts : List HartValue) (d : Drawing) (hart word : ℕ) (g : Lcg) → hart ≡ first_running harts d.order
+    → (word, g) ≡ pcg32 d.generator → (refuse : Bool) → refuse ≡ is_refused refusals word
+    → record { hart = hart; refuse = refuse } ≡ next_choice refusals harts d
 unfolding next_choice
-chosen harts d hart word g first took =
-    ap {A = ℕ} {B = Choice} (λ h. record { hart = h; refuse = word / 65536 % 16 == 0 }) first
-    ∙ ap {A = ℕ × Lcg} {B = Choice} (λ p. record { hart = first_running harts d.order; refuse = p.0 / 65536 % 16 == 0 }) took
+chosen refusals harts d hart word g first took refuse refused =
+    ap {A = Bool} {B = Choice} (λ r. record { hart = hart; refuse = r }) refused
+    ∙ ap {A = ℕ} {B = Choice} (λ h. record { hart = h; refuse = is_refused refusals word }) first
+    ∙ ap {A = ℕ × Lcg} {B = Choice} (λ p. record { hart = first_running harts d.order; refuse = is_refused refusals p.0 }) took
 
 pub left_behind : (place : ℕ) (harts : List HartValue) (d e : Drawing) (hart word : ℕ) (g : Lcg) → hart ≡ first_running harts d.order
     → (word, g) ≡ pcg32 d.generator → e ≡ record { order = order_after place hart d; points = d.points; generator = g }
@@ -226,9 +230,10 @@ first-below n harts (h ∷ order) some all =
     either true going later = rw (first-head harts h order going) (All-head (λ k. k < n) h order all)
     either false stopped later = rw (first-next harts h order stopped) later
 
-pub next-below : (n : ℕ) (harts : List HartValue) (d : Drawing) → 0 < n → All (λ h. h < n) d.order → (next_choice harts d).hart < n
+pub next-below : (refusals : Refusals) (n : ℕ) (harts : List HartValue) (d : Drawing) → 0 < n → All (λ h. h < n) d.order
+    → (next_choice refusals harts d).hart < n
 unfolding next_choice
-next-below n harts d some all = first-below n harts d.order some all
+next-below refusals n harts d some all = first-below n harts d.order some all
 
 pub after-below : (n place : ℕ) (harts : List HartValue) (d : Drawing) → 0 < n → All (λ h. h < n) d.order
     → All (λ h. h < n) (after_choice place harts d).order
@@ -288,25 +293,26 @@ step_length : (w : World) (c : Choice) → length (step w c).harts ≡ length w.
 unfolding run
 step_length w c = run_length w (c ∷ [])
 
-never : (steps place : ℕ) (d : Drawing) (w : World) → ((k : ℕ) → k < length w.harts → Contains d.order k)
-    → NeverWaits w (choices_drawn place steps d w)
+never : (refusals : Refusals) (steps place : ℕ) (d : Drawing) (w : World) → ((k : ℕ) → k < length w.harts → Contains d.order k)
+    → NeverWaits w (choices_drawn refusals place steps d w)
 unfolding choices_drawn next_choice
-never zero place d w each = tt
-never (suc steps) place d w each = (
+never refusals zero place d w each = tt
+never refusals (suc steps) place d w each = (
   λ k going. first-runs w.harts d.order k (each k (runs-there w.harts k going)) going,
-  never steps (place + 1) (after_choice place w.harts d) (step w (next_choice w.harts d))
-      (λ k below. after-keeps place w.harts d k (each k (subst (λ n. k < n) (step_length w (next_choice w.harts d)) below))),
+  never refusals steps (place + 1) (after_choice place w.harts d) (step w (next_choice refusals w.harts d))
+      (λ k below. after-keeps place w.harts d k (each k (subst (λ n. k < n) (step_length w (next_choice refusals w.harts d)) below))),
 )
 
-pub never_waits : (w : World) (depth steps seed : ℕ) → NeverWaits w (priority_choices w (length w.harts) depth steps seed)
-never_waits w depth steps seed =
-    never steps 0 (drawing_of (length w.harts) depth steps seed) w (λ k below. order-each (length w.harts) depth steps seed k below)
+pub never_waits : (w : World) (refusals : Refusals) (depth steps seed : ℕ)
+    → NeverWaits w (priority_choices w (length w.harts) depth refusals steps seed)
+never_waits w refusals depth steps seed =
+    never refusals steps 0 (drawing_of (length w.harts) depth steps seed) w (λ k below. order-each (length w.harts) depth steps seed k below)
 
-pub falls : (place other : ℕ) (harts later : List HartValue) (d : Drawing) → is_point place d.points ≡ true
-    → Contains d.order other → other ≢ (next_choice harts d).hart → runs later other ≡ true
-    → (next_choice later (after_choice place harts d)).hart ≢ (next_choice harts d).hart
+pub falls : (refusals : Refusals) (place other : ℕ) (harts later : List HartValue) (d : Drawing) → is_point place d.points ≡ true
+    → Contains d.order other → other ≢ (next_choice refusals harts d).hart → runs later other ≡ true
+    → (next_choice refusals later (after_choice place harts d)).hart ≢ (next_choice refusals harts d).hart
 unfolding next_choice after_choice
-falls place other harts later d there has differs going same =
+falls refusals place other harts later d there has differs going same =
     let hart = first_running harts d.order in
     let front = filter (λ o. not (o == hart)) d.order in
     let among : not (first_running later (front ++ hart ∷ []) == hart) ≡ true =

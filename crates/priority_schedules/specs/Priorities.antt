@@ -1,7 +1,7 @@
 -- Schedules by priorities: the harts have a random order, and the first of it that runs goes on; at change points it falls to the bottom.
 -- After Burckhardt, Kothari, Musuvathi and Nagarakatte, "A Randomized Scheduler with Probabilistic Guarantees of Finding Bugs", ASPLOS 2010.
 -- A choice is a function of the seed, of its place and of the states of the harts up to there: the schedule is one of a run, and not of a seed alone.
-use Rattle.std.specs.Prelude.{◌≡◌, ℕ, zero, suc, ◌+◌, ◌-◌, ◌/◌, ◌%◌, ◌==◌, not, Bool, true, false, List, [], ◌∷◌, ◌++◌, Option, Some, None, length, filter, insert, slice_get, if◌then◌else◌}
+use Rattle.std.specs.Prelude.{◌≡◌, ℕ, zero, suc, ◌+◌, ◌-◌, ◌%◌, ◌==◌, not, Bool, true, false, List, [], ◌∷◌, ◌++◌, Option, Some, None, length, filter, insert, slice_get, if◌then◌else◌}
 use Rattle.std.specs.List.{list_any}
 use Rattle.rand_pcg.specs.Lcg.{Lcg}
 use Rattle.rand_pcg.specs.Pcg.{pcg32}
@@ -11,6 +11,8 @@ use Rattle.hart_step.specs.declared.hart.HartState.TheVariants.{Running, Exited,
 use Rattle.machine.specs.World.{World, step}
 use Rattle.machine.specs.declared.choice.Choice.{Choice}
 use Rattle.scheduler.specs.Schedules.{generator_of}
+use Rattle.refusals.specs.Refusing.{is_refused}
+use Rattle.refusals.specs.declared.refusal.Refusals.{Refusals}
 
 -- the greatest depth
 abbrev pub most_depth : ℕ
@@ -72,10 +74,10 @@ abbrev pub first_running : List HartValue → List ℕ → ℕ
 first_running harts [] = 0
 first_running harts (number ∷ order) = if runs harts number then number else first_running harts order
 
--- the next choice is of the first hart that runs, and its store-conditional is refused where the lowest four bits of a word's upper half are 0
-unfoldable pub next_choice : List HartValue → Drawing → Choice
-next_choice harts d =
-    record { hart = first_running harts d.order; refuse = (pcg32 d.generator).0 / 65536 % 16 == 0 }
+-- the next choice is of the first hart that runs, and its store-conditional is refused where a word is one that refuses
+unfoldable pub next_choice : Refusals → List HartValue → Drawing → Choice
+next_choice refusals harts d =
+    record { hart = first_running harts d.order; refuse = is_refused refusals (pcg32 d.generator).0 }
 
 -- a hart falls to the bottom of an order
 abbrev pub fallen : ℕ → List ℕ → List ℕ
@@ -98,15 +100,15 @@ after_choice place harts d = record {
 }
 
 -- so many choices, from a place on, of a run from a world: each is made where those before it have led
-unfoldable pub choices_drawn : ℕ → ℕ → Drawing → World → List Choice
-choices_drawn place zero d world = []
-choices_drawn place (suc steps) d world =
-    next_choice world.harts d
-    ∷ choices_drawn (place + 1) steps (after_choice place world.harts d) (step world (next_choice world.harts d))
+unfoldable pub choices_drawn : Refusals → ℕ → ℕ → Drawing → World → List Choice
+choices_drawn refusals place zero d world = []
+choices_drawn refusals place (suc steps) d world =
+    next_choice refusals world.harts d
+    ∷ choices_drawn refusals (place + 1) steps (after_choice place world.harts d) (step world (next_choice refusals world.harts d))
 
 -- the choices of a run of so many steps from a world, by the priorities that a seed draws
-abbrev pub priority_choices : World → ℕ → ℕ → ℕ → ℕ → List Choice
-priority_choices world harts depth steps seed = choices_drawn 0 steps (drawing_of harts depth steps seed) world
+abbrev pub priority_choices : World → ℕ → ℕ → Refusals → ℕ → ℕ → List Choice
+priority_choices world harts depth refusals steps seed = choices_drawn refusals 0 steps (drawing_of harts depth steps seed) world
 
 -- in a run from a world each choice is of a hart that runs, as long as one does
 abbrev pub NeverWaits : World → List Choice → Type 0

@@ -10,6 +10,7 @@ use hart_step::{Hart, HartState};
 use machine::Choice;
 use rand_core::utils::NextWord;
 use rand_pcg::Lcg64Xsh32;
+use refusals::Refusals;
 use scheduler::seeded_generator;
 use std::alloc::{AllocError, Allocator};
 
@@ -131,9 +132,14 @@ impl<A: Allocator> Priorities<A> {
 
     /// Draws the choice at a place, where the harts stand so: the first in the order that runs. One word says whether its
     /// store-conditional is refused; at a change point the hart then falls to the bottom.
-    pub fn next_choice(&mut self, place: u64, harts: &[Hart]) -> Result<Choice, AllocError>
+    pub fn next_choice(
+        &mut self,
+        place: u64,
+        harts: &[Hart],
+        refusals: Refusals,
+    ) -> Result<Choice, AllocError>
         ensures choice { IfOk result (λ choice.
-            choice ≡ next_choice (map hart_of harts.now) (drawing self.old)) }
+            choice ≡ next_choice refusals (map hart_of harts.now) (drawing self.old)) }
         ensures state { IfOk result (λ _.
             drawing self.new ≡ after_choice place (map hart_of harts.now) (drawing self.old)) }
     {
@@ -142,7 +148,7 @@ impl<A: Allocator> Priorities<A> {
         self.pass(place, hart)?;
         Ok(Choice {
             hart,
-            refuse: word / 65536 % 16 == 0,
+            refuse: refusals.refuses(word),
         })
     }
 }

@@ -4,6 +4,7 @@ ghost use Rattle.std.specs.Prelude.{◌≡◌, ◌≢◌, ℕ, ◌-◌, ◌<◌,
 ghost use Rattle.std.specs.List.{All, Contains};
 ghost use Rattle.hart_step.specs.Hart.{HartValue};
 ghost use Rattle.machine.specs.World.{World};
+ghost use Rattle.refusals.specs.declared.refusal.Refusals.{Refusals};
 ghost use Rattle.priority_schedules.specs.Priorities.{Drawing, drawing_of, is_point, runs, next_choice, after_choice, priority_choices, NeverWaits};
 
 /// The order that a seed draws has each hart, and no other number; as it is as long as there are harts, it has each once.
@@ -21,13 +22,13 @@ pub fn change_points_are_places()
 
 /// A hart that has stopped is never chosen while another runs.
 pub fn a_stopped_hart_waits()
-    ensures { (world : World) (depth steps seed : ℕ)
-        → NeverWaits world (priority_choices world (length world.harts) depth steps seed) }
+    ensures { (world : World) (refusals : Refusals) (depth steps seed : ℕ)
+        → NeverWaits world (priority_choices world (length world.harts) depth refusals steps seed) }
 {}
 
 /// A hart that falls at a change point is at the bottom: the next choice, wherever the harts stand by then, is not of it while another runs.
 pub fn a_change_point_lets_a_hart_fall()
-    ensures { (place other : ℕ) (harts later : List HartValue) (d : Drawing) → is_point place d.points ≡ true
-        → Contains d.order other → other ≢ (next_choice harts d).hart → runs later other ≡ true
-        → (next_choice later (after_choice place harts d)).hart ≢ (next_choice harts d).hart }
+    ensures { (refusals : Refusals) (place other : ℕ) (harts later : List HartValue) (d : Drawing) → is_point place d.points ≡ true
+        → Contains d.order other → other ≢ (next_choice refusals harts d).hart → runs later other ≡ true
+        → (next_choice refusals later (after_choice place harts d)).hart ≢ (next_choice refusals harts d).hart }
 {}

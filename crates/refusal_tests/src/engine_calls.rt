@@ -8,6 +8,7 @@ use hart_step::{Hart, HartState};
 use programs::{HexFault, ProgramForm, RunFault, hex_image, read_hex};
 use progress::Unheard;
 use protocol_library::{Kind, source};
+use refusals::Refusals;
 use refusing::{Call, tried};
 use replay_engine::{ReplayFault, replay_engine};
 use schedule_engine::{Maker, ScheduleFault, SchedulePlan, schedule_engine};
@@ -184,7 +185,10 @@ fn is_scheduled<A: Allocator + Copy>(alloc: A, host: Global) -> Result<bool, All
     let plan = SchedulePlan {
         harts: 2,
         steps: 12,
-        maker: Maker::Seed(1),
+        maker: Maker::Seed {
+            seed: 1,
+            refusals: Refusals::usual(),
+        },
     };
     let mut sink = MemorySink::new(host);
     match schedule_engine(alloc, plan, &mut sink) {

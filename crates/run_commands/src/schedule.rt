@@ -2,7 +2,7 @@
 
 use command_line::{Draw, ScheduleOrder, read_draw, read_inputs, read_word};
 use devices::{ReaderSource, Status, WriterSink};
-use kind_plans::{read_kind, read_seed_plan};
+use kind_plans::{DRAWS, REFUSALS, read_kind, read_refusals, read_seed_plan, why_no_kind};
 use order_plans::read_schedule_plan;
 use programs::{ProgramForm, RunFault};
 use reports::{
@@ -14,10 +14,6 @@ use seed_choices::seed_choices_engine;
 use std::rt::Files;
 use std::{fs, io};
 
-const KINDS: &str =
-    "--schedule takes even, bursts:MEAN with a decimal number from 1 to 2147483648, or priorities:DEPTH with one from 1 to 1000, \
-                     as bursts:100";
-
 const NUMBERS: &str =
     "--harts and --steps take decimal numbers, and one of --seed S, --turns and --only H says how the choices are made, \
                        as --harts 2 --steps 40 --seed 5";
@@ -27,12 +23,15 @@ const OF_A_RUN: &str =
                         as --seed 5 --schedule priorities:3 --inputs 7,9 swap.elf";
 
 // Why there is no plan.
-fn why_no_plan(seed: Option<&str>, draw: Option<&str>) -> &'static str {
-    match draw {
-        Some(text) if read_draw(text).is_none() => KINDS,
-        Some(_) if seed.is_none() =>
+fn why_no_plan(order: &ScheduleOrder) -> &'static str {
+    match (order.draw, order.refusals) {
+        (Some(text), _) if read_draw(text).is_none() => DRAWS,
+        (_, refusals) if read_refusals(refusals).is_none() => REFUSALS,
+        (Some(_), _) if order.seed.is_none() =>
             "--schedule says how the choices of a seed are drawn, as --seed 5 --schedule bursts:100",
-        Some(_) | None => NUMBERS,
+        (None, Some(_)) if order.seed.is_none() =>
+            "--refusals says how often the choices of a seed refuse a store-conditional, as --seed 5 --refusals one-in:4",
+        _ => NUMBERS,
     }
 }
 
@@ -61,8 +60,8 @@ fn run_of<'a>(order: &ScheduleOrder<'a>) -> Result<Option<RunOrder<'a>>, &'stati
             _ => Err("--inputs and a program go with --schedule priorities:DEPTH"),
         };
     }
-    let Some(kind) = read_kind(order.draw) else {
-        return Err(KINDS);
+    let Some(kind) = read_kind(order.draw, order.refusals) else {
+        return Err(why_no_kind(order.refusals));
     };
     match (
         order.seed,
@@ -99,8 +98,9 @@ pub fn print_schedule<R: Files + AllocGlobal + Print + Eprint>(
         order.turns,
         order.only,
         order.draw,
+        order.refusals,
     ) else {
-        return bad_line(rt, why_no_plan(order.seed, order.draw));
+        return bad_line(rt, why_no_plan(order));
     };
     let mut sink = WriterSink::new(io::writer(rt));
     match schedule_engine(rt.alloc(), plan, &mut sink) {

@@ -12,6 +12,9 @@ use Rattle.choice_texts.specs.Reading.{choices_of}
 use Rattle.choice_texts.proofs.Agreement.{choices_of-spelled}
 use Rattle.choice_texts.proofs.PrintLemmas.{text_spells}
 use Rattle.scheduler.specs.Schedules.{plain_choice, turns, alone, choice_of_word, choices_drawn, generator_of, seeded_choices}
+use Rattle.refusals.specs.Refusing.{even_choices}
+use Rattle.refusals.specs.declared.refusal.Refusals.{Refusals}
+use Rattle.refusals.proofs.RefusalLemmas.{even-within}
 use Rattle.schedule_engine.specs.Schedule.{Scheduled, Prints, BeginsToPrint, IsReadBack}
 
 -- each choice that is made of something names a hart that is there, if all such do
@@ -52,8 +55,10 @@ turns_there harts steps choices some is = subst (All (λ (c : Choice). c.hart < 
 pub alone_there : (harts hart steps : ℕ) (choices : List Choice) → hart < harts → choices ≡ alone hart steps → All (λ c. c.hart < harts) choices
 alone_there harts hart steps choices there is = subst (All (λ (c : Choice). c.hart < harts)) (sym is) (alone_within harts hart steps there)
 
-pub seeded_there : (harts steps seed : ℕ) (choices : List Choice) → 0 < harts → choices ≡ seeded_choices harts steps seed → All (λ c. c.hart < harts) choices
-seeded_there harts steps seed choices some is = subst (All (λ (c : Choice). c.hart < harts)) (sym is) (seeded_within harts steps seed some)
+pub even_there : (refusals : Refusals) (harts steps seed : ℕ) (choices : List Choice) → 0 < harts → choices ≡ even_choices refusals harts steps seed
+    → All (λ c. c.hart < harts) choices
+even_there refusals harts steps seed choices some is =
+    subst (All (λ (c : Choice). c.hart < harts)) (sym is) (even-within refusals harts steps seed some)
 
 -- a list of choices of harts that are there is read from its text
 pub is_read_back : (r : Scheduled) (harts : ℕ) (choices : List Choice) → r ≡ Ok choices → harts < 2 ^ 32 → All (λ c. c.hart < harts) choices

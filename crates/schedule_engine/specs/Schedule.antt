@@ -10,7 +10,9 @@ use Rattle.machine.specs.Start.{started}
 use Rattle.machine.specs.declared.choice.Choice.{Choice}
 use Rattle.choice_texts.specs.Printing.{choices_text}
 use Rattle.choice_texts.specs.Reading.{choices_of}
-use Rattle.scheduler.specs.Schedules.{turns, alone, seeded_choices}
+use Rattle.scheduler.specs.Schedules.{turns, alone}
+use Rattle.refusals.specs.Refusing.{even_choices}
+use Rattle.refusals.specs.declared.refusal.Refusals.{Refusals}
 use Rattle.burst_schedules.specs.Bursts.{burst_choices}
 use Rattle.burst_schedules.specs.Bursts.{most_mean}
 use Rattle.campaigns.specs.Campaign.{plain_run}
@@ -27,18 +29,18 @@ abbrev pub Scheduled : Type 0
 Scheduled = Result (List Choice) ScheduleFault
 
 -- so many choices in bursts: there are none of no choice in the mean, nor of more than there may be
-abbrev pub bursts_made : ℕ → ℕ → ℕ → ℕ → Scheduled
-bursts_made harts mean steps seed =
+abbrev pub bursts_made : Refusals → ℕ → ℕ → ℕ → ℕ → Scheduled
+bursts_made refusals harts mean steps seed =
     if mean == 0 then Err fault.BadMean
     else (if nat_lt most_mean mean then Err fault.BadMean
-    else Ok (burst_choices harts mean steps seed))
+    else Ok (burst_choices refusals harts mean steps seed))
 
 -- so many choices of so many harts
 abbrev pub made : Maker → ℕ → ℕ → Scheduled
 made makers.Turns harts steps = Ok (turns harts steps)
 made (makers.Only hart) harts steps = if nat_lt hart harts then Ok (alone hart steps) else Err fault.NoHart
-made (makers.Seed seed) harts steps = Ok (seeded_choices harts steps seed)
-made (makers.Bursts seed mean) harts steps = bursts_made harts mean steps seed
+made (makers.Seed seed refusals) harts steps = Ok (even_choices refusals harts steps seed)
+made (makers.Bursts seed mean refusals) harts steps = bursts_made refusals harts mean steps seed
 
 -- the list of a plan: the number of harts is looked at first
 unfoldable pub schedule_of : SchedulePlan → Scheduled

@@ -8,8 +8,9 @@ use crate::fault::ScheduleFault;
 use crate::plan::{Maker, SchedulePlan};
 use burst_schedules::{MOST_MEAN, in_bursts};
 use machine::Choice;
+use refusals::{Refusals, evenly};
 use reservations::MAX_HARTS;
-use scheduler::{round_robin, seeded, solo};
+use scheduler::{round_robin, solo};
 use std::alloc::{AllocError, Allocator};
 
 // So many choices in bursts of so many in the mean.
@@ -17,26 +18,27 @@ fn made_in_bursts<A: Allocator>(
     alloc: A,
     harts: u32,
     mean: u32,
+    refusals: Refusals,
     steps: usize,
     seed: u64,
 ) -> Result<Vec<Choice, A>, ScheduleFault>
     requires { 0 < harts }
-    ensures ok { IfOk result (λ choices. bursts_made harts mean steps seed ≡ Ok choices.items) }
+    ensures ok { IfOk result (λ choices. bursts_made refusals harts mean steps seed ≡ Ok choices.items) }
     ensures within { IfOk result (λ choices. All (λ c. c.hart < harts) choices.items) }
-    ensures err { IfErr result (λ fault. IsRefusal fault → bursts_made harts mean steps seed ≡ Err fault) }
+    ensures err { IfErr result (λ fault. IsRefusal fault → bursts_made refusals harts mean steps seed ≡ Err fault) }
     ensures sink_unnamed { IfErr result (λ fault. fault ≢ ScheduleFault.Write) }
 {
     if mean == 0 || mean > MOST_MEAN {
         return Err(ScheduleFault::BadMean);
     }
-    match in_bursts(alloc, harts, mean, steps, seed) {
+    match in_bursts(alloc, harts, mean, refusals, steps, seed) {
         Ok(choices) => Ok(choices),
         Err(AllocError) => Err(ScheduleFault::Memory),
     }
 }
 
 // So many choices of so many harts.
-#[tactic(auto, using(crate::proofs::ScheduleLemmas::turns_there, crate::proofs::ScheduleLemmas::seeded_there))]
+#[tactic(auto, using(crate::proofs::ScheduleLemmas::turns_there, crate::proofs::ScheduleLemmas::even_there))]
 fn made<A: Allocator>(
     alloc: A,
     maker: Maker,
@@ -63,11 +65,15 @@ fn made<A: Allocator>(
                 Err(AllocError) => Err(ScheduleFault::Memory),
             }
         }
-        Maker::Seed(seed) => match seeded(alloc, harts, steps, seed) {
+        Maker::Seed { seed, refusals } => match evenly(alloc, harts, steps, seed, refusals) {
             Ok(choices) => Ok(choices),
             Err(AllocError) => Err(ScheduleFault::Memory),
         },
-        Maker::Bursts { seed, mean } => made_in_bursts(alloc, harts, mean, steps, seed),
+        Maker::Bursts {
+            seed,
+            mean,
+            refusals,
+        } => { made_in_bursts(alloc, harts, mean, refusals, steps, seed) }
     }
 }
 

@@ -8,8 +8,9 @@ use Rattle.machine.specs.declared.choice.Choice.{Choice}
 use Rattle.machine.proofs.WorldLemmas.{run_append, run_none}
 use Rattle.choice_runs.specs.Harts.{Harts, with_hart}
 use Rattle.choice_runs.proofs.ChosenLemmas.{choice_chosen}
-use Rattle.scheduler.specs.Schedules as even
-use Rattle.scheduler.proofs.ScheduleLemmas as even_drawn
+use Rattle.refusals.specs.Refusing as even
+use Rattle.refusals.specs.declared.refusal.Refusals.{Refusals}
+use Rattle.refusals.proofs.RefusalLemmas as even_drawn
 use Rattle.burst_schedules.specs.Bursts.{Drawing, next_choice, after_choice, choices_drawn}
 use Rattle.schedule_kinds.specs.Kinds.{RanOver}
 
@@ -52,10 +53,12 @@ all_done all left old now chosen none s =
     (s.led ∙ ap (run old) whole, λ k. s.told k ∙ ap (λ cs. is_chosen cs k) whole)
 
 -- the next of choices that are drawn from all harts
-pub evenly_next : (harts n m : ℕ) (g h : Lcg) (c : Choice) → n ≡ m + 1 → c ≡ even.choice_of_word harts (pcg32 g).0 → h ≡ (pcg32 g).1
-    → even.choices_drawn harts n g ≡ c ∷ even.choices_drawn harts m h
-evenly_next harts n m g h c more choice state =
-    even_drawn.drawn-more harts n m g more ∙ ap₂ (λ d i. d ∷ even.choices_drawn harts m i) (sym choice) (sym state)
+pub evenly_next : (refusals : Refusals) (harts n m : ℕ) (g h : Lcg) (c : Choice) → n ≡ m + 1
+    → c ≡ even.choice_of_word refusals harts (pcg32 g).0 → h ≡ (pcg32 g).1
+    → even.choices_drawn refusals harts n g ≡ c ∷ even.choices_drawn refusals harts m h
+evenly_next refusals harts n m g h c more choice state =
+    even_drawn.drawn-more refusals harts n m g more
+    ∙ ap₂ (λ d i. d ∷ even.choices_drawn refusals harts m i) (sym choice) (sym state)
 
 bursts-suc : (n : ℕ) (d : Drawing) → choices_drawn (suc n) d ≡ next_choice d ∷ choices_drawn n (after_choice d)
 unfolding choices_drawn

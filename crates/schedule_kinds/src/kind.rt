@@ -6,6 +6,7 @@ ghost use Rattle.priority_schedules.specs.Priorities.{most_depth};
 
 use burst_schedules::MOST_MEAN;
 use priority_schedules::MOST_DEPTH;
+use refusals::Refusals;
 
 /// How many choices a burst has in the mean: 1 to `MOST_MEAN`.
 #[derive(Clone, Copy, Debug, Drop)]
@@ -63,13 +64,22 @@ impl Depth {
     }
 }
 
-/// How the choices of a seed are made.
+/// How the hart of each choice of a seed is chosen.
 #[derive(Clone, Copy, Debug, Drop)]
-pub enum ScheduleKind {
+pub enum HartOrder {
     /// Each is drawn from all harts.
     Even,
     /// In bursts of one hart, of this mean length.
     Bursts(Mean),
     /// By priorities, of this depth: they depend on which harts have stopped, so they are those of a run.
     Priorities(Depth),
+}
+
+/// How the choices of a seed are made.
+#[derive(Clone, Copy, Debug, Drop)]
+pub struct ScheduleKind {
+    /// How the hart of each is chosen.
+    pub order: HartOrder,
+    /// Which of them refuse a store-conditional.
+    pub refusals: Refusals,
 }

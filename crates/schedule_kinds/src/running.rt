@@ -3,19 +3,20 @@
 ghost use Rattle.std.specs.Prelude.{◌≡◌, ◌<◌, ◌≤◌, IfOk, length};
 ghost use Rattle.reservations.specs.Limit.{most_harts};
 ghost use Rattle.machine.specs.Machine.{world};
-ghost use Rattle.scheduler.specs.Schedules.{seeded_choices};
+ghost use Rattle.refusals.specs.Refusing.{even_choices};
 ghost use Rattle.burst_schedules.specs.Bursts.{burst_choices};
 ghost use Rattle.priority_schedules.specs.Priorities.{priority_choices};
 ghost use Rattle.choice_runs.specs.Chosen.{harts_of};
 ghost use Rattle.schedule_kinds.specs.Kinds.{kind_choices, RanOver};
 
-use crate::kind::{Depth, Mean, ScheduleKind};
+use crate::kind::{Depth, HartOrder, Mean, ScheduleKind};
 use burst_schedules::Bursts;
 use choice_runs::Chosen;
 use machine::Machine;
 use memory::Store;
 use priority_schedules::Priorities;
-use scheduler::{draw_choice, seeded_generator};
+use refusals::{Refusals, draw_evenly};
+use scheduler::seeded_generator;
 use std::alloc::{AllocError, Allocator};
 
 /// Runs a machine over the choices that a seed gives, and answers which harts were chosen. Each choice is drawn when its step
@@ -35,11 +36,12 @@ pub fn run_kind<S: Store, A: Allocator + Copy>(
     ensures { IfOk result (λ chosen. RanOver (kind_choices kind (world S.memory machine.old) harts steps seed)
         (world S.memory machine.old) (world S.memory machine.new) (harts_of chosen)) }
 {
-    match kind {
-        ScheduleKind::Even => run_evenly(machine, harts, steps, seed),
-        ScheduleKind::Bursts(mean) => run_in_bursts(machine, mean, harts, steps, seed),
-        ScheduleKind::Priorities(depth) => {
-            run_by_priorities(alloc, machine, depth, harts, steps, seed)
+    let refusals = kind.refusals;
+    match kind.order {
+        HartOrder::Even => run_evenly(machine, refusals, harts, steps, seed),
+        HartOrder::Bursts(mean) => run_in_bursts(machine, mean, refusals, harts, steps, seed),
+        HartOrder::Priorities(depth) => {
+            run_by_priorities(alloc, machine, depth, refusals, harts, steps, seed)
         }
     }
 }
@@ -47,6 +49,7 @@ pub fn run_kind<S: Store, A: Allocator + Copy>(
 // Each choice is drawn from all harts.
 fn run_evenly<S: Store, A: Allocator>(
     machine: &mut Machine<S, A>,
+    refusals: Refusals,
     harts: u32,
     steps: u64,
     seed: u64,
@@ -54,13 +57,13 @@ fn run_evenly<S: Store, A: Allocator>(
     requires some { 0 < harts }
     requires few { harts ≤ most_harts }
     requires there { length (world S.memory machine.old).harts ≡ harts }
-    ensures { IfOk result (λ chosen. RanOver (seeded_choices harts steps seed)
+    ensures { IfOk result (λ chosen. RanOver (even_choices refusals harts steps seed)
         (world S.memory machine.old) (world S.memory machine.new) (harts_of chosen)) }
 {
     let mut chosen = Chosen::new();
     let mut generator = seeded_generator(seed);
     'steps: for _ in 0..steps {
-        let choice = draw_choice(&mut generator, harts);
+        let choice = draw_evenly(&mut generator, harts, refusals);
         chosen.add(choice.hart as usize);
         machine.step(choice)?;
     }
@@ -71,6 +74,7 @@ fn run_evenly<S: Store, A: Allocator>(
 fn run_in_bursts<S: Store, A: Allocator>(
     machine: &mut Machine<S, A>,
     mean: Mean,
+    refusals: Refusals,
     harts: u32,
     steps: u64,
     seed: u64,
@@ -78,11 +82,11 @@ fn run_in_bursts<S: Store, A: Allocator>(
     requires some { 0 < harts }
     requires few { harts ≤ most_harts }
     requires there { length (world S.memory machine.old).harts ≡ harts }
-    ensures { IfOk result (λ chosen. RanOver (burst_choices harts mean.choices steps seed)
+    ensures { IfOk result (λ chosen. RanOver (burst_choices refusals harts mean.choices steps seed)
         (world S.memory machine.old) (world S.memory machine.new) (harts_of chosen)) }
 {
     let mut chosen = Chosen::new();
-    let mut bursts = Bursts::new(harts, mean.choices(), seed);
+    let mut bursts = Bursts::new(harts, mean.choices(), refusals, seed);
     'steps: for _ in 0..steps {
         let choice = bursts.next_choice();
         chosen.add(choice.hart as usize);
@@ -96,6 +100,7 @@ fn run_by_priorities<S: Store, A: Allocator + Copy>(
     alloc: A,
     machine: &mut Machine<S, A>,
     depth: Depth,
+    refusals: Refusals,
     harts: u32,
     steps: u64,
     seed: u64,
@@ -103,7 +108,7 @@ fn run_by_priorities<S: Store, A: Allocator + Copy>(
     requires some { 0 < harts }
     requires few { harts ≤ most_harts }
     requires there { length (world S.memory machine.old).harts ≡ harts }
-    ensures { IfOk result (λ chosen. RanOver (priority_choices (world S.memory machine.old) harts depth.number steps seed)
+    ensures { IfOk result (λ chosen. RanOver (priority_choices (world S.memory machine.old) harts depth.number refusals steps seed)
         (world S.memory machine.old) (world S.memory machine.new) (harts_of chosen)) }
 {
     let mut chosen = Chosen::new();
@@ -113,7 +118,7 @@ fn run_by_priorities<S: Store, A: Allocator + Copy>(
     }
     let mut priorities = Priorities::new(alloc, harts, depth.number(), steps, seed)?;
     'steps: for place in 0..steps {
-        let choice = priorities.next_choice(place, machine.ends())?;
+        let choice = priorities.next_choice(place, machine.ends(), refusals)?;
         chosen.add(choice.hart as usize);
         machine.step(choice)?;
     }

@@ -10,8 +10,8 @@ use burst_schedules::in_bursts;
 use machine::{Choice, Machine};
 use memory::Store;
 use priority_schedules::Priorities;
-use schedule_kinds::{Depth, ScheduleKind};
-use scheduler::seeded;
+use refusals::{Refusals, evenly};
+use schedule_kinds::{Depth, HartOrder, ScheduleKind};
 use std::alloc::{AllocError, Allocator};
 
 // The choices by priorities: each is made as the harts stand when its step comes, so the machine runs.
@@ -19,6 +19,7 @@ fn list_by_priorities<S: Store, A: Allocator + Copy>(
     alloc: A,
     machine: &mut Machine<S, A>,
     depth: Depth,
+    refusals: Refusals,
     harts: u32,
     steps: u64,
     seed: u64,
@@ -26,7 +27,7 @@ fn list_by_priorities<S: Store, A: Allocator + Copy>(
     requires some { 0 < harts }
     requires there { length (world S.memory machine.old).harts ≡ harts }
     ensures { IfOk result (λ choices.
-        choices.items ≡ priority_choices (world S.memory machine.old) harts depth.number steps seed) }
+        choices.items ≡ priority_choices (world S.memory machine.old) harts depth.number refusals steps seed) }
 {
     let mut choices = Vec::with_capacity(alloc, steps as usize)?;
     // A change point is at one of the steps.
@@ -35,7 +36,7 @@ fn list_by_priorities<S: Store, A: Allocator + Copy>(
     }
     let mut priorities = Priorities::new(alloc, harts, depth.number(), steps, seed)?;
     'steps: for place in 0..steps {
-        let choice = priorities.next_choice(place, machine.ends())?;
+        let choice = priorities.next_choice(place, machine.ends(), refusals)?;
         machine.step(choice)?;
         choices.push(choice)?;
     }
@@ -57,13 +58,14 @@ pub fn list_choices<S: Store, A: Allocator + Copy>(
     ensures { IfOk result (λ choices.
         choices.items ≡ kind_choices kind (world S.memory machine.old) harts steps seed) }
 {
-    match kind {
-        ScheduleKind::Even => seeded(alloc, harts, steps as usize, seed),
-        ScheduleKind::Bursts(mean) => {
-            in_bursts(alloc, harts, mean.choices(), steps as usize, seed)
+    let refusals = kind.refusals;
+    match kind.order {
+        HartOrder::Even => evenly(alloc, harts, steps as usize, seed, refusals),
+        HartOrder::Bursts(mean) => {
+            in_bursts(alloc, harts, mean.choices(), refusals, steps as usize, seed)
         }
-        ScheduleKind::Priorities(depth) => {
-            list_by_priorities(alloc, machine, depth, harts, steps, seed)
+        HartOrder::Priorities(depth) => {
+            list_by_priorities(alloc, machine, depth, refusals, harts, steps, seed)
         }
     }
 }

@@ -15,7 +15,8 @@ returns-clause-app c =
     let summary = c.in_ok-command-8.ensures.app ∙ ap₂ with_rule failures c.flag-2.ensures.rule in
     let outcomes = c.in_ok-command-9.ensures.app ∙ ap₂ with_rule summary c.flag-3.ensures.rule in
     let schedule = c.in_ok-command-10.ensures.app ∙ ap₂ with_rule outcomes c.optional-2.ensures.rule in
-    IfOk-weaker c.add-11.result _ _ (λ r last. last ∙ ap₂ with_rule schedule c.flag-4.ensures.rule) c.add-11.ensures.app
+    let refusals = c.in_ok-command-11.ensures.app ∙ ap₂ with_rule schedule c.optional-3.ensures.rule in
+    IfOk-weaker c.add-12.result _ _ (λ r last. last ∙ ap₂ with_rule refusals c.flag-4.ensures.rule) c.add-12.ensures.app
 
 pub returns-clause-local : goal.returns-clause-local
 returns-clause-local c =
@@ -29,4 +30,5 @@ returns-clause-local c =
     let summary = c.in_ok-command-8.ensures.globals ∙ failures in
     let outcomes = c.in_ok-command-9.ensures.globals ∙ summary in
     let schedule = c.in_ok-command-10.ensures.globals ∙ outcomes in
-    IfOk-weaker c.add-11.result _ _ (λ r last. last ∙ schedule) c.add-11.ensures.globals
+    let refusals = c.in_ok-command-11.ensures.globals ∙ schedule in
+    IfOk-weaker c.add-12.result _ _ (λ r last. last ∙ refusals) c.add-12.ensures.globals

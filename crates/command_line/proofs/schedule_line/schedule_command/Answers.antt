@@ -11,8 +11,9 @@ returns-clause-app c =
     let turns = c.in_ok-command-4.ensures.app ∙ ap₂ with_rule seed c.flag.ensures.rule in
     let only = c.in_ok-command-5.ensures.app ∙ ap₂ with_rule turns c.optional-2.ensures.rule in
     let schedule = c.in_ok-command-6.ensures.app ∙ ap₂ with_rule only c.optional-3.ensures.rule in
-    let inputs = c.in_ok-command-7.ensures.app ∙ ap₂ with_rule schedule c.optional-4.ensures.rule in
-    IfOk-weaker c.add-8.result _ _ (λ r last. last ∙ ap₂ with_rule inputs c.allowed.ensures.rule) c.add-8.ensures.app
+    let refusals = c.in_ok-command-7.ensures.app ∙ ap₂ with_rule schedule c.optional-4.ensures.rule in
+    let inputs = c.in_ok-command-8.ensures.app ∙ ap₂ with_rule refusals c.optional-5.ensures.rule in
+    IfOk-weaker c.add-9.result _ _ (λ r last. last ∙ ap₂ with_rule inputs c.allowed.ensures.rule) c.add-9.ensures.app
 
 pub returns-clause-local : goal.returns-clause-local
 returns-clause-local c =
@@ -22,5 +23,6 @@ returns-clause-local c =
     let turns = c.in_ok-command-4.ensures.globals ∙ seed in
     let only = c.in_ok-command-5.ensures.globals ∙ turns in
     let schedule = c.in_ok-command-6.ensures.globals ∙ only in
-    let inputs = c.in_ok-command-7.ensures.globals ∙ schedule in
-    IfOk-weaker c.add-8.result _ _ (λ r last. last ∙ inputs) c.add-8.ensures.globals
+    let refusals = c.in_ok-command-7.ensures.globals ∙ schedule in
+    let inputs = c.in_ok-command-8.ensures.globals ∙ refusals in
+    IfOk-weaker c.add-9.result _ _ (λ r last. last ∙ inputs) c.add-9.ensures.globals

@@ -2,4 +2,4 @@ use Rattle.priority_schedules.proofs.PriorityLemmas.{never_waits}
 use Rattle.priority_schedules.proofs.laws.a_stopped_hart_waits.Goals as goal
 
 pub returns : goal.returns
-returns c = λ world depth steps seed. never_waits world depth steps seed
+returns c = λ world refusals depth steps seed. never_waits world refusals depth steps seed

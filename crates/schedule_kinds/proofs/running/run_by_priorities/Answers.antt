@@ -19,47 +19,47 @@ steps-init g c =
     record {
       harts = c.requires.there;
       below = drawn_below (drawing c.in_ok-priorities.priorities) c.args.harts c.args.depth.number c.args.steps c.args.seed drawn;
-      so_far = begun (priority_choices (world g.S.Store.memory c.args.machine.now) c.args.harts c.args.depth.number c.args.steps c.args.seed)
-          (choices_drawn 0 (c.args.steps - 0) (drawing c.in_ok-priorities.priorities) (world g.S.Store.memory c.args.machine.now))
+      so_far = begun (priority_choices (world g.S.Store.memory c.args.machine.now) c.args.harts c.args.depth.number c.args.refusals c.args.steps c.args.seed)
+          (choices_drawn c.args.refusals 0 (c.args.steps - 0) (drawing c.in_ok-priorities.priorities) (world g.S.Store.memory c.args.machine.now))
           (world g.S.Store.memory c.args.machine.now) (harts_of c.new-chosen.result)
-          (ap₂ (λ n d. choices_drawn 0 n d (world g.S.Store.memory c.args.machine.now)) whole drawn) c.new-chosen.ensures;
+          (ap₂ (λ n d. choices_drawn c.args.refusals 0 n d (world g.S.Store.memory c.args.machine.now)) whole drawn) c.new-chosen.ensures;
     }
 
 pub returns-then-steps-eq0 : goal.returns-then-steps-eq0
 returns-then-steps-eq0 g c =
-    no_step (world g.S.Store.memory c.args.machine.now) c.args.harts c.args.depth.number c.args.steps c.args.seed (harts_of c.new-chosen.result)
+    no_step (world g.S.Store.memory c.args.machine.now) c.args.harts c.args.depth.number c.args.refusals c.args.steps c.args.seed (harts_of c.new-chosen.result)
     c.if-steps-eq0.true c.new-chosen.ensures
 
 pub add-requires : goal.add-requires
 add-requires g c =
     let there : c.in_ok-choice.choice.hart < c.args.harts = subst (λ (x : Choice). x.hart < c.args.harts) (sym c.in_ok-choice.ensures.choice)
-    (next-below c.args.harts (map hart_of c.ends.result.now) (drawing c.steps.priorities) c.requires.some c.steps.invariant.below) in
+    (next-below c.args.refusals c.args.harts (map hart_of c.ends.result.now) (drawing c.steps.priorities) c.requires.some c.steps.invariant.below) in
     omega (arith, there, c.requires.few)
 
 pub step-requires : goal.step-requires
 step-requires g c =
     let there : c.in_ok-choice.choice.hart < c.args.harts = subst (λ (x : Choice). x.hart < c.args.harts) (sym c.in_ok-choice.ensures.choice)
-    (next-below c.args.harts (map hart_of c.ends.result.now) (drawing c.steps.priorities) c.requires.some c.steps.invariant.below) in
+    (next-below c.args.refusals c.args.harts (map hart_of c.ends.result.now) (drawing c.steps.priorities) c.requires.some c.steps.invariant.below) in
     omega (arith, there, c.steps.invariant.harts)
 
 pub steps-preserved : goal.steps-preserved
 steps-preserved g c =
     let before = world g.S.Store.memory c.steps.machine in
     let d : Drawing = drawing c.steps.priorities in
-    let choice : c.in_ok-choice.choice ≡ next_choice before.harts d =
-    c.in_ok-choice.ensures.choice ∙ ap (λ hs. next_choice hs d) c.ends.ensures in
+    let choice : c.in_ok-choice.choice ≡ next_choice c.args.refusals before.harts d =
+    c.in_ok-choice.ensures.choice ∙ ap (λ hs. next_choice c.args.refusals hs d) c.ends.ensures in
     let state : drawing c.next_choice.new.self ≡ after_choice c.steps.place before.harts d =
     c.in_ok-choice.ensures.state ∙ ap (λ hs. after_choice c.steps.place hs d) c.ends.ensures in
     record {
       harts = c.step.ensures.harts ∙ c.steps.invariant.harts;
       below = subst (λ (e : Drawing). All (λ h. h < c.args.harts) e.order) (sym state)
           (after-below c.args.harts c.steps.place before.harts d c.requires.some c.steps.invariant.below);
-      so_far = one_more (priority_choices (world g.S.Store.memory c.args.machine.now) c.args.harts c.args.depth.number c.args.steps c.args.seed)
-          (choices_drawn c.steps.place (c.args.steps - c.steps.place) d before)
-          (choices_drawn (c.steps.place + 1) (c.args.steps - (c.steps.place + 1)) (drawing c.next_choice.new.self) (world g.S.Store.memory c.step.new.self))
+      so_far = one_more (priority_choices (world g.S.Store.memory c.args.machine.now) c.args.harts c.args.depth.number c.args.refusals c.args.steps c.args.seed)
+          (choices_drawn c.args.refusals c.steps.place (c.args.steps - c.steps.place) d before)
+          (choices_drawn c.args.refusals (c.steps.place + 1) (c.args.steps - (c.steps.place + 1)) (drawing c.next_choice.new.self) (world g.S.Store.memory c.step.new.self))
           (world g.S.Store.memory c.args.machine.now) before (world g.S.Store.memory c.step.new.self)
           (harts_of c.steps.chosen) (harts_of c.add.new.self) c.in_ok-choice.choice
-          (priority_next c.steps.place (c.args.steps - c.steps.place) (c.args.steps - (c.steps.place + 1)) d
+          (priority_next c.args.refusals c.steps.place (c.args.steps - c.steps.place) (c.args.steps - (c.steps.place + 1)) d
           (drawing c.next_choice.new.self) before (world g.S.Store.memory c.step.new.self) c.in_ok-choice.choice (omega arith)
           choice state c.in_ok-step.ensures.ok)
           c.in_ok-step.ensures.ok c.add.ensures c.steps.invariant.so_far;
@@ -67,8 +67,8 @@ steps-preserved g c =
 
 pub returns : goal.returns
 returns g c =
-    all_done (priority_choices (world g.S.Store.memory c.args.machine.now) c.args.harts c.args.depth.number c.args.steps c.args.seed)
-    (choices_drawn c.steps.place (c.args.steps - c.steps.place) (drawing c.steps.priorities) (world g.S.Store.memory c.steps.machine))
+    all_done (priority_choices (world g.S.Store.memory c.args.machine.now) c.args.harts c.args.depth.number c.args.refusals c.args.steps c.args.seed)
+    (choices_drawn c.args.refusals c.steps.place (c.args.steps - c.steps.place) (drawing c.steps.priorities) (world g.S.Store.memory c.steps.machine))
     (world g.S.Store.memory c.args.machine.now) (world g.S.Store.memory c.steps.machine) (harts_of c.steps.chosen)
-    (priorities-none c.steps.place (c.args.steps - c.steps.place) (drawing c.steps.priorities) (world g.S.Store.memory c.steps.machine)
+    (priorities-none c.args.refusals c.steps.place (c.args.steps - c.steps.place) (drawing c.steps.priorities) (world g.S.Store.memory c.steps.machine)
     (omega arith)) c.steps.invariant.so_far

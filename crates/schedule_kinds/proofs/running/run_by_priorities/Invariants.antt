@@ -11,7 +11,7 @@ abbrev pub invariant-steps : goal.invariant-steps
 invariant-steps g l = record {
   harts : length (world g.S.Store.memory l.machine).harts ≡ l.harts;
   below : All (λ h. h < l.harts) (drawing l.priorities).order;
-  so_far : SoFar (priority_choices (world g.S.Store.memory l.fn.machine) l.harts l.fn.depth.number l.steps l.seed)
-      (choices_drawn l.place (l.steps - l.place) (drawing l.priorities) (world g.S.Store.memory l.machine))
+  so_far : SoFar (priority_choices (world g.S.Store.memory l.fn.machine) l.harts l.fn.depth.number l.refusals l.steps l.seed)
+      (choices_drawn l.refusals l.place (l.steps - l.place) (drawing l.priorities) (world g.S.Store.memory l.machine))
       (world g.S.Store.memory l.fn.machine) (world g.S.Store.memory l.machine) (harts_of l.chosen);
 }

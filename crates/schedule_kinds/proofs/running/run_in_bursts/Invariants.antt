@@ -9,6 +9,6 @@ abbrev pub invariant-steps : goal.invariant-steps
 invariant-steps g l = record {
   harts : length (world g.S.Store.memory l.machine).harts ≡ l.harts;
   drawn : l.bursts.harts ≡ l.harts;
-  so_far : SoFar (burst_choices l.harts l.fn.mean.choices l.steps l.seed) (choices_drawn (l.steps - l.counter) l.bursts)
+  so_far : SoFar (burst_choices l.fn.refusals l.harts l.fn.mean.choices l.steps l.seed) (choices_drawn (l.steps - l.counter) l.bursts)
       (world g.S.Store.memory l.fn.machine) (world g.S.Store.memory l.machine) (harts_of l.chosen);
 }

@@ -9,6 +9,6 @@ abbrev pub invariant-steps : goal.invariant-steps
 invariant-steps g l = record {
   harts : length (world g.S.Store.memory l.machine).harts ≡ l.harts;
   below : All (λ h. h < l.harts) (drawing l.priorities).order;
-  so_far : l.choices.items ++ choices_drawn l.place (l.steps - l.place) (drawing l.priorities) (world g.S.Store.memory l.machine)
-      ≡ priority_choices (world g.S.Store.memory l.fn.machine) l.harts l.fn.depth.number l.steps l.seed;
+  so_far : l.choices.items ++ choices_drawn l.refusals l.place (l.steps - l.place) (drawing l.priorities) (world g.S.Store.memory l.machine)
+      ≡ priority_choices (world g.S.Store.memory l.fn.machine) l.harts l.fn.depth.number l.refusals l.steps l.seed;
 }

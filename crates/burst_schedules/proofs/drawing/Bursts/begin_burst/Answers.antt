@@ -8,6 +8,7 @@ returns-then-self-eq0-clause-state c =
     let d : Drawing = record {
       harts = c.self.inside.harts;
       mean = c.self.inside.mean;
+      refusals = c.self.inside.refusals;
       hart = c.self.inside.hart;
       left = c.self.inside.left;
       generator = c.self.inside.generator;

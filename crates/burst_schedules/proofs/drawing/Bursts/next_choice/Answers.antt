@@ -8,17 +8,20 @@ returns-clause-choice c =
     chosen c.args.self.now (record {
       harts = c.self.inside.harts;
       mean = c.self.inside.mean;
+      refusals = c.self.inside.refusals;
       hart = c.self.inside.hart;
       left = c.self.inside.left;
       generator = c.self.inside.generator;
     })
     c.next_word-word.result c.next_word-word.new.self (c.self.view_is ∙ c.begin_burst.ensures.state) c.next_word-word.ensures
+    c.refuses.result c.refuses.ensures
 
 pub returns-clause-state : goal.returns-clause-state
 returns-clause-state c =
     left_behind c.args.self.now (record {
       harts = c.self.inside.harts;
       mean = c.self.inside.mean;
+      refusals = c.self.inside.refusals;
       hart = c.self.inside.hart;
       left = c.self.inside.left;
       generator = c.self.inside.generator;

@@ -7,10 +7,10 @@ use Rattle.priority_schedules.proofs.drawing.Priorities.next_choice.Goals as goa
 
 pub returns-clause-choice : goal.returns-clause-choice
 returns-clause-choice g c =
-    chosen (map hart_of c.args.harts.now) (drawing c.args.self.now) c.first_running-hart.result c.next_word-word.result
+    chosen c.args.refusals (map hart_of c.args.harts.now) (drawing c.args.self.now) c.first_running-hart.result c.next_word-word.result
     c.next_word-word.new.self
     (c.first_running-hart.ensures ∙ ap (first_running (map hart_of c.args.harts.now)) c.deref.ensures.value)
-    c.next_word-word.ensures
+    c.next_word-word.ensures c.refuses.result c.refuses.ensures
 
 pub returns-clause-state : goal.returns-clause-state
 returns-clause-state g c =
