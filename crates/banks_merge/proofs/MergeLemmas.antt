@@ -11,15 +11,18 @@ use Rattle.machine.specs.declared.choice.Choice.{Choice}
 use Rattle.banks_laws.specs.declared.access.LoggedAccess.{LoggedAccess}
 use Rattle.banks_laws.specs.Banks.{IsLogged}
 use Rattle.banks_laws.specs.Segments.{LoggedSegment, Walks}
-use Rattle.banks_laws.specs.Order.{Rises, Earlier, Before, AreLogs}
+use Rattle.banks_laws.specs.Order.{Rises, Earlier, Before, AreLogs, IsMerged}
 use Rattle.banks_table.specs.Table.{table}
-use Rattle.banks_runs.specs.Merged.{bank_of, first_slot, first_bank}
+use Rattle.banks_runs.specs.Merged.{bank_of, first_slot, first_bank, choices_of}
 use Rattle.segment_order.specs.Logs.{logs_of}
+use Rattle.segment_order.specs.Weaving.{log_of, woven_with}
+use Rattle.segment_order.proofs.MergedLemmas.{woven_is_merged}
 use Rattle.merged_choices.specs.Merged.{LeadsTo}
+use Rattle.merged_choices.proofs.MergedLemmas.{leads as all_lead}
 use Rattle.hart_logs.specs.HartLog.{HartLogValue, IsOfHart, slot_in, image_table}
 use Rattle.banks.specs.BankLog.{BankLog, IsOfBank}
 use Rattle.banks_merge.specs.Logs.{bank_log, hart_log, segments_of_all, AreNumbered, AreOf, AreOfOne, StampsRise}
-use Rattle.banks_merge.specs.Merge.{AreMatched, EndsAsLogged, slots}
+use Rattle.banks_merge.specs.Merge.{AreMatched, AreOneRun, EndsAsLogged, slots}
 use Rattle.banks_merge.proofs.SetLemmas.{drop_item}
 use Rattle.banks_merge.proofs.MatchLemmas.{bank_at, hart_at}
 
@@ -128,6 +131,19 @@ pub ends_of : (logs : List HartLogValue) (banks : List BankLog) (choices : List 
 ends_of logs banks choices walked kept matched leads image inputs are =
     let few : length (segments_of_all logs) ≤ length inputs = (let e = length-map logs (λ (l : HartLogValue). l.log) in let f = are.harts in omega (arith, e, f)) in
     leads image inputs (slots image inputs logs) (bank_log banks) are.entry few (are_logs image inputs logs banks are walked kept) matched
+
+-- the choices of the logs woven to one list
+pub one_run : (logs : List HartLogValue) (banks : List BankLog) → AreOfOne logs banks → ((h : ℕ) (l : HartLogValue) → slice_get logs h ≡ Some l → IsOfHart l)
+    → ((b : ℕ) (k : BankLog) → slice_get banks b ≡ Some k → IsOfBank k) → AreMatched logs banks → StampsRise logs → AreOneRun logs banks
+one_run logs banks one walked kept matched rising =
+    let all = segments_of_all logs in
+    let segments = woven_with [] all in
+    let merged : IsMerged (log_of all) segments = woven_is_merged all (own_of logs banks one walked kept) rising in
+    record {
+      choices = choices_of segments;
+      merged = record { segments = segments; merged = merged; are = refl };
+      ends = ends_of logs banks (choices_of segments) walked kept matched (all_lead all segments (choices_of segments) merged refl rising);
+    }
 
 -- what is said of the logs is said of what refers to them
 pub of_seen : (P : List (List LoggedSegment) → Type 0) (all : List (Bor (List LoggedSegment))) (logs : List HartLogValue) → logs_of all ≡ segments_of_all logs

@@ -9,9 +9,10 @@ use Rattle.banks_laws.specs.Banks.{after_log}
 use Rattle.banks_laws.specs.Segments.{HartSlot}
 use Rattle.banks_laws.specs.Order.{IsMatched}
 use Rattle.banks_runs.specs.Merged.{bank_of, first_bank, EndsIn}
+use Rattle.merged_choices.specs.Merged.{IsMergeOf}
 use Rattle.banks.specs.BankLog.{BankLog}
 use Rattle.hart_logs.specs.HartLog.{HartLogValue, slot_in}
-use Rattle.banks_merge.specs.Logs.{bank_log, hart_log, AreOf, StampsRise}
+use Rattle.banks_merge.specs.Logs.{bank_log, hart_log, segments_of_all, AreOf, StampsRise}
 use Rattle.banks_merge.specs.declared.merging.MergeFault.{MergeFault}
 use Rattle.banks_merge.specs.declared.merging.MergeFault.TheVariants.{Unmatched, OutOfOrder, Memory}
 
@@ -28,6 +29,12 @@ slots image inputs logs h = slot_in image inputs h (hart_log logs h)
 abbrev pub EndsAsLogged : List HartLogValue → List BankLog → List Choice → Type 0
 EndsAsLogged logs banks choices = (image : ImageValue) (inputs : List ℕ) → AreOf image inputs logs banks
     → EndsIn image inputs (run (started image inputs) choices) (slots image inputs logs) (λ b. after_log (first_bank image) (bank_log banks b))
+
+-- there are choices of all segments, whose run ends as the logs do
+pub record AreOneRun (logs : List HartLogValue) (banks : List BankLog) : Type 0 where
+  pub choices : List Choice
+  pub merged : IsMergeOf (segments_of_all logs) choices
+  pub ends : EndsAsLogged logs banks choices
 
 -- why logs are not merged
 abbrev pub Refuses : List HartLogValue → List BankLog → MergeFault → Type 0

@@ -42,8 +42,6 @@ pub fn merge<A: Allocator + Copy>(
     ensures ends { IfOk result (λ choices. EndsAsLogged logs.now banks.now choices.items) }
     ensures fault { IfErr result (λ fault. Refuses logs.now banks.now fault) }
 {
-    see_harts(logs);
-    see_banks(banks);
     let Ok(matched) = is_matched(alloc, logs, banks) else {
         return Err(MergeFault::Memory);
     };
@@ -53,10 +51,29 @@ pub fn merge<A: Allocator + Copy>(
     if !stamps_rise(logs) {
         return Err(MergeFault::OutOfOrder);
     }
-    match choices_of(alloc, logs) {
+    match merge_matched(alloc, logs, banks) {
         Ok(choices) => Ok(choices),
         Err(AllocError) => Err(MergeFault::Memory),
     }
+}
+
+/// The one run that logs are which are known to match and to rise, as those are that a run of threads leaves. Nothing is compared
+/// again.
+pub fn merge_matched<A: Allocator + Copy>(
+    alloc: A,
+    logs: &[HartLog<A>],
+    banks: &[Bank<A>],
+) -> Result<Vec<Choice, A>, AllocError>
+    requires one { AreOfOne logs.now banks.now }
+    requires matched { AreMatched logs.now banks.now }
+    requires rising { StampsRise logs.now }
+    ensures merged { IfOk result (λ choices. IsMergeOf (segments_of_all logs.now) choices.items) }
+    ensures ends { IfOk result (λ choices. EndsAsLogged logs.now banks.now choices.items) }
+{
+    see_harts(logs);
+    see_banks(banks);
+    let choices = choices_of(alloc, logs)?;
+    Ok(choices)
 }
 
 // Whether the stamps of each log rise.

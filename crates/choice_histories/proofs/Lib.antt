@@ -1,1 +1,2 @@
 pub mod PlainLemmas
+pub mod TextLemmas

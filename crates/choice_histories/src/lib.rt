@@ -8,6 +8,9 @@ ghost use Rattle.choice_histories.specs.Plain.{plain_entry};
 use histories::Entry;
 use machine::Choice;
 use std::alloc::{AllocError, Allocator};
+pub use text::choices_text;
+
+mod text;
 
 /// Choices as a history: an entry without local steps for each, which therefore stands for these choices.
 pub fn history_of<A: Allocator>(alloc: A, choices: &[Choice]) -> Result<Vec<Entry, A>, AllocError>

@@ -13,7 +13,7 @@ ghost use Rattle.told_steps.specs.Told.{as_touch};
 ghost use Rattle.hart_logs.specs.LastStep.{SlotIf};
 
 use crate::first::first_hart;
-use crate::step::{Found, Slot, data_access, last_step, slot_touched, walked};
+use crate::step::{Found, Slot, TouchedWord, last_step, touch_word, walked};
 use banks_laws::LoggedAccess;
 use hart_step::Hart;
 use loader::Image;
@@ -189,8 +189,10 @@ impl<'a, A: Allocator> HartLog<'a, A> {
             hart,
             named: self.named,
         };
-        let access = data_access(self.image, &slot, &segment, None, touch, found);
-        let after = slot_touched(self.image, &slot, &segment, None, touch, found);
+        let TouchedWord {
+            access,
+            slot: after,
+        } = touch_word(self.image, &slot, &segment, None, touch, found);
         let Ok(_) = self.segments.push(with_access(segment, access)) else {
             return Err(AddFault::Memory);
         };

@@ -17,7 +17,7 @@ use hart_step::{AccessKind, Hart};
 use loader::Image;
 use segment_order::LogSegment;
 use std::alloc::Allocator;
-use told_steps::{PlannedTouch, ToldWords, Word, needed_word, planned_touch, settle, stored_bytes};
+use told_steps::{PlannedTouch, ToldWords, Word, needed_word, planned_touch, settle, settle_store};
 
 /// A hart with the word that its last LR without a fault named, if no store-conditional without a fault came after it.
 #[derive(Clone, Copy, Debug)]
@@ -132,23 +132,32 @@ fn is_code_read(segment: &LogSegment, word: u32, access: &LoggedAccess) -> bool
     is_same(access, &expected)
 }
 
-/// The bytes of a touched word after an access of this kind.
-fn bytes_after<A: Allocator>(
+/// Does a hart's step that touches a word, and tells the bytes of the word after an access of this kind. A store-conditional
+/// succeeds where `succeeds` says so.
+fn settle_word<A: Allocator>(
+    hart: &mut Hart,
     image: &Image<A>,
-    hart: &Hart,
     code: Option<Word>,
     touched: Word,
     kind: LoggedKind,
+    succeeds: bool,
 ) -> [u8; 4]
-    ensures { (c : WordBytes) → let t = image_table image.now in let h = hart_of hart.now in
+    ensures after { (c : WordBytes) → let t = image_table image.now in let h = hart_of hart.old in
+        code ≡ told_word (t.need h) c → Some touched ≡ told_word (word_in (t.plan h c)) touched.bytes
+        → hart_of hart.new ≡ t.after h c touched.bytes succeeds }
+    ensures word { (c : WordBytes) → let t = image_table image.now in let h = hart_of hart.old in
         code ≡ told_word (t.need h) c → Some touched ≡ told_word (word_in (t.plan h c)) touched.bytes
         → result ≡ word_after t h c touched.bytes kind }
 {
     if is_store(kind) {
-        stored_bytes(hart, image, code, touched)
-    } else {
-        touched.bytes
+        return settle_store(hart, image, code, touched, succeeds);
     }
+    let words = ToldWords {
+        code,
+        touched: Some(touched),
+    };
+    settle(hart, image, words, succeeds);
+    touched.bytes
 }
 
 /// Whether a touch stores as a store-conditional, where its access finds this mark.
@@ -157,6 +166,60 @@ fn stores(slot: &Slot, segment: &LogSegment, touch: PlannedTouch, mark: bool) ->
 {
     let holds = mark && names(slot.named, touch.word);
     succeeds(touch.kind, segment.refuse, holds)
+}
+
+/// What the last step of a segment logs of a word that it touches, and where it leads.
+#[derive(Clone, Copy, Debug)]
+pub(crate) struct TouchedWord {
+    /// The access to the word.
+    pub access: LoggedAccess,
+    /// The slot after the step.
+    pub slot: Slot,
+}
+
+/// Does the last step of a segment, which touches a word and finds these bytes and this mark there. `code` is the word of the
+/// instruction, where it is one that must be read.
+pub(crate) fn touch_word<A: Allocator>(
+    image: &Image<A>,
+    slot: &Slot,
+    segment: &LogSegment,
+    code: Option<Word>,
+    touch: PlannedTouch,
+    found: Found,
+) -> TouchedWord
+    ensures access { (c : WordBytes) → let t = image_table image.now in let s = slot_is slot.now in let e = segment.now in
+        code ≡ told_word (t.need s.hart) c → t.plan s.hart c ≡ Some (as_touch touch)
+        → result.access ≡ access t e s.hart c (as_touch touch) found.bytes found.mark
+        (succeeds (as_touch touch).act e.refuse (found.mark && names s.named touch.word)) }
+    ensures slot { (c : WordBytes) → let t = image_table image.now in let s = slot_is slot.now in let e = segment.now in
+        code ≡ told_word (t.need s.hart) c → t.plan s.hart c ≡ Some (as_touch touch)
+        → slot_is result.slot ≡ slot_did t s c (as_touch touch) found.bytes
+        (succeeds (as_touch touch).act e.refuse (found.mark && names s.named touch.word)) }
+{
+    let succeeds = stores(slot, segment, touch, found.mark);
+    let kind = logged_kind(touch.kind, succeeds);
+    let before = found.bytes;
+    let word = Word {
+        address: touch.word,
+        bytes: before,
+    };
+    let mut hart = slot.hart;
+    let after = settle_word(&mut hart, image, code, word, kind, succeeds);
+    TouchedWord {
+        access: LoggedAccess {
+            stamp: segment.stamp,
+            hart: segment.hart,
+            kind,
+            word: touch.word,
+            before,
+            after,
+            mark: found.mark,
+        },
+        slot: Slot {
+            hart,
+            named: named_after(kind, touch.word, slot.named),
+        },
+    }
 }
 
 /// The access of a touch in the last step of a segment, where it finds these bytes and this mark. `code` is the word of the
@@ -174,54 +237,7 @@ pub fn data_access<A: Allocator>(
         → result ≡ access t e s.hart c (as_touch touch) found.bytes found.mark
         (succeeds (as_touch touch).act e.refuse (found.mark && names s.named touch.word)) }
 {
-    let kind = logged_kind(touch.kind, stores(slot, segment, touch, found.mark));
-    let before = found.bytes;
-    let word = Word {
-        address: touch.word,
-        bytes: before,
-    };
-    let after = bytes_after(image, &slot.hart, code, word, kind);
-    LoggedAccess {
-        stamp: segment.stamp,
-        hart: segment.hart,
-        kind,
-        word: touch.word,
-        before,
-        after,
-        mark: found.mark,
-    }
-}
-
-/// The slot after a step that touches a word and finds these bytes and this mark there.
-pub(crate) fn slot_touched<A: Allocator>(
-    image: &Image<A>,
-    slot: &Slot,
-    segment: &LogSegment,
-    code: Option<Word>,
-    touch: PlannedTouch,
-    found: Found,
-) -> Slot
-    ensures { (c : WordBytes) → let t = image_table image.now in let s = slot_is slot.now in let e = segment.now in
-        code ≡ told_word (t.need s.hart) c → t.plan s.hart c ≡ Some (as_touch touch)
-        → slot_is result ≡ slot_did t s c (as_touch touch) found.bytes
-        (succeeds (as_touch touch).act e.refuse (found.mark && names s.named touch.word)) }
-{
-    let stores = stores(slot, segment, touch, found.mark);
-    let kind = logged_kind(touch.kind, stores);
-    let bytes = found.bytes;
-    let mut hart = slot.hart;
-    let words = ToldWords {
-        code,
-        touched: Some(Word {
-            address: touch.word,
-            bytes,
-        }),
-    };
-    settle(&mut hart, image, words, stores);
-    Slot {
-        hart,
-        named: named_after(kind, touch.word, slot.named),
-    }
+    touch_word(image, slot, segment, code, touch, found).access
 }
 
 /// The slot after a step that touches a word, if an access is that of the touch.
@@ -242,11 +258,11 @@ fn touched<A: Allocator>(
         bytes: access.before,
         mark: access.mark,
     };
-    let expected = data_access(image, slot, segment, code, touch, found);
-    if !is_same(access, &expected) {
+    let expected = touch_word(image, slot, segment, code, touch, found);
+    if !is_same(access, &expected.access) {
         return None;
     }
-    Some(slot_touched(image, slot, segment, code, touch, found))
+    Some(expected.slot)
 }
 
 /// The slot after a step that touches no data.

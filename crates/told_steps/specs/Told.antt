@@ -1,6 +1,6 @@
 -- A memory of an image's rights and bytes, some words of which are told otherwise, and of which one word alone may be
 -- written.
-use Rattle.std.specs.Prelude.{◌≡◌, ℕ, ◌+◌, ◌%◌, ◌==◌, Bool, false, ◌&&◌, nat_le, nat_lt, if◌then◌else◌, Option, Some, None, Result, Ok, Err}
+use Rattle.std.specs.Prelude.{◌≡◌, ℕ, ◌+◌, ◌%◌, ◌==◌, Bool, true, false, ◌&&◌, nat_le, nat_lt, if◌then◌else◌, Option, Some, None, Result, Ok, Err}
 use Rattle.memory.specs.Memory.{Memory, grants, granted, to_execute, to_load, to_write}
 use Rattle.memory.specs.Instruction.{instruction_at}
 use Rattle.memory.specs.declared.store.FetchFault.{FetchFault}
@@ -70,6 +70,14 @@ wanted Amo = to_write
 abbrev pub is_granted : Memory → Access → Bool
 is_granted m c = c.address % c.size == 0 && granted (wanted c.kind) m c.size c.address
 
+-- whether an access is a store-conditional's
+abbrev pub is_conditional : AccessKind → Bool
+is_conditional Load = false
+is_conditional Store = false
+is_conditional LoadReserved = false
+is_conditional StoreConditional = true
+is_conditional Amo = false
+
 -- the word that an access touches, unless it faults
 abbrev pub touch_by : Memory → Option Access → Option Touch
 touch_by m None = None
@@ -80,14 +88,19 @@ abbrev pub word_by : (ℕ → ℕ) → Option Access → Option Word
 word_by bytes None = None
 word_by bytes (Some c) = Some (record { address = word_of c.address; bytes = bytes_at bytes (word_of c.address) })
 
--- that of an instruction, if there is one
-abbrev pub word_if : Result Instr FetchFault → (ℕ → ℕ) → HartValue → Option Word
-word_if (Ok i) bytes h = word_by bytes (access_by i h.registers)
-word_if (Err fault) bytes h = None
+-- the same, where there is an access
+abbrev pub tries_by : Option Access → Bool
+tries_by None = false
+tries_by (Some c) = is_conditional c.kind
 
--- the word that a hart's instruction accesses in a memory
-abbrev pub word_at : Memory → HartValue → Option Word
-word_at m h = word_if (instruction_at m h.pc) m.bytes h
+-- the access of an instruction, if there is one
+abbrev pub access_if : Result Instr FetchFault → HartValue → Option Access
+access_if (Ok i) h = access_by i h.registers
+access_if (Err fault) h = None
+
+-- the access of a hart's instruction in a memory, whether it faults or not
+abbrev pub access_at : Memory → HartValue → Option Access
+access_at m h = access_if (instruction_at m h.pc) h
 
 -- hart and bytes are those of a site
 pub record Leaves (h : HartValue) (bytes : ℕ → ℕ) (s : Site) : Type 0 where

@@ -2,7 +2,7 @@
 #![tactic(auto)]
 
 pub use image::bytes_at;
-pub use steps::{PlannedTouch, ToldWords, needed_word, planned_touch, settle, stored_bytes};
+pub use steps::{PlannedTouch, ToldWords, needed_word, planned_touch, settle, settle_store};
 pub use words::Word;
 
 mod image;

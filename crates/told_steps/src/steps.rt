@@ -1,5 +1,5 @@
 //! What a hart's next step needs, touches and does.
-ghost use Rattle.std.specs.Prelude.{◌≡◌, ◌<◌, ◌%◌, Some, None, false, IfSome, option_map, if◌then◌else◌};
+ghost use Rattle.std.specs.Prelude.{◌≡◌, ◌<◌, ◌%◌, Bool, Some, None, true, false, IfSome, option_map, if◌then◌else◌};
 ghost use Rattle.memory.specs.Memory.{granted, to_load, to_write};
 ghost use Rattle.memory.specs.Image.{image_memory};
 ghost use Rattle.reservations.specs.Marks.{with_mark};
@@ -9,7 +9,7 @@ ghost use Rattle.banks_laws.specs.Banks.{WordBytes};
 ghost use Rattle.hart_step.specs.Step.{stepped};
 ghost use Rattle.hart_step.specs.declared.hart.HartState.TheVariants.{Running};
 ghost use Rattle.banks_table.specs.Table.{table, told, word_in};
-ghost use Rattle.told_steps.specs.Told.{as_touch, is_granted, told_memory, told_word, touch_by, wanted, word_at, Leaves};
+ghost use Rattle.told_steps.specs.Told.{access_at, as_touch, is_granted, told_memory, told_word, touch_by, tries_by, wanted, word_by, Leaves};
 
 use crate::image::{granted, is_unwritable};
 use crate::words::{ToldMemory, Word};
@@ -119,17 +119,38 @@ pub fn planned_touch<A: Allocator>(
     }
 }
 
-/// The word that a hart's instruction accesses in a memory, with its bytes, if it accesses one.
-fn target_of<A: Allocator>(hart: &Hart, memory: &ToldMemory<A>) -> Option<Word>
-    ensures { result ≡ word_at
+/// The access of a hart's instruction in a memory, whether it faults or not.
+fn access_at<A: Allocator>(hart: &Hart, memory: &ToldMemory<A>) -> Option<Access>
+    ensures { result ≡ access_at
         (told_memory (image_memory memory.now.image.now) memory.now.code memory.now.touched memory.now.target)
         (hart_of hart.now) }
 {
-    let Ok(instr) = memory.instruction(hart.pc) else {
-        return None;
-    };
-    let access = access_by(hart, instr)?;
+    match memory.instruction(hart.pc) {
+        Ok(instr) => access_by(hart, instr),
+        Err(_) => None,
+    }
+}
+
+/// The word of an access in a memory, with its bytes, if there is an access.
+fn word_by<A: Allocator>(memory: &ToldMemory<A>, access: Option<Access>) -> Option<Word>
+    ensures { result ≡ word_by
+        (told_memory (image_memory memory.now.image.now) memory.now.code memory.now.touched memory.now.target).bytes access }
+{
+    let access = access?;
     Some(memory.word_at(access.address - access.address % 4))
+}
+
+/// Whether an access is a store-conditional's.
+fn tries_by(access: Option<Access>) -> bool
+    ensures { result ≡ tries_by access }
+{
+    let Some(access) = access else {
+        return false;
+    };
+    match access.kind {
+        AccessKind::StoreConditional => true,
+        AccessKind::Load | AccessKind::Store | AccessKind::LoadReserved | AccessKind::Amo => false,
+    }
 }
 
 /// A reservation of the word that is touched, if a store-conditional is to succeed.
@@ -147,19 +168,27 @@ fn reserve_of(touched: Option<Word>, succeeds: bool) -> Reserve
     reserve
 }
 
+/// A memory after a step, and the access of the step's instruction.
+#[derive(Drop)]
+struct ToldStep<'a, A: Allocator> {
+    memory: ToldMemory<'a, A>,
+    access: Option<Access>,
+}
+
 /// A hart's step, where it is told these words, and whether a store-conditional succeeds. Only bytes of the memory that
-/// comes back may have changed.
+/// comes back may have changed. Whether it would succeed is asked of a store-conditional alone.
 fn told_step<'a, A: Allocator>(
     hart: &mut Hart,
     image: &'a Image<A>,
     words: ToldWords,
     succeeds: bool,
-) -> ToldMemory<'a, A>
-    ensures { (c v : WordBytes) → let m = image_memory image.now in let h = hart_of hart.old in
+) -> ToldStep<'a, A>
+    ensures { (c v : WordBytes) (ok : Bool) → let m = image_memory image.now in let h = hart_of hart.old in
         words.code ≡ told_word ((table m).need h) c → words.touched ≡ told_word (word_in ((table m).plan h c)) v
+        → (tries_by result.access ≡ true → succeeds ≡ ok)
         → Leaves (hart_of hart.new)
-        (told_memory (image_memory result.image.now) result.code result.touched result.target).bytes
-        (stepped 0 false (told m h c v succeeds)) }
+        (told_memory (image_memory result.memory.image.now) result.memory.code result.memory.touched result.memory.target).bytes
+        (stepped 0 false (told m h c v ok)) }
 {
     let mut memory = ToldMemory {
         image,
@@ -167,12 +196,13 @@ fn told_step<'a, A: Allocator>(
         touched: words.touched,
         target: None,
     };
-    memory.target = target_of(hart, &memory);
+    let access = access_at(hart, &memory);
+    memory.target = word_by(&memory, access);
     let mut reserve = reserve_of(words.touched, succeeds);
     let Ok(()) = step_hart(hart, 0, &mut memory, &mut reserve, false) else {
         unreachable!();
     };
-    memory
+    ToldStep { memory, access }
 }
 
 /// Does a hart's next step, where it is told these words: the one that it needs, and the one that its instruction touches. A
@@ -182,25 +212,48 @@ pub fn settle<A: Allocator>(hart: &mut Hart, image: &Image<A>, words: ToldWords,
         words.code ≡ told_word (t.need h) c → words.touched ≡ told_word (word_in (t.plan h c)) v
         → hart_of hart.new ≡ t.after h c v succeeds }
 {
-    let _memory = told_step(hart, image, words, succeeds);
+    let _step = told_step(hart, image, words, succeeds);
 }
 
-/// The bytes of the touched word after a hart's next step, if that stores, where the hart is told these words.
-pub fn stored_bytes<A: Allocator>(
-    hart: &Hart,
+/// Does a hart's next step as `settle` does, and tells the bytes of the touched word after it, if it stores.
+pub fn settle_store<A: Allocator>(
+    hart: &mut Hart,
     image: &Image<A>,
     code: Option<Word>,
     touched: Word,
+    succeeds: bool,
 ) -> [u8; 4]
-    ensures { (c v : WordBytes) → let t = table (image_memory image.now) in let h = hart_of hart.now in
+    ensures after { (c v : WordBytes) → let t = table (image_memory image.now) in let h = hart_of hart.old in
+        code ≡ told_word (t.need h) c → Some touched ≡ told_word (word_in (t.plan h c)) v
+        → hart_of hart.new ≡ t.after h c v succeeds }
+    ensures stored { (c v : WordBytes) → let t = table (image_memory image.now) in let h = hart_of hart.old in
         code ≡ told_word (t.need h) c → Some touched ≡ told_word (word_in (t.plan h c)) v
         → result ≡ t.stored h c v }
 {
-    let mut hart = *hart;
+    let before = *hart;
     let words = ToldWords {
         code,
         touched: Some(touched),
     };
-    let memory = told_step(&mut hart, image, words, true);
-    memory.word_at(touched.address).bytes
+    let step = told_step(hart, image, words, succeeds);
+    if tries_by(step.access) && !succeeds {
+        return stored_bytes(before, image, words, touched.address);
+    }
+    step.memory.word_at(touched.address).bytes
+}
+
+/// The bytes of the touched word after a hart's next step, if that stores, where the hart is told these words.
+fn stored_bytes<A: Allocator>(
+    hart: Hart,
+    image: &Image<A>,
+    words: ToldWords,
+    address: u32,
+) -> [u8; 4]
+    ensures { (c v : WordBytes) → let t = table (image_memory image.now) in let h = hart_of hart in
+        words.code ≡ told_word (t.need h) c → words.touched ≡ told_word (word_in (t.plan h c)) v
+        → Some address ≡ word_in (t.plan h c) → result ≡ t.stored h c v }
+{
+    let mut hart = hart;
+    let step = told_step(&mut hart, image, words, true);
+    step.memory.word_at(address).bytes
 }
