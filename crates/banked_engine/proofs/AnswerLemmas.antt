@@ -12,7 +12,7 @@ use Rattle.banks_runs.specs.Merged.{first_bank, EndsIn}
 use Rattle.merged_choices.specs.Merged.{IsMergeOf}
 use Rattle.banks.specs.BankLog.{BankLog}
 use Rattle.hart_logs.specs.HartLog.{HartLogValue}
-use Rattle.banks_merge.specs.Logs.{bank_log, segments_of_all, StampsRise}
+use Rattle.banks_merge.specs.Logs.{bank_log, segments_of_all}
 use Rattle.banks_merge.specs.Merge.{slots, AreMatched, EndsAsLogged}
 use Rattle.banked_threads.specs.Banked.{IsBanked}
 use Rattle.histories.specs.History.{expanded}
@@ -29,7 +29,7 @@ use Rattle.engines.specs.Run.{shown, shown_with, world_after}
 use Rattle.replay_engine.proofs.KeptLemmas.{certified_shown}
 use Rattle.threads_engine.specs.declared.threads.ThreadsAnswer.{ThreadsAnswer}
 use Rattle.banked_engine.specs.BankedAnswer.{hart_of_log, IsAnswer, IsMergedRun, IsOfRun}
-use Rattle.banked_engine.proofs.RunLemmas.{are_of, choices_within, harts_are, stamps_rise}
+use Rattle.banked_engine.proofs.RunLemmas.{are_of, choices_within, harts_are}
 
 module _ (image : ImageValue) (inputs : List ℕ) (budget : ℕ) (plan : List (ℕ × ℕ)) (logs : List HartLogValue) (banks : List BankLog) (b : IsBanked image inputs budget plan logs banks) (choices : List Choice) where
   pub merged_run : image.entry % 4 ≡ 0 → AreMatched logs banks → IsMergeOf (segments_of_all logs) choices → EndsAsLogged logs banks choices
@@ -84,18 +84,6 @@ pub seen_lines : (rule : Option Kind) (inputs inputs_seen : List ℕ) (choices c
     → shown_with (verdict_on rule inputs choices harts) harts ≡ answer
 seen_lines rule inputs inputs_seen choices choices_seen harts answer same_inputs same_choices shows =
     (λ i. shown_with (verdict_on rule (sym same_inputs i) (sym same_choices i) harts) harts) ∙ shows
-
--- the logs of a run match
-pub seen_matched : (image : ImageValue) (inputs : List ℕ) (budget : ℕ) (plan : List (ℕ × ℕ)) (logs logs_seen : List HartLogValue) (banks banks_seen : List BankLog)
-    → logs_seen ≡ logs → banks_seen ≡ banks → IsBanked image inputs budget plan logs banks → AreMatched logs_seen banks_seen
-seen_matched image inputs budget plan logs logs_seen banks banks_seen same_logs same_banks b =
-    subst (λ (ls : List HartLogValue). AreMatched ls banks_seen) (sym same_logs) (subst (λ (bs : List BankLog). AreMatched logs bs) (sym same_banks) b.matched)
-
--- the stamps of a run's logs rise
-pub seen_rising : (image : ImageValue) (inputs : List ℕ) (budget : ℕ) (plan : List (ℕ × ℕ)) (logs logs_seen : List HartLogValue) (banks : List BankLog)
-    → logs_seen ≡ logs → IsBanked image inputs budget plan logs banks → StampsRise logs_seen
-seen_rising image inputs budget plan logs logs_seen banks same b =
-    subst (λ (ls : List HartLogValue). StampsRise ls) (sym same) (stamps_rise image inputs budget plan logs banks b)
 
 -- a certified file keeps its rule
 kept : {A : Type 0} (image : ImageValue) (inputs : List ℕ) (budget : ℕ) (plan : List (ℕ × ℕ)) (program : List ℕ) (rule : Option Kind) (answer : ThreadsAnswer A)

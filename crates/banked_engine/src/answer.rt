@@ -8,11 +8,10 @@ ghost use Rattle.ends.specs.Ends.{verdict_on};
 ghost use Rattle.engines.specs.Run.{shown_with};
 ghost use Rattle.banked_engine.specs.BankedAnswer.{hart_of_log};
 
-use choice_histories::history_of;
+use choice_histories::choices_text;
 use ends::ends_text;
 use hart_logs::HartLog;
 use hart_step::Hart;
-use histories::print_history;
 use machine::Choice;
 use protocol_library::Kind;
 use std::alloc::{AllocError, Allocator};
@@ -46,8 +45,7 @@ pub(crate) fn answer_of<A: Allocator + Copy>(
         shown_with (verdict_on rule inputs.now choices.now (map hart_of harts.now)) (map hart_of harts.now)
         ≡ (string_bytes answer.lines, answer.status)) }
 {
-    let entries = history_of(alloc, choices)?;
-    let history = print_history(alloc, &entries)?;
+    let history = choices_text(alloc, choices)?;
     let (lines, status) = ends_text(alloc, inputs, choices, harts, rule)?;
     Ok(ThreadsAnswer {
         history,

@@ -7,21 +7,20 @@ ghost use Rattle.machine.specs.Start.{IsStartable};
 ghost use Rattle.programs.specs.declared.program.ProgramForm.{ProgramForm};
 ghost use Rattle.banked_threads.specs.Banked.{IsBanked};
 ghost use Rattle.threads_engine.specs.Threads.{IsKept};
-ghost use Rattle.banks_merge.specs.Merge.{Refuses as NotMerged};
 ghost use Rattle.banked_engine.specs.BankedAnswer.{fault_of_run, IfReads, IsAnswer, IsOfRun, IsRefusal, Refuses};
 
 use crate::answer::{answer_of, harts_of};
 use crate::fault::BankedEngineFault;
 use banked_threads::{RunFault as BankedFault, run_banked};
 use banks::Bank;
-use banks_merge::{MergeFault, merge};
+use banks_merge::merge_matched;
 use devices::Source;
 use hart_logs::HartLog;
 use hart_threads::Gate;
 use loader::Image;
 use programs::{ProgramForm, RunFault, read_image};
 use replay_engine::see_words;
-use std::alloc::Allocator;
+use std::alloc::{AllocError, Allocator};
 use std::sync::Wait;
 use std::thread::Threads;
 use threads_engine::{ThreadsAnswer, ThreadsEngineFault, ThreadsTask};
@@ -77,9 +76,7 @@ pub fn banked_engine<
     };
     match answer_of_logs(alloc, &image, &task, &banked.logs, &banked.banks) {
         Ok(answer) => Ok(answer),
-        Err(MergeFault::Unmatched) => Err(BankedEngineFault::Unmatched),
-        Err(MergeFault::OutOfOrder) => Err(BankedEngineFault::OutOfOrder),
-        Err(MergeFault::Memory) => Err(BankedEngineFault::Threads(ThreadsEngineFault::Run(
+        Err(AllocError) => Err(BankedEngineFault::Threads(ThreadsEngineFault::Run(
             RunFault::Memory,
         ))),
     }
@@ -92,19 +89,14 @@ fn answer_of_logs<A: Allocator + Copy>(
     task: &ThreadsTask<A>,
     logs: &[HartLog<A>],
     banks: &[Bank<A>],
-) -> Result<ThreadsAnswer<A>, MergeFault>
+) -> Result<ThreadsAnswer<A>, AllocError>
     requires { IsBanked image.now task.now.inputs.items task.now.budget task.now.plan.keys logs.now banks.now }
-    ensures answer { IfOk result (λ answer.
+    ensures { IfOk result (λ answer.
         IsOfRun image.now task.now.inputs.items task.now.budget task.now.plan.keys task.now.rule answer) }
-    ensures fault { IfErr result (λ fault. NotMerged logs.now banks.now fault) }
 {
-    let choices = merge(alloc, logs, banks)?;
-    let Ok(harts) = harts_of(alloc, logs) else {
-        return Err(MergeFault::Memory);
-    };
-    let Ok(answer) = answer_of(alloc, &task.inputs, task.rule, &choices, &harts) else {
-        return Err(MergeFault::Memory);
-    };
+    let choices = merge_matched(alloc, logs, banks)?;
+    let harts = harts_of(alloc, logs)?;
+    let answer = answer_of(alloc, &task.inputs, task.rule, &choices, &harts)?;
     Ok(answer)
 }
 

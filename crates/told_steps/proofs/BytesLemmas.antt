@@ -1,12 +1,12 @@
 -- What a store changes of a told memory.
-use Rattle.std.proofs.Common.{◌≡◌, ℕ, suc, ◌+◌, ◌-◌, ◌/◌, ◌%◌, ◌^◌, ◌<◌, ◌≤◌, Bool, true, false, ◌&&◌, List, length, get_or, Option, Some, None, refl, ap, sym, ◌∙◌, arith, inl, inr}
+use Rattle.std.proofs.Common.{◌≡◌, ℕ, suc, ◌+◌, ◌-◌, ◌/◌, ◌%◌, ◌^◌, ◌<◌, ◌≤◌, Bool, true, false, ◌&&◌, List, [], ◌∷◌, length, get_or, Option, Some, None, refl, ap, sym, ◌∙◌, arith, inl, inr}
 use Rattle.std.specs.Prelude.{if◌then◌else◌, nat_le, nat_lt, slice_index, slice_set}
 use Rattle.std.proofs.lemmas.Bool.{cases_Bool, and_parts, and_from, leb-true, ltb-true, le-leb, lt-ltb, ltb-false}
 use Rattle.std.proofs.Math.Nat.{div-div-eq-div-mul, pow-suc}
 use Rattle.memory.specs.Memory.{Memory, granted, to_write, stored}
 use Rattle.memory.specs.Blocks.{spelled, Puts}
 use Rattle.memory.proofs.WriteLemmas.{spelled_in, spelled_out}
-use Rattle.banks_table.specs.Words.{with_four}
+use Rattle.banks_table.specs.Words.{bytes_at, with_four}
 use Rattle.told_steps.specs.declared.words.Word.{Word}
 use Rattle.told_steps.specs.Told.{has_all, rights_told, told_memory, with_told}
 use Rattle.told_steps.proofs.RightsLemmas.{write_same, write_outside, write_nowhere}
@@ -14,6 +14,19 @@ use Rattle.told_steps.proofs.RightsLemmas.{write_same, write_outside, write_nowh
 -- ---- one byte
 inside_word : (first a : ℕ) (v : List ℕ) (b : ℕ → ℕ) → first ≤ a → a < first + 4 → with_four b first v a ≡ slice_index v (a - first)
 inside_word first a v b low high = rw (and_from (nat_le first a) (nat_lt a (first + 4)) (le-leb first a low) (lt-ltb a (first + 4) high)) refl
+
+pub four_of : (b : ℕ → ℕ) (x : ℕ) (v : List ℕ) → length v ≡ 4 → v ≡ bytes_at (with_four b x v) x
+four_of b x (p ∷ q ∷ r ∷ s ∷ []) long =
+    let v = p ∷ q ∷ r ∷ s ∷ [] in
+    let at : (i : ℕ) → i < 4 → with_four b x v (x + i) ≡ slice_index v i
+    = λ i low. inside_word x (x + i) v b (omega arith) (omega (arith, low)) ∙ ap (slice_index v) (let e : x + i - x ≡ i = omega arith in e) in
+    let first : with_four b x v x ≡ p = inside_word x x v b (omega arith) (omega arith) ∙ ap (slice_index v) (let e : x - x ≡ 0 = omega arith in e) in
+    λ i. sym first i ∷ sym (at 1 (omega arith)) i ∷ sym (at 2 (omega arith)) i ∷ sym (at 3 (omega arith)) i ∷ []
+four_of b x [] long = absurd (omega (arith, long))
+four_of b x (p ∷ []) long = absurd (omega (arith, long))
+four_of b x (p ∷ q ∷ []) long = absurd (omega (arith, long))
+four_of b x (p ∷ q ∷ r ∷ []) long = absurd (omega (arith, long))
+four_of b x (p ∷ q ∷ r ∷ s ∷ t ∷ v) long = absurd (omega (arith, long))
 
 stored_one : (n a v first x : ℕ) (w : List ℕ) (b : ℕ → ℕ) → first ≤ a → a + n ≤ first + 4 → length w ≡ 4
     → with_four b first (spelled n w (a - first) v) x ≡ stored n a v (with_four b first w) x

@@ -9,13 +9,14 @@ ghost use Rattle.banks_laws.specs.Banks.{WordBytes};
 ghost use Rattle.hart_step.specs.Step.{stepped};
 ghost use Rattle.hart_step.specs.declared.hart.HartState.TheVariants.{Running};
 ghost use Rattle.banks_table.specs.Table.{table, told, word_in};
-ghost use Rattle.told_steps.specs.Told.{access_at, as_touch, is_granted, told_memory, told_word, touch_by, tries_by, wanted, word_by, Leaves};
+ghost use Rattle.told_steps.specs.Told.{access_if, as_touch, is_granted, told_memory, told_word, touch_by, tries_by, wanted, word_by, Leaves};
 
 use crate::image::{granted, is_unwritable};
 use crate::words::{ToldMemory, Word};
 use hart_step::{Access, AccessKind, Hart, HartState, access_by, step_hart};
+use isa_table::Instr;
 use loader::{Image, Rights};
-use memory::Store;
+use memory::{FetchFault, Store};
 use reservations::Reserve;
 use std::alloc::Allocator;
 
@@ -112,6 +113,7 @@ pub fn planned_touch<A: Allocator>(
         code,
         touched: None,
         target: None,
+        known: None,
     };
     match memory.instruction(hart.pc) {
         Ok(instr) => touch_by(image, access_by(hart, instr)),
@@ -119,13 +121,11 @@ pub fn planned_touch<A: Allocator>(
     }
 }
 
-/// The access of a hart's instruction in a memory, whether it faults or not.
-fn access_at<A: Allocator>(hart: &Hart, memory: &ToldMemory<A>) -> Option<Access>
-    ensures { result ≡ access_at
-        (told_memory (image_memory memory.now.image.now) memory.now.code memory.now.touched memory.now.target)
-        (hart_of hart.now) }
+/// The access of a hart's instruction, if there is one, whether it faults or not.
+fn access_if(hart: &Hart, found: Result<Instr, FetchFault>) -> Option<Access>
+    ensures { result ≡ access_if found (hart_of hart.now) }
 {
-    match memory.instruction(hart.pc) {
+    match found {
         Ok(instr) => access_by(hart, instr),
         Err(_) => None,
     }
@@ -168,41 +168,47 @@ fn reserve_of(touched: Option<Word>, succeeds: bool) -> Reserve
     reserve
 }
 
-/// A memory after a step, and the access of the step's instruction.
-#[derive(Drop)]
-struct ToldStep<'a, A: Allocator> {
-    memory: ToldMemory<'a, A>,
-    access: Option<Access>,
-}
-
-/// A hart's step, where it is told these words, and whether a store-conditional succeeds. Only bytes of the memory that
-/// comes back may have changed. Whether it would succeed is asked of a store-conditional alone.
-fn told_step<'a, A: Allocator>(
-    hart: &mut Hart,
-    image: &'a Image<A>,
-    words: ToldWords,
-    succeeds: bool,
-) -> ToldStep<'a, A>
-    ensures { (c v : WordBytes) (ok : Bool) → let m = image_memory image.now in let h = hart_of hart.old in
-        words.code ≡ told_word ((table m).need h) c → words.touched ≡ told_word (word_in ((table m).plan h c)) v
-        → (tries_by result.access ≡ true → succeeds ≡ ok)
-        → Leaves (hart_of hart.new)
-        (told_memory (image_memory result.memory.image.now) result.memory.code result.memory.touched result.memory.target).bytes
-        (stepped 0 false (told m h c v ok)) }
+/// An image's memory with these words, of which none may be written yet.
+#[inline]
+fn memory_of<A: Allocator>(image: &Image<A>, words: ToldWords) -> ToldMemory<A>
+    ensures image { result.image.now ≡ image.now }
+    ensures code { result.code ≡ words.code }
+    ensures touched { result.touched ≡ words.touched }
+    ensures target { result.target ≡ None }
 {
-    let mut memory = ToldMemory {
+    ToldMemory {
         image,
         code: words.code,
         touched: words.touched,
         target: None,
-    };
-    let access = access_at(hart, &memory);
-    memory.target = word_by(&memory, access);
-    let mut reserve = reserve_of(words.touched, succeeds);
-    let Ok(()) = step_hart(hart, 0, &mut memory, &mut reserve, false) else {
+        known: None,
+    }
+}
+
+/// A hart's step over an image's memory with two told words at most, and whether a store-conditional succeeds; returns the access
+/// of its instruction. Only bytes of the memory may have changed. Whether it would succeed is asked of a store-conditional alone.
+fn told_step<A: Allocator>(
+    hart: &mut Hart,
+    memory: &mut ToldMemory<A>,
+    succeeds: bool,
+) -> Option<Access>
+    requires { memory.old.target ≡ None }
+    ensures { (c v : WordBytes) (ok : Bool) → let m = image_memory memory.old.image.now in let h = hart_of hart.old in
+        memory.old.code ≡ told_word ((table m).need h) c → memory.old.touched ≡ told_word (word_in ((table m).plan h c)) v
+        → (tries_by result ≡ true → succeeds ≡ ok)
+        → Leaves (hart_of hart.new)
+        (told_memory (image_memory memory.new.image.now) memory.new.code memory.new.touched memory.new.target).bytes
+        (stepped 0 false (told m h c v ok)) }
+{
+    let known = memory.look_up(hart.pc);
+    let access = access_if(hart, known.found);
+    let target = word_by(memory, access);
+    memory.begin(target, known);
+    let mut reserve = reserve_of(memory.touched, succeeds);
+    let Ok(()) = step_hart(hart, 0, memory, &mut reserve, false) else {
         unreachable!();
     };
-    ToldStep { memory, access }
+    access
 }
 
 /// Does a hart's next step, where it is told these words: the one that it needs, and the one that its instruction touches. A
@@ -212,7 +218,8 @@ pub fn settle<A: Allocator>(hart: &mut Hart, image: &Image<A>, words: ToldWords,
         words.code ≡ told_word (t.need h) c → words.touched ≡ told_word (word_in (t.plan h c)) v
         → hart_of hart.new ≡ t.after h c v succeeds }
 {
-    let _step = told_step(hart, image, words, succeeds);
+    let mut memory = memory_of(image, words);
+    told_step(hart, &mut memory, succeeds);
 }
 
 /// Does a hart's next step as `settle` does, and tells the bytes of the touched word after it, if it stores.
@@ -235,11 +242,12 @@ pub fn settle_store<A: Allocator>(
         code,
         touched: Some(touched),
     };
-    let step = told_step(hart, image, words, succeeds);
-    if tries_by(step.access) && !succeeds {
+    let mut memory = memory_of(image, words);
+    let access = told_step(hart, &mut memory, succeeds);
+    if tries_by(access) && !succeeds {
         return stored_bytes(before, image, words, touched.address);
     }
-    step.memory.word_at(touched.address).bytes
+    memory.word_at(touched.address).bytes
 }
 
 /// The bytes of the touched word after a hart's next step, if that stores, where the hart is told these words.
@@ -254,6 +262,7 @@ fn stored_bytes<A: Allocator>(
         → Some address ≡ word_in (t.plan h c) → result ≡ t.stored h c v }
 {
     let mut hart = hart;
-    let step = told_step(&mut hart, image, words, true);
-    step.memory.word_at(address).bytes
+    let mut memory = memory_of(image, words);
+    told_step(&mut hart, &mut memory, true);
+    memory.word_at(address).bytes
 }

@@ -1,9 +1,11 @@
 //! An image's memory as a hart is told it.
-ghost use Rattle.std.specs.Prelude.{◌≡◌, ℕ, ◌+◌, ◌<◌, ◌≤◌, false, length};
+ghost use Rattle.std.specs.Prelude.{◌≡◌, ℕ, ◌+◌, ◌<◌, ◌≤◌, false, length, IfSome};
+ghost use Rattle.std.specs.Option.{ForSome};
 ghost use Rattle.std.specs.Option.{is_some};
 ghost use Rattle.memory.specs.Memory.{granted, number_at, to_execute, to_load, to_write};
 ghost use Rattle.memory.specs.Image.{image_memory};
 ghost use Rattle.memory.specs.Blocks.{spelled, Puts};
+ghost use Rattle.memory.specs.Instruction.{instruction_at};
 ghost use Rattle.banks_table.specs.Words.{bytes_at};
 ghost use Rattle.told_steps.specs.Told.{has_all, told_memory, with_told};
 
@@ -36,6 +38,18 @@ fn byte_over(word: Option<Word>, address: u64, below: u8) -> u8
         return word.bytes[(address - first) as usize];
     }
     below
+}
+
+/// The bytes of a word, if it is the one at an address.
+#[inline]
+fn bytes_of(word: Option<Word>, address: u32) -> Option<[u8; 4]>
+    ensures { (bytes : ℕ → ℕ) → IfSome result (λ four. four ≡ bytes_at (with_told bytes word) address) }
+{
+    let word = word?;
+    if word.address == address {
+        return Some(word.bytes);
+    }
+    None
 }
 
 /// The four bytes from an address on, where those below a word are given.
@@ -80,6 +94,15 @@ fn spelled(bytes: [u8; 4], offset: usize, count: usize, value: u32) -> [u8; 4]
     bytes
 }
 
+/// What stands at an address as an instruction.
+#[derive(Clone, Copy, Debug)]
+pub struct KnownInstr {
+    /// The address.
+    pub address: u32,
+    /// The instruction, or why there is none.
+    pub found: Result<Instr, FetchFault>,
+}
+
 /// An image's memory with words that are told otherwise, and one word that alone may be written.
 #[derive(Drop)]
 pub struct ToldMemory<'a, A: Allocator> {
@@ -91,6 +114,9 @@ pub struct ToldMemory<'a, A: Allocator> {
     pub touched: Option<Word>,
     /// The word that may be written.
     pub target: Option<Word>,
+    /// An instruction that was looked up before.
+    pub known: Option<KnownInstr>,
+    ghost its_instr: { ForSome known (λ k. k.found ≡ instruction_at (told_memory (image_memory image.now) code touched target) k.address) },
 }
 
 impl<'a, A: Allocator> ToldMemory<'a, A> {
@@ -104,14 +130,27 @@ impl<'a, A: Allocator> ToldMemory<'a, A> {
         byte_over(self.target, address, below)
     }
 
+    /// The four bytes from an address on, below the word that may be written.
+    #[inline]
+    fn bytes_below(&self, address: u32) -> [u8; 4]
+        ensures { result ≡ bytes_at (with_told (with_told (image_memory self.now.image.now).bytes self.now.code) self.now.touched) address }
+    {
+        if let Some(bytes) = bytes_of(self.touched, address) {
+            return bytes;
+        }
+        let below = bytes_at(self.image.segments(), address);
+        let below = bytes_over(self.code, address, below);
+        bytes_over(self.touched, address, below)
+    }
+
     /// The four bytes from an address on.
     fn bytes_from(&self, address: u32) -> [u8; 4]
         ensures { result ≡ bytes_at (told_memory (image_memory self.now.image.now) self.now.code self.now.touched self.now.target).bytes address }
     {
-        let below = bytes_at(self.image.segments(), address);
-        let below = bytes_over(self.code, address, below);
-        let below = bytes_over(self.touched, address, below);
-        bytes_over(self.target, address, below)
+        if let Some(bytes) = bytes_of(self.target, address) {
+            return bytes;
+        }
+        bytes_over(self.target, address, self.bytes_below(address))
     }
 
     /// The word of the four bytes from an address on.
@@ -165,6 +204,32 @@ impl<'a, A: Allocator> ToldMemory<'a, A> {
         is_mapped(self.image.segments(), u64::from(address))
     }
 
+    /// The instruction at an address, or why there is none.
+    pub fn look_up(&self, address: u32) -> KnownInstr
+        ensures address { result.address ≡ address }
+        ensures found { result.found ≡ instruction_at (told_memory (image_memory self.now.image.now) self.now.code self.now.touched self.now.target) address }
+    {
+        let found = self.instruction(address);
+        KnownInstr { address, found }
+    }
+
+    /// Lets a word be written, and keeps the instruction that then stands at an address.
+    pub fn begin(&mut self, target: Option<Word>, known: KnownInstr)
+        requires { known.found ≡ instruction_at (told_memory (image_memory self.old.image.now) self.old.code self.old.touched target) known.address }
+        ensures image { self.new.image.now ≡ self.old.image.now }
+        ensures code { self.new.code ≡ self.old.code }
+        ensures touched { self.new.touched ≡ self.old.touched }
+        ensures target { self.new.target ≡ target }
+    {
+        *self = ToldMemory {
+            image: self.image,
+            code: self.code,
+            touched: self.touched,
+            target,
+            known: Some(known),
+        };
+    }
+
     /// Stores the low bytes of a value, if each of them may be written.
     fn put(&mut self, count: u32, address: u32, value: u32) -> bool
         requires { (0 < count) × (count ≤ 4) }
@@ -182,10 +247,17 @@ impl<'a, A: Allocator> ToldMemory<'a, A> {
             return false;
         }
         let offset = (address - word.address) as usize;
-        self.target = Some(Word {
+        let stored = Word {
             address: word.address,
             bytes: spelled(word.bytes, offset, count as usize, value),
-        });
+        };
+        *self = ToldMemory {
+            image: self.image,
+            code: self.code,
+            touched: self.touched,
+            target: Some(stored),
+            known: None,
+        };
         true
     }
 }
@@ -234,6 +306,11 @@ impl<'a, A: Allocator> Store for ToldMemory<'a, A> {
 
     #[tactic(auto, unfolding(memory::specs::Instruction::instruction_at))]
     fn instruction(&self, address: u32) -> Result<Instr, FetchFault> {
+        if let Some(known) = self.known {
+            if known.address == address {
+                return known.found;
+            }
+        }
         let Some(word) = self.fetch(address) else {
             return Err(FetchFault::Access);
         };

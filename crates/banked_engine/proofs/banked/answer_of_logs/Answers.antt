@@ -2,22 +2,26 @@ use Rattle.std.proofs.Common.{map, ap, ◌∙◌}
 use Rattle.hart_step.specs.Hart.{hart_of}
 use Rattle.histories.specs.Printing.{history_text}
 use Rattle.choice_histories.specs.Plain.{plain_entry}
-use Rattle.banked_engine.proofs.RunLemmas.{are_of_one}
+use Rattle.banked_engine.proofs.RunLemmas.{are_of_one, stamps_rise}
 use Rattle.banked_engine.proofs.AnswerLemmas.{of_run, seen_lines}
 use Rattle.banked_engine.proofs.banked.answer_of_logs.Goals as goal
 
-pub merge-requires : goal.merge-requires
-merge-requires g c =
+pub merge_matched-requires-clause-one : goal.merge_matched-requires-clause-one
+merge_matched-requires-clause-one g c =
     are_of_one c.args.image.now c.args.task.now.inputs.items c.args.task.now.budget c.args.task.now.plan.keys c.args.logs.now c.args.banks.now c.requires c.requires.entry
 
-pub returns-clause-answer : goal.returns-clause-answer
-returns-clause-answer g c =
+pub merge_matched-requires-clause-rising : goal.merge_matched-requires-clause-rising
+merge_matched-requires-clause-rising g c =
+    stamps_rise c.args.image.now c.args.task.now.inputs.items c.args.task.now.budget c.args.task.now.plan.keys c.args.logs.now c.args.banks.now c.requires
+
+pub returns : goal.returns
+returns g c =
     let task = c.args.task.now in
     let choices = c.in_ok-choices.choices.items in
     let harts = map hart_of c.deref-3.result.now in
     let merged = c.in_ok-choices.ensures in
-    of_run c.args.image.now task.inputs.items task.budget task.plan.keys c.args.logs.now c.args.banks.now c.requires choices task.rule harts c.in-Ok-answer_of.answer
-    c.requires.entry merged.matched merged.merged merged.ends
-    (c.in-Ok-answer_of.ensures.history ∙ ap (λ cs. history_text (map plain_entry cs)) c.deref-2.ensures.value)
-    (ap (λ hs. map hart_of hs) c.deref-3.ensures.value ∙ c.in-Ok.ensures)
-    (seen_lines task.rule task.inputs.items c.deref.result.now choices c.deref-2.result.now harts _ c.deref.ensures.value c.deref-2.ensures.value c.in-Ok-answer_of.ensures.lines)
+    of_run c.args.image.now task.inputs.items task.budget task.plan.keys c.args.logs.now c.args.banks.now c.requires choices task.rule harts c.in_ok-answer.answer
+    c.requires.entry c.requires.matched merged.merged merged.ends
+    (c.in_ok-answer.ensures.history ∙ ap (λ cs. history_text (map plain_entry cs)) c.deref-2.ensures.value)
+    (ap (λ hs. map hart_of hs) c.deref-3.ensures.value ∙ c.in_ok-harts.ensures)
+    (seen_lines task.rule task.inputs.items c.deref.result.now choices c.deref-2.result.now harts _ c.deref.ensures.value c.deref-2.ensures.value c.in_ok-answer.ensures.lines)
