@@ -1,221 +1,147 @@
 //! What is wrong with a statement, by the kind of its fault.
 
-use crate::found::Found;
-use crate::names::{FOREIGN, FOREIGN_DIRECTIVES};
+use crate::found::{Among, Found};
+use crate::labels::{Label, is_defined};
+use crate::names::{FOREIGN_DIRECTIVES, FOREIGN_INSTRUCTIONS};
 use crate::operands::{is_register, operand_fault, register_fault};
 use crate::ranges::range_fault;
-use crate::sentences::Words;
-use crate::shape::{SHAPES, Shape, shape_of};
+use crate::sentences::{
+    ALIGNMENT, BRANCH_TOO_FAR, CAPITALS, COMMENT, FOREIGN, JUMP_TOO_FAR, LABEL_WITHOUT_COLON,
+    NEAR_DIRECTIVE, NEAR_INSTRUCTION, NEAR_LABEL, NO_BYTES_IN_BSS, NO_DIRECTIVE, NO_HEAD,
+    NO_INSTRUCTION, NONE_AHEAD, NONE_BEFORE, TOO_LARGE, UNALIGNED, UNDEFINED,
+};
+use crate::shape::{Row, Shape, rows_for, shape_of};
 use crate::statement::Word;
-use advice::{nearest, told_of};
+use advice::{Form, Sentence, told_of};
 use asm_read::FaultKind;
 use asm_text::Kind;
-use std::alloc::{AllocError, Allocator};
-
-// A name of fewer edits than these may be the one that is meant.
-const EDITS: usize = 3;
-
-/// A label of a source.
-#[derive(Clone, Copy)]
-pub(crate) struct Label<'a> {
-    pub(crate) name: &'a str,
-    pub(crate) path: &'a str,
-    /// Its line, from 1.
-    pub(crate) line: usize,
-}
-
-// The names of a row that are directives, or that are none.
-fn push_heads<'a, A: Allocator>(
-    names: &mut Vec<&'a str, A>,
-    row: &[&'a str],
-    are_directives: bool,
-) -> Result<(), AllocError> {
-    'names: for name in row {
-        if name.starts_with(".") == are_directives {
-            names.push(*name)?;
-        }
-    }
-    Ok(())
-}
-
-// The nearest name of an instruction or of a directive among rows.
-fn nearest_in<'a, A: Allocator + Copy>(
-    alloc: A,
-    rows: &[(Shape, &[&'a str])],
-    name: &str,
-) -> Result<Option<&'a str>, AllocError> {
-    let mut names = Vec::new(alloc);
-    'rows: for (_, row) in rows {
-        push_heads(&mut names, row, name.starts_with("."))?;
-    }
-    nearest(alloc, &names, name, EDITS)
-}
-
-// The nearest name of an instruction or of a directive.
-fn nearest_head<A: Allocator + Copy>(
-    alloc: A,
-    name: &str,
-) -> Result<Option<&'static str>, AllocError> {
-    nearest_in(alloc, &SHAPES, name)
-}
 
 // Whether some name of rows is this one but for small letters.
-fn is_in_capitals(rows: &[(Shape, &[&str])], name: &str) -> bool {
-    'rows: for (_, row) in rows {
-        if row.iter().any(|known| name.eq_ignore_ascii_case(*known)) {
+fn is_in_capitals(rows: &[Row], name: &str) -> bool {
+    'rows: for row in rows {
+        if row.names.iter().any(|known| name.eq_ignore_ascii_case(*known)) {
             return true;
         }
     }
     false
 }
 
-// What is said of others' instructions.
-fn foreign_instruction(name: &str) -> Option<&'static str> {
-    told_of(&FOREIGN, name)
-}
-
-// What is said of others' directives.
-fn foreign_directive(name: &str) -> Option<&'static str> {
-    told_of(&FOREIGN_DIRECTIVES, name)
+// What is said of others' instructions and directives.
+fn foreign(name: &str) -> Option<&'static str> {
+    if name.starts_with(".") {
+        told_of(&FOREIGN_DIRECTIVES, name)
+    } else {
+        told_of(&FOREIGN_INSTRUCTIONS, name)
+    }
 }
 
 // What is wrong with the name that a statement begins with.
-fn head_fault<'a, A: Allocator + Copy>(
-    alloc: A,
-    statement: &[Word<'a>],
-) -> Result<Option<Found<'a>>, AllocError> {
-    let [head, rest @ ..] = statement else {
-        return Ok(None);
-    };
+fn head_fault<'a>(head: &Word<'a>, rest: &[Word<'a>]) -> Option<Found<'a>> {
+    let name = head.text;
     if !head.is(Kind::Name) {
         let is_comment = head.is(Kind::Other(b'/'));
-        let words = if is_comment {
-            Words::Comment
-        } else {
-            Words::NoHead(head.text)
-        };
-        return Ok(Some(Found::at(head, words)));
+        return Some(Found::on(head, if is_comment { COMMENT } else { NO_HEAD }));
     }
-    if shape_of(head.text).is_some() {
-        return Ok(None);
+    if shape_of(name).is_some() {
+        return None;
     }
-    if let Some(what) = foreign_instruction(head.text) {
-        return Ok(Some(Found::at(head, Words::Foreign(head.text, what))));
+    if let Some(what) = foreign(name) {
+        return Some(Found::at(head, Sentence::of_two(FOREIGN, name, what)));
     }
-    if is_in_capitals(&SHAPES, head.text) {
-        return Ok(Some(Found::at(head, Words::Capitals(head.text))));
+    if is_in_capitals(rows_for(name), name) {
+        return Some(Found::on(head, CAPITALS));
     }
-    let near = nearest_head(alloc, head.text)?;
-    if rest.is_empty() && near.is_none() {
-        return Ok(Some(Found::at(head, Words::LabelWithoutColon(head.text))));
-    }
-    Ok(Some(Found::at(head, Words::NoInstruction(head.text, near))))
+    let form = if rest.is_empty() {
+        LABEL_WITHOUT_COLON
+    } else {
+        NO_INSTRUCTION
+    };
+    Some(Found::none_of(Among::Heads, head, form, NEAR_INSTRUCTION))
 }
 
 // What is wrong with a directive, or with what stands in `.bss`.
-fn directive_fault<'a, A: Allocator + Copy>(
-    alloc: A,
-    statement: &[Word<'a>],
-) -> Result<Option<Found<'a>>, AllocError> {
-    let [head, ..] = statement else {
-        return Ok(None);
-    };
-    if shape_of(head.text).is_some() {
-        return Ok(Some(Found::at(head, Words::NoBytesInBss)));
+fn directive_fault<'a>(head: &Word<'a>) -> Found<'a> {
+    let name = head.text;
+    if shape_of(name).is_some() {
+        return Found::on(head, NO_BYTES_IN_BSS);
     }
-    if let Some(what) = foreign_directive(head.text) {
-        return Ok(Some(Found::at(head, Words::Foreign(head.text, what))));
+    match foreign(name) {
+        Some(what) => Found::at(head, Sentence::of_two(FOREIGN, name, what)),
+        None => Found::none_of(Among::Heads, head, NO_DIRECTIVE, NEAR_DIRECTIVE),
     }
-    let near = nearest_head(alloc, head.text)?;
-    Ok(Some(Found::at(head, Words::NoDirective(head.text, near))))
 }
 
-// The first name or local label of a statement that is not defined.
-fn undefined<'a, A: Allocator + Copy>(
-    alloc: A,
-    statement: &[Word<'a>],
-    labels: &[Label<'a>],
-) -> Result<Option<Found<'a>>, AllocError> {
-    let [_, operands @ ..] = statement else {
-        return Ok(None);
-    };
+// The first name or local label of operands that is not defined.
+fn undefined<'a>(operands: &[Word<'a>], labels: &[Label<'a>]) -> Option<Found<'a>> {
     let mut is_function = false;
     'words: for word in operands {
         let is_name = word.is(Kind::Name) && !is_function && !is_register(word.text);
         is_function = word.is(Kind::Percent);
-        if is_name && !labels.iter().any(|label| label.name == word.text) {
-            let near = nearest_label(alloc, word.text, labels)?;
-            return Ok(Some(Found::at(word, Words::Undefined(word.text, near))));
+        if is_name && !is_defined(labels, word.text) {
+            return Some(Found::none_of(Among::Labels, word, UNDEFINED, NEAR_LABEL));
         }
     }
-    Ok(local_fault(operands))
+    local_fault(operands)
+}
+
+// What is wrong with a word that refers to a local label.
+fn local_word<'a>(word: &Word<'a>) -> Option<Found<'a>> {
+    let (form, end) = match word.kind {
+        Kind::Ahead => (NONE_AHEAD, "f"),
+        Kind::Back => (NONE_BEFORE, "b"),
+        _ => return None,
+    };
+    let digits = word.text.strip_suffix(end).unwrap_or(word.text);
+    Some(Found::at(word, Sentence::of(form, digits)))
 }
 
 // The first local label that is referred to.
 fn local_fault<'a>(operands: &[Word<'a>]) -> Option<Found<'a>> {
     'words: for word in operands {
-        if word.is(Kind::Ahead) {
-            let digits = word.text.strip_suffix("f").unwrap_or(word.text);
-            return Some(Found::at(word, Words::NoneAhead(digits)));
-        }
-        if word.is(Kind::Back) {
-            let digits = word.text.strip_suffix("b").unwrap_or(word.text);
-            return Some(Found::at(word, Words::NoneBefore(digits)));
+        let found = local_word(word);
+        if found.is_some() {
+            return found;
         }
     }
     None
 }
 
-// The label whose name is nearest.
-fn nearest_label<'a, A: Allocator + Copy>(
-    alloc: A,
-    name: &str,
-    labels: &[Label<'a>],
-) -> Result<Option<&'a str>, AllocError> {
-    let mut names = Vec::new(alloc);
-    'labels: for label in labels {
-        names.push(label.name)?;
+// What is said of an instruction that goes too far, where one can.
+fn too_far(name: &str) -> Option<Form> {
+    match shape_of(name)? {
+        Shape::Branch | Shape::Zero => Some(BRANCH_TOO_FAR),
+        Shape::Jump | Shape::Target => Some(JUMP_TOO_FAR),
+        _ => None,
     }
-    nearest(alloc, &names, name, EDITS)
 }
 
-// What is wrong with the place of a statement.
-fn place_fault<'a>(kind: FaultKind, statement: &[Word<'a>]) -> Option<Found<'a>> {
-    let [head, ..] = statement else {
-        return None;
-    };
-    let words = match kind {
-        FaultKind::BranchRange => match shape_of(head.text)? {
-            Shape::Branch | Shape::Zero => Words::BranchTooFar(head.text),
-            Shape::Jump | Shape::Target => Words::JumpTooFar(head.text),
-            _ => return None,
-        },
-        FaultKind::Align => match head.text {
-            ".align" | ".p2align" => Words::Alignment,
-            _ => Words::Unaligned,
-        },
-        _ => Words::TooLarge,
-    };
-    Some(Found::at(head, words))
+// What is said of an address that is no multiple of what it should be.
+fn align_form(name: &str) -> Form {
+    match name {
+        ".align" | ".p2align" => ALIGNMENT,
+        _ => UNALIGNED,
+    }
 }
 
 /// What is wrong with a statement without its labels, where its fault is of this kind.
-pub(crate) fn statement_fault<'a, A: Allocator + Copy>(
-    alloc: A,
+pub(crate) fn statement_fault<'a>(
     kind: FaultKind,
     statement: &[Word<'a>],
     labels: &[Label<'a>],
-) -> Result<Option<Found<'a>>, AllocError> {
+) -> Option<Found<'a>> {
+    let [head, operands @ ..] = statement else {
+        return None;
+    };
     match kind {
-        FaultKind::Token | FaultKind::Twice => Ok(None),
-        FaultKind::Mnemonic => head_fault(alloc, statement),
-        FaultKind::Directive => directive_fault(alloc, statement),
-        FaultKind::Operands => Ok(operand_fault(statement)),
-        FaultKind::Register => Ok(register_fault(statement)),
-        FaultKind::Range => Ok(range_fault(statement)),
-        FaultKind::Undefined => undefined(alloc, statement, labels),
-        FaultKind::BranchRange | FaultKind::Align | FaultKind::TooLarge => {
-            Ok(place_fault(kind, statement))
-        }
+        FaultKind::Token | FaultKind::Twice => None,
+        FaultKind::Mnemonic => head_fault(head, operands),
+        FaultKind::Directive => Some(directive_fault(head)),
+        FaultKind::Operands => operand_fault(head, operands),
+        FaultKind::Register => register_fault(operands),
+        FaultKind::Range => range_fault(head, operands),
+        FaultKind::Undefined => undefined(operands, labels),
+        FaultKind::BranchRange => Some(Found::on(head, too_far(head.text)?)),
+        FaultKind::Align => Some(Found::on(head, align_form(head.text))),
+        FaultKind::TooLarge => Some(Found::on(head, TOO_LARGE)),
     }
 }

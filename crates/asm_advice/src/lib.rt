@@ -3,11 +3,11 @@
 #![tactic(auto)]
 
 pub use advise::{SourceText, asm_advice};
-pub use sentences::Words;
 
 mod advise;
 mod diagnose;
 mod found;
+mod labels;
 mod names;
 mod operands;
 mod ranges;

@@ -10,7 +10,7 @@ pub(crate) const REGISTERS: [&str; 65] = [
 ];
 
 /// Instructions that are none of RV32I and A, or that others name otherwise, with what they are or what to write.
-pub(crate) const FOREIGN: [(&[&str], &str); 9] = [
+pub(crate) const FOREIGN_INSTRUCTIONS: [(&[&str], &str); 9] = [
     (
         &[
             "mul", "mulh", "mulhu", "mulhsu", "div", "divu", "rem", "remu",

@@ -2,9 +2,13 @@
 
 use crate::found::Found;
 use crate::names::REGISTERS;
-use crate::sentences::Words;
-use crate::shape::{Operand, Shape, shape_of};
+use crate::sentences::{
+    CHARACTER, COMMENT, COUNT, LOAD_BY_NAME, NO_COMMA, NO_OFFSET, NO_REGISTER, REGISTER_BY,
+    STORE_BY_NAME, STORE_OF_T0_BY_NAME, STRINGS, TAKES, WANTED,
+};
+use crate::shape::{Operand, Row, Shape, row_of};
 use crate::statement::Word;
+use advice::{Form, Sentence, Value};
 use asm_text::Kind;
 
 /// Whether a name is a register's.
@@ -19,10 +23,7 @@ fn has_name(names: &[&str], name: &str) -> bool {
 
 // Whether an operand may end with a word.
 fn ends_operand(word: &Word<'_>) -> bool {
-    matches!(
-        word.kind,
-        Kind::Name | Kind::Number(_) | Kind::Back | Kind::Ahead | Kind::Text | Kind::Close
-    )
+    word.is(Kind::Close) || begins_operand(word)
 }
 
 // Whether an operand may begin with a word.
@@ -38,10 +39,10 @@ fn foreign_sign<'a>(operands: &[Word<'a>]) -> Option<Found<'a>> {
     let mut after_slash = false;
     'words: for word in operands {
         if word.is(Kind::Other(b'\'')) {
-            return Some(Found::at(word, Words::Character));
+            return Some(Found::on(word, CHARACTER));
         }
         if after_slash && (word.is(Kind::Other(b'/')) || word.is(Kind::Other(b'*'))) {
-            return Some(Found::at(word, Words::Comment));
+            return Some(Found::on(word, COMMENT));
         }
         after_slash = word.is(Kind::Other(b'/'));
     }
@@ -53,7 +54,7 @@ fn without_comma<'a>(operands: &[Word<'a>]) -> Option<Found<'a>> {
     let mut is_behind = false;
     'words: for word in operands {
         if is_behind && begins_operand(word) {
-            return Some(Found::at(word, Words::NoComma(word.text)));
+            return Some(Found::on(word, NO_COMMA));
         }
         is_behind = ends_operand(word);
     }
@@ -75,90 +76,91 @@ fn count_of(operands: &[Word<'_>]) -> usize {
 }
 
 // Whether an instruction takes so many operands.
-fn takes(shape: Shape, count: usize) -> bool {
-    match shape {
+fn takes(row: &Row, count: usize) -> bool {
+    match row.shape {
         Shape::Directive => true,
         Shape::Fence => count == 0 || count == 2,
         Shape::Jump => count == 1 || count == 2,
         Shape::JumpRegister => 1 <= count && count <= 3,
-        _ => count == shape.operands().len(),
+        _ => count == row.operands.len(),
+    }
+}
+
+// Another number of operands than an instruction takes.
+fn count_fault<'a>(name: &Word<'a>, row: &Row, given: usize) -> Option<Found<'a>> {
+    if takes(row, given) {
+        return None;
+    }
+    let sentence = Sentence::of_three(COUNT, name.text, row.takes, Value::Count(given));
+    Some(Found::at(name, sentence))
+}
+
+// What to write in place of a load or a store of this by a name.
+fn by_name_form(name: &str, value: &str) -> Form {
+    if name.starts_with("l") {
+        LOAD_BY_NAME
+    } else if value == "t0" {
+        STORE_OF_T0_BY_NAME
+    } else {
+        STORE_BY_NAME
     }
 }
 
 // Whether a name stands where a load or a store takes an address, and not where a register is meant.
-fn by_name<'a>(name: &Word<'a>, operands: &[Word<'a>]) -> Option<Found<'a>> {
+fn by_name<'a>(name: &Word<'a>, shape: Shape, operands: &[Word<'a>]) -> Option<Found<'a>> {
     let [value, comma, symbol] = operands else {
         return None;
     };
-    if !comma.is(Kind::Comma) || !symbol.is(Kind::Name) || is_register(symbol.text) {
+    let is_by_name = shape == Shape::Memory && comma.is(Kind::Comma) && symbol.is(Kind::Name);
+    if !is_by_name || is_register(symbol.text) {
         return None;
     }
-    let address = if name.text.starts_with("l") {
-        value.text
-    } else if value.text == "t0" {
-        "t1"
-    } else {
-        "t0"
-    };
-    Some(Found::at(
-        symbol,
-        Words::ByName {
-            instruction: name.text,
-            value: value.text,
-            address,
-            name: symbol.text,
-        },
-    ))
+    let form = by_name_form(name.text, value.text);
+    let sentence = Sentence::of_three(form, name.text, value.text, Value::Text(symbol.text));
+    Some(Found::at(symbol, sentence))
 }
 
 // Whether an operand has the form that is wanted.
-fn fits(wanted: Operand, part: &[Word<'_>]) -> bool {
-    let Some(first) = part.first() else {
-        return false;
-    };
+fn fits(wanted: Operand, first: &Word<'_>, len: usize) -> bool {
     match wanted {
-        Operand::Register => part.len() == 1 && first.is(Kind::Name),
+        Operand::Register => len == 1 && first.is(Kind::Name),
         Operand::Immediate | Operand::Amount | Operand::Upper | Operand::Number => !first.is(
             Kind::Name,
         ),
         Operand::Target | Operand::Symbol => begins_operand(first),
-        Operand::Address => part.len() > 1,
+        Operand::Address => len > 1,
         Operand::Place => first.is(Kind::Open),
     }
 }
 
-// What is wrong with one operand.
+// What is wrong with one operand of an instruction that takes these.
 fn part_fault<'a>(
     name: &Word<'a>,
-    shape: Shape,
+    takes: &'static str,
     wanted: Operand,
     part: &[Word<'a>],
 ) -> Option<Found<'a>> {
-    if fits(wanted, part) {
+    let first = part.first().unwrap_or(name);
+    if !part.is_empty() && fits(wanted, first, part.len()) {
         return None;
     }
-    let first = match part.first() {
-        Some(first) => *first,
-        None => *name,
-    };
     if wanted == Operand::Place && part.len() > 1 {
-        return Some(Found::at(&first, Words::NoOffset(name.text)));
+        return Some(Found::at(first, Sentence::of(NO_OFFSET, name.text)));
     }
-    Some(Found::at(
-        &first,
-        Words::Wanted {
-            instruction: name.text,
-            shape,
-            wanted,
-        },
-    ))
+    let wanted = Value::Text(wanted.name());
+    Some(Found::at(first, Sentence::of_three(WANTED, name.text, takes, wanted)))
 }
 
-// The first operand of another form.
-fn misfit<'a>(name: &Word<'a>, shape: Shape, operands: &[Word<'a>]) -> Option<Found<'a>> {
+// The first operand of another form than is wanted.
+fn misfit<'a>(
+    name: &Word<'a>,
+    takes: &'static str,
+    wanted: &[Operand],
+    operands: &[Word<'a>],
+) -> Option<Found<'a>> {
     let parts = operands.split(|word| word.kind == Kind::Comma);
-    'parts: for (part, wanted) in parts.zip(shape.operands().iter()) {
-        let found = part_fault(name, shape, *wanted, part);
+    'parts: for (part, wanted) in parts.zip(wanted.iter()) {
+        let found = part_fault(name, takes, *wanted, part);
         if found.is_some() {
             return found;
         }
@@ -166,65 +168,42 @@ fn misfit<'a>(name: &Word<'a>, shape: Shape, operands: &[Word<'a>]) -> Option<Fo
     None
 }
 
+// The first operand of another form, where they are as many as the instruction takes: `jal` and `jalr` may leave the first out.
+fn form_fault<'a>(
+    name: &Word<'a>,
+    row: &Row,
+    given: usize,
+    operands: &[Word<'a>],
+) -> Option<Found<'a>> {
+    if given == row.operands.len() {
+        misfit(name, row.takes, row.operands, operands)
+    } else {
+        None
+    }
+}
+
+// What is said where nothing else is found: what the name takes.
+fn any_fault<'a>(name: &Word<'a>, row: &Row) -> Found<'a> {
+    match name.text {
+        ".ascii" | ".asciz" | ".string" => Found::on(name, STRINGS),
+        _ => Found::at(name, Sentence::of_two(TAKES, name.text, row.takes)),
+    }
+}
+
 /// What is wrong with the operands of a statement that are not as many, or not of the forms, that its name takes.
-pub(crate) fn operand_fault<'a>(statement: &[Word<'a>]) -> Option<Found<'a>> {
-    let [name, operands @ ..] = statement else {
-        return None;
-    };
-    let shape = shape_of(name.text)?;
-    let sign = foreign_sign(operands);
-    if sign.is_some() {
-        return sign;
-    }
-    let gap = without_comma(operands);
-    if gap.is_some() {
-        return gap;
-    }
+pub(crate) fn operand_fault<'a>(name: &Word<'a>, operands: &[Word<'a>]) -> Option<Found<'a>> {
+    let row = row_of(name.text)?;
     let given = count_of(operands);
-    if !takes(shape, given) {
-        let instruction = name.text;
-        return Some(Found::at(
-            name,
-            Words::Count {
-                instruction,
-                shape,
-                given,
-            },
-        ));
-    }
-    form_fault(name, shape, operands)
-}
-
-// What is wrong with operands that are as many as they should be.
-fn form_fault<'a>(name: &Word<'a>, shape: Shape, operands: &[Word<'a>]) -> Option<Found<'a>> {
-    if shape == Shape::Memory {
-        let found = by_name(name, operands);
-        if found.is_some() {
-            return found;
-        }
-    }
-    if given_as_wanted(shape, operands) {
-        let found = misfit(name, shape, operands);
-        if found.is_some() {
-            return found;
-        }
-    }
-    if matches!(name.text, ".ascii" | ".asciz" | ".string") {
-        return Some(Found::at(name, Words::Strings(name.text)));
-    }
-    Some(Found::at(name, Words::Takes(name.text, shape)))
-}
-
-// Whether each operand stands at the place of its form: `jal` and `jalr` leave the first out.
-fn given_as_wanted(shape: Shape, operands: &[Word<'_>]) -> bool {
-    count_of(operands) == shape.operands().len()
+    foreign_sign(operands)
+        .or(without_comma(operands))
+        .or(count_fault(name, row, given))
+        .or(by_name(name, row.shape, operands))
+        .or(form_fault(name, row, given, operands))
+        .or(Some(any_fault(name, row)))
 }
 
 /// The first name in a register's place that is none.
-pub(crate) fn register_fault<'a>(statement: &[Word<'a>]) -> Option<Found<'a>> {
-    let [_, operands @ ..] = statement else {
-        return None;
-    };
+pub(crate) fn register_fault<'a>(operands: &[Word<'a>]) -> Option<Found<'a>> {
     // `%lo`, its parenthesis and its name are no registers.
     let mut passed = 0u8;
     'words: for word in operands {
@@ -237,7 +216,7 @@ pub(crate) fn register_fault<'a>(statement: &[Word<'a>]) -> Option<Found<'a>> {
             continue;
         }
         if word.is(Kind::Name) && !is_register(word.text) {
-            return Some(Found::at(word, register_words(word.text)));
+            return Some(Found::at(word, register_sentence(word.text)));
         }
     }
     None
@@ -254,15 +233,10 @@ fn register_like<'a>(registers: &[&'a str], name: &str) -> Option<&'a str> {
     None
 }
 
-// The register that a name is but for capitals or a `$`.
-fn similar_register(name: &str) -> Option<&'static str> {
-    register_like(&REGISTERS, name)
-}
-
 // What to write for a name that is no register.
-fn register_words<'a>(name: &'a str) -> Words<'a> {
-    match similar_register(name) {
-        Some(register) => Words::RegisterBy(name, register),
-        None => Words::NoRegister(name),
+fn register_sentence<'a>(name: &'a str) -> Sentence<'a> {
+    match register_like(&REGISTERS, name) {
+        Some(register) => Sentence::of_two(REGISTER_BY, name, register),
+        None => Sentence::of(NO_REGISTER, name),
     }
 }

@@ -1,35 +1,22 @@
 //! Numbers out of their ranges.
 
 use crate::found::Found;
-use crate::sentences::Words;
-use crate::shape::{Shape, shape_of};
+use crate::sentences::{OUT_OF_RANGE, TOO_LARGE_IMMEDIATE};
+use crate::shape::{Range, Shape, row_of};
 use crate::statement::Word;
+use advice::{Sentence, Value};
 use asm_text::Kind;
 
-// From where to where the numbers of an instruction or a directive go.
-fn range_of(name: &str) -> Option<(i64, i64)> {
-    match name {
-        ".byte" => return Some((-128, 255)),
-        ".half" => return Some((-32768, 65535)),
-        ".align" | ".p2align" => return Some((0, 12)),
-        ".zero" | ".space" | ".skip" => return Some((0, 16777216)),
-        _ => {}
-    }
-    match shape_of(name)? {
-        Shape::Upper => Some((0, 1048575)),
-        Shape::Shift => Some((0, 31)),
-        Shape::Immediate | Shape::Memory | Shape::JumpRegister => Some((-2048, 2047)),
-        Shape::Load | Shape::Directive => Some((-2147483648, 4294967295)),
-        _ => None,
-    }
+/// The first number of a statement that is out of its range.
+pub(crate) fn range_fault<'a>(name: &Word<'a>, operands: &[Word<'a>]) -> Option<Found<'a>> {
+    let row = row_of(name.text)?;
+    let range = row.range?;
+    let outside = first_outside(operands, range)?;
+    Some(Found::at(&outside, range_sentence(name.text, row.shape, range)))
 }
 
-/// The first number of a statement that is out of its range.
-pub(crate) fn range_fault<'a>(statement: &[Word<'a>]) -> Option<Found<'a>> {
-    let [name, operands @ ..] = statement else {
-        return None;
-    };
-    let (from, to) = range_of(name.text)?;
+// The first number that is out of a range.
+fn first_outside<'a>(operands: &[Word<'a>], range: Range) -> Option<Word<'a>> {
     let mut negative = false;
     'words: for word in operands {
         if let Kind::Number(number) = word.kind {
@@ -38,8 +25,8 @@ pub(crate) fn range_fault<'a>(statement: &[Word<'a>]) -> Option<Found<'a>> {
             } else {
                 i64::from(number)
             };
-            if value < from || to < value {
-                return Some(Found::at(word, range_words(name.text, from, to)));
+            if value < range.from || range.to < value {
+                return Some(*word);
             }
         }
         negative = word.is(Kind::Minus);
@@ -48,13 +35,16 @@ pub(crate) fn range_fault<'a>(statement: &[Word<'a>]) -> Option<Found<'a>> {
 }
 
 // What to say of a number out of a range.
-fn range_words<'a>(instruction: &'a str, from: i64, to: i64) -> Words<'a> {
-    match shape_of(instruction) {
-        Some(Shape::Immediate) | Some(Shape::Memory) => Words::TooLargeImmediate(instruction),
-        _ => Words::OutOfRange {
-            instruction,
-            from,
-            to,
+fn range_sentence<'a>(instruction: &'a str, shape: Shape, range: Range) -> Sentence<'a> {
+    match shape {
+        Shape::Immediate | Shape::Memory => Sentence::of(TOO_LARGE_IMMEDIATE, instruction),
+        _ => Sentence {
+            form: OUT_OF_RANGE,
+            values: [
+                Value::Text(instruction),
+                Value::Number(range.from),
+                Value::Number(range.to),
+            ],
         },
     }
 }

@@ -2,7 +2,7 @@
 
 /// What an operand is.
 #[derive(Clone, Copy, PartialEq, Eq)]
-pub enum Operand {
+pub(crate) enum Operand {
     Register,
     Immediate,
     Amount,
@@ -21,7 +21,7 @@ pub enum Operand {
 
 impl Operand {
     /// How documents write it.
-    pub fn name(self) -> &'static str {
+    pub(crate) fn name(self) -> &'static str {
         match self {
             Operand::Register => "a register",
             Operand::Immediate => "a number from -2048 to 2047",
@@ -38,7 +38,7 @@ impl Operand {
 
 /// The operands of instructions that are written alike.
 #[derive(Clone, Copy, PartialEq, Eq)]
-pub enum Shape {
+pub(crate) enum Shape {
     Upper,
     Jump,
     JumpRegister,
@@ -61,157 +61,292 @@ pub enum Shape {
     Directive,
 }
 
-impl Shape {
-    /// The operands as documents write them.
-    pub fn text(self) -> &'static str {
-        match self {
-            Shape::Upper => "rd, number",
-            Shape::Jump => "rd, label",
-            Shape::JumpRegister => "rd, imm(rs)",
-            Shape::Branch => "rs1, rs2, label",
-            Shape::Memory => "register, imm(rs)",
-            Shape::Immediate => "rd, rs, number",
-            Shape::Shift => "rd, rs, amount",
-            Shape::Registers => "rd, rs1, rs2",
-            Shape::Fence => "nothing, or two of the sets of iorw, as rw, w",
-            Shape::Nothing => "nothing",
-            Shape::Reserved => "rd, (rs)",
-            Shape::Atomic => "rd, rs2, (rs1)",
-            Shape::Two => "rd, rs",
-            Shape::Zero => "rs, label",
-            Shape::Target => "label",
-            Shape::One => "rs",
-            Shape::Load => "rd, number",
-            Shape::Address => "rd, name",
-            Shape::Call => "name",
-            Shape::Directive => "values with commas between",
-        }
-    }
-
-    /// The operands in order; none of fences and directives, whose number is not fixed.
-    pub(crate) fn operands(self) -> &'static [Operand] {
-        match self {
-            Shape::Upper => &[Operand::Register, Operand::Upper],
-            Shape::Jump => &[Operand::Register, Operand::Target],
-            Shape::JumpRegister | Shape::Memory => &[Operand::Register, Operand::Address],
-            Shape::Branch => &[Operand::Register, Operand::Register, Operand::Target],
-            Shape::Immediate => &[Operand::Register, Operand::Register, Operand::Immediate],
-            Shape::Shift => &[Operand::Register, Operand::Register, Operand::Amount],
-            Shape::Registers => &[Operand::Register, Operand::Register, Operand::Register],
-            Shape::Fence | Shape::Nothing | Shape::Directive => &[],
-            Shape::Reserved => &[Operand::Register, Operand::Place],
-            Shape::Atomic => &[Operand::Register, Operand::Register, Operand::Place],
-            Shape::Two => &[Operand::Register, Operand::Register],
-            Shape::Zero => &[Operand::Register, Operand::Target],
-            Shape::Target => &[Operand::Target],
-            Shape::One => &[Operand::Register],
-            Shape::Load => &[Operand::Register, Operand::Number],
-            Shape::Address => &[Operand::Register, Operand::Symbol],
-            Shape::Call => &[Operand::Symbol],
-        }
-    }
+/// From where to where the numbers of instructions or directives go.
+#[derive(Clone, Copy)]
+pub(crate) struct Range {
+    pub(crate) from: i64,
+    pub(crate) to: i64,
 }
+
+// The numbers of 32 bits, with a sign or without.
+const WORDS: Option<Range> = Some(Range {
+    from: -2147483648,
+    to: 4294967295,
+});
+
+// The numbers of 12 bits with a sign.
+const IMMEDIATES: Option<Range> = Some(Range {
+    from: -2048,
+    to: 2047,
+});
+
+/// Instructions or directives that are written alike.
+#[derive(Clone, Copy)]
+pub(crate) struct Row {
+    pub(crate) shape: Shape,
+    pub(crate) names: &'static [&'static str],
+    /// Their operands as documents write them.
+    pub(crate) takes: &'static str,
+    /// Their operands in order; none of fences and directives, whose number is not fixed.
+    pub(crate) operands: &'static [Operand],
+    /// The range of their numbers; none of those that take none, and of labels.
+    pub(crate) range: Option<Range>,
+}
+
+// What an atomic instruction's name may end with.
+const SUFFIXES: [&str; 3] = [".aqrl", ".aq", ".rl"];
 
 // A suffix of an atomic instruction's name is left off.
 fn plain_name(name: &str) -> &str {
-    if let Some(front) = name.strip_suffix(".aqrl") {
-        return front;
+    'suffixes: for suffix in SUFFIXES {
+        if let Some(front) = name.strip_suffix(suffix) {
+            return front;
+        }
     }
-    if let Some(front) = name.strip_suffix(".aq") {
-        return front;
-    }
-    name.strip_suffix(".rl").unwrap_or(name)
+    name
 }
 
-// The operands of the first row with a name.
-fn shape_in(rows: &[(Shape, &[&str])], name: &str) -> Option<Shape> {
-    'rows: for (shape, names) in rows {
-        if names.contains(&name) {
-            return Some(*shape);
+// The first row with a name.
+fn row_in<'r>(rows: &'r [Row], name: &str) -> Option<&'r Row> {
+    'rows: for row in rows {
+        if row.names.contains(&name) {
+            return Some(row);
         }
     }
     None
 }
 
-/// The operands of an instruction, or of a directive that is known; none of another name.
-pub(crate) fn shape_of(name: &str) -> Option<Shape> {
-    shape_in(&SHAPES, plain_name(name))
+/// The rows of directives for a name with a point in front, and those of instructions for others.
+pub(crate) fn rows_for(name: &str) -> &'static [Row] {
+    if name.starts_with(".") {
+        &DIRECTIVES
+    } else {
+        &INSTRUCTIONS
+    }
 }
 
-/// The names of instructions by their operands.
-pub(crate) const SHAPES: [(Shape, &[&str]); 20] = [
-    (Shape::Upper, &["lui", "auipc"]),
-    (Shape::Jump, &["jal"]),
-    (Shape::JumpRegister, &["jalr"]),
-    (
-        Shape::Branch,
-        &[
-            "beq", "bne", "blt", "bge", "bltu", "bgeu", "bgt", "ble", "bgtu", "bleu",
-        ],
-    ),
-    (
-        Shape::Memory,
-        &["lb", "lh", "lw", "lbu", "lhu", "sb", "sh", "sw"],
-    ),
-    (
-        Shape::Immediate,
-        &["addi", "slti", "sltiu", "xori", "ori", "andi"],
-    ),
-    (Shape::Shift, &["slli", "srli", "srai"]),
-    (
-        Shape::Registers,
-        &[
-            "add", "sub", "sll", "slt", "sltu", "xor", "srl", "sra", "or", "and",
-        ],
-    ),
-    (Shape::Fence, &["fence"]),
-    (
-        Shape::Nothing,
-        &[
-            "nop",
-            "ret",
-            "fence.tso",
-            "ecall",
-            "ebreak",
-            ".text",
-            ".data",
-            ".bss",
-        ],
-    ),
-    (Shape::Reserved, &["lr.w"]),
-    (
-        Shape::Atomic,
-        &[
-            "sc.w",
-            "amoswap.w",
-            "amoadd.w",
-            "amoxor.w",
-            "amoand.w",
-            "amoor.w",
-            "amomin.w",
-            "amomax.w",
-            "amominu.w",
-            "amomaxu.w",
-        ],
-    ),
-    (
-        Shape::Two,
-        &["mv", "not", "neg", "seqz", "snez", "sltz", "sgtz"],
-    ),
-    (
-        Shape::Zero,
-        &["beqz", "bnez", "bgez", "bltz", "blez", "bgtz"],
-    ),
-    (Shape::Target, &["j"]),
-    (Shape::One, &["jr"]),
-    (Shape::Load, &["li"]),
-    (Shape::Address, &["la"]),
-    (Shape::Call, &["call", "tail"]),
-    (
-        Shape::Directive,
-        &[
-            ".word", ".half", ".byte", ".ascii", ".asciz", ".string", ".zero", ".space", ".skip",
-            ".align", ".p2align", ".globl", ".global", ".section",
-        ],
-    ),
+/// The row of an instruction, or of a directive that is known; none of another name.
+pub(crate) fn row_of(name: &str) -> Option<&'static Row> {
+    row_in(rows_for(name), plain_name(name))
+}
+
+/// The shape of an instruction or of a directive; none of another name.
+pub(crate) fn shape_of(name: &str) -> Option<Shape> {
+    let row = row_of(name)?;
+    Some(row.shape)
+}
+
+// The instructions.
+const INSTRUCTIONS: [Row; 19] = [
+    Row {
+        shape: Shape::Upper,
+        names: &["lui", "auipc"],
+        takes: "rd, number",
+        operands: &[Operand::Register, Operand::Upper],
+        range: Some(Range {
+            from: 0,
+            to: 1048575,
+        }),
+    },
+    Row {
+        shape: Shape::Jump,
+        names: &["jal"],
+        takes: "rd, label",
+        operands: &[Operand::Register, Operand::Target],
+        range: None,
+    },
+    Row {
+        shape: Shape::JumpRegister,
+        names: &["jalr"],
+        takes: "rd, imm(rs)",
+        operands: &[Operand::Register, Operand::Address],
+        range: IMMEDIATES,
+    },
+    Row {
+        shape: Shape::Branch,
+        names: &["beq", "bne", "blt", "bge", "bltu", "bgeu", "bgt", "ble", "bgtu", "bleu"],
+        takes: "rs1, rs2, label",
+        operands: &[Operand::Register, Operand::Register, Operand::Target],
+        range: None,
+    },
+    Row {
+        shape: Shape::Memory,
+        names: &["lb", "lh", "lw", "lbu", "lhu", "sb", "sh", "sw"],
+        takes: "register, imm(rs)",
+        operands: &[Operand::Register, Operand::Address],
+        range: IMMEDIATES,
+    },
+    Row {
+        shape: Shape::Immediate,
+        names: &["addi", "slti", "sltiu", "xori", "ori", "andi"],
+        takes: "rd, rs, number",
+        operands: &[Operand::Register, Operand::Register, Operand::Immediate],
+        range: IMMEDIATES,
+    },
+    Row {
+        shape: Shape::Shift,
+        names: &["slli", "srli", "srai"],
+        takes: "rd, rs, amount",
+        operands: &[Operand::Register, Operand::Register, Operand::Amount],
+        range: Some(Range {
+            from: 0,
+            to: 31,
+        }),
+    },
+    Row {
+        shape: Shape::Registers,
+        names: &["add", "sub", "sll", "slt", "sltu", "xor", "srl", "sra", "or", "and"],
+        takes: "rd, rs1, rs2",
+        operands: &[Operand::Register, Operand::Register, Operand::Register],
+        range: None,
+    },
+    Row {
+        shape: Shape::Fence,
+        names: &["fence"],
+        takes: "nothing, or two of the sets of iorw, as rw, w",
+        operands: &[],
+        range: None,
+    },
+    Row {
+        shape: Shape::Nothing,
+        names: &["nop", "ret", "fence.tso", "ecall", "ebreak"],
+        takes: "nothing",
+        operands: &[],
+        range: None,
+    },
+    Row {
+        shape: Shape::Reserved,
+        names: &["lr.w"],
+        takes: "rd, (rs)",
+        operands: &[Operand::Register, Operand::Place],
+        range: None,
+    },
+    Row {
+        shape: Shape::Atomic,
+        names: &["sc.w", "amoswap.w", "amoadd.w", "amoxor.w", "amoand.w", "amoor.w", "amomin.w", "amomax.w", "amominu.w", "amomaxu.w"],
+        takes: "rd, rs2, (rs1)",
+        operands: &[Operand::Register, Operand::Register, Operand::Place],
+        range: None,
+    },
+    Row {
+        shape: Shape::Two,
+        names: &["mv", "not", "neg", "seqz", "snez", "sltz", "sgtz"],
+        takes: "rd, rs",
+        operands: &[Operand::Register, Operand::Register],
+        range: None,
+    },
+    Row {
+        shape: Shape::Zero,
+        names: &["beqz", "bnez", "bgez", "bltz", "blez", "bgtz"],
+        takes: "rs, label",
+        operands: &[Operand::Register, Operand::Target],
+        range: None,
+    },
+    Row {
+        shape: Shape::Target,
+        names: &["j"],
+        takes: "label",
+        operands: &[Operand::Target],
+        range: None,
+    },
+    Row {
+        shape: Shape::One,
+        names: &["jr"],
+        takes: "rs",
+        operands: &[Operand::Register],
+        range: None,
+    },
+    Row {
+        shape: Shape::Load,
+        names: &["li"],
+        takes: "rd, number",
+        operands: &[Operand::Register, Operand::Number],
+        range: WORDS,
+    },
+    Row {
+        shape: Shape::Address,
+        names: &["la"],
+        takes: "rd, name",
+        operands: &[Operand::Register, Operand::Symbol],
+        range: None,
+    },
+    Row {
+        shape: Shape::Call,
+        names: &["call", "tail"],
+        takes: "name",
+        operands: &[Operand::Symbol],
+        range: None,
+    },
+];
+
+// The directives.
+const DIRECTIVES: [Row; 8] = [
+    Row {
+        shape: Shape::Nothing,
+        names: &[".text", ".data", ".bss"],
+        takes: "nothing",
+        operands: &[],
+        range: None,
+    },
+    Row {
+        shape: Shape::Directive,
+        names: &[".word"],
+        takes: "values with commas between",
+        operands: &[],
+        range: WORDS,
+    },
+    Row {
+        shape: Shape::Directive,
+        names: &[".half"],
+        takes: "values with commas between",
+        operands: &[],
+        range: Some(Range {
+            from: -32768,
+            to: 65535,
+        }),
+    },
+    Row {
+        shape: Shape::Directive,
+        names: &[".byte"],
+        takes: "values with commas between",
+        operands: &[],
+        range: Some(Range {
+            from: -128,
+            to: 255,
+        }),
+    },
+    Row {
+        shape: Shape::Directive,
+        names: &[".ascii", ".asciz", ".string"],
+        takes: "values with commas between",
+        operands: &[],
+        range: WORDS,
+    },
+    Row {
+        shape: Shape::Directive,
+        names: &[".zero", ".space", ".skip"],
+        takes: "values with commas between",
+        operands: &[],
+        range: Some(Range {
+            from: 0,
+            to: 16777216,
+        }),
+    },
+    Row {
+        shape: Shape::Directive,
+        names: &[".align", ".p2align"],
+        takes: "values with commas between",
+        operands: &[],
+        range: Some(Range {
+            from: 0,
+            to: 12,
+        }),
+    },
+    Row {
+        shape: Shape::Directive,
+        names: &[".globl", ".global", ".section"],
+        takes: "values with commas between",
+        operands: &[],
+        range: WORDS,
+    },
 ];

@@ -1,6 +1,6 @@
 //! A line of a source as statements.
 
-use asm_text::{Kind, TextFault, scan_text, text_of};
+use asm_text::{Kind, TextFault, Token, scan_text, text_of};
 use std::alloc::{AllocError, Allocator};
 
 /// A token of a line with its text.
@@ -16,6 +16,11 @@ impl<'a> Word<'a> {
     /// Whether it is this sign.
     pub(crate) fn is(&self, kind: Kind) -> bool {
         self.kind == kind
+    }
+
+    /// Its text where it is a name, else nothing.
+    pub(crate) fn name(&self) -> &'a str {
+        if self.is(Kind::Name) { self.text } else { "" }
     }
 }
 
@@ -34,20 +39,21 @@ pub(crate) fn read_words<'a, A: Allocator + Copy>(
     let scan = scan_text(alloc, line)?;
     let mut words = Vec::new(alloc);
     'tokens: for token in &scan.tokens {
-        let text = match str::from_utf8(text_of(line.as_bytes(), token)) {
-            Ok(text) => text,
-            Err(_) => "",
-        };
-        words.push(Word {
-            kind: token.kind,
-            start: token.start,
-            text,
-        })?;
+        words.push(word_of(line, token))?;
     }
     Ok(LineWords {
         words,
         fault: scan.fault,
     })
+}
+
+// A token of a line with its text.
+fn word_of<'a>(line: &'a str, token: &Token) -> Word<'a> {
+    Word {
+        kind: token.kind,
+        start: token.start,
+        text: str::from_utf8(text_of(line.as_bytes(), token)).unwrap_or(""),
+    }
 }
 
 /// The words behind the labels at the front.

@@ -1,12 +1,10 @@
 //! What comes next.
 
 use debugger::Debugger;
-use fault_advice::Place;
-use hart_step::HartState;
-use listing::Line;
+use fault_advice::{push_instruction, push_standing};
+use hart_step::{Hart, HartState};
 use loader::Symbol;
 use memory::Store;
-use names_and_digits::Word;
 use std::alloc::{AllocError, Allocator};
 
 /// The line of what comes next at a debugger's position: the hart, where it stands, by the label before too, and its instruction; that it has
@@ -17,31 +15,46 @@ pub fn next_text<A: Allocator + Copy>(
     symbols: &[Symbol<A>],
 ) -> Result<String<A>, AllocError> {
     let mut text = String::new(alloc);
-    let Some(choice) = debugger.choices().get(debugger.position()) else {
-        text.push_str("next: no choice is left\n")?;
-        return Ok(text);
-    };
-    let machine = debugger.machine();
-    let number = choice.hart as usize;
-    if number >= machine.harts() {
-        return Ok(text);
-    }
-    let hart = machine.hart(number);
-    let (pc, place) = (Word(hart.pc), Place::new(symbols, hart.pc));
-    write!(text, "next: hart {number} at {pc}, {place}")?;
-    match hart.state {
-        HartState::Exited(_) => text.push_str(": it has exited, and does nothing\n")?,
-        HartState::Faulted(_) => text.push_str(": it has faulted, and does nothing\n")?,
-        HartState::Running => match machine.store().fetch(hart.pc) {
-            Some(word) => {
-                let line = Line {
-                    address: hart.pc,
-                    word,
-                };
-                writeln!(text, ": {line}")?
-            }
-            None => text.push_str(": no instruction can be taken there\n")?,
-        },
+    match debugger.choices().get(debugger.position()) {
+        Some(choice) => {
+            push_next(&mut text, debugger, symbols, choice.hart as usize)?
+        }
+        None => text.push_str("next: no choice is left\n")?,
     }
     Ok(text)
+}
+
+// Adds the line of what comes next, where it is this hart.
+fn push_next<A: Allocator + Copy>(
+    text: &mut String<A>,
+    debugger: &Debugger<A>,
+    symbols: &[Symbol<A>],
+    number: usize,
+) -> Result<(), AllocError> {
+    let machine = debugger.machine();
+    if number >= machine.harts() {
+        return Ok(());
+    }
+    let hart = machine.hart(number);
+    text.push_str("next: ")?;
+    push_standing(text, symbols, number, hart.pc)?;
+    push_doing(text, hart, machine.store().fetch(hart.pc))
+}
+
+// Adds what a hart does at this word.
+fn push_doing<A: Allocator>(
+    text: &mut String<A>,
+    hart: &Hart,
+    word: Option<u32>,
+) -> Result<(), AllocError> {
+    let said = match (hart.state, word) {
+        (HartState::Exited(_), _) => ": it has exited, and does nothing\n",
+        (HartState::Faulted(_), _) => ": it has faulted, and does nothing\n",
+        (HartState::Running, None) => ": no instruction can be taken there\n",
+        (HartState::Running, Some(word)) => {
+            push_instruction(text, hart.pc, word)?;
+            "\n"
+        }
+    };
+    text.push_str(said)
 }

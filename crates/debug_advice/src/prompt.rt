@@ -3,7 +3,7 @@
 use std::fmt;
 
 /// The prompt at a position, shown as `3 of 26> `.
-#[derive(Clone, Copy, Debug)]
+#[derive(Clone, Copy)]
 pub struct Prompt {
     /// How many choices are done.
     pub position: usize,

@@ -10,7 +10,7 @@ use std::alloc::Allocator;
 use std::fmt;
 
 /// A step that has changed a watched word, shown as a line without its end.
-#[derive(Clone, Copy, Debug, PartialEq, Eq)]
+#[derive(Clone, Copy)]
 pub struct StoredWord {
     /// The hart that took the step.
     pub hart: u32,

@@ -1,10 +1,14 @@
 //! What the faults of harts mean.
 
-use crate::places::{Place, Rwx, segment_at};
-use crate::sentences::Meaning;
+use crate::places::{push_instruction, push_standing, rwx, segment_at};
+use crate::sentences::{
+    ACROSS, AT_ZERO, BREAK, CALL, COMPRESSED, MISALIGNED, NO_INSTRUCTION, NO_STACK,
+    NOT_EXECUTABLE, NOT_READABLE, NOT_WRITABLE, NOWHERE_TO_FETCH, ODD_JUMP, PAST_LAST, UNMAPPED,
+    ZEROS,
+};
+use advice::{Form, Sentence, Value, push_sentence};
 use decoder::decode;
 use hart_step::{Access, Cause, Hart, HartState, access_by};
-use listing::Line;
 use loader::{Image, Rights, Segment, Symbol};
 use machine::Machine;
 use memory::{FlatStore, Store};
@@ -20,7 +24,7 @@ const SP: usize = 2;
 const A7: usize = 17;
 
 // What a hart met.
-#[derive(Clone, Copy, Debug)]
+#[derive(Clone, Copy)]
 struct Met<'a> {
     hart: &'a Hart,
     cause: Cause,
@@ -41,34 +45,40 @@ pub fn harts_advice<A: Allocator + Copy>(
     let mut text = String::new(alloc);
     let mut told = 0usize;
     'harts: for (number, hart) in machine.ends().iter().enumerate() {
-        let HartState::Faulted(cause) = hart.state else {
-            continue;
-        };
-        if told >= MOST_HARTS {
-            continue;
+        if let Some(cause) = cause_of(hart) {
+            if told < MOST_HARTS {
+                told += 1;
+                let met = met_by(hart, cause, machine.store().fetch(hart.pc));
+                push_hart(&mut text, number, image.segments(), symbols, &met)?;
+            }
         }
-        told += 1;
-        let met = met_by(hart, cause, machine.store().fetch(hart.pc));
-        push_hart(&mut text, number, image.segments(), symbols, &met)?;
     }
     Ok(text)
 }
 
+// Why a hart has faulted, where it has.
+fn cause_of(hart: &Hart) -> Option<Cause> {
+    match hart.state {
+        HartState::Faulted(cause) => Some(cause),
+        _ => None,
+    }
+}
+
 // What a hart met at this word.
 fn met_by(hart: &Hart, cause: Cause, word: Option<u32>) -> Met<'_> {
-    let access = match word {
-        Some(word) => match decode(word) {
-            Some(instr) => access_by(hart, instr),
-            None => None,
-        },
-        None => None,
-    };
+    let access = access_of(hart, word);
     Met {
         hart,
         cause,
         word,
         access,
     }
+}
+
+// The access of data of a word's instruction, where there is one.
+fn access_of(hart: &Hart, word: Option<u32>) -> Option<Access> {
+    let instr = decode(word?)?;
+    access_by(hart, instr)
 }
 
 // Adds the lines of a hart.
@@ -79,56 +89,69 @@ fn push_hart<A: Allocator>(
     symbols: &[Symbol<A>],
     met: &Met<'_>,
 ) -> Result<(), AllocError> {
-    let (pc, place) = (Word(met.hart.pc), Place::new(symbols, met.hart.pc));
-    write!(text, "hart {number} at {pc}, {place}")?;
+    push_standing(text, symbols, number, met.hart.pc)?;
     if let Some(word) = met.word {
-        let line = Line {
-            address: met.hart.pc,
-            word,
-        };
-        write!(text, ": {line}")?;
+        push_instruction(text, met.hart.pc, word)?;
     }
-    if let Some(access) = met.access {
-        push_access(text, segments, access.address)?;
-    }
-    let meaning = meaning_of(segments, met);
-    writeln!(text, "\n    {meaning}")?;
-    Ok(())
+    push_access(text, segments, met.access)?;
+    text.push_str("\n    ")?;
+    push_sentence(text, &meaning_of(segments, met))?;
+    text.push('\n')
 }
 
-// Adds an address that is used, and the segment that it is in.
+// Adds the address that an access uses, and the segment that it is in.
 fn push_access<A: Allocator>(
     text: &mut String<A>,
     segments: &[Segment<A>],
-    address: u32,
+    access: Option<Access>,
 ) -> Result<(), AllocError> {
-    let shown = Word(address);
-    match segment_at(segments, address) {
+    let Some(access) = access else {
+        return Ok(());
+    };
+    let shown = Word(access.address);
+    match segment_at(segments, access.address) {
         Some(segment) => {
-            let (base, rights) = (Word(segment.base), Rwx(segment.rights));
+            let (base, rights) = (Word(segment.base), rwx(segment.rights));
             write!(text, ", which uses {shown}, in the segment {base} {rights}")
         }
         None => write!(text, ", which uses {shown}, in no segment"),
     }
 }
 
+// A sentence with a number.
+fn numbered(form: Form, number: u32) -> Sentence<'static> {
+    Sentence {
+        form,
+        values: [
+            Value::Number(i64::from(number)),
+            Value::Text(""),
+            Value::Text(""),
+        ],
+    }
+}
+
 // What a fault means.
-fn meaning_of<A: Allocator>(segments: &[Segment<A>], met: &Met<'_>) -> Meaning {
-    match met.cause {
-        Cause::FetchAccess => fetch_meaning(segments, met.hart.pc),
-        Cause::Illegal => word_meaning(met.word),
+fn meaning_of<A: Allocator>(segments: &[Segment<A>], met: &Met<'_>) -> Sentence<'static> {
+    let form = match met.cause {
+        Cause::FetchAccess => fetch_form(segments, met.hart.pc),
+        Cause::Illegal => word_form(met.word),
         Cause::LoadMisaligned | Cause::StoreMisaligned => {
-            Meaning::Misaligned(if let Some(access) = met.access {
-                access.size
-            } else {
-                4
-            })
+            return numbered(MISALIGNED, size_of_access(met.access));
         }
-        Cause::LoadAccess => access_meaning(segments, met, Rights::READ),
-        Cause::StoreAccess => access_meaning(segments, met, Rights::WRITE),
-        Cause::JumpMisaligned => Meaning::OddJump,
-        Cause::BadCall => Meaning::Call(met.hart.registers[A7]),
-        Cause::Break => Meaning::Break,
+        Cause::LoadAccess => access_form(segments, met, Rights::READ),
+        Cause::StoreAccess => access_form(segments, met, Rights::WRITE),
+        Cause::JumpMisaligned => ODD_JUMP,
+        Cause::BadCall => return numbered(CALL, met.hart.registers[A7]),
+        Cause::Break => BREAK,
+    };
+    Sentence::of(form, "")
+}
+
+// The bytes of an access, where there is one, else those of a word.
+fn size_of_access(access: Option<Access>) -> u32 {
+    match access {
+        Some(access) => access.size,
+        None => 4,
     }
 }
 
@@ -141,32 +164,24 @@ fn is_code<A: Allocator>(segments: &[Segment<A>], address: u32) -> bool {
 }
 
 // Why no instruction can be taken from an address.
-fn fetch_meaning<A: Allocator>(segments: &[Segment<A>], pc: u32) -> Meaning {
+fn fetch_form<A: Allocator>(segments: &[Segment<A>], pc: u32) -> Form {
     if pc > 0 && is_code(segments, pc - 1) {
-        return Meaning::PastLast;
-    }
-    match segment_at(segments, pc) {
-        Some(_) => Meaning::NotExecutable,
-        None => {
-            if pc == 0 {
-                Meaning::AtZero
-            } else {
-                Meaning::NowhereToFetch
-            }
-        }
+        PAST_LAST
+    } else if segment_at(segments, pc).is_some() {
+        NOT_EXECUTABLE
+    } else if pc == 0 {
+        AT_ZERO
+    } else {
+        NOWHERE_TO_FETCH
     }
 }
 
 // What a word is that is no instruction.
-fn word_meaning(word: Option<u32>) -> Meaning {
+fn word_form(word: Option<u32>) -> Form {
     match word {
-        Some(0) => Meaning::Zeros,
-        Some(word) => if word % 4 != 3 {
-            Meaning::Compressed
-        } else {
-            Meaning::NoInstruction
-        },
-        None => Meaning::NoInstruction,
+        Some(0) => ZEROS,
+        Some(word) if word % 4 != 3 => COMPRESSED,
+        _ => NO_INSTRUCTION,
     }
 }
 
@@ -176,36 +191,39 @@ fn is_near_zero(address: u32) -> bool {
 }
 
 // Why an access of data is refused.
-fn access_meaning<A: Allocator>(segments: &[Segment<A>], met: &Met<'_>, wanted: Rights) -> Meaning {
+fn access_form<A: Allocator>(segments: &[Segment<A>], met: &Met<'_>, wanted: Rights) -> Form {
     let Some(access) = met.access else {
-        return Meaning::Unmapped;
+        return UNMAPPED;
     };
     match segment_at(segments, access.address) {
-        Some(segment) => {
-            if segment.rights.grants(wanted) {
-                Meaning::Across
-            } else if wanted == Rights::WRITE {
-                Meaning::NotWritable
-            } else {
-                Meaning::NotReadable
-            }
-        }
-        None => {
-            if is_near_zero(access.address)
-                && is_near_zero(met.hart.registers[SP])
-                && uses_sp(met)
-            {
-                Meaning::NoStack
-            } else {
-                Meaning::Unmapped
-            }
-        }
+        Some(segment) => rights_form(segment.rights, wanted),
+        None => nowhere_form(met, access.address),
     }
 }
 
-// Whether the instruction's address is by sp.
-fn uses_sp(met: &Met<'_>) -> bool {
-    match met.word {
+// Why an access to a segment with these rights is refused.
+fn rights_form(rights: Rights, wanted: Rights) -> Form {
+    if rights.grants(wanted) {
+        ACROSS
+    } else if wanted == Rights::WRITE {
+        NOT_WRITABLE
+    } else {
+        NOT_READABLE
+    }
+}
+
+// What is said of an access to an address in no segment.
+fn nowhere_form(met: &Met<'_>, address: u32) -> Form {
+    if is_near_zero(address) && is_near_zero(met.hart.registers[SP]) && uses_sp(met.word) {
+        NO_STACK
+    } else {
+        UNMAPPED
+    }
+}
+
+// Whether an instruction's address is by sp.
+fn uses_sp(word: Option<u32>) -> bool {
+    match word {
         Some(word) => word / 0x8000 % 32 == SP as u32,
         None => false,
     }

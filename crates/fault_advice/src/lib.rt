@@ -2,11 +2,10 @@
 #![tactic(auto)]
 
 pub use choices::item_at;
-pub use files::{FileWords, file_words};
+pub use files::file_words;
 pub use harts::harts_advice;
-pub use places::{Place, Rwx, label_before, segment_at};
+pub use places::{label_before, push_instruction, push_standing, segment_at};
 pub use runs::{history_advice, run_advice, symbols_or_none};
-pub use sentences::Meaning;
 
 mod choices;
 mod files;

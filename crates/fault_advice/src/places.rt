@@ -3,10 +3,10 @@
 ghost use Rattle.std.specs.Prelude.{◌≡◌, None, option_map};
 ghost use Rattle.fault_advice.specs.Places.{is_nearer, label_before, segment_at};
 
+use listing::Line;
 use loader::{Rights, Segment, Symbol};
 use names_and_digits::Word;
-use std::alloc::Allocator;
-use std::fmt;
+use std::alloc::{AllocError, Allocator};
 
 // Whether a symbol is at or below an address, and above the one that was the nearest so far.
 fn is_nearer<A: Allocator>(best: Option<&Symbol<A>>, symbol: &Symbol<A>, address: u32) -> bool
@@ -46,57 +46,56 @@ pub fn segment_at<A: Allocator>(segments: &[Segment<A>], address: u32) -> Option
     None
 }
 
-/// An address, shown by the label before it and how many bytes it is behind that, as `wait+8`; by its digits where there is no label.
-#[derive(Clone, Copy, Debug)]
-pub struct Place<'a> {
-    label: Option<(&'a str, u32)>,
+// Adds an address, by the label before it and how many bytes it is behind that, as `wait+8`; by its digits where there is no label.
+fn push_place<A: Allocator>(
+    text: &mut String<A>,
+    symbols: &[Symbol<A>],
     address: u32,
-}
-
-impl<'a> Place<'a> {
-    /// The place of an address among symbols.
-    pub fn new<A: Allocator>(symbols: &'a [Symbol<A>], address: u32) -> Place<'a> {
-        let label = match label_before(symbols, address) {
-            Some(symbol) => Some((symbol.name.as_str(), address.saturating_sub(symbol.address))),
-            None => None,
-        };
-        Place { label, address }
+) -> Result<(), AllocError> {
+    let Some(symbol) = label_before(symbols, address) else {
+        let shown = Word(address);
+        return write!(text, "{shown}");
+    };
+    text.push_str(symbol.name.as_str())?;
+    match address.saturating_sub(symbol.address) {
+        0 => Ok(()),
+        distance => write!(text, "+{distance}"),
     }
 }
 
-impl<'a> fmt::Display for Place<'a> {
-    fn fmt<W: fmt::Write>(&self, f: &mut fmt::Formatter<W>) -> fmt::Result {
-        match self.label {
-            Some((name, 0)) => f.write_str(name),
-            Some((name, distance)) => write!(f, "{name}+{distance}"),
-            None => {
-                let address = Word(self.address);
-                write!(f, "{address}")
-            }
-        }
-    }
+/// Adds where a hart stands, as `hart 0 at 00010004, wait+8`: by the label before too, where there is one.
+pub fn push_standing<A: Allocator>(
+    text: &mut String<A>,
+    symbols: &[Symbol<A>],
+    number: usize,
+    pc: u32,
+) -> Result<(), AllocError> {
+    let shown = Word(pc);
+    write!(text, "hart {number} at {shown}, ")?;
+    push_place(text, symbols, pc)
 }
 
-/// Rights, shown as `rwx` with a dash for each that isn't given.
-#[derive(Clone, Copy, Debug)]
-pub struct Rwx(pub Rights);
+/// Adds an instruction at an address behind what stands there.
+pub fn push_instruction<A: Allocator>(
+    text: &mut String<A>,
+    address: u32,
+    word: u32,
+) -> Result<(), AllocError> {
+    let line = Line { address, word };
+    write!(text, ": {line}")
+}
 
-impl fmt::Display for Rwx {
-    fn fmt<W: fmt::Write>(&self, f: &mut fmt::Formatter<W>) -> fmt::Result {
-        f.write_str(if self.0.grants(Rights::READ) {
-            "r"
-        } else {
-            "-"
-        })?;
-        f.write_str(if self.0.grants(Rights::WRITE) {
-            "w"
-        } else {
-            "-"
-        })?;
-        f.write_str(if self.0.grants(Rights::EXECUTE) {
-            "x"
-        } else {
-            "-"
-        })
+/// Rights as `rwx`, with a dash for each that isn't given.
+pub(crate) fn rwx(rights: Rights) -> &'static str {
+    let (read, write) = (rights.grants(Rights::READ), rights.grants(Rights::WRITE));
+    match (read, write, rights.grants(Rights::EXECUTE)) {
+        (false, false, false) => "---",
+        (false, false, true) => "--x",
+        (false, true, false) => "-w-",
+        (false, true, true) => "-wx",
+        (true, false, false) => "r--",
+        (true, false, true) => "r-x",
+        (true, true, false) => "rw-",
+        (true, true, true) => "rwx",
     }
 }

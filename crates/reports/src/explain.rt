@@ -2,12 +2,12 @@
 //! fails, or memory is refused, nothing is added.
 
 use crate::audience::Audience;
+use advice::{Mistake, order_advice};
 use asm_advice::{SourceText, asm_advice};
 use asm_read::Fault;
 use clap::error::ErrorKind;
 use command_line::LineFault;
 use fault_advice::{file_words, item_at};
-use order_advice::{Mistake, order_advice};
 use programs::{ProgramForm, RunFault};
 use std::rt::Files;
 use std::{fs, io};

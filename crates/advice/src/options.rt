@@ -1,7 +1,7 @@
 //! Commands with their options and an example, and names of others with what to write.
 
 /// A command.
-#[derive(Clone, Copy, Debug)]
+#[derive(Clone, Copy)]
 pub(crate) struct Row {
     pub(crate) name: &'static str,
     pub(crate) options: &'static [&'static str],
