@@ -115,7 +115,10 @@ fn push_head<A: Allocator>(
     line: usize,
     found: Option<Found<'_>>,
 ) -> Result<(), AllocError> {
-    push_sentence(text, &Sentence::of_three(HEAD, path, "", Value::Count(line)))?;
+    push_sentence(
+        text,
+        &Sentence::of_three(HEAD, path, "", Value::Count(line)),
+    )?;
     if let Some(found) = found {
         text.push(' ')?;
         push_sentence(text, &found.sentence)?;
@@ -167,11 +170,7 @@ fn line_fault<'a, A: Allocator>(
 }
 
 // What is wrong with the first statement of a line that has a fault of this kind.
-fn first_fault<'a>(
-    kind: FaultKind,
-    words: &[Word<'a>],
-    labels: &[Label<'a>],
-) -> Option<Found<'a>> {
+fn first_fault<'a>(kind: FaultKind, words: &[Word<'a>], labels: &[Label<'a>]) -> Option<Found<'a>> {
     'statements: for statement in words.split(|word| word.kind == Kind::Semicolon) {
         let found = statement_fault(kind, behind_labels(statement), labels);
         if found.is_some() {

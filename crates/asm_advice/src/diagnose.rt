@@ -19,7 +19,11 @@ use asm_text::Kind;
 // Whether some name of rows is this one but for small letters.
 fn is_in_capitals(rows: &[Row], name: &str) -> bool {
     'rows: for row in rows {
-        if row.names.iter().any(|known| name.eq_ignore_ascii_case(*known)) {
+        if row
+            .names
+            .iter()
+            .any(|known| name.eq_ignore_ascii_case(*known))
+        {
             return true;
         }
     }

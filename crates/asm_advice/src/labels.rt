@@ -91,7 +91,13 @@ fn label_fault<'a>(word: &Word<'a>, labels: &[Label<'a>]) -> Option<Found<'a>> {
         Value::Text(first.path),
         Value::Count(first.line),
     ];
-    Some(Found::at(word, Sentence { form: TWICE, values }))
+    Some(Found::at(
+        word,
+        Sentence {
+            form: TWICE,
+            values,
+        },
+    ))
 }
 
 /// The first label of a line that is defined twice.

@@ -36,9 +36,7 @@ pub(crate) const CHARACTER: Form = &[Words(
 /// A statement begins with something else than a name.
 pub(crate) const NO_HEAD: Form = &[
     First,
-    Words(
-        " begins no statement: write an instruction, a directive, or a label with a colon",
-    ),
+    Words(" begins no statement: write an instruction, a directive, or a label with a colon"),
 ];
 
 /// A name of another extension or of others' assemblers, and what is said of it.
@@ -263,9 +261,7 @@ pub(crate) const BRANCH_TOO_FAR: Form = &[
 /// The target of a jump is too far.
 pub(crate) const JUMP_TOO_FAR: Form = &[
     First,
-    Words(
-        " reaches 1 MiB back or ahead, to even addresses: write la t0, label and jr t0",
-    ),
+    Words(" reaches 1 MiB back or ahead, to even addresses: write la t0, label and jr t0"),
 ];
 
 /// An instruction at no multiple of 4.

@@ -164,7 +164,9 @@ const INSTRUCTIONS: [Row; 19] = [
     },
     Row {
         shape: Shape::Branch,
-        names: &["beq", "bne", "blt", "bge", "bltu", "bgeu", "bgt", "ble", "bgtu", "bleu"],
+        names: &[
+            "beq", "bne", "blt", "bge", "bltu", "bgeu", "bgt", "ble", "bgtu", "bleu",
+        ],
         takes: "rs1, rs2, label",
         operands: &[Operand::Register, Operand::Register, Operand::Target],
         range: None,
@@ -188,14 +190,13 @@ const INSTRUCTIONS: [Row; 19] = [
         names: &["slli", "srli", "srai"],
         takes: "rd, rs, amount",
         operands: &[Operand::Register, Operand::Register, Operand::Amount],
-        range: Some(Range {
-            from: 0,
-            to: 31,
-        }),
+        range: Some(Range { from: 0, to: 31 }),
     },
     Row {
         shape: Shape::Registers,
-        names: &["add", "sub", "sll", "slt", "sltu", "xor", "srl", "sra", "or", "and"],
+        names: &[
+            "add", "sub", "sll", "slt", "sltu", "xor", "srl", "sra", "or", "and",
+        ],
         takes: "rd, rs1, rs2",
         operands: &[Operand::Register, Operand::Register, Operand::Register],
         range: None,
@@ -223,7 +224,18 @@ const INSTRUCTIONS: [Row; 19] = [
     },
     Row {
         shape: Shape::Atomic,
-        names: &["sc.w", "amoswap.w", "amoadd.w", "amoxor.w", "amoand.w", "amoor.w", "amomin.w", "amomax.w", "amominu.w", "amomaxu.w"],
+        names: &[
+            "sc.w",
+            "amoswap.w",
+            "amoadd.w",
+            "amoxor.w",
+            "amoand.w",
+            "amoor.w",
+            "amomin.w",
+            "amomax.w",
+            "amominu.w",
+            "amomaxu.w",
+        ],
         takes: "rd, rs2, (rs1)",
         operands: &[Operand::Register, Operand::Register, Operand::Place],
         range: None,
@@ -337,10 +349,7 @@ const DIRECTIVES: [Row; 8] = [
         names: &[".align", ".p2align"],
         takes: "values with commas between",
         operands: &[],
-        range: Some(Range {
-            from: 0,
-            to: 12,
-        }),
+        range: Some(Range { from: 0, to: 12 }),
     },
     Row {
         shape: Shape::Directive,

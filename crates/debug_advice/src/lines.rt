@@ -11,18 +11,12 @@ use std::alloc::{AllocError, Allocator};
 // What each command takes.
 const TAKES: [(&[&str], &str); 7] = [
     (&["where", "go", "rgo", "quit"], "stands alone"),
-    (
-        &["goto"],
-        "takes a decimal number of choices, as goto 7",
-    ),
+    (&["goto"], "takes a decimal number of choices, as goto 7"),
     (
         &["forward", "back"],
         "takes nothing, or a decimal number of choices, as forward 7",
     ),
-    (
-        &["break", "watch"],
-        "takes an address, as break 0x00010008",
-    ),
+    (&["break", "watch"], "takes an address, as break 0x00010008"),
     (
         &["steps"],
         "takes two decimal numbers of choices, as steps 0 7",

@@ -16,9 +16,7 @@ pub fn next_text<A: Allocator + Copy>(
 ) -> Result<String<A>, AllocError> {
     let mut text = String::new(alloc);
     match debugger.choices().get(debugger.position()) {
-        Some(choice) => {
-            push_next(&mut text, debugger, symbols, choice.hart as usize)?
-        }
+        Some(choice) => { push_next(&mut text, debugger, symbols, choice.hart as usize)? }
         None => text.push_str("next: no choice is left\n")?,
     }
     Ok(text)

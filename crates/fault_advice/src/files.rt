@@ -4,7 +4,8 @@ use loader::ElfFault;
 use loader::elf::E_TYPE;
 
 // Text, as an assembler source is.
-const SOURCE: &str = "this is text, as an assembler source is: make a program of it first, by rvcons asm --out prog.elf prog.s";
+const SOURCE: &str =
+    "this is text, as an assembler source is: make a program of it first, by rvcons asm --out prog.elf prog.s";
 
 // Text of hexadecimal words.
 const HEX_WORDS: &str = "this is text of hexadecimal words: write --hex before it";
@@ -13,49 +14,60 @@ const HEX_WORDS: &str = "this is text of hexadecimal words: write --hex before i
 const ARCHIVE: &str = "this is a library of object files: link it, as docs/C.md shows";
 
 // No ELF file.
-const NO_ELF: &str = "this is no ELF file: make one by rvcons asm --out prog.elf prog.s, or from C as docs/C.md shows";
+const NO_ELF: &str =
+    "this is no ELF file: make one by rvcons asm --out prog.elf prog.s, or from C as docs/C.md shows";
 
 // A beginning of a file.
 const CUT_OFF: &str = "the file ends before its parts do: it is cut off or damaged";
 
 // A file for 64 bits.
-const WIDE: &str = "this file is for 64 bits: compile and link with -march=rv32ia -mabi=ilp32 and -m elf32lriscv";
+const WIDE: &str =
+    "this file is for 64 bits: compile and link with -march=rv32ia -mabi=ilp32 and -m elf32lriscv";
 
 // A big-endian file.
 const BIG_ENDIAN: &str = "this file is big-endian: compile for little-endian RISC-V, -march=rv32ia";
 
 // A file of another version of ELF.
-const OTHER_VERSION: &str = "this file is of another version of ELF than 1: it is damaged, or no ELF file";
+const OTHER_VERSION: &str =
+    "this file is of another version of ELF than 1: it is damaged, or no ELF file";
 
 // An object file.
-const RELOCATABLE: &str = "this is an object file: link it first, by ld -m elf32lriscv, as docs/C.md shows";
+const RELOCATABLE: &str =
+    "this is an object file: link it first, by ld -m elf32lriscv, as docs/C.md shows";
 
 // A shared or a position-independent file.
-const SHARED: &str = "this file is shared or position-independent: link with -static -no-pie, as docs/C.md shows";
+const SHARED: &str =
+    "this file is shared or position-independent: link with -static -no-pie, as docs/C.md shows";
 
 // Another type of file.
 const NOT_EXECUTABLE: &str = "this ELF file is no executable: link one, as docs/C.md shows";
 
 // A file for another processor.
-const OTHER_PROCESSOR: &str = "this file is for another processor: compile for RISC-V, -march=rv32ia -mabi=ilp32";
+const OTHER_PROCESSOR: &str =
+    "this file is for another processor: compile for RISC-V, -march=rv32ia -mabi=ilp32";
 
 // A file with compressed code.
-const COMPRESSED: &str = "this file has compressed code: compile with -march=rv32ia, without c, its libraries too";
+const COMPRESSED: &str =
+    "this file has compressed code: compile with -march=rv32ia, without c, its libraries too";
 
 // A file whose headers are damaged.
-const DAMAGED: &str = "the file's headers don't fit it: it is damaged, or made in another way than docs/FILES.md tells";
+const DAMAGED: &str =
+    "the file's headers don't fit it: it is damaged, or made in another way than docs/FILES.md tells";
 
 // Segments that share addresses or end above the last one.
-const BAD_SEGMENTS: &str = "its segments share addresses, or end above ffffffff: look at the linker script";
+const BAD_SEGMENTS: &str =
+    "its segments share addresses, or end above ffffffff: look at the linker script";
 
 // More than 2^24 bytes.
-const TOO_LARGE: &str = "its segments have more than 16777216 bytes together: make its arrays or its stack smaller";
+const TOO_LARGE: &str =
+    "its segments have more than 16777216 bytes together: make its arrays or its stack smaller";
 
 // A file that wants a dynamic linker.
 const DYNAMIC: &str = "this file wants a dynamic linker, and there is none: link with -static";
 
 // An entry at no multiple of 4.
-const ODD_ENTRY: &str = "its entry is no multiple of 4: write .align 2 before _start, and compile without compressed code";
+const ODD_ENTRY: &str =
+    "its entry is no multiple of 4: write .align 2 before _start, and compile without compressed code";
 
 // So many bytes are looked at to tell what a file is.
 const LOOKED_AT: usize = 512;

@@ -2,9 +2,8 @@
 
 use crate::places::{push_instruction, push_standing, rwx, segment_at};
 use crate::sentences::{
-    ACROSS, AT_ZERO, BREAK, CALL, COMPRESSED, MISALIGNED, NO_INSTRUCTION, NO_STACK,
-    NOT_EXECUTABLE, NOT_READABLE, NOT_WRITABLE, NOWHERE_TO_FETCH, ODD_JUMP, PAST_LAST, UNMAPPED,
-    ZEROS,
+    ACROSS, AT_ZERO, BREAK, CALL, COMPRESSED, MISALIGNED, NO_INSTRUCTION, NO_STACK, NOT_EXECUTABLE,
+    NOT_READABLE, NOT_WRITABLE, NOWHERE_TO_FETCH, ODD_JUMP, PAST_LAST, UNMAPPED, ZEROS,
 };
 use advice::{Form, Sentence, Value, push_sentence};
 use decoder::decode;

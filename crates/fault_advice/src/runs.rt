@@ -21,6 +21,17 @@ pub fn symbols_or_none<A: Allocator + Copy>(alloc: A, file: &[u8]) -> Vec<Symbol
     }
 }
 
+// What the faults mean with which a machine of a program has stopped. None where memory is refused.
+fn ends_advice<A: Allocator + Copy>(
+    alloc: A,
+    image: &Image<A>,
+    program: &[u8],
+    machine: &Machine<FlatStore<A>, A>,
+) -> Option<String<A>> {
+    let symbols = symbols_or_none(alloc, program);
+    harts_advice(alloc, image, &symbols, machine).ok()
+}
+
 /// What the faults mean with which a run of a program ends, under a choice text. None where there is no such run, or memory is refused.
 pub fn run_advice<A: Allocator + Copy>(
     alloc: A,
@@ -35,11 +46,9 @@ pub fn run_advice<A: Allocator + Copy>(
         Err(_) => return None,
     };
     match run_choices(&mut machine, choices, inputs.len() as u32) {
-        Ok(_) => {}
-        Err(_) => return None,
+        Ok(_) => ends_advice(alloc, &image, program, &machine),
+        Err(_) => None,
     }
-    let symbols = symbols_or_none(alloc, program);
-    harts_advice(alloc, &image, &symbols, &machine).ok()
 }
 
 /// What the faults mean with which a run of a program ends, under a history. None where there is no such run, or memory is refused.
@@ -49,33 +58,30 @@ pub fn history_advice<A: Allocator + Copy>(
     inputs: &[u32],
     history: &[u8],
 ) -> Option<String<A>> {
-    let image: Image<A> = read_program(alloc, ProgramForm::Elf, program).ok()?;
     match check_inputs(inputs) {
         Ok(()) => {}
         Err(_) => return None,
     }
-    let entries = match read_history(alloc, history, inputs.len() as u32) {
-        Ok(entries) => entries,
-        Err(_) => return None,
-    };
-    let symbols = symbols_or_none(alloc, program);
-    replayed_advice(alloc, &image, &symbols, inputs, &entries)
+    match read_history(alloc, history, inputs.len() as u32) {
+        Ok(entries) => replayed_advice(alloc, program, inputs, &entries),
+        Err(_) => None,
+    }
 }
 
 // What the faults mean with which a replay of a history ends.
 fn replayed_advice<A: Allocator + Copy>(
     alloc: A,
-    image: &Image<A>,
-    symbols: &[Symbol<A>],
+    program: &[u8],
     inputs: &[u32],
     history: &[Entry],
 ) -> Option<String<A>>
     requires within { All (λ e. e.hart < length inputs.now) history.now }
 {
-    let mut machine: Machine<FlatStore<A>, A> = match Machine::start(alloc, image, inputs) {
+    let image: Image<A> = read_program(alloc, ProgramForm::Elf, program).ok()?;
+    let mut machine: Machine<FlatStore<A>, A> = match Machine::start(alloc, &image, inputs) {
         Ok(machine) => machine,
         Err(_) => return None,
     };
     replay_history(&mut machine, history);
-    harts_advice(alloc, image, symbols, &machine).ok()
+    ends_advice(alloc, &image, program, &machine)
 }

@@ -91,11 +91,7 @@ fn each_is_told(rt: HostRuntime) {
             "a.s:1: lw takes no name: write la t0, counter first, and then lw t0, 0(t0)\n    lw t0, counter\n           ^^^^^^^\n",
         ),
         (
-            Asked::Source(
-                FaultKind::Undefined,
-                "here: nop\n  j ther\nthere: nop\n",
-                2,
-            ),
+            Asked::Source(FaultKind::Undefined, "here: nop\n  j ther\nthere: nop\n", 2),
             "a.s:2: ther is nowhere defined: is there meant?\n      j ther\n        ^^^^\n",
         ),
         (
