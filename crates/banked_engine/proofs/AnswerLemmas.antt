@@ -16,7 +16,6 @@ use Rattle.banks_merge.specs.Logs.{bank_log, segments_of_all}
 use Rattle.banks_merge.specs.Merge.{slots, AreMatched, EndsAsLogged}
 use Rattle.banked_threads.specs.Banked.{IsBanked}
 use Rattle.histories.specs.History.{expanded}
-use Rattle.histories.specs.Printing.{history_text}
 use Rattle.choice_histories.specs.Plain.{plain_entry}
 use Rattle.choice_histories.proofs.PlainLemmas.{plain_expands}
 use Rattle.protocol_library.specs.declared.kind.Kind.{Kind}
@@ -28,7 +27,8 @@ use Rattle.engines.specs.Certified.{IsCertified, EndsKept}
 use Rattle.engines.specs.Run.{shown, shown_with, world_after}
 use Rattle.replay_engine.proofs.KeptLemmas.{certified_shown}
 use Rattle.threads_engine.specs.declared.threads.ThreadsAnswer.{ThreadsAnswer}
-use Rattle.banked_engine.specs.BankedAnswer.{hart_of_log, IsAnswer, IsMergedRun, IsOfRun}
+use Rattle.banked_engine.specs.BankedAnswer.{hart_of_log, text_for, IsAnswer, IsMergedRun, IsOfRun}
+use Rattle.banked_engine.specs.declared.history.HistoryUse.{HistoryUse}
 use Rattle.banked_engine.proofs.RunLemmas.{are_of, choices_within, harts_are}
 
 module _ (image : ImageValue) (inputs : List ℕ) (budget : ℕ) (plan : List (ℕ × ℕ)) (logs : List HartLogValue) (banks : List BankLog) (b : IsBanked image inputs budget plan logs banks) (choices : List Choice) where
@@ -53,12 +53,12 @@ module _ (image : ImageValue) (inputs : List ℕ) (budget : ℕ) (plan : List (�
       = harts_are image inputs budget plan logs banks b (world_after image inputs choices) (λ n. after_log (first_bank image) (bank_log banks n)) ends ∙ sym are in
       ap (λ (hs : List HartValue). shown_with (verdict_on rule inputs choices hs) hs) same ∙ shows
 
-  pub of_run : {A : Type 0} (rule : Option Kind) (harts : List HartValue) (answer : ThreadsAnswer A) → image.entry % 4 ≡ 0 → AreMatched logs banks
-      → IsMergeOf (segments_of_all logs) choices → EndsAsLogged logs banks choices → string_bytes answer.history ≡ history_text (map plain_entry choices)
+  pub of_run : {A : Type 0} (rule : Option Kind) (history : HistoryUse) (harts : List HartValue) (answer : ThreadsAnswer A) → image.entry % 4 ≡ 0 → AreMatched logs banks
+      → IsMergeOf (segments_of_all logs) choices → EndsAsLogged logs banks choices → string_bytes answer.history ≡ text_for history (map plain_entry choices)
       → harts ≡ map hart_of_log logs → shown_with (verdict_on rule inputs choices harts) harts ≡ (string_bytes answer.lines, answer.status)
-      → IsOfRun image inputs budget plan rule answer
+      → IsOfRun image inputs budget plan rule history answer
   unfolding merged_run
-  of_run rule harts answer entry matched merged ends text are shows =
+  of_run rule history harts answer entry matched merged ends text are shows =
       let run = merged_run entry matched merged ends in
       record {
         choices = choices;
@@ -72,11 +72,11 @@ module _ (image : ImageValue) (inputs : List ℕ) (budget : ℕ) (plan : List (�
       }
 
 -- the answer to a program that was read
-pub answered : {A : Type 0} (image : ImageValue) (inputs : List ℕ) (budget : ℕ) (plan : List (ℕ × ℕ)) (left : Option (List ℕ)) (rule : Option Kind) (answer : ThreadsAnswer A)
-    → IfSome left (λ p. program_of form.Elf p ≡ Ok image) → IsOfRun image inputs budget plan rule answer
-    → IfSome left (λ p. IsAnswer inputs budget plan rule p answer)
-answered image inputs budget plan None rule answer reads run = tt
-answered image inputs budget plan (Some p) rule answer reads run = record { image = image; reads = reads; of_run = run }
+pub answered : {A : Type 0} (image : ImageValue) (inputs : List ℕ) (budget : ℕ) (plan : List (ℕ × ℕ)) (left : Option (List ℕ)) (rule : Option Kind) (history : HistoryUse) (answer : ThreadsAnswer A)
+    → IfSome left (λ p. program_of form.Elf p ≡ Ok image) → IsOfRun image inputs budget plan rule history answer
+    → IfSome left (λ p. IsAnswer inputs budget plan rule history p answer)
+answered image inputs budget plan None rule history answer reads run = tt
+answered image inputs budget plan (Some p) rule history answer reads run = record { image = image; reads = reads; of_run = run }
 
 -- lines of inputs and choices as they were seen
 pub seen_lines : (rule : Option Kind) (inputs inputs_seen : List ℕ) (choices choices_seen : List Choice) (harts : List HartValue) (answer : List ℕ × Status)
@@ -86,16 +86,16 @@ seen_lines rule inputs inputs_seen choices choices_seen harts answer same_inputs
     (λ i. shown_with (verdict_on rule (sym same_inputs i) (sym same_choices i) harts) harts) ∙ shows
 
 -- a certified file keeps its rule
-kept : {A : Type 0} (image : ImageValue) (inputs : List ℕ) (budget : ℕ) (plan : List (ℕ × ℕ)) (program : List ℕ) (rule : Option Kind) (answer : ThreadsAnswer A)
-    → All (λ x. x < 2 ^ 32) inputs → program_of form.Elf program ≡ Ok image → IsOfRun image inputs budget plan rule answer → IsCertified form.Elf program inputs rule
+kept : {A : Type 0} (image : ImageValue) (inputs : List ℕ) (budget : ℕ) (plan : List (ℕ × ℕ)) (program : List ℕ) (rule : Option Kind) (history : HistoryUse) (answer : ThreadsAnswer A)
+    → All (λ x. x < 2 ^ 32) inputs → program_of form.Elf program ≡ Ok image → IsOfRun image inputs budget plan rule history answer → IsCertified form.Elf program inputs rule
     → EndsKept (string_bytes answer.lines) answer.status
-kept image inputs budget plan program rule answer words reads o certified =
+kept image inputs budget plan program rule history answer words reads o certified =
     let there : All (λ c. c.hart < length inputs) o.choices = choices_within o.run.logs o.choices (length inputs) o.run.banked.harts o.run.merged in
     subst (λ (a : List ℕ × Status). EndsKept a.0 a.1) o.prints
     (certified_shown inputs rule program image (expanded o.entries) words (subst (λ (cs : List Choice). All (λ c. c.hart < length inputs) cs) (sym o.stand) there) reads certified)
 
-pub kept_of : {A : Type 0} (image : ImageValue) (inputs : List ℕ) (budget : ℕ) (plan : List (ℕ × ℕ)) (left : Option (List ℕ)) (rule : Option Kind) (answer : ThreadsAnswer A)
-    → All (λ x. x < 2 ^ 32) inputs → IfSome left (λ p. program_of form.Elf p ≡ Ok image) → IsOfRun image inputs budget plan rule answer
+pub kept_of : {A : Type 0} (image : ImageValue) (inputs : List ℕ) (budget : ℕ) (plan : List (ℕ × ℕ)) (left : Option (List ℕ)) (rule : Option Kind) (history : HistoryUse) (answer : ThreadsAnswer A)
+    → All (λ x. x < 2 ^ 32) inputs → IfSome left (λ p. program_of form.Elf p ≡ Ok image) → IsOfRun image inputs budget plan rule history answer
     → IfSome left (λ p. IsCertified form.Elf p inputs rule → EndsKept (string_bytes answer.lines) answer.status)
-kept_of image inputs budget plan None rule answer words reads run = tt
-kept_of image inputs budget plan (Some p) rule answer words reads run = λ certified. kept image inputs budget plan p rule answer words reads run certified
+kept_of image inputs budget plan None rule history answer words reads run = tt
+kept_of image inputs budget plan (Some p) rule history answer words reads run = λ certified. kept image inputs budget plan p rule history answer words reads run certified

@@ -1,5 +1,5 @@
 -- What a run of threads over banks answers: the choices of the one run that the logs are, and what a replay of them prints.
-use Rattle.std.specs.Prelude.{◌≡◌, ℕ, ◌<◌, List, map, length, Option, Ok, Err, string_bytes}
+use Rattle.std.specs.Prelude.{◌≡◌, ℕ, ◌<◌, List, [], map, length, Option, Ok, Err, string_bytes}
 use Rattle.reservations.specs.Limit.{most_harts}
 use Rattle.loader.specs.Image.{ImageValue}
 use Rattle.hart_step.specs.Hart.{HartValue}
@@ -28,6 +28,8 @@ use Rattle.engines.specs.Run.{shown, world_after}
 use Rattle.threads_engine.specs.Threads as one_lock
 use Rattle.threads_engine.specs.declared.fault.ThreadsEngineFault.TheVariants as threads
 use Rattle.threads_engine.specs.declared.threads.ThreadsAnswer.{ThreadsAnswer}
+use Rattle.banked_engine.specs.declared.history.HistoryUse.{HistoryUse}
+use Rattle.banked_engine.specs.declared.history.HistoryUse.TheVariants.{Read, Unread}
 use Rattle.banked_engine.specs.declared.fault.BankedEngineFault.{BankedEngineFault}
 use Rattle.banked_engine.specs.declared.fault.BankedEngineFault.TheVariants as engine
 
@@ -45,22 +47,27 @@ pub record IsMergedRun (image : ImageValue) (inputs : List ℕ) (budget : ℕ) (
   pub merged : IsMergeOf (segments_of_all logs) choices
   pub ends : EndsIn image inputs (world_after image inputs choices) (slots image inputs logs) (λ b. after_log (first_bank image) (bank_log banks b))
 
--- an answer has the history of such choices, an entry for each, and what a replay of the history prints
-pub record IsOfRun {A : Type 0} (image : ImageValue) (inputs : List ℕ) (budget : ℕ) (plan : List (ℕ × ℕ)) (rule : Option Kind) (answer : ThreadsAnswer A) : Type 0 where
+-- the text of a history that is read, and none of one that isn't
+abbrev pub text_for : HistoryUse → List Entry → List ℕ
+text_for Read entries = history_text entries
+text_for Unread entries = []
+
+-- an answer has the history of such choices, an entry for each, if it is read, and what a replay of the history prints
+pub record IsOfRun {A : Type 0} (image : ImageValue) (inputs : List ℕ) (budget : ℕ) (plan : List (ℕ × ℕ)) (rule : Option Kind) (history : HistoryUse) (answer : ThreadsAnswer A) : Type 0 where
   pub choices : List Choice
   pub run : IsMergedRun image inputs budget plan choices
   pub entries : List Entry
   pub each : entries ≡ map plain_entry choices
   pub stand : expanded entries ≡ choices
-  pub text : string_bytes answer.history ≡ history_text entries
+  pub text : string_bytes answer.history ≡ text_for history entries
   pub prints : shown rule inputs (expanded entries) (world_after image inputs (expanded entries))
       ≡ (string_bytes answer.lines, answer.status)
 
 -- an answer is that of a run of the file's program
-pub record IsAnswer {A : Type 0} (inputs : List ℕ) (budget : ℕ) (plan : List (ℕ × ℕ)) (rule : Option Kind) (program : List ℕ) (answer : ThreadsAnswer A) : Type 0 where
+pub record IsAnswer {A : Type 0} (inputs : List ℕ) (budget : ℕ) (plan : List (ℕ × ℕ)) (rule : Option Kind) (history : HistoryUse) (program : List ℕ) (answer : ThreadsAnswer A) : Type 0 where
   pub image : ImageValue
   pub reads : program_of form.Elf program ≡ Ok image
-  pub of_run : IsOfRun image inputs budget plan rule answer
+  pub of_run : IsOfRun image inputs budget plan rule history answer
 
 -- a fault of the threads
 abbrev pub fault_of_run : RunFault → BankedEngineFault

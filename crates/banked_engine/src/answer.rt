@@ -2,12 +2,12 @@
 
 ghost use Rattle.std.specs.Prelude.{◌≡◌, IfOk, map, string_bytes};
 ghost use Rattle.hart_step.specs.Hart.{hart_of};
-ghost use Rattle.histories.specs.Printing.{history_text};
 ghost use Rattle.choice_histories.specs.Plain.{plain_entry};
 ghost use Rattle.ends.specs.Ends.{verdict_on};
 ghost use Rattle.engines.specs.Run.{shown_with};
-ghost use Rattle.banked_engine.specs.BankedAnswer.{hart_of_log};
+ghost use Rattle.banked_engine.specs.BankedAnswer.{hart_of_log, text_for};
 
+use crate::history::HistoryUse;
 use choice_histories::choices_text;
 use ends::ends_text;
 use hart_logs::HartLog;
@@ -31,21 +31,36 @@ pub(crate) fn harts_of<A: Allocator>(
     Ok(harts)
 }
 
+/// Choices as the text of a history, if that is read.
+fn text_for<A: Allocator + Copy>(
+    alloc: A,
+    history: HistoryUse,
+    choices: &[Choice],
+) -> Result<String<A>, AllocError>
+    ensures { IfOk result (λ text. string_bytes text ≡ text_for history (map plain_entry choices.now)) }
+{
+    match history {
+        HistoryUse::Read => choices_text(alloc, choices),
+        HistoryUse::Unread => Ok(String::new(alloc)),
+    }
+}
+
 /// Choices as the text of a history, and the lines of harts that they have led to, under a rule with the verdict.
 pub(crate) fn answer_of<A: Allocator + Copy>(
     alloc: A,
     inputs: &[u32],
     rule: Option<Kind>,
+    history: HistoryUse,
     choices: &[Choice],
     harts: &[Hart],
 ) -> Result<ThreadsAnswer<A>, AllocError>
     ensures history { IfOk result (λ answer.
-        string_bytes answer.history ≡ history_text (map plain_entry choices.now)) }
+        string_bytes answer.history ≡ text_for history (map plain_entry choices.now)) }
     ensures lines { IfOk result (λ answer.
         shown_with (verdict_on rule inputs.now choices.now (map hart_of harts.now)) (map hart_of harts.now)
         ≡ (string_bytes answer.lines, answer.status)) }
 {
-    let history = choices_text(alloc, choices)?;
+    let history = text_for(alloc, history, choices)?;
     let (lines, status) = ends_text(alloc, inputs, choices, harts, rule)?;
     Ok(ThreadsAnswer {
         history,

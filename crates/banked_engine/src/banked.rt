@@ -1,19 +1,22 @@
 //! `threads --banked`: a program, inputs, a budget and a plan in; the history that the harts' logs are, their ends and the verdict
 //! on them out.
 
-ghost use Rattle.std.specs.Prelude.{◌≡◌, ◌≢◌, ◌^◌, ◌-◌, ◌<◌, IfOk, IfErr, IfSome, Err};
+ghost use Rattle.std.specs.Prelude.{◌≡◌, ◌≢◌, ◌^◌, ◌-◌, ◌<◌, None, IfOk, IfErr, IfSome, Err};
 ghost use Rattle.engines.specs.Certified.{IsCertified};
 ghost use Rattle.machine.specs.Start.{IsStartable};
 ghost use Rattle.programs.specs.declared.program.ProgramForm.{ProgramForm};
 ghost use Rattle.banked_threads.specs.Banked.{IsBanked};
 ghost use Rattle.threads_engine.specs.Threads.{IsKept};
+ghost use Rattle.banked_engine.specs.declared.history.HistoryUse.{HistoryUse};
 ghost use Rattle.banked_engine.specs.BankedAnswer.{fault_of_run, IfReads, IsAnswer, IsOfRun, IsRefusal, Refuses};
 
 use crate::answer::{answer_of, harts_of};
 use crate::fault::BankedEngineFault;
+use crate::history::HistoryUse;
+use crate::unread::answer_of_ends;
 use banked_threads::{RunFault as BankedFault, run_banked};
 use banks::Bank;
-use banks_merge::merge_matched;
+use banks_merge::{logs_are_one_run, merge_matched};
 use devices::Source;
 use hart_logs::HartLog;
 use hart_threads::Gate;
@@ -26,7 +29,7 @@ use std::thread::Threads;
 use threads_engine::{ThreadsAnswer, ThreadsEngineFault, ThreadsTask};
 
 /// `threads --banked`: reads the program to its end, and runs it with a thread for each hart and a lock for each bank of memory.
-/// What is answered is what a replay of the answered history prints.
+/// What is answered is what a replay of the run's history prints, which is answered where it is read.
 pub fn banked_engine<
     A: Allocator + Copy + Send + Sync,
     P: Source,
@@ -36,12 +39,13 @@ pub fn banked_engine<
     rt: &R,
     alloc: A,
     task: ThreadsTask<A>,
+    history: HistoryUse,
     program: &mut P,
     gate: &G,
 ) -> Result<ThreadsAnswer<A>, BankedEngineFault>
     requires { P.failures program.old < 2 ^ 64 - 1 }
     ensures answer { IfOk result (λ answer. IfSome (P.left program.old) (λ p.
-        IsAnswer task.inputs.items task.budget task.plan.keys task.rule p answer)) }
+        IsAnswer task.inputs.items task.budget task.plan.keys task.rule history p answer)) }
     ensures startable { IfOk result (λ _. IsStartable task.inputs.items) }
     // A file that is an object, run by as many harts as it is for, never has a broken verdict of its kind's rule.
     ensures certified { IfOk result (λ answer. IfSome (P.left program.old) (λ p.
@@ -74,7 +78,7 @@ pub fn banked_engine<
         Ok(banked) => banked,
         Err(fault) => return Err(fault_of_banked(fault)),
     };
-    match answer_of_logs(alloc, &image, &task, &banked.logs, &banked.banks) {
+    match answer_of_logs(alloc, &image, &task, history, &banked.logs, &banked.banks) {
         Ok(answer) => Ok(answer),
         Err(AllocError) => Err(BankedEngineFault::Threads(ThreadsEngineFault::Run(
             RunFault::Memory,
@@ -82,8 +86,49 @@ pub fn banked_engine<
     }
 }
 
-// The logs of a run as the one run that they are.
+// The logs of a run as the one run that they are. Its choices are made only where a history or a verdict wants them.
 fn answer_of_logs<A: Allocator + Copy>(
+    alloc: A,
+    image: &Image<A>,
+    task: &ThreadsTask<A>,
+    history: HistoryUse,
+    logs: &[HartLog<A>],
+    banks: &[Bank<A>],
+) -> Result<ThreadsAnswer<A>, AllocError>
+    requires { IsBanked image.now task.now.inputs.items task.now.budget task.now.plan.keys logs.now banks.now }
+    ensures { IfOk result (λ answer.
+        IsOfRun image.now task.now.inputs.items task.now.budget task.now.plan.keys task.now.rule history answer) }
+{
+    match history {
+        HistoryUse::Read => merged_answer(alloc, image, task, history, logs, banks),
+        HistoryUse::Unread => match task.rule {
+            Some(_) => merged_answer(alloc, image, task, history, logs, banks),
+            None => unmerged_answer(alloc, image, task, logs, banks),
+        },
+    }
+}
+
+// The same, by the choices of the run.
+fn merged_answer<A: Allocator + Copy>(
+    alloc: A,
+    image: &Image<A>,
+    task: &ThreadsTask<A>,
+    history: HistoryUse,
+    logs: &[HartLog<A>],
+    banks: &[Bank<A>],
+) -> Result<ThreadsAnswer<A>, AllocError>
+    requires { IsBanked image.now task.now.inputs.items task.now.budget task.now.plan.keys logs.now banks.now }
+    ensures { IfOk result (λ answer.
+        IsOfRun image.now task.now.inputs.items task.now.budget task.now.plan.keys task.now.rule history answer) }
+{
+    let choices = merge_matched(alloc, logs, banks)?;
+    let harts = harts_of(alloc, logs)?;
+    let answer = answer_of(alloc, &task.inputs, task.rule, history, &choices, &harts)?;
+    Ok(answer)
+}
+
+// The same under no rule and without a history, so that nobody needs the choices.
+fn unmerged_answer<A: Allocator + Copy>(
     alloc: A,
     image: &Image<A>,
     task: &ThreadsTask<A>,
@@ -92,11 +137,11 @@ fn answer_of_logs<A: Allocator + Copy>(
 ) -> Result<ThreadsAnswer<A>, AllocError>
     requires { IsBanked image.now task.now.inputs.items task.now.budget task.now.plan.keys logs.now banks.now }
     ensures { IfOk result (λ answer.
-        IsOfRun image.now task.now.inputs.items task.now.budget task.now.plan.keys task.now.rule answer) }
+        IsOfRun image.now task.now.inputs.items task.now.budget task.now.plan.keys None HistoryUse.Unread answer) }
 {
-    let choices = merge_matched(alloc, logs, banks)?;
+    logs_are_one_run(logs, banks);
     let harts = harts_of(alloc, logs)?;
-    let answer = answer_of(alloc, &task.inputs, task.rule, &choices, &harts)?;
+    let answer = answer_of_ends(alloc, &task.inputs, &harts)?;
     Ok(answer)
 }
 

@@ -2,7 +2,7 @@
 
 ghost use Rattle.std.specs.Prelude.{◌^◌, ◌-◌, ◌<◌};
 
-use banked_engine::{BankedEngineFault, banked_engine};
+use banked_engine::{BankedEngineFault, HistoryUse, banked_engine};
 use command_line::{
     LineFault, Locks, ThreadsOrder, read_inputs, read_number, read_plan, read_rule,
 };
@@ -39,11 +39,21 @@ fn read_task(alloc: Global, order: &ThreadsOrder) -> Result<ThreadsTask<Global>,
     })
 }
 
+// What becomes of the history: it is written where that is ordered, and a person is told by it why harts were stopped.
+fn use_of_history(audience: Audience, order: &ThreadsOrder) -> HistoryUse {
+    if order.history.is_some() || audience == Audience::Person {
+        HistoryUse::Read
+    } else {
+        HistoryUse::Unread
+    }
+}
+
 // Runs a task under the locks that are ordered.
 fn run_task<P: Source, G: Gate + Sync, R: AllocGlobal + Threads + Wait + Sync>(
     rt: &R,
     locks: Locks,
     task: ThreadsTask<Global>,
+    history: HistoryUse,
     program: &mut P,
     gate: &G,
 ) -> Result<ThreadsAnswer<Global>, BankedEngineFault>
@@ -54,7 +64,7 @@ fn run_task<P: Source, G: Gate + Sync, R: AllocGlobal + Threads + Wait + Sync>(
             Ok(answer) => Ok(answer),
             Err(fault) => Err(BankedEngineFault::Threads(fault)),
         },
-        Locks::Banks => banked_engine(rt, rt.alloc(), task, program, gate),
+        Locks::Banks => banked_engine(rt, rt.alloc(), task, history, program, gate),
     }
 }
 
@@ -74,7 +84,8 @@ pub fn run_on_threads<R: Files + AllocGlobal + Print + Eprint + Threads + Wait +
     };
     let mut program = ReaderSource::new(program);
     let gate = TellingGate::new(rt, audience);
-    let answer = run_task(rt, order.locks, task, &mut program, &gate);
+    let history = use_of_history(audience, order);
+    let answer = run_task(rt, order.locks, task, history, &mut program, &gate);
     gate.wipe();
     match answer {
         Ok(answer) => write_answer(rt, audience, order, &answer),

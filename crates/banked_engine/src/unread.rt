@@ -1,0 +1,28 @@
+//! What is answered of a run whose choices nobody asks for.
+
+ghost use Rattle.std.specs.Prelude.{◌≡◌, None, [], IfOk, map, string_bytes};
+ghost use Rattle.hart_step.specs.Hart.{hart_of};
+ghost use Rattle.engines.specs.Run.{shown_with};
+
+use ends::ends_text;
+use hart_step::Hart;
+use std::alloc::{AllocError, Allocator};
+use threads_engine::ThreadsAnswer;
+
+/// The lines of harts under no rule, without choices and without a history.
+pub(crate) fn answer_of_ends<A: Allocator + Copy>(
+    alloc: A,
+    inputs: &[u32],
+    harts: &[Hart],
+) -> Result<ThreadsAnswer<A>, AllocError>
+    ensures history { IfOk result (λ answer. string_bytes answer.history ≡ []) }
+    ensures lines { IfOk result (λ answer.
+        shown_with None (map hart_of harts.now) ≡ (string_bytes answer.lines, answer.status)) }
+{
+    let (lines, status) = ends_text(alloc, inputs, &[], harts, None)?;
+    Ok(ThreadsAnswer {
+        history: String::new(alloc),
+        lines,
+        status,
+    })
+}
