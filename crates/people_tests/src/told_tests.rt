@@ -4,6 +4,7 @@ use advice::{Mistake, order_advice, push_mark};
 use asm_advice::{SourceText, asm_advice};
 use asm_read::{Fault, FaultKind};
 use debug_advice::line_advice;
+use loader::Segment;
 use refusing::{Call, tried};
 use std::alloc::{AllocError, Allocator, Global};
 
@@ -46,12 +47,18 @@ fn told_of_source<A: Allocator + Copy>(
     asm_advice(alloc, &sources, Fault { kind, source, line })
 }
 
+// What is told of a line at the debugger of a program without segments.
+fn told_of_typed<A: Allocator + Copy>(alloc: A, line: &str) -> Result<String<A>, AllocError> {
+    let segments: Vec<Segment<A>, A> = Vec::new(alloc);
+    line_advice(alloc, &segments, line)
+}
+
 // What is told.
 fn told<A: Allocator + Copy>(alloc: A, asked: Asked<'_>) -> Result<String<A>, AllocError> {
     match asked {
         Asked::Order(mistake, words) => order_advice(alloc, mistake, words),
         Asked::Source(kind, text, line) => told_of_source(alloc, kind, text, line),
-        Asked::Typed(line) => line_advice(alloc, &[], line),
+        Asked::Typed(line) => told_of_typed(alloc, line),
         Asked::Part(line, start) => marked(alloc, line, start),
     }
 }
