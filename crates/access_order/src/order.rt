@@ -12,8 +12,8 @@ use hart_logs::HartLog;
 use segment_order::LogSegment;
 use std::alloc::Allocator;
 
-/// Whether the accesses of a hart stand in the banks' logs in the order in which they stand in its own.
-fn is_ordered<A: Allocator>(hart: usize, segments: &[LogSegment], banks: &[Bank<A>]) -> bool
+/// Whether the accesses of a hart stand in the banks' logs in the order in which they stand in its own. It takes no memory of the host.
+pub fn is_ordered<A: Allocator>(hart: usize, segments: &[LogSegment], banks: &[Bank<A>]) -> bool
     requires { length banks.now ≡ most_banks }
     ensures { (result ≡ true) ↔ IsOrdered (logs_of banks.now) hart (accesses segments.now) }
 {
@@ -33,8 +33,8 @@ fn are_below(log: &[LoggedAccess], harts: usize) -> bool
     true
 }
 
-/// Whether the banks have accesses of harts below a number alone.
-fn have_no_others<A: Allocator>(banks: &[Bank<A>], harts: usize) -> bool
+/// Whether the banks have accesses of harts below a number alone. It takes no memory of the host.
+pub fn have_no_others<A: Allocator>(banks: &[Bank<A>], harts: usize) -> bool
     requires { length banks.now ≡ most_banks }
     ensures { (result ≡ true) ↔ HaveNoOthers (logs_of banks.now) harts }
 {

@@ -1,17 +1,31 @@
 -- Lists, place by place.
-use Rattle.std.proofs.Common.{◌≡◌, ℕ, zero, suc, ◌+◌, ◌<◌, ◌≤◌, List, [], ◌∷◌, length, drop, get_or, Some, refl, ap, ap₂, sym, subst, ◌∙◌, arith, ⊎_elim}
+use Rattle.std.proofs.Common.{◌≡◌, ℕ, zero, suc, ◌+◌, ◌<◌, ◌≤◌, Bool, true, false, List, [], ◌∷◌, length, drop, get_or, Some, inl, inr, refl, ap, ap₂, sym, subst, ◌∙◌, arith, ⊎_elim}
 use Rattle.std.specs.Prelude.{slice_get}
-use Rattle.std.proofs.lemmas.Bool.{cases_eq}
+use Rattle.std.specs.List.{list_all}
+use Rattle.std.proofs.lemmas.Bool.{cases_Bool, cases_eq}
+use Rattle.std.proofs.lemmas.List.Folds.{list_all_at}
 
 get_here : {A : Type 0} (xs : List A) (i : ℕ) (a d : A) → i < length xs → d ≡ get_or xs i a → slice_get xs i ≡ Some d
 get_here [] i a d low e = absurd (omega (arith, low))
 get_here (x ∷ xs) zero a d low e = ap Some (sym e)
 get_here (x ∷ xs) (suc i) a d low e = get_here xs i a d (omega (arith, low)) e
 
-get_inside : {A : Type 0} (xs : List A) (i : ℕ) (a : A) → slice_get xs i ≡ Some a → i < length xs
+pub get_inside : {A : Type 0} (xs : List A) (i : ℕ) (a : A) → slice_get xs i ≡ Some a → i < length xs
 get_inside [] i a e = cc (e)
 get_inside (x ∷ xs) zero a e = omega arith
 get_inside (x ∷ xs) (suc i) a e = let low = get_inside xs i a e in omega (arith, low)
+
+pub get_it : {A : Type 0} (xs : List A) (i : ℕ) (a : A) → slice_get xs i ≡ Some a → get_or xs i a ≡ a
+get_it [] i a e = refl
+get_it (x ∷ xs) zero a e = cc (e)
+get_it (x ∷ xs) (suc i) a e = get_it xs i a e
+
+-- where all answers are yes, each is
+pub each_yes : (answers : List Bool) (i : ℕ) → i < length answers → list_all (λ answer. answer) answers ≡ true → get_or answers i false ≡ true
+each_yes answers i low all = elim (cases_Bool (get_or answers i false)) [
+  | inl there ↦ there
+  | inr missing ↦ let none = list_all_at (λ (answer : Bool). answer) answers i false low missing in absurd (cc (all, none))
+]
 
 -- what is left from a place on begins with what stands there
 pub drop_here : {A : Type 0} (xs : List A) (i : ℕ) (a : A) → i < length xs → a ≡ get_or xs i a → drop i xs ≡ a ∷ drop (i + 1) xs

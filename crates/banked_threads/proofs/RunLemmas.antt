@@ -1,21 +1,25 @@
 -- What a run leaves, from what was compared; and what merging makes of it.
-use Rattle.std.proofs.Common.{◌≡◌, ℕ, ◌%◌, List, [], length, true, false, Some, subst, refl, sym, eqb, inl, inr, ⊎_elim, arith, rules}
+use Rattle.std.proofs.Common.{◌≡◌, ℕ, zero, suc, ◌%◌, ◌<◌, List, [], ◌∷◌, length, true, false, Some, subst, refl, sym, ◌∙◌, eqb, inl, inr, ⊎_elim, arith, rules}
 use Rattle.std.specs.Prelude.{slice_get}
 use Rattle.std.proofs.lemmas.Bool.{cases_Bool}
+use Rattle.std.proofs.lemmas.List.{length-map}
 use Rattle.std.proofs.lemmas.Bool.Decides.{nat_tests}
 use Rattle.loader.specs.Image.{ImageValue, is_sound, IsSound}
 use Rattle.loader.specs.Segment.{SegmentValue}
-use Rattle.banks_laws.specs.Segments.{LoggedSegment}
+use Rattle.banks_laws.specs.Segments.{LoggedSegment, accesses}
+use Rattle.access_order.specs.AccessOrder.{logs_of, own_log, segments_of, HaveNoOthers, IsOrdered}
+use Rattle.access_order.proofs.OrderLemmas.{ordered_match}
 use Rattle.banks_laws.specs.Order.{Rises, Earlier}
 use Rattle.banks_runs.specs.Merged.{most_banks}
 use Rattle.banks.specs.BankLog.{BankLog}
 use Rattle.hart_logs.specs.HartLog.{HartLogValue}
-use Rattle.banks_merge.specs.Logs.{hart_log, AreNumbered, AreOf, StampsRise}
+use Rattle.banks_merge.specs.Logs.{hart_log, AreOf, StampsRise}
 use Rattle.banks_merge.specs.Merge.{AreMatched, Refuses}
 use Rattle.banks_merge.specs.declared.merging.MergeFault.{MergeFault}
 use Rattle.banks_merge.specs.declared.merging.MergeFault.TheVariants.{Unmatched, OutOfOrder, Memory}
 use Rattle.banks_merge.proofs.MatchLemmas.{hart_at}
 use Rattle.banked_threads.specs.Banked.{IsBanked, IsBankOf, IsHartOf}
+use Rattle.banked_threads.specs.Ordered.{AreOrderedHarts}
 
 abbrev Logs : ImageValue → List ℕ → ℕ → List (ℕ × ℕ) → List HartLogValue → Type 0
 Logs image inputs budget plan logs = (length logs ≡ length inputs)
@@ -32,8 +36,23 @@ entry_aligned entry ss sound = elim (cases_Bool (eqb (entry % 4) 0)) [
   | inr crooked ↦ absurd (let no : false ≡ true = rw crooked at sound in search rules)
 ]
 
-pub numbered : (image : ImageValue) (inputs : List ℕ) (banks : List BankLog) → Banks image inputs banks → AreNumbered banks
-numbered image inputs banks bs b k at = (bs.1 b k at).number
+-- the log of a hart that is there
+there : (logs : List HartLogValue) (h : ℕ) → h < length logs → (l : HartLogValue) × (slice_get logs h ≡ Some l) × (own_log (segments_of logs) h ≡ l.log)
+there [] h low = absurd (omega (arith, low))
+there (l ∷ logs) zero low = (l, refl, refl)
+there (l ∷ logs) (suc h) low = there logs h (omega (arith, low))
+
+-- logs whose accesses stand in the banks' in their own order match
+pub ordered_matched : (image : ImageValue) (inputs : List ℕ) (budget : ℕ) (plan : List (ℕ × ℕ)) (logs : List HartLogValue) (banks : List BankLog)
+    → length banks ≡ most_banks → AreOrderedHarts image inputs budget plan (logs_of banks) logs → HaveNoOthers (logs_of banks) (length logs) → AreMatched logs banks
+ordered_matched image inputs budget plan logs banks sixteen harts no_others =
+    let same : length (segments_of logs) ≡ length logs = length-map logs (λ (l : HartLogValue). l.log) in
+    ordered_match (segments_of logs) (logs_of banks) (length-map banks (λ (k : BankLog). k.log) ∙ sixteen) record {
+      each = λ h low.
+          let p = there logs h (omega (arith, low, same)) in
+          subst (λ (es : List LoggedSegment). IsOrdered (logs_of banks) h (accesses es)) (sym p.2) (harts.1 h p.0 p.1).1;
+      no_others = subst (λ (n : ℕ). HaveNoOthers (logs_of banks) n) (sym same) no_others;
+    }
 
 pub is_banked : (image : ImageValue) (inputs : List ℕ) (budget : ℕ) (plan : List (ℕ × ℕ)) (logs : List HartLogValue) (banks : List BankLog)
     → IsSound image.entry image.segments → Logs image inputs budget plan logs → Banks image inputs banks → AreMatched logs banks

@@ -1,2 +1,3 @@
 pub mod Banked
+pub mod Ordered
 pub mod Walked

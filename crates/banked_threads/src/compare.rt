@@ -5,16 +5,15 @@ ghost use Rattle.banks_runs.specs.Merged.{most_banks};
 ghost use Rattle.hart_logs.specs.HartLog.{HartLogValue};
 ghost use Rattle.hart_threads.specs.Outcome.{is_stopped};
 ghost use Rattle.hart_threads.specs.Plan.{is_planned};
-ghost use Rattle.banked_threads.specs.Banked.{choices_in, HasEnded, IsBankOf, IsBanked, IsFlagged, IsHartOf};
+ghost use Rattle.banked_threads.specs.Banked.{choices_in, HasEnded, IsBankOf, IsFlagged, IsHartOf};
 
 use banks::{BANKS, Bank};
-use banks_merge::is_matched;
 use hart_logs::HartLog;
 use hart_step::{Hart, HartState};
 use hart_threads::Plan;
 use loader::{Image, Segment};
 use segment_order::{LogSegment, is_rising};
-use std::alloc::{AllocError, Allocator};
+use std::alloc::Allocator;
 
 /// Whether two segments are the same.
 fn same_segment<A: Allocator>(first: &Segment<A>, second: &Segment<A>) -> bool
@@ -173,30 +172,4 @@ pub fn are_of_banks<'a, A: Allocator>(
         }
     }
     true
-}
-
-/// Whether logs and banks are all that a run has left: each hart's and each bank's, once and in order, with the same accesses.
-pub fn are_of_a_run<'a, A: Allocator + Copy>(
-    alloc: A,
-    logs: &[HartLog<'a, A>],
-    banks: &[Bank<'a, A>],
-    image: &Image<A>,
-    inputs: &[u32],
-    plan: &Plan<A>,
-    budget: u32,
-) -> Result<bool, AllocError>
-    requires { length inputs.now ≤ 32 }
-    ensures { IfOk result (λ all. all ≡ true
-        → IsBanked image.now inputs.now budget plan.now.keys logs.now banks.now) }
-{
-    if !are_of_harts(logs, image, inputs, plan, budget) {
-        return Ok(false);
-    }
-    if !are_of_banks(banks, image, inputs) {
-        return Ok(false);
-    }
-    // An image that was made has passed its checks, also that of its entry.
-    let _ = image.segments();
-    let matched = is_matched(alloc, logs, banks)?;
-    Ok(matched)
 }

@@ -3,9 +3,9 @@ ghost use Rattle.std.specs.Prelude.{◌≡◌, ◌<◌, ◌≤◌, IfOk, IfErr, 
 ghost use Rattle.reservations.specs.Limit.{most_harts as most};
 ghost use Rattle.banked_threads.specs.Banked.{IsBanked, RunRefuses};
 
-use crate::compare::are_of_a_run;
 use crate::fault::{RunFault, StepFault};
 use crate::job::Job;
+use crate::whole::are_of_a_run;
 use crate::worker::work;
 use banks::Bank;
 use hart_logs::HartLog;
@@ -63,7 +63,7 @@ pub fn run_banked<'a, A: Allocator + Copy + Send + Sync, G: Gate + Sync, R: Thre
     let Ok(banks) = unlocked(alloc, banks) else {
         return Err(RunFault::Memory);
     };
-    let Ok(all) = are_of_a_run(alloc, &logs, &banks, image, inputs, plan, budget) else {
+    let Ok(all) = are_of_a_run(rt, alloc, &logs, &banks, image, inputs, plan, budget) else {
         return Err(RunFault::Memory);
     };
     if !all {

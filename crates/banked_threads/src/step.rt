@@ -69,7 +69,7 @@ fn found_in<A: Allocator>(bank: &Bank<A>, hart: u32, word: u32) -> Found
 {
     Found {
         bytes: bank.bytes(word),
-        mark: bank.marks().holds(hart as usize, word),
+        mark: bank.holds(hart as usize, word),
     }
 }
 

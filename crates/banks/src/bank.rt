@@ -2,6 +2,7 @@
 ghost use Rattle.std.specs.Prelude.{◌≡◌, ◌↔◌, ◌%◌, ◌<◌, ◌≤◌, length, IfErr, OnErr, OnOk, [], true};
 ghost use Rattle.loader.specs.Image.{ImageValue};
 ghost use Rattle.reservations.specs.Limit.{most_harts};
+ghost use Rattle.reservations.specs.Marks.{names};
 ghost use Rattle.reservations.specs.Reserve.{marks};
 ghost use Rattle.banks_laws.specs.Banks.{marks_after};
 ghost use Rattle.banks_runs.specs.Merged.{most_banks};
@@ -116,6 +117,14 @@ impl<'a, A: Allocator> Bank<'a, A> {
         ensures { marks result ≡ (state_of self.now).marks }
     {
         self.held
+    }
+
+    /// Whether a hart's mark stands on a word.
+    pub fn holds(&self, hart: usize, word: u32) -> bool
+        requires { hart < most_harts }
+        ensures { result ≡ names ((state_of self.now).marks hart) word }
+    {
+        self.held.holds(hart, word)
     }
 
     /// The accesses so far.
