@@ -1,5 +1,5 @@
 //! An image's memory as a hart is told it.
-ghost use Rattle.std.specs.Prelude.{◌≡◌, ℕ, ◌+◌, ◌<◌, ◌≤◌, false, length, IfSome};
+ghost use Rattle.std.specs.Prelude.{◌≡◌, ◌⊎◌, ℕ, ◌+◌, ◌<◌, ◌≤◌, true, false, length, IfSome};
 ghost use Rattle.std.specs.Option.{ForSome};
 ghost use Rattle.std.specs.Option.{is_some};
 ghost use Rattle.memory.specs.Memory.{granted, number_at, to_execute, to_load, to_write};
@@ -52,12 +52,26 @@ fn bytes_of(word: Option<Word>, address: u32) -> Option<[u8; 4]>
     None
 }
 
+/// Whether four bytes from an address on have none of the four from another on.
+#[inline]
+fn is_apart(first: u32, second: u32) -> bool
+    ensures { result ≡ true → (first + 4 ≤ second) ⊎ (second + 4 ≤ first) }
+{
+    let first = u64::from(first);
+    let second = u64::from(second);
+    first + 4 <= second || second + 4 <= first
+}
+
 /// The four bytes from an address on, where those below a word are given.
 #[inline]
 fn bytes_over(word: Option<Word>, address: u32, below: [u8; 4]) -> [u8; 4]
     ensures { (bytes : ℕ → ℕ) → bytes_at bytes address ≡ below → result ≡ bytes_at (with_told bytes word) address }
 {
-    if word.is_none() {
+    let is_apart = match word {
+        None => true,
+        Some(word) => is_apart(word.address, address),
+    };
+    if is_apart {
         return below;
     }
     let first = u64::from(address);
