@@ -4,9 +4,10 @@ ghost use Rattle.loader.specs.Image.{ImageValue};
 ghost use Rattle.reservations.specs.Limit.{most_harts};
 ghost use Rattle.reservations.specs.Marks.{names};
 ghost use Rattle.reservations.specs.Reserve.{marks};
-ghost use Rattle.banks_laws.specs.Banks.{marks_after};
+ghost use Rattle.banks_laws.specs.Banks.{marks_after, Finds};
 ghost use Rattle.banks_runs.specs.Merged.{most_banks};
 ghost use Rattle.banks.specs.BankLog.{Fits, IsOfBank, Refuses, state_of, taken};
+ghost use Rattle.banks.specs.declared.bank.AddFault.{AddFault};
 ghost use Rattle.banks.specs.Stamps.{last_stamp};
 ghost use Rattle.banks.specs.Stored.{value_in, StoresAt};
 
@@ -144,13 +145,21 @@ impl<'a, A: Allocator> Bank<'a, A> {
         }
     }
 
+    /// Whether an access may come next that finds what the bank has.
+    fn fits_found(&self, access: &LoggedAccess) -> bool
+        requires { Finds (state_of self.now) access.now }
+        ensures { (result ≡ true) ↔ Fits self.now access.now }
+    {
+        access.word % 4 == 0
+            && access.word / 4 % BANKS == self.number
+            && (access.hart as usize) < self.inputs.len()
+            && may_follow(&self.log, access)
+    }
+
     /// Whether an access may come next.
     fn fits(&self, access: &LoggedAccess) -> bool
         ensures { (result ≡ true) ↔ Fits self.now access.now }
     {
-        if access.word % 4 != 0 || access.word / 4 % BANKS != self.number {
-            return false;
-        }
         if access.hart as usize >= self.inputs.len() {
             return false;
         }
@@ -160,7 +169,27 @@ impl<'a, A: Allocator> Bank<'a, A> {
         if self.held.holds(access.hart as usize, access.word) != access.mark {
             return false;
         }
-        may_follow(&self.log, access)
+        self.fits_found(access)
+    }
+
+    /// Takes an access that fits into the log, and does to bytes and marks what it did.
+    fn take(&mut self, access: LoggedAccess) -> Result<(), AddFault>
+    where
+        A: Clone,
+        requires { Fits self.old access }
+        ensures ok { OnOk result (self.new ≡ taken self.old access) }
+        ensures fault { IfErr result (λ fault. fault ≡ AddFault.Memory) }
+        ensures err { OnErr result (self.new ≡ self.old) }
+    {
+        let Ok(_) = self.log.push(access) else {
+            return Err(AddFault::Memory);
+        };
+        if !store(&mut self.changed, &access) {
+            self.log.pop();
+            return Err(AddFault::Memory);
+        }
+        mark(&mut self.held, &access);
+        Ok(())
     }
 
     /// Takes an access into the log, and does to bytes and marks what it did.
@@ -174,15 +203,22 @@ impl<'a, A: Allocator> Bank<'a, A> {
         if !self.fits(&access) {
             return Err(AddFault::Mismatch);
         }
-        let Ok(_) = self.log.push(access) else {
-            return Err(AddFault::Memory);
-        };
-        if !store(&mut self.changed, &access) {
-            self.log.pop();
-            return Err(AddFault::Memory);
+        self.take(access)
+    }
+
+    /// Takes an access as `add` does, of which it is known that it finds what the bank has: that isn't looked up again.
+    pub fn add_found(&mut self, access: LoggedAccess) -> Result<(), AddFault>
+    where
+        A: Clone,
+        requires { Finds (state_of self.old) access }
+        ensures ok { OnOk result (Fits self.old access × (self.new ≡ taken self.old access)) }
+        ensures fault { IfErr result (λ fault. Refuses self.old access fault) }
+        ensures err { OnErr result (self.new ≡ self.old) }
+    {
+        if !self.fits_found(&access) {
+            return Err(AddFault::Mismatch);
         }
-        mark(&mut self.held, &access);
-        Ok(())
+        self.take(access)
     }
 }
 

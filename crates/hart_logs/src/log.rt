@@ -178,6 +178,7 @@ impl<'a, A: Allocator> HartLog<'a, A> {
         requires { TouchesNext self.old segment (as_touch touch) }
         ensures ok { IfOk result (λ access. Fits self.old (with_access segment access)
             × (self.new ≡ taken self.old (with_access segment access))) }
+        ensures touches { IfOk result (λ access. (access.hart ≡ segment.hart) × (access.word ≡ touch.word)) }
         ensures finds { IfOk result (λ access. (access.before ≡ found.bytes) × (access.mark ≡ found.mark)) }
         ensures fault { IfErr result (λ fault. fault ≡ AddFault.Memory) }
         ensures err { OnErr result (self.new ≡ self.old) }

@@ -191,6 +191,7 @@ pub(crate) fn touch_word<A: Allocator>(
         code ≡ told_word (t.need s.hart) c → t.plan s.hart c ≡ Some (as_touch touch)
         → result.access ≡ access t e s.hart c (as_touch touch) found.bytes found.mark
         (succeeds (as_touch touch).act e.refuse (found.mark && names s.named touch.word)) }
+    ensures touches { (result.access.hart ≡ segment.now.hart) × (result.access.word ≡ touch.word) }
     ensures slot { (c : WordBytes) → let t = image_table image.now in let s = slot_is slot.now in let e = segment.now in
         code ≡ told_word (t.need s.hart) c → t.plan s.hart c ≡ Some (as_touch touch)
         → slot_is result.slot ≡ slot_did t s c (as_touch touch) found.bytes

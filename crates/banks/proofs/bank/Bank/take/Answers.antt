@@ -2,7 +2,7 @@ use Rattle.std.proofs.Common.{rules, arith, ◌≡◌}
 use Rattle.std.proofs.lemmas.Grind.{common_steps}
 use Rattle.banks.specs.BankLog.{Fits}
 use Rattle.banks.proofs.BankLemmas.{holds_push, holds_still}
-use Rattle.banks.proofs.bank.Bank.add.Goals as goal
+use Rattle.banks.proofs.bank.Bank.take.Goals as goal
 
 pub invariant_of-self-then-not-store : goal.invariant_of-self-then-not-store
 invariant_of-self-then-not-store g c =
