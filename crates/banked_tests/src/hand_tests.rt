@@ -5,8 +5,9 @@ use banks::{Bank, next_stamp};
 use banks_laws::{LoggedAccess, LoggedKind};
 use banks_merge::{MergeFault, merge};
 use hart_logs::HartLog;
+use loader::Image;
 use segment_order::LogSegment;
-use std::alloc::Allocator;
+use std::alloc::{AllocError, Allocator};
 
 /// The first store of the hart of `STORES` with the input 7.
 pub const FIRST: LoggedAccess = LoggedAccess {
@@ -53,120 +54,132 @@ const STAMPS: [(u64, &[u64], Option<u64>); 6] = [
 
 #[test]
 fn stamps_follow(rt: HostRuntime) {
-    for (own, banks, wanted) in STAMPS {
-        assert_eq!(rt; next_stamp(own, banks), wanted, "{own} and {banks:?}");
+    for (own, banks, wanted) in &STAMPS {
+        assert!(rt; next_stamp(*own, banks) == *wanted, "{own}");
     }
 }
 
-// A program, what its one hart logs by two segments, the accesses of its banks, and why both are not merged.
-const ROWS: [(
-    &str,
-    Program,
-    [(u64, Option<LoggedAccess>); 2],
-    &[LoggedAccess],
-    Option<MergeFault>,
-); 8] = [
-    (
-        "two additions",
-        ADDITIONS,
-        [(1, None), (2, None)],
-        &[],
-        None,
-    ),
-    (
-        "the last stamps",
-        ADDITIONS,
-        [(LAST - 1, None), (LAST, None)],
-        &[],
-        None,
-    ),
-    (
-        "equal stamps",
-        ADDITIONS,
-        [(2, None), (2, None)],
-        &[],
-        Some(MergeFault::OutOfOrder),
-    ),
-    (
-        "falling stamps",
-        ADDITIONS,
-        [(3, None), (2, None)],
-        &[],
-        Some(MergeFault::OutOfOrder),
-    ),
-    (
-        "two stores",
-        STORES,
-        [(1, Some(FIRST)), (2, Some(SECOND))],
-        &[FIRST, SECOND],
-        None,
-    ),
-    (
-        "a store in the hart's log alone",
-        STORES,
-        [(1, Some(FIRST)), (2, Some(SECOND))],
-        &[FIRST],
-        Some(MergeFault::Unmatched),
-    ),
-    (
-        "a store in the bank's log alone",
-        ADDITIONS,
-        [(1, None), (2, None)],
-        &[FIRST],
-        Some(MergeFault::Unmatched),
-    ),
-    (
-        "the same with equal stamps",
-        ADDITIONS,
-        [(2, None), (2, None)],
-        &[FIRST],
-        Some(MergeFault::Unmatched),
-    ),
+// What a program's one hart logs by two segments, each a stamp and an access, the accesses of its banks, and why both are not merged.
+struct Row {
+    name: &'static str,
+    program: Program,
+    first: (u64, Option<LoggedAccess>),
+    second: (u64, Option<LoggedAccess>),
+    accesses: &'static [LoggedAccess],
+    fault: Option<MergeFault>,
+}
+
+const ROWS: [Row; 8] = [
+    Row {
+        name: "two additions",
+        program: ADDITIONS,
+        first: (1, None),
+        second: (2, None),
+        accesses: &[],
+        fault: None,
+    },
+    Row {
+        name: "the last stamps",
+        program: ADDITIONS,
+        first: (LAST - 1, None),
+        second: (LAST, None),
+        accesses: &[],
+        fault: None,
+    },
+    Row {
+        name: "equal stamps",
+        program: ADDITIONS,
+        first: (2, None),
+        second: (2, None),
+        accesses: &[],
+        fault: Some(MergeFault::OutOfOrder),
+    },
+    Row {
+        name: "falling stamps",
+        program: ADDITIONS,
+        first: (3, None),
+        second: (2, None),
+        accesses: &[],
+        fault: Some(MergeFault::OutOfOrder),
+    },
+    Row {
+        name: "two stores",
+        program: STORES,
+        first: (1, Some(FIRST)),
+        second: (2, Some(SECOND)),
+        accesses: &[FIRST, SECOND],
+        fault: None,
+    },
+    Row {
+        name: "a store in the hart's log alone",
+        program: STORES,
+        first: (1, Some(FIRST)),
+        second: (2, Some(SECOND)),
+        accesses: &[FIRST],
+        fault: Some(MergeFault::Unmatched),
+    },
+    Row {
+        name: "a store in the bank's log alone",
+        program: ADDITIONS,
+        first: (1, None),
+        second: (2, None),
+        accesses: &[FIRST],
+        fault: Some(MergeFault::Unmatched),
+    },
+    Row {
+        name: "the same with equal stamps",
+        program: ADDITIONS,
+        first: (2, None),
+        second: (2, None),
+        accesses: &[FIRST],
+        fault: Some(MergeFault::Unmatched),
+    },
 ];
 
-// How many choices logs by hand are merged to.
-fn count_merged<A: Allocator + Copy>(
-    alloc: A,
-    program: Program,
-    first: LogSegment,
-    second: LogSegment,
-    accesses: &[LoggedAccess],
-) -> Result<usize, Lack> {
-    let Ok(image) = image_of(alloc, program) else {
+// How many choices a row's logs are merged to.
+fn count_merged<A: Allocator + Copy>(alloc: A, row: &Row) -> Result<usize, Lack> {
+    let Ok(image) = image_of(alloc, row.program) else {
         return Err(Lack::Memory);
     };
-    let hand = by_hand(alloc, &image, &[7], first, second, accesses)?;
+    let first = segment(row.first.0, row.first.1);
+    let second = segment(row.second.0, row.second.1);
+    let hand = by_hand(alloc, &image, &[7], first, second, row.accesses)?;
     let choices = merge(alloc, &hand.logs, &hand.banks)?;
     Ok(choices.len())
 }
 
 #[test]
 fn logs_by_hand_are_merged_where_they_match(rt: HostRuntime) {
-    for (name, program, [first, second], accesses, fault) in ROWS {
-        let first = segment(first.0, first.1);
-        let second = segment(second.0, second.1);
-        let wanted = match fault {
+    for row in &ROWS {
+        let wanted = match row.fault {
             None => Ok(2),
             Some(fault) => Err(Lack::Merged(fault)),
         };
-        let merged = count_merged(rt.alloc(), program, first, second, accesses);
-        assert_eq!(rt; merged, wanted, "{name}");
+        assert!(rt; count_merged(rt.alloc(), row) == wanted, "{}", row.name);
     }
 }
 
+// The first store with the last stamp.
+const AT_LAST: LoggedAccess = LoggedAccess {
+    stamp: LAST,
+    ..FIRST
+};
+
+// Whether a hart behind the last stamp has no next one.
+fn hart_has_no_next<A: Allocator + Copy>(alloc: A, image: &Image<A>) -> bool {
+    let mut log = HartLog::new(alloc, image, &[7], 0);
+    log.add(segment(LAST, Some(AT_LAST))).is_ok() && next_stamp(log.last_stamp(), &[]).is_none()
+}
+
+// Whether a hart has none that accesses a bank behind it.
+fn bank_has_no_next<A: Allocator + Copy>(alloc: A, image: &Image<A>) -> bool {
+    let mut bank = Bank::new(alloc, image, &[7], 0);
+    bank.add(AT_LAST).is_ok() && next_stamp(0, &[bank.last_stamp()]).is_none()
+}
+
 #[test]
-fn nothing_comes_behind_the_last_stamp(rt: HostRuntime) {
-    let Ok(image) = image_of(rt.alloc(), STORES) else {
-        return assert!(rt; false, "no image");
-    };
-    let last = LoggedAccess {
-        stamp: LAST,
-        ..FIRST
-    };
-    let mut log = HartLog::new(rt.alloc(), &image, &[7], 0);
-    assert_eq!(rt; log.add(segment(LAST, Some(last))), Ok(()));
-    assert_eq!(rt; next_stamp(log.last_stamp(), &[]), None);
-    let mut bank = Bank::new(rt.alloc(), &image, &[7], 0);
-    assert_eq!(rt; bank.add(last), Ok(()));
-    assert_eq!(rt; next_stamp(0, &[bank.last_stamp()]), None);
+fn nothing_comes_behind_the_last_stamp(rt: HostRuntime) -> Result<(), AllocError> {
+    let image = image_of(rt.alloc(), STORES)?;
+    assert!(rt; hart_has_no_next(rt.alloc(), &image) && bank_has_no_next(rt.alloc(), &image));
+    Ok(())
 }

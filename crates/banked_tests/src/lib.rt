@@ -18,4 +18,6 @@ mod programs;
 #[cfg(test)]
 mod run_tests;
 #[cfg(test)]
+mod stamp_tests;
+#[cfg(test)]
 mod swap_tests;

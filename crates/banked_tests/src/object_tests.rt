@@ -65,10 +65,10 @@ fn verdict_of<A: Allocator + Copy + Send + Sync, R: Threads + Wait + Sync>(
 
 #[test]
 fn objects_keep_their_rule(rt: HostRuntime) {
-    for (kind, inputs) in OBJECTS {
+    for (kind, inputs) in &OBJECTS {
         for number in 0..RUNS {
-            let found = verdict_of(&rt, rt.alloc(), kind, inputs, number);
-            assert_eq!(rt; found, Ok(Some(Verdict::Kept)), "{kind:?}, run {number}");
+            let found = verdict_of(&rt, rt.alloc(), *kind, inputs, number);
+            assert!(rt; found == Ok(Some(Verdict::Kept)), "run {number}");
         }
     }
 }

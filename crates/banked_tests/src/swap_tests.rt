@@ -8,11 +8,12 @@ use banks_laws::LoggedAccess;
 use banks_merge::MergeFault;
 use choice_texts::print_runs;
 use hart_logs::HartLog;
-use hart_step::HartState;
+use hart_step::{Hart, HartState};
 use hart_threads::Plan;
 use loader::Image;
+use machine::Choice;
 use protocol_library::Kind;
-use std::alloc::Allocator;
+use std::alloc::{AllocError, Allocator};
 use std::sync::Wait;
 use std::thread::Threads;
 
@@ -48,43 +49,71 @@ fn run_swap<'a, A: Allocator + Copy + Send + Sync, R: Threads + Wait + Sync>(
     run_merged(rt, alloc, image, &INPUTS, BUDGET, plan, &gate)
 }
 
-// A log as it is compared.
-fn steps_of<A: Allocator + Copy>(alloc: A, log: &HartLog<A>) -> Option<Vec<Step, A>> {
-    let mut steps = Vec::new(alloc);
-    for segment in log.segments() {
-        let bank = segment.data_access.map(|access| access.word / 4 % 16);
-        steps.push((segment.stamp, segment.local, bank)).ok()?;
+// Whether a log has these steps.
+fn has_steps<A: Allocator>(log: &HartLog<A>, steps: &[Step]) -> bool {
+    if log.segments().len() != steps.len() {
+        return false;
     }
-    Some(steps)
+    for (segment, wanted) in log.segments().iter().zip(steps) {
+        let bank = segment.data_access.map(|access| access.word / 4 % 16);
+        if (segment.stamp, segment.local, bank) != *wanted {
+            return false;
+        }
+    }
+    true
+}
+
+// Whether the harts' logs have their steps.
+fn have_steps<A: Allocator>(logs: &[HartLog<A>]) -> bool {
+    if logs.len() != STEPS.len() {
+        return false;
+    }
+    for (log, steps) in logs.iter().zip(STEPS) {
+        if !has_steps(log, steps) {
+            return false;
+        }
+    }
+    true
+}
+
+// Whether choices are those, as a text.
+fn are_choices<A: Allocator + Copy>(alloc: A, choices: &[Choice]) -> Result<bool, AllocError> {
+    let text = print_runs(alloc, choices)?;
+    Ok(text.as_str() == CHOICES)
+}
+
+// Whether a hart has exited with the value of hart 1, and has that hart's number in a1.
+fn has_ended(hart: &Hart) -> bool {
+    hart.state == HartState::Exited(9) && hart.registers[11] == 1
+}
+
+// What of the run isn't as the page has it, if anything.
+fn found_wrong<A: Allocator + Copy + Send + Sync, R: Threads + Wait + Sync>(
+    rt: &R,
+    alloc: A,
+) -> Result<(), Lack> {
+    let program = Program::Object(Kind::Swap);
+    let (Ok(image), Ok(plan)) = (image_of(alloc, program), plan_of(alloc, &[])) else {
+        return Err(Lack::Memory);
+    };
+    let Merged { banked, choices } = run_swap(rt, alloc, &image, &plan)?;
+    if !have_steps(&banked.logs) {
+        return Err(Lack::Words);
+    }
+    if are_choices(alloc, &choices) != Ok(true) {
+        return Err(Lack::Again);
+    }
+    let machine = machine_after(alloc, &image, &INPUTS, &choices)?;
+    if machine.ends().len() == 2 && machine.ends().iter().all(has_ended) {
+        Ok(())
+    } else {
+        Err(Lack::Ends)
+    }
 }
 
 #[test]
 fn one_hart_after_the_other(rt: HostRuntime) {
-    let program = Program::Object(Kind::Swap);
-    let (Ok(image), Ok(plan)) = (image_of(rt.alloc(), program), plan_of(rt.alloc(), &[])) else {
-        return assert!(rt; false, "no program");
-    };
-    let Ok(Merged { banked, choices }) = run_swap(&rt, rt.alloc(), &image, &plan) else {
-        return assert!(rt; false, "no run");
-    };
-    assert_eq!(rt; banked.logs.len(), 2);
-    for (log, wanted) in banked.logs.iter().zip(STEPS) {
-        let Some(steps) = steps_of(rt.alloc(), log) else {
-            return assert!(rt; false, "no memory for the steps");
-        };
-        assert_eq!(rt; steps.as_slice(), wanted);
-    }
-    let Ok(text) = print_runs(rt.alloc(), &choices) else {
-        return assert!(rt; false, "no memory for the text");
-    };
-    assert_eq!(rt; text.as_str(), CHOICES);
-    let Ok(machine) = machine_after(rt.alloc(), &image, &INPUTS, &choices) else {
-        return assert!(rt; false, "no machine");
-    };
-    for hart in machine.ends() {
-        assert_eq!(rt; hart.state, HartState::Exited(9));
-        assert_eq!(rt; hart.registers[11], 1);
-    }
+    assert!(rt; found_wrong(&rt, rt.alloc()) == Ok(()));
 }
 
 // The accesses of banks, without the last ones of bank 0.
@@ -130,6 +159,6 @@ fn each_access_of_a_bank_is_wanted(rt: HostRuntime) {
     let unmatched = Err(Lack::Merged(MergeFault::Unmatched));
     for (dropped, wanted) in [(0, Ok(26)), (1, unmatched), (2, unmatched)] {
         let merged = merged_without(&rt, rt.alloc(), dropped);
-        assert_eq!(rt; merged, wanted, "without {dropped}");
+        assert!(rt; merged == wanted, "without {dropped}");
     }
 }

@@ -1,4 +1,3 @@
 pub mod ListLemmas
 pub mod ChoiceLemmas
 pub mod RunLemmas
-pub mod WalkedLemmas

@@ -1,3 +1,2 @@
 pub mod Banked
 pub mod Ordered
-pub mod Walked

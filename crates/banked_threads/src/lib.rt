@@ -9,11 +9,6 @@ pub use whole::are_of_a_run;
 
 mod compare;
 mod fault;
-mod job;
 mod laws;
 mod runner;
-mod step;
-#[cfg(test)]
-mod tests;
 mod whole;
-mod worker;

@@ -3,10 +3,9 @@ ghost use Rattle.std.specs.Prelude.{◌≡◌, ◌<◌, ◌≤◌, IfOk, IfErr, 
 ghost use Rattle.reservations.specs.Limit.{most_harts as most};
 ghost use Rattle.banked_threads.specs.Banked.{IsBanked, RunRefuses};
 
-use crate::fault::{RunFault, StepFault};
-use crate::job::Job;
+use crate::fault::RunFault;
 use crate::whole::are_of_a_run;
-use crate::worker::work;
+use banked_steps::{Job, StepFault, work};
 use banks::Bank;
 use hart_logs::HartLog;
 use hart_threads::{Gate, Plan};
@@ -59,8 +58,7 @@ pub fn run_banked<'a, A: Allocator + Copy + Send + Sync, G: Gate + Sync, R: Thre
         Err(StepFault::Stale) => return Err(RunFault::Stale),
         Err(StepFault::Memory) => return Err(RunFault::Memory),
     };
-    let Job { banks, .. } = job;
-    let Ok(banks) = unlocked(alloc, banks) else {
+    let Ok(banks) = unlocked(alloc, job.into_banks()) else {
         return Err(RunFault::Memory);
     };
     let Ok(all) = are_of_a_run(rt, alloc, &logs, &banks, image, inputs, plan, budget) else {

@@ -3,11 +3,9 @@
 
 pub use machine::check_inputs;
 pub use runs::{campaign, next_runs};
-pub use seed_run::SeedRun;
+pub use seed_run::{SeedRun, first_machine, run_seed};
 pub use seeds::{BLOCK_STEPS, Block, LEAST_SEEDS, MOST_SEEDS, Seeds};
 
 mod runs;
 mod seed_run;
 mod seeds;
-#[cfg(test)]
-mod tests;

@@ -58,8 +58,8 @@ fn run_seeded<S: Store, A: Allocator>(
     Ok(picked)
 }
 
-// A machine at the beginning of a program.
-pub(crate) fn first_machine<A: Allocator + Copy, B: Allocator>(
+/// A machine at the beginning of a program; refused for want of memory alone.
+pub fn first_machine<A: Allocator + Copy, B: Allocator>(
     alloc: A,
     image: &Image<B>,
     inputs: &[u32],
@@ -74,8 +74,9 @@ pub(crate) fn first_machine<A: Allocator + Copy, B: Allocator>(
     }
 }
 
-// The run of one seed on a copy of a machine: whatever was made of the program's code at its start is made for no seed again.
-pub(crate) fn run_seed<S: FromImage<A>, A: Allocator + Copy>(
+/// The run of one seed, for so many steps, on a copy of a machine: whatever was made of the program's code at its start is made for no
+/// seed again. Refused for want of memory alone.
+pub fn run_seed<S: FromImage<A>, A: Allocator + Copy>(
     alloc: A,
     start: &Machine<S, A>,
     harts: u32,

@@ -1,13 +1,17 @@
 //! What no clause says: that memory is found, and that the runs of threads are those of plain machines.
-use campaigns::{Seeds, campaign, next_runs};
+ghost use Rattle.std.specs.Prelude.{◌≤◌};
+
+use campaigns::{SeedRun, Seeds, campaign, next_runs};
+use hart_step::Hart;
 use loader::{Image, Rights, Segment};
-use machine::{Machine, StartFault};
+use machine::{Choice, Machine, StartFault};
 use memory::FlatStore;
 use scheduler::seeded;
-use std::alloc::{AllocError, Allocator};
+use std::alloc::{AllocError, Global};
+use std::thread::Threads;
 
-// Each hart reserves a word, stores its address there if the reservation holds, loads it, and exits with what the
-// store-conditional answered.
+/// Each hart reserves a word, stores its address there if the reservation holds, loads it, and exits with what the
+/// store-conditional answered.
 const CONDITIONAL: [u32; 6] = [
     0x0001_1437, // lui s0, 0x11
     0x1004_22af, // lr.w t0, (s0)
@@ -17,130 +21,197 @@ const CONDITIONAL: [u32; 6] = [
     0x0000_0073, // ecall
 ];
 
-// A program of words at 0x00010000 with all rights, and room for data.
-fn program<A: Allocator + Copy>(alloc: A, words: &[u32]) -> Result<Image<A>, AllocError> {
+/// The bytes of the program's words.
+fn bytes_of_program(alloc: Global) -> Result<Vec<u8>, AllocError> {
     let mut bytes = Vec::new(alloc);
-    for word in words {
+    for word in &CONDITIONAL {
         bytes.extend_from_slice(&word.to_le_bytes())?;
     }
+    Ok(bytes)
+}
+
+/// The program at 0x00010000 with all rights, and room for data.
+fn program(alloc: Global) -> Result<Image<Global>, StartFault> {
+    let Ok(bytes) = bytes_of_program(alloc) else {
+        return Err(StartFault::Memory);
+    };
     let mut segments = Vec::new(alloc);
-    segments.push(Segment {
+    let whole = Segment {
         base: 0x0001_0000,
         size: 0x2000,
         rights: Rights::of_flags(7),
         bytes,
-    })?;
+    };
+    if segments.push(whole).is_err() {
+        return Err(StartFault::Memory);
+    }
     match Image::new(alloc, 0x0001_0000, segments) {
         Ok(image) => Ok(image),
-        Err(_) => Err(AllocError),
+        Err(_) => Err(StartFault::Memory),
     }
 }
 
-// The last 3000 seeds there are, each compared with the run over the list of its choices.
-#[test]
-fn threads_run_what_plain_machines_run(rt: HostRuntime) {
-    let inputs = [7, 9, 11, 13];
-    let first = u64::MAX - 2999;
-    let Ok(image) = program(rt.alloc(), &CONDITIONAL) else {
-        return assert!(rt; false, "no memory for the image");
-    };
-    let Ok(runs) = campaign(&rt, rt.alloc(), &image, &inputs, first, 3000, 30) else {
-        return assert!(rt; false, "no memory for the campaign");
-    };
-    assert_eq!(rt; runs.len(), 3000);
-    for (place, run) in runs.iter().enumerate() {
-        let seed = first.wrapping_add(place as u64);
-        assert_eq!(rt; run.seed, seed);
-        let Ok(choices) = seeded(rt.alloc(), 4, 30, seed) else {
-            return assert!(rt; false, "no memory for the choices");
-        };
-        let started: Result<Machine<FlatStore<_>, _>, StartFault> = Machine::start(
-            rt.alloc(),
-            &image,
-            &inputs,
-        );
-        let Ok(mut machine) = started else {
-            return assert!(rt; false, "no memory for the machine");
-        };
-        for choice in choices.iter() {
-            if (choice.hart as usize) < machine.harts() {
-                assert!(rt; machine.step(*choice).is_ok());
-            }
+/// The inputs of four harts.
+const FOUR: [u32; 4] = [7, 9, 11, 13];
+
+/// Takes the steps of choices, and tells whether each was taken.
+fn are_stepped(machine: &mut Machine<FlatStore<Global>, Global>, choices: &[Choice]) -> bool {
+    for choice in choices {
+        if (choice.hart as usize) < machine.harts() && machine.step(*choice).is_err() {
+            return false;
         }
-        assert_eq!(rt; run.harts.as_slice(), machine.ends(), "seed {seed}");
+    }
+    true
+}
+
+/// Whether harts are those of a plain machine over the list of a seed's 30 choices; none where memory is refused.
+fn are_plain(alloc: Global, image: &Image<Global>, seed: u64, harts: &[Hart]) -> Option<bool> {
+    let choices = seeded(alloc, 4, 30, seed).ok()?;
+    let mut machine: Machine<FlatStore<Global>, Global> = Machine::start(alloc, image, &FOUR).ok()?;
+    Some(are_stepped(&mut machine, choices.as_slice()) && harts == machine.ends())
+}
+
+/// The first of the last 3000 seeds there are.
+const FIRST: u64 = u64::MAX - 2999;
+
+/// How many runs are those of the seeds from the first on by plain machines, up to the first that is not.
+fn count_plain(alloc: Global, image: &Image<Global>, runs: &[SeedRun<Global>]) -> u64 {
+    let mut plain = 0u64;
+    for run in runs {
+        let seed = FIRST.wrapping_add(plain);
+        if run.seed != seed || are_plain(alloc, image, seed, run.harts.as_slice()) != Some(true) {
+            return plain;
+        }
+        plain = plain.wrapping_add(1);
+    }
+    plain
+}
+
+/// How many runs of threads there are of the last seeds, and how many of them are those of plain machines.
+fn count_runs<R: Threads + Sync>(rt: &R, alloc: Global) -> Result<(usize, u64), StartFault> {
+    let image = program(alloc)?;
+    let runs = campaign(rt, alloc, &image, &FOUR, FIRST, 3000, 30)?;
+    Ok((runs.len(), count_plain(alloc, &image, runs.as_slice())))
+}
+
+#[test]
+fn threads_run_what_plain_machines_run(rt: HostRuntime) -> Result<(), StartFault> {
+    let (runs, plain) = count_runs(&rt, rt.alloc())?;
+    assert!(rt; runs == 3000);
+    assert!(rt; plain == 3000, "run {plain}");
+    Ok(())
+}
+
+/// Whether a run has left two harts at the program's first instruction.
+fn is_at_start(run: &SeedRun<Global>) -> bool {
+    match run.harts.as_slice() {
+        [one, other] => one.pc == 0x0001_0000 && other.pc == 0x0001_0000,
+        _ => false,
+    }
+}
+
+/// Whether the runs of two seeds without a step are at the start.
+fn are_at_start<R: Threads + Sync>(rt: &R, alloc: Global) -> Result<bool, StartFault> {
+    let image = program(alloc)?;
+    let runs = campaign(rt, alloc, &image, &[7, 9], 5, 2, 0)?;
+    match runs.as_slice() {
+        [one, other] => Ok(is_at_start(one) && is_at_start(other)),
+        _ => Ok(false),
     }
 }
 
 #[test]
 fn no_step_leaves_the_start(rt: HostRuntime) {
-    let Ok(image) = program(rt.alloc(), &CONDITIONAL) else {
-        return assert!(rt; false, "no memory for the image");
-    };
-    let Ok(runs) = campaign(&rt, rt.alloc(), &image, &[7, 9], 5, 2, 0) else {
-        return assert!(rt; false, "no memory for the campaign");
-    };
-    assert_eq!(rt; runs.len(), 2);
-    for run in runs.iter() {
-        assert_eq!(rt; run.harts.len(), 2);
-        for hart in run.harts.iter() {
-            assert_eq!(rt; hart.pc, 0x0001_0000);
-        }
-    }
+    assert!(rt; are_at_start(&rt, rt.alloc()) == Ok(true));
 }
 
-// The inputs are checked also where no seed is run.
+/// How many runs a campaign with some inputs has.
+fn count_of<R: Threads + Sync>(
+    rt: &R,
+    alloc: Global,
+    inputs: &[u32],
+    count: u64,
+) -> Result<usize, StartFault> {
+    let image = program(alloc)?;
+    Ok(campaign(rt, alloc, &image, inputs, 0, count, 9)?.len())
+}
+
+/// Inputs, how many seeds are run, and how many runs there are.
+struct Inputs {
+    inputs: &'static [u32],
+    count: u64,
+    runs: Result<usize, StartFault>,
+}
+
+/// The inputs are checked also where no seed is run.
+#[rattlefmt::skip]
+const INPUTS: [Inputs; 6] = [
+    Inputs { inputs: &[], count: 0, runs: Err(StartFault::NoHarts) },
+    Inputs { inputs: &[0; 100], count: 0, runs: Err(StartFault::TooManyHarts) },
+    Inputs { inputs: &[7], count: 0, runs: Ok(0) },
+    Inputs { inputs: &[], count: 3, runs: Err(StartFault::NoHarts) },
+    Inputs { inputs: &[0; 100], count: 3, runs: Err(StartFault::TooManyHarts) },
+    Inputs { inputs: &[7], count: 3, runs: Ok(3) },
+];
+
 #[test]
 fn inputs_are_checked_first(rt: HostRuntime) {
-    let Ok(image) = program(rt.alloc(), &CONDITIONAL) else {
-        return assert!(rt; false, "no memory for the image");
-    };
-    let many = [0; 100];
-    for count in [0, 3] {
-        match campaign(&rt, rt.alloc(), &image, &[], 0, count, 9) {
-            Ok(_) => assert!(rt; false, "no input is taken"),
-            Err(fault) => assert_eq!(rt; fault, StartFault::NoHarts),
-        }
-        match campaign(&rt, rt.alloc(), &image, &many, 0, count, 9) {
-            Ok(_) => assert!(rt; false, "100 inputs are taken"),
-            Err(fault) => assert_eq!(rt; fault, StartFault::TooManyHarts),
-        }
-        match campaign(&rt, rt.alloc(), &image, &[7], 0, count, 9) {
-            Ok(runs) => assert_eq!(rt; runs.len() as u64, count),
-            Err(fault) => assert!(rt; false, "{fault}"),
-        }
+    for row in &INPUTS {
+        assert!(rt;
+            count_of(&rt, rt.alloc(), row.inputs, row.count) == row.runs,
+            "{} inputs",
+            row.inputs.len()
+        );
     }
 }
 
-// Blocks of one campaign and the campaign as a whole.
+/// Whether two runs are of the same seed and leave the same harts.
+fn is_same_run(one: &SeedRun<Global>, other: &SeedRun<Global>) -> bool {
+    one.seed == other.seed && one.harts.as_slice() == other.harts.as_slice()
+}
+
+/// What is left of runs behind those of a block; none where the block has others.
+fn left_behind<'a>(
+    runs: &'a [SeedRun<Global>],
+    block: &[SeedRun<Global>],
+) -> Option<&'a [SeedRun<Global>]> {
+    let mut left = runs;
+    for run in block {
+        let (wanted, rest) = left.split_first()?;
+        if !is_same_run(run, wanted) {
+            return None;
+        }
+        left = rest;
+    }
+    Some(left)
+}
+
+/// Whether the blocks of a campaign of so many seeds are the campaign as a whole; none where memory is refused.
+fn are_blocks_whole<R: Threads + Sync>(rt: &R, alloc: Global, count: u64) -> Option<bool>
+    requires { count ≤ 2500 }
+{
+    let image = program(alloc).ok()?;
+    let inputs = [7, 9];
+    let Ok(whole) = campaign(rt, alloc, &image, &inputs, 5, count, 8) else {
+        return None;
+    };
+    let mut left = whole.as_slice();
+    let mut seeds = Seeds::new(5, count);
+    for _ in 0..10 {
+        let Some(runs) = next_runs(rt, alloc, &image, &inputs, &mut seeds, 8).ok()? else {
+            break;
+        };
+        left = left_behind(left, runs.as_slice())?;
+    }
+    Some(left.is_empty())
+}
+
 #[test]
 fn blocks_are_the_whole(rt: HostRuntime) {
-    let inputs = [7, 9];
-    let Ok(image) = program(rt.alloc(), &CONDITIONAL) else {
-        return assert!(rt; false, "no memory for the image");
-    };
     for count in [0, 1, 63, 64, 65, 2500] {
-        let Ok(whole) = campaign(&rt, rt.alloc(), &image, &inputs, 5, count, 8) else {
-            return assert!(rt; false, "no memory for the campaign");
-        };
-        let mut left = whole.iter();
-        let mut seeds = Seeds::new(5, count);
-        for _ in 0..10 {
-            let Ok(block) = next_runs(&rt, rt.alloc(), &image, &inputs, &mut seeds, 8) else {
-                return assert!(rt; false, "no memory for a block");
-            };
-            let Some(runs) = block else {
-                break;
-            };
-            for run in runs.iter() {
-                match left.next() {
-                    Some(wanted) => {
-                        assert_eq!(rt; run.seed, wanted.seed);
-                        assert_eq!(rt; run.harts.as_slice(), wanted.harts.as_slice());
-                    }
-                    None => assert!(rt; false, "a run too many of {count}"),
-                }
-            }
-        }
-        assert!(rt; left.next().is_none(), "a run too few of {count}");
+        assert!(rt;
+            are_blocks_whole(&rt, rt.alloc(), count) == Some(true),
+            "{count} seeds"
+        );
     }
 }

@@ -1,52 +1,57 @@
 //! What no clause says of the harts that a text chooses: that their list is had where memory is left, and each once.
+use crate::refusals::tells_refusals;
 use choice_runs::Chosen;
 use machine::Choice;
-use refusing::Refusing;
+use refusing::Call;
+use std::alloc::{AllocError, Allocator, Global};
 
-#[test]
-fn no_hart_is_chosen_at_first(rt: HostRuntime) {
-    match Chosen::new().choices(rt.alloc()) {
-        Ok(choices) => assert_eq!(rt; choices.len(), 0),
-        Err(_) => assert!(rt; false, "no memory for the harts"),
-    }
+fn count_at_first(alloc: Global) -> Result<usize, AllocError> {
+    Ok(Chosen::new().choices(alloc)?.len())
 }
 
 #[test]
-fn each_hart_is_chosen_once(rt: HostRuntime) {
+fn no_hart_is_chosen_at_first(rt: HostRuntime) {
+    assert!(rt; count_at_first(rt.alloc()) == Ok(0));
+}
+
+/// Harts 0, 2 and 31.
+#[rattlefmt::skip]
+const THREE_HARTS: [Choice; 3] = [
+    Choice { hart: 0, refuse: false },
+    Choice { hart: 2, refuse: false },
+    Choice { hart: 31, refuse: false },
+];
+
+/// Whether the three are chosen, of which one was added twice.
+fn are_three_chosen(alloc: Global) -> Result<bool, AllocError> {
     let mut chosen = Chosen::new();
     chosen.add(31);
     chosen.add(2);
     chosen.add(31);
     chosen.add(0);
-    let Ok(choices) = chosen.choices(rt.alloc()) else {
-        return assert!(rt; false, "no memory for the harts");
-    };
-    assert_eq!(rt; choices.len(), 3);
-    for (choice, wanted) in choices.iter().zip([0, 2, 31]) {
-        let plain = Choice {
-            hart: wanted,
-            refuse: false,
-        };
-        assert_eq!(rt; *choice, plain);
+    let choices = chosen.choices(alloc)?;
+    Ok(choices.as_slice() == THREE_HARTS.as_slice())
+}
+
+#[test]
+fn each_hart_is_chosen_once(rt: HostRuntime) {
+    assert!(rt; are_three_chosen(rt.alloc()) == Ok(true));
+}
+
+/// The list of all 32 harts.
+struct AllHarts;
+
+impl Call for AllHarts {
+    fn answer<A: Allocator + Copy>(&self, alloc: A, _host: Global) -> Result<bool, AllocError> {
+        let mut chosen = Chosen::new();
+        for hart in 0..32usize {
+            chosen.add(hart);
+        }
+        Ok(chosen.choices(alloc)?.len() == 32)
     }
 }
 
 #[test]
 fn each_refused_request_is_told(rt: HostRuntime) {
-    let mut chosen = Chosen::new();
-    for hart in 0..32usize {
-        chosen.add(hart);
-    }
-    for passed in 0..100u64 {
-        let heap = Refusing::new(rt.alloc(), passed);
-        match chosen.choices(&heap) {
-            Ok(choices) => assert_eq!(rt; choices.len(), 32, "at request {passed}"),
-            Err(_) => assert!(rt; heap.refused(), "at request {passed}"),
-        }
-        if !heap.refused() {
-            assert!(rt; passed > 0, "no memory is asked for");
-            return;
-        }
-    }
-    assert!(rt; false, "memory is asked for without end");
+    assert!(rt; tells_refusals(rt.alloc(), &AllHarts));
 }

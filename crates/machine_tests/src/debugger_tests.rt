@@ -1,10 +1,11 @@
 //! What no clause says: that a call is refused only where a request for memory was, and what stands after it.
+use crate::refusals::tells_refusals;
 use debugger::{Debugger, MoveFault, Stop, byte_at};
 use loader::{Image, Rights, Segment};
 use machine::Choice;
 use progress::Progress;
 use refusing::Refusing;
-use std::alloc::Allocator;
+use std::alloc::{AllocError, Allocator, Global};
 
 // `lui t0, 0x11` at 0x10000, then `sb a1, 6(t0)`, and at 0x10008 a jump to itself.
 const PROGRAM: [u8; 12] = [
@@ -63,7 +64,7 @@ fn begin<A: Allocator + Copy>(alloc: A, choices: Vec<Choice, A>) -> Option<Debug
 }
 
 // Where a debugger stands before a call.
-#[derive(Clone, Copy, Debug)]
+#[derive(Clone, Copy)]
 enum Place {
     // At position 3 of six choices.
     Near,
@@ -107,7 +108,7 @@ fn pc<A: Allocator + Copy>(debugger: &Debugger<A>) -> Option<u32> {
 }
 
 // Calls that ask for memory.
-#[derive(Clone, Copy, Debug)]
+#[derive(Clone, Copy)]
 enum Call {
     At,
     Goto(usize),
@@ -118,17 +119,24 @@ enum Call {
     Steps,
 }
 
-// The calls, each at a place, and what each shows: an address where hart 0 stands or that was stored to, or how many
-// steps there are.
-const CALLS: [(Place, Call, u32); 8] = [
-    (Place::Near, Call::At, 0x10008),
-    (Place::Near, Call::GoOn, 0x11004),
-    (Place::Near, Call::GoBack, 0x11004),
-    (Place::Near, Call::Steps, 2),
-    (Place::Far, Call::Goto(1), 0x10004),
-    (Place::Far, Call::Forward(400), 0x10008),
-    (Place::Far, Call::Back(599), 0x10004),
-    (Place::Far, Call::GoBack, 0x11004),
+// A call at a place, and what it shows: an address where hart 0 stands or that was stored to, or how many steps there are.
+struct Row {
+    name: &'static str,
+    place: Place,
+    call: Call,
+    shown: u32,
+}
+
+#[rattlefmt::skip]
+const CALLS: [Row; 8] = [
+    Row { name: "at", place: Place::Near, call: Call::At, shown: 0x10008 },
+    Row { name: "go on", place: Place::Near, call: Call::GoOn, shown: 0x11004 },
+    Row { name: "go back", place: Place::Near, call: Call::GoBack, shown: 0x11004 },
+    Row { name: "steps", place: Place::Near, call: Call::Steps, shown: 2 },
+    Row { name: "far goto", place: Place::Far, call: Call::Goto(1), shown: 0x10004 },
+    Row { name: "far forward", place: Place::Far, call: Call::Forward(400), shown: 0x10008 },
+    Row { name: "far back", place: Place::Far, call: Call::Back(599), shown: 0x10004 },
+    Row { name: "far go back", place: Place::Far, call: Call::GoBack, shown: 0x11004 },
 ];
 
 // The watched word at which a search stopped.
@@ -177,111 +185,159 @@ fn make<A: Allocator + Copy>(
     }
 }
 
+// What came of a call.
+#[derive(Clone, Copy, PartialEq, Eq)]
+enum Outcome {
+    // A request was refused, and all is as it must be.
+    Refused,
+    // None was, and the call shows what it must.
+    Made,
+    Wrong,
+}
+
+// A debugger under an allocator that refuses a request.
+type Scarce<'a> = Debugger<&'a Refusing<Global>>;
+
+// Whether a refused call has left a debugger as it was. The breakpoint and the watch are there: each search stops as before.
+fn is_unchanged<'a>(heap: &'a Refusing<Global>, debugger: &mut Scarce<'a>, row: &Row) -> bool {
+    debugger.position() == row.place.position()
+        && debugger.cost() == row.place.cost()
+        && pc(debugger) == Some(0x10008)
+        && make(heap, debugger, row.call) == Ok(Some(row.shown))
+}
+
+// Makes a row's call.
+fn outcome_of_call<'a>(
+    heap: &'a Refusing<Global>,
+    debugger: &mut Scarce<'a>,
+    row: &Row,
+) -> Outcome {
+    let is_right = match make(heap, debugger, row.call) {
+        Ok(shown) => shown == Some(row.shown),
+        Err(fault) => {
+            fault == MoveFault::Memory && heap.refused() && is_unchanged(heap, debugger, row)
+        }
+    };
+    match (is_right, heap.refused()) {
+        (false, _) => Outcome::Wrong,
+        (true, true) => Outcome::Refused,
+        (true, false) => Outcome::Made,
+    }
+}
+
+// Makes a row's call at its place, where the request behind so many is refused.
+fn outcome_of(host: Global, row: &Row, passed: u64) -> Outcome {
+    let heap = Refusing::new(host, passed);
+    match placed(&heap, row.place) {
+        Some(mut debugger) => outcome_of_call(&heap, &mut debugger, row),
+        None if heap.refused() => Outcome::Refused,
+        None => Outcome::Wrong,
+    }
+}
+
+// Makes a row's call with each request refused in turn, up to the one that is made or wrong.
+fn last_outcome(host: Global, row: &Row) -> Outcome {
+    for passed in 0..200u64 {
+        let outcome = outcome_of(host, row, passed);
+        if outcome != Outcome::Refused {
+            return outcome;
+        }
+    }
+    Outcome::Refused
+}
+
 #[test]
 fn each_refused_request_changes_nothing(rt: HostRuntime) {
-    for (place, call, wanted) in CALLS {
-        let mut refused = true;
-        for passed in 0..200u64 {
-            let heap = Refusing::new(rt.alloc(), passed);
-            let Some(mut debugger) = placed(&heap, place) else {
-                assert!(rt; heap.refused(), "{call:?}: no place at request {passed}");
-                continue;
-            };
-            match make(&heap, &mut debugger, call) {
-                Err(fault) => {
-                    assert_eq!(rt; fault, MoveFault::Memory, "{call:?}: at request {passed}");
-                    assert!(rt; heap.refused(), "{call:?}: at request {passed}");
-                    assert_eq!(rt;
-                        debugger.position(),
-                        place.position(),
-                        "{call:?}: at request {passed}"
-                    );
-                    assert_eq!(rt;
-                        debugger.cost(),
-                        place.cost(),
-                        "{call:?}: at request {passed}"
-                    );
-                    assert_eq!(rt;
-                        pc(&debugger),
-                        Some(0x10008),
-                        "{call:?}: at request {passed}"
-                    );
-                    // The breakpoint and the watch are there: each search stops as before.
-                    let shown = make(&heap, &mut debugger, call);
-                    assert_eq!(rt; shown, Ok(Some(wanted)), "{call:?}: after request {passed}");
-                }
-                shown => {
-                    assert_eq!(rt; shown, Ok(Some(wanted)), "{call:?}: request {passed}");
-                    refused = heap.refused();
-                    if !refused {
-                        break;
-                    }
-                }
-            }
-        }
-        assert!(rt; !refused, "{call:?}: memory is asked for without end");
+    for row in &CALLS {
+        assert!(rt;
+            last_outcome(rt.alloc(), row) == Outcome::Made,
+            "{}",
+            row.name
+        );
+    }
+}
+
+// The start of a thousand choices.
+struct Start;
+
+impl refusing::Call for Start {
+    fn answer<A: Allocator + Copy>(&self, alloc: A, _host: Global) -> Result<bool, AllocError> {
+        let is_begun = match many_choices(alloc) {
+            Some(choices) => begin(alloc, choices).is_some(),
+            None => false,
+        };
+        if is_begun { Ok(true) } else { Err(AllocError) }
     }
 }
 
 #[test]
 fn each_refused_request_of_a_start_refuses_it(rt: HostRuntime) {
-    let mut begun = false;
-    for passed in 0..200u64 {
-        let heap = Refusing::new(rt.alloc(), passed);
-        let debugger = match many_choices(&heap) {
-            Some(choices) => begin(&heap, choices),
-            None => None,
-        };
-        begun = debugger.is_some();
-        assert_eq!(rt; begun, !heap.refused(), "request {passed}");
-        if begun {
-            break;
-        }
-    }
-    assert!(rt; begun, "memory is asked for without end");
+    assert!(rt; tells_refusals(rt.alloc(), &Start));
 }
 
-// Moves one after the other through a thousand choices; behind each the position, the cost, and the byte that the harts
-// store: 7 by the third choice, 9 by the fourth.
-const MOVES: [(Call, usize, u64, u8); 12] = [
-    (Call::Goto(999), 999, 231, 9),
-    (Call::Back(999), 0, 0, 0),
-    (Call::Goto(256), 256, 0, 9),
-    (Call::Back(254), 2, 2, 0),
-    (Call::Forward(253), 255, 255, 9),
-    (Call::Forward(1), 256, 0, 9),
-    (Call::Goto(511), 511, 255, 9),
-    (Call::Back(508), 3, 3, 7),
-    (Call::Forward(509), 512, 0, 9),
-    (Call::Goto(1000), 1000, 232, 9),
-    (Call::GoBack, 4, 1003, 9),
-    (Call::GoBack, 3, 6, 7),
+// A move through a thousand choices, what refuses it, and behind it the position, the cost, and the byte that the harts store: 7 by
+// the third choice, 9 by the fourth.
+struct Move {
+    call: Call,
+    fault: Option<MoveFault>,
+    position: usize,
+    cost: u64,
+    byte: u8,
+}
+
+// Moves one after the other. The last one is past the end.
+#[rattlefmt::skip]
+static MOVES: [Move; 13] = [
+    Move { call: Call::Goto(999), fault: None, position: 999, cost: 231, byte: 9 },
+    Move { call: Call::Back(999), fault: None, position: 0, cost: 0, byte: 0 },
+    Move { call: Call::Goto(256), fault: None, position: 256, cost: 0, byte: 9 },
+    Move { call: Call::Back(254), fault: None, position: 2, cost: 2, byte: 0 },
+    Move { call: Call::Forward(253), fault: None, position: 255, cost: 255, byte: 9 },
+    Move { call: Call::Forward(1), fault: None, position: 256, cost: 0, byte: 9 },
+    Move { call: Call::Goto(511), fault: None, position: 511, cost: 255, byte: 9 },
+    Move { call: Call::Back(508), fault: None, position: 3, cost: 3, byte: 7 },
+    Move { call: Call::Forward(509), fault: None, position: 512, cost: 0, byte: 9 },
+    Move { call: Call::Goto(1000), fault: None, position: 1000, cost: 232, byte: 9 },
+    Move { call: Call::GoBack, fault: None, position: 4, cost: 1003, byte: 9 },
+    Move { call: Call::GoBack, fault: None, position: 3, cost: 6, byte: 7 },
+    Move { call: Call::Goto(1001), fault: Some(MoveFault::PastEnd), position: 3, cost: 6, byte: 7 },
 ];
 
-#[test]
-fn no_move_to_a_position_takes_more_than_255_steps(rt: HostRuntime) {
-    let alloc = rt.alloc();
-    let Some(mut debugger) = placed(alloc, Place::Far) else {
-        assert!(rt; false, "no place");
-        return;
-    };
-    for (call, position, cost, byte) in MOVES {
-        assert!(rt; make(alloc, &mut debugger, call).is_ok(), "{call:?}");
-        assert_eq!(rt; debugger.position(), position, "{call:?}");
-        assert_eq!(rt; debugger.cost(), cost, "{call:?}");
-        let stored = byte_at(debugger.machine().store(), 0x11006);
-        assert_eq!(rt; stored, byte, "{call:?}");
+// Makes a move, and tells whether it is as its row says.
+fn is_moved(alloc: Global, debugger: &mut Debugger<Global>, row: &Move) -> bool {
+    make(alloc, debugger, row.call).err() == row.fault
+        && debugger.position() == row.position
+        && debugger.cost() == row.cost
+        && byte_at(debugger.machine().store(), 0x11006) == row.byte
+}
+
+// How many moves are as their rows say, up to the first that is not.
+fn count_moved(alloc: Global, debugger: &mut Debugger<Global>) -> usize {
+    for (number, row) in MOVES.iter().enumerate() {
+        if !is_moved(alloc, debugger, row) {
+            return number;
+        }
     }
-    assert_eq!(rt;
-        debugger.goto(alloc, 1001),
-        Err(MoveFault::PastEnd),
-        "past the end"
-    );
-    assert_eq!(rt; debugger.position(), 3, "after a refusal");
+    MOVES.len()
+}
+
+// The same from the far place.
+fn count_from_far(alloc: Global) -> Result<usize, AllocError> {
+    match placed(alloc, Place::Far) {
+        Some(mut debugger) => Ok(count_moved(alloc, &mut debugger)),
+        None => Err(AllocError),
+    }
+}
+
+#[test]
+fn no_move_to_a_position_takes_more_than_255_steps(rt: HostRuntime) -> Result<(), AllocError> {
+    let moved = count_from_far(rt.alloc())?;
+    assert!(rt; moved == MOVES.len(), "move {moved}");
+    Ok(())
 }
 
 // How often it was told of choices, and what it was told last.
-#[derive(Clone, Copy, Debug, PartialEq, Eq)]
+#[derive(Clone, Copy, PartialEq, Eq)]
 struct Heard {
     times: u64,
     done: u64,
@@ -313,25 +369,20 @@ fn heard_of<A: Allocator + Copy>(alloc: A, count: u32) -> Option<Heard> {
     if debugger.is_ok() { Some(heard) } else { None }
 }
 
-// Numbers of choices, how often a start tells of them, and what it tells last: so many are done, of so many.
-const STARTS: [(u32, u64, u64); 4] = [
-    (0, 0, 0),
-    (1000, 0, 0),
-    (1_048_575, 0, 0),
-    (1_048_876, 2, 1_048_876),
+// Numbers of choices, and what is told of a start with them.
+#[rattlefmt::skip]
+const STARTS: [(u32, Heard); 4] = [
+    (0, Heard { times: 0, done: 0, all: 0 }),
+    (1000, Heard { times: 0, done: 0, all: 0 }),
+    (1_048_575, Heard { times: 0, done: 0, all: 0 }),
+    (1_048_876, Heard { times: 2, done: 1_048_876, all: 1_048_876 }),
 ];
 
 #[test]
 fn a_long_start_is_told_of(rt: HostRuntime) {
-    for (count, times, last) in STARTS {
-        let wanted = Heard {
-            times,
-            done: last,
-            all: last,
-        };
-        assert_eq!(rt;
-            heard_of(rt.alloc(), count),
-            Some(wanted),
+    for (count, heard) in &STARTS {
+        assert!(rt;
+            heard_of(rt.alloc(), *count) == Some(*heard),
             "{count} choices"
         );
     }

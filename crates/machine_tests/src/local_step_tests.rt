@@ -1,16 +1,17 @@
 //! What no clause says of code and local steps: single rows of each instruction, seams, and refused memory.
+use crate::refusals::tells_refusals;
 use hart_step::{Hart, HartState};
 use isa_table::Instr;
 use loader::{Image, Rights, Segment};
 use local_steps::{Class, Code, classify, local_steps};
-use refusing::Refusing;
-use std::alloc::Allocator;
+use refusing::Call;
+use std::alloc::{AllocError, Allocator, Global};
 use std::mem::size_of;
 
 const BASE: u32 = 0x10000;
 
 // A word of each instruction, as GNU as makes it.
-const ROWS: [(u32, Class, &str); 51] = [
+const ROWS: [(u32, Class, &'static str); 51] = [
     (0x0000_0013, Class::Local, "addi"),
     (0x0003_8a63, Class::Local, "beq"),
     (0x0000_03b7, Class::Local, "lui"),
@@ -64,8 +65,11 @@ const ROWS: [(u32, Class, &str); 51] = [
     (0xe0f2_282f, Class::Shared, "amomaxu.w"),
 ];
 
-// An image of segments, each with its base, its rights and its bytes.
-fn image_of<A: Allocator + Copy>(alloc: A, pieces: &[(u32, u32, &[u8])]) -> Option<Image<A>> {
+/// A segment: its base, its rights and its bytes.
+type Piece<'a> = (u32, u32, &'a [u8]);
+
+/// An image of segments.
+fn image_of<A: Allocator + Copy>(alloc: A, pieces: &[Piece]) -> Option<Image<A>> {
     let mut segments = Vec::new(alloc);
     for (base, rights, bytes) in pieces {
         let segment = Segment {
@@ -87,116 +91,125 @@ fn hart_at(pc: u32) -> Hart {
     }
 }
 
-// The class of a running hart's step at an address.
-fn class_at<A: Allocator + Copy>(alloc: A, pieces: &[(u32, u32, &[u8])], pc: u32) -> Option<Class> {
+/// The class of a running hart's step at an address.
+fn class_at(alloc: Global, pieces: &[Piece], pc: u32) -> Option<Class> {
     let image = image_of(alloc, pieces)?;
     let code = Code::new(alloc, &image).ok()?;
     Some(classify(&hart_at(pc), &code))
 }
 
+/// Whether a word has its class where it is code, and is shared where it may be written or not be executed.
+fn has_class(alloc: Global, word: u32, class: Class) -> bool {
+    let bytes = word.to_le_bytes();
+    class_at(alloc, &[(BASE, 5, &bytes)], BASE) == Some(class)
+        && class_at(alloc, &[(BASE, 7, &bytes)], BASE) == Some(Class::Shared)
+        && class_at(alloc, &[(BASE, 4, &bytes)], BASE) == Some(Class::Shared)
+}
+
 #[test]
 fn each_instruction_has_its_class(rt: HostRuntime) {
-    for (word, class, text) in ROWS {
-        let bytes = word.to_le_bytes();
-        let code = class_at(rt.alloc(), &[(BASE, 5, &bytes)], BASE);
-        assert_eq!(rt; code, Some(class), "{text}");
-        let writable = class_at(rt.alloc(), &[(BASE, 7, &bytes)], BASE);
-        assert_eq!(rt; writable, Some(Class::Shared), "{text}: writable");
-        let data = class_at(rt.alloc(), &[(BASE, 4, &bytes)], BASE);
-        assert_eq!(rt; data, Some(Class::Shared), "{text}: not executable");
+    for (word, class, text) in &ROWS {
+        assert!(rt; has_class(rt.alloc(), *word, *class), "{text}");
     }
 }
 
-// addi x0, x0, 0
-const NOP: [u8; 4] = [0x13, 0, 0, 0];
+/// Where `addi x0, x0, 0` or a part of it stands, and the class of the step there.
+struct Placed {
+    name: &'static str,
+    pieces: &'static [Piece<'static>],
+    pc: u32,
+    class: Class,
+}
+
+#[rattlefmt::skip]
+const PLACED: [Placed; 6] = [
+    Placed { name: "over a seam", pieces: &[(0x10000, 1, &[0x13, 0]), (0x10002, 5, &[0, 0])], pc: BASE, class: Class::Local },
+    Placed { name: "half writable", pieces: &[(0x10000, 1, &[0x13, 0]), (0x10002, 7, &[0, 0])], pc: BASE, class: Class::Shared },
+    Placed { name: "three bytes", pieces: &[(0x10000, 5, &[0x13, 0, 0])], pc: BASE, class: Class::Shared },
+    Placed { name: "at an odd address", pieces: &[(0x10001, 5, &[0x13, 0, 0, 0])], pc: 0x10001, class: Class::Local },
+    Placed { name: "the last word", pieces: &[(0xffff_fffc, 5, &[0x13, 0, 0, 0])], pc: 0xffff_fffc, class: Class::Local },
+    Placed { name: "past the end", pieces: &[(0xffff_fffc, 5, &[0x13, 0, 0, 0])], pc: 0xffff_fffe, class: Class::Shared },
+];
 
 #[test]
 fn all_four_bytes_are_code(rt: HostRuntime) {
-    let halves: [(u32, u32, &[u8]); 2] = [(BASE, 1, &NOP[..2]), (BASE + 2, 5, &NOP[2..])];
-    assert_eq!(rt;
-        class_at(rt.alloc(), &halves, BASE),
-        Some(Class::Local),
-        "over a seam"
-    );
-    let writable: [(u32, u32, &[u8]); 2] = [(BASE, 1, &NOP[..2]), (BASE + 2, 7, &NOP[2..])];
-    assert_eq!(rt;
-        class_at(rt.alloc(), &writable, BASE),
-        Some(Class::Shared),
-        "half writable"
-    );
-    let short: [(u32, u32, &[u8]); 1] = [(BASE, 5, &NOP[..3])];
-    assert_eq!(rt;
-        class_at(rt.alloc(), &short, BASE),
-        Some(Class::Shared),
-        "three bytes"
-    );
-    let odd: [(u32, u32, &[u8]); 1] = [(BASE + 1, 5, &NOP)];
-    assert_eq!(rt;
-        class_at(rt.alloc(), &odd, BASE + 1),
-        Some(Class::Local),
-        "at an odd address"
-    );
-    let last: [(u32, u32, &[u8]); 1] = [(0xffff_fffc, 5, &NOP)];
-    assert_eq!(rt;
-        class_at(rt.alloc(), &last, 0xffff_fffc),
-        Some(Class::Local),
-        "the last word"
-    );
-    assert_eq!(rt;
-        class_at(rt.alloc(), &last, 0xffff_fffe),
-        Some(Class::Shared),
-        "past the end"
-    );
+    for row in &PLACED {
+        assert!(rt;
+            class_at(rt.alloc(), row.pieces, row.pc) == Some(row.class),
+            "{}",
+            row.name
+        );
+    }
 }
 
 // `lui t0, 0x11`, `addi t1, t0, 1`, `jal x0, 8`, a word that is skipped, and `sw t1, 0(t0)`.
-const PROGRAM: [u8; 20] = [
+static PROGRAM: [u8; 20] = [
     0xb7, 0x12, 0x01, 0x00, 0x13, 0x83, 0x12, 0x00, 0x6f, 0x00, 0x80, 0x00, 0, 0, 0, 0, 0x23, 0xa0,
     0x62, 0x00,
 ];
 
+/// A limit, the steps that are done under it, and what the hart comes to: its pc and what it has loaded into t0.
+struct Limited {
+    limit: u32,
+    done: u32,
+    pc: u32,
+    loaded: u32,
+}
+
+#[rattlefmt::skip]
+const LIMITS: [Limited; 4] = [
+    Limited { limit: 0, done: 0, pc: 0x10000, loaded: 0 },
+    Limited { limit: 2, done: 2, pc: 0x10008, loaded: 0x11000 },
+    Limited { limit: 3, done: 3, pc: 0x10010, loaded: 0x11000 },
+    Limited { limit: 9, done: 3, pc: 0x10010, loaded: 0x11000 },
+];
+
+fn stops_at(code: &Code<Global>, row: &Limited) -> bool {
+    let mut hart = hart_at(BASE);
+    let done = local_steps(&mut hart, code, row.limit);
+    done == row.done && hart.pc == row.pc && hart.registers[5] == row.loaded
+}
+
+/// Whether the program stops under a row's limit as the row says; none where memory is refused.
+fn is_limited(alloc: Global, row: &Limited) -> Option<bool> {
+    let image = image_of(alloc, &[(BASE, 5, PROGRAM.as_slice())])?;
+    let code = Code::new(alloc, &image).ok()?;
+    Some(stops_at(&code, row))
+}
+
 #[test]
 fn local_steps_stop_at_the_store_or_the_limit(rt: HostRuntime) {
-    let Some(image) = image_of(rt.alloc(), &[(BASE, 5, &PROGRAM)]) else {
-        assert!(rt; false, "memory is left");
-        return;
-    };
-    let Ok(code) = Code::new(rt.alloc(), &image) else {
-        assert!(rt; false, "memory is left");
-        return;
-    };
-    for (limit, done, pc) in [
-        (0, 0, 0x10000),
-        (2, 2, 0x10008),
-        (3, 3, 0x10010),
-        (9, 3, 0x10010),
-    ] {
-        let mut hart = hart_at(BASE);
-        assert_eq!(rt; local_steps(&mut hart, &code, limit), done, "limit {limit}");
-        assert_eq!(rt; hart.pc, pc, "limit {limit}");
-        let loaded = hart.registers[5];
-        let expected = if done > 0 { 0x11000 } else { 0 };
-        assert_eq!(rt; loaded, expected, "limit {limit}");
+    for row in &LIMITS {
+        assert!(rt;
+            is_limited(rt.alloc(), row) == Some(true),
+            "limit {}",
+            row.limit
+        );
+    }
+}
+
+/// The code of two segments.
+struct TwoSegments;
+
+impl Call for TwoSegments {
+    fn answer<A: Allocator + Copy>(&self, alloc: A, host: Global) -> Result<bool, AllocError> {
+        let pieces = [
+            (BASE, 5, PROGRAM.as_slice()),
+            (0x20000, 1, [0x13, 0, 0, 0].as_slice()),
+        ];
+        match image_of(host, pieces.as_slice()) {
+            Some(image) => {
+                let _ = Code::new(alloc, &image)?;
+                Ok(true)
+            }
+            None => Ok(false),
+        }
     }
 }
 
 #[test]
 fn code_is_refused_where_a_request_is(rt: HostRuntime) {
-    let Some(image) = image_of(rt.alloc(), &[(BASE, 5, &PROGRAM), (0x20000, 1, &NOP)]) else {
-        assert!(rt; false, "memory is left");
-        return;
-    };
-    let mut refused = true;
-    for passed in 0..200u64 {
-        let heap = Refusing::new(rt.alloc(), passed);
-        let made = Code::new(&heap, &image).is_ok();
-        refused = heap.refused();
-        assert!(rt; made != refused, "at request {passed}");
-        if made {
-            break;
-        }
-    }
-    assert!(rt; !refused, "memory is asked for without end");
+    assert!(rt; tells_refusals(rt.alloc(), &TwoSegments));
 }
 
 #[test]

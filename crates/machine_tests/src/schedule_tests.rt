@@ -1,189 +1,245 @@
 //! The worked schedules.
+use crate::refusals::tells_refusals;
 use choice_texts::{print_choices, print_runs, read_choices};
 use machine::Choice;
 use rand_core::utils::NextWord;
 use rand_pcg::Lcg64Xsh32;
-use refusing::Refusing;
+use refusing::{Call, Refusing};
 use scheduler::{round_robin, seeded, seeded_generator, solo};
+use std::alloc::{AllocError, Allocator, Global};
 
-const fn plain(hart: u32) -> Choice {
-    Choice {
-        hart,
-        refuse: false,
-    }
-}
-
-const fn refused(hart: u32) -> Choice {
-    Choice { hart, refuse: true }
-}
-
-// Texts in the printed form.
-#[test]
-fn choices_are_printed(rt: HostRuntime) {
-    let rows: [(&[Choice], &str); 5] = [
-        (&[], ""),
-        (&[plain(0), plain(1), refused(0)], "0 1 0!\n"),
-        (&[refused(7)], "7!\n"),
-        (&[plain(10), plain(4294967295)], "10 4294967295\n"),
-        (&[plain(0), plain(0)], "0 0\n"),
-    ];
-    for (choices, wanted) in rows {
-        match print_choices(rt.alloc(), choices) {
-            Ok(text) => assert_eq!(rt; text.as_str(), wanted),
-            Err(_) => assert!(rt; false, "no memory for {wanted}"),
+macro_rules! plain {
+    ($hart:literal) => {
+        Choice {
+            hart: $hart,
+            refuse: false,
         }
-    }
+    };
 }
+
+macro_rules! refused {
+    ($hart:literal) => {
+        Choice {
+            hart: $hart,
+            refuse: true,
+        }
+    };
+}
+
+/// How choices are printed.
+#[derive(Clone, Copy)]
+enum Form {
+    /// Each choice is an item.
+    Choices,
+    /// Each run of equal choices is.
+    Runs,
+}
+
+/// Choices and how they are printed.
+struct Printed {
+    form: Form,
+    choices: &'static [Choice],
+    text: &'static str,
+}
+
+/// Texts in the printed form.
+#[rattlefmt::skip]
+const CHOICES: [Printed; 5] = [
+    Printed { form: Form::Choices, choices: &[], text: "" },
+    Printed { form: Form::Choices, choices: &[plain!(0), plain!(1), refused!(0)], text: "0 1 0!\n" },
+    Printed { form: Form::Choices, choices: &[refused!(7)], text: "7!\n" },
+    Printed { form: Form::Choices, choices: &[plain!(10), plain!(4294967295)], text: "10 4294967295\n" },
+    Printed { form: Form::Choices, choices: &[plain!(0), plain!(0)], text: "0 0\n" },
+];
 
 /// Printed by runs: the worked lists.
+#[rattlefmt::skip]
+const RUNS: [Printed; 6] = [
+    Printed { form: Form::Runs, choices: &[], text: "" },
+    Printed { form: Form::Runs, choices: &[plain!(0)], text: "0\n" },
+    Printed { form: Form::Runs, choices: &[plain!(0), plain!(0), plain!(0), refused!(1), refused!(1), plain!(0)], text: "0*3 1!*2 0\n" },
+    Printed { form: Form::Runs, choices: &[refused!(1), plain!(1), plain!(1)], text: "1! 1*2\n" },
+    Printed { form: Form::Runs, choices: &[plain!(0), plain!(1), plain!(0)], text: "0 1 0\n" },
+    Printed { form: Form::Runs, choices: &[refused!(31), refused!(31)], text: "31!*2\n" },
+];
+
+/// Whether choices are printed as a row says.
+fn is_printed<A: Allocator + Copy>(alloc: A, row: &Printed) -> Result<bool, AllocError> {
+    let text = match row.form {
+        Form::Choices => print_choices(alloc, row.choices)?,
+        Form::Runs => print_runs(alloc, row.choices)?,
+    };
+    Ok(text.as_str() == row.text)
+}
+
+#[test]
+fn choices_are_printed(rt: HostRuntime) {
+    for row in &CHOICES {
+        assert!(rt; is_printed(rt.alloc(), row) == Ok(true), "{}", row.text);
+    }
+}
+
 #[test]
 fn runs_are_printed(rt: HostRuntime) {
-    let rows: [(&[Choice], &str); 6] = [
-        (&[], ""),
-        (&[plain(0)], "0\n"),
-        (
-            &[
-                plain(0),
-                plain(0),
-                plain(0),
-                refused(1),
-                refused(1),
-                plain(0),
-            ],
-            "0*3 1!*2 0\n",
-        ),
-        (&[refused(1), plain(1), plain(1)], "1! 1*2\n"),
-        (&[plain(0), plain(1), plain(0)], "0 1 0\n"),
-        (&[refused(31), refused(31)], "31!*2\n"),
-    ];
-    for (choices, wanted) in rows {
-        match print_runs(rt.alloc(), choices) {
-            Ok(text) => assert_eq!(rt; text.as_str(), wanted),
-            Err(_) => assert!(rt; false, "no memory for {wanted}"),
-        }
+    for row in &RUNS {
+        assert!(rt; is_printed(rt.alloc(), row) == Ok(true), "{}", row.text);
     }
+}
+
+/// Whether a run that is too long for one item has two.
+fn is_run_cut(alloc: Global) -> Result<bool, AllocError> {
+    let choices = solo(alloc, 0, 16_777_217)?;
+    let text = print_runs(alloc, choices.as_slice())?;
+    Ok(text.as_str() == "0*16777216 0\n")
 }
 
 #[test]
 fn a_run_is_cut_at_its_longest(rt: HostRuntime) {
-    let Ok(choices) = solo(rt.alloc(), 0, 16_777_217) else {
-        return assert!(rt; false, "no memory");
-    };
-    match print_runs(rt.alloc(), choices.as_slice()) {
-        Ok(text) => assert_eq!(rt; text.as_str(), "0*16777216 0\n"),
-        Err(_) => assert!(rt; false, "no memory to print"),
+    assert!(rt; is_run_cut(rt.alloc()) == Ok(true));
+}
+
+impl Call for Printed {
+    fn answer<A: Allocator + Copy>(&self, alloc: A, _host: Global) -> Result<bool, AllocError> {
+        is_printed(alloc, self)
     }
 }
 
+#[rattlefmt::skip]
+static FOUR_RUNS: Printed = Printed {
+    form: Form::Runs,
+    choices: &[plain!(3), plain!(3), refused!(0), plain!(7), plain!(7), plain!(0)],
+    text: "3*2 0! 7*2 0\n",
+};
+
 #[test]
 fn each_refused_request_of_print_runs_is_told(rt: HostRuntime) {
-    let choices = [plain(3), plain(3), refused(0), plain(7), plain(7), plain(0)];
-    for passed in 0..100u64 {
-        let heap = Refusing::new(rt.alloc(), passed);
-        match print_runs(&heap, &choices) {
-            Ok(text) => assert_eq!(rt; text.as_str(), "3*2 0! 7*2 0\n"),
-            Err(_) => assert!(rt; heap.refused(), "at request {passed}"),
-        }
-        if !heap.refused() {
-            assert!(rt; passed > 0, "no memory is asked for");
-            return;
-        }
-    }
-    assert!(rt; false, "memory is asked for without end");
+    assert!(rt; tells_refusals(rt.alloc(), &FOUR_RUNS));
+}
+
+/// Five choices of different harts.
+#[rattlefmt::skip]
+static FIVE_CHOICES: Printed = Printed {
+    form: Form::Choices,
+    choices: &[plain!(3), refused!(0), plain!(7), refused!(2), plain!(0)],
+    text: "3 0! 7 2! 0\n",
+};
+
+/// Whether the printed text of five choices reads as their list.
+fn is_read_back(alloc: Global) -> Option<bool> {
+    let text = print_choices(alloc, FIVE_CHOICES.choices).ok()?;
+    let read = read_choices(alloc, text.as_bytes(), 8).ok()?;
+    Some(read.as_slice() == FIVE_CHOICES.choices)
 }
 
 #[test]
 fn a_printed_text_reads_as_its_list(rt: HostRuntime) {
-    let choices = [plain(3), refused(0), plain(7), refused(2), plain(0)];
-    let Ok(text) = print_choices(rt.alloc(), &choices) else {
-        return assert!(rt; false, "no memory to print");
-    };
-    match read_choices(rt.alloc(), text.as_bytes(), 8) {
-        Ok(read) => assert_eq!(rt; read.as_slice(), &choices[..]),
-        Err(fault) => assert!(rt; false, "{fault}"),
-    }
+    assert!(rt; is_read_back(rt.alloc()) == Some(true));
+}
+
+/// Three harts by turns for five steps.
+const TURNS: [Choice; 5] = [plain!(0), plain!(1), plain!(2), plain!(0), plain!(1)];
+
+/// One hart for three steps.
+const ALONE: [Choice; 3] = [plain!(2), plain!(2), plain!(2)];
+
+fn are_turns(alloc: Global) -> Result<bool, AllocError> {
+    Ok(round_robin(alloc, 3, 5)?.as_slice() == TURNS.as_slice())
+}
+
+/// Whether a hart alone for so many steps is these choices.
+fn is_alone(alloc: Global, steps: usize, wanted: &[Choice]) -> Result<bool, AllocError> {
+    Ok(solo(alloc, 2, steps)?.as_slice() == wanted)
 }
 
 #[test]
 fn harts_take_turns(rt: HostRuntime) {
-    let wanted = [plain(0), plain(1), plain(2), plain(0), plain(1)];
-    match round_robin(rt.alloc(), 3, 5) {
-        Ok(choices) => assert_eq!(rt; choices.as_slice(), &wanted[..]),
-        Err(_) => assert!(rt; false, "no memory"),
-    }
-    match solo(rt.alloc(), 2, 3) {
-        Ok(choices) => assert_eq!(rt; choices.as_slice(), &[plain(2), plain(2), plain(2)][..]),
-        Err(_) => assert!(rt; false, "no memory"),
-    }
-    match solo(rt.alloc(), 2, 0) {
-        Ok(choices) => assert_eq!(rt; choices.len(), 0),
-        Err(_) => assert!(rt; false, "no memory"),
-    }
+    assert!(rt; are_turns(rt.alloc()) == Ok(true));
+    assert!(rt; is_alone(rt.alloc(), 3, &ALONE) == Ok(true));
+    assert!(rt; is_alone(rt.alloc(), 0, &[]) == Ok(true));
 }
 
-// The demo of PCG's C code prints these words of the generator with state 42 and stream 54.
+/// The words that the demo of PCG's C code prints of the generator with state 42 and stream 54.
+const PUBLISHED_WORDS: [u32; 6] = [
+    0xa15c_02b7,
+    0x7b47_f409,
+    0xba1d_3330,
+    0x83d2_f293,
+    0xbfa4_784b,
+    0xcbed_606e,
+];
+
 #[test]
 fn generator_gives_the_published_words(rt: HostRuntime) {
-    let words = [
-        0xa15c_02b7,
-        0x7b47_f409,
-        0xba1d_3330,
-        0x83d2_f293,
-        0xbfa4_784b,
-        0xcbed_606e,
-    ];
     let mut generator = Lcg64Xsh32::new(42, 54);
-    for (place, word) in words.iter().enumerate() {
-        assert_eq!(rt; generator.next_word(), *word, "word {place}");
+    for word in &PUBLISHED_WORDS {
+        assert!(rt; generator.next_word() == *word, "{word}");
     }
 }
 
-// Each choice is the word's remainder by the number of harts, refused where the word's bits 16 to 19 are 0.
+/// Each choice is the word's remainder by the number of harts, refused where the word's bits 16 to 19 are 0.
+fn choice_of(word: u32) -> Choice {
+    Choice {
+        hart: word % 3,
+        refuse: (word >> 16) & 15 == 0,
+    }
+}
+
+/// Whether choices are those of the words of a seed's generator.
+fn are_of_words(choices: &[Choice], seed: u64) -> bool {
+    let mut generator = seeded_generator(seed);
+    for choice in choices {
+        if *choice != choice_of(generator.next_word()) {
+            return false;
+        }
+    }
+    true
+}
+
+/// Whether the 200 choices of a seed follow the words.
+fn is_seeded(alloc: Global, seed: u64) -> Result<bool, AllocError> {
+    let choices = seeded(alloc, 3, 200, seed)?;
+    Ok(choices.len() == 200 && are_of_words(choices.as_slice(), seed))
+}
+
 #[test]
 fn seeded_choices_follow_the_words(rt: HostRuntime) {
     for seed in [0, 1, 5, u64::MAX] {
-        let Ok(choices) = seeded(rt.alloc(), 3, 200, seed) else {
-            return assert!(rt; false, "no memory");
-        };
-        assert_eq!(rt; choices.len(), 200);
-        let mut generator = seeded_generator(seed);
-        for choice in choices.iter() {
-            let word = generator.next_word();
-            let wanted = Choice {
-                hart: word % 3,
-                refuse: (word >> 16) & 15 == 0,
-            };
-            assert_eq!(rt; *choice, wanted, "seed {seed}");
-        }
+        assert!(rt; is_seeded(rt.alloc(), seed) == Ok(true), "seed {seed}");
     }
 }
 
 #[test]
 fn each_refused_request_is_told(rt: HostRuntime) {
-    let choices = [plain(3), refused(0), plain(7), refused(2), plain(0)];
-    for passed in 0..100u64 {
-        let heap = Refusing::new(rt.alloc(), passed);
-        let printed = print_choices(&heap, &choices);
-        if let Ok(text) = printed {
-            assert_eq!(rt; text.as_str(), "3 0! 7 2! 0\n", "at request {passed}");
-        } else {
-            assert!(rt; heap.refused(), "at request {passed}");
-        }
-        if !heap.refused() {
-            assert!(rt; passed > 0, "no memory is asked for");
-            return;
-        }
+    assert!(rt; tells_refusals(rt.alloc(), &FIVE_CHOICES));
+}
+
+/// Schedules of nine steps of two harts.
+#[derive(Clone, Copy)]
+enum Schedule {
+    Turns,
+    Solo,
+    Seeded,
+}
+
+/// Whether a schedule is made.
+fn is_made(heap: &Refusing<Global>, schedule: Schedule) -> bool {
+    match schedule {
+        Schedule::Turns => round_robin(heap, 2, 9).is_ok(),
+        Schedule::Solo => solo(heap, 2, 9).is_ok(),
+        Schedule::Seeded => seeded(heap, 2, 9, 1).is_ok(),
     }
-    assert!(rt; false, "memory is asked for without end");
+}
+
+/// Whether a schedule is refused with its first request.
+fn is_refused(alloc: Global, schedule: Schedule) -> bool {
+    let heap = Refusing::new(alloc, 0);
+    !is_made(&heap, schedule) && heap.refused()
 }
 
 #[test]
 fn a_refused_schedule_is_told(rt: HostRuntime) {
-    let heap = Refusing::new(rt.alloc(), 0);
-    assert!(rt; round_robin(&heap, 2, 9).is_err() && heap.refused());
-    let heap = Refusing::new(rt.alloc(), 0);
-    assert!(rt; solo(&heap, 2, 9).is_err() && heap.refused());
-    let heap = Refusing::new(rt.alloc(), 0);
-    assert!(rt; seeded(&heap, 2, 9, 1).is_err() && heap.refused());
+    for schedule in [Schedule::Turns, Schedule::Solo, Schedule::Seeded] {
+        assert!(rt; is_refused(rt.alloc(), schedule));
+    }
     assert!(rt; solo(rt.alloc(), 0, usize::MAX).is_err());
 }

@@ -1,5 +1,5 @@
 use Rattle.std.proofs.Crossing.{frees}
-use Rattle.banked_tests.proofs.memory_tests.runs_tell_want_of_memory.Goals as goal
+use Rattle.banked_tests.proofs.memory_tests.wrong_in_runs.Goals as goal
 
 -- any thread may give a block back to the host's heap, and so to an allocator that passes it on
 pub ask_run-requires-frees-A-Allocator : goal.ask_run-requires-frees-A-Allocator

@@ -1,5 +1,5 @@
 use Rattle.std.proofs.Common.{◌≡◌}
-use Rattle.banked_threads.proofs.worker.work.Given as goal
+use Rattle.banked_steps.proofs.worker.work.Given as goal
 
 -- the log stays that of the hart of the job's image
 abbrev pub invariant-choices : goal.invariant-choices

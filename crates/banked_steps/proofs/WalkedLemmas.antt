@@ -7,8 +7,8 @@ use Rattle.banks_laws.specs.Segments.{LoggedSegment}
 use Rattle.hart_logs.specs.HartLog.{HartLogValue, image_table, TouchesNext}
 use Rattle.banks_laws.specs.HartLogs.{AreLocal, local_hart}
 use Rattle.hart_logs.specs.HartLog.{slot_of}
-use Rattle.banked_threads.specs.declared.step.Walked.{Walked}
-use Rattle.banked_threads.specs.Walked.{IsWalked}
+use Rattle.banked_steps.specs.declared.step.Walked.{Walked}
+use Rattle.banked_steps.specs.Walked.{IsWalked}
 
 pub touches_next : (image : ImageValue) (l : HartLogValue) (e : LoggedSegment) (w : Walked) (t : Touch) → IsWalked image l w → e.hart ≡ w.hart → e.local ≡ w.local
     → (image_table image).need (hart_of w.slot.hart) ≡ None → (image_table image).plan (hart_of w.slot.hart) [] ≡ Some t → TouchesNext l e t

@@ -1,5 +1,5 @@
 //! What one hart's thread does.
-ghost use Rattle.std.specs.Prelude.{◌≡◌, ◌<◌, length};
+ghost use Rattle.std.specs.Prelude.{◌≡◌, ◌<◌, IfOk, length};
 
 use crate::fault::StepFault;
 use crate::job::Job;
@@ -20,6 +20,7 @@ pub fn work<'a, A: Allocator + Copy, G: Gate, R: Wait>(
     hart: u32,
 ) -> Result<HartLog<'a, A>, StepFault>
     requires { hart < length job.now.inputs.now }
+    ensures { IfOk result (λ log. (log.image ≡ job.now.image.now) × (log.hart ≡ hart)) }
 {
     let mut log = HartLog::new(alloc, job.image, job.inputs, hart);
     let mut left = job.budget;

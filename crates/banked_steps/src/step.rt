@@ -1,8 +1,10 @@
 //! One step of a hart under the locks of the banks that it touches.
 ghost use Rattle.std.specs.Prelude.{◌≡◌, ◌<◌, ◌%◌, None, IfOk, OnOk, length, vec_len};
+ghost use Rattle.reservations.specs.Marks.{names};
 ghost use Rattle.hart_step.specs.Hart.{hart_of};
+ghost use Rattle.banks.specs.BankLog.{state_of};
 ghost use Rattle.hart_logs.specs.HartLog.{image_table};
-ghost use Rattle.banked_threads.specs.Walked.{IsWalked, Stays};
+ghost use Rattle.banked_steps.specs.Walked.{IsWalked, Stays};
 
 use crate::fault::StepFault;
 use crate::job::Job;
@@ -64,8 +66,9 @@ fn place_or(touch: Option<PlannedTouch>, other: usize) -> usize
 
 /// What a bank has at a word.
 fn found_in<A: Allocator>(bank: &Bank<A>, hart: u32, word: u32) -> Found
-    requires aligned { word % 4 ≡ 0 }
-    requires there { hart < 32 }
+    requires { hart < 32 }
+    ensures bytes { result.bytes ≡ (state_of bank.now).values word }
+    ensures mark { result.mark ≡ names ((state_of bank.now).marks hart) word }
 {
     Found {
         bytes: bank.bytes(word),
@@ -91,12 +94,12 @@ fn step_in_code<A: Allocator + Copy, G: Gate, R: Wait>(
         return Ok(());
     };
     let place = place_of(touch.word);
-    let mut bank = job.banks[place].lock(rt);
+    let mut bank = job.banks()[place].lock(rt);
     let segment = walked.stamped(&[bank.last_stamp()])?;
     let found = found_in(&bank, walked.hart, touch.word);
     gate.held(walked.hart, place as u32);
     let access = log.add_touch(segment, touch, found)?;
-    bank.add(access)?;
+    bank.add_found(access)?;
     Ok(())
 }
 
@@ -113,7 +116,7 @@ fn step_outside_code<A: Allocator + Copy, G: Gate, R: Wait>(
     requires { walked.now.hart < 32 }
 {
     let mut held = Vec::new(alloc);
-    'banks: for bank in &job.banks {
+    'banks: for bank in job.banks() {
         if held.push(bank.lock(rt)).is_err() {
             return Err(StepFault::Memory);
         }

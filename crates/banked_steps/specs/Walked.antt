@@ -4,7 +4,7 @@ use Rattle.loader.specs.Image.{ImageValue}
 use Rattle.hart_step.specs.Hart.{hart_of}
 use Rattle.banks_laws.specs.HartLogs.{AreLocal, local_hart}
 use Rattle.hart_logs.specs.HartLog.{HartLogValue, image_table, slot_of}
-use Rattle.banked_threads.specs.declared.step.Walked.{Walked}
+use Rattle.banked_steps.specs.declared.step.Walked.{Walked}
 
 -- what was walked are so many steps of the log's hart that touch nothing
 pub record IsWalked (image : ImageValue) (l : HartLogValue) (w : Walked) : Type 0 where

@@ -20,7 +20,7 @@ pub struct Job<'a, A: Allocator> {
     pub(crate) code: Code<A>,
     pub(crate) budget: u32,
     pub(crate) plan: &'a Plan<A>,
-    pub(crate) banks: Vec<Mutex<Bank<'a, A>>, A>,
+    banks: Vec<Mutex<Bank<'a, A>>, A>,
     ghost sixteen: { vec_len banks ≡ 16 },
     ghost few: { length inputs.now ≤ 32 },
     ghost its_code: { segments_memory code ≡ code_in (image_memory image.now) },
@@ -36,7 +36,8 @@ impl<'a, A: Allocator + Copy> Job<'a, A> {
         plan: &'a Plan<A>,
     ) -> Result<Job<'a, A>, AllocError>
         requires { length inputs.now ≤ most_harts }
-        ensures { IfOk result (λ job. job.inputs.now ≡ inputs.now) }
+        ensures program { IfOk result (λ job. (job.image.now ≡ image.now) × (job.inputs.now ≡ inputs.now)) }
+        ensures limits { IfOk result (λ job. (job.budget ≡ budget) × (job.plan.now ≡ plan.now)) }
     {
         let code = Code::new(alloc, image)?;
         let mut banks = Vec::with_capacity(alloc, BANKS as usize)?;
@@ -54,5 +55,18 @@ impl<'a, A: Allocator + Copy> Job<'a, A> {
             plan,
             banks,
         })
+    }
+
+    /// The lock of each bank, in the banks' order.
+    pub fn banks(&self) -> &[Mutex<Bank<'a, A>>]
+        ensures { length result.now ≡ 16 }
+    {
+        &self.banks
+    }
+
+    /// The locks, once the harts' threads have ended.
+    pub fn into_banks(self) -> Vec<Mutex<Bank<'a, A>>, A> {
+        let Job { banks, .. } = self;
+        banks
     }
 }
