@@ -1,67 +1,28 @@
 //! What no clause says of books: that segments are taken where memory is left, worked histories, and refused memory.
-use book::{Book, PresentFault};
+use crate::images::{LR_SC, Program, STORE_AND_LOAD, SWAP, book_of};
+use book::{Book, PresentFault, Segment};
 use hart_step::HartState;
 use histories::print_history;
-use loader::{Image, Rights, Segment};
-use protocol_library::{Kind, make_image};
 use refusing::Refusing;
-use std::alloc::{AllocError, Allocator};
+use std::alloc::{Allocator, Global};
 
-const BASE: u32 = 0x10000;
-
-// Each hart stores its input at one address, loads the word that is there, and exits with it.
-const STORE_AND_LOAD: [u8; 20] = [
-    0xb7, 0x12, 0x01, 0x00, // lui t0, 0x11
-    0x23, 0xa0, 0xb2, 0x00, // sw a1, 0(t0)
-    0x03, 0xa5, 0x02, 0x00, // lw a0, 0(t0)
-    0x93, 0x08, 0xd0, 0x05, // addi a7, zero, 93
-    0x73, 0x00, 0x00, 0x00, // ecall
-];
-
-// An image whose one segment may be read, written and executed.
-fn writable_image<A: Allocator + Copy>(alloc: A) -> Result<Image<A>, AllocError> {
-    let mut segments = Vec::new(alloc);
-    segments.push(Segment {
-        base: BASE,
-        size: 0x2000,
-        rights: Rights::ANY,
-        bytes: Vec::from_slice(alloc, &STORE_AND_LOAD)?,
-    })?;
-    match Image::new(alloc, BASE, segments) {
-        Ok(image) => Ok(image),
-        Err(_) => Err(AllocError),
-    }
-}
-
-// A book of an image and inputs.
-fn book_of<A: Allocator + Copy>(
-    alloc: A,
-    image: Result<Image<A>, AllocError>,
-    inputs: &[u32],
-) -> Option<Book<A>> {
-    let inputs = Vec::from_slice(alloc, inputs).ok()?;
-    Book::new(alloc, image.ok()?, inputs).ok()
-}
-
-// Lets harts run until they stop, one after another; each segment is as long as it can be. The step behind the local ones of
-// one entry, told by its place in the history, is refused its store-conditional.
+// Lets a hart run until it stops; each segment is as long as it can be. The step behind the local ones of one entry, told by its
+// place in the history, is refused its store-conditional.
 fn run_out<A: Allocator + Copy>(
     book: &mut Book<A>,
-    harts: &[u32],
+    hart: u32,
     refused: usize,
 ) -> Result<(), PresentFault> {
-    for hart in harts {
-        let Ok(mut segment) = book.segment(*hart) else {
-            return Err(PresentFault::NoHart);
-        };
-        for _ in 0..20 {
-            if segment.reached().state != HartState::Running {
-                break;
-            }
-            segment.advance(u32::MAX);
-            segment.set_refuse(book.history().len() == refused);
-            book.present(&mut segment)?;
+    let Ok(mut segment) = book.segment(hart) else {
+        return Err(PresentFault::NoHart);
+    };
+    for _ in 0..20 {
+        if segment.reached().state != HartState::Running {
+            break;
         }
+        segment.advance(u32::MAX);
+        segment.set_refuse(book.history().len() == refused);
+        book.present(&mut segment)?;
     }
     Ok(())
 }
@@ -69,138 +30,153 @@ fn run_out<A: Allocator + Copy>(
 // The place of no entry.
 const NONE: usize = usize::MAX;
 
-#[derive(Clone, Copy, Debug)]
-enum Program {
-    Library(Kind),
-    Writable,
+// A run in segments: its program, the inputs, the harts in the order in which they run, the entry whose store-conditional is
+// refused, the history, and what hart 0 exits with.
+struct Run {
+    program: Program,
+    inputs: &'static [u32],
+    harts: &'static [u32],
+    refused: usize,
+    history: &'static str,
+    status: u32,
 }
 
-// A program, its inputs, the harts in the order in which they run, the entry whose store-conditional is refused, the history,
-// and what hart 0 exits with.
-const ROWS: [(Program, &[u32], &[u32], usize, &str, u32); 4] = [
-    (
-        Program::Library(Kind::Swap),
-        &[7, 9],
-        &[1, 0],
-        NONE,
-        "1+3 1+1 1+4 0+3 0+1 0+4 0+3\n",
-        9,
-    ),
-    (
-        Program::Library(Kind::LrSc),
-        &[6],
-        &[0],
-        2,
-        "0+3 0+1 0+1! 0+1 0+1 0+4 0+2\n",
-        6,
-    ),
-    (
-        Program::Writable,
-        &[5],
-        &[0],
-        NONE,
-        "0+0 0+0 0+0 0+0 0+0\n",
-        5,
-    ),
-    (
-        Program::Writable,
-        &[5, 8],
-        &[1, 0],
-        NONE,
-        "1+0 1+0 1+0 1+0 1+0 0+0 0+0 0+0 0+0 0+0\n",
-        5,
-    ),
+const RUNS: [Run; 4] = [
+    Run {
+        program: SWAP,
+        inputs: &[7, 9],
+        harts: &[1, 0],
+        refused: NONE,
+        history: "1+3 1+1 1+4 0+3 0+1 0+4 0+3\n",
+        status: 9,
+    },
+    Run {
+        program: LR_SC,
+        inputs: &[6],
+        harts: &[0],
+        refused: 2,
+        history: "0+3 0+1 0+1! 0+1 0+1 0+4 0+2\n",
+        status: 6,
+    },
+    Run {
+        program: Program::Writable(&STORE_AND_LOAD),
+        inputs: &[5],
+        harts: &[0],
+        refused: NONE,
+        history: "0+0 0+0 0+0 0+0 0+0\n",
+        status: 5,
+    },
+    Run {
+        program: Program::Writable(&STORE_AND_LOAD),
+        inputs: &[5, 8],
+        harts: &[1, 0],
+        refused: NONE,
+        history: "1+0 1+0 1+0 1+0 1+0 0+0 0+0 0+0 0+0 0+0\n",
+        status: 5,
+    },
 ];
 
-// The history of a program's run in segments, and where hart 0 is at its end; None where something is refused.
-fn history_of<A: Allocator + Copy>(
-    alloc: A,
-    program: Program,
-    inputs: &[u32],
-    harts: &[u32],
-    refused: usize,
-) -> Option<(String<A>, Option<HartState>)> {
-    let image = match program {
-        Program::Library(kind) => make_image(alloc, kind),
-        Program::Writable => writable_image(alloc),
-    };
-    let mut book = book_of(alloc, image, inputs)?;
-    run_out(&mut book, harts, refused).ok()?;
+// The book of a run; None where something is refused.
+fn book_after(alloc: Global, run: &Run) -> Option<Book<Global>> {
+    let mut book = book_of(alloc, run.program, run.inputs)?;
+    for hart in run.harts {
+        run_out(&mut book, *hart, run.refused).ok()?;
+    }
+    Some(book)
+}
+
+// Whether a book has the history of a run, and its hart 0 is where that run ends.
+fn is_after(alloc: Global, book: &Book<Global>, run: &Run) -> Option<bool> {
     let text = print_history(alloc, book.history()).ok()?;
     let first = book.machine().ends().first().map(|hart| hart.state);
-    Some((text, first))
+    Some(text.as_str() == run.history && first == Some(HartState::Exited(run.status)))
+}
+
+// Whether a run has its history and its end; None where something is refused.
+fn runs_so(alloc: Global, run: &Run) -> Option<bool> {
+    let book = book_after(alloc, run)?;
+    is_after(alloc, &book, run)
 }
 
 #[test]
 fn harts_run_in_segments(rt: HostRuntime) {
-    for (program, inputs, harts, refused, history, status) in ROWS {
-        match history_of(rt.alloc(), program, inputs, harts, refused) {
-            Some((text, first)) => {
-                assert_eq!(rt; text.as_str(), history);
-                assert_eq!(rt; first, Some(HartState::Exited(status)), "{history}");
-            }
-            None => assert!(rt; false, "{history}: no run"),
+    for run in &RUNS {
+        let history = run.history;
+        assert!(rt; runs_so(rt.alloc(), run) == Some(true), "{history}");
+    }
+}
+
+// Of a limit, how many steps are done, and their count after it.
+const LIMITS: [(u32, u32, u32); 6] = [
+    (0, 0, 0),
+    (1, 1, 1),
+    (1, 0, 1),
+    (2, 1, 2),
+    (9, 1, 3),
+    (9, 0, 3),
+];
+
+// Whether a segment goes on within each limit.
+fn keeps_limits(segment: &mut Segment<Global>) -> bool {
+    for (limit, done, count) in &LIMITS {
+        if segment.advance(*limit) != *done || segment.local() != *count {
+            return false;
         }
     }
+    true
+}
+
+// Whether a segment keeps its limits, and is presented.
+fn is_presented_within_limits(alloc: Global) -> Option<bool> {
+    let mut book = book_of(alloc, SWAP, &[7, 9])?;
+    let mut segment = book.segment(0).ok()?;
+    let is_within = keeps_limits(&mut segment);
+    Some(is_within && book.present(&mut segment) == Ok(()) && segment.local() == 0)
 }
 
 #[test]
 fn a_segment_stops_at_its_limit(rt: HostRuntime) {
-    let Some(mut book) = book_of(rt.alloc(), make_image(rt.alloc(), Kind::Swap), &[7, 9]) else {
-        assert!(rt; false, "no book");
-        return;
+    assert!(rt; is_presented_within_limits(rt.alloc()) == Some(true));
+}
+
+// Whether a segment of three local steps is presented: at once, or with a request refused at the second try, all being as it was.
+fn is_presented<A: Allocator + Copy>(
+    heap: &Refusing<Global>,
+    book: &mut Book<A>,
+    segment: &mut Segment<A>,
+) -> bool {
+    if let Err(fault) = book.present(segment) {
+        let is_told = fault == PresentFault::Memory && heap.refused();
+        let is_kept = book.history().is_empty() && segment.local() == 3;
+        if !is_told || !is_kept || book.present(segment) != Ok(()) {
+            return false;
+        }
+    }
+    book.history().len() == 1
+}
+
+// Whether a book is made and a segment presented, or want of memory is told.
+fn is_told(heap: &Refusing<Global>) -> bool {
+    let Some(mut book) = book_of(heap, SWAP, &[7, 9]) else {
+        return heap.refused();
     };
     let Ok(mut segment) = book.segment(0) else {
-        assert!(rt; false, "no segment");
-        return;
+        return false;
     };
-    // Of a limit, how many steps are done, and their count after it.
-    for (limit, done, count) in [
-        (0, 0, 0),
-        (1, 1, 1),
-        (1, 0, 1),
-        (2, 1, 2),
-        (9, 1, 3),
-        (9, 0, 3),
-    ] {
-        assert_eq!(rt; segment.advance(limit), done, "limit {limit}");
-        assert_eq!(rt; segment.local(), count, "limit {limit}");
-    }
-    assert_eq!(rt; book.present(&mut segment), Ok(()));
-    assert_eq!(rt; segment.local(), 0);
+    segment.advance(u32::MAX);
+    is_presented(heap, &mut book, &mut segment)
 }
 
 #[test]
-fn each_refused_request_changes_nothing(rt: HostRuntime) {
-    let mut refused = true;
+fn each_refused_request_changes_nothing(rt: HostRuntime) -> Result<(), u64> {
     for passed in 0..400u64 {
         let heap = Refusing::new(rt.alloc(), passed);
-        let image = make_image(&heap, Kind::Swap);
-        let Some(mut book) = book_of(&heap, image, &[7, 9]) else {
-            assert!(rt; heap.refused(), "no book at request {passed}");
-            continue;
-        };
-        let Ok(mut segment) = book.segment(0) else {
-            assert!(rt; false, "no segment at request {passed}");
-            return;
-        };
-        segment.advance(u32::MAX);
-        if let Err(fault) = book.present(&mut segment) {
-            assert_eq!(rt; fault, PresentFault::Memory, "at request {passed}");
-            assert!(rt; heap.refused(), "at request {passed}");
-            assert_eq!(rt; book.history().len(), 0, "at request {passed}");
-            assert_eq!(rt; segment.local(), 3, "at request {passed}");
-            assert_eq!(rt;
-                book.present(&mut segment),
-                Ok(()),
-                "after request {passed}"
-            );
+        if !is_told(&heap) {
+            return Err(passed);
         }
-        assert_eq!(rt; book.history().len(), 1, "request {passed}");
-        refused = heap.refused();
-        if !refused {
-            break;
+        if !heap.refused() {
+            return Ok(());
         }
     }
-    assert!(rt; !refused, "memory is asked for without end");
+    Err(400)
 }

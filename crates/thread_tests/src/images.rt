@@ -1,4 +1,5 @@
-//! Programs for tests.
+//! Programs for tests, and their books.
+use book::Book;
 use hart_threads::Plan;
 use loader::{Image, Rights, Segment};
 use protocol_library::{Kind, make_image};
@@ -6,13 +7,19 @@ use std::alloc::{AllocError, Allocator};
 use std::collections::BTreeSet;
 
 /// A program for tests.
-#[derive(Clone, Copy, Debug)]
+#[derive(Clone, Copy)]
 pub enum Program {
     /// An object of the library: its text may not be written.
     Object(Kind),
     /// Words that may be written too, at 0x00010000.
     Writable(&'static [u32]),
 }
+
+/// Consensus of two harts by `amoswap.w`.
+pub const SWAP: Program = Program::Object(Kind::Swap);
+
+/// Consensus of all harts by `lr.w` and `sc.w`.
+pub const LR_SC: Program = Program::Object(Kind::LrSc);
 
 /// Each hart stores its input at one address, loads the word that is there, and exits with it.
 pub const STORE_AND_LOAD: [u32; 5] = [
@@ -42,11 +49,17 @@ pub fn image_of<A: Allocator + Copy>(alloc: A, program: Program) -> Result<Image
     }
 }
 
-fn writable_image<A: Allocator + Copy>(alloc: A, words: &[u32]) -> Result<Image<A>, AllocError> {
+// The bytes of words.
+fn bytes_of<A: Allocator>(alloc: A, words: &[u32]) -> Result<Vec<u8, A>, AllocError> {
     let mut bytes = Vec::new(alloc);
     for word in words {
         bytes.extend_from_slice(&word.to_le_bytes())?;
     }
+    Ok(bytes)
+}
+
+fn writable_image<A: Allocator + Copy>(alloc: A, words: &[u32]) -> Result<Image<A>, AllocError> {
+    let bytes = bytes_of(alloc, words)?;
     let mut segments = Vec::new(alloc);
     segments.push(Segment {
         base: 0x0001_0000,
@@ -54,10 +67,14 @@ fn writable_image<A: Allocator + Copy>(alloc: A, words: &[u32]) -> Result<Image<
         rights: Rights::ANY,
         bytes,
     })?;
-    match Image::new(alloc, 0x0001_0000, segments) {
-        Ok(image) => Ok(image),
-        Err(_) => Err(AllocError),
-    }
+    Image::new(alloc, 0x0001_0000, segments).map_err(|_| AllocError)
+}
+
+/// The book of a program with a hart for each input.
+pub fn book_of<A: Allocator + Copy>(alloc: A, program: Program, inputs: &[u32]) -> Option<Book<A>> {
+    let image = image_of(alloc, program).ok()?;
+    let inputs = Vec::from_slice(alloc, inputs).ok()?;
+    Book::new(alloc, image, inputs).ok()
 }
 
 /// The plan of these pairs.

@@ -14,4 +14,6 @@ mod replay_tests;
 #[cfg(test)]
 mod runner_tests;
 #[cfg(test)]
+mod runs;
+#[cfg(test)]
 mod seat_tests;

@@ -1,94 +1,142 @@
 //! What no clause says of the library's objects on threads: that runs under plans of any kind come to their end, and that a hart
 //! which is held holds up nobody. Their rules hold by law of each history; here each history is done again beside.
-use crate::images::{Program, image_of, plan_of};
+use crate::images::{LR_SC, Program, SWAP};
+use crate::runs::{Order, run};
 use book::Book;
-use hart_step::{Hart, HartState};
-use hart_threads::{Gate, OpenGate, run_threads};
-use histories::{Entry, print_history};
+use hart_step::HartState;
+use hart_threads::{Gate, OpenGate};
+use histories::Entry;
 use machine::{Choice, Machine};
 use memory::FlatStore;
 use protocol_library::{Kind, Verdict, judge};
-use std::alloc::Allocator;
+use std::alloc::{AllocError, Allocator, Global};
 use std::sync::Wait;
 use std::sync::atomic::{AtomicU64, Ordering};
 use std::thread;
 use std::thread::Threads;
 
-// Runs an object with a hart for each input.
-fn run<A: Allocator + Copy + Send + Sync, G: Gate + Sync, R: Threads + Wait + Sync>(
-    rt: &R,
-    alloc: A,
-    kind: Kind,
-    inputs: &[u32],
-    pairs: &[(u32, u32)],
-    gate: &G,
-) -> Option<Book<A>> {
-    let image = image_of(alloc, Program::Object(kind)).ok()?;
-    let inputs = Vec::from_slice(alloc, inputs).ok()?;
-    let plan = plan_of(alloc, pairs).ok()?;
-    let outcome = run_threads(rt, alloc, image, inputs, 500, plan, gate).ok()?;
-    Some(outcome.book)
+// How often a hart is chosen at most.
+const BUDGET: u32 = 500;
+
+// Adds the choices that an entry stands for, one by one.
+fn push_choices<A: Allocator>(
+    choices: &mut Vec<Choice, A>,
+    entry: &Entry,
+) -> Result<(), AllocError> {
+    for _ in 0..entry.local {
+        choices.push(Choice {
+            hart: entry.hart,
+            refuse: false,
+        })?;
+    }
+    choices.push(Choice {
+        hart: entry.hart,
+        refuse: entry.refuse,
+    })?;
+    Ok(())
 }
 
 // The choices that a history stands for, one by one.
-fn choices_of<A: Allocator>(alloc: A, history: &[Entry]) -> Option<Vec<Choice, A>> {
+fn choices_of<A: Allocator>(alloc: A, history: &[Entry]) -> Result<Vec<Choice, A>, AllocError> {
     let mut choices = Vec::new(alloc);
     for entry in history {
-        for _ in 0..entry.local {
-            let choice = Choice {
-                hart: entry.hart,
-                refuse: false,
-            };
-            choices.push(choice).ok()?;
-        }
-        let choice = Choice {
-            hart: entry.hart,
-            refuse: entry.refuse,
-        };
-        choices.push(choice).ok()?;
+        push_choices(&mut choices, entry)?;
     }
-    Some(choices)
+    Ok(choices)
 }
 
-// What the harts come to where they take these choices.
-fn does_again<A: Allocator + Copy>(alloc: A, book: &Book<A>, choices: &[Choice]) -> bool {
-    let Ok(machine) = Machine::start(alloc, book.image(), book.inputs()) else {
-        return false;
-    };
-    let mut machine: Machine<FlatStore<A>, A> = machine;
+// Whether the harts of a machine can take these choices, which they then have.
+fn take<A: Allocator + Copy>(machine: &mut Machine<FlatStore<A>, A>, choices: &[Choice]) -> bool {
     for choice in choices {
         if choice.hart as usize >= machine.harts() || machine.step(*choice).is_err() {
             return false;
         }
     }
-    machine.ends() == book.machine().ends()
+    true
 }
 
-// An object of consensus, and its harts' inputs.
-const CONSENSUS: [(Kind, &[u32]); 4] = [
-    (Kind::Swap, &[7, 9]),
-    (Kind::Add, &[4, 6]),
-    (Kind::LrSc, &[3, 5, 7, 9]),
-    (Kind::LrSc, &[1, 2, 3, 4, 5, 6, 7, 8]),
-];
+// Whether the harts come to the same where they take these choices.
+fn does_again<A: Allocator + Copy>(alloc: A, book: &Book<A>, choices: &[Choice]) -> bool {
+    let Ok(machine) = Machine::start(alloc, book.image(), book.inputs()) else {
+        return false;
+    };
+    let mut machine: Machine<FlatStore<A>, A> = machine;
+    take(&mut machine, choices) && machine.ends() == book.machine().ends()
+}
 
-// An object of adopt-commit, and its harts' inputs.
-const ADOPT_COMMIT: [(Kind, &[u32]); 2] = [
-    (Kind::AdoptCommit, &[2, 2, 5]),
-    (Kind::Rounds, &[2, 2, 5]),
-];
+// An object: its kind, its harts' inputs, how many runs it has, and the bound of the harts in their plans.
+struct Object {
+    name: &'static str,
+    kind: Kind,
+    inputs: &'static [u32],
+    runs: u32,
+    bound: u32,
+}
 
 // How many runs each object has.
 const RUNS: u32 = 1000;
 
-// An input for each of as many harts as there may be.
-const ALL_HARTS: [u32; 32] = [
-    1, 2, 3, 4, 5, 6, 7, 8, 9, 10, 11, 12, 13, 14, 15, 16, 17, 18, 19, 20, 21, 22, 23, 24, 25, 26,
-    27, 28, 29, 30, 31, 32,
+// Objects of consensus.
+const CONSENSUS: [Object; 4] = [
+    Object {
+        name: "Swap",
+        kind: Kind::Swap,
+        inputs: &[7, 9],
+        runs: RUNS,
+        bound: 9,
+    },
+    Object {
+        name: "Add",
+        kind: Kind::Add,
+        inputs: &[4, 6],
+        runs: RUNS,
+        bound: 9,
+    },
+    Object {
+        name: "LrSc of four harts",
+        kind: Kind::LrSc,
+        inputs: &[3, 5, 7, 9],
+        runs: RUNS,
+        bound: 9,
+    },
+    Object {
+        name: "LrSc of eight harts",
+        kind: Kind::LrSc,
+        inputs: &[1, 2, 3, 4, 5, 6, 7, 8],
+        runs: RUNS,
+        bound: 9,
+    },
 ];
 
-// How many runs all harts have, each with a thread a hart.
-const RUNS_OF_ALL: u32 = 50;
+// Objects of adopt-commit.
+const ADOPT_COMMIT: [Object; 2] = [
+    Object {
+        name: "AdoptCommit",
+        kind: Kind::AdoptCommit,
+        inputs: &[2, 2, 5],
+        runs: RUNS,
+        bound: 9,
+    },
+    Object {
+        name: "Rounds",
+        kind: Kind::Rounds,
+        inputs: &[2, 2, 5],
+        runs: RUNS,
+        bound: 9,
+    },
+];
+
+// An object of as many harts as there may be, each with a thread.
+const ALL_HARTS: Object = Object {
+    name: "LrSc of all harts",
+    kind: Kind::LrSc,
+    inputs: &[
+        1, 2, 3, 4, 5, 6, 7, 8, 9, 10, 11, 12, 13, 14, 15, 16, 17, 18, 19, 20, 21, 22, 23, 24, 25,
+        26, 27, 28, 29, 30, 31, 32,
+    ],
+    runs: 50,
+    bound: 33,
+};
 
 // Pairs that follow from a number, of harts below a bound, which may not be there, and of low numbers.
 fn pairs_of(number: u32, bound: u32) -> [(u32, u32); 4] {
@@ -102,66 +150,61 @@ fn pairs_of(number: u32, bound: u32) -> [(u32, u32); 4] {
     pairs
 }
 
-// What a run that was done again can be found to lack.
-#[derive(Clone, Copy, Debug, PartialEq, Eq, Drop)]
-enum Lack {
-    Run,
-    Memory,
-    SameEnds,
-    End,
-    Rule(Verdict),
+// Whether a run that has these choices has the same ends when it is done again, each hart has stopped, and the rule is kept.
+fn is_right(alloc: Global, object: &Object, book: &Book<Global>, choices: &[Choice]) -> bool {
+    let ends = book.machine().ends();
+    does_again(alloc, book, choices)
+        && !ends.iter().any(|hart| hart.state == HartState::Running)
+        && judge(object.kind, object.inputs, choices, ends) == Verdict::Kept
 }
 
-// Runs an object, does its history again and judges it.
-fn kept<A: Allocator + Copy + Send + Sync, R: Threads + Wait + Sync>(
+// Runs an object under the plan of a number, does its history again and judges it; None where a run or memory is refused.
+fn keeps_rule<R: Threads + Wait + Sync>(
     rt: &R,
-    alloc: A,
-    kind: Kind,
-    inputs: &[u32],
-    pairs: &[(u32, u32)],
-) -> Result<(), Lack> {
-    let book = run(rt, alloc, kind, inputs, pairs, &OpenGate).ok_or(Lack::Run)?;
-    let choices = choices_of(alloc, book.history()).ok_or(Lack::Memory)?;
-    if !does_again(alloc, &book, &choices) {
-        return Err(Lack::SameEnds);
+    alloc: Global,
+    object: &Object,
+    number: u32,
+) -> Option<bool> {
+    let order = Order {
+        program: Program::Object(object.kind),
+        inputs: object.inputs,
+        budget: BUDGET,
+        pairs: &pairs_of(number, object.bound),
+    };
+    let book = run(rt, alloc, &order, &OpenGate).ok()?;
+    let choices = choices_of(alloc, book.history()).ok()?;
+    Some(is_right(alloc, object, &book, &choices))
+}
+
+// The first run of an object that doesn't keep its rule.
+fn broken_run<R: Threads + Wait + Sync>(rt: &R, alloc: Global, object: &Object) -> Option<u32> {
+    for number in 0..object.runs {
+        if keeps_rule(rt, alloc, object, number) != Some(true) {
+            return Some(number);
+        }
     }
-    let ends = book.machine().ends();
-    if ends.iter().any(|hart| hart.state == HartState::Running) {
-        return Err(Lack::End);
-    }
-    match judge(kind, inputs, &choices, ends) {
-        Verdict::Kept => Ok(()),
-        verdict => Err(Lack::Rule(verdict)),
-    }
+    None
 }
 
 #[test]
 fn objects_of_consensus_keep_their_rule(rt: HostRuntime) {
-    for (kind, inputs) in CONSENSUS {
-        for number in 0..RUNS {
-            let found = kept(&rt, rt.alloc(), kind, inputs, &pairs_of(number, 9));
-            assert_eq!(rt; found, Ok(()), "{kind:?}, run {number}");
-        }
+    for object in &CONSENSUS {
+        let name = object.name;
+        assert!(rt; broken_run(&rt, rt.alloc(), object).is_none(), "{name}");
     }
 }
 
 #[test]
 fn objects_of_adopt_commit_keep_their_rule(rt: HostRuntime) {
-    for (kind, inputs) in ADOPT_COMMIT {
-        for number in 0..RUNS {
-            let found = kept(&rt, rt.alloc(), kind, inputs, &pairs_of(number, 9));
-            assert_eq!(rt; found, Ok(()), "{kind:?}, run {number}");
-        }
+    for object in &ADOPT_COMMIT {
+        let name = object.name;
+        assert!(rt; broken_run(&rt, rt.alloc(), object).is_none(), "{name}");
     }
 }
 
 #[test]
 fn thirty_two_harts_agree(rt: HostRuntime) {
-    for number in 0..RUNS_OF_ALL {
-        let pairs = pairs_of(number, 33);
-        let found = kept(&rt, rt.alloc(), Kind::LrSc, &ALL_HARTS, &pairs);
-        assert_eq!(rt; found, Ok(()), "run {number}");
-    }
+    assert!(rt; broken_run(&rt, rt.alloc(), &ALL_HARTS).is_none());
 }
 
 // How long a hart is held.
@@ -190,39 +233,68 @@ impl Gate for Holding {
     }
 }
 
-#[test]
-fn hart_that_is_held_takes_the_value_of_the_other(rt: HostRuntime) {
-    for (held, value) in [(0, 9), (1, 7)] {
-        // As many segments as Swap needs.
-        let gate = Holding {
-            held,
-            enough: 3,
-            others: AtomicU64::new(0),
-        };
-        let Some(book) = run(&rt, rt.alloc(), Kind::Swap, &[7, 9], &[], &gate) else {
-            return assert!(rt; false, "held {held}: no run");
-        };
-        for hart in book.machine().ends() {
-            assert_eq!(rt; hart.state, HartState::Exited(value), "held {held}");
-        }
-    }
+// A run of two harts.
+const TWO: Order = Order {
+    program: SWAP,
+    inputs: &[7, 9],
+    budget: BUDGET,
+    pairs: &[],
+};
+
+// Whether all harts of Swap exit with a value where one is held for as many segments as Swap needs.
+fn all_take<R: Threads + Wait + Sync>(
+    rt: &R,
+    alloc: Global,
+    held: u32,
+    value: u32,
+) -> Option<bool> {
+    let gate = Holding {
+        held,
+        enough: 3,
+        others: AtomicU64::new(0),
+    };
+    let book = run(rt, alloc, &TWO, &gate).ok()?;
+    let ends = book.machine().ends();
+    Some(
+        ends.iter()
+            .all(|hart| hart.state == HartState::Exited(value)),
+    )
 }
 
 #[test]
-fn three_harts_go_on_while_one_is_held(rt: HostRuntime) {
+fn hart_that_is_held_takes_the_value_of_the_other(rt: HostRuntime) {
+    for (held, value) in [(0, 9), (1, 7)] {
+        assert!(rt;
+            all_take(&rt, rt.alloc(), held, value) == Some(true),
+            "held {held}"
+        );
+    }
+}
+
+// A run of four harts.
+const FOUR: Order = Order {
+    program: LR_SC,
+    inputs: &[3, 5, 7, 9],
+    budget: BUDGET,
+    pairs: &[],
+};
+
+// Whether three harts of LrSc go on while one is held, and all stop.
+fn go_on<R: Threads + Wait + Sync>(rt: &R, alloc: Global) -> Option<bool> {
     let gate = Holding {
         held: 0,
         enough: 9,
         others: AtomicU64::new(0),
     };
-    let Some(book) = run(&rt, rt.alloc(), Kind::LrSc, &[3, 5, 7, 9], &[], &gate) else {
-        return assert!(rt; false, "no run");
-    };
+    let book = run(rt, alloc, &FOUR, &gate).ok()?;
     // Of nine segments three at most are not committed yet.
-    for (place, entry) in book.history().iter().enumerate() {
-        assert!(rt; place >= 6 || entry.hart != 0, "entry {place}");
-    }
-    for hart in book.machine().ends() {
-        assert_ne!(rt; hart.state, HartState::Running);
-    }
+    let are_first = book.history().iter().take(6).all(|entry| entry.hart != 0);
+    let ends = book.machine().ends();
+    let have_stopped = ends.iter().all(|hart| hart.state != HartState::Running);
+    Some(are_first && have_stopped)
+}
+
+#[test]
+fn three_harts_go_on_while_one_is_held(rt: HostRuntime) {
+    assert!(rt; go_on(&rt, rt.alloc()) == Some(true));
 }

@@ -2,21 +2,27 @@
 use histories::read_history;
 use machine::Choice;
 use replays::chosen_harts;
+use std::alloc::Global;
+
+const CHOSEN: [Choice; 2] = [
+    Choice {
+        hart: 2,
+        refuse: false,
+    },
+    Choice {
+        hart: 0,
+        refuse: false,
+    },
+];
+
+// Whether a history of two harts chooses each once, in the order of their first entries.
+fn are_chosen(alloc: Global) -> Option<bool> {
+    let history = read_history(alloc, b"2+3 0+1! 2+0 0+4", 3).ok()?;
+    let chosen = chosen_harts(alloc, &history).ok()?;
+    Some(chosen.as_slice() == CHOSEN.as_slice())
+}
 
 #[test]
 fn each_hart_is_chosen_once(rt: HostRuntime) {
-    let Ok(history) = read_history(rt.alloc(), b"2+3 0+1! 2+0 0+4", 3) else {
-        return assert!(rt; false, "no history");
-    };
-    let Ok(chosen) = chosen_harts(rt.alloc(), &history) else {
-        return assert!(rt; false, "no memory for the harts");
-    };
-    assert_eq!(rt; chosen.len(), 2);
-    for (choice, wanted) in chosen.iter().zip([2, 0]) {
-        let plain = Choice {
-            hart: wanted,
-            refuse: false,
-        };
-        assert_eq!(rt; *choice, plain);
-    }
+    assert!(rt; are_chosen(rt.alloc()) == Some(true));
 }

@@ -1,38 +1,16 @@
 //! What no clause says of runs of threads: that they come to their end, that harts run at once, worked histories, and refused
 //! memory.
-use crate::images::{Program, STORE_AND_LOAD, STORE_OVER_NEXT, image_of, plan_of};
-use book::Book;
+use crate::images::{LR_SC, Program, STORE_AND_LOAD, STORE_OVER_NEXT, SWAP};
+use crate::runs::{Order, run};
 use hart_step::{Hart, HartState};
-use hart_threads::{Gate, OpenGate, RunFault, run_threads};
+use hart_threads::{Gate, OpenGate, RunFault};
 use histories::print_history;
-use protocol_library::Kind;
 use refusing::{Refusing, Shortage};
-use std::alloc::Allocator;
+use std::alloc::Global;
 use std::sync::Wait;
 use std::sync::atomic::{AtomicU64, Ordering};
 use std::thread;
 use std::thread::Threads;
-
-// Runs a program with a hart for each input.
-fn run<A: Allocator + Copy + Send + Sync, G: Gate + Sync, R: Threads + Wait + Sync>(
-    rt: &R,
-    alloc: A,
-    program: Program,
-    inputs: &[u32],
-    budget: u32,
-    pairs: &[(u32, u32)],
-    gate: &G,
-) -> Result<Book<A>, RunFault> {
-    let (Ok(image), Ok(inputs), Ok(plan)) = (
-        image_of(alloc, program),
-        Vec::from_slice(alloc, inputs),
-        plan_of(alloc, pairs),
-    ) else {
-        return Err(RunFault::Memory);
-    };
-    let outcome = run_threads(rt, alloc, image, inputs, budget, plan, gate)?;
-    Ok(outcome.book)
-}
 
 // What all harts exited with, if they did so with one value.
 fn one_value(harts: &[Hart]) -> Option<u32> {
@@ -49,112 +27,203 @@ fn one_value(harts: &[Hart]) -> Option<u32> {
     value
 }
 
-const LR_SC: Program = Program::Object(Kind::LrSc);
+// A run of one hart, the history, and what the hart exits with.
+struct Worked {
+    name: &'static str,
+    order: Order<'static>,
+    history: &'static str,
+    value: Option<u32>,
+}
 
-const SWAP: Program = Program::Object(Kind::Swap);
-
-// A program run by one hart, its input, the budget, the plan, the history, and what the hart exits with.
-const ROWS: [(Program, u32, u32, &[(u32, u32)], &str, Option<u32>); 8] = [
-    (
-        LR_SC,
-        6,
-        100,
-        &[(0, 7)],
-        "0+3 0+1 0+1! 0+1 0+1 0+4 0+2\n",
-        Some(6),
-    ),
-    (
-        LR_SC,
-        6,
-        100,
-        &[(0, 6), (1, 7)],
-        "0+3 0+1 0+1 0+4 0+2\n",
-        Some(6),
-    ),
-    (LR_SC, 6, 8, &[(0, 7)], "0+3 0+1 0+1!\n", None),
-    (SWAP, 7, 0, &[], "", None),
-    (SWAP, 7, 3, &[], "0+2\n", None),
-    (SWAP, 7, 4, &[], "0+3\n", None),
-    (
-        Program::Writable(&STORE_AND_LOAD),
-        5,
-        100,
-        &[],
-        "0+0 0+0 0+0 0+0 0+0\n",
-        Some(5),
-    ),
-    (
-        Program::Writable(&STORE_OVER_NEXT),
-        9,
-        7,
-        &[],
-        "0+0 0+0 0+0 0+0 0+0 0+0 0+0\n",
-        Some(5),
-    ),
+const WORKED: [Worked; 8] = [
+    Worked {
+        name: "LrSc, refused once",
+        order: Order {
+            program: LR_SC,
+            inputs: &[6],
+            budget: 100,
+            pairs: &[(0, 7)],
+        },
+        history: "0+3 0+1 0+1! 0+1 0+1 0+4 0+2\n",
+        value: Some(6),
+    },
+    Worked {
+        name: "LrSc, another plan",
+        order: Order {
+            program: LR_SC,
+            inputs: &[6],
+            budget: 100,
+            pairs: &[(0, 6), (1, 7)],
+        },
+        history: "0+3 0+1 0+1 0+4 0+2\n",
+        value: Some(6),
+    },
+    Worked {
+        name: "LrSc, budget 8",
+        order: Order {
+            program: LR_SC,
+            inputs: &[6],
+            budget: 8,
+            pairs: &[(0, 7)],
+        },
+        history: "0+3 0+1 0+1!\n",
+        value: None,
+    },
+    Worked {
+        name: "Swap, budget 0",
+        order: Order {
+            program: SWAP,
+            inputs: &[7],
+            budget: 0,
+            pairs: &[],
+        },
+        history: "",
+        value: None,
+    },
+    Worked {
+        name: "Swap, budget 3",
+        order: Order {
+            program: SWAP,
+            inputs: &[7],
+            budget: 3,
+            pairs: &[],
+        },
+        history: "0+2\n",
+        value: None,
+    },
+    Worked {
+        name: "Swap, budget 4",
+        order: Order {
+            program: SWAP,
+            inputs: &[7],
+            budget: 4,
+            pairs: &[],
+        },
+        history: "0+3\n",
+        value: None,
+    },
+    Worked {
+        name: "store and load",
+        order: Order {
+            program: Program::Writable(&STORE_AND_LOAD),
+            inputs: &[5],
+            budget: 100,
+            pairs: &[],
+        },
+        history: "0+0 0+0 0+0 0+0 0+0\n",
+        value: Some(5),
+    },
+    Worked {
+        name: "store over the next one",
+        order: Order {
+            program: Program::Writable(&STORE_OVER_NEXT),
+            inputs: &[9],
+            budget: 7,
+            pairs: &[],
+        },
+        history: "0+0 0+0 0+0 0+0 0+0 0+0 0+0\n",
+        value: Some(5),
+    },
 ];
 
-// The history of one hart's run, and what it exits with if it does; None where memory or a thread is refused.
-fn history_of<A: Allocator + Copy + Send + Sync, R: Threads + Wait + Sync>(
-    rt: &R,
-    alloc: A,
-    program: Program,
-    input: u32,
-    budget: u32,
-    pairs: &[(u32, u32)],
-) -> Option<(String<A>, Option<u32>)> {
-    let book = run(rt, alloc, program, &[input], budget, pairs, &OpenGate).ok()?;
+// Whether a run leaves its history and its value; None where memory or a thread is refused.
+fn runs_so<R: Threads + Wait + Sync>(rt: &R, alloc: Global, worked: &Worked) -> Option<bool> {
+    let book = run(rt, alloc, &worked.order, &OpenGate).ok()?;
     let text = print_history(alloc, book.history()).ok()?;
-    Some((text, one_value(book.machine().ends())))
+    let value = one_value(book.machine().ends());
+    Some(text.as_str() == worked.history && value == worked.value)
 }
 
 #[test]
 fn one_hart_leaves_this_history(rt: HostRuntime) {
-    for (program, input, budget, pairs, history, wanted) in ROWS {
-        match history_of(&rt, rt.alloc(), program, input, budget, pairs) {
-            Some((text, value)) => {
-                assert_eq!(rt; text.as_str(), history);
-                assert_eq!(rt; value, wanted, "{program:?}, budget {budget}");
-            }
-            None => assert!(rt; false, "{program:?}, budget {budget}: no run"),
+    for worked in &WORKED {
+        let name = worked.name;
+        assert!(rt; runs_so(&rt, rt.alloc(), worked) == Some(true), "{name}");
+    }
+}
+
+// A run of many harts, and the values of which one is left.
+struct Many {
+    name: &'static str,
+    order: Order<'static>,
+    values: &'static [u32],
+}
+
+const MANY: [Many; 3] = [
+    Many {
+        name: "LrSc",
+        order: Order {
+            program: LR_SC,
+            inputs: &[3, 5, 7, 9],
+            budget: 100,
+            pairs: &[],
+        },
+        values: &[3, 5, 7, 9],
+    },
+    Many {
+        name: "Swap",
+        order: Order {
+            program: SWAP,
+            inputs: &[7, 9],
+            budget: 18,
+            pairs: &[],
+        },
+        values: &[7, 9],
+    },
+    Many {
+        name: "store over the next one",
+        order: Order {
+            program: Program::Writable(&STORE_OVER_NEXT),
+            inputs: &[7, 9],
+            budget: 7,
+            pairs: &[],
+        },
+        values: &[5],
+    },
+];
+
+// The one value that a run's harts exit with; None where there is none, or memory or a thread is refused.
+fn value_of<R: Threads + Wait + Sync>(rt: &R, alloc: Global, order: &Order) -> Option<u32> {
+    let book = run(rt, alloc, order, &OpenGate).ok()?;
+    one_value(book.machine().ends())
+}
+
+// Whether a run's harts exit with one of its values.
+fn agree<R: Threads + Wait + Sync>(rt: &R, alloc: Global, many: &Many) -> bool {
+    let value = value_of(rt, alloc, &many.order);
+    many.values.iter().any(|one| Some(*one) == value)
+}
+
+#[test]
+fn many_harts_agree(rt: HostRuntime) {
+    for many in &MANY {
+        let name = many.name;
+        for _ in 0..20 {
+            assert!(rt; agree(&rt, rt.alloc(), many), "{name}");
         }
     }
 }
 
-// A program, its inputs, the budget, and the values of which one is left.
-const MANY: [(Program, &[u32], u32, &[u32]); 3] = [
-    (LR_SC, &[3, 5, 7, 9], 100, &[3, 5, 7, 9]),
-    (SWAP, &[7, 9], 18, &[7, 9]),
-    (Program::Writable(&STORE_OVER_NEXT), &[7, 9], 7, &[5]),
-];
+// A run in which no hart is chosen.
+const IDLE: Order = Order {
+    program: SWAP,
+    inputs: &[7, 9],
+    budget: 0,
+    pairs: &[],
+};
 
-#[test]
-fn many_harts_agree(rt: HostRuntime) {
-    for (program, inputs, budget, values) in MANY {
-        for _ in 0..20 {
-            match run(&rt, rt.alloc(), program, inputs, budget, &[], &OpenGate) {
-                Ok(book) => {
-                    let value = one_value(book.machine().ends());
-                    let known = values.iter().any(|one| Some(*one) == value);
-                    assert!(rt; known, "{program:?}: {value:?}");
-                }
-                Err(fault) => assert!(rt; false, "{program:?}: {fault}"),
-            }
-        }
-    }
+// Whether no hart of a run has made a step.
+fn is_at_start<R: Threads + Wait + Sync>(rt: &R, alloc: Global, order: &Order) -> Option<bool> {
+    let book = run(rt, alloc, order, &OpenGate).ok()?;
+    let ends = book.machine().ends();
+    let are_at_start = ends.iter().all(|hart| hart.state == HartState::Running
+        && hart.pc == 0x0001_0000);
+    Some(are_at_start && book.history().is_empty())
 }
 
 #[test]
 fn no_budget_leaves_the_opening_state(rt: HostRuntime) {
-    match run(&rt, rt.alloc(), SWAP, &[7, 9], 0, &[], &OpenGate) {
-        Ok(book) => {
-            assert_eq!(rt; book.history().len(), 0);
-            for hart in book.machine().ends() {
-                assert_eq!(rt; hart.state, HartState::Running);
-                assert_eq!(rt; hart.pc, 0x0001_0000);
-            }
-        }
-        Err(fault) => assert!(rt; false, "{fault}"),
-    }
+    assert!(rt; is_at_start(&rt, rt.alloc(), &IDLE) == Some(true));
 }
 
 // Inputs of which there are too few or too many.
@@ -163,12 +232,28 @@ const REFUSED: [(&[u32], RunFault); 2] = [
     (&[1; 33], RunFault::TooManyHarts),
 ];
 
+// How a run is refused; None where it isn't.
+fn fault_of<R: Threads + Wait + Sync>(
+    rt: &R,
+    alloc: Global,
+    inputs: &[u32],
+    budget: u32,
+) -> Option<RunFault> {
+    let order = Order {
+        program: LR_SC,
+        inputs,
+        budget,
+        pairs: &[],
+    };
+    run(rt, alloc, &order, &OpenGate).err()
+}
+
 #[test]
 fn numbers_of_harts_are_refused(rt: HostRuntime) {
-    for (inputs, wanted) in REFUSED {
+    for (inputs, wanted) in &REFUSED {
         for budget in [0, 100] {
-            let answer = run(&rt, rt.alloc(), LR_SC, inputs, budget, &[], &OpenGate);
-            assert_eq!(rt; answer.err(), Some(wanted), "budget {budget}");
+            let fault = fault_of(&rt, rt.alloc(), inputs, budget);
+            assert!(rt; fault == Some(*wanted), "budget {budget}");
         }
     }
 }
@@ -202,42 +287,88 @@ impl Gate for Meeting {
     }
 }
 
-#[test]
-fn two_harts_meet(rt: HostRuntime) {
+// A run of two harts.
+const MEETING: Order = Order {
+    program: SWAP,
+    inputs: &[7, 9],
+    budget: 100,
+    pairs: &[],
+};
+
+// How many harts of that run meet; None where it is refused.
+fn met<R: Threads + Wait + Sync>(rt: &R, alloc: Global) -> Option<u64> {
     let gate = Meeting {
         arrived: [AtomicU64::new(0), AtomicU64::new(0)],
         met: AtomicU64::new(0),
     };
-    let answer = run(&rt, rt.alloc(), SWAP, &[7, 9], 100, &[], &gate);
-    assert!(rt; answer.is_ok());
-    assert_eq!(rt; gate.met.load(Ordering::SeqCst), 2);
+    run(rt, alloc, &MEETING, &gate).ok()?;
+    Some(gate.met.load(Ordering::SeqCst))
 }
 
 #[test]
-fn each_refused_request_is_told(rt: HostRuntime) {
-    for shortage in Shortage::BOTH {
-        let mut refused = true;
-        for passed in 0..1000u64 {
-            let heap = Refusing::of(rt.alloc(), passed, shortage);
-            match run(&rt, &heap, LR_SC, &[3, 5], 100, &[(0, 7)], &OpenGate) {
-                Ok(book) => assert!(rt;
-                    one_value(book.machine().ends()).is_some(),
-                    "{shortage:?}: request {passed}"
-                ),
-                Err(fault) => {
-                    assert_eq!(rt;
-                        fault,
-                        RunFault::Memory,
-                        "{shortage:?}: at request {passed}"
-                    );
-                    assert!(rt; heap.refused(), "{shortage:?}: at request {passed}");
-                }
-            }
-            refused = heap.refused();
-            if !refused {
-                break;
-            }
-        }
-        assert!(rt; !refused, "{shortage:?}: memory is asked for without end");
+fn two_harts_meet(rt: HostRuntime) {
+    assert!(rt; met(&rt, rt.alloc()) == Some(2));
+}
+
+// A run whose requests are refused.
+const SHORT: Order = Order {
+    program: LR_SC,
+    inputs: &[3, 5],
+    budget: 100,
+    pairs: &[(0, 7)],
+};
+
+// How a run ends whose requests are refused behind so many.
+enum Turn {
+    // It is told or not as it is to be, and a request was refused.
+    Short,
+    // It has its end, and no request was refused.
+    Whole,
+    // It hides want of memory, or tells it where none was refused, or its harts don't agree.
+    Wrong,
+}
+
+// Makes that run with requests refused behind so many.
+fn short_run<R: Threads + Wait + Sync>(
+    rt: &R,
+    host: Global,
+    shortage: Shortage,
+    passed: u64,
+) -> Turn {
+    let heap = Refusing::of(host, passed, shortage);
+    let is_right = match run(rt, &heap, &SHORT, &OpenGate) {
+        Ok(book) => one_value(book.machine().ends()).is_some(),
+        Err(fault) => fault == RunFault::Memory && heap.refused(),
+    };
+    if !is_right {
+        return Turn::Wrong;
     }
+    if heap.refused() {
+        Turn::Short
+    } else {
+        Turn::Whole
+    }
+}
+
+// Refuses each request in turn; the number of the first one at which a run ends wrongly, or the last where memory is asked for
+// without end.
+fn each_is_told<R: Threads + Wait + Sync>(
+    rt: &R,
+    host: Global,
+    shortage: Shortage,
+) -> Result<(), u64> {
+    for passed in 0..1000u64 {
+        match short_run(rt, host, shortage, passed) {
+            Turn::Short => {}
+            Turn::Whole => return Ok(()),
+            Turn::Wrong => return Err(passed),
+        }
+    }
+    Err(1000)
+}
+
+#[test]
+fn each_refused_request_is_told(rt: HostRuntime) -> Result<(), u64> {
+    each_is_told(&rt, rt.alloc(), Shortage::Once)?;
+    each_is_told(&rt, rt.alloc(), Shortage::ForGood)
 }
