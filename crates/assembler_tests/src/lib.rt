@@ -2,6 +2,8 @@
 #![tactic(auto)]
 
 #[cfg(test)]
+mod library_tests;
+#[cfg(test)]
 mod listing_tests;
 #[cfg(test)]
 mod program_tests;

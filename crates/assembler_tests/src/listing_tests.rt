@@ -2,7 +2,7 @@
 use listing::{line_of, list_image, push_listing};
 use loader::{Image, Rights, Segment};
 use refusing::Refusing;
-use std::alloc::{AllocError, Allocator};
+use std::alloc::{AllocError, Allocator, Global};
 
 // Texts at 0x00010000 and the words that GNU as made of them (`-march=rv32ia -mabi=ilp32`): each mnemonic, and each suffix, once.
 #[rattlefmt::skip]
@@ -94,144 +94,165 @@ const LINES: [(u32, &str); 85] = [
         (0xe762_a2af, "amomaxu.w.aqrl t0, s6, (t0)"),
 ];
 
-#[test]
-fn each_mnemonic_has_its_line(rt: HostRuntime) -> Result<(), AllocError> {
-    for (word, wanted) in LINES {
-        let text = line_of(rt.alloc(), 0x0001_0000, word)?;
-        assert_eq!(rt; text.as_str(), wanted);
-    }
-    Ok(())
+// Whether a word at an address has this line; None where memory is refused.
+fn has_line(alloc: Global, address: u32, word: u32, wanted: &str) -> Option<bool> {
+    let text = line_of(alloc, address, word).ok()?;
+    Some(text.as_str() == wanted)
 }
 
 #[test]
-fn words_at_an_edge_have_their_lines(rt: HostRuntime) -> Result<(), AllocError> {
-    let rows = [
-        (0x0001_0000, 0x0000_0013, "addi zero, zero, 0"),
-        (0x0001_0018, 0x0003_8a63, "beq t2, zero, 0x0001002c"),
-        (0x0001_0000, 0x0000_0000, ".word 0x00000000"),
-        (0x0001_0000, 0x0205_1513, ".word 0x02051513"),
-        (0x0001_0000, 0x0864_a3af, "amoswap.w t2, t1, (s1)"),
-        (0x0001_0000, 0x1004_a3af, "lr.w t2, (s1)"),
-        (0x0001_0000, 0x1864_ae2f, "sc.w t3, t1, (s1)"),
-        // Targets are modulo 2^32, upwards and downwards.
-        (0x0000_0000, 0xffff_f06f, "jal zero, 0xfffffffe"),
-        (0xffff_fffc, 0x0040_04ef, "jal s1, 0x00000000"),
-        // The ends of the immediates.
-        (0x0001_0000, 0x8000_0513, "addi a0, zero, -2048"),
-        (0x0001_0000, 0x7ff0_0513, "addi a0, zero, 2047"),
-        (0x0001_0000, 0x01f5_1513, "slli a0, a0, 31"),
-        (0x0001_0000, 0xffff_f537, "lui a0, 0xfffff"),
-        // Fences with an empty set, another mode, or a register have no text.
-        (0x0001_0000, 0x0330_000f, "fence rw, rw"),
-        (0x0001_0000, 0x0300_000f, ".word 0x0300000f"),
-        (0x0001_0000, 0x0030_000f, ".word 0x0030000f"),
-        (0x0001_0000, 0x8330_000f, "fence.tso"),
-        (0x0001_0000, 0x8310_000f, ".word 0x8310000f"),
-        (0x0001_0000, 0x0330_008f, ".word 0x0330008f"),
-        (0x0001_0000, 0x0330_800f, ".word 0x0330800f"),
-        (0x0001_0000, 0x8330_008f, ".word 0x8330008f"),
-        (0x0001_0000, 0xffff_ffff, ".word 0xffffffff"),
-    ];
-    for (address, word, wanted) in rows {
-        let text = line_of(rt.alloc(), address, word)?;
-        assert_eq!(rt; text.as_str(), wanted);
+fn each_mnemonic_has_its_line(rt: HostRuntime) {
+    for (word, wanted) in &LINES {
+        let answer = has_line(rt.alloc(), 0x0001_0000, *word, wanted);
+        assert!(rt; answer == Some(true), "{wanted}");
     }
-    Ok(())
 }
 
+// Addresses, words and their lines.
+const EDGES: [(u32, u32, &str); 22] = [
+    (0x0001_0000, 0x0000_0013, "addi zero, zero, 0"),
+    (0x0001_0018, 0x0003_8a63, "beq t2, zero, 0x0001002c"),
+    (0x0001_0000, 0x0000_0000, ".word 0x00000000"),
+    (0x0001_0000, 0x0205_1513, ".word 0x02051513"),
+    (0x0001_0000, 0x0864_a3af, "amoswap.w t2, t1, (s1)"),
+    (0x0001_0000, 0x1004_a3af, "lr.w t2, (s1)"),
+    (0x0001_0000, 0x1864_ae2f, "sc.w t3, t1, (s1)"),
+    // Targets are modulo 2^32, upwards and downwards.
+    (0x0000_0000, 0xffff_f06f, "jal zero, 0xfffffffe"),
+    (0xffff_fffc, 0x0040_04ef, "jal s1, 0x00000000"),
+    // The ends of the immediates.
+    (0x0001_0000, 0x8000_0513, "addi a0, zero, -2048"),
+    (0x0001_0000, 0x7ff0_0513, "addi a0, zero, 2047"),
+    (0x0001_0000, 0x01f5_1513, "slli a0, a0, 31"),
+    (0x0001_0000, 0xffff_f537, "lui a0, 0xfffff"),
+    // Fences with an empty set, another mode, or a register have no text.
+    (0x0001_0000, 0x0330_000f, "fence rw, rw"),
+    (0x0001_0000, 0x0300_000f, ".word 0x0300000f"),
+    (0x0001_0000, 0x0030_000f, ".word 0x0030000f"),
+    (0x0001_0000, 0x8330_000f, "fence.tso"),
+    (0x0001_0000, 0x8310_000f, ".word 0x8310000f"),
+    (0x0001_0000, 0x0330_008f, ".word 0x0330008f"),
+    (0x0001_0000, 0x0330_800f, ".word 0x0330800f"),
+    (0x0001_0000, 0x8330_008f, ".word 0x8330008f"),
+    (0x0001_0000, 0xffff_ffff, ".word 0xffffffff"),
+];
+
 #[test]
-fn words_are_followed_by_single_bytes(rt: HostRuntime) -> Result<(), AllocError> {
-    let mut text = String::new(rt.alloc());
-    let bytes = [0x13, 0, 0, 0, 0x6f, 0, 0x40, 0, 0x13, 0xff];
-    push_listing(&mut text, 0x0001_0000, &bytes)?;
-    let wanted = "addi zero, zero, 0  # 00010000 00000013
+fn words_at_an_edge_have_their_lines(rt: HostRuntime) {
+    for (address, word, wanted) in &EDGES {
+        let answer = has_line(rt.alloc(), *address, *word, wanted);
+        assert!(rt; answer == Some(true), "{wanted}");
+    }
+}
+
+// Two words and two bytes.
+const TEN_BYTES: [u8; 10] = [0x13, 0, 0, 0, 0x6f, 0, 0x40, 0, 0x13, 0xff];
+
+const TEN_BYTES_LISTING: &str = "addi zero, zero, 0  # 00010000 00000013
 jal zero, 0x00010008  # 00010004 0040006f
 .byte 0x13  # 00010008
 .byte 0xff  # 00010009
 ";
-    assert_eq!(rt; text.as_str(), wanted);
-    Ok(())
+
+// The listing of these bytes.
+fn listing_of_ten(alloc: Global) -> Result<String<Global>, AllocError> {
+    let mut text = String::new(alloc);
+    push_listing(&mut text, 0x0001_0000, &TEN_BYTES)?;
+    Ok(text)
 }
 
 #[test]
-fn unaligned_ends_are_single_bytes(rt: HostRuntime) -> Result<(), AllocError> {
-    let rows: [(u32, &[u8], &str); 5] = [
-        (0x0001_0000, &[], ""),
-        (
-            0x0001_0003,
-            &[1, 0x13, 0, 0, 0, 2],
-            "# segment 00010003 6
+fn words_are_followed_by_single_bytes(rt: HostRuntime) -> Result<(), AllocError> {
+    let text = listing_of_ten(rt.alloc())?;
+    assert!(rt; text.as_str() == TEN_BYTES_LISTING);
+    Ok(())
+}
+
+// A segment: its base, its size, its flags, and its first bytes.
+type Given = (u32, u32, u32, &'static [u8]);
+
+fn segment_of<A: Allocator>(alloc: A, given: &Given) -> Result<Segment<A>, AllocError> {
+    let (base, size, flags, bytes) = given;
+    Ok(Segment {
+        base: *base,
+        size: *size,
+        rights: Rights::of_flags(*flags),
+        bytes: Vec::from_slice(alloc, bytes)?,
+    })
+}
+
+// An image of segments.
+fn image_of<A: Allocator + Copy>(alloc: A, rows: &[Given]) -> Result<Image<A>, AllocError> {
+    let mut segments = Vec::new(alloc);
+    for given in rows {
+        segments.push(segment_of(alloc, given)?)?;
+    }
+    Image::new(alloc, 0x0001_0000, segments).map_err(|_| AllocError)
+}
+
+// The listing of an image of segments.
+fn listing_of<A: Allocator + Copy>(alloc: A, rows: &[Given]) -> Result<String<A>, AllocError> {
+    let image = image_of(alloc, rows)?;
+    list_image(alloc, &image)
+}
+
+// Whether an image of segments has this listing; None where memory is refused.
+fn is_listed(alloc: Global, rows: &[Given], wanted: &str) -> Option<bool> {
+    let text = listing_of(alloc, rows).ok()?;
+    Some(text.as_str() == wanted)
+}
+
+// Segments that may be executed, and their listings.
+const UNALIGNED: [(Given, &str); 5] = [
+    ((0x0001_0000, 0, 1, &[]), ""),
+    (
+        (0x0001_0003, 6, 1, &[1, 0x13, 0, 0, 0, 2]),
+        "# segment 00010003 6
 .byte 0x01  # 00010003
 addi zero, zero, 0  # 00010004 00000013
 .byte 0x02  # 00010008
 ",
-        ),
-        (
-            0x0001_0001,
-            &[1, 2],
-            "# segment 00010001 2
+    ),
+    (
+        (0x0001_0001, 2, 1, &[1, 2]),
+        "# segment 00010001 2
 .byte 0x01  # 00010001
 .byte 0x02  # 00010002
 ",
-        ),
-        (
-            0x0001_0002,
-            &[1, 2, 3, 4],
-            "# segment 00010002 4
+    ),
+    (
+        (0x0001_0002, 4, 1, &[1, 2, 3, 4]),
+        "# segment 00010002 4
 .byte 0x01  # 00010002
 .byte 0x02  # 00010003
 .byte 0x03  # 00010004
 .byte 0x04  # 00010005
 ",
-        ),
-        (
-            0xffff_fffc,
-            &[0x13, 0, 0, 0],
-            "# segment fffffffc 4
+    ),
+    (
+        (0xffff_fffc, 4, 1, &[0x13, 0, 0, 0]),
+        "# segment fffffffc 4
 addi zero, zero, 0  # fffffffc 00000013
 ",
-        ),
-    ];
-    for (base, bytes, wanted) in rows {
-        let image = image_of(rt.alloc(), &[(base, bytes.len() as u32, 1, bytes)])?;
-        let text = list_image(rt.alloc(), &image)?;
-        assert_eq!(rt; text.as_str(), wanted);
-    }
-    Ok(())
-}
+    ),
+];
 
-// An image of segments of a base, a size, flags, and the first bytes.
-fn image_of<A: Allocator + Copy>(
-    alloc: A,
-    rows: &[(u32, u32, u32, &[u8])],
-) -> Result<Image<A>, AllocError> {
-    let mut segments = Vec::new(alloc);
-    for (base, size, flags, given) in rows {
-        let mut bytes = Vec::new(alloc);
-        bytes.extend_from_slice(given)?;
-        let rights = Rights::of_flags(*flags);
-        segments.push(Segment {
-            base: *base,
-            size: *size,
-            rights,
-            bytes,
-        })?;
-    }
-    match Image::new(alloc, 0x0001_0000, segments) {
-        Ok(image) => Ok(image),
-        Err(_) => Err(AllocError),
+#[test]
+fn unaligned_ends_are_single_bytes(rt: HostRuntime) {
+    for (given, wanted) in &UNALIGNED {
+        assert!(rt;
+            is_listed(rt.alloc(), &[*given], wanted) == Some(true),
+            "{wanted}"
+        );
     }
 }
 
 // An image with data between two pieces of text, the higher one first.
-fn image_of_two_texts<A: Allocator + Copy>(alloc: A) -> Result<Image<A>, AllocError> {
-    let rows: [(u32, u32, u32, &[u8]); 3] = [
-        (0x0002_0000, 6, 5, &[0x73, 0, 0, 0]),
-        (0x0001_8000, 4, 6, &[0x13, 0, 0, 0]),
-        (0x0001_0000, 4, 1, &[0x13, 0, 0, 0]),
-    ];
-    image_of(alloc, &rows)
-}
+const TWO_TEXTS: [Given; 3] = [
+    (0x0002_0000, 6, 5, &[0x73, 0, 0, 0]),
+    (0x0001_8000, 4, 6, &[0x13, 0, 0, 0]),
+    (0x0001_0000, 4, 1, &[0x13, 0, 0, 0]),
+];
 
 const IMAGE_LISTING: &str = "# segment 00010000 4
 addi zero, zero, 0  # 00010000 00000013
@@ -242,45 +263,52 @@ ecall  # 00020000 00000073
 ";
 
 #[test]
-fn executable_segments_are_listed_by_base(rt: HostRuntime) -> Result<(), AllocError> {
-    let image = image_of_two_texts(rt.alloc())?;
-    let text = list_image(rt.alloc(), &image)?;
-    assert_eq!(rt; text.as_str(), IMAGE_LISTING);
-    Ok(())
+fn executable_segments_are_listed_by_base(rt: HostRuntime) {
+    assert!(rt; is_listed(rt.alloc(), &TWO_TEXTS, IMAGE_LISTING) == Some(true));
+}
+
+// Whether a line is made, or want of memory is told.
+fn is_line_told(heap: &Refusing<Global>) -> bool {
+    match line_of(heap, 0x0001_0018, 0x0003_8a63) {
+        Ok(text) => text.as_str() == "beq t2, zero, 0x0001002c",
+        Err(_) => heap.refused(),
+    }
 }
 
 #[test]
-fn each_refused_request_of_a_line_is_told(rt: HostRuntime) {
+fn each_refused_request_of_a_line_is_told(rt: HostRuntime) -> Result<(), u64> {
     for passed in 0..100u64 {
         let heap = Refusing::new(rt.alloc(), passed);
-        match line_of(&heap, 0x0001_0018, 0x0003_8a63) {
-            Ok(text) => assert_eq!(rt; text.as_str(), "beq t2, zero, 0x0001002c"),
-            Err(_) => assert!(rt; heap.refused(), "at request {passed}"),
+        if !is_line_told(&heap) {
+            return Err(passed);
         }
         if !heap.refused() {
             assert!(rt; passed > 0, "no memory is asked for");
-            return;
+            return Ok(());
         }
     }
-    assert!(rt; false, "memory is asked for without end");
+    Err(100)
+}
+
+// Whether an image is listed, or want of memory is told.
+fn is_image_told(heap: &Refusing<Global>) -> bool {
+    match listing_of(heap, &TWO_TEXTS) {
+        Ok(text) => text.as_str() == IMAGE_LISTING,
+        Err(_) => heap.refused(),
+    }
 }
 
 #[test]
-fn each_refused_request_of_an_image_is_told(rt: HostRuntime) {
+fn each_refused_request_of_an_image_is_told(rt: HostRuntime) -> Result<(), u64> {
     for passed in 0..200u64 {
         let heap = Refusing::new(rt.alloc(), passed);
-        let listed = match image_of_two_texts(&heap) {
-            Ok(image) => list_image(&heap, &image),
-            Err(fault) => Err(fault),
-        };
-        match listed {
-            Ok(text) => assert_eq!(rt; text.as_str(), IMAGE_LISTING),
-            Err(_) => assert!(rt; heap.refused(), "at request {passed}"),
+        if !is_image_told(&heap) {
+            return Err(passed);
         }
         if !heap.refused() {
             assert!(rt; passed > 0, "no memory is asked for");
-            return;
+            return Ok(());
         }
     }
-    assert!(rt; false, "memory is asked for without end");
+    Err(200)
 }

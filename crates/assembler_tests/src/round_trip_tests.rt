@@ -1,9 +1,9 @@
 //! What no clause says: that a listing is made where memory suffices, and refused memory.
 use asm_read::AsmFault;
-use assembler::assemble;
+use assembler::{Program, assemble};
 use refusing::Refusing;
 use round_trip::{list, list_source};
-use std::alloc::AllocError;
+use std::alloc::{AllocError, Global};
 
 // A line of each shape, a word that is no instruction, two bytes behind the last word; data and a symbol, which a
 // listing leaves out.
@@ -55,54 +55,77 @@ ebreak  # 00010044 00100073
 .byte 0xff  # 0001004d
 ";
 
-#[test]
-fn a_listing_assembles_to_its_text(rt: HostRuntime) -> Result<(), AsmFault> {
-    let program = assemble(rt.alloc(), [SOURCE].as_slice())?;
-    let source = list_source(rt.alloc(), &program)?;
-    assert_eq!(rt; source.as_str(), LISTING);
-    let again = assemble(rt.alloc(), [source.as_str()].as_slice())?;
-    assert_eq!(rt; again.text(), program.text());
-    assert_eq!(rt; again.bytes().len(), 0);
-    Ok(())
+// Whether a listing assembles to a program's text, and to no data.
+fn is_text_of(alloc: Global, listing: &str, program: &Program<Global>) -> Result<bool, AsmFault> {
+    let again = assemble(alloc, [listing].as_slice())?;
+    Ok(again.text() == program.text() && again.bytes().is_empty())
+}
+
+// Whether the source has its listing, and that comes back to its text.
+fn comes_back(alloc: Global) -> Result<bool, AsmFault> {
+    let program = assemble(alloc, [SOURCE].as_slice())?;
+    let listing = list_source(alloc, &program)?;
+    let is_back = is_text_of(alloc, &listing, &program)?;
+    Ok(is_back && listing.as_str() == LISTING)
 }
 
 #[test]
-fn each_refused_request_of_a_source_is_told(rt: HostRuntime) {
+fn a_listing_assembles_to_its_text(rt: HostRuntime) {
+    assert!(rt; comes_back(rt.alloc()) == Ok(true));
+}
+
+// Whether a source is listed, or want of memory is told.
+fn is_source_told(heap: &Refusing<Global>) -> bool {
+    let Ok(program) = assemble(heap, ["ecall"].as_slice()) else {
+        return heap.refused();
+    };
+    match list_source(heap, &program) {
+        Ok(source) => source.as_str() == "ecall  # 00010000 00000073\n",
+        Err(AllocError) => heap.refused(),
+    }
+}
+
+#[test]
+fn each_refused_request_of_a_source_is_told(rt: HostRuntime) -> Result<(), u64> {
     for passed in 0..1000u64 {
         let heap = Refusing::new(rt.alloc(), passed);
-        let Ok(program) = assemble(&heap, ["ecall"].as_slice()) else {
-            continue;
-        };
-        match list_source(&heap, &program) {
-            Ok(source) => assert_eq!(rt; source.as_str(), "ecall  # 00010000 00000073\n"),
-            Err(AllocError) => assert!(rt; heap.refused(), "at request {passed}"),
+        if !is_source_told(&heap) {
+            return Err(passed);
         }
         if !heap.refused() {
             assert!(rt; passed > 0, "no memory is asked for");
-            return;
+            return Ok(());
         }
     }
-    assert!(rt; false, "memory is asked for without end");
+    Err(1000)
+}
+
+// A word and a byte.
+const FIVE_BYTES_LISTING: &str =
+    "addi zero, zero, 0  # 00010000 00000013\n.byte 0x01  # 00010004\n";
+
+// Whether a program is listed, or want of memory is told.
+fn is_list_told(heap: &Refusing<Global>) -> bool {
+    let Ok(program) = assemble(heap, ["nop\n.byte 1"].as_slice()) else {
+        return heap.refused();
+    };
+    match list(heap, &program) {
+        Ok(text) => text.as_str() == FIVE_BYTES_LISTING,
+        Err(AllocError) => heap.refused(),
+    }
 }
 
 #[test]
-fn each_refused_request_of_a_list_is_told(rt: HostRuntime) {
+fn each_refused_request_of_a_list_is_told(rt: HostRuntime) -> Result<(), u64> {
     for passed in 0..200u64 {
         let heap = Refusing::new(rt.alloc(), passed);
-        let Ok(program) = assemble(&heap, ["nop\n.byte 1"].as_slice()) else {
-            continue;
-        };
-        match list(&heap, &program) {
-            Ok(text) => {
-                let wanted = "addi zero, zero, 0  # 00010000 00000013\n.byte 0x01  # 00010004\n";
-                assert_eq!(rt; text.as_str(), wanted);
-            }
-            Err(AllocError) => assert!(rt; heap.refused(), "at request {passed}"),
+        if !is_list_told(&heap) {
+            return Err(passed);
         }
         if !heap.refused() {
             assert!(rt; passed > 0, "no memory is asked for");
-            return;
+            return Ok(());
         }
     }
-    assert!(rt; false, "memory is asked for without end");
+    Err(200)
 }
