@@ -2,7 +2,7 @@
 use crate::worked::EXITS;
 use devices::{Failing, FullSink, MemorySink, MemorySource, Status};
 use programs::{Input, ProgramForm, RunFault};
-use std::alloc::Allocator;
+use std::alloc::Global;
 use trace_engine::{TraceForm, TracePlan, trace_engine};
 
 // All choices, as lines.
@@ -45,36 +45,32 @@ const TABLE: &str = "| Choice | Hart 0 |
 | 3 | has stopped |
 ";
 
-// What a trace answers, and what it has written.
-fn traced<A: Allocator + Copy>(
-    alloc: A,
+// A run that is traced: the harts' inputs, the program's words and the choices.
+struct Run {
+    inputs: &'static [u32],
+    words: &'static str,
+    choices: &'static str,
+}
+
+// What the trace of a run answers, and what it has written.
+fn traced(
+    alloc: Global,
     plan: TracePlan,
-    inputs: &[u32],
-    words: &str,
-    given: &str,
-) -> (Result<Status, RunFault>, MemorySink<A>) {
-    let mut program = MemorySource::new(words.as_bytes());
-    let mut choices = MemorySource::new(given.as_bytes());
+    run: &Run,
+) -> (Result<Status, RunFault>, MemorySink<Global>) {
+    let mut program = MemorySource::new(run.words.as_bytes());
+    let mut choices = MemorySource::new(run.choices.as_bytes());
     let mut sink = MemorySink::new(alloc);
-    let result = trace_engine(
+    let answer = trace_engine(
         alloc,
         ProgramForm::Hex,
         plan,
-        inputs,
+        run.inputs,
         &mut program,
         &mut choices,
         &mut sink,
     );
-    (result, sink)
-}
-
-// A plan of lines.
-fn lines(from: u64, to: Option<u64>) -> TracePlan {
-    TracePlan {
-        form: TraceForm::Lines,
-        from,
-        to,
-    }
+    (answer, sink)
 }
 
 // Whether a text is these parts, one after the other.
@@ -89,44 +85,112 @@ fn is_made_of(text: &[u8], parts: &[&str]) -> bool {
     rest.is_empty()
 }
 
-#[test]
-fn choices_of_the_plan_are_told(rt: HostRuntime) {
-    let rows: [(TracePlan, &[&str]); 9] = [
-        (ALL, &[HEAD, "1,\"to\":3", AT_START, FIRST, SECOND, THIRD]),
-        (
-            lines(0, None),
-            &[HEAD, "1,\"to\":3", AT_START, FIRST, SECOND, THIRD],
-        ),
-        (
-            lines(2, None),
-            &[HEAD, "2,\"to\":3", AFTER_1, SECOND, THIRD],
-        ),
-        (
-            lines(1, Some(2)),
-            &[HEAD, "1,\"to\":2", AT_START, FIRST, SECOND],
-        ),
-        (lines(2, Some(2)), &[HEAD, "2,\"to\":2", AFTER_1, SECOND]),
-        (lines(3, Some(99)), &[HEAD, "3,\"to\":3", AT_END, THIRD]),
-        (lines(4, None), &[HEAD, "4,\"to\":3", AT_END]),
-        (lines(9, Some(99)), &[HEAD, "9,\"to\":8", AT_END]),
-        (lines(2, Some(1)), &[HEAD, "2,\"to\":1", AFTER_1]),
-    ];
-    for (plan, wanted) in rows {
-        let (result, sink) = traced(rt.alloc(), plan, &[7], EXITS, "0 0! 0");
-        assert_eq!(rt; result, Ok(Status::Done), "{plan:?}");
-        assert!(rt; is_made_of(sink.bytes(), wanted), "{plan:?}");
-    }
+// A run of three choices.
+const THREE: Run = Run {
+    inputs: &[7],
+    words: EXITS,
+    choices: "0 0! 0",
+};
+
+// Whether the trace of that run is made of these parts.
+fn is_written(alloc: Global, plan: TracePlan, parts: &[&str]) -> bool {
+    let (answer, sink) = traced(alloc, plan, &THREE);
+    answer == Ok(Status::Done) && is_made_of(sink.bytes(), parts)
+}
+
+// A plan of lines: its first choice, its last one, and the parts of what is written.
+struct Told {
+    name: &'static str,
+    from: u64,
+    to: Option<u64>,
+    parts: &'static [&'static str],
+}
+
+const TOLD: [Told; 9] = [
+    Told {
+        name: "all",
+        from: 1,
+        to: None,
+        parts: &[HEAD, "1,\"to\":3", AT_START, FIRST, SECOND, THIRD],
+    },
+    Told {
+        name: "from 0",
+        from: 0,
+        to: None,
+        parts: &[HEAD, "1,\"to\":3", AT_START, FIRST, SECOND, THIRD],
+    },
+    Told {
+        name: "from 2",
+        from: 2,
+        to: None,
+        parts: &[HEAD, "2,\"to\":3", AFTER_1, SECOND, THIRD],
+    },
+    Told {
+        name: "to 2",
+        from: 1,
+        to: Some(2),
+        parts: &[HEAD, "1,\"to\":2", AT_START, FIRST, SECOND],
+    },
+    Told {
+        name: "2 alone",
+        from: 2,
+        to: Some(2),
+        parts: &[HEAD, "2,\"to\":2", AFTER_1, SECOND],
+    },
+    Told {
+        name: "from the last",
+        from: 3,
+        to: Some(99),
+        parts: &[HEAD, "3,\"to\":3", AT_END, THIRD],
+    },
+    Told {
+        name: "behind the last",
+        from: 4,
+        to: None,
+        parts: &[HEAD, "4,\"to\":3", AT_END],
+    },
+    Told {
+        name: "far behind the last",
+        from: 9,
+        to: Some(99),
+        parts: &[HEAD, "9,\"to\":8", AT_END],
+    },
+    Told {
+        name: "none",
+        from: 2,
+        to: Some(1),
+        parts: &[HEAD, "2,\"to\":1", AFTER_1],
+    },
+];
+
+// Whether choices are told so.
+fn are_told(alloc: Global, told: &Told) -> bool {
+    let plan = TracePlan {
+        form: TraceForm::Lines,
+        from: told.from,
+        to: told.to,
+    };
+    is_written(alloc, plan, told.parts)
 }
 
 #[test]
+fn choices_of_the_plan_are_told(rt: HostRuntime) {
+    for told in &TOLD {
+        let name = told.name;
+        assert!(rt; are_told(rt.alloc(), told), "{name}");
+    }
+}
+
+// All choices, as a table.
+const AS_TABLE: TracePlan = TracePlan {
+    form: TraceForm::Table,
+    from: 1,
+    to: None,
+};
+
+#[test]
 fn table_is_told(rt: HostRuntime) {
-    let plan = TracePlan {
-        form: TraceForm::Table,
-        ..ALL
-    };
-    let (result, sink) = traced(rt.alloc(), plan, &[7], EXITS, "0 0! 0");
-    assert_eq!(rt; result, Ok(Status::Done));
-    assert_eq!(rt; sink.bytes(), TABLE.as_bytes());
+    assert!(rt; is_written(rt.alloc(), AS_TABLE, &[TABLE]));
 }
 
 // How many lines a text has.
@@ -134,43 +198,111 @@ fn lines_of(text: &[u8]) -> usize {
     text.iter().filter(|byte| **byte == b'\n').count()
 }
 
-// Far more than a piece: none of it is lost, nor written twice.
+// A run of far more choices than a piece of output takes.
+const LONG: Run = Run {
+    inputs: &[7],
+    words: EXITS,
+    choices: "0*1000 0!*2",
+};
+
+// The last line of its trace.
+const LAST: &str =
+    "{\"choice\":1002,\"hart\":0,\"refused\":true,\"pc\":65540,\"word\":null,\"text\":null,\"access\":null,\"register\":null,\"reserved\":null,\"next\":65540,\"end\":{\"state\":\"exited\",\"status\":0}}\n";
+
+// Whether a text is that trace: none of it is lost, nor written twice.
+fn is_whole(text: &[u8]) -> bool {
+    text.len() > 0x2_0000 && lines_of(text) == 1003 && text.strip_suffix(LAST.as_bytes()).is_some()
+}
+
+// Whether the trace of that run is written as a whole.
+fn is_long_whole(alloc: Global) -> bool {
+    let (answer, sink) = traced(alloc, ALL, &LONG);
+    answer == Ok(Status::Done) && is_whole(sink.bytes())
+}
+
 #[test]
 fn long_output_is_whole(rt: HostRuntime) {
-    let (result, sink) = traced(rt.alloc(), ALL, &[7], EXITS, "0*1000 0!*2");
-    assert_eq!(rt; result, Ok(Status::Done));
-    let text = sink.bytes();
-    assert!(rt; text.len() > 0x2_0000);
-    assert_eq!(rt; lines_of(text), 1003);
-    let last =
-        "{\"choice\":1002,\"hart\":0,\"refused\":true,\"pc\":65540,\"word\":null,\"text\":null,\"access\":null,\"register\":null,\"reserved\":null,\"next\":65540,\"end\":{\"state\":\"exited\",\"status\":0}}\n";
-    assert!(rt; text.strip_suffix(last.as_bytes()).is_some());
+    assert!(rt; is_long_whole(rt.alloc()));
+}
+
+// A run that is refused, and how.
+struct Refused {
+    run: Run,
+    fault: RunFault,
+}
+
+const REFUSED: [Refused; 6] = [
+    Refused {
+        run: Run {
+            inputs: &[],
+            words: "05d0089",
+            choices: "x",
+        },
+        fault: RunFault::BadWord(0),
+    },
+    Refused {
+        run: Run {
+            inputs: &[],
+            words: EXITS,
+            choices: "x",
+        },
+        fault: RunFault::NoHarts,
+    },
+    Refused {
+        run: Run {
+            inputs: &[0; 33],
+            words: EXITS,
+            choices: "x",
+        },
+        fault: RunFault::TooManyHarts,
+    },
+    Refused {
+        run: Run {
+            inputs: &[7],
+            words: EXITS,
+            choices: "0 x",
+        },
+        fault: RunFault::BadChoice(2),
+    },
+    Refused {
+        run: Run {
+            inputs: &[7],
+            words: EXITS,
+            choices: "0*9 1",
+        },
+        fault: RunFault::NoHart(4),
+    },
+    Refused {
+        run: Run {
+            inputs: &[7],
+            words: EXITS,
+            choices: "0*0",
+        },
+        fault: RunFault::BadChoice(0),
+    },
+];
+
+// Whether a run is refused so, and nothing is written.
+fn is_refused(alloc: Global, refused: &Refused) -> bool {
+    let (answer, sink) = traced(alloc, ALL, &refused.run);
+    answer == Err(refused.fault) && sink.bytes().is_empty()
 }
 
 #[test]
 fn bad_inputs_are_refused(rt: HostRuntime) {
-    let rows: [(&str, &[u32], &str, RunFault); 6] = [
-        ("05d0089", &[], "x", RunFault::BadWord(0)),
-        (EXITS, &[], "x", RunFault::NoHarts),
-        (EXITS, &[0; 33], "x", RunFault::TooManyHarts),
-        (EXITS, &[7], "0 x", RunFault::BadChoice(2)),
-        (EXITS, &[7], "0*9 1", RunFault::NoHart(4)),
-        (EXITS, &[7], "0*0", RunFault::BadChoice(0)),
-    ];
-    for (words, inputs, given, fault) in rows {
-        let (result, sink) = traced(rt.alloc(), ALL, inputs, words, given);
-        assert_eq!(rt; result, Err(fault), "{given}");
-        assert!(rt; sink.bytes().is_empty(), "{given}");
+    for refused in &REFUSED {
+        let choices = refused.run.choices;
+        assert!(rt; is_refused(rt.alloc(), refused), "{choices}");
     }
 }
 
-#[test]
-fn failing_devices_are_told(rt: HostRuntime) {
+// Whether choices that can't be read are told, and nothing is written.
+fn is_read_told(alloc: Global) -> bool {
     let mut program = MemorySource::new(EXITS.as_bytes());
     let mut choices = Failing::new(MemorySource::new(b"0 0"), 0);
-    let mut sink = MemorySink::new(rt.alloc());
-    let result = trace_engine(
-        rt.alloc(),
+    let mut sink = MemorySink::new(alloc);
+    let answer = trace_engine(
+        alloc,
         ProgramForm::Hex,
         ALL,
         &[7],
@@ -178,19 +310,27 @@ fn failing_devices_are_told(rt: HostRuntime) {
         &mut choices,
         &mut sink,
     );
-    assert_eq!(rt; result, Err(RunFault::Read(Input::Choices)));
-    assert!(rt; sink.bytes().is_empty());
+    answer == Err(RunFault::Read(Input::Choices)) && sink.bytes().is_empty()
+}
+
+// What the trace of a run answers where the output is full.
+fn traced_to_full(alloc: Global) -> Result<Status, RunFault> {
     let mut program = MemorySource::new(EXITS.as_bytes());
     let mut choices = MemorySource::new(b"0 0");
     let mut full = FullSink::new();
-    let result = trace_engine(
-        rt.alloc(),
+    trace_engine(
+        alloc,
         ProgramForm::Hex,
         ALL,
         &[7],
         &mut program,
         &mut choices,
         &mut full,
-    );
-    assert_eq!(rt; result, Err(RunFault::Write));
+    )
+}
+
+#[test]
+fn failing_devices_are_told(rt: HostRuntime) {
+    let answer = traced_to_full(rt.alloc());
+    assert!(rt; is_read_told(rt.alloc()) && answer == Err(RunFault::Write));
 }

@@ -14,27 +14,37 @@ struct Tracing<'a> {
     lines: usize,
 }
 
+// What a trace answers, and what it has written, which is kept by `host`.
+fn traced<A: Allocator + Copy>(
+    alloc: A,
+    host: Global,
+    tracing: &Tracing,
+) -> (Result<Status, RunFault>, MemorySink<Global>) {
+    let plan = TracePlan {
+        form: tracing.form,
+        from: 2,
+        to: None,
+    };
+    let mut program = MemorySource::new(tracing.file);
+    let mut choices = MemorySource::new(b"0*3 1*2 0*8 1!");
+    let mut sink = MemorySink::new(host);
+    let answer = trace_engine(
+        alloc,
+        ProgramForm::Elf,
+        plan,
+        &[7, 9],
+        &mut program,
+        &mut choices,
+        &mut sink,
+    );
+    (answer, sink)
+}
+
 impl<'a> Call for Tracing<'a> {
     fn answer<A: Allocator + Copy>(&self, alloc: A, host: Global) -> Result<bool, AllocError> {
-        let plan = TracePlan {
-            form: self.form,
-            from: 2,
-            to: None,
-        };
-        let mut program = MemorySource::new(self.file);
-        let mut choices = MemorySource::new(b"0*3 1*2 0*8 1!");
-        let mut sink = MemorySink::new(host);
-        let result = trace_engine(
-            alloc,
-            ProgramForm::Elf,
-            plan,
-            &[7, 9],
-            &mut program,
-            &mut choices,
-            &mut sink,
-        );
+        let (answer, sink) = traced(alloc, host, self);
         let lines = sink.bytes().iter().filter(|byte| **byte == b'\n').count();
-        match result {
+        match answer {
             Ok(status) => Ok(status == Status::Done && lines == self.lines),
             Err(RunFault::Memory) if lines == 0 => Err(AllocError),
             Err(_) => Ok(false),
@@ -42,17 +52,23 @@ impl<'a> Call for Tracing<'a> {
     }
 }
 
+// Whether a trace in this form, of so many lines, tells want of memory; None where there is no file for it.
+fn is_told(host: Global, form: TraceForm, lines: usize) -> Option<bool> {
+    let file = file_of(host, EACH_ACCESS)?;
+    let tracing = Tracing {
+        file: &file,
+        form,
+        lines,
+    };
+    Some(tried(host, &tracing) == Ok(()))
+}
+
 #[test]
 fn trace_tells_want_of_memory(rt: HostRuntime) {
-    let Some(file) = file_of(rt.alloc(), EACH_ACCESS) else {
-        panic!(rt; "no file");
-    };
     for (form, lines) in [(TraceForm::Lines, 14), (TraceForm::Table, 15)] {
-        let call = Tracing {
-            file: &file,
-            form,
-            lines,
-        };
-        assert_eq!(rt; tried(rt.alloc(), &call), Ok(()), "{form:?}");
+        assert!(rt;
+            is_told(rt.alloc(), form, lines) == Some(true),
+            "{lines} lines"
+        );
     }
 }
