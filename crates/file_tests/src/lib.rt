@@ -2,7 +2,11 @@
 #![tactic(auto)]
 
 #[cfg(test)]
+mod calls;
+#[cfg(test)]
 mod image_tests;
+#[cfg(test)]
+mod images;
 #[cfg(test)]
 mod loading_tests;
 #[cfg(test)]
@@ -11,5 +15,7 @@ mod memory_tests;
 mod order_tests;
 #[cfg(test)]
 mod page_tests;
+#[cfg(test)]
+mod patching;
 #[cfg(test)]
 mod symbol_tests;
