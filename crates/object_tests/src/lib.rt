@@ -13,3 +13,7 @@ mod proto_lrsc_tests;
 mod proto_rounds_tests;
 #[cfg(test)]
 mod protocol_library_tests;
+#[cfg(test)]
+mod refusals;
+#[cfg(test)]
+mod stepping;

@@ -1,37 +1,39 @@
 //! Each call with ample memory, and with each of its requests refused in turn.
 
+use crate::refusals::tells_refusals;
 use proto_amo::{add_image, swap_image};
 use protocol_library::{Kind, certify};
-use refusing::Refusing;
+use refusing::Call;
+use std::alloc::{AllocError, Allocator, Global};
+
+/// Whether the image is made and is Swap's.
+fn is_swap<A: Allocator + Copy>(alloc: A) -> Result<bool, AllocError> {
+    let image = swap_image(alloc)?;
+    Ok(image.segments().len() == 2 && certify(Kind::Swap, &image))
+}
+
+/// Whether the image is made and is Add's.
+fn is_add<A: Allocator + Copy>(alloc: A) -> Result<bool, AllocError> {
+    let image = add_image(alloc)?;
+    Ok(image.segments().len() == 2 && certify(Kind::Add, &image))
+}
 
 #[test]
 fn images_are_made_with_ample_memory(rt: HostRuntime) {
-    match swap_image(rt.alloc()) {
-        Ok(image) => {
-            assert_eq!(rt; image.segments().len(), 2);
-            assert!(rt; certify(Kind::Swap, &image), "Swap");
-        }
-        Err(_) => assert!(rt; false, "memory is left"),
-    }
-    match add_image(rt.alloc()) {
-        Ok(image) => {
-            assert_eq!(rt; image.segments().len(), 2);
-            assert!(rt; certify(Kind::Add, &image), "Add");
-        }
-        Err(_) => assert!(rt; false, "memory is left"),
+    assert!(rt; is_swap(rt.alloc()) == Ok(true));
+    assert!(rt; is_add(rt.alloc()) == Ok(true));
+}
+
+/// The making of both images, one after the other.
+struct Making;
+
+impl Call for Making {
+    fn answer<A: Allocator + Copy>(&self, alloc: A, _host: Global) -> Result<bool, AllocError> {
+        Ok(is_swap(alloc)? && is_add(alloc)?)
     }
 }
 
 #[test]
 fn each_refused_request_is_told(rt: HostRuntime) {
-    for passed in 0..64u64 {
-        let host = Refusing::new(rt.alloc(), passed);
-        let made = swap_image(&host).is_ok() && add_image(&host).is_ok();
-        assert!(rt; made != host.refused());
-        if made {
-            assert!(rt; passed > 0, "no memory is asked for");
-            return;
-        }
-    }
-    assert!(rt; false, "memory is asked for without end");
+    assert!(rt; tells_refusals(rt.alloc(), &Making));
 }

@@ -1,30 +1,32 @@
 //! The call with ample memory, and with each of its requests refused in turn.
 
+use crate::refusals::tells_refusals;
 use proto_lrsc::lrsc_image;
 use protocol_library::{Kind, certify};
-use refusing::Refusing;
+use refusing::Call;
+use std::alloc::{AllocError, Allocator, Global};
+
+/// Whether the image is made and is LrSc's.
+fn is_lrsc<A: Allocator + Copy>(alloc: A) -> Result<bool, AllocError> {
+    let image = lrsc_image(alloc)?;
+    Ok(image.segments().len() == 2 && certify(Kind::LrSc, &image))
+}
 
 #[test]
 fn the_image_is_made_with_ample_memory(rt: HostRuntime) {
-    match lrsc_image(rt.alloc()) {
-        Ok(image) => {
-            assert_eq!(rt; image.segments().len(), 2);
-            assert!(rt; certify(Kind::LrSc, &image), "LrSc");
-        }
-        Err(_) => assert!(rt; false, "memory is left"),
+    assert!(rt; is_lrsc(rt.alloc()) == Ok(true));
+}
+
+/// The making of the image.
+struct Making;
+
+impl Call for Making {
+    fn answer<A: Allocator + Copy>(&self, alloc: A, _host: Global) -> Result<bool, AllocError> {
+        is_lrsc(alloc)
     }
 }
 
 #[test]
 fn each_refused_request_is_told(rt: HostRuntime) {
-    for passed in 0..64u64 {
-        let host = Refusing::new(rt.alloc(), passed);
-        let made = lrsc_image(&host).is_ok();
-        assert!(rt; made != host.refused());
-        if made {
-            assert!(rt; passed > 0, "no memory is asked for");
-            return;
-        }
-    }
-    assert!(rt; false, "memory is asked for without end");
+    assert!(rt; tells_refusals(rt.alloc(), &Making));
 }

@@ -1,76 +1,45 @@
 //! The call with ample memory, and with each of its requests refused in turn; and runs of one and of two harts.
 
+use crate::refusals::tells_refusals;
+use crate::stepping::{PlainMachine, started, take_step, take_steps};
 use hart_step::{Hart, HartState};
-use loader::Image;
-use machine::{Choice, Machine, StartFault};
-use memory::FlatStore;
 use proto_rounds::rounds_image;
 use protocol_library::{Kind, certify};
-use refusing::Refusing;
-use std::alloc::{AllocError, Allocator};
+use refusing::Call;
+use std::alloc::{AllocError, Allocator, Global};
+
+/// Whether the image is made.
+fn is_made<A: Allocator + Copy>(alloc: A) -> Result<bool, AllocError> {
+    let image = rounds_image(alloc)?;
+    Ok(image.segments().len() == 2)
+}
+
+/// Whether the image is of a kind.
+fn is_of_kind(alloc: Global, kind: Kind) -> Result<bool, AllocError> {
+    let image = rounds_image(alloc)?;
+    Ok(certify(kind, &image))
+}
 
 #[test]
 fn the_image_is_made_with_ample_memory(rt: HostRuntime) {
-    match rounds_image(rt.alloc()) {
-        Ok(image) => {
-            assert_eq!(rt; image.segments().len(), 2);
-            for kind in Kind::ALL {
-                assert_eq!(rt; certify(kind, &image), kind == Kind::Rounds);
-            }
-        }
-        Err(_) => assert!(rt; false, "memory is left"),
+    assert!(rt; is_made(rt.alloc()) == Ok(true));
+    for kind in Kind::ALL {
+        assert!(rt; is_of_kind(rt.alloc(), kind) == Ok(kind == Kind::Rounds));
+    }
+}
+
+/// The making of the image.
+struct Making;
+
+impl Call for Making {
+    fn answer<A: Allocator + Copy>(&self, alloc: A, _host: Global) -> Result<bool, AllocError> {
+        is_made(alloc)
     }
 }
 
 #[test]
 fn each_refused_request_is_told(rt: HostRuntime) {
-    for passed in 0..64u64 {
-        let host = Refusing::new(rt.alloc(), passed);
-        let made = rounds_image(&host).is_ok();
-        assert!(rt; made != host.refused());
-        if made {
-            assert!(rt; passed > 0, "no memory is asked for");
-            return;
-        }
-    }
-    assert!(rt; false, "memory is asked for without end");
-}
-
-// The harts after two harts have taken turns so many times, and then each alone as often as is said.
-fn ends<A: Allocator + Copy>(
-    alloc: A,
-    image: &Image<A>,
-    inputs: &[u32],
-    strict: u32,
-    alone: [(u32, u32); 2],
-) -> Result<Vec<Hart, A>, AllocError> {
-    let started: Result<Machine<FlatStore<A>, A>, StartFault> = Machine::start(
-        alloc, image, inputs,
-    );
-    let Ok(mut machine) = started else {
-        return Err(AllocError);
-    };
-    for _ in 0..strict {
-        for hart in 0..2u32 {
-            if (hart as usize) < machine.harts() {
-                machine.step(Choice {
-                    hart,
-                    refuse: false,
-                })?;
-            }
-        }
-    }
-    for (hart, often) in alone {
-        for _ in 0..often {
-            if (hart as usize) < machine.harts() {
-                machine.step(Choice {
-                    hart,
-                    refuse: false,
-                })?;
-            }
-        }
-    }
-    Vec::from_slice(alloc, machine.ends())
+    assert!(rt; tells_refusals(rt.alloc(), &Making));
 }
 
 // A run, and what each hart comes to: whether it has exited, its value and its flag.
@@ -98,25 +67,53 @@ static WORKED: [Worked; 9] = [
     Worked { name: "apart for three rounds, a step less", inputs: &[0, ONES], strict: 140, alone: [(0, 40), (1, 48)], harts: &[(true, 0, 1), (false, 0, 0)] },
 ];
 
+// Two harts take turns so many times.
+fn take_turns(machine: &mut PlainMachine, times: u32) -> Result<(), AllocError> {
+    for _ in 0..times {
+        take_step(machine, 0)?;
+        take_step(machine, 1)?;
+    }
+    Ok(())
+}
+
+// Two harts take turns so many times, and then each runs alone as often as is said.
+fn run(machine: &mut PlainMachine, row: &Worked) -> Result<(), AllocError> {
+    let [(first, often), (second, seldom)] = row.alone;
+    take_turns(machine, row.strict)?;
+    take_steps(machine, first, often)?;
+    take_steps(machine, second, seldom)
+}
+
+// Whether a hart has come to what a row says.
+fn is_end(hart: &Hart, exited: bool, value: u32, flag: u32) -> bool {
+    let state = if exited {
+        HartState::Exited(value)
+    } else {
+        HartState::Running
+    };
+    hart.state == state && hart.registers[10] == value && hart.registers[11] == flag
+}
+
+// Whether all harts have.
+fn are_ends(harts: &[Hart], row: &Worked) -> bool {
+    for (hart, (exited, value, flag)) in harts.iter().zip(row.harts) {
+        if !is_end(hart, *exited, *value, *flag) {
+            return false;
+        }
+    }
+    harts.len() == row.harts.len()
+}
+
+fn ends_as_worked(alloc: Global, row: &Worked) -> Result<bool, AllocError> {
+    let image = rounds_image(alloc)?;
+    let mut machine = started(alloc, &image, row.inputs)?;
+    run(&mut machine, row)?;
+    Ok(are_ends(machine.ends(), row))
+}
+
 #[test]
 fn rounds_end_as_worked(rt: HostRuntime) {
-    let Ok(image) = rounds_image(rt.alloc()) else {
-        return assert!(rt; false, "no memory for the image");
-    };
     for row in &WORKED {
-        let Ok(harts) = ends(rt.alloc(), &image, row.inputs, row.strict, row.alone) else {
-            return assert!(rt; false, "no memory for the run");
-        };
-        assert_eq!(rt; harts.len(), row.harts.len(), "{}", row.name);
-        for (hart, (exited, value, flag)) in harts.iter().zip(row.harts.iter()) {
-            let state = if *exited {
-                HartState::Exited(*value)
-            } else {
-                HartState::Running
-            };
-            assert_eq!(rt; hart.state, state, "{}", row.name);
-            assert_eq!(rt; hart.registers[10], *value, "{}", row.name);
-            assert_eq!(rt; hart.registers[11], *flag, "{}", row.name);
-        }
+        assert!(rt; ends_as_worked(rt.alloc(), row) == Ok(true), "{}", row.name);
     }
 }
