@@ -12,7 +12,7 @@ use schedule_engine::{Maker, ScheduleFault, SchedulePlan, schedule_engine};
 use std::alloc::Global;
 use std::thread::Threads;
 
-#[derive(Clone, Copy, Debug)]
+#[derive(Clone, Copy)]
 enum Engine {
     Run,
     List,
@@ -27,7 +27,7 @@ enum Engine {
 }
 
 // A device, by what it is for.
-#[derive(Clone, Copy, Debug, PartialEq, Eq)]
+#[derive(Clone, Copy, PartialEq, Eq)]
 enum Device {
     Program,
     // The choices, or the history.
@@ -37,31 +37,24 @@ enum Device {
 }
 
 // An engine and each of its devices.
-const ROWS: [(Engine, &'static [Device]); 10] = [
-    (
-        Engine::Run,
-        &[Device::Program, Device::Schedule, Device::Output],
-    ),
-    (Engine::List, &[Device::Program, Device::Output]),
-    (Engine::Info, &[Device::Program, Device::Output]),
-    (
-        Engine::Replay,
-        &[Device::Program, Device::Schedule, Device::Output],
-    ),
-    (Engine::Campaign, &[Device::Program, Device::Output]),
-    (Engine::Assemble, &[Device::Program, Device::Output]),
-    (Engine::AssembleFile, &[Device::Program, Device::Output]),
-    (Engine::Library, &[Device::Output]),
-    (Engine::Schedule, &[Device::Output]),
-    (
-        Engine::Debug,
-        &[
-            Device::Program,
-            Device::Schedule,
-            Device::Commands,
-            Device::Output,
-        ],
-    ),
+struct Row {
+    name: &'static str,
+    engine: Engine,
+    devices: &'static [Device],
+}
+
+#[rattlefmt::skip]
+const ROWS: [Row; 10] = [
+    Row { name: "run", engine: Engine::Run, devices: &[Device::Program, Device::Schedule, Device::Output] },
+    Row { name: "list", engine: Engine::List, devices: &[Device::Program, Device::Output] },
+    Row { name: "info", engine: Engine::Info, devices: &[Device::Program, Device::Output] },
+    Row { name: "replay", engine: Engine::Replay, devices: &[Device::Program, Device::Schedule, Device::Output] },
+    Row { name: "campaign", engine: Engine::Campaign, devices: &[Device::Program, Device::Output] },
+    Row { name: "assemble", engine: Engine::Assemble, devices: &[Device::Program, Device::Output] },
+    Row { name: "assemble a file", engine: Engine::AssembleFile, devices: &[Device::Program, Device::Output] },
+    Row { name: "library", engine: Engine::Library, devices: &[Device::Output] },
+    Row { name: "schedule", engine: Engine::Schedule, devices: &[Device::Output] },
+    Row { name: "debug", engine: Engine::Debug, devices: &[Device::Program, Device::Schedule, Device::Commands, Device::Output] },
 ];
 
 // The device that fails, and behind how many calls.
@@ -83,7 +76,7 @@ impl Failure {
 }
 
 // What came of it.
-#[derive(Clone, Copy, Debug, PartialEq, Eq)]
+#[derive(Clone, Copy)]
 enum Outcome {
     // The full answer.
     Full,
@@ -304,60 +297,67 @@ fn use_engine<R: Threads + Sync>(
 // More calls than a device here has.
 const MOST: u64 = 100;
 
-// How often a device is called. An error tells behind how many calls it failed and something else came of it.
+// How often a device is called; none where it fails and something else came of it.
 fn calls_of<R: Threads + Sync>(
     rt: &R,
     alloc: Global,
     engine: Engine,
     device: Device,
-) -> Result<u64, u64> {
+) -> Option<u64> {
     for passed in 0..MOST {
         match use_engine(rt, alloc, engine, Failure { device, passed }) {
-            Outcome::Full => return Ok(passed),
+            Outcome::Full => return Some(passed),
             Outcome::Failed(failed) if failed == device => {}
-            _ => return Err(passed),
+            _ => return None,
         }
     }
-    Err(MOST)
+    None
+}
+
+// Whether a device is called, and each failure of it is told.
+fn is_told<R: Threads + Sync>(rt: &R, alloc: Global, engine: Engine, device: Device) -> bool {
+    calls_of(rt, alloc, engine, device).is_some_and(|calls| calls > 0)
 }
 
 #[test]
 fn each_call_of_each_device_fails(rt: HostRuntime) {
-    for (engine, devices) in ROWS {
-        for device in devices {
-            match calls_of(&rt, rt.alloc(), engine, *device) {
-                Ok(calls) => assert!(rt; calls > 0, "{engine:?}: {device:?} is not called"),
-                Err(passed) => assert!(rt; false, "{engine:?}: {device:?} behind {passed} calls"),
-            }
+    for row in &ROWS {
+        for device in row.devices {
+            assert!(rt;
+                is_told(&rt, rt.alloc(), row.engine, *device),
+                "{}",
+                row.name
+            );
         }
     }
 }
 
-#[test]
-fn a_full_sink_is_told(rt: HostRuntime) {
-    let alloc = rt.alloc();
-    for view in [FileView::Listing, FileView::Facts] {
-        let mut file = MemorySource::new(&EXITS);
-        let result = file_engine(alloc, view, &mut file, &mut FullSink::new());
-        assert_eq!(rt; result, Err(RunFault::Write));
-    }
-    let result = source_engine(Kind::Swap, &mut FullSink::new());
-    assert_eq!(rt; result, Err(RunFault::Write));
+// What a full sink is told as: by a view of a file.
+fn full_view(alloc: Global, view: FileView) -> Result<Status, RunFault> {
+    let mut file = MemorySource::new(&EXITS);
+    file_engine(alloc, view, &mut file, &mut FullSink::new())
+}
+
+// By a campaign.
+fn full_campaign<R: Threads + Sync>(rt: &R, alloc: Global) -> Result<Status, RunFault> {
     let mut program = MemorySource::new(&EXITS);
-    let result = campaign_engine(
-        &rt,
+    campaign_engine(
+        rt,
         alloc,
         &[7],
         PLAN,
         &mut program,
         &mut FullSink::new(),
         &mut Unheard,
-    );
-    assert_eq!(rt; result, Err(RunFault::Write));
+    )
+}
+
+// By the debugger.
+fn full_debug(alloc: Global) -> Result<Status, DebugEngineFault> {
     let mut program = MemorySource::new(&EXITS);
     let mut choices = MemorySource::new(b"0 1");
     let mut commands = MemorySource::new(COMMANDS);
-    let result = debug_engine(
+    debug_engine(
         alloc,
         &[7, 9],
         &mut program,
@@ -365,6 +365,15 @@ fn a_full_sink_is_told(rt: HostRuntime) {
         &mut commands,
         &mut FullSink::new(),
         &mut Unheard,
-    );
-    assert_eq!(rt; result, Err(DebugEngineFault::Answers));
+    )
+}
+
+#[test]
+fn a_full_sink_is_told(rt: HostRuntime) {
+    for view in [FileView::Listing, FileView::Facts] {
+        assert!(rt; full_view(rt.alloc(), view) == Err(RunFault::Write));
+    }
+    assert!(rt; source_engine(Kind::Swap, &mut FullSink::new()) == Err(RunFault::Write));
+    assert!(rt; full_campaign(&rt, rt.alloc()) == Err(RunFault::Write));
+    assert!(rt; full_debug(rt.alloc()) == Err(DebugEngineFault::Answers));
 }

@@ -6,7 +6,7 @@ use engines::{FileView, file_engine};
 use loader::{ElfFault, SymFault, load, symbols};
 use programs::RunFault;
 use protocol_library::{Kind, source};
-use std::alloc::Global;
+use std::alloc::{AllocError, Global};
 
 // The length of Swap's file; its headers end at the first place, and its symbol table begins at the second.
 const LENGTH: usize = 8576;
@@ -16,9 +16,12 @@ const CONTENT: usize = 116;
 const TABLES: usize = 8192;
 
 // The file of Swap's source.
-fn swap_file(alloc: Global) -> Option<Vec<u8>> {
+fn swap_file(alloc: Global) -> Result<Vec<u8>, AllocError> {
     let mut sources = [MemorySource::new(source(Kind::Swap).as_bytes())];
-    assembled_file(alloc, &mut sources).ok()
+    match assembled_file(alloc, &mut sources) {
+        Ok(file) => Ok(file),
+        Err(_) => Err(AllocError),
+    }
 }
 
 // The fault of a beginning of the file; none where it loads.
@@ -32,24 +35,48 @@ fn fault_of_beginning(length: usize) -> Option<ElfFault> {
     }
 }
 
-#[test]
-fn each_beginning_has_its_answers(rt: HostRuntime) {
-    let Some(file) = swap_file(rt.alloc()) else {
-        return assert!(rt; false, "no file");
-    };
-    assert_eq!(rt; file.len(), LENGTH);
-    for length in 0..=file.len() {
-        let (beginning, _) = file.as_slice().split_at(length);
-        let fault = load(rt.alloc(), beginning).err();
-        assert_eq!(rt; fault, fault_of_beginning(length), "{length} bytes");
-        let fault = symbols(rt.alloc(), beginning).err();
-        let wanted = if length < LENGTH {
-            Some(SymFault::BadTable)
-        } else {
-            None
-        };
-        assert_eq!(rt; fault, wanted, "{length} bytes");
+// The fault of its symbols; none where they are all there.
+fn symbol_fault_of_beginning(length: usize) -> Option<SymFault> {
+    if length < LENGTH {
+        Some(SymFault::BadTable)
+    } else {
+        None
     }
+}
+
+// Whether a beginning of the file has its answers.
+fn is_answered(alloc: Global, beginning: &[u8]) -> bool {
+    load(alloc, beginning).err() == fault_of_beginning(beginning.len())
+        && symbols(alloc, beginning).err() == symbol_fault_of_beginning(beginning.len())
+}
+
+// How many beginnings of a file have, the shortest first, up to the first that has not.
+fn count_answered(alloc: Global, file: &[u8]) -> usize {
+    for length in 0..=file.len() {
+        let (beginning, _) = file.split_at(length);
+        if !is_answered(alloc, beginning) {
+            return length;
+        }
+    }
+    file.len().saturating_add(1)
+}
+
+fn length_of_swap(alloc: Global) -> Result<usize, AllocError> {
+    Ok(swap_file(alloc)?.len())
+}
+
+// How many of Swap's file have.
+fn count_of_swap(alloc: Global) -> Result<usize, AllocError> {
+    let file = swap_file(alloc)?;
+    Ok(count_answered(alloc, file.as_slice()))
+}
+
+#[test]
+fn each_beginning_has_its_answers(rt: HostRuntime) -> Result<(), AllocError> {
+    let answered = count_of_swap(rt.alloc())?;
+    assert!(rt; length_of_swap(rt.alloc()) == Ok(LENGTH));
+    assert!(rt; answered == LENGTH + 1, "{answered} bytes");
+    Ok(())
 }
 
 // What `info` says of a file.
@@ -78,24 +105,28 @@ const SHOWN: [(usize, Result<&'static str, ElfFault>); 8] = [
     (0, Err(ElfFault::Short)),
 ];
 
+// Whether `info` says of a beginning of Swap's file what is wanted.
+fn is_shown(
+    alloc: Global,
+    length: usize,
+    wanted: Result<&'static str, ElfFault>,
+) -> Result<bool, AllocError> {
+    let mut file = swap_file(alloc)?;
+    file.truncate(length);
+    let (result, sink) = facts(alloc, &file);
+    match wanted {
+        Ok(text) => Ok(result == Ok(Status::Done) && sink.bytes() == text.as_bytes()),
+        Err(fault) => Ok(result == Err(RunFault::Elf(fault)) && sink.bytes().is_empty()),
+    }
+}
+
 #[test]
 fn info_shows_a_beginning_that_loads(rt: HostRuntime) {
-    let Some(mut file) = swap_file(rt.alloc()) else {
-        return assert!(rt; false, "no file");
-    };
-    for (length, wanted) in SHOWN {
-        file.truncate(length);
-        let (result, sink) = facts(rt.alloc(), &file);
-        match wanted {
-            Ok(text) => {
-                assert_eq!(rt; result, Ok(Status::Done), "{length} bytes");
-                assert_eq!(rt; sink.bytes(), text.as_bytes(), "{length} bytes");
-            }
-            Err(fault) => {
-                assert_eq!(rt; result, Err(RunFault::Elf(fault)), "{length} bytes");
-                assert_eq!(rt; sink.bytes().len(), 0, "{length} bytes");
-            }
-        }
+    for (length, wanted) in &SHOWN {
+        assert!(rt;
+            is_shown(rt.alloc(), *length, *wanted) == Ok(true),
+            "{length} bytes"
+        );
     }
 }
 
@@ -124,38 +155,79 @@ fn is_told_alike(alloc: Global, file: &[u8]) -> bool {
     }
 }
 
-#[test]
-fn a_changed_header_or_table_is_told_alike(rt: HostRuntime) {
-    let Some(mut file) = swap_file(rt.alloc()) else {
-        return assert!(rt; false, "no file");
+// Whether a file with another byte at a place is told alike; the byte that stood there is put back.
+fn is_change_told(alloc: Global, file: &mut Vec<u8>, place: usize, byte: u8) -> bool {
+    let Some(kept) = put(file, place, byte) else {
+        return false;
     };
-    for (first, end) in [(0, CONTENT), (TABLES, LENGTH)] {
-        for place in first..end {
-            for byte in BYTES {
-                let Some(kept) = put(&mut file, place, byte) else {
-                    return assert!(rt; false, "no byte {place}");
-                };
-                assert!(rt; is_told_alike(rt.alloc(), &file), "byte {place} is {byte}");
-                put(&mut file, place, kept);
-            }
+    let is_told = is_told_alike(alloc, file);
+    put(file, place, kept).is_some() && is_told
+}
+
+// The same of each byte that is put at a place.
+fn is_place_told(alloc: Global, file: &mut Vec<u8>, place: usize) -> bool {
+    for byte in BYTES {
+        if !is_change_told(alloc, file, place, byte) {
+            return false;
         }
     }
+    true
+}
+
+// The first place of Swap's file, from one place up to another, that is not told alike; the last one where all are.
+fn place_told(alloc: Global, first: usize, end: usize) -> Result<usize, AllocError> {
+    let mut file = swap_file(alloc)?;
+    for place in first..end {
+        if !is_place_told(alloc, &mut file, place) {
+            return Ok(place);
+        }
+    }
+    Ok(end)
+}
+
+#[test]
+fn a_changed_header_or_table_is_told_alike(rt: HostRuntime) -> Result<(), AllocError> {
+    for (first, end) in [(0, CONTENT), (TABLES, LENGTH)] {
+        let place = place_told(rt.alloc(), first, end)?;
+        assert!(rt; place == end, "byte {place}");
+    }
+    Ok(())
+}
+
+// Whether a file with another byte at a place loads; the byte that stood there is put back.
+fn is_change_loaded(alloc: Global, file: &mut Vec<u8>, place: usize, byte: u8) -> bool {
+    let Some(kept) = put(file, place, byte) else {
+        return false;
+    };
+    let is_loaded = load(alloc, file).is_ok();
+    put(file, place, kept).is_some() && is_loaded
+}
+
+// The same of each byte that is put at a place; then the file has its symbols.
+fn is_place_loaded(alloc: Global, file: &mut Vec<u8>, place: usize) -> bool {
+    for byte in BYTES {
+        if !is_change_loaded(alloc, file, place, byte) {
+            return false;
+        }
+    }
+    symbols(alloc, file).is_ok()
+}
+
+// The first place of the content of Swap's file where a change does not load; the end where each does.
+fn place_loaded(alloc: Global) -> Result<usize, AllocError> {
+    let mut file = swap_file(alloc)?;
+    for place in CONTENT..TABLES {
+        if !is_place_loaded(alloc, &mut file, place) {
+            return Ok(place);
+        }
+    }
+    Ok(TABLES)
 }
 
 // No check looks at the bytes of segments, nor at those that belong to nothing.
 #[test]
-fn changed_content_loads(rt: HostRuntime) {
-    let Some(mut file) = swap_file(rt.alloc()) else {
-        return assert!(rt; false, "no file");
-    };
-    for place in CONTENT..TABLES {
-        for byte in BYTES {
-            let Some(kept) = put(&mut file, place, byte) else {
-                return assert!(rt; false, "no byte {place}");
-            };
-            assert!(rt; load(rt.alloc(), &file).is_ok(), "byte {place} is {byte}");
-            put(&mut file, place, kept);
-        }
-        assert!(rt; symbols(rt.alloc(), &file).is_ok(), "byte {place}");
-    }
+fn changed_content_loads(rt: HostRuntime) -> Result<(), AllocError> {
+    let place = place_loaded(rt.alloc())?;
+    assert!(rt; place == TABLES, "byte {place}");
+    Ok(())
 }
