@@ -2,10 +2,11 @@
 use choice_texts::read_choices;
 use debug_commands::{Answer, DebugFault, command};
 use debugger::Debugger;
+use loader::Image;
 use programs::{hex_image, read_hex};
 use refusing::Refusing;
 use reservations::MAX_HARTS;
-use std::alloc::{AllocError, Allocator};
+use std::alloc::{AllocError, Allocator, Global};
 
 // A program in hexadecimal, the inputs, the choices, and lines with what is shown for each.
 struct Session {
@@ -183,27 +184,26 @@ s7 00000000\ns8 00000000\ns9 00000000\ns10 00000000\ns11 00000000\nt3 00000000\n
         ] },
 ];
 
-// A debugger of a session, at its start.
-fn begin<A: Allocator + Copy>(alloc: A, session: &Session) -> Option<Debugger<A>> {
-    let Ok(words) = read_hex(alloc, session.program.as_bytes()) else {
-        return None;
-    };
-    let Ok(image) = hex_image(alloc, &words) else {
-        return None;
-    };
-    let Ok(inputs) = Vec::from_slice(alloc, session.inputs) else {
-        return None;
-    };
+// The image of a program in hexadecimal.
+fn image_of<A: Allocator + Copy>(alloc: A, program: &str) -> Option<Image<A>> {
+    let words = read_hex(alloc, program.as_bytes()).ok()?;
+    hex_image(alloc, &words).ok()
+}
+
+// A debugger of a program's run, at its start.
+fn begin<A: Allocator + Copy>(
+    alloc: A,
+    program: &str,
+    inputs: &[u32],
+    choices: &str,
+) -> Option<Debugger<A>> {
     if inputs.len() > MAX_HARTS {
         return None;
     }
-    let Ok(choices) = read_choices(alloc, session.choices.as_bytes(), inputs.len() as u32) else {
-        return None;
-    };
-    match Debugger::new(alloc, image, inputs, choices) {
-        Ok(debugger) => Some(debugger),
-        Err(_) => None,
-    }
+    let image = image_of(alloc, program)?;
+    let inputs = Vec::from_slice(alloc, inputs).ok()?;
+    let choices = read_choices(alloc, choices.as_bytes(), inputs.len() as u32).ok()?;
+    Debugger::new(alloc, image, inputs, choices).ok()
 }
 
 // What is shown for a line, or `quit`.
@@ -220,20 +220,40 @@ fn shown<A: Allocator + Copy>(
     }
 }
 
-#[test]
-fn sessions_are_answered_line_by_line(rt: HostRuntime) -> Result<(), AllocError> {
-    for session in &SESSIONS {
-        let name = session.name;
-        let Some(mut debugger) = begin(rt.alloc(), session) else {
-            assert!(rt; false, "{name} does not begin");
-            return Ok(());
-        };
-        for (line, wanted) in session.lines {
-            let text = shown(rt.alloc(), &mut debugger, line)?;
-            assert_eq!(rt; text.as_str(), *wanted, "{name}: {line}");
+// Whether this is shown for a line.
+fn is_shown<A: Allocator + Copy>(
+    alloc: A,
+    debugger: &mut Debugger<A>,
+    line: &str,
+    wanted: &str,
+) -> bool {
+    match shown(alloc, debugger, line) {
+        Ok(text) => text.as_str() == wanted,
+        Err(_) => false,
+    }
+}
+
+// The first line of a session for which something else is shown, or the name of a session that doesn't begin.
+fn wrong_line(alloc: Global, session: &Session) -> Option<&'static str> {
+    let Some(mut debugger) = begin(alloc, session.program, session.inputs, session.choices) else {
+        return Some(session.name);
+    };
+    for (line, wanted) in session.lines {
+        if !is_shown(alloc, &mut debugger, line, wanted) {
+            return Some(*line);
         }
     }
-    Ok(())
+    None
+}
+
+#[test]
+fn sessions_are_answered_line_by_line(rt: HostRuntime) {
+    for session in &SESSIONS {
+        let name = session.name;
+        if let Some(line) = wrong_line(rt.alloc(), session) {
+            assert!(rt; false, "{name}: {line}");
+        }
+    }
 }
 
 // Lines that lead to a place, each line that is tried there with each of its requests refused, and its answer.
@@ -254,45 +274,54 @@ const TRIED: [(&str, &str); 12] = [
     ("jump", "bad command\n"),
 ];
 
-// A debugger of the first session, after the lines that lead to the place.
+// A debugger of the first session's run, after the lines that lead to the place.
 fn placed<A: Allocator + Copy>(alloc: A) -> Option<Debugger<A>> {
-    let mut debugger = begin(alloc, &SESSIONS[0])?;
-    for line in BEFORE {
-        let Ok(_) = shown(alloc, &mut debugger, line) else {
+    let mut debugger = begin(alloc, SWAP, &[7, 9], ONE_THEN_ZERO)?;
+    for line in &BEFORE {
+        if shown(alloc, &mut debugger, line).is_err() {
             return None;
-        };
+        }
     }
     Some(debugger)
 }
 
+// Whether a line is answered; or its want of memory is told where some was refused, and has changed nothing, so that the line is then
+// answered as wanted.
+fn is_tried<'a>(
+    heap: &'a Refusing<Global>,
+    debugger: &mut Debugger<&'a Refusing<Global>>,
+    line: &str,
+    wanted: &str,
+) -> bool {
+    if shown(heap, debugger, line).is_ok() {
+        return true;
+    }
+    heap.refused() && debugger.position() == 7 && is_shown(heap, debugger, line, wanted)
+}
+
+// Whether the request behind so many was refused where a line is tried; nothing where its answer is wrong.
+fn is_refused(host: Global, line: &str, wanted: &str, passed: u64) -> Option<bool> {
+    let heap = Refusing::new(host, passed);
+    let is_right = match placed(&heap) {
+        Some(mut debugger) => is_tried(&heap, &mut debugger, line, wanted),
+        None => heap.refused(),
+    };
+    if is_right { Some(heap.refused()) } else { None }
+}
+
+// How many requests are made where a line is tried; nothing where an answer is wrong, or where memory is asked for without end.
+fn requests_of(host: Global, line: &str, wanted: &str) -> Option<u64> {
+    for passed in 0..200u64 {
+        if !is_refused(host, line, wanted, passed)? {
+            return Some(passed);
+        }
+    }
+    None
+}
+
 #[test]
 fn each_refused_request_changes_nothing(rt: HostRuntime) {
-    for (line, wanted) in TRIED {
-        let mut refused = true;
-        for passed in 0..200u64 {
-            let heap = Refusing::new(rt.alloc(), passed);
-            let Some(mut debugger) = placed(&heap) else {
-                assert!(rt; heap.refused(), "{line}: no place at request {passed}");
-                continue;
-            };
-            if shown(&heap, &mut debugger, line).is_err() {
-                assert!(rt; heap.refused(), "{line}: at request {passed}");
-                assert_eq!(rt; debugger.position(), 7, "{line}: at request {passed}");
-                match shown(&heap, &mut debugger, line) {
-                    Ok(text) => assert_eq!(rt;
-                        text.as_str(),
-                        wanted,
-                        "{line}: after request {passed}"
-                    ),
-                    Err(_) => assert!(rt; false, "{line}: refused twice at request {passed}"),
-                }
-                continue;
-            }
-            refused = heap.refused();
-            if !refused {
-                break;
-            }
-        }
-        assert!(rt; !refused, "{line}: memory is asked for without end");
+    for (line, wanted) in &TRIED {
+        assert!(rt; requests_of(rt.alloc(), line, wanted).is_some(), "{line}");
     }
 }
