@@ -4,6 +4,8 @@ use engines::{
     RunFault, Status, campaign_engine, file_engine, run_engine,
 };
 use progress::Unheard;
+use std::alloc::Global;
+use std::thread::Threads;
 
 // An ELF file of 92 bytes with one segment: `addi a7, zero, 93` and `ecall`.
 #[rattlefmt::skip]
@@ -21,31 +23,54 @@ const FACTS: &str = "entry 00010000\nsegment 00010000 8 r-x\nsymbols none\nlibra
 const LISTING: &str =
     "# segment 00010000 8\naddi a7, zero, 93  # 00010000 05d00893\necall  # 00010004 00000073\n";
 
-const PLAN: CampaignPlan = CampaignPlan {
-    first: 5,
-    count: 3,
-    steps: 2,
-    rule: None,
-};
+// What is shown of the file, how many reads of it pass, and how that ends. Nine reads are ample.
+const SHOWN: [(FileView, u64, Result<Status, RunFault>, &str); 3] = [
+    (FileView::Facts, 9, Ok(Status::Done), FACTS),
+    (FileView::Listing, 9, Ok(Status::Done), LISTING),
+    (FileView::Facts, 0, Err(RunFault::Read(Input::File)), ""),
+];
 
-#[test]
-fn a_file_is_shown(rt: HostRuntime) {
-    for (view, text) in [(FileView::Facts, FACTS), (FileView::Listing, LISTING)] {
-        let mut file = MemorySource::new(&EXITS);
-        let mut sink = MemorySink::new(rt.alloc());
-        let result = file_engine(rt.alloc(), view, &mut file, &mut sink);
-        assert_eq!(rt; result, Ok(Status::Done));
-        assert_eq!(rt; sink.bytes(), text.as_bytes());
-    }
+// How a view of the file ends that is written, and whether this is written.
+fn shown(
+    alloc: Global,
+    view: FileView,
+    passed: u64,
+    text: &str,
+) -> (Result<Status, RunFault>, bool) {
+    let mut file = Failing::new(MemorySource::new(&EXITS), passed);
+    let mut sink = MemorySink::new(alloc);
+    let ending = file_engine(alloc, view, &mut file, &mut sink);
+    (ending, sink.bytes() == text.as_bytes())
 }
 
 #[test]
-fn a_file_is_run(rt: HostRuntime) {
+fn a_file_is_shown(rt: HostRuntime) {
+    for (view, passed, ending, text) in &SHOWN {
+        assert!(rt;
+            shown(rt.alloc(), *view, *passed, text) == (*ending, true),
+            "{text}"
+        );
+    }
+}
+
+// How a view of the file ends that a full sink should take.
+fn shown_in_vain(alloc: Global) -> Result<Status, RunFault> {
+    let mut file = MemorySource::new(&EXITS);
+    file_engine(alloc, FileView::Facts, &mut file, &mut FullSink::new())
+}
+
+#[test]
+fn a_full_sink_is_told(rt: HostRuntime) {
+    assert!(rt; shown_in_vain(rt.alloc()) == Err(RunFault::Write));
+}
+
+// Whether the file's run ends so.
+fn is_run(alloc: Global, text: &str) -> bool {
     let mut program = MemorySource::new(&EXITS);
     let mut choices = MemorySource::new(b"0 0");
-    let mut sink = MemorySink::new(rt.alloc());
-    let result = run_engine(
-        rt.alloc(),
+    let mut sink = MemorySink::new(alloc);
+    let ending = run_engine(
+        alloc,
         ProgramForm::Elf,
         &[7],
         None,
@@ -53,65 +78,56 @@ fn a_file_is_run(rt: HostRuntime) {
         &mut choices,
         &mut sink,
     );
-    assert_eq!(rt; result, Ok(Status::Done));
-    assert_eq!(rt;
-        sink.bytes(),
-        b"hart 0 exited a0 00000000 a1 00000007\n".as_slice()
-    );
+    ending == Ok(Status::Done) && sink.bytes() == text.as_bytes()
 }
 
 #[test]
-fn a_campaign_has_a_line_for_each_seed(rt: HostRuntime) {
-    let mut program = MemorySource::new(&EXITS);
-    let mut sink = MemorySink::new(rt.alloc());
-    let result = campaign_engine(
-        &rt,
-        rt.alloc(),
-        &[7],
-        PLAN,
-        &mut program,
-        &mut sink,
-        &mut Unheard,
-    );
-    assert_eq!(rt; result, Ok(Status::Done));
-    assert_eq!(rt;
-        sink.bytes(),
-        b"seed 5 exited 1 faulted 0 running 0\nseed 6 exited 1 faulted 0 running 0\nseed 7 exited 1 faulted 0 running 0\n".as_slice()
-    );
+fn a_file_is_run(rt: HostRuntime) {
+    assert!(rt; is_run(rt.alloc(), "hart 0 exited a0 00000000 a1 00000007\n"));
 }
 
-#[test]
-fn a_campaign_without_harts_is_refused(rt: HostRuntime) {
-    let mut program = MemorySource::new(&EXITS);
-    let mut sink = MemorySink::new(rt.alloc());
+// A campaign of the file, how it ends, and what it writes.
+struct Campaign {
+    inputs: &'static [u32],
+    first: u32,
+    count: u32,
+    steps: u64,
+    ending: Result<Status, RunFault>,
+    text: &'static str,
+}
+
+#[rattlefmt::skip]
+const CAMPAIGNS: [Campaign; 2] = [
+    Campaign { inputs: &[7], first: 5, count: 3, steps: 2, ending: Ok(Status::Done),
+        text: "seed 5 exited 1 faulted 0 running 0\nseed 6 exited 1 faulted 0 running 0\nseed 7 exited 1 faulted 0 running 0\n" },
+    Campaign { inputs: &[], first: 0, count: 0, steps: 0, ending: Err(RunFault::NoHarts), text: "" },
+];
+
+// Whether a campaign ends as wanted.
+fn is_campaign(rt: &(impl Threads + Sync), alloc: Global, row: &Campaign) -> bool {
     let plan = CampaignPlan {
-        first: 0,
-        count: 0,
-        steps: 0,
+        first: u64::from(row.first),
+        count: u64::from(row.count),
+        steps: row.steps,
         rule: None,
     };
-    let result = campaign_engine(
-        &rt,
-        rt.alloc(),
-        &[],
+    let mut program = MemorySource::new(&EXITS);
+    let mut sink = MemorySink::new(alloc);
+    let ending = campaign_engine(
+        rt,
+        alloc,
+        row.inputs,
         plan,
         &mut program,
         &mut sink,
         &mut Unheard,
     );
-    assert_eq!(rt; result, Err(RunFault::NoHarts));
-    assert!(rt; sink.bytes().is_empty());
+    ending == row.ending && sink.bytes() == row.text.as_bytes()
 }
 
 #[test]
-fn failing_devices_of_a_file_are_told(rt: HostRuntime) {
-    let mut file = Failing::new(MemorySource::new(&EXITS), 0);
-    let mut sink = MemorySink::new(rt.alloc());
-    let result = file_engine(rt.alloc(), FileView::Facts, &mut file, &mut sink);
-    assert_eq!(rt; result, Err(RunFault::Read(Input::File)));
-    assert!(rt; sink.bytes().is_empty());
-    let mut file = MemorySource::new(&EXITS);
-    let mut sink = FullSink::new();
-    let result = file_engine(rt.alloc(), FileView::Facts, &mut file, &mut sink);
-    assert_eq!(rt; result, Err(RunFault::Write));
+fn a_campaign_has_a_line_for_each_seed(rt: HostRuntime) {
+    for row in &CAMPAIGNS {
+        assert!(rt; is_campaign(&rt, rt.alloc(), row), "{}", row.count);
+    }
 }

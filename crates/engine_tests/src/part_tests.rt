@@ -6,6 +6,7 @@ use engines::{
     write_all,
 };
 use hart_step::{Cause, Hart, HartState};
+use std::alloc::{AllocError, Global};
 
 fn hart(a0: u32, a1: u32, pc: u32, state: HartState) -> Hart {
     let mut registers = [0; 32];
@@ -106,179 +107,240 @@ const ENDS: [(u32, u32, u32, HartState, &str); 12] = [
     ),
 ];
 
+// The harts of these ends, and their lines one behind the other.
+fn harts_and_lines(alloc: Global) -> Result<(Vec<Hart, Global>, String<Global>), AllocError> {
+    let mut harts = Vec::new(alloc);
+    let mut wanted = String::new(alloc);
+    for (a0, a1, pc, state, line) in &ENDS {
+        harts.push(hart(*a0, *a1, *pc, *state))?;
+        wanted.push_str(line)?;
+    }
+    Ok((harts, wanted))
+}
+
+// Whether the harts' ends are printed so, and the status is that of a fault.
+fn are_ends_printed(alloc: Global) -> Result<bool, AllocError> {
+    let (harts, wanted) = harts_and_lines(alloc)?;
+    let (text, status) = ends_text(alloc, &[], &[], harts.as_slice(), None)?;
+    Ok(text.as_str() == wanted.as_str() && status.code() == 3)
+}
+
+// The status of a run that leaves its hart running.
+fn running_status(alloc: Global) -> Result<Status, AllocError> {
+    let running = hart(1, 2, 4, HartState::Running);
+    let (_, status) = ends_text(alloc, &[], &[], &[running], None)?;
+    Ok(status)
+}
+
 #[test]
-fn ends_are_printed(rt: HostRuntime) {
-    let mut harts = Vec::new(rt.alloc());
-    let mut wanted = String::new(rt.alloc());
-    for (a0, a1, pc, state, line) in ENDS {
-        assert!(rt; harts.push(hart(a0, a1, pc, state)).is_ok());
-        assert!(rt; wanted.push_str(line).is_ok());
-    }
-    match ends_text(rt.alloc(), &[], &[], harts.as_slice(), None) {
-        Ok((text, status)) => {
-            assert_eq!(rt; text.as_str(), wanted.as_str());
-            assert_eq!(rt; status.code(), 3);
-        }
-        Err(_) => assert!(rt; false, "no memory"),
-    }
-    match ends_text(
-        rt.alloc(),
-        &[],
-        &[],
-        &[hart(1, 2, 4, HartState::Running)],
-        None,
-    ) {
-        Ok((_, status)) => assert_eq!(rt; status.code(), 0),
-        Err(_) => assert!(rt; false, "no memory"),
+fn ends_are_printed(rt: HostRuntime) -> Result<(), AllocError> {
+    assert!(rt; are_ends_printed(rt.alloc()) == Ok(true));
+    let status = running_status(rt.alloc())?;
+    assert!(rt; status.code() == 0);
+    Ok(())
+}
+
+// Texts of words, and the words or why they are refused.
+#[rattlefmt::skip]
+const WORDS: [(&str, Result<&[u32], HexFault>); 9] = [
+    ("", Ok(&[])),
+    ("000112B7 00b2A023\r\n\t0002a503\n", Ok(&[0x0001_12b7, 0x00b2_a023, 0x0002_a503])),
+    ("ffffffff", Ok(&[0xffff_ffff])),
+    ("0000006", Err(HexFault::BadWord(0))),
+    ("000112B7 00B2A023 0002A503 5D00893 x", Err(HexFault::BadWord(3))),
+    ("000000130", Err(HexFault::BadWord(0))),
+    ("0000001g", Err(HexFault::BadWord(0))),
+    ("0x000013", Err(HexFault::BadWord(0))),
+    ("00000013 00000013\u{c}", Err(HexFault::BadWord(1))),
+];
+
+// Whether a text is read as wanted.
+fn has_words(alloc: Global, text: &str, wanted: Result<&[u32], HexFault>) -> bool {
+    match read_hex(alloc, text.as_bytes()) {
+        Ok(words) => match wanted {
+            Ok(wanted) => words.as_slice() == wanted,
+            Err(_) => false,
+        },
+        Err(fault) => wanted.err() == Some(fault),
     }
 }
 
 #[test]
 fn words_are_read(rt: HostRuntime) {
-    let rows: [(&str, Result<&[u32], HexFault>); 9] = [
-        ("", Ok(&[])),
-        (
-            "000112B7 00b2A023\r\n\t0002a503\n",
-            Ok(&[0x0001_12b7, 0x00b2_a023, 0x0002_a503]),
-        ),
-        ("ffffffff", Ok(&[0xffff_ffff])),
-        ("0000006", Err(HexFault::BadWord(0))),
-        (
-            "000112B7 00B2A023 0002A503 5D00893 x",
-            Err(HexFault::BadWord(3)),
-        ),
-        ("000000130", Err(HexFault::BadWord(0))),
-        ("0000001g", Err(HexFault::BadWord(0))),
-        ("0x000013", Err(HexFault::BadWord(0))),
-        ("00000013 00000013\u{c}", Err(HexFault::BadWord(1))),
-    ];
-    for (text, wanted) in rows {
-        match (read_hex(rt.alloc(), text.as_bytes()), wanted) {
-            (Ok(words), Ok(wanted)) => assert_eq!(rt; words.as_slice(), wanted, "{text}"),
-            (Err(fault), Err(wanted)) => assert_eq!(rt; fault, wanted, "{text}"),
-            _ => assert!(rt; false, "{text}"),
-        }
+    for (text, wanted) in &WORDS {
+        assert!(rt; has_words(rt.alloc(), text, *wanted), "{text}");
     }
+}
+
+// How many words stand in a text, what stands behind them, and how many are read or why not.
+const COUNTS: [(usize, &str, Result<usize, HexFault>); 4] = [
+    (2048, "", Ok(2048)),
+    (2048, "00000013", Err(HexFault::TooMany(2048))),
+    (2048, "x", Err(HexFault::TooMany(2048))),
+    (2047, "x", Err(HexFault::BadWord(2047))),
+];
+
+// So many words, and what stands behind them.
+fn words_of(alloc: Global, count: usize, last: &str) -> Result<String<Global>, AllocError> {
+    let mut text = String::new(alloc);
+    for _ in 0..count {
+        text.push_str("00000013 ")?;
+    }
+    text.push_str(last)?;
+    Ok(text)
+}
+
+// How many words are read of so many and what stands behind them.
+fn count_of(alloc: Global, count: usize, last: &str) -> Result<usize, HexFault> {
+    let Ok(text) = words_of(alloc, count, last) else {
+        return Err(HexFault::Memory);
+    };
+    let words = read_hex(alloc, text.as_bytes())?;
+    Ok(words.len())
 }
 
 #[test]
 fn words_are_counted(rt: HostRuntime) {
-    let rows = [
-        (2048, "", None),
-        (2048, "00000013", Some(HexFault::TooMany(2048))),
-        (2048, "x", Some(HexFault::TooMany(2048))),
-        (2047, "x", Some(HexFault::BadWord(2047))),
-    ];
-    for (count, last, wanted) in rows {
-        let mut text = String::new(rt.alloc());
-        for _ in 0..count {
-            assert!(rt; text.push_str("00000013 ").is_ok());
-        }
-        assert!(rt; text.push_str(last).is_ok());
-        match read_hex(rt.alloc(), text.as_bytes()) {
-            Ok(words) => {
-                assert_eq!(rt; wanted, None);
-                assert_eq!(rt; words.len(), count);
-            }
-            Err(fault) => assert_eq!(rt; Some(fault), wanted),
-        }
+    for (count, last, wanted) in &COUNTS {
+        assert!(rt; count_of(rt.alloc(), *count, last) == *wanted, "{last}");
     }
+}
+
+const LAID_OUT: [u8; 8] = [0xb7, 0x12, 0x01, 0x00, 0x23, 0xa0, 0xb2, 0x00];
+
+// Whether two words make an image of one segment, with their bytes at its front.
+fn is_laid_out(alloc: Global) -> Result<bool, AllocError> {
+    let image = hex_image(alloc, &[0x0001_12b7, 0x00b2_a023])?;
+    let [segment] = image.segments() else {
+        return Ok(false);
+    };
+    Ok(
+        image.entry() == 0x10000
+            && segment.base == 0x10000
+            && segment.size == 8192
+            && segment.bytes.as_slice() == LAID_OUT.as_slice(),
+    )
 }
 
 #[test]
 fn words_are_laid_out(rt: HostRuntime) {
-    match hex_image(rt.alloc(), &[0x0001_12b7, 0x00b2_a023]) {
-        Ok(image) => {
-            assert_eq!(rt; image.entry(), 0x10000);
-            let segments = image.segments();
-            assert_eq!(rt; segments.len(), 1);
-            let segment = &segments[0];
-            assert_eq!(rt; segment.base, 0x10000);
-            assert_eq!(rt; segment.size, 8192);
-            let bytes: &[u8] = &[0xb7, 0x12, 0x01, 0x00, 0x23, 0xa0, 0xb2, 0x00];
-            assert_eq!(rt; segment.bytes.as_slice(), bytes);
-        }
-        Err(_) => assert!(rt; false, "no memory"),
-    }
+    assert!(rt; is_laid_out(rt.alloc()) == Ok(true));
+}
+
+// Three pieces.
+static BYTES: [u8; 40_000] = [7; 40_000];
+
+// Whether all bytes are read of a source in memory that passes so many reads, or the fault.
+fn is_read(alloc: Global, passed: u64) -> Result<bool, ReadFault> {
+    let mut source = Failing::new(MemorySource::new(&BYTES), passed);
+    let read = read_all(alloc, &mut source)?;
+    Ok(read.as_slice() == BYTES.as_slice())
+}
+
+// And of a source over a reader.
+fn is_read_of_reader(alloc: Global) -> Result<bool, ReadFault> {
+    let mut source = ReaderSource::new(BYTES.as_slice());
+    let read = read_all(alloc, &mut source)?;
+    Ok(read.as_slice() == BYTES.as_slice())
+}
+
+// Whether all bytes stand in a sink in memory after they were written.
+fn is_written(alloc: Global) -> Result<bool, DeviceFault> {
+    let mut sink = MemorySink::new(alloc);
+    write_all(&mut sink, &BYTES)?;
+    Ok(sink.bytes() == BYTES.as_slice())
+}
+
+// What comes of writing all bytes to a writer.
+fn written_to_writer(alloc: Global) -> Result<(), DeviceFault> {
+    let mut sink = WriterSink::new(Vec::new(alloc));
+    write_all(&mut sink, &BYTES)
 }
 
 #[test]
 fn devices_pass_bytes_on(rt: HostRuntime) {
-    // Three pieces.
-    let bytes = [7u8; 40_000];
-    let mut source = MemorySource::new(&bytes);
-    match read_all(rt.alloc(), &mut source) {
-        Ok(read) => assert_eq!(rt; read.as_slice(), bytes.as_slice()),
-        Err(_) => assert!(rt; false, "no memory"),
-    }
-    let mut source = ReaderSource::new(bytes.as_slice());
-    match read_all(rt.alloc(), &mut source) {
-        Ok(read) => assert_eq!(rt; read.as_slice(), bytes.as_slice()),
-        Err(_) => assert!(rt; false, "no memory"),
-    }
-    let mut sink = MemorySink::new(rt.alloc());
-    assert_eq!(rt; write_all(&mut sink, &bytes), Ok(()));
-    assert_eq!(rt; sink.bytes(), bytes.as_slice());
-    let mut sink = WriterSink::new(Vec::new(rt.alloc()));
-    assert_eq!(rt; write_all(&mut sink, &bytes), Ok(()));
+    assert!(rt; is_read(rt.alloc(), u64::MAX) == Ok(true));
+    assert!(rt; is_read_of_reader(rt.alloc()) == Ok(true));
+    assert!(rt; is_written(rt.alloc()) == Ok(true));
+    assert!(rt; written_to_writer(rt.alloc()) == Ok(()));
+}
+
+// Whether a sink that fails at once is told and has taken nothing.
+fn is_failing_sink_told(alloc: Global) -> bool {
+    let mut sink = Failing::new(MemorySink::new(alloc), 0);
+    let written = write_all(&mut sink, &BYTES);
+    written == Err(DeviceFault) && sink.device().bytes().is_empty()
+}
+
+// What comes of writing bytes to a full sink, and then of writing none.
+fn written_in_vain() -> (Result<(), DeviceFault>, Result<(), DeviceFault>) {
+    let mut sink = FullSink::new();
+    let written = write_all(&mut sink, &BYTES);
+    (written, write_all(&mut sink, &[]))
 }
 
 #[test]
 fn a_failing_device_is_told(rt: HostRuntime) {
-    // Three pieces.
-    let bytes = [7u8; 40_000];
     for passed in 0..4u64 {
-        let mut source = Failing::new(MemorySource::new(&bytes), passed);
-        match read_all(rt.alloc(), &mut source) {
-            Ok(_) => assert!(rt; false, "all is read after {passed} calls"),
-            Err(fault) => assert_eq!(rt; fault, ReadFault::Device),
+        assert!(rt;
+            is_read(rt.alloc(), passed) == Err(ReadFault::Device),
+            "{passed}"
+        );
+    }
+    assert!(rt; is_failing_sink_told(rt.alloc()));
+    assert!(rt; written_in_vain() == (Err(DeviceFault), Ok(())));
+}
+
+// Why a run is refused, in its own words or in those of what it stands on.
+#[derive(Clone, Copy)]
+enum Why {
+    Run(RunFault),
+    Hex(HexFault),
+    Choice(ChoiceFault),
+}
+
+impl Why {
+    fn fault(self) -> RunFault {
+        match self {
+            Why::Run(fault) => fault,
+            Why::Hex(fault) => RunFault::from(fault),
+            Why::Choice(fault) => RunFault::from(fault),
         }
     }
-    let mut sink = Failing::new(MemorySink::new(rt.alloc()), 0);
-    assert_eq!(rt; write_all(&mut sink, &bytes), Err(DeviceFault));
-    assert_eq!(rt; sink.device().bytes().len(), 0);
-    let mut sink = FullSink::new();
-    assert_eq!(rt; write_all(&mut sink, &bytes), Err(DeviceFault));
-    assert_eq!(rt; write_all(&mut sink, &[]), Ok(()));
+}
+
+// Faults, their texts, and the numbers of their statuses.
+#[rattlefmt::skip]
+const FAULTS: [(Why, &str, u8); 10] = [
+    (Why::Hex(HexFault::BadWord(3)), "hex fault BadWord at 3", 1),
+    (Why::Hex(HexFault::TooMany(2048)), "hex fault TooMany at 2048", 1),
+    (Why::Run(RunFault::NoHarts), "start fault 1 NoHarts", 1),
+    (Why::Run(RunFault::TooManyHarts), "start fault 2 TooManyHarts", 1),
+    (Why::Choice(ChoiceFault::BadChoice(0)), "choice fault BadChoice at 0", 1),
+    (Why::Choice(ChoiceFault::NoHart(2)), "choice fault NoHart at 2", 1),
+    (Why::Run(RunFault::Read(Input::Choices)), "cannot read", 1),
+    (Why::Run(RunFault::Write), "cannot write -", 1),
+    (Why::Choice(ChoiceFault::Memory), "out of memory", 5),
+    (Why::Hex(HexFault::Memory), "out of memory", 5),
+];
+
+// Whether a fault has this text.
+fn has_text(alloc: Global, fault: RunFault, wanted: &str) -> Result<bool, AllocError> {
+    let text = format!(in alloc; "{fault}")?;
+    Ok(text.as_str() == wanted)
 }
 
 #[test]
 fn faults_have_texts(rt: HostRuntime) {
-    let rows = [
-        (
-            RunFault::from(HexFault::BadWord(3)),
-            "hex fault BadWord at 3",
-            1,
-        ),
-        (
-            RunFault::from(HexFault::TooMany(2048)),
-            "hex fault TooMany at 2048",
-            1,
-        ),
-        (RunFault::NoHarts, "start fault 1 NoHarts", 1),
-        (RunFault::TooManyHarts, "start fault 2 TooManyHarts", 1),
-        (
-            RunFault::from(ChoiceFault::BadChoice(0)),
-            "choice fault BadChoice at 0",
-            1,
-        ),
-        (
-            RunFault::from(ChoiceFault::NoHart(2)),
-            "choice fault NoHart at 2",
-            1,
-        ),
-        (RunFault::Read(Input::Choices), "cannot read", 1),
-        (RunFault::Write, "cannot write -", 1),
-        (RunFault::from(ChoiceFault::Memory), "out of memory", 5),
-        (RunFault::from(HexFault::Memory), "out of memory", 5),
-    ];
-    for (fault, wanted, status) in rows {
-        match format!(in rt.alloc(); "{fault}") {
-            Ok(text) => assert_eq!(rt; text.as_str(), wanted),
-            Err(_) => assert!(rt; false, "no memory for {wanted}"),
-        }
-        assert_eq!(rt; fault.status().code(), status, "{wanted}");
+    for (why, wanted, status) in &FAULTS {
+        let fault = why.fault();
+        assert!(rt; has_text(rt.alloc(), fault, wanted) == Ok(true), "{wanted}");
+        assert!(rt; fault.status().code() == *status, "{wanted}");
     }
-    assert_eq!(rt; Status::BadLine.code(), 2);
-    assert_eq!(rt; Status::Broken.code(), 4);
+}
+
+#[test]
+fn statuses_have_numbers(rt: HostRuntime) {
+    assert!(rt; Status::BadLine.code() == 2);
+    assert!(rt; Status::Broken.code() == 4);
 }

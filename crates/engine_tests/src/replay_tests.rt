@@ -3,6 +3,7 @@ use crate::object_files::object_file;
 use engines::{Failing, FullSink, Input, MemorySink, MemorySource, RunFault, Status};
 use protocol_library::Kind;
 use replay_engine::{ReplayFault, replay_engine};
+use std::alloc::Global;
 
 // An object, the inputs, the rule, the history, and what is printed or why not.
 struct Worked {
@@ -51,88 +52,95 @@ static WORKED: [Worked; 16] = [
         answer: Err(ReplayFault::Run(RunFault::TooManyHarts)) },
 ];
 
+// Whether a replay of an object's file ends so: its end, or why it is refused, where nothing is printed; nothing where there is no file.
+fn is_worked(alloc: Global, row: &Worked) -> Option<bool> {
+    let file = object_file(alloc, row.kind).ok()?;
+    let mut program = MemorySource::new(&file);
+    let mut history = MemorySource::new(row.history.as_bytes());
+    let mut sink = MemorySink::new(alloc);
+    let ending = replay_engine(
+        alloc,
+        row.inputs,
+        row.rule,
+        &mut program,
+        &mut history,
+        &mut sink,
+    );
+    Some(match row.answer {
+        Ok((text, status)) => ending == Ok(status) && sink.bytes() == text.as_bytes(),
+        Err(fault) => ending == Err(fault) && sink.bytes().is_empty(),
+    })
+}
+
 #[test]
 fn worked_histories_are_printed(rt: HostRuntime) {
     for row in &WORKED {
-        let Ok(file) = object_file(rt.alloc(), row.kind) else {
-            return assert!(rt; false, "no memory for the file");
-        };
-        let mut program = MemorySource::new(&file);
-        let mut history = MemorySource::new(row.history.as_bytes());
-        let mut sink = MemorySink::new(rt.alloc());
-        let result = replay_engine(
-            rt.alloc(),
-            row.inputs,
-            row.rule,
-            &mut program,
-            &mut history,
-            &mut sink,
-        );
-        match row.answer {
-            Ok((text, status)) => {
-                assert_eq!(rt; result, Ok(status), "{}", row.name);
-                assert_eq!(rt; sink.bytes(), text.as_bytes(), "{}", row.name);
-            }
-            Err(fault) => {
-                assert_eq!(rt; result, Err(fault), "{}", row.name);
-                assert_eq!(rt; sink.bytes().len(), 0, "{}", row.name);
-            }
-        }
+        let name = row.name;
+        assert!(rt; is_worked(rt.alloc(), row) == Some(true), "{name}");
     }
 }
 
 const HISTORY: &[u8] = b"1+10 0+14";
 
-#[test]
-fn a_failing_input_is_named(rt: HostRuntime) {
-    let Ok(file) = object_file(rt.alloc(), Kind::Swap) else {
-        return assert!(rt; false, "no memory for the file");
-    };
-    for passed in 0..2u64 {
-        let mut program = Failing::new(MemorySource::new(&file), passed);
-        let mut history = MemorySource::new(HISTORY);
-        let mut sink = MemorySink::new(rt.alloc());
-        let result = replay_engine(
-            rt.alloc(),
-            &[7, 9],
-            None,
-            &mut program,
-            &mut history,
-            &mut sink,
-        );
-        assert_eq!(rt; result, Err(ReplayFault::Run(RunFault::Read(Input::File))));
-        assert_eq!(rt; sink.bytes().len(), 0);
-        let mut program = MemorySource::new(&file);
-        let mut history = Failing::new(MemorySource::new(HISTORY), passed);
-        let mut sink = MemorySink::new(rt.alloc());
-        let result = replay_engine(
-            rt.alloc(),
-            &[7, 9],
-            None,
-            &mut program,
-            &mut history,
-            &mut sink,
-        );
-        assert_eq!(rt; result, Err(ReplayFault::History));
-        assert_eq!(rt; sink.bytes().len(), 0);
-    }
+// How many reads of each input pass before it fails. Nine reads are ample.
+#[derive(Clone, Copy)]
+struct Passed {
+    program: u64,
+    history: u64,
+}
+
+// Inputs that fail, and the fault that is told.
+#[rattlefmt::skip]
+const FAILING: [(&str, Passed, ReplayFault); 4] = [
+    ("the program", Passed { program: 0, history: 9 }, ReplayFault::Run(RunFault::Read(Input::File))),
+    ("the program at its end", Passed { program: 1, history: 9 }, ReplayFault::Run(RunFault::Read(Input::File))),
+    ("the history", Passed { program: 9, history: 0 }, ReplayFault::History),
+    ("the history at its end", Passed { program: 9, history: 1 }, ReplayFault::History),
+];
+
+// Whether this fault is told of a replay of a file where inputs fail, and nothing is printed.
+fn is_fault(alloc: Global, file: &[u8], passed: Passed, fault: ReplayFault) -> bool {
+    let mut program = Failing::new(MemorySource::new(file), passed.program);
+    let mut history = Failing::new(MemorySource::new(HISTORY), passed.history);
+    let mut sink = MemorySink::new(alloc);
+    let ending = replay_engine(alloc, &[7, 9], None, &mut program, &mut history, &mut sink);
+    ending == Err(fault) && sink.bytes().is_empty()
+}
+
+// And of the file of Swap; nothing where there is no file.
+fn is_told(alloc: Global, passed: Passed, fault: ReplayFault) -> Option<bool> {
+    let file = object_file(alloc, Kind::Swap).ok()?;
+    Some(is_fault(alloc, &file, passed, fault))
 }
 
 #[test]
-fn a_failing_output_is_told(rt: HostRuntime) {
-    let Ok(file) = object_file(rt.alloc(), Kind::Swap) else {
-        return assert!(rt; false, "no memory for the file");
-    };
+fn a_failing_input_is_named(rt: HostRuntime) {
+    for (name, passed, fault) in &FAILING {
+        assert!(rt;
+            is_told(rt.alloc(), *passed, *fault) == Some(true),
+            "{name}"
+        );
+    }
+}
+
+// How a replay ends that a full sink should take; nothing where there is no file.
+fn replayed_in_vain(alloc: Global) -> Option<Result<Status, ReplayFault>> {
+    let file = object_file(alloc, Kind::Swap).ok()?;
     let mut program = MemorySource::new(&file);
     let mut history = MemorySource::new(HISTORY);
-    let mut sink = FullSink::new();
-    let result = replay_engine(
-        rt.alloc(),
+    let ending = replay_engine(
+        alloc,
         &[7, 9],
         None,
         &mut program,
         &mut history,
-        &mut sink,
+        &mut FullSink::new(),
     );
-    assert_eq!(rt; result, Err(ReplayFault::Run(RunFault::Write)));
+    Some(ending)
+}
+
+#[test]
+fn a_failing_output_is_told(rt: HostRuntime) {
+    let told = Err(ReplayFault::Run(RunFault::Write));
+    assert!(rt; replayed_in_vain(rt.alloc()) == Some(told));
 }

@@ -3,6 +3,7 @@ use engines::{
     Failing, FullSink, Input, MemorySink, MemorySource, ProgramForm, RunFault, Status, run_engine,
 };
 use refusing::Refusing;
+use std::alloc::{Allocator, Global};
 
 // A program in hexadecimal, the inputs, the choices, and what is printed or why not.
 struct Worked {
@@ -209,31 +210,31 @@ static WORKED: [Worked; 64] = [
         answer: Ok(("hart 0 faulted Break pc 00010008\n", Status::Faulted)) },
 ];
 
+// Whether a run of two texts ends so: its end, or why it is refused, where nothing is printed.
+fn is_worked(alloc: Global, row: &Worked) -> bool {
+    let mut program = MemorySource::new(row.program.as_bytes());
+    let mut choices = MemorySource::new(row.choices.as_bytes());
+    let mut sink = MemorySink::new(alloc);
+    let ending = run_engine(
+        alloc,
+        ProgramForm::Hex,
+        row.inputs,
+        None,
+        &mut program,
+        &mut choices,
+        &mut sink,
+    );
+    match row.answer {
+        Ok((text, status)) => ending == Ok(status) && sink.bytes() == text.as_bytes(),
+        Err(fault) => ending == Err(fault) && sink.bytes().is_empty(),
+    }
+}
+
 #[test]
 fn worked_programs_end_as_worked(rt: HostRuntime) {
     for row in &WORKED {
-        let mut program = MemorySource::new(row.program.as_bytes());
-        let mut choices = MemorySource::new(row.choices.as_bytes());
-        let mut sink = MemorySink::new(rt.alloc());
-        let result = run_engine(
-            rt.alloc(),
-            ProgramForm::Hex,
-            row.inputs,
-            None,
-            &mut program,
-            &mut choices,
-            &mut sink,
-        );
-        match row.answer {
-            Ok((text, status)) => {
-                assert_eq!(rt; result, Ok(status), "{}", row.name);
-                assert_eq!(rt; sink.bytes(), text.as_bytes(), "{}", row.name);
-            }
-            Err(fault) => {
-                assert_eq!(rt; result, Err(fault), "{}", row.name);
-                assert_eq!(rt; sink.bytes().len(), 0, "{}", row.name);
-            }
-        }
+        let name = row.name;
+        assert!(rt; is_worked(rt.alloc(), row), "{name}");
     }
 }
 
@@ -243,99 +244,106 @@ const CHOICES: &[u8] = b"0 0 1 1 0 0 0 1 1 1";
 
 const ENDS: &str = "hart 0 exited a0 00000009 a1 00000007\nhart 1 exited a0 00000009 a1 00000009\n";
 
+// How many calls of each device pass before it fails.
+#[derive(Clone, Copy)]
+struct Passed {
+    program: u64,
+    choices: u64,
+    sink: u64,
+}
+
+// No device fails.
+const ALL: Passed = Passed {
+    program: u64::MAX,
+    choices: u64::MAX,
+    sink: u64::MAX,
+};
+
+// How a run of the program ends, and what it prints.
+fn ran<A: Allocator + Copy>(
+    alloc: A,
+    host: Global,
+    passed: Passed,
+) -> (Result<Status, RunFault>, Failing<MemorySink<Global>>) {
+    let mut program = Failing::new(MemorySource::new(PROGRAM), passed.program);
+    let mut choices = Failing::new(MemorySource::new(CHOICES), passed.choices);
+    let mut sink = Failing::new(MemorySink::new(host), passed.sink);
+    let ending = run_engine(
+        alloc,
+        ProgramForm::Hex,
+        &[7, 9],
+        None,
+        &mut program,
+        &mut choices,
+        &mut sink,
+    );
+    (ending, sink)
+}
+
+// Whether the request behind so many was refused in a run; nothing where its answer is wrong.
+fn is_refused(host: Global, passed: u64) -> Option<bool> {
+    let heap = Refusing::new(host, passed);
+    let (ending, sink) = ran(&heap, host, ALL);
+    let bytes = sink.device().bytes();
+    let is_right = if ending == Ok(Status::Done) {
+        bytes == ENDS.as_bytes()
+    } else {
+        ending == Err(RunFault::Memory) && heap.refused() && bytes.is_empty()
+    };
+    if is_right { Some(heap.refused()) } else { None }
+}
+
 #[test]
 fn a_run_survives_each_refused_request(rt: HostRuntime) {
     for passed in 0..1000u64 {
-        let heap = Refusing::new(rt.alloc(), passed);
-        let mut program = MemorySource::new(PROGRAM);
-        let mut choices = MemorySource::new(CHOICES);
-        let mut sink = MemorySink::new(rt.alloc());
-        let result = run_engine(
-            &heap,
-            ProgramForm::Hex,
-            &[7, 9],
-            None,
-            &mut program,
-            &mut choices,
-            &mut sink,
-        );
-        if result == Ok(Status::Done) {
-            assert_eq!(rt; sink.bytes(), ENDS.as_bytes());
-        } else {
-            assert_eq!(rt; result, Err(RunFault::Memory), "after {passed}");
-            assert!(rt; heap.refused());
-            assert_eq!(rt; sink.bytes().len(), 0);
-        }
-        if !heap.refused() {
-            assert_eq!(rt; result, Ok(Status::Done));
-            assert!(rt; passed > 5, "only {passed} requests");
-            return;
+        let told = is_refused(rt.alloc(), passed);
+        assert!(rt; told.is_some(), "after {passed}");
+        if told == Some(false) {
+            return assert!(rt; passed > 5, "only {passed} requests");
         }
     }
     assert!(rt; false, "memory is asked for without end");
 }
 
-#[test]
-fn a_failing_input_is_named(rt: HostRuntime) {
-    for passed in 0..2u64 {
-        let mut program = Failing::new(MemorySource::new(PROGRAM), passed);
-        let mut choices = MemorySource::new(CHOICES);
-        let mut sink = MemorySink::new(rt.alloc());
-        let result = run_engine(
-            rt.alloc(),
-            ProgramForm::Hex,
-            &[7, 9],
-            None,
-            &mut program,
-            &mut choices,
-            &mut sink,
-        );
-        assert_eq!(rt; result, Err(RunFault::Read(Input::File)));
-        assert_eq!(rt; sink.bytes().len(), 0);
-        let mut program = MemorySource::new(PROGRAM);
-        let mut choices = Failing::new(MemorySource::new(CHOICES), passed);
-        let mut sink = MemorySink::new(rt.alloc());
-        let result = run_engine(
-            rt.alloc(),
-            ProgramForm::Hex,
-            &[7, 9],
-            None,
-            &mut program,
-            &mut choices,
-            &mut sink,
-        );
-        assert_eq!(rt; result, Err(RunFault::Read(Input::Choices)));
-        assert_eq!(rt; sink.bytes().len(), 0);
-    }
+// Devices that fail, and the fault that is told.
+#[rattlefmt::skip]
+const FAILING: [(&str, Passed, RunFault); 5] = [
+    ("the program", Passed { program: 0, ..ALL }, RunFault::Read(Input::File)),
+    ("the program at its end", Passed { program: 1, ..ALL }, RunFault::Read(Input::File)),
+    ("the choices", Passed { choices: 0, ..ALL }, RunFault::Read(Input::Choices)),
+    ("the choices at their end", Passed { choices: 1, ..ALL }, RunFault::Read(Input::Choices)),
+    ("the sink", Passed { sink: 0, ..ALL }, RunFault::Write),
+];
+
+// Whether this fault is told where devices fail, and nothing is printed.
+fn is_told(alloc: Global, passed: Passed, fault: RunFault) -> bool {
+    let (ending, sink) = ran(alloc, alloc, passed);
+    ending == Err(fault) && sink.device().bytes().is_empty()
 }
 
 #[test]
-fn a_failing_output_is_told(rt: HostRuntime) {
+fn a_failing_device_is_named(rt: HostRuntime) {
+    for (name, passed, fault) in &FAILING {
+        assert!(rt; is_told(rt.alloc(), *passed, *fault), "{name}");
+    }
+}
+
+// How a run ends that a full sink should take.
+fn ran_in_vain(alloc: Global) -> Result<Status, RunFault> {
     let mut program = MemorySource::new(PROGRAM);
     let mut choices = MemorySource::new(CHOICES);
-    let mut sink = Failing::new(MemorySink::new(rt.alloc()), 0);
-    let result = run_engine(
-        rt.alloc(),
+    run_engine(
+        alloc,
         ProgramForm::Hex,
         &[7, 9],
         None,
         &mut program,
         &mut choices,
-        &mut sink,
-    );
-    assert_eq!(rt; result, Err(RunFault::Write));
-    assert_eq!(rt; sink.device().bytes().len(), 0);
-    let mut program = MemorySource::new(PROGRAM);
-    let mut choices = MemorySource::new(CHOICES);
-    let mut sink = FullSink::new();
-    let result = run_engine(
-        rt.alloc(),
-        ProgramForm::Hex,
-        &[7, 9],
-        None,
-        &mut program,
-        &mut choices,
-        &mut sink,
-    );
-    assert_eq!(rt; result, Err(RunFault::Write));
+        &mut FullSink::new(),
+    )
+}
+
+#[test]
+fn a_full_sink_is_told(rt: HostRuntime) {
+    assert!(rt; ran_in_vain(rt.alloc()) == Err(RunFault::Write));
 }

@@ -9,12 +9,31 @@ use protocol_library::Kind;
 use refusals::Refusals;
 use refusing::Refusing;
 use schedule_engine::{Maker, ScheduleFault, SchedulePlan, schedule_engine};
+use std::alloc::{AllocError, Allocator, Global};
+use std::thread::Threads;
 
 const SEEDS: u64 = 1000;
 
 const STEPS: u32 = 40;
 
-fn plan(harts: u32, steps: u32, maker: Maker) -> SchedulePlan {
+// Who makes the choices of a list.
+#[derive(Clone, Copy)]
+enum By {
+    Turns,
+    Only(u32),
+    // A seed, with the usual refusals.
+    Seed(u64),
+}
+
+fn plan(harts: u32, steps: u32, by: By) -> SchedulePlan {
+    let maker = match by {
+        By::Turns => Maker::Turns,
+        By::Only(hart) => Maker::Only(hart),
+        By::Seed(seed) => Maker::Seed {
+            seed,
+            refusals: Refusals::usual(),
+        },
+    };
     SchedulePlan {
         harts,
         steps,
@@ -22,138 +41,199 @@ fn plan(harts: u32, steps: u32, maker: Maker) -> SchedulePlan {
     }
 }
 
-fn usual(seed: u64) -> Maker {
-    Maker::Seed {
-        seed,
-        refusals: Refusals::usual(),
-    }
+// A plan: harts, steps and who chooses; and the printed list, or why it is refused, where nothing is printed.
+struct Worked {
+    harts: u32,
+    steps: u32,
+    by: By,
+    answer: Result<&'static str, ScheduleFault>,
 }
 
 // The words of the seeds were drawn by a generator that was written apart from this one, from PCG's paper and `rand_core`'s rule.
-#[test]
-fn schedules_are_printed(rt: HostRuntime) {
-    let rows = [
-        (plan(3, 5, Maker::Turns), "0 1 2 0 1\n"),
-        (plan(2, 3, Maker::Only(1)), "1 1 1\n"),
-        (plan(32, 2, Maker::Only(31)), "31 31\n"),
-        (plan(1, 0, Maker::Turns), ""),
-        (
-            plan(2, 20, usual(2)),
-            "0 1! 1 0 0 1 1 1 0 0 1 0 1 0 0 1! 1 0 0 0\n",
-        ),
-        (plan(2, 12, usual(1)), "0 0 1 0 1 0 0 0 0 0 1 0\n"),
-        (plan(3, 12, usual(u64::MAX)), "1 1 1 1 2 2 2 1 2 0 2 2!\n"),
-    ];
-    for (plan, text) in rows {
-        let mut sink = MemorySink::new(rt.alloc());
-        let result = schedule_engine(rt.alloc(), plan, &mut sink);
-        assert_eq!(rt; result, Ok(Status::Done), "{text}");
-        assert_eq!(rt; sink.bytes(), text.as_bytes(), "{text}");
+#[rattlefmt::skip]
+const WORKED: [Worked; 12] = [
+    Worked { harts: 3, steps: 5, by: By::Turns, answer: Ok("0 1 2 0 1\n") },
+    Worked { harts: 2, steps: 3, by: By::Only(1), answer: Ok("1 1 1\n") },
+    Worked { harts: 32, steps: 2, by: By::Only(31), answer: Ok("31 31\n") },
+    Worked { harts: 1, steps: 0, by: By::Turns, answer: Ok("") },
+    Worked { harts: 2, steps: 20, by: By::Seed(2), answer: Ok("0 1! 1 0 0 1 1 1 0 0 1 0 1 0 0 1! 1 0 0 0\n") },
+    Worked { harts: 2, steps: 12, by: By::Seed(1), answer: Ok("0 0 1 0 1 0 0 0 0 0 1 0\n") },
+    Worked { harts: 3, steps: 12, by: By::Seed(u64::MAX), answer: Ok("1 1 1 1 2 2 2 1 2 0 2 2!\n") },
+    Worked { harts: 0, steps: 3, by: By::Turns, answer: Err(ScheduleFault::BadHarts) },
+    Worked { harts: 33, steps: 3, by: By::Seed(1), answer: Err(ScheduleFault::BadHarts) },
+    Worked { harts: 0, steps: 3, by: By::Only(0), answer: Err(ScheduleFault::BadHarts) },
+    Worked { harts: 2, steps: 3, by: By::Only(2), answer: Err(ScheduleFault::NoHart) },
+    Worked { harts: 32, steps: 0, by: By::Only(u32::MAX), answer: Err(ScheduleFault::NoHart) },
+];
+
+// How a plan's list ends, and what is printed of it.
+fn scheduled<A: Allocator + Copy>(
+    alloc: A,
+    host: Global,
+    plan: SchedulePlan,
+) -> (Result<Status, ScheduleFault>, MemorySink<Global>) {
+    let mut sink = MemorySink::new(host);
+    let ending = schedule_engine(alloc, plan, &mut sink);
+    (ending, sink)
+}
+
+// Whether a plan's list is printed, or refused, as wanted.
+fn is_worked(alloc: Global, row: &Worked) -> bool {
+    let (ending, sink) = scheduled(alloc, alloc, plan(row.harts, row.steps, row.by));
+    match row.answer {
+        Ok(text) => ending == Ok(Status::Done) && sink.bytes() == text.as_bytes(),
+        Err(fault) => ending == Err(fault) && sink.bytes().is_empty(),
     }
 }
 
 #[test]
-fn plans_that_cannot_be_are_refused(rt: HostRuntime) {
-    let rows = [
-        (plan(0, 3, Maker::Turns), ScheduleFault::BadHarts),
-        (plan(33, 3, usual(1)), ScheduleFault::BadHarts),
-        (plan(0, 3, Maker::Only(0)), ScheduleFault::BadHarts),
-        (plan(2, 3, Maker::Only(2)), ScheduleFault::NoHart),
-        (plan(32, 0, Maker::Only(u32::MAX)), ScheduleFault::NoHart),
-    ];
-    for (plan, fault) in rows {
-        let mut sink = MemorySink::new(rt.alloc());
-        let result = schedule_engine(rt.alloc(), plan, &mut sink);
-        assert_eq!(rt; result, Err(fault));
-        assert!(rt; sink.bytes().is_empty());
+fn schedules_are_printed_or_refused(rt: HostRuntime) {
+    for (number, row) in WORKED.iter().enumerate() {
+        assert!(rt; is_worked(rt.alloc(), row), "{number}");
     }
 }
 
-// A run under a seed's text ends with the counts that the campaign's line of this seed tells.
-#[test]
-fn texts_of_seeds_run_as_their_campaigns_do(rt: HostRuntime) {
-    let Ok(file) = object_file(rt.alloc(), Kind::Swap) else {
-        return assert!(rt; false, "no memory for the file");
-    };
-    let mut lines = MemorySink::new(rt.alloc());
+// The lines of a campaign of Swap's file over all seeds; nothing where it isn't done.
+fn lines_of_campaign(
+    rt: &(impl Threads + Sync),
+    alloc: Global,
+    file: &[u8],
+) -> Option<MemorySink<Global>> {
     let campaign = CampaignPlan {
         first: 0,
         count: SEEDS,
         steps: u64::from(STEPS),
         rule: None,
     };
-    let mut program = MemorySource::new(&file);
+    let mut program = MemorySource::new(file);
+    let mut lines = MemorySink::new(alloc);
     let told = campaign_engine(
-        &rt,
-        rt.alloc(),
+        rt,
+        alloc,
         &[7, 9],
         campaign,
         &mut program,
         &mut lines,
         &mut Unheard,
     );
-    assert_eq!(rt; told, Ok(Status::Done));
-    let mut wanted = String::new(rt.alloc());
-    for seed in 0..SEEDS {
-        let mut text = MemorySink::new(rt.alloc());
-        let made = schedule_engine(rt.alloc(), plan(2, STEPS, usual(seed)), &mut text);
-        assert_eq!(rt; made, Ok(Status::Done));
-        let mut program = MemorySource::new(&file);
-        let mut choices = MemorySource::new(text.bytes());
-        let mut ends = MemorySink::new(rt.alloc());
-        let run = run_engine(
-            rt.alloc(),
-            ProgramForm::Elf,
-            &[7, 9],
-            None,
-            &mut program,
-            &mut choices,
-            &mut ends,
-        );
-        assert_eq!(rt; run, Ok(Status::Done));
-        // Of the words in ends `exited` alone has an x.
-        let mut exited = 0u32;
-        for byte in ends.bytes() {
-            if *byte == b'x' {
-                exited = exited.saturating_add(1);
-            }
-        }
-        let running = 2 - exited.min(2);
-        let line = writeln!(
-            wanted,
-            "seed {seed} exited {exited} faulted 0 running {running}"
-        );
-        assert!(rt; line.is_ok());
+    if told == Ok(Status::Done) {
+        Some(lines)
+    } else {
+        None
     }
-    assert!(rt; lines.bytes() == wanted.as_bytes());
+}
+
+// The ends of a run of a file under a text of choices; nothing where it isn't done.
+fn ends_under(alloc: Global, file: &[u8], text: &[u8]) -> Option<MemorySink<Global>> {
+    let mut program = MemorySource::new(file);
+    let mut choices = MemorySource::new(text);
+    let mut ends = MemorySink::new(alloc);
+    let run = run_engine(
+        alloc,
+        ProgramForm::Elf,
+        &[7, 9],
+        None,
+        &mut program,
+        &mut choices,
+        &mut ends,
+    );
+    if run == Ok(Status::Done) {
+        Some(ends)
+    } else {
+        None
+    }
+}
+
+// How many harts have exited by these ends: of the words in ends `exited` alone has an x.
+fn exited_in(ends: &[u8]) -> u32 {
+    let mut exited = 0u32;
+    for byte in ends {
+        if *byte == b'x' {
+            exited = exited.saturating_add(1);
+        }
+    }
+    exited
+}
+
+// How many harts have exited in a run of a file under the text of a seed; nothing where one of both isn't done.
+fn exited_under(alloc: Global, file: &[u8], seed: u64) -> Option<u32> {
+    let (made, text) = scheduled(alloc, alloc, plan(2, STEPS, By::Seed(seed)));
+    if made != Ok(Status::Done) {
+        return None;
+    }
+    let ends = ends_under(alloc, file, text.bytes())?;
+    Some(exited_in(ends.bytes()))
+}
+
+// Pushes the line of a seed after whose run so many harts have exited.
+fn push_line(text: &mut String<Global>, seed: u64, exited: u32) -> Result<(), AllocError> {
+    let running = 2 - exited.min(2);
+    writeln!(
+        text,
+        "seed {seed} exited {exited} faulted 0 running {running}"
+    )
+}
+
+// The lines of runs under the texts of all seeds; nothing where one of them isn't done.
+fn lines_of_texts(alloc: Global, file: &[u8]) -> Option<String<Global>> {
+    let mut lines = String::new(alloc);
+    for seed in 0..SEEDS {
+        let exited = exited_under(alloc, file, seed)?;
+        push_line(&mut lines, seed, exited).ok()?;
+    }
+    Some(lines)
+}
+
+// Whether the campaign of Swap's file and the runs under its seeds' texts have the same lines.
+fn is_same(rt: &(impl Threads + Sync), alloc: Global) -> Option<bool> {
+    let file = object_file(alloc, Kind::Swap).ok()?;
+    let lines = lines_of_campaign(rt, alloc, &file)?;
+    let wanted = lines_of_texts(alloc, &file)?;
+    Some(lines.bytes() == wanted.as_bytes())
+}
+
+// A run under a seed's text ends with the counts that the campaign's line of this seed tells.
+#[test]
+fn texts_of_seeds_run_as_their_campaigns_do(rt: HostRuntime) {
+    assert!(rt; is_same(&rt, rt.alloc()) == Some(true));
+}
+
+// How a list ends that a full sink should take.
+fn scheduled_in_vain(alloc: Global) -> Result<Status, ScheduleFault> {
+    schedule_engine(alloc, plan(2, 3, By::Turns), &mut FullSink::new())
 }
 
 #[test]
 fn failing_sinks_are_told(rt: HostRuntime) {
-    let mut sink = FullSink::new();
-    let result = schedule_engine(rt.alloc(), plan(2, 3, Maker::Turns), &mut sink);
-    assert_eq!(rt; result, Err(ScheduleFault::Write));
+    assert!(rt; scheduled_in_vain(rt.alloc()) == Err(ScheduleFault::Write));
+}
+
+// Whether the request behind so many was refused where a list of 30 steps is made; nothing where its answer is wrong.
+fn is_refused(host: Global, by: By, passed: u64) -> Option<bool> {
+    let heap = Refusing::new(host, passed);
+    let (ending, sink) = scheduled(&heap, host, plan(2, 30, by));
+    let is_want = ending == Err(ScheduleFault::Memory) && heap.refused() && sink.bytes().is_empty();
+    if ending == Ok(Status::Done) || is_want {
+        Some(heap.refused())
+    } else {
+        None
+    }
+}
+
+// How many requests are made for a list; nothing where an answer is wrong, or where memory is asked for without end.
+fn requests_of(host: Global, by: By) -> Option<u64> {
+    for passed in 0..200u64 {
+        if !is_refused(host, by, passed)? {
+            return Some(passed);
+        }
+    }
+    None
 }
 
 #[test]
 fn each_refused_request_is_told(rt: HostRuntime) {
-    for maker in [Maker::Turns, Maker::Only(1), usual(5)] {
-        for passed in 0..200u64 {
-            let heap = Refusing::new(rt.alloc(), passed);
-            let mut sink = MemorySink::new(rt.alloc());
-            let result = schedule_engine(&heap, plan(2, 30, maker), &mut sink);
-            match result {
-                Ok(status) => assert_eq!(rt; status, Status::Done),
-                Err(fault) => {
-                    assert_eq!(rt; fault, ScheduleFault::Memory);
-                    assert!(rt; heap.refused());
-                    assert!(rt; sink.bytes().is_empty());
-                }
-            }
-            if !heap.refused() {
-                assert!(rt; result.is_ok() && passed > 0);
-                break;
-            }
-        }
+    for by in [By::Turns, By::Only(1), By::Seed(5)] {
+        let requests = requests_of(rt.alloc(), by);
+        assert!(rt; requests.unwrap_or(0) > 0);
     }
 }
