@@ -15,7 +15,7 @@ use schedule_engine::{Maker, ScheduleFault, SchedulePlan, schedule_engine};
 use std::alloc::{AllocError, Allocator, Global};
 
 // A call.
-#[derive(Clone, Copy, Debug)]
+#[derive(Clone, Copy)]
 enum EngineCall {
     Run,
     List,
@@ -33,25 +33,23 @@ enum EngineCall {
     ReadPlan,
 }
 
-impl EngineCall {
-    // All of them.
-    const ALL: [EngineCall; 14] = [
-        EngineCall::Run,
-        EngineCall::List,
-        EngineCall::Info,
-        EngineCall::Replay,
-        EngineCall::Debug,
-        EngineCall::Schedule,
-        EngineCall::AssembledFile,
-        EngineCall::AssembledListing,
-        EngineCall::EndsText,
-        EngineCall::ReadAll,
-        EngineCall::ReadHex,
-        EngineCall::HexImage,
-        EngineCall::ReadInputs,
-        EngineCall::ReadPlan,
-    ];
-}
+// All of them.
+const CALLS: [(&str, EngineCall); 14] = [
+    ("run", EngineCall::Run),
+    ("list", EngineCall::List),
+    ("info", EngineCall::Info),
+    ("replay", EngineCall::Replay),
+    ("debug", EngineCall::Debug),
+    ("schedule", EngineCall::Schedule),
+    ("assembled file", EngineCall::AssembledFile),
+    ("assembled listing", EngineCall::AssembledListing),
+    ("ends_text", EngineCall::EndsText),
+    ("read_all", EngineCall::ReadAll),
+    ("read_hex", EngineCall::ReadHex),
+    ("hex_image", EngineCall::HexImage),
+    ("read_inputs", EngineCall::ReadInputs),
+    ("read_plan", EngineCall::ReadPlan),
+];
 
 impl Call for EngineCall {
     fn answer<A: Allocator + Copy>(&self, alloc: A, host: Global) -> Result<bool, AllocError> {
@@ -67,10 +65,7 @@ impl Call for EngineCall {
             EngineCall::EndsText => has_ends(alloc),
             EngineCall::ReadAll => is_read(alloc),
             EngineCall::ReadHex => is_hex(alloc),
-            EngineCall::HexImage => {
-                let image = hex_image(alloc, &[19; 20])?;
-                Ok(image.segments().len() == 1)
-            }
+            EngineCall::HexImage => is_image(alloc),
             EngineCall::ReadInputs => has_inputs(alloc),
             EngineCall::ReadPlan => has_plan(alloc),
         }
@@ -100,12 +95,28 @@ const COMMANDS: &str = "where\ngo\nsteps 0 1\nregs 9\nback\nquit\n";
 const ANSWERS: &str =
     "step 0 of 2\nend\nstep 2 of 2\n0 h0 00010000 addi a7, zero, 93\nbad command\nstep 1 of 2\n";
 
-// What an engine wrote where it was refused memory: nothing.
-fn refused_before<A: Allocator>(sink: &MemorySink<A>) -> Result<bool, AllocError> {
-    if sink.bytes().is_empty() {
-        Err(AllocError)
-    } else {
-        Ok(false)
+// How an engine that was called ended: with its full answer or without, or for want of memory.
+#[derive(Clone, Copy)]
+enum End {
+    Done,
+    Other,
+    Want,
+}
+
+// Whether an engine gave its full answer, this text; or it told want of memory and wrote nothing.
+fn answer_of(end: End, bytes: &[u8], text: &str) -> Result<bool, AllocError> {
+    match end {
+        End::Done => Ok(bytes == text.as_bytes()),
+        End::Want if bytes.is_empty() => Err(AllocError),
+        _ => Ok(false),
+    }
+}
+
+fn end_of_run(ending: Result<Status, RunFault>) -> End {
+    match ending {
+        Ok(Status::Done) => End::Done,
+        Err(RunFault::Memory) => End::Want,
+        _ => End::Other,
     }
 }
 
@@ -113,7 +124,7 @@ fn is_run<A: Allocator + Copy>(alloc: A, host: Global) -> Result<bool, AllocErro
     let mut program = MemorySource::new(&EXITS);
     let mut choices = MemorySource::new(b"0 0");
     let mut sink = MemorySink::new(host);
-    let result = run_engine(
+    let ending = run_engine(
         alloc,
         ProgramForm::Elf,
         &[7, 9],
@@ -122,11 +133,7 @@ fn is_run<A: Allocator + Copy>(alloc: A, host: Global) -> Result<bool, AllocErro
         &mut choices,
         &mut sink,
     );
-    match result {
-        Ok(status) => Ok(status == Status::Done && sink.bytes() == ENDS.as_bytes()),
-        Err(RunFault::Memory) => refused_before(&sink),
-        Err(_) => Ok(false),
-    }
+    answer_of(end_of_run(ending), sink.bytes(), ENDS)
 }
 
 fn is_shown<A: Allocator + Copy>(
@@ -137,10 +144,15 @@ fn is_shown<A: Allocator + Copy>(
 ) -> Result<bool, AllocError> {
     let mut file = MemorySource::new(&EXITS);
     let mut sink = MemorySink::new(host);
-    match file_engine(alloc, view, &mut file, &mut sink) {
-        Ok(status) => Ok(status == Status::Done && sink.bytes() == text.as_bytes()),
-        Err(RunFault::Memory) => refused_before(&sink),
-        Err(_) => Ok(false),
+    let ending = file_engine(alloc, view, &mut file, &mut sink);
+    answer_of(end_of_run(ending), sink.bytes(), text)
+}
+
+fn end_of_replay(ending: Result<Status, ReplayFault>) -> End {
+    match ending {
+        Ok(Status::Done) => End::Done,
+        Err(ReplayFault::Run(RunFault::Memory)) => End::Want,
+        _ => End::Other,
     }
 }
 
@@ -148,21 +160,29 @@ fn is_replayed<A: Allocator + Copy>(alloc: A, host: Global) -> Result<bool, Allo
     let mut program = MemorySource::new(&EXITS);
     let mut history = MemorySource::new(b"0+1");
     let mut sink = MemorySink::new(host);
-    let result = replay_engine(alloc, &[7, 9], None, &mut program, &mut history, &mut sink);
-    match result {
-        Ok(status) => Ok(status == Status::Done && sink.bytes() == ENDS.as_bytes()),
-        Err(ReplayFault::Run(RunFault::Memory)) => refused_before(&sink),
+    let ending = replay_engine(alloc, &[7, 9], None, &mut program, &mut history, &mut sink);
+    answer_of(end_of_replay(ending), sink.bytes(), ENDS)
+}
+
+// Lines are answered as they come, so that a beginning of the answers may be written.
+fn answer_of_session(
+    ending: Result<Status, DebugEngineFault>,
+    bytes: &[u8],
+) -> Result<bool, AllocError> {
+    match ending {
+        Ok(status) => Ok(status == Status::Done && bytes == ANSWERS.as_bytes()),
+        Err(DebugEngineFault::Refused(RunFault::Memory)) if bytes.is_empty() => Err(AllocError),
+        Err(DebugEngineFault::Memory) if ANSWERS.as_bytes().starts_with(bytes) => Err(AllocError),
         Err(_) => Ok(false),
     }
 }
 
-// Lines are answered as they come, so that a beginning of the answers may be written.
 fn is_debugged<A: Allocator + Copy>(alloc: A, host: Global) -> Result<bool, AllocError> {
     let mut program = MemorySource::new(&EXITS);
     let mut choices = MemorySource::new(b"0 0");
     let mut commands = MemorySource::new(COMMANDS.as_bytes());
     let mut sink = MemorySink::new(host);
-    let result = debug_engine(
+    let ending = debug_engine(
         alloc,
         &[7, 9],
         &mut program,
@@ -171,13 +191,14 @@ fn is_debugged<A: Allocator + Copy>(alloc: A, host: Global) -> Result<bool, Allo
         &mut sink,
         &mut Unheard,
     );
-    match result {
-        Ok(status) => Ok(status == Status::Done && sink.bytes() == ANSWERS.as_bytes()),
-        Err(DebugEngineFault::Refused(RunFault::Memory)) => refused_before(&sink),
-        Err(DebugEngineFault::Memory) if ANSWERS.as_bytes().starts_with(sink.bytes()) => Err(
-            AllocError,
-        ),
-        Err(_) => Ok(false),
+    answer_of_session(ending, sink.bytes())
+}
+
+fn end_of_schedule(ending: Result<Status, ScheduleFault>) -> End {
+    match ending {
+        Ok(Status::Done) => End::Done,
+        Err(ScheduleFault::Memory) => End::Want,
+        _ => End::Other,
     }
 }
 
@@ -191,14 +212,12 @@ fn is_scheduled<A: Allocator + Copy>(alloc: A, host: Global) -> Result<bool, All
         },
     };
     let mut sink = MemorySink::new(host);
-    match schedule_engine(alloc, plan, &mut sink) {
-        Ok(status) => {
-            let text = "0 0 1 0 1 0 0 0 0 0 1 0\n";
-            Ok(status == Status::Done && sink.bytes() == text.as_bytes())
-        }
-        Err(ScheduleFault::Memory) => refused_before(&sink),
-        Err(_) => Ok(false),
-    }
+    let ending = schedule_engine(alloc, plan, &mut sink);
+    answer_of(
+        end_of_schedule(ending),
+        sink.bytes(),
+        "0 0 1 0 1 0 0 0 0 0 1 0\n",
+    )
 }
 
 fn is_assembled<A: Allocator + Copy>(alloc: A) -> Result<bool, AllocError> {
@@ -210,17 +229,23 @@ fn is_assembled<A: Allocator + Copy>(alloc: A) -> Result<bool, AllocError> {
     }
 }
 
+fn end_of_listing(ending: Result<Status, AssemblyFault>) -> End {
+    match ending {
+        Ok(Status::Done) => End::Done,
+        Err(AssemblyFault::Memory) => End::Want,
+        _ => End::Other,
+    }
+}
+
 fn is_listed<A: Allocator + Copy>(alloc: A, host: Global) -> Result<bool, AllocError> {
     let mut sources = [MemorySource::new(b"ecall")];
     let mut sink = MemorySink::new(host);
-    match listing_engine(alloc, &mut sources, &mut sink) {
-        Ok(status) => {
-            let line = "ecall  # 00010000 00000073\n";
-            Ok(status == Status::Done && sink.bytes() == line.as_bytes())
-        }
-        Err(AssemblyFault::Memory) => refused_before(&sink),
-        Err(_) => Ok(false),
-    }
+    let ending = listing_engine(alloc, &mut sources, &mut sink);
+    answer_of(
+        end_of_listing(ending),
+        sink.bytes(),
+        "ecall  # 00010000 00000073\n",
+    )
 }
 
 fn has_ends<A: Allocator + Copy>(alloc: A) -> Result<bool, AllocError> {
@@ -231,6 +256,11 @@ fn has_ends<A: Allocator + Copy>(alloc: A) -> Result<bool, AllocError> {
     };
     let (text, status) = ends_text(alloc, &[], &[], &[hart], None)?;
     Ok(status == Status::Done && text.as_str() == "hart 0 running pc 00010000\n")
+}
+
+fn is_image<A: Allocator + Copy>(alloc: A) -> Result<bool, AllocError> {
+    let image = hex_image(alloc, &[19; 20])?;
+    Ok(image.segments().len() == 1)
 }
 
 fn is_read<A: Allocator + Copy>(alloc: A) -> Result<bool, AllocError> {
@@ -268,7 +298,7 @@ fn has_plan<A: Allocator + Copy>(alloc: A) -> Result<bool, AllocError> {
 
 #[test]
 fn engines_tell_want_of_memory(rt: HostRuntime) {
-    for call in EngineCall::ALL {
-        assert_eq!(rt; tried(rt.alloc(), &call), Ok(()), "{call:?}");
+    for (name, call) in &CALLS {
+        assert!(rt; tried(rt.alloc(), call) == Ok(()), "{name}");
     }
 }

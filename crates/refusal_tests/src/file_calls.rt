@@ -8,7 +8,7 @@ use refusing::{Call, tried};
 use std::alloc::{AllocError, Allocator, Global};
 
 // A call.
-#[derive(Clone, Copy, Debug)]
+#[derive(Clone, Copy)]
 enum FileCall {
     Load,
     Symbols,
@@ -22,21 +22,19 @@ enum FileCall {
     StoreIntoPage,
 }
 
-impl FileCall {
-    // All of them.
-    const ALL: [FileCall; 10] = [
-        FileCall::Load,
-        FileCall::Symbols,
-        FileCall::NewImage,
-        FileCall::LineOf,
-        FileCall::ListImage,
-        FileCall::NewCode,
-        FileCall::NewFlatStore,
-        FileCall::CopyFlatStore,
-        FileCall::NewPageStore,
-        FileCall::StoreIntoPage,
-    ];
-}
+// All of them.
+const CALLS: [(&str, FileCall); 10] = [
+    ("load", FileCall::Load),
+    ("symbols", FileCall::Symbols),
+    ("new image", FileCall::NewImage),
+    ("line_of", FileCall::LineOf),
+    ("list_image", FileCall::ListImage),
+    ("new code", FileCall::NewCode),
+    ("new flat store", FileCall::NewFlatStore),
+    ("copy of a flat store", FileCall::CopyFlatStore),
+    ("new page store", FileCall::NewPageStore),
+    ("store into a page", FileCall::StoreIntoPage),
+];
 
 // A file of 232 bytes: one segment with `ecall`, a symbol table with one symbol, and its names.
 const WORDS: [u32; 58] = [
@@ -113,24 +111,10 @@ impl Call for FileCall {
         match self {
             FileCall::Load => is_loaded(alloc),
             FileCall::Symbols => has_symbols(alloc),
-            FileCall::NewImage => {
-                let image = image_of(alloc)?;
-                Ok(image.segments().len() == 2)
-            }
-            FileCall::LineOf => {
-                let line = line_of(alloc, 0x0001_0018, 0x0003_8a63)?;
-                Ok(line.as_str() == "beq t2, zero, 0x0001002c")
-            }
-            FileCall::ListImage => {
-                let image = image_of(alloc)?;
-                let text = list_image(alloc, &image)?;
-                Ok(text.as_str() == "# segment 00010000 4\necall  # 00010000 00000073\n")
-            }
-            FileCall::NewCode => {
-                let image = image_of(alloc)?;
-                let code = Code::new(alloc, &image)?;
-                Ok(code.segments().len() == 1)
-            }
+            FileCall::NewImage => is_image(alloc),
+            FileCall::LineOf => is_line(alloc),
+            FileCall::ListImage => is_listed(alloc),
+            FileCall::NewCode => is_code(alloc),
             FileCall::NewFlatStore => is_flat(alloc),
             FileCall::CopyFlatStore => is_copied(alloc),
             FileCall::NewPageStore => is_paged(alloc),
@@ -157,25 +141,53 @@ fn has_symbols<A: Allocator + Copy>(alloc: A) -> Result<bool, AllocError> {
     }
 }
 
+// A segment of four bytes.
+fn segment_of<A: Allocator + Copy>(
+    alloc: A,
+    base: u32,
+    flags: u32,
+    bytes: &[u8],
+) -> Result<Segment<A>, AllocError> {
+    let bytes = Vec::from_slice(alloc, bytes)?;
+    Ok(Segment {
+        base,
+        size: 4,
+        rights: Rights::of_flags(flags),
+        bytes,
+    })
+}
+
 // `ecall` at 0x10000, and four bytes that may be written at 0x11000.
 fn image_of<A: Allocator + Copy>(alloc: A) -> Result<Image<A>, AllocError> {
     let mut segments = Vec::new(alloc);
-    segments.push(Segment {
-        base: 0x0001_0000,
-        size: 4,
-        rights: Rights::of_flags(5),
-        bytes: Vec::from_slice(alloc, &[0x73, 0, 0, 0])?,
-    })?;
-    segments.push(Segment {
-        base: 0x0001_1000,
-        size: 4,
-        rights: Rights::of_flags(6),
-        bytes: Vec::from_slice(alloc, &[1])?,
-    })?;
+    segments.push(segment_of(alloc, 0x0001_0000, 5, &[0x73, 0, 0, 0])?)?;
+    segments.push(segment_of(alloc, 0x0001_1000, 6, &[1])?)?;
     match Image::new(alloc, 0x0001_0000, segments) {
         Ok(image) => Ok(image),
         Err(_) => Err(AllocError),
     }
+}
+
+fn is_image<A: Allocator + Copy>(alloc: A) -> Result<bool, AllocError> {
+    let image = image_of(alloc)?;
+    Ok(image.segments().len() == 2)
+}
+
+fn is_line<A: Allocator + Copy>(alloc: A) -> Result<bool, AllocError> {
+    let line = line_of(alloc, 0x0001_0018, 0x0003_8a63)?;
+    Ok(line.as_str() == "beq t2, zero, 0x0001002c")
+}
+
+fn is_listed<A: Allocator + Copy>(alloc: A) -> Result<bool, AllocError> {
+    let image = image_of(alloc)?;
+    let text = list_image(alloc, &image)?;
+    Ok(text.as_str() == "# segment 00010000 4\necall  # 00010000 00000073\n")
+}
+
+fn is_code<A: Allocator + Copy>(alloc: A) -> Result<bool, AllocError> {
+    let image = image_of(alloc)?;
+    let code = Code::new(alloc, &image)?;
+    Ok(code.segments().len() == 1)
 }
 
 // Whether a memory has the image's words.
@@ -202,24 +214,31 @@ fn is_paged<A: Allocator + Copy>(alloc: A) -> Result<bool, AllocError> {
     Ok(has_words(&store))
 }
 
-// A copy, and a store into a page that it shares. Where the store is refused, neither has changed.
+// Whether a store into a page that a copy shares was answered: where it is refused, neither has changed.
+fn answer_of_store<S: Store>(
+    stored: Result<(), StoreFault>,
+    store: &S,
+    copy: &S,
+) -> Result<bool, AllocError> {
+    match stored {
+        Ok(()) => Ok(has_words(copy) && store.load32(0x0001_1000) == Ok(7)),
+        Err(StoreFault::Memory) if has_words(copy) && has_words(store) => Err(AllocError),
+        Err(_) => Ok(false),
+    }
+}
+
+// A copy, and a store into a page that it shares.
 fn is_stored<A: Allocator + Copy>(alloc: A) -> Result<bool, AllocError> {
     let image = image_of(alloc)?;
     let mut store = PageStore::from_image(alloc, &image)?;
     let copy = store.copy(alloc)?;
     let stored = store.store32(0x0001_1000, 7);
-    if stored == Ok(()) {
-        return Ok(has_words(&copy) && store.load32(0x0001_1000) == Ok(7));
-    }
-    if stored == Err(StoreFault::Memory) && has_words(&copy) && has_words(&store) {
-        return Err(AllocError);
-    }
-    Ok(false)
+    answer_of_store(stored, &store, &copy)
 }
 
 #[test]
 fn calls_on_files_tell_want_of_memory(rt: HostRuntime) {
-    for call in FileCall::ALL {
-        assert_eq!(rt; tried(rt.alloc(), &call), Ok(()), "{call:?}");
+    for (name, call) in &CALLS {
+        assert!(rt; tried(rt.alloc(), call) == Ok(()), "{name}");
     }
 }

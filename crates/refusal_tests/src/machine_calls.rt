@@ -12,7 +12,7 @@ use scheduler::{round_robin, seeded, solo};
 use std::alloc::{AllocError, Allocator, Global};
 
 // A call.
-#[derive(Clone, Copy, Debug)]
+#[derive(Clone, Copy)]
 enum MachineCall {
     Start,
     CopyMachine,
@@ -28,23 +28,21 @@ enum MachineCall {
     PrintHistory,
 }
 
-impl MachineCall {
-    // All of them.
-    const ALL: [MachineCall; 12] = [
-        MachineCall::Start,
-        MachineCall::CopyMachine,
-        MachineCall::Step,
-        MachineCall::RoundRobin,
-        MachineCall::Solo,
-        MachineCall::Seeded,
-        MachineCall::ReadChoices,
-        MachineCall::PrintChoices,
-        MachineCall::PrintRuns,
-        MachineCall::ChosenHarts,
-        MachineCall::ReadHistory,
-        MachineCall::PrintHistory,
-    ];
-}
+// All of them.
+const CALLS: [(&str, MachineCall); 12] = [
+    ("start", MachineCall::Start),
+    ("copy of a machine", MachineCall::CopyMachine),
+    ("step", MachineCall::Step),
+    ("round_robin", MachineCall::RoundRobin),
+    ("solo", MachineCall::Solo),
+    ("seeded", MachineCall::Seeded),
+    ("read_choices", MachineCall::ReadChoices),
+    ("print_choices", MachineCall::PrintChoices),
+    ("print_runs", MachineCall::PrintRuns),
+    ("chosen harts", MachineCall::ChosenHarts),
+    ("read_history", MachineCall::ReadHistory),
+    ("print_history", MachineCall::PrintHistory),
+];
 
 impl Call for MachineCall {
     fn answer<A: Allocator + Copy>(&self, alloc: A, _host: Global) -> Result<bool, AllocError> {
@@ -52,40 +50,54 @@ impl Call for MachineCall {
             MachineCall::Start => is_started(alloc),
             MachineCall::CopyMachine => is_copied(alloc),
             MachineCall::Step => is_stepped(alloc),
-            MachineCall::RoundRobin => {
-                let choices = round_robin(alloc, 2, 9)?;
-                Ok(choices.len() == 9)
-            }
-            MachineCall::Solo => {
-                let choices = solo(alloc, 1, 9)?;
-                Ok(choices.len() == 9)
-            }
-            MachineCall::Seeded => {
-                let choices = seeded(alloc, 2, 9, 1)?;
-                Ok(choices.len() == 9)
-            }
+            MachineCall::RoundRobin => has_turns(alloc),
+            MachineCall::Solo => has_one_hart(alloc),
+            MachineCall::Seeded => has_seeds(alloc),
             MachineCall::ReadChoices => is_read(alloc),
-            MachineCall::PrintChoices => {
-                let text = print_choices(alloc, &CHOICES)?;
-                Ok(text.as_str() == "0 0 1!\n")
-            }
-            MachineCall::PrintRuns => {
-                let text = print_runs(alloc, &CHOICES)?;
-                Ok(text.as_str() == "0*2 1!\n")
-            }
-            MachineCall::ChosenHarts => {
-                let mut chosen = Chosen::new();
-                chosen.add(31);
-                let choices = chosen.choices(alloc)?;
-                Ok(choices.len() == 1)
-            }
+            MachineCall::PrintChoices => are_choices_printed(alloc),
+            MachineCall::PrintRuns => are_runs_printed(alloc),
+            MachineCall::ChosenHarts => has_chosen(alloc),
             MachineCall::ReadHistory => is_history(alloc),
-            MachineCall::PrintHistory => {
-                let text = print_history(alloc, &ENTRIES)?;
-                Ok(text.as_str() == "0+3 1+0!\n")
-            }
+            MachineCall::PrintHistory => is_history_printed(alloc),
         }
     }
+}
+
+fn has_turns<A: Allocator + Copy>(alloc: A) -> Result<bool, AllocError> {
+    let choices = round_robin(alloc, 2, 9)?;
+    Ok(choices.len() == 9)
+}
+
+fn has_one_hart<A: Allocator + Copy>(alloc: A) -> Result<bool, AllocError> {
+    let choices = solo(alloc, 1, 9)?;
+    Ok(choices.len() == 9)
+}
+
+fn has_seeds<A: Allocator + Copy>(alloc: A) -> Result<bool, AllocError> {
+    let choices = seeded(alloc, 2, 9, 1)?;
+    Ok(choices.len() == 9)
+}
+
+fn are_choices_printed<A: Allocator + Copy>(alloc: A) -> Result<bool, AllocError> {
+    let text = print_choices(alloc, &CHOICES)?;
+    Ok(text.as_str() == "0 0 1!\n")
+}
+
+fn are_runs_printed<A: Allocator + Copy>(alloc: A) -> Result<bool, AllocError> {
+    let text = print_runs(alloc, &CHOICES)?;
+    Ok(text.as_str() == "0*2 1!\n")
+}
+
+fn has_chosen<A: Allocator + Copy>(alloc: A) -> Result<bool, AllocError> {
+    let mut chosen = Chosen::new();
+    chosen.add(31);
+    let choices = chosen.choices(alloc)?;
+    Ok(choices.len() == 1)
+}
+
+fn is_history_printed<A: Allocator + Copy>(alloc: A) -> Result<bool, AllocError> {
+    let text = print_history(alloc, &ENTRIES)?;
+    Ok(text.as_str() == "0+3 1+0!\n")
 }
 
 const TURN: Choice = Choice {
@@ -170,22 +182,30 @@ fn step<A: Allocator + Copy>(
     machine.step(choice)
 }
 
-// A store into a page that a copied machine shares. Where it is refused, the hart stands where it stood.
+// Whether a step that stores 7 into a page that a copied machine shares was answered: where it is refused, the hart stands where it stood.
+fn answer_of_step<A: Allocator + Copy>(
+    stepped: Result<(), AllocError>,
+    machine: &Machine<PageStore<A>, A>,
+    copy: &Machine<PageStore<A>, A>,
+) -> Result<bool, AllocError> {
+    match stepped {
+        Ok(()) => {
+            let stored = byte_at(machine.store(), 0x0001_1006);
+            let kept = byte_at(copy.store(), 0x0001_1006);
+            Ok(stored == 7 && kept == 0)
+        }
+        Err(AllocError) if pc(machine) == Some(0x0001_0004) => Err(AllocError),
+        Err(AllocError) => Ok(false),
+    }
+}
+
+// A store into a page that a copied machine shares.
 fn is_stepped<A: Allocator + Copy>(alloc: A) -> Result<bool, AllocError> {
     let mut machine: Machine<PageStore<A>, A> = started(alloc)?;
     let copy = machine.copy(alloc)?;
     step(&mut machine, TURN)?;
-    if step(&mut machine, TURN).is_err() {
-        let is_unchanged = pc(&machine) == Some(0x0001_0004);
-        return if is_unchanged {
-            Err(AllocError)
-        } else {
-            Ok(false)
-        };
-    }
-    let stored = byte_at(machine.store(), 0x0001_1006);
-    let kept = byte_at(copy.store(), 0x0001_1006);
-    Ok(stored == 7 && kept == 0)
+    let stepped = step(&mut machine, TURN);
+    answer_of_step(stepped, &machine, &copy)
 }
 
 fn is_read<A: Allocator + Copy>(alloc: A) -> Result<bool, AllocError> {
@@ -206,7 +226,7 @@ fn is_history<A: Allocator + Copy>(alloc: A) -> Result<bool, AllocError> {
 
 #[test]
 fn calls_on_machines_tell_want_of_memory(rt: HostRuntime) {
-    for call in MachineCall::ALL {
-        assert_eq!(rt; tried(rt.alloc(), &call), Ok(()), "{call:?}");
+    for (name, call) in &CALLS {
+        assert!(rt; tried(rt.alloc(), call) == Ok(()), "{name}");
     }
 }

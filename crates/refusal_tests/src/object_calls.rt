@@ -1,4 +1,5 @@
 //! Calls that make the objects' images and tables.
+use loader::Image;
 use proto_adopt::{adopt_image, rounds_image};
 use proto_amo::{add_image, swap_image};
 use proto_lrsc::lrsc_image;
@@ -7,7 +8,7 @@ use refusing::{Call, tried};
 use std::alloc::{AllocError, Allocator, Global};
 
 // A call.
-#[derive(Clone, Copy, Debug)]
+#[derive(Clone, Copy)]
 enum ObjectCall {
     Table(Kind),
     MakeImage(Kind),
@@ -18,57 +19,49 @@ enum ObjectCall {
     RoundsImage,
 }
 
-impl ObjectCall {
-    // All of them, each with one kind.
-    const ALL: [ObjectCall; 7] = [
-        ObjectCall::Table(Kind::LrSc),
-        ObjectCall::MakeImage(Kind::LrSc),
-        ObjectCall::SwapImage,
-        ObjectCall::AddImage,
-        ObjectCall::LrScImage,
-        ObjectCall::AdoptImage,
-        ObjectCall::RoundsImage,
-    ];
+// All of them, each with one kind.
+const CALLS: [(&str, ObjectCall); 7] = [
+    ("table", ObjectCall::Table(Kind::LrSc)),
+    ("make_image", ObjectCall::MakeImage(Kind::LrSc)),
+    ("swap_image", ObjectCall::SwapImage),
+    ("add_image", ObjectCall::AddImage),
+    ("lrsc_image", ObjectCall::LrScImage),
+    ("adopt_image", ObjectCall::AdoptImage),
+    ("rounds_image", ObjectCall::RoundsImage),
+];
+
+// Whether the table of a kind has its words.
+fn is_table<A: Allocator + Copy>(alloc: A, kind: Kind) -> Result<bool, AllocError> {
+    let instructions = table(alloc, kind)?;
+    Ok(instructions.len() == words(kind).len())
+}
+
+// Whether an image that was made is that of an object of the kind.
+fn is_certified<A: Allocator + Copy>(
+    made: Result<Image<A>, AllocError>,
+    kind: Kind,
+) -> Result<bool, AllocError> {
+    let image = made?;
+    Ok(certify(kind, &image))
 }
 
 impl Call for ObjectCall {
     fn answer<A: Allocator + Copy>(&self, alloc: A, _host: Global) -> Result<bool, AllocError> {
         match *self {
-            ObjectCall::Table(kind) => {
-                let instructions = table(alloc, kind)?;
-                Ok(instructions.len() == words(kind).len())
-            }
-            ObjectCall::MakeImage(kind) => {
-                let image = make_image(alloc, kind)?;
-                Ok(certify(kind, &image))
-            }
-            ObjectCall::SwapImage => {
-                let image = swap_image(alloc)?;
-                Ok(certify(Kind::Swap, &image))
-            }
-            ObjectCall::AddImage => {
-                let image = add_image(alloc)?;
-                Ok(certify(Kind::Add, &image))
-            }
-            ObjectCall::LrScImage => {
-                let image = lrsc_image(alloc)?;
-                Ok(certify(Kind::LrSc, &image))
-            }
-            ObjectCall::AdoptImage => {
-                let image = adopt_image(alloc)?;
-                Ok(certify(Kind::AdoptCommit, &image))
-            }
-            ObjectCall::RoundsImage => {
-                let image = rounds_image(alloc)?;
-                Ok(certify(Kind::Rounds, &image))
-            }
+            ObjectCall::Table(kind) => is_table(alloc, kind),
+            ObjectCall::MakeImage(kind) => is_certified(make_image(alloc, kind), kind),
+            ObjectCall::SwapImage => is_certified(swap_image(alloc), Kind::Swap),
+            ObjectCall::AddImage => is_certified(add_image(alloc), Kind::Add),
+            ObjectCall::LrScImage => is_certified(lrsc_image(alloc), Kind::LrSc),
+            ObjectCall::AdoptImage => is_certified(adopt_image(alloc), Kind::AdoptCommit),
+            ObjectCall::RoundsImage => is_certified(rounds_image(alloc), Kind::Rounds),
         }
     }
 }
 
 #[test]
 fn calls_on_objects_tell_want_of_memory(rt: HostRuntime) {
-    for call in ObjectCall::ALL {
-        assert_eq!(rt; tried(rt.alloc(), &call), Ok(()), "{call:?}");
+    for (name, call) in &CALLS {
+        assert!(rt; tried(rt.alloc(), call) == Ok(()), "{name}");
     }
 }

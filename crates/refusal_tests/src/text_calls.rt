@@ -9,7 +9,7 @@ use round_trip::{list, list_source};
 use std::alloc::{AllocError, Allocator, Global};
 
 // A call.
-#[derive(Clone, Copy, Debug)]
+#[derive(Clone, Copy)]
 enum TextCall {
     Scan,
     Tokens,
@@ -20,18 +20,16 @@ enum TextCall {
     WriteElf,
 }
 
-impl TextCall {
-    // All of them.
-    const ALL: [TextCall; 7] = [
-        TextCall::Scan,
-        TextCall::Tokens,
-        TextCall::Statements,
-        TextCall::Assemble,
-        TextCall::List,
-        TextCall::ListSource,
-        TextCall::WriteElf,
-    ];
-}
+// All of them.
+const CALLS: [(&str, TextCall); 7] = [
+    ("scan_text", TextCall::Scan),
+    ("tokens", TextCall::Tokens),
+    ("statements", TextCall::Statements),
+    ("assemble", TextCall::Assemble),
+    ("list", TextCall::List),
+    ("list_source", TextCall::ListSource),
+    ("write_elf", TextCall::WriteElf),
+];
 
 const LETTERS: &str = "a b c d e f g h i j k l m n o p q r s t u v w x y z";
 
@@ -50,30 +48,20 @@ const LISTING: &str = "addi zero, zero, 0  # 00010000 00000013\n.byte 0x01  # 00
 impl Call for TextCall {
     fn answer<A: Allocator + Copy>(&self, alloc: A, _host: Global) -> Result<bool, AllocError> {
         match self {
-            TextCall::Scan => {
-                let scan = scan_text(alloc, LETTERS)?;
-                Ok(scan.tokens.len() == 26)
-            }
+            TextCall::Scan => is_scanned(alloc),
             TextCall::Tokens => has_tokens(alloc),
             TextCall::Statements => has_statements(alloc),
             TextCall::Assemble => is_assembled(alloc),
-            TextCall::List => {
-                let program = program_of(alloc, LISTED)?;
-                let text = list(alloc, &program)?;
-                Ok(text.as_str() == LISTING)
-            }
-            TextCall::ListSource => {
-                let program = program_of(alloc, LISTED)?;
-                let text = list_source(alloc, &program)?;
-                Ok(text.as_str() == LISTING)
-            }
-            TextCall::WriteElf => {
-                let program = program_of(alloc, source(Kind::Swap))?;
-                let file = write_elf(alloc, &program)?;
-                Ok(file.len() == 8576)
-            }
+            TextCall::List => is_listed(alloc),
+            TextCall::ListSource => is_source_listed(alloc),
+            TextCall::WriteElf => is_written(alloc),
         }
     }
+}
+
+fn is_scanned<A: Allocator + Copy>(alloc: A) -> Result<bool, AllocError> {
+    let scan = scan_text(alloc, LETTERS)?;
+    Ok(scan.tokens.len() == 26)
 }
 
 // The program of a source that assembles.
@@ -82,6 +70,24 @@ fn program_of<A: Allocator + Copy>(alloc: A, text: &str) -> Result<Program<A>, A
         Ok(program) => Ok(program),
         Err(_) => Err(AllocError),
     }
+}
+
+fn is_listed<A: Allocator + Copy>(alloc: A) -> Result<bool, AllocError> {
+    let program = program_of(alloc, LISTED)?;
+    let text = list(alloc, &program)?;
+    Ok(text.as_str() == LISTING)
+}
+
+fn is_source_listed<A: Allocator + Copy>(alloc: A) -> Result<bool, AllocError> {
+    let program = program_of(alloc, LISTED)?;
+    let text = list_source(alloc, &program)?;
+    Ok(text.as_str() == LISTING)
+}
+
+fn is_written<A: Allocator + Copy>(alloc: A) -> Result<bool, AllocError> {
+    let program = program_of(alloc, source(Kind::Swap))?;
+    let file = write_elf(alloc, &program)?;
+    Ok(file.len() == 8576)
 }
 
 fn has_tokens<A: Allocator + Copy>(alloc: A) -> Result<bool, AllocError> {
@@ -110,7 +116,7 @@ fn is_assembled<A: Allocator + Copy>(alloc: A) -> Result<bool, AllocError> {
 
 #[test]
 fn calls_on_texts_tell_want_of_memory(rt: HostRuntime) {
-    for call in TextCall::ALL {
-        assert_eq!(rt; tried(rt.alloc(), &call), Ok(()), "{call:?}");
+    for (name, call) in &CALLS {
+        assert!(rt; tried(rt.alloc(), call) == Ok(()), "{name}");
     }
 }
