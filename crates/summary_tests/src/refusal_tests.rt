@@ -75,7 +75,7 @@ fn outcome<A: Allocator + Copy>(alloc: A) -> Result<Outcome<A>, AllocError> {
 }
 
 // The tally of two seeds of one outcome.
-#[derive(Clone, Copy, Debug)]
+#[derive(Clone, Copy)]
 struct Counting;
 
 impl Call for Counting {
@@ -92,7 +92,7 @@ impl Call for Counting {
 }
 
 // The summary of a block.
-#[derive(Clone, Copy, Debug)]
+#[derive(Clone, Copy)]
 struct Summing;
 
 impl Call for Summing {
@@ -113,7 +113,7 @@ impl Call for Summing {
 }
 
 // The failures of a block, without a rule and with one.
-#[derive(Clone, Copy, Debug)]
+#[derive(Clone, Copy)]
 struct Failures;
 
 impl Call for Failures {
@@ -134,7 +134,7 @@ impl Call for Failures {
 
 #[test]
 fn each_refused_request_is_told(rt: HostRuntime) {
-    assert_eq!(rt; tried(rt.alloc(), &Counting), Ok(()));
-    assert_eq!(rt; tried(rt.alloc(), &Summing), Ok(()));
-    assert_eq!(rt; tried(rt.alloc(), &Failures), Ok(()));
+    assert!(rt; tried(rt.alloc(), &Counting) == Ok(()));
+    assert!(rt; tried(rt.alloc(), &Summing) == Ok(()));
+    assert!(rt; tried(rt.alloc(), &Failures) == Ok(()));
 }

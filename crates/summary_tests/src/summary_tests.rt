@@ -3,7 +3,7 @@ ghost use Rattle.std.specs.Prelude.{◌≡◌, ◌+◌, ◌-◌, ◌≤◌, ◌<
 
 use crate::object_files::object_file;
 use campaigns::{SeedRun, campaign};
-use devices::{Failing, FullSink, MemorySink, MemorySource, Sink, Source, Status};
+use devices::{Failing, FullSink, MemorySink, MemorySource, Status};
 use engines::{CampaignPlan, campaign_engine};
 use hart_step::{Hart, HartState};
 use loader::ElfFault;
@@ -14,15 +14,6 @@ use std::alloc::{AllocError, Global};
 use std::thread::Threads;
 use summary_engine::{Detail, SummaryPlan, failures_engine, summary_engine};
 
-fn plan(first: u64, count: u64, steps: u64, rule: Option<Kind>) -> CampaignPlan {
-    CampaignPlan {
-        first,
-        count,
-        steps,
-        rule,
-    }
-}
-
 // Whether the seeds of a plan are below 2^64.
 fn fits(plan: CampaignPlan) -> bool
     ensures { result ≡ true → plan.first + plan.count ≤ 2 ^ 64 }
@@ -30,124 +21,132 @@ fn fits(plan: CampaignPlan) -> bool
     plan.count == 0 || plan.first <= u64::MAX - (plan.count - 1)
 }
 
-// The engine of summaries, of three harts' runs where the inputs are three.
-fn summarized<R: AllocGlobal + Threads + Sync, P: Source, K: Sink>(
-    rt: &R,
-    inputs: &[u32],
-    plan: SummaryPlan,
-    program: &mut P,
-    sink: &mut K,
-) -> Result<Status, RunFault>
-    requires program_counts { P.failures program.old < 2 ^ 64 - 1 }
-    requires sink_counts { K.failures sink.old < 2 ^ 64 - 1 }
-{
-    if !fits(plan.runs) {
-        return Err(RunFault::Memory);
-    }
-    summary_engine(rt, rt.alloc(), inputs, plan, program, sink, &mut Unheard)
+// A file, how many reads of it pass, and the inputs of its harts.
+#[derive(Clone, Copy)]
+struct Program<'f, 'i> {
+    file: &'f [u8],
+    passed: u64,
+    inputs: &'i [u32],
 }
 
-// And that of failures.
-fn told_of_failures<R: AllocGlobal + Threads + Sync, P: Source, K: Sink>(
-    rt: &R,
-    inputs: &[u32],
-    plan: CampaignPlan,
-    program: &mut P,
-    sink: &mut K,
-) -> Result<Status, RunFault>
-    requires program_counts { P.failures program.old < 2 ^ 64 - 1 }
-    requires sink_counts { K.failures sink.old < 2 ^ 64 - 1 }
-{
-    if !fits(plan) {
-        return Err(RunFault::Memory);
+// A program of a file that is read.
+fn program_of<'f, 'i>(file: &'f [u8], inputs: &'i [u32]) -> Program<'f, 'i> {
+    Program {
+        file,
+        passed: u64::MAX,
+        inputs,
     }
-    failures_engine(rt, rt.alloc(), inputs, plan, program, sink, &mut Unheard)
 }
 
-// What a plain campaign of a file answers and writes.
-fn plain<R: AllocGlobal + Threads + Sync>(
-    rt: &R,
-    file: &[u8],
-    inputs: &[u32],
+// What a plain campaign answers and writes.
+fn plain(
+    rt: &(impl Threads + Sync),
+    alloc: Global,
+    program: Program,
     plan: CampaignPlan,
 ) -> (Result<Status, RunFault>, MemorySink<Global>) {
-    let mut program = MemorySource::new(file);
-    let mut sink = MemorySink::new(rt.alloc());
+    let mut sink = MemorySink::new(alloc);
     if !fits(plan) {
         return (Err(RunFault::Memory), sink);
     }
-    let result = campaign_engine(
+    let mut source = Failing::new(MemorySource::new(program.file), program.passed);
+    let ending = campaign_engine(
         rt,
-        rt.alloc(),
-        inputs,
+        alloc,
+        program.inputs,
         plan,
-        &mut program,
+        &mut source,
         &mut sink,
         &mut Unheard,
     );
-    (result, sink)
+    (ending, sink)
 }
 
-// What the summary of a file's runs answers and writes.
-fn summary<R: AllocGlobal + Threads + Sync>(
-    rt: &R,
-    file: &[u8],
-    inputs: &[u32],
+// What the summary of a plan's runs answers and writes.
+fn summary(
+    rt: &(impl Threads + Sync),
+    alloc: Global,
+    program: Program,
     plan: SummaryPlan,
 ) -> (Result<Status, RunFault>, MemorySink<Global>) {
-    let mut program = MemorySource::new(file);
-    let mut sink = MemorySink::new(rt.alloc());
-    let result = summarized(rt, inputs, plan, &mut program, &mut sink);
-    (result, sink)
+    let mut sink = MemorySink::new(alloc);
+    if !fits(plan.runs) {
+        return (Err(RunFault::Memory), sink);
+    }
+    let mut source = Failing::new(MemorySource::new(program.file), program.passed);
+    let ending = summary_engine(
+        rt,
+        alloc,
+        program.inputs,
+        plan,
+        &mut source,
+        &mut sink,
+        &mut Unheard,
+    );
+    (ending, sink)
 }
 
 // And the failures among them.
-fn failures<R: AllocGlobal + Threads + Sync>(
-    rt: &R,
-    file: &[u8],
-    inputs: &[u32],
+fn failures(
+    rt: &(impl Threads + Sync),
+    alloc: Global,
+    program: Program,
     plan: CampaignPlan,
 ) -> (Result<Status, RunFault>, MemorySink<Global>) {
-    let mut program = MemorySource::new(file);
-    let mut sink = MemorySink::new(rt.alloc());
-    let result = told_of_failures(rt, inputs, plan, &mut program, &mut sink);
-    (result, sink)
+    let mut sink = MemorySink::new(alloc);
+    if !fits(plan) {
+        return (Err(RunFault::Memory), sink);
+    }
+    let mut source = Failing::new(MemorySource::new(program.file), program.passed);
+    let ending = failures_engine(
+        rt,
+        alloc,
+        program.inputs,
+        plan,
+        &mut source,
+        &mut sink,
+        &mut Unheard,
+    );
+    (ending, sink)
 }
 
 // A plan, and what its summary says of an object.
 struct Worked {
     kind: Kind,
     inputs: &'static [u32],
-    runs: CampaignPlan,
-    detail: Detail,
+    plan: SummaryPlan,
     text: &'static str,
     status: Status,
 }
 
+#[rattlefmt::skip]
+const WORKED: [Worked; 4] = [
+    Worked { kind: Kind::LrSc, inputs: &[4, 5, 6, 7],
+        plan: SummaryPlan { runs: CampaignPlan { first: 5, count: 2, steps: 600, rule: Some(Kind::LrSc) }, detail: Detail::Ends },
+        text: "seeds 2 first 5 exited 4 faulted 0 running 0 kept\n", status: Status::Done },
+    Worked { kind: Kind::Swap, inputs: &[7, 9, 5],
+        plan: SummaryPlan { runs: CampaignPlan { first: 5, count: 2, steps: 300, rule: Some(Kind::Swap) }, detail: Detail::Ends },
+        text: "seeds 2 first 5 exited 2 faulted 1 running 0 broken\n", status: Status::Broken },
+    Worked { kind: Kind::Swap, inputs: &[7, 9, 5],
+        plan: SummaryPlan { runs: CampaignPlan { first: 5, count: 2, steps: 300, rule: None }, detail: Detail::Ends },
+        text: "seeds 2 first 5 exited 2 faulted 1 running 0\n", status: Status::Faulted },
+    Worked { kind: Kind::Swap, inputs: &[7, 9],
+        plan: SummaryPlan { runs: CampaignPlan { first: 5, count: 0, steps: 300, rule: None }, detail: Detail::Results },
+        text: "", status: Status::Done },
+];
+
+// Whether a summary is as wanted; nothing where there is no file.
+fn is_worked(rt: &(impl Threads + Sync), alloc: Global, row: &Worked) -> Option<bool> {
+    let file = object_file(alloc, row.kind).ok()?;
+    let (ending, sink) = summary(rt, alloc, program_of(&file, row.inputs), row.plan);
+    Some(ending == Ok(row.status) && sink.bytes() == row.text.as_bytes())
+}
+
 #[test]
 fn each_outcome_has_its_line(rt: HostRuntime) {
-    #[rattlefmt::skip]
-    static ROWS: [Worked; 4] = [
-        Worked { kind: Kind::LrSc, inputs: &[4, 5, 6, 7], runs: CampaignPlan { first: 5, count: 2, steps: 600, rule: Some(Kind::LrSc) }, detail: Detail::Ends,
-            text: "seeds 2 first 5 exited 4 faulted 0 running 0 kept\n", status: Status::Done },
-        Worked { kind: Kind::Swap, inputs: &[7, 9, 5], runs: CampaignPlan { first: 5, count: 2, steps: 300, rule: Some(Kind::Swap) }, detail: Detail::Ends,
-            text: "seeds 2 first 5 exited 2 faulted 1 running 0 broken\n", status: Status::Broken },
-        Worked { kind: Kind::Swap, inputs: &[7, 9, 5], runs: CampaignPlan { first: 5, count: 2, steps: 300, rule: None }, detail: Detail::Ends,
-            text: "seeds 2 first 5 exited 2 faulted 1 running 0\n", status: Status::Faulted },
-        Worked { kind: Kind::Swap, inputs: &[7, 9], runs: CampaignPlan { first: 5, count: 0, steps: 300, rule: None }, detail: Detail::Results,
-            text: "", status: Status::Done },
-    ];
-    for row in &ROWS {
-        let Ok(file) = object_file(rt.alloc(), row.kind) else {
-            return assert!(rt; false, "no memory for the file");
-        };
-        let plan = SummaryPlan {
-            runs: row.runs,
-            detail: row.detail,
-        };
-        let (result, sink) = summary(&rt, &file, row.inputs, plan);
-        assert_eq!(rt; sink.bytes(), row.text.as_bytes());
-        assert_eq!(rt; result, Ok(row.status));
+    for row in &WORKED {
+        let text = row.text;
+        assert!(rt; is_worked(&rt, rt.alloc(), row) == Some(true), "{text}");
     }
 }
 
@@ -159,8 +158,8 @@ struct Counted {
     first: u64,
 }
 
-// How a run's harts ended, as a summary prints it.
-fn words_of(alloc: Global, harts: &[Hart]) -> Result<String<Global>, AllocError> {
+// How many of a run's harts have exited, and how many are running.
+fn ends_of(harts: &[Hart]) -> (u32, u32) {
     let mut exited = 0u32;
     let mut running = 0u32;
     for hart in harts {
@@ -170,6 +169,12 @@ fn words_of(alloc: Global, harts: &[Hart]) -> Result<String<Global>, AllocError>
             HartState::Faulted(_) => {}
         }
     }
+    (exited, running)
+}
+
+// How a run's harts ended, as a summary prints it.
+fn words_of(alloc: Global, harts: &[Hart]) -> Result<String<Global>, AllocError> {
+    let (exited, running) = ends_of(harts);
     let mut words = String::new(alloc);
     write!(words, "exited {exited} faulted 0 running {running}")?;
     for (number, hart) in harts.iter().enumerate() {
@@ -180,28 +185,40 @@ fn words_of(alloc: Global, harts: &[Hart]) -> Result<String<Global>, AllocError>
     Ok(words)
 }
 
-// The summary of runs, counted by looking each of them up among those before it.
-fn counted_one_by_one(
-    alloc: Global,
-    runs: &[SeedRun<Global>],
-) -> Result<String<Global>, AllocError> {
+// Counts a run that ended so, by looking it up among those before it.
+fn count_run(
+    rows: &mut Vec<Counted, Global>,
+    words: String<Global>,
+    seed: u64,
+) -> Result<(), AllocError> {
+    match rows
+        .iter()
+        .position(|row| row.words.as_str() == words.as_str())
+    {
+        Some(place) => rows[place].seeds = rows[place].seeds.saturating_add(1),
+        None => rows.push(Counted {
+            words,
+            seeds: 1,
+            first: seed,
+        })?,
+    }
+    Ok(())
+}
+
+// Runs, counted one by one.
+fn counts_of(alloc: Global, runs: &[SeedRun<Global>]) -> Result<Vec<Counted, Global>, AllocError> {
     let mut rows: Vec<Counted, Global> = Vec::new(alloc);
     for run in runs {
         let words = words_of(alloc, &run.harts)?;
-        match rows
-            .iter()
-            .position(|row| row.words.as_str() == words.as_str())
-        {
-            Some(place) => rows[place].seeds = rows[place].seeds.saturating_add(1),
-            None => rows.push(Counted {
-                words,
-                seeds: 1,
-                first: run.seed,
-            })?,
-        }
+        count_run(&mut rows, words, run.seed)?;
     }
+    Ok(rows)
+}
+
+// The summary of counted runs.
+fn text_of(alloc: Global, rows: &[Counted]) -> Result<String<Global>, AllocError> {
     let mut text = String::new(alloc);
-    for row in &rows {
+    for row in rows {
         let seeds = row.seeds;
         let first = row.first;
         let words = row.words.as_str();
@@ -210,38 +227,72 @@ fn counted_one_by_one(
     Ok(text)
 }
 
-// A histogram of the registers over several blocks, from the first step on.
+// The runs of a plan; nothing where the file is no program.
+fn runs_of(
+    rt: &(impl Threads + Sync),
+    alloc: Global,
+    program: Program,
+    plan: CampaignPlan,
+) -> Option<Vec<SeedRun<Global>, Global>> {
+    if !fits(plan) {
+        return None;
+    }
+    let image = read_program(alloc, ProgramForm::Elf, program.file).ok()?;
+    campaign(
+        rt,
+        alloc,
+        &image,
+        program.inputs,
+        plan.first,
+        plan.count,
+        plan.steps,
+    )
+    .ok()
+}
+
+// The summary of a plan's runs, counted one by one.
+fn counted_summary(
+    rt: &(impl Threads + Sync),
+    alloc: Global,
+    program: Program,
+    plan: CampaignPlan,
+) -> Option<String<Global>> {
+    let runs = runs_of(rt, alloc, program, plan)?;
+    let rows = counts_of(alloc, &runs).ok()?;
+    text_of(alloc, &rows).ok()
+}
+
+// Several blocks, from the first step on.
+#[rattlefmt::skip]
+const HISTOGRAMS: [CampaignPlan; 4] = [
+    CampaignPlan { first: 0, count: 3000, steps: 12, rule: None },
+    CampaignPlan { first: 7, count: 1500, steps: 22, rule: None },
+    CampaignPlan { first: u64::MAX - 99, count: 100, steps: 40, rule: None },
+    CampaignPlan { first: 5, count: 1, steps: 300, rule: None },
+];
+
+// Whether the summary of the registers is that of the runs, counted one by one.
+fn has_histogram(rt: &(impl Threads + Sync), alloc: Global, plan: CampaignPlan) -> Option<bool> {
+    let file = object_file(alloc, Kind::Swap).ok()?;
+    let program = program_of(&file, &[7, 9]);
+    let wanted = counted_summary(rt, alloc, program, plan)?;
+    let sums = SummaryPlan {
+        runs: plan,
+        detail: Detail::Results,
+    };
+    let (ending, sink) = summary(rt, alloc, program, sums);
+    Some(ending == Ok(Status::Done) && sink.bytes() == wanted.as_bytes())
+}
+
+// A histogram of the registers.
 #[test]
 fn histogram_is_that_of_runs_one_by_one(rt: HostRuntime) {
-    let Ok(file) = object_file(rt.alloc(), Kind::Swap) else {
-        return assert!(rt; false, "no memory for the file");
-    };
-    let Ok(image) = read_program(rt.alloc(), ProgramForm::Elf, &file) else {
-        return assert!(rt; false, "the file is no program");
-    };
-    for (first, count, steps) in [
-        (0u64, 3000u64, 12u64),
-        (7, 1500, 22),
-        (u64::MAX - 99, 100, 40),
-        (5, 1, 300),
-    ] {
-        let Ok(runs) = campaign(&rt, rt.alloc(), &image, &[7, 9], first, count, steps) else {
-            return assert!(rt; false, "no memory for the runs");
-        };
-        let Ok(wanted) = counted_one_by_one(rt.alloc(), &runs) else {
-            return assert!(rt; false, "no memory for the text");
-        };
-        let (result, sink) = summary(
-            &rt,
-            &file,
-            &[7, 9],
-            SummaryPlan {
-                runs: plan(first, count, steps, None),
-                detail: Detail::Results,
-            },
+    for plan in &HISTOGRAMS {
+        let count = plan.count;
+        assert!(rt;
+            has_histogram(&rt, rt.alloc(), *plan) == Some(true),
+            "{count}"
         );
-        assert_eq!(rt; result, Ok(Status::Done));
-        assert_eq!(rt; sink.bytes(), wanted.as_bytes());
     }
 }
 
@@ -256,107 +307,197 @@ fn lines_with(alloc: Global, text: &[u8], end: &[u8]) -> Result<Vec<u8, Global>,
     Ok(lines)
 }
 
+// How many steps runs take, their rule, how the lines of bad ones end, and the status.
+struct Bad {
+    steps: u64,
+    rule: Option<Kind>,
+    end: &'static [u8],
+    status: Status,
+}
+
 // With 8 and 12 steps some seeds of three harts of Swap are bad and some are not.
+#[rattlefmt::skip]
+const BAD: [Bad; 4] = [
+    Bad { steps: 8, rule: Some(Kind::Swap), end: b" broken\n", status: Status::Broken },
+    Bad { steps: 12, rule: Some(Kind::Swap), end: b" broken\n", status: Status::Broken },
+    Bad { steps: 12, rule: None, end: b" faulted 1 running 2\n", status: Status::Faulted },
+    Bad { steps: 0, rule: Some(Kind::Swap), end: b" broken\n", status: Status::Done },
+];
+
+// Whether failures are the lines of the campaign that end so: not all of them, and none where no run is bad.
+fn are_bad_lines(alloc: Global, row: &Bad, lines: &[u8], failures: &[u8]) -> Option<bool> {
+    let wanted = lines_with(alloc, lines, row.end).ok()?;
+    Some(
+        failures == wanted.as_slice()
+            && wanted.len() < lines.len()
+            && wanted.is_empty() == (row.status == Status::Done),
+    )
+}
+
+// Whether the failures of a plan are the bad lines of its campaign.
+fn has_bad_lines(rt: &(impl Threads + Sync), alloc: Global, row: &Bad) -> Option<bool> {
+    let file = object_file(alloc, Kind::Swap).ok()?;
+    let program = program_of(&file, &[7, 9, 5]);
+    let plan = CampaignPlan {
+        first: 3,
+        count: 2500,
+        steps: row.steps,
+        rule: row.rule,
+    };
+    let (told, lines) = plain(rt, alloc, program, plan);
+    let (ending, sink) = failures(rt, alloc, program, plan);
+    let are_ended = told == Ok(row.status) && ending == Ok(row.status);
+    let are_lines = are_bad_lines(alloc, row, lines.bytes(), sink.bytes())?;
+    Some(are_ended && are_lines)
+}
+
 #[test]
 fn failures_are_the_bad_lines_of_the_campaign(rt: HostRuntime) {
-    let Ok(file) = object_file(rt.alloc(), Kind::Swap) else {
-        return assert!(rt; false, "no memory for the file");
-    };
-    for (steps, rule, end, status) in [
-        (
-            8u64,
-            Some(Kind::Swap),
-            b" broken\n".as_slice(),
-            Status::Broken,
-        ),
-        (
-            12,
-            Some(Kind::Swap),
-            b" broken\n".as_slice(),
-            Status::Broken,
-        ),
-        (
-            12,
-            None,
-            b" faulted 1 running 2\n".as_slice(),
-            Status::Faulted,
-        ),
-        (0, Some(Kind::Swap), b" broken\n".as_slice(), Status::Done),
-    ] {
-        let runs = plan(3, 2500, steps, rule);
-        let (told, lines) = plain(&rt, &file, &[7, 9, 5], runs);
-        let (result, sink) = failures(&rt, &file, &[7, 9, 5], runs);
-        let Ok(wanted) = lines_with(rt.alloc(), lines.bytes(), end) else {
-            return assert!(rt; false, "no memory for the lines");
-        };
-        assert_eq!(rt; told, Ok(status));
-        assert_eq!(rt; result, Ok(status));
-        assert_eq!(rt; sink.bytes(), wanted.as_slice());
-        assert!(rt; wanted.len() < lines.bytes().len());
-        assert!(rt; wanted.is_empty() == (status == Status::Done));
-    }
-}
-
-// Inputs of no hart and of too many, a file that is none.
-#[test]
-fn what_is_refused_is_told_and_nothing_written(rt: HostRuntime) {
-    let Ok(file) = object_file(rt.alloc(), Kind::Swap) else {
-        return assert!(rt; false, "no memory for the file");
-    };
-    let runs = plan(0, 10, 10, None);
-    let many = [1; 33];
-    for (bytes, inputs, fault) in [
-        (file.as_slice(), [].as_slice(), RunFault::NoHarts),
-        (file.as_slice(), many.as_slice(), RunFault::TooManyHarts),
-        (
-            b"no file".as_slice(),
-            [].as_slice(),
-            RunFault::Elf(ElfFault::Short),
-        ),
-    ] {
-        let (told, lines) = failures(&rt, bytes, inputs, runs);
-        assert_eq!(rt; told, Err(fault));
-        assert!(rt; lines.bytes().is_empty());
-        let (told, lines) = summary(
-            &rt,
-            bytes,
-            inputs,
-            SummaryPlan {
-                runs,
-                detail: Detail::Ends,
-            },
+    for row in &BAD {
+        let steps = row.steps;
+        assert!(rt;
+            has_bad_lines(&rt, rt.alloc(), row) == Some(true),
+            "{steps}"
         );
-        assert_eq!(rt; told, Err(fault));
-        assert!(rt; lines.bytes().is_empty());
     }
 }
 
-#[test]
-fn devices_that_fail_are_told(rt: HostRuntime) {
-    let Ok(file) = object_file(rt.alloc(), Kind::Swap) else {
-        return assert!(rt; false, "no memory for the file");
-    };
-    let runs = plan(0, 10, 300, None);
+// The file of Swap, or what is none.
+#[derive(Clone, Copy)]
+enum File {
+    Swap,
+    None,
+}
+
+fn file_of(alloc: Global, file: File) -> Result<Vec<u8, Global>, AllocError> {
+    match file {
+        File::Swap => object_file(alloc, Kind::Swap),
+        File::None => Vec::from_slice(alloc, b"no file"),
+    }
+}
+
+// A file, how many reads of it pass, the inputs, how many steps ten runs take, and the fault.
+struct Refused {
+    file: File,
+    passed: u64,
+    inputs: &'static [u32],
+    steps: u64,
+    fault: RunFault,
+}
+
+// Inputs of no hart and of too many, a file that is none, one that can't be read.
+#[rattlefmt::skip]
+const REFUSED: [Refused; 4] = [
+    Refused { file: File::Swap, passed: u64::MAX, inputs: &[], steps: 10, fault: RunFault::NoHarts },
+    Refused { file: File::Swap, passed: u64::MAX, inputs: &[1; 33], steps: 10, fault: RunFault::TooManyHarts },
+    Refused { file: File::None, passed: u64::MAX, inputs: &[], steps: 10, fault: RunFault::Elf(ElfFault::Short) },
+    Refused { file: File::Swap, passed: 0, inputs: &[7, 9, 5], steps: 300, fault: RunFault::Read(Input::File) },
+];
+
+// Ten runs of so many steps.
+fn ten_runs(steps: u64) -> CampaignPlan {
+    CampaignPlan {
+        first: 0,
+        count: 10,
+        steps,
+        rule: None,
+    }
+}
+
+// Whether the failures of a program are refused so, and nothing is written.
+fn are_failures_refused(
+    rt: &(impl Threads + Sync),
+    alloc: Global,
+    program: Program,
+    row: &Refused,
+) -> bool {
+    let (told, lines) = failures(rt, alloc, program, ten_runs(row.steps));
+    told == Err(row.fault) && lines.bytes().is_empty()
+}
+
+// And its summary.
+fn is_summary_refused(
+    rt: &(impl Threads + Sync),
+    alloc: Global,
+    program: Program,
+    row: &Refused,
+) -> bool {
     let sums = SummaryPlan {
-        runs,
+        runs: ten_runs(row.steps),
         detail: Detail::Ends,
     };
-    let mut full = FullSink::new();
-    let mut program = MemorySource::new(&file);
-    let told = summarized(&rt, &[7, 9, 5], sums, &mut program, &mut full);
-    assert_eq!(rt; told, Err(RunFault::Write));
-    let mut full = FullSink::new();
-    let mut program = MemorySource::new(&file);
-    let told = told_of_failures(&rt, &[7, 9, 5], runs, &mut program, &mut full);
-    assert_eq!(rt; told, Err(RunFault::Write));
-    let mut sink = MemorySink::new(rt.alloc());
-    let mut failing = Failing::new(MemorySource::new(&file), 0);
-    let told = summarized(&rt, &[7, 9, 5], sums, &mut failing, &mut sink);
-    assert_eq!(rt; told, Err(RunFault::Read(Input::File)));
-    assert!(rt; sink.bytes().is_empty());
-    let mut sink = MemorySink::new(rt.alloc());
-    let mut failing = Failing::new(MemorySource::new(&file), 0);
-    let told = told_of_failures(&rt, &[7, 9, 5], runs, &mut failing, &mut sink);
-    assert_eq!(rt; told, Err(RunFault::Read(Input::File)));
-    assert!(rt; sink.bytes().is_empty());
+    let (told, lines) = summary(rt, alloc, program, sums);
+    told == Err(row.fault) && lines.bytes().is_empty()
+}
+
+// Whether both are; nothing where there is no memory for the file.
+fn are_refused(rt: &(impl Threads + Sync), alloc: Global, row: &Refused) -> Option<bool> {
+    let file = file_of(alloc, row.file).ok()?;
+    let program = Program {
+        file: &file,
+        passed: row.passed,
+        inputs: row.inputs,
+    };
+    Some(
+        are_failures_refused(rt, alloc, program, row)
+            && is_summary_refused(rt, alloc, program, row),
+    )
+}
+
+#[test]
+fn what_is_refused_is_told_and_nothing_written(rt: HostRuntime) {
+    for (number, row) in REFUSED.iter().enumerate() {
+        assert!(rt; are_refused(&rt, rt.alloc(), row) == Some(true), "{number}");
+    }
+}
+
+// Ten runs, all of them bad.
+const RUNS: CampaignPlan = CampaignPlan {
+    first: 0,
+    count: 10,
+    steps: 300,
+    rule: None,
+};
+
+const SUMS: SummaryPlan = SummaryPlan {
+    runs: RUNS,
+    detail: Detail::Ends,
+};
+
+// How a summary ends that a full sink should take; nothing where there is no file.
+fn summary_in_vain(rt: &(impl Threads + Sync), alloc: Global) -> Option<Result<Status, RunFault>> {
+    let file = object_file(alloc, Kind::Swap).ok()?;
+    let mut source = MemorySource::new(&file);
+    let ending = summary_engine(
+        rt,
+        alloc,
+        &[7, 9, 5],
+        SUMS,
+        &mut source,
+        &mut FullSink::new(),
+        &mut Unheard,
+    );
+    Some(ending)
+}
+
+// And how failures end.
+fn failures_in_vain(rt: &(impl Threads + Sync), alloc: Global) -> Option<Result<Status, RunFault>> {
+    let file = object_file(alloc, Kind::Swap).ok()?;
+    let mut source = MemorySource::new(&file);
+    let ending = failures_engine(
+        rt,
+        alloc,
+        &[7, 9, 5],
+        RUNS,
+        &mut source,
+        &mut FullSink::new(),
+        &mut Unheard,
+    );
+    Some(ending)
+}
+
+#[test]
+fn full_sinks_are_told(rt: HostRuntime) {
+    assert!(rt; summary_in_vain(&rt, rt.alloc()) == Some(Err(RunFault::Write)));
+    assert!(rt; failures_in_vain(&rt, rt.alloc()) == Some(Err(RunFault::Write)));
 }
