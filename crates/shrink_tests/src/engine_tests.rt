@@ -9,16 +9,15 @@ use programs::{Input, RunFault};
 use protocol_library::Kind;
 use scheduler::seeded;
 use shrink_engine::{ShrinkFault, shrink_engine};
-use std::alloc::Allocator;
+use std::alloc::Global;
 
 // A program, its inputs, what is asked of its runs, a choice text, and the text that is left of it.
-#[derive(Clone, Copy)]
-struct Row<'a> {
-    source: &'a str,
-    inputs: [u32; 2],
+struct Row {
+    source: &'static str,
+    inputs: &'static [u32],
     demands: Demands,
-    given: &'a str,
-    left: &'a str,
+    given: &'static str,
+    left: &'static str,
 }
 
 // No hart may fault, but it may run.
@@ -42,7 +41,7 @@ const AGREED: Demands = Demands {
 // Hart 0 needs 14 steps to its EBREAK, hart 1 nine to its AMO, all of them between hart 0's load and its store.
 const UPDATE_LOST: Row = Row {
     source: LOST,
-    inputs: [2, 2],
+    inputs: &[2, 2],
     demands: NO_FAULT,
     given: "0*3 1*12 0*14 1*3",
     left: "0*3 1*9 0*11\n",
@@ -51,7 +50,7 @@ const UPDATE_LOST: Row = Row {
 // What stands behind the failure goes, and so do marks of steps that are no store-conditionals.
 const MARKS_GO: Row = Row {
     source: LOST,
-    inputs: [2, 2],
+    inputs: &[2, 2],
     demands: NO_FAULT,
     given: "0! 0*2 1!*5 1*7 0*14 1 0! 1!*3 0!*40",
     left: "0*3 1*9 0*11\n",
@@ -60,7 +59,7 @@ const MARKS_GO: Row = Row {
 // Hart 0 alone would stop after as many steps, but at its EBREAK: hart 1's store is needed for the fault that the given run has.
 const SAME_FAULT: Row = Row {
     source: TWO_FAULTS,
-    inputs: [0, 0],
+    inputs: &[0, 0],
     demands: NO_FAULT,
     given: "1*6 0*8",
     left: "1*4 0*6\n",
@@ -69,7 +68,7 @@ const SAME_FAULT: Row = Row {
 // The mark of the store-conditional is the one that is needed.
 const ONE_MARK: Row = Row {
     source: NEEDS_SC,
-    inputs: [0, 0],
+    inputs: &[0, 0],
     demands: NO_FAULT,
     given: "1 0!*6 1!*9 0!*3",
     left: "0*3 0! 0*2\n",
@@ -78,7 +77,7 @@ const ONE_MARK: Row = Row {
 // Both harts have to exit for the rule to be broken.
 const BROKEN_RULE: Row = Row {
     source: OWN_INPUT,
-    inputs: [7, 9],
+    inputs: &[7, 9],
     demands: AGREED,
     given: "0!*5 1*6",
     left: "0*4 1*4\n",
@@ -87,7 +86,7 @@ const BROKEN_RULE: Row = Row {
 // Each hart has taken the lock that the other wants. Before the last of these steps either could still take both.
 const DEADLOCK: Row = Row {
     source: CROSSED,
-    inputs: [0, 0],
+    inputs: &[0, 0],
     demands: ALL_EXIT,
     given: "0*9 1!*20",
     left: "0*8 1*8\n",
@@ -96,175 +95,156 @@ const DEADLOCK: Row = Row {
 // A fault counts before a hang.
 const FAULT_FIRST: Row = Row {
     source: LOST,
-    inputs: [2, 2],
+    inputs: &[2, 2],
     demands: ALL_EXIT,
     given: "0*3 1*12 0*14",
     left: "0*3 1*9 0*11\n",
 };
 
-// What a shrinking answers, and what it has written; none for want of memory.
-fn shrunk<A: Allocator + Copy>(
-    alloc: A,
-    source: &str,
-    inputs: &[u32],
+const WORKED: [Row; 7] = [
+    UPDATE_LOST,
+    MARKS_GO,
+    SAME_FAULT,
+    ONE_MARK,
+    BROKEN_RULE,
+    DEADLOCK,
+    FAULT_FIRST,
+];
+
+// What is shrunk, and how many reads of the choices pass.
+#[derive(Clone, Copy)]
+struct Given {
+    source: &'static str,
+    inputs: &'static [u32],
     demands: Demands,
-    given: &str,
-) -> Option<(Result<Status, ShrinkFault>, MemorySink<A>)> {
-    let file = file_of(alloc, source)?;
+    passed: u64,
+}
+
+// What a shrinking of these choices answers, and what it has written; none for want of memory.
+fn shrunk(
+    alloc: Global,
+    given: Given,
+    choices: &[u8],
+) -> Option<(Result<Status, ShrinkFault>, MemorySink<Global>)> {
+    let file = file_of(alloc, given.source)?;
     let mut program = MemorySource::new(&file);
-    let mut choices = MemorySource::new(given.as_bytes());
+    let mut choices = Failing::new(MemorySource::new(choices), given.passed);
     let mut sink = MemorySink::new(alloc);
-    let result = shrink_engine(
+    let ending = shrink_engine(
         alloc,
-        inputs,
-        demands,
+        given.inputs,
+        given.demands,
         &mut program,
         &mut choices,
         &mut sink,
         &mut Unheard,
     );
-    Some((result, sink))
+    Some((ending, sink))
+}
+
+// Whether this text is left of a row.
+fn is_left(alloc: Global, row: &Row) -> Option<bool> {
+    let given = Given {
+        source: row.source,
+        inputs: row.inputs,
+        demands: row.demands,
+        passed: u64::MAX,
+    };
+    let (ending, sink) = shrunk(alloc, given, row.given.as_bytes())?;
+    Some(ending == Ok(Status::Done) && sink.bytes() == row.left.as_bytes())
 }
 
 #[test]
 fn worked_lists_are_shrunk(rt: HostRuntime) {
-    let rows = [
-        UPDATE_LOST,
-        MARKS_GO,
-        SAME_FAULT,
-        ONE_MARK,
-        BROKEN_RULE,
-        DEADLOCK,
-        FAULT_FIRST,
-    ];
-    for row in rows {
-        let Some((result, sink)) = shrunk(
-            rt.alloc(),
-            row.source,
-            &row.inputs,
-            row.demands,
-            row.given,
-        ) else {
-            panic!(rt; "no memory");
-        };
-        let left = row.left;
-        assert_eq!(rt; result, Ok(Status::Done), "{left}");
-        assert_eq!(rt; sink.bytes(), left.as_bytes(), "{left}");
+    for row in &WORKED {
+        let given = row.given;
+        assert!(rt; is_left(rt.alloc(), row) == Some(true), "{given}");
     }
 }
 
-// A source, the inputs, what is asked of its runs, a choice text, and the fault.
-#[test]
-fn what_does_not_fail_is_refused(rt: HostRuntime) {
-    let rows: [(&str, &[u32], Demands, &str, ShrinkFault); 7] = [
-        (
-            LOST,
-            &[2, 2],
-            NO_FAULT,
-            "0*15 1*15",
-            ShrinkFault::NothingFails,
-        ),
-        (LOST, &[2, 2], NO_FAULT, "", ShrinkFault::NothingFails),
-        // Too few steps are no hang.
-        (
-            CROSSED,
-            &[0, 0],
-            ALL_EXIT,
-            "0*8 1*6",
-            ShrinkFault::NothingFails,
-        ),
-        (
-            OWN_INPUT,
-            &[7, 9],
-            NO_FAULT,
-            "0*5 1*6",
-            ShrinkFault::NothingFails,
-        ),
-        (
-            OWN_INPUT,
-            &[7, 7],
-            AGREED,
-            "0*5 1*6",
-            ShrinkFault::NothingFails,
-        ),
-        (
-            LOST,
-            &[],
-            NO_FAULT,
-            "0 2",
-            ShrinkFault::Run(RunFault::NoHarts),
-        ),
-        (
-            LOST,
-            &[2, 2],
-            NO_FAULT,
-            "0 2",
-            ShrinkFault::Run(RunFault::NoHart(2)),
-        ),
-    ];
-    for (source, inputs, demands, given, fault) in rows {
-        let Some((result, sink)) = shrunk(rt.alloc(), source, inputs, demands, given) else {
-            panic!(rt; "no memory");
-        };
-        assert_eq!(rt; result, Err(fault), "{given}");
-        assert!(rt; sink.bytes().is_empty(), "{given}");
-    }
+// What is refused, and the fault.
+struct Refused {
+    given: Given,
+    choices: &'static str,
+    fault: ShrinkFault,
+}
+
+// Too few steps are no hang.
+#[rattlefmt::skip]
+const REFUSED: [Refused; 8] = [
+    Refused { given: Given { source: LOST, inputs: &[2, 2], demands: NO_FAULT, passed: u64::MAX }, choices: "0*15 1*15",
+        fault: ShrinkFault::NothingFails },
+    Refused { given: Given { source: LOST, inputs: &[2, 2], demands: NO_FAULT, passed: u64::MAX }, choices: "",
+        fault: ShrinkFault::NothingFails },
+    Refused { given: Given { source: CROSSED, inputs: &[0, 0], demands: ALL_EXIT, passed: u64::MAX }, choices: "0*8 1*6",
+        fault: ShrinkFault::NothingFails },
+    Refused { given: Given { source: OWN_INPUT, inputs: &[7, 9], demands: NO_FAULT, passed: u64::MAX }, choices: "0*5 1*6",
+        fault: ShrinkFault::NothingFails },
+    Refused { given: Given { source: OWN_INPUT, inputs: &[7, 7], demands: AGREED, passed: u64::MAX }, choices: "0*5 1*6",
+        fault: ShrinkFault::NothingFails },
+    Refused { given: Given { source: LOST, inputs: &[], demands: NO_FAULT, passed: u64::MAX }, choices: "0 2",
+        fault: ShrinkFault::Run(RunFault::NoHarts) },
+    Refused { given: Given { source: LOST, inputs: &[2, 2], demands: NO_FAULT, passed: u64::MAX }, choices: "0 2",
+        fault: ShrinkFault::Run(RunFault::NoHart(2)) },
+    Refused { given: Given { source: TWO_FAULTS, inputs: &[0, 0], demands: NO_FAULT, passed: 0 }, choices: "1*6 0*8",
+        fault: ShrinkFault::Run(RunFault::Read(Input::Choices)) },
+];
+
+// Whether a shrinking is refused so, and nothing is written.
+fn is_refused(alloc: Global, row: &Refused) -> Option<bool> {
+    let (ending, sink) = shrunk(alloc, row.given, row.choices.as_bytes())?;
+    Some(ending == Err(row.fault) && sink.bytes().is_empty())
 }
 
 #[test]
-fn failing_devices_are_told(rt: HostRuntime) {
-    let Some(file) = file_of(rt.alloc(), TWO_FAULTS) else {
-        panic!(rt; "no file");
-    };
-    let mut program = MemorySource::new(&file);
-    let mut choices = Failing::new(MemorySource::new(b"1*6 0*8"), 0);
-    let mut sink = MemorySink::new(rt.alloc());
-    let result = shrink_engine(
-        rt.alloc(),
-        &[0, 0],
-        NO_FAULT,
-        &mut program,
-        &mut choices,
-        &mut sink,
-        &mut Unheard,
-    );
-    assert_eq!(rt;
-        result,
-        Err(ShrinkFault::Run(RunFault::Read(Input::Choices)))
-    );
-    assert!(rt; sink.bytes().is_empty());
+fn what_does_not_fail_or_is_not_read_is_refused(rt: HostRuntime) {
+    for (number, row) in REFUSED.iter().enumerate() {
+        assert!(rt; is_refused(rt.alloc(), row) == Some(true), "{number}");
+    }
+}
+
+// How a shrinking ends that a full sink should take; none for want of memory.
+fn shrunk_in_vain(alloc: Global) -> Option<Result<Status, ShrinkFault>> {
+    let file = file_of(alloc, TWO_FAULTS)?;
     let mut program = MemorySource::new(&file);
     let mut choices = MemorySource::new(b"1*6 0*8");
-    let mut full = FullSink::new();
-    let result = shrink_engine(
-        rt.alloc(),
+    let ending = shrink_engine(
+        alloc,
         &[0, 0],
         NO_FAULT,
         &mut program,
         &mut choices,
-        &mut full,
+        &mut FullSink::new(),
         &mut Unheard,
     );
-    assert_eq!(rt; result, Err(ShrinkFault::Run(RunFault::Write)));
+    Some(ending)
 }
 
-// How many choices are left of a seed's, where the program fails under it.
-fn left_of<A: Allocator + Copy>(alloc: A, file: &[u8], seed: u64) -> Option<usize> {
+#[test]
+fn a_full_sink_is_told(rt: HostRuntime) {
+    let told = Err(ShrinkFault::Run(RunFault::Write));
+    assert!(rt; shrunk_in_vain(rt.alloc()) == Some(told));
+}
+
+// The choices of a seed, as a text.
+fn seeded_text(alloc: Global, seed: u64) -> Option<String<Global>> {
     let schedule = seeded(alloc, 2, 300, seed).ok()?;
-    let text = print_choices(alloc, &schedule).ok()?;
-    let mut program = MemorySource::new(file);
-    let mut choices = MemorySource::new(text.as_bytes());
-    let mut sink = MemorySink::new(alloc);
-    shrink_engine(
-        alloc,
-        &[2, 2],
-        NO_FAULT,
-        &mut program,
-        &mut choices,
-        &mut sink,
-        &mut Unheard,
-    )
-    .ok()?;
+    print_choices(alloc, &schedule).ok()
+}
+
+// How many choices are left of a seed's, where updates are lost under it.
+fn left_of(alloc: Global, seed: u64) -> Option<usize> {
+    let text = seeded_text(alloc, seed)?;
+    let given = Given {
+        source: LOST,
+        inputs: &[2, 2],
+        demands: NO_FAULT,
+        passed: u64::MAX,
+    };
+    let (ending, sink) = shrunk(alloc, given, text.as_bytes())?;
+    if ending.is_err() {
+        return None;
+    }
     let left = read_choices(alloc, sink.bytes(), 2).ok()?;
     Some(left.len())
 }
@@ -272,10 +252,7 @@ fn left_of<A: Allocator + Copy>(alloc: A, file: &[u8], seed: u64) -> Option<usiz
 // The 14 steps of hart 0 to its EBREAK and the nine of hart 1 to its AMO are the least that an update is lost in.
 #[test]
 fn seeds_shrink_to_the_steps_that_lose_an_update(rt: HostRuntime) {
-    let Some(file) = file_of(rt.alloc(), LOST) else {
-        panic!(rt; "no file");
-    };
     for seed in [2, 4, 5, 7, 8, 10] {
-        assert_eq!(rt; left_of(rt.alloc(), &file, seed), Some(23), "{seed}");
+        assert!(rt; left_of(rt.alloc(), seed) == Some(23), "{seed}");
     }
 }

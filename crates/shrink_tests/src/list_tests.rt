@@ -3,7 +3,7 @@ ghost use Rattle.std.specs.Prelude.{◌≤◌, length};
 
 use choice_shrinking::{ChoicesLeft, Failing, shrink_choices};
 use machine::Choice;
-use std::alloc::AllocError;
+use std::alloc::{AllocError, Global};
 
 // A list fails that has so many choices or more.
 #[derive(Clone, Copy)]
@@ -59,19 +59,18 @@ const GIVEN: [Choice; 5] = [
     },
 ];
 
-#[test]
-fn so_many_choices_are_left_without_marks(rt: HostRuntime) {
+// Whether three choices are left where three fail, all of them without marks, and it is told so; nothing for want of memory.
+fn are_three_left(alloc: Global) -> Option<bool> {
     let mut noted = Noted {
         last_left: 0,
         needed: None,
     };
-    let Ok(list) = shrink_choices(rt.alloc(), &AtLeast { least: 3 }, &GIVEN, &mut noted) else {
-        panic!(rt; "no memory");
-    };
-    assert_eq!(rt; list.len(), 3);
-    for choice in list.iter() {
-        assert!(rt; !choice.refuse);
-    }
-    assert_eq!(rt; noted.last_left, 3);
-    assert_eq!(rt; noted.needed, Some(3));
+    let list = shrink_choices(alloc, &AtLeast { least: 3 }, &GIVEN, &mut noted).ok()?;
+    let are_unmarked = list.iter().all(|choice| !choice.refuse);
+    Some(list.len() == 3 && are_unmarked && noted.last_left == 3 && noted.needed == Some(3))
+}
+
+#[test]
+fn so_many_choices_are_left_without_marks(rt: HostRuntime) {
+    assert!(rt; are_three_left(rt.alloc()) == Some(true));
 }

@@ -5,7 +5,7 @@ use devices::{MemorySink, MemorySource, Status};
 use exit_failures::Demands;
 use exits::Exit;
 use programs::RunFault;
-use refusing::{Call, tried};
+use refusing::{Call, Wrong, tried};
 use shrink_engine::{ShrinkFault, shrink_engine};
 use std::alloc::{AllocError, Allocator, Global};
 
@@ -15,12 +15,21 @@ struct Shrinking<'a> {
     file: &'a [u8],
 }
 
+// Whether a shrinking gave its full answer; or it told want of memory and wrote nothing.
+fn answer_of(ending: Result<Status, ShrinkFault>, bytes: &[u8]) -> Result<bool, AllocError> {
+    match ending {
+        Ok(status) => Ok(status == Status::Done && bytes == b"1*4 0*6\n".as_slice()),
+        Err(ShrinkFault::Run(RunFault::Memory)) if bytes.is_empty() => Err(AllocError),
+        Err(_) => Ok(false),
+    }
+}
+
 impl<'a> Call for Shrinking<'a> {
     fn answer<A: Allocator + Copy>(&self, alloc: A, host: Global) -> Result<bool, AllocError> {
         let mut program = MemorySource::new(self.file);
         let mut choices = MemorySource::new(b"1*6 0*8");
         let mut sink = MemorySink::new(host);
-        let result = shrink_engine(
+        let ending = shrink_engine(
             alloc,
             &[0, 0],
             Demands {
@@ -32,19 +41,17 @@ impl<'a> Call for Shrinking<'a> {
             &mut sink,
             &mut Unheard,
         );
-        match result {
-            Ok(status) => Ok(status == Status::Done && sink.bytes() == b"1*4 0*6\n".as_slice()),
-            Err(ShrinkFault::Run(RunFault::Memory)) if sink.bytes().is_empty() => Err(AllocError),
-            Err(_) => Ok(false),
-        }
+        answer_of(ending, sink.bytes())
     }
+}
+
+// What is wrong with the shrinking of the file's run; nothing for want of memory for the file.
+fn tried_shrinking(alloc: Global) -> Option<Result<(), Wrong>> {
+    let file = file_of(alloc, TWO_FAULTS)?;
+    Some(tried(alloc, &Shrinking { file: &file }))
 }
 
 #[test]
 fn shrinking_tells_want_of_memory(rt: HostRuntime) {
-    let Some(file) = file_of(rt.alloc(), TWO_FAULTS) else {
-        panic!(rt; "no file");
-    };
-    let call = Shrinking { file: &file };
-    assert_eq!(rt; tried(rt.alloc(), &call), Ok(()));
+    assert!(rt; tried_shrinking(rt.alloc()) == Some(Ok(())));
 }
