@@ -1,6 +1,6 @@
 //! What no clause says: the names of the mnemonics, and that the built program gives the words of another assembler back.
 use decoder::decode;
-use isa_table::vectors::{unassigned, vectors};
+use isa_table::vectors::{Vector, unassigned, vectors};
 use isa_table::{Instr, Mnemonic};
 
 /// Each mnemonic as GNU as reads it, and a word that it made.
@@ -80,41 +80,43 @@ fn order(aq: bool, rl: bool) -> u32 {
     u32::from(aq) << 1 | u32::from(rl)
 }
 
+// Whether a vector's word is decoded to its mnemonic and operands.
+fn is_decoded(vector: &Vector) -> bool {
+    let wanted = (vector.rd, vector.rs1, vector.rs2, vector.imm);
+    match decode(vector.word) {
+        Some(instr) => instr.mnemonic() == vector.mnemonic && operands(instr) == wanted,
+        None => false,
+    }
+}
+
 #[test]
 fn words_of_another_assembler(rt: HostRuntime) {
     for vector in vectors() {
-        let word = vector.word;
-        let wanted = (vector.rd, vector.rs1, vector.rs2, vector.imm);
-        match decode(word) {
-            Some(instr) => {
-                assert_eq!(rt; instr.mnemonic(), vector.mnemonic, "at {word:#010x}");
-                assert_eq!(rt; operands(instr), wanted, "at {word:#010x}");
-            }
-            None => assert!(rt; false, "at {word:#010x}"),
-        }
+        assert!(rt; is_decoded(vector), "at {:#010x}", vector.word);
     }
 }
 
 #[test]
 fn words_that_are_no_instruction(rt: HostRuntime) {
     for word in unassigned() {
-        assert_eq!(rt; decode(*word), None, "at {word:#010x}");
+        assert!(rt; decode(*word).is_none(), "at {word:#010x}");
+    }
+}
+
+// Whether a word's mnemonic has a name, and that name is its own.
+fn is_named(name: &str, word: u32) -> bool {
+    match decode(word) {
+        Some(instr) => {
+            let mnemonic = instr.mnemonic();
+            mnemonic.name() == name && Mnemonic::of_name(name) == Some(mnemonic)
+        }
+        None => false,
     }
 }
 
 #[test]
 fn names_of_another_assembler(rt: HostRuntime) {
-    for &(name, word) in &NAMES {
-        match decode(word) {
-            Some(instr) => {
-                assert_eq!(rt; instr.mnemonic().name(), name, "at {word:#010x}");
-                assert_eq!(rt;
-                    Mnemonic::of_name(name),
-                    Some(instr.mnemonic()),
-                    "at {name}"
-                );
-            }
-            None => assert!(rt; false, "at {word:#010x}"),
-        }
+    for (name, word) in &NAMES {
+        assert!(rt; is_named(name, *word), "{name}");
     }
 }

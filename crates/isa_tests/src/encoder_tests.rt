@@ -114,10 +114,7 @@ fn set(bits: u32) -> FenceSet {
 #[test]
 fn words_of_another_assembler(rt: HostRuntime) {
     for vector in vectors() {
-        let word = vector.word;
-        match instr_of(*vector) {
-            Some(instr) => assert_eq!(rt; encode(&instr), word, "at {word:#010x}"),
-            None => assert!(rt; false, "at {word:#010x}"),
-        }
+        let encoded = instr_of(*vector).map(|instr| encode(&instr));
+        assert!(rt; encoded == Some(vector.word), "at {:#010x}", vector.word);
     }
 }

@@ -1,48 +1,71 @@
 //! The names of all registers and of some sets, as GNU as reads them.
 use isa_table::{FenceSet, Reg};
 use names_and_digits::{FenceAccesses, RegisterName};
-use std::alloc::AllocError;
+use std::alloc::{AllocError, Allocator};
+
+// What is printed.
+#[derive(Clone, Copy)]
+enum Named {
+    Register(Reg),
+    // A set by its bits, which are fewer than 16.
+    Set(u8),
+}
+
+// A name as it is printed.
+fn printed<A: Allocator + Copy>(alloc: A, named: Named) -> Result<String<A>, AllocError> {
+    match named {
+        Named::Register(register) => {
+            let name = RegisterName(register);
+            format!(in alloc; "{name}")
+        }
+        Named::Set(bits) => {
+            let name = FenceAccesses(FenceSet::new(bits & 15));
+            format!(in alloc; "{name}")
+        }
+    }
+}
+
+// Whether a name is printed so.
+fn is_printed<A: Allocator + Copy>(alloc: A, named: Named, wanted: &str) -> bool {
+    match printed(alloc, named) {
+        Ok(text) => text.as_str() == wanted,
+        Err(AllocError) => false,
+    }
+}
+
+const REGISTERS: [&str; 32] = [
+    "zero", "ra", "sp", "gp", "tp", "t0", "t1", "t2", "s0", "s1", "a0", "a1", "a2", "a3", "a4",
+    "a5", "a6", "a7", "s2", "s3", "s4", "s5", "s6", "s7", "s8", "s9", "s10", "s11", "t3", "t4",
+    "t5", "t6",
+];
 
 #[test]
-fn registers_have_their_names(rt: HostRuntime) -> Result<(), AllocError> {
-    let wanted =
-        "zero ra sp gp tp t0 t1 t2 s0 s1 a0 a1 a2 a3 a4 a5 a6 a7 s2 s3 s4 s5 s6 s7 s8 s9 s10 s11 t3 t4 t5 t6 ";
-    let mut names = String::new(rt.alloc());
+fn registers_have_their_names(rt: HostRuntime) {
     for number in 0..32u8 {
-        let name = RegisterName(Reg::new(number));
-        write!(names, "{name} ")?;
+        let register = Named::Register(Reg::new(number));
+        assert!(rt;
+            is_printed(rt.alloc(), register, REGISTERS[number as usize]),
+            "{number}"
+        );
     }
-    assert_eq!(rt; names.as_str(), wanted);
-    Ok(())
 }
 
-#[test]
-fn constants_are_the_registers_of_their_names(rt: HostRuntime) -> Result<(), AllocError> {
-    for (register, wanted) in [
-        (Reg::ZERO, "zero"),
-        (Reg::RA, "ra"),
-        (Reg::TEMPORARY_1, "t1"),
-    ] {
-        let name = RegisterName(register);
-        let text = format!(in rt.alloc(); "{name}")?;
-        assert_eq!(rt; text.as_str(), wanted);
-    }
-    Ok(())
-}
+// Names that are printed, and how.
+const NAMES: [(Named, &str); 9] = [
+    (Named::Register(Reg::ZERO), "zero"),
+    (Named::Register(Reg::RA), "ra"),
+    (Named::Register(Reg::TEMPORARY_1), "t1"),
+    (Named::Set(15), "iorw"),
+    (Named::Set(12), "io"),
+    (Named::Set(3), "rw"),
+    (Named::Set(8), "i"),
+    (Named::Set(1), "w"),
+    (Named::Set(0), ""),
+];
 
 #[test]
-fn sets_have_their_letters(rt: HostRuntime) -> Result<(), AllocError> {
-    for (bits, wanted) in [
-        (15, "iorw"),
-        (12, "io"),
-        (3, "rw"),
-        (8, "i"),
-        (1, "w"),
-        (0, ""),
-    ] {
-        let set = FenceAccesses(FenceSet::new(bits));
-        let text = format!(in rt.alloc(); "{set}")?;
-        assert_eq!(rt; text.as_str(), wanted);
+fn constants_and_sets_have_their_names(rt: HostRuntime) {
+    for (named, wanted) in &NAMES {
+        assert!(rt; is_printed(rt.alloc(), *named, wanted), "{wanted}");
     }
-    Ok(())
 }
