@@ -30,5 +30,5 @@ impl Call for Adding {
 
 #[test]
 fn each_request_of_add_is_refused(rt: HostRuntime) {
-    assert_eq!(rt; tried(rt.alloc(), &Adding), Ok(()));
+    assert!(rt; tried(rt.alloc(), &Adding) == Ok(()));
 }
