@@ -279,12 +279,21 @@ const REFUSED: [(&str, &[&str], Refusal); 11] = [
 ];
 
 // How a line is refused; none where it gives an order, or is refused otherwise.
-fn refusal_of(alloc: Global, words: &[&str]) -> Option<Refusal> {
+fn refusal_of<'a>(alloc: Global, words: &'a [&'a str]) -> Option<Refusal> {
     match read_line(alloc, words) {
-        Err(LineFault::Told(error)) if error.use_stderr() => Some(Refusal::Fault),
-        Err(LineFault::Told(_)) => Some(Refusal::Help),
+        Err(LineFault::Told(error)) => Some(refusal_by_clap(error.use_stderr())),
         Err(LineFault::NoCommand) => Some(Refusal::NoCommand),
-        _ => None,
+        Err(_fault) => None,
+        Ok(_order) => None,
+    }
+}
+
+// How clap refuses a line, by whether it is told on standard error.
+fn refusal_by_clap(is_fault: bool) -> Refusal {
+    if is_fault {
+        Refusal::Fault
+    } else {
+        Refusal::Help
     }
 }
 
