@@ -1,6 +1,6 @@
 //! Choices that are drawn from all harts.
 
-ghost use Rattle.std.specs.Prelude.{◌≡◌, ◌<◌, ◌%◌, IfOk};
+ghost use Rattle.std.specs.Prelude.{◌≡◌, ◌<◌, IfOk};
 ghost use Rattle.rand_pcg.specs.Pcg.{pcg32};
 ghost use Rattle.refusals.specs.Refusing.{choice_of_word, even_choices};
 
@@ -8,23 +8,8 @@ use crate::refusal::Refusals;
 use machine::Choice;
 use rand_core::utils::NextWord;
 use rand_pcg::Lcg64Xsh32;
-use scheduler::seeded_generator;
+use scheduler::{hart_of_word, seeded_generator};
 use std::alloc::{AllocError, Allocator};
-
-// A word's remainder by the number of harts: a mask where that is a power of two, for speed, as in `scheduler`.
-fn hart_of_word(word: u32, harts: u32) -> u32
-    requires { 0 < harts }
-    ensures { result ≡ word % harts }
-{
-    match harts {
-        2 => word % 2,
-        4 => word % 4,
-        8 => word % 8,
-        16 => word % 16,
-        32 => word % 32,
-        _ => word % harts,
-    }
-}
 
 /// Draws one word and the choice that it stands for: hart `word mod harts`, with the store-conditional refused where the refusals
 /// say so of the word.

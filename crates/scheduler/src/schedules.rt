@@ -53,12 +53,13 @@ pub fn seeded_generator(seed: u64) -> Lcg64Xsh32
     Lcg64Xsh32::seed_from_u64(seed)
 }
 
-// A word's remainder by the number of harts. By a power of two that is a mask: a division by a number that the compiler doesn't know takes ten
-// times as long, and the next step waits for it.
-fn hart_of_word(word: u32, harts: u32) -> u32
+/// The hart that a word stands for: its remainder by the number of harts, which is not 0.
+pub fn hart_of_word(word: u32, harts: u32) -> u32
     requires { 0 < harts }
     ensures { result ≡ word % harts }
 {
+    // By a power of two that is a mask: a division by a number that the compiler doesn't know takes ten times as long, and the next step waits
+    // for it.
     match harts {
         2 => word % 2,
         4 => word % 4,
