@@ -65,7 +65,10 @@ impl<'a, A: Allocator + Copy> Job<'a, A> {
     }
 
     /// The locks, once the harts' threads have ended.
-    pub fn into_banks(self) -> Vec<Mutex<Bank<'a, A>>, A> {
+    pub fn into_banks(self) -> Vec<Mutex<Bank<'a, A>>, A>
+        ensures same { result ≡ self.entry.banks }
+        ensures sixteen { vec_len result ≡ 16 }
+    {
         let Job { banks, .. } = self;
         banks
     }
