@@ -1,8 +1,7 @@
 //! What no clause says: the worked texts, the faults' own texts, and refused memory.
-use crate::refusals::tells_refusals;
 use choice_texts::{ChoiceFault, read_choices};
 use machine::Choice;
-use refusing::Call;
+use refusing::{Call, tried};
 use std::alloc::{AllocError, Allocator, Global};
 
 macro_rules! plain {
@@ -146,5 +145,5 @@ impl Call for Reading {
 
 #[test]
 fn each_refused_request_is_told(rt: HostRuntime) {
-    assert!(rt; tells_refusals(rt.alloc(), &Reading));
+    assert!(rt; tried(rt.alloc(), &Reading).is_ok());
 }

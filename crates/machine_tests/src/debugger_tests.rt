@@ -1,10 +1,9 @@
 //! What no clause says: that a call is refused only where a request for memory was, and what stands after it.
-use crate::refusals::tells_refusals;
 use debugger::{Debugger, MoveFault, Stop, byte_at};
 use loader::{Image, Rights, Segment};
 use machine::Choice;
 use progress::Progress;
-use refusing::Refusing;
+use refusing::{Refusing, tried};
 use std::alloc::{AllocError, Allocator, Global};
 
 // `lui t0, 0x11` at 0x10000, then `sb a1, 6(t0)`, and at 0x10008 a jump to itself.
@@ -272,7 +271,7 @@ impl refusing::Call for Start {
 
 #[test]
 fn each_refused_request_of_a_start_refuses_it(rt: HostRuntime) {
-    assert!(rt; tells_refusals(rt.alloc(), &Start));
+    assert!(rt; tried(rt.alloc(), &Start).is_ok());
 }
 
 // A move through a thousand choices, what refuses it, and behind it the position, the cost, and the byte that the harts store: 7 by

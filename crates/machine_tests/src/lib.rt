@@ -14,8 +14,6 @@ mod history_text_tests;
 #[cfg(test)]
 mod local_step_tests;
 #[cfg(test)]
-mod refusals;
-#[cfg(test)]
 mod schedule_tests;
 #[cfg(test)]
 mod seed_run_tests;

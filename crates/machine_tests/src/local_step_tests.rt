@@ -1,10 +1,9 @@
 //! What no clause says of code and local steps: single rows of each instruction, seams, and refused memory.
-use crate::refusals::tells_refusals;
 use hart_step::{Hart, HartState};
 use isa_table::Instr;
 use loader::{Image, Rights, Segment};
 use local_steps::{Class, Code, classify, local_steps};
-use refusing::Call;
+use refusing::{Call, tried};
 use std::alloc::{AllocError, Allocator, Global};
 use std::mem::size_of;
 
@@ -209,7 +208,7 @@ impl Call for TwoSegments {
 
 #[test]
 fn code_is_refused_where_a_request_is(rt: HostRuntime) {
-    assert!(rt; tells_refusals(rt.alloc(), &TwoSegments));
+    assert!(rt; tried(rt.alloc(), &TwoSegments).is_ok());
 }
 
 #[test]

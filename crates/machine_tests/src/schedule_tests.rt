@@ -1,10 +1,9 @@
 //! The worked schedules.
-use crate::refusals::tells_refusals;
 use choice_texts::{print_choices, print_runs, read_choices};
 use machine::Choice;
 use rand_core::utils::NextWord;
 use rand_pcg::Lcg64Xsh32;
-use refusing::{Call, Refusing};
+use refusing::{Call, Refusing, tried};
 use scheduler::{round_robin, seeded, seeded_generator, solo};
 use std::alloc::{AllocError, Allocator, Global};
 
@@ -113,7 +112,7 @@ static FOUR_RUNS: Printed = Printed {
 
 #[test]
 fn each_refused_request_of_print_runs_is_told(rt: HostRuntime) {
-    assert!(rt; tells_refusals(rt.alloc(), &FOUR_RUNS));
+    assert!(rt; tried(rt.alloc(), &FOUR_RUNS).is_ok());
 }
 
 /// Five choices of different harts.
@@ -210,7 +209,7 @@ fn seeded_choices_follow_the_words(rt: HostRuntime) {
 
 #[test]
 fn each_refused_request_is_told(rt: HostRuntime) {
-    assert!(rt; tells_refusals(rt.alloc(), &FIVE_CHOICES));
+    assert!(rt; tried(rt.alloc(), &FIVE_CHOICES).is_ok());
 }
 
 /// Schedules of nine steps of two harts.

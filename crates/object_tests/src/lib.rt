@@ -14,6 +14,4 @@ mod proto_rounds_tests;
 #[cfg(test)]
 mod protocol_library_tests;
 #[cfg(test)]
-mod refusals;
-#[cfg(test)]
 mod stepping;

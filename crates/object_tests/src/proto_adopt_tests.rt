@@ -1,11 +1,10 @@
 //! The call with ample memory, and with each of its requests refused in turn; and a hart that runs alone.
 
-use crate::refusals::tells_refusals;
 use crate::stepping::{started, take_steps};
 use hart_step::{Hart, HartState};
 use proto_adopt::adopt_image;
 use protocol_library::{Kind, certify};
-use refusing::Call;
+use refusing::{Call, tried};
 use std::alloc::{AllocError, Allocator, Global};
 
 /// Whether the image is made and is AdoptCommit's.
@@ -30,7 +29,7 @@ impl Call for Making {
 
 #[test]
 fn each_refused_request_is_told(rt: HostRuntime) {
-    assert!(rt; tells_refusals(rt.alloc(), &Making));
+    assert!(rt; tried(rt.alloc(), &Making).is_ok());
 }
 
 /// A hart that is chosen alone, and at which of its steps it ends with its input.

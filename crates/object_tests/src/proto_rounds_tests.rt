@@ -1,11 +1,10 @@
 //! The call with ample memory, and with each of its requests refused in turn; and runs of one and of two harts.
 
-use crate::refusals::tells_refusals;
 use crate::stepping::{PlainMachine, started, take_step, take_steps};
 use hart_step::{Hart, HartState};
 use proto_rounds::rounds_image;
 use protocol_library::{Kind, certify};
-use refusing::Call;
+use refusing::{Call, tried};
 use std::alloc::{AllocError, Allocator, Global};
 
 /// Whether the image is made.
@@ -39,7 +38,7 @@ impl Call for Making {
 
 #[test]
 fn each_refused_request_is_told(rt: HostRuntime) {
-    assert!(rt; tells_refusals(rt.alloc(), &Making));
+    assert!(rt; tried(rt.alloc(), &Making).is_ok());
 }
 
 // A run, and what each hart comes to: whether it has exited, its value and its flag.

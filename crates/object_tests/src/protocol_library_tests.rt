@@ -1,14 +1,13 @@
 //! Names, recognition and verdicts: harts made by hand, for each clause of a rule one row that breaks it, and rows that keep
 //! all.
 
-use crate::refusals::tells_refusals;
 use hart_step::{Cause, Hart, HartState};
 use loader::{Image, Rights, Segment};
 use machine::Choice;
 use protocol_library::{
     KIND_NAMES, Kind, Verdict, certify, judge, make_image, source, table, words,
 };
-use refusing::Call;
+use refusing::{Call, tried};
 use std::alloc::{AllocError, Allocator, Global};
 
 const EXITED: HartState = HartState::Exited(0);
@@ -275,5 +274,5 @@ impl Call for Making {
 
 #[test]
 fn each_refused_request_is_told(rt: HostRuntime) {
-    assert!(rt; tells_refusals(rt.alloc(), &Making));
+    assert!(rt; tried(rt.alloc(), &Making).is_ok());
 }
