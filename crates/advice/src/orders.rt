@@ -1,7 +1,7 @@
 //! The advice on a command line.
 
 use crate::names::nearest;
-use crate::options::{COMMANDS, OTHER_COMMANDS, OTHER_OPTIONS, Row};
+use crate::options::{COMMANDS, NAMES, OTHER_COMMANDS, OTHER_OPTIONS, Row};
 use crate::sentence::Part::{First, Second, Words};
 use crate::sentence::{Form, Sentence, push_sentence};
 use crate::table::told_of;
@@ -12,7 +12,7 @@ const EDITS: usize = 3;
 
 // No command stands there.
 const NO_COMMAND: Form = &[Words(
-    "a command stands first, as rvcons run prog.elf --inputs 7,9 --choices turns.choices",
+    "a command stands first, as rvcons run prog.elf --inputs 7,9 --choices turns.choices\n",
 )];
 
 // A command of another tool, and what is called so here.
@@ -22,25 +22,34 @@ const CALLED: Form = &[
     Second,
     Words(" here: see rvcons "),
     Second,
-    Words(" --help"),
+    Words(" --help\n"),
 ];
 
 // A command that is near.
-const MEANT: Form = &[Words("is "), First, Words(" meant?")];
+const MEANT: Form = &[Words("is "), First, Words(" meant?\n")];
 
 // No command is near.
 const THE_COMMANDS: Form = &[Words(
-    "the commands are asm, list, info, run, debug, threads, replay, lib, campaign, schedule, shrink and trace; a file stands behind the command",
+    "the commands are asm, list, info, run, debug, threads, replay, lib, campaign, schedule, shrink and trace; a file stands behind the command\n",
 )];
 
+// Nothing.
+const NOTHING: Form = &[];
+
 // What is said of an option of another tool.
-const TOLD: Form = &[First];
+const TOLD: Form = &[First, Words("\n")];
 
 // An option that is near, and an example.
-const MEANT_AS: Form = &[Words("is "), First, Words(" meant? As "), Second];
+const MEANT_AS: Form = &[
+    Words("is "),
+    First,
+    Words(" meant? As "),
+    Second,
+    Words("\n"),
+];
 
 // An example.
-const AS: Form = &[Words("as "), First];
+const AS: Form = &[Words("as "), First, Words("\n")];
 
 /// What is wrong with a command line.
 #[derive(Clone, Copy)]
@@ -62,11 +71,9 @@ pub fn order_advice<A: Allocator + Copy>(
     mistake: Mistake,
     words: &[&str],
 ) -> Result<String<A>, AllocError> {
+    let sentence = order_sentence(alloc, mistake, words)?;
     let mut text = String::new(alloc);
-    if let Some(sentence) = order_sentence(alloc, mistake, words)? {
-        push_sentence(&mut text, &sentence)?;
-        text.push('\n')?;
-    }
+    push_sentence(&mut text, &sentence)?;
     Ok(text)
 }
 
@@ -75,17 +82,17 @@ fn order_sentence<'a, A: Allocator + Copy>(
     alloc: A,
     mistake: Mistake,
     words: &[&'a str],
-) -> Result<Option<Sentence<'a>>, AllocError> {
+) -> Result<Sentence<'a>, AllocError> {
     match (mistake, words) {
-        (Mistake::NoCommand, _) => Ok(Some(Sentence::of(NO_COMMAND, ""))),
         (Mistake::Command, [_, name, ..]) => command_sentence(alloc, *name),
         (Mistake::Option, [_, name, rest @ ..]) => option_sentence(alloc, *name, rest),
         (Mistake::Other, [_, name, ..]) => Ok(example_of(*name)),
-        _ => Ok(None),
+        (Mistake::NoCommand, _) => Ok(Sentence::of(NO_COMMAND, "")),
+        _ => Ok(Sentence::of(NOTHING, "")),
     }
 }
 
-// The row of a command.
+// The first row with a name.
 fn row_in<'a>(rows: &'a [Row], name: &str) -> Option<&'a Row> {
     'rows: for row in rows {
         if row.name == name {
@@ -95,58 +102,36 @@ fn row_in<'a>(rows: &'a [Row], name: &str) -> Option<&'a Row> {
     None
 }
 
-// The names of commands.
-fn names_of<'a, A: Allocator + Copy>(
-    alloc: A,
-    rows: &'a [Row],
-) -> Result<Vec<&'a str, A>, AllocError> {
-    let mut names = Vec::new(alloc);
-    'rows: for row in rows {
-        names.push(row.name)?;
-    }
-    Ok(names)
-}
-
-// The command that another tool calls so.
-fn other_command(name: &str) -> Option<&'static str> {
-    told_of(&OTHER_COMMANDS, name)
+// The row of a command.
+fn row_of(name: &str) -> Option<&'static Row> {
+    row_in(&COMMANDS, name)
 }
 
 // What stands for a command that is none.
 fn command_sentence<'a, A: Allocator + Copy>(
     alloc: A,
     name: &'a str,
-) -> Result<Option<Sentence<'a>>, AllocError> {
-    if let Some(other) = other_command(name) {
-        return Ok(Some(Sentence::of_two(CALLED, name, other)));
+) -> Result<Sentence<'a>, AllocError> {
+    if let Some(other) = told_of(&OTHER_COMMANDS, name) {
+        return Ok(Sentence::of_two(CALLED, name, other));
     }
-    Ok(Some(match near_command(alloc, name)? {
+    Ok(match nearest(alloc, &NAMES, name, EDITS)? {
         Some(near) => Sentence::of(MEANT, near),
         None => Sentence::of(THE_COMMANDS, ""),
-    }))
-}
-
-// The command whose name is nearest.
-fn near_command<A: Allocator + Copy>(
-    alloc: A,
-    name: &str,
-) -> Result<Option<&'static str>, AllocError> {
-    let known = names_of(alloc, &COMMANDS)?;
-    nearest(alloc, &known, name, EDITS)
+    })
 }
 
 // An example of a command.
-fn example_of(name: &str) -> Option<Sentence<'static>> {
-    let row = row_in(&COMMANDS, name)?;
-    Some(Sentence::of(AS, row.example))
+fn example_of(name: &str) -> Sentence<'static> {
+    match row_of(name) {
+        Some(row) => Sentence::of(AS, row.example),
+        None => Sentence::of(NOTHING, ""),
+    }
 }
 
 // The word without what stands behind `=`.
 fn option_name(word: &str) -> &str {
-    match word.split('=').next() {
-        Some(name) => name,
-        None => word,
-    }
+    word.split('=').next().unwrap_or(word)
 }
 
 // Whether a name is one of some.
@@ -158,7 +143,7 @@ fn is_one_of(names: &[&str], name: &str) -> bool {
 fn other_option<'a>(options: &[&str], words: &[&'a str]) -> Option<&'a str> {
     'words: for word in words {
         let name = option_name(*word);
-        if name.starts_with("-") && !is_one_of(&*options, name) {
+        if name.starts_with("-") && !is_one_of(options, name) {
             return Some(name);
         }
     }
@@ -170,18 +155,32 @@ fn option_sentence<'a, A: Allocator + Copy>(
     alloc: A,
     command: &str,
     words: &[&'a str],
-) -> Result<Option<Sentence<'a>>, AllocError> {
-    let Some(row) = row_in(&COMMANDS, command) else {
-        return Ok(None);
+) -> Result<Sentence<'a>, AllocError> {
+    let Some(row) = row_of(command) else {
+        return Ok(Sentence::of(NOTHING, ""));
     };
-    let Some(name) = other_option(row.options, words) else {
-        return Ok(Some(Sentence::of(AS, row.example)));
-    };
-    if let Some(what) = told_of(&OTHER_OPTIONS, name) {
-        return Ok(Some(Sentence::of(TOLD, what)));
+    match other_option(row.options, words) {
+        Some(name) => name_sentence(alloc, row, name),
+        None => Ok(Sentence::of(AS, row.example)),
     }
-    Ok(Some(match nearest(alloc, row.options, name, EDITS)? {
+}
+
+// What stands for an option of another tool.
+fn meaning_of(name: &str) -> Option<&'static str> {
+    told_of(&OTHER_OPTIONS, name)
+}
+
+// What stands for a name of an option that is none of a command's.
+fn name_sentence<'a, A: Allocator + Copy>(
+    alloc: A,
+    row: &'static Row,
+    name: &str,
+) -> Result<Sentence<'static>, AllocError> {
+    if let Some(what) = meaning_of(name) {
+        return Ok(Sentence::of(TOLD, what));
+    }
+    Ok(match nearest(alloc, row.options, name, EDITS)? {
         Some(near) => Sentence::of_two(MEANT_AS, near, row.example),
         None => Sentence::of(AS, row.example),
-    }))
+    })
 }

@@ -4,14 +4,7 @@ use std::alloc::{AllocError, Allocator};
 
 /// The line of this number, from 1, without its end.
 pub fn line_at(text: &str, number: usize) -> Option<&str> {
-    let mut left = number;
-    'lines: for line in text.lines() {
-        if left <= 1 {
-            return Some(line);
-        }
-        left -= 1;
-    }
-    None
+    text.lines().nth(number.saturating_sub(1))
 }
 
 /// Adds a line as a terminal may be shown it: a control character but a tab is a `?`.
