@@ -89,7 +89,7 @@ certified_keeps form inputs rule program text image choices words there reads op
 
 -- ---- the runs of seeds
 -- each choice of a seed's schedule names a hart
-seeded_within : (harts steps seed : ℕ) → 0 < harts → All (λ c. c.hart < harts) (seeded_choices harts steps seed)
+pub seeded_within : (harts steps seed : ℕ) → 0 < harts → All (λ c. c.hart < harts) (seeded_choices harts steps seed)
 unfolding choices_drawn choice_of_word
 seeded_within harts steps seed some i d lt =
     let words = first_words pcg32 steps (generator_of seed) in
@@ -98,7 +98,7 @@ seeded_within harts steps seed some i d lt =
     (mod_below (get_or words i 0) harts some)
 
 -- no run of an object is bad
-kept_runs : (kind : Kind) (image : ImageValue) (inputs : List ℕ) (steps : ℕ) (seeds : List ℕ) → 0 < length inputs → IsSame image (image_of kind)
+pub kept_runs : (kind : Kind) (image : ImageValue) (inputs : List ℕ) (steps : ℕ) (seeds : List ℕ) → 0 < length inputs → IsSame image (image_of kind)
     → IsMeantFor kind (length inputs) → All (λ x. x < 2 ^ 32) inputs → bad_runs (Some kind) inputs steps (runs_of image inputs steps seeds) ≡ 0
 unfolding plain_run
 kept_runs kind image inputs steps [] some same meant words = refl

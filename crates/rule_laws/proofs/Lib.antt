@@ -1,0 +1,5 @@
+pub mod AnswerLemmas
+pub mod ChoiceLemmas
+pub mod PlainLemmas
+pub mod DrawnLemmas
+pub mod ExitLemmas

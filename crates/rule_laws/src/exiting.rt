@@ -1,0 +1,16 @@
+//! Runs in which each hart has to exit.
+ghost use Rattle.std.specs.Prelude.{ℕ, List, Option, ◌^◌, ◌<◌};
+ghost use Rattle.std.specs.List.{All};
+ghost use Rattle.engines.specs.Certified.{IsCertified};
+ghost use Rattle.exit_engine.specs.Exiting.{exit_answer};
+ghost use Rattle.programs.specs.declared.program.ProgramForm.{ProgramForm};
+ghost use Rattle.protocol_library.specs.declared.kind.Kind.{Kind};
+ghost use Rattle.rule_laws.specs.Kept.{ShowsKept};
+
+/// `run --must-exit` shows `verdict kept`, and ends with status 0, or with 3 where a hart runs.
+#[tactic(auto, using(crate::proofs::ExitLemmas::shows_kept))]
+pub fn run_that_has_to_exit_shows_a_kept_rule()
+    ensures { (form : ProgramForm) (inputs : List ℕ) (rule : Option Kind) (program text : List ℕ) → All (λ x. x < 2 ^ 32) inputs
+        → IsCertified form program inputs rule
+        → ShowsKept (exit_answer form inputs rule program text) }
+{}
