@@ -145,7 +145,7 @@ fn what_is_bad(rule: Option<Kind>, exit: Exit) -> &'static str {
 }
 
 // What is asked of a campaign: what is told of its runs, and which they are.
-#[derive(Clone, Copy, Debug)]
+#[derive(Clone, Copy)]
 struct Asked {
     telling: Telling,
     plan: DrawnPlan,

@@ -8,7 +8,7 @@ use std::alloc::{AllocError, Allocator};
 use std::fmt;
 
 // A choice, shown as the item of its entry.
-#[derive(Clone, Copy, Debug)]
+#[derive(Clone, Copy)]
 struct ChoiceItem(Choice);
 
 impl fmt::Display for ChoiceItem {

@@ -6,7 +6,7 @@ use machine::Choice;
 use std::alloc::{AllocError, Allocator};
 
 /// What is done to a part of a list.
-#[derive(Clone, Copy, Debug)]
+#[derive(Clone, Copy)]
 pub(crate) enum Edit {
     /// Its choices are left out.
     LeaveOut,

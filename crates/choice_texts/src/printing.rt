@@ -12,7 +12,7 @@ use std::alloc::{AllocError, Allocator};
 use std::fmt;
 
 // A choice, shown as an item of a choice text.
-#[derive(Clone, Copy, Debug)]
+#[derive(Clone, Copy)]
 struct ChoiceItem(Choice);
 
 impl fmt::Display for ChoiceItem {
@@ -29,7 +29,7 @@ impl fmt::Display for ChoiceItem {
 }
 
 // A run, shown as an item of a choice text.
-#[derive(Clone, Copy, Debug)]
+#[derive(Clone, Copy)]
 struct RunItem(Run);
 
 impl fmt::Display for RunItem {

@@ -9,7 +9,7 @@ use std::alloc::{AllocError, Allocator};
 use std::fmt;
 
 // What a hart meets at an address.
-#[derive(Clone, Copy, Debug)]
+#[derive(Clone, Copy)]
 struct EventText {
     event: Event,
     pc: u32,

@@ -8,7 +8,7 @@ use std::alloc::{AllocError, Allocator};
 use std::fmt;
 
 /// Why one stopped, or what stands in its place, shown without a line's end.
-#[derive(Clone, Copy, Debug)]
+#[derive(Clone, Copy)]
 struct StopText<'a> {
     none: &'a str,
     stop: Option<Stop>,

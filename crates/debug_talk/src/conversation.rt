@@ -22,7 +22,7 @@ struct Names {
 }
 
 // Whether more lines are read.
-#[derive(Clone, Copy, Debug, PartialEq, Eq)]
+#[derive(Clone, Copy, PartialEq, Eq)]
 enum Turn {
     Next,
     Last,
@@ -142,7 +142,7 @@ fn answer_line<R: AllocGlobal + Print>(
 }
 
 // A limit that a command has passed.
-#[derive(Clone, Copy, Debug)]
+#[derive(Clone, Copy)]
 enum Limit {
     Command { harts: usize },
     Choices { length: usize },

@@ -38,7 +38,7 @@ impl<A: Allocator + Copy> Target<A> {
 }
 
 // A place on a way back.
-#[derive(Clone, Copy, Debug)]
+#[derive(Clone, Copy)]
 struct Place {
     // How many choices were done there.
     position: usize,

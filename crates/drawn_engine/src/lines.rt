@@ -13,7 +13,7 @@ use std::alloc::{AllocError, Allocator};
 use std::fmt;
 
 // How many harts of a seed's run ended in each way, shown as a line without its end.
-#[derive(Clone, Copy, Debug)]
+#[derive(Clone, Copy)]
 struct SeedLine {
     seed: u64,
     exited: usize,

@@ -11,7 +11,7 @@ use exits::Exit;
 use std::alloc::Allocator;
 
 /// What is known of the runs that were done.
-#[derive(Clone, Copy, Debug, Drop)]
+#[derive(Clone, Copy, Drop)]
 pub(crate) struct Findings {
     /// Whether a rule is broken in one.
     pub(crate) broken: bool,

@@ -14,7 +14,7 @@ use loader::elf::{
 use std::alloc::{AllocError, Allocator};
 
 /// A section header, its fields in the file's order.
-#[derive(Clone, Copy, Debug, PartialEq, Eq)]
+#[derive(Clone, Copy)]
 struct SectionHeader {
     name: u32,
     kind: u32,

@@ -18,7 +18,7 @@ const A0: usize = 10;
 const A1: usize = 11;
 
 // A cause, shown by its name.
-#[derive(Clone, Copy, Debug)]
+#[derive(Clone, Copy)]
 struct CauseName(Cause);
 
 impl fmt::Display for CauseName {

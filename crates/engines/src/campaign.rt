@@ -75,7 +75,7 @@ fn count(wanted: End, harts: &[Hart]) -> usize
 }
 
 // How many harts of a seed's run ended in each way, shown as a line without its end.
-#[derive(Clone, Copy, Debug)]
+#[derive(Clone, Copy)]
 struct SeedLine {
     seed: u64,
     exited: usize,

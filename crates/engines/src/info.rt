@@ -12,7 +12,7 @@ use std::alloc::{AllocError, Allocator};
 use std::fmt;
 
 // Rights, shown as `rwx` with a dash for each that isn't given.
-#[derive(Clone, Copy, Debug)]
+#[derive(Clone, Copy)]
 struct RightsText(Rights);
 
 impl fmt::Display for RightsText {
@@ -41,7 +41,7 @@ impl fmt::Display for RightsText {
 }
 
 // A segment, shown as a line without its end.
-#[derive(Clone, Copy, Debug)]
+#[derive(Clone, Copy)]
 struct SegmentLine {
     base: u32,
     size: u32,
@@ -62,7 +62,7 @@ impl fmt::Display for SegmentLine {
 }
 
 // A symbol, shown as a line without its end.
-#[derive(Clone, Copy, Debug)]
+#[derive(Clone, Copy)]
 struct SymbolLine<'a> {
     address: u32,
     name: &'a str,

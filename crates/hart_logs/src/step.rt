@@ -169,7 +169,7 @@ fn stores(slot: &Slot, segment: &LogSegment, touch: PlannedTouch, mark: bool) ->
 }
 
 /// What the last step of a segment logs of a word that it touches, and where it leads.
-#[derive(Clone, Copy, Debug)]
+#[derive(Clone, Copy)]
 pub(crate) struct TouchedWord {
     /// The access to the word.
     pub access: LoggedAccess,
@@ -310,7 +310,7 @@ fn data_step<A: Allocator>(
 }
 
 /// The accesses of a segment: the first, if there is one, and one behind it.
-#[derive(Clone, Copy, Debug)]
+#[derive(Clone, Copy)]
 struct Accesses {
     first: LoggedAccess,
     second: Option<LoggedAccess>,

@@ -10,7 +10,7 @@ use std::alloc::{AllocError, Allocator};
 use std::fmt;
 
 // An entry, shown as an item of a history text.
-#[derive(Clone, Copy, Debug)]
+#[derive(Clone, Copy)]
 struct EntryItem(Entry);
 
 impl fmt::Display for EntryItem {

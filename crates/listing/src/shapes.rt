@@ -114,7 +114,7 @@ pub fn write_register<W: fmt::Write>(
 }
 
 /// An order, shown by its suffix.
-#[derive(Clone, Copy, Debug)]
+#[derive(Clone, Copy)]
 struct Suffix(Order);
 
 impl fmt::Display for Suffix {

@@ -11,7 +11,7 @@ use std::alloc::{AllocError, Allocator};
 use std::fmt;
 
 // How many seeds there are, the first of them, and how many harts ended in each way, shown as a line without its end.
-#[derive(Clone, Copy, Debug)]
+#[derive(Clone, Copy)]
 struct RowLine {
     count: SeedCount,
     exited: usize,
