@@ -69,7 +69,7 @@ told_unbroken : (view : View) (plan : DrawnPlan) (inputs program : List ℕ) →
 unfolding told_answer
 told_unbroken view plan inputs program words h =
     subst (λ p. AnswersUnbroken plan.exit (after_image view plan inputs p)) (sym h.reads)
-    (answered (AnswersUnbroken plan.exit) (length inputs) _ tt tt (λ some.
+    (answered (AnswersUnbroken plan.exit) (length inputs) _ _ _ tt tt (λ some.
     unbroken h.kind h.image plan inputs some h.same h.meant words h.ruled plan.exit (range_with_len plan.runs.first plan.runs.count)))
 
 -- its lines

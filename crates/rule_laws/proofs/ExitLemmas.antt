@@ -16,7 +16,7 @@ use Rattle.programs.specs.declared.program.ProgramForm.{ProgramForm}
 use Rattle.rule_laws.specs.Kept.{IsUnbroken, ShowsKept}
 
 -- an object is for few harts
-few : (kind : Kind) (n : ℕ) → IsMeantFor kind n → n < 2 ^ 32
+pub few : (kind : Kind) (n : ℕ) → IsMeantFor kind n → n < 2 ^ 32
 few Swap n meant = omega (arith, meant)
 few Add n meant = omega (arith, meant)
 few LrSc n meant = omega (arith, meant)

@@ -51,7 +51,7 @@ pub summary_unbroken : (plan : SummaryPlan) (inputs program : List ℕ) → All 
 unfolding told_answer
 summary_unbroken plan inputs program words h =
     subst (λ p. AnswersUnbroken May (after_image (summary_of plan inputs) plan.runs inputs p)) (sym h.reads)
-    (answered (AnswersUnbroken May) (length inputs) _ tt tt (λ some.
+    (answered (AnswersUnbroken May) (length inputs) _ _ _ tt tt (λ some.
     done h.kind h.image inputs some h.same h.meant words plan.runs.rule plan.runs.first plan.runs.count plan.runs.steps h.ruled))
 
 -- and its failures
@@ -60,7 +60,7 @@ pub no_failures : (plan : CampaignPlan) (inputs program : List ℕ) → All (λ 
 unfolding told_answer
 no_failures plan inputs program words h =
     subst (λ p. AnswersNothing (after_image (failures_of plan inputs) plan inputs p)) (sym h.reads)
-    (answered AnswersNothing (length inputs) _ tt tt (λ some. (
+    (answered AnswersNothing (length inputs) _ _ _ tt tt (λ some. (
       ap (seed_lines plan.rule inputs plan.steps)
           (none_bad h.kind h.image inputs some h.same h.meant words plan (range_with_len plan.first plan.count) h.ruled),
       done h.kind h.image inputs some h.same h.meant words plan.rule plan.first plan.count plan.steps h.ruled,

@@ -3,7 +3,7 @@
 #![tactic(auto)]
 
 pub use drawn::{drawn_lines_tell_no_broken_rule, drawn_summary_tells_no_broken_rule};
-pub use exiting::run_that_has_to_exit_shows_a_kept_rule;
+pub use exiting::{run_of_enough_choices_ends_well, run_that_has_to_exit_shows_a_kept_rule};
 pub use plain::{failures_tell_of_no_run, summary_tells_no_broken_rule};
 
 mod drawn;
