@@ -1,5 +1,5 @@
 -- Runs of an object in which each hart is chosen often enough.
-use Rattle.std.proofs.Common.{suc, ◌≡◌, ℕ, ◌^◌, ◌<◌, true, false, ◌||◌, cond, List, [], ◌∷◌, length, slice_index_or, Option, Some, Ok, refl, arith, ap, ap₂, sym, subst, ◌∙◌}
+use Rattle.std.proofs.Common.{suc, ◌≡◌, ℕ, ◌^◌, ◌<◌, true, false, ◌||◌, cond, List, [], ◌∷◌, length, ltb, le-ltb, ne_eqb, slice_index_or, Option, Some, Ok, Err, refl, arith, ap, ap₂, sym, subst, ◌∙◌}
 use Rattle.std.specs.List.{All}
 use Rattle.reservations.specs.Limit.{most_harts}
 use Rattle.loader.specs.Image.{ImageValue}
@@ -26,15 +26,14 @@ use Rattle.engines.specs.Certified.{IsCertified, IsMeantFor}
 use Rattle.engines.specs.Run.{world_after}
 use Rattle.engines.proofs.CertifiedLemmas.{object_is_kept}
 use Rattle.exits.specs.Exits.{runs, some_run}
-use Rattle.exits.specs.declared.exit.Exit.TheVariants.{May}
 use Rattle.exit_engine.specs.Exiting.{after_opening, exit_answer, exit_status, hung_status}
 use Rattle.devices.specs.declared.status.Status.TheVariants as status
 use Rattle.programs.specs.Opening.{Opened, after_program, opening, with_choices}
 use Rattle.programs.specs.declared.program.ProgramForm.{ProgramForm}
+use Rattle.programs.specs.declared.run_fault.RunFault.TheVariants as fault
 use Rattle.rule_laws.specs.Enough.{ChooseEnough}
-use Rattle.rule_laws.specs.Kept.{AnswersUnbroken}
-use Rattle.rule_laws.proofs.AnswerLemmas.{answered}
-use Rattle.rule_laws.proofs.ExitLemmas.{few}
+use Rattle.rule_laws.specs.Kept.{EndsWell}
+use Rattle.rule_laws.proofs.ExitLemmas.{at_most, few}
 
 -- who has exited doesn't run
 stopped : (state : HartState) → is_exited state ≡ true → runs state ≡ false
@@ -63,19 +62,23 @@ exited Rounds image inputs choices same meant words there often h d lt =
     rounds_ends_in image same inputs choices meant words there h d lt (often h lt)
 
 pub ends_well : (form : ProgramForm) (inputs : List ℕ) (rule : Option Kind) (program text : List ℕ) (choices : List Choice)
-    → All (λ x. x < 2 ^ 32) inputs → (object : IsCertified form program inputs rule)
+    → All (λ x. x < 2 ^ 32) inputs → 0 < length inputs → (object : IsCertified form program inputs rule)
     → choices_of (length inputs) text ≡ Ok choices → ChooseEnough object.kind (length inputs) choices
-    → AnswersUnbroken May (exit_answer form inputs rule program text)
+    → EndsWell (exit_answer form inputs rule program text)
 unfolding exit_answer opening
-ends_well form inputs rule program text choices words object reads often =
+ends_well form inputs rule program text choices words some object reads often =
     subst (λ p. P (after_program n text p)) (sym object.reads)
-    (answered P n _ _ _ tt tt (λ some. subst (λ r. P (with_choices object.image r)) (sym reads) done))
+    (subst (λ none. P (cond none (Err fault.NoHarts) (cond (ltb most_harts n) (Err fault.TooManyHarts) (with_choices object.image (choices_of n text)))))
+    (sym (ne_eqb n 0 (λ none. omega (arith, some, none))))
+    (subst (λ many. P (cond many (Err fault.TooManyHarts) (with_choices object.image (choices_of n text))))
+    (sym (le-ltb most_harts n (at_most object.kind n object.meant)))
+    (subst (λ r. P (with_choices object.image r)) (sym reads) done)))
   where
     n : ℕ
     n = length inputs
 
     P : Opened → Type 0
-    P o = AnswersUnbroken May (after_opening rule inputs o)
+    P o = EndsWell (after_opening rule inputs o)
 
     there : All (λ c. c.hart < length inputs) choices
     there = hart_within n text choices (spells_of n text choices (few object.kind n object.meant) reads)

@@ -1,5 +1,6 @@
 -- Runs of an object in which each hart has to exit.
-use Rattle.std.proofs.Common.{ℕ, ◌^◌, ◌<◌, Bool, true, false, cond, List, length, Option, Some, Ok, Err, refl, arith, sym, subst, inl, inr}
+use Rattle.std.proofs.Common.{ℕ, ◌^◌, ◌<◌, ◌≤◌, Bool, true, false, cond, List, length, Option, Some, Ok, Err, refl, arith, sym, subst, inl, inr}
+use Rattle.reservations.specs.Limit.{most_harts}
 use Rattle.std.specs.List.{All}
 use Rattle.devices.specs.declared.status.Status.TheVariants as status
 use Rattle.protocol_library.specs.declared.kind.Kind.{Kind}
@@ -16,12 +17,15 @@ use Rattle.programs.specs.declared.program.ProgramForm.{ProgramForm}
 use Rattle.rule_laws.specs.Kept.{IsUnbroken, ShowsKept}
 
 -- an object is for few harts
+pub at_most : (kind : Kind) (n : ℕ) → IsMeantFor kind n → n ≤ most_harts
+at_most Swap n meant = omega (arith, meant)
+at_most Add n meant = omega (arith, meant)
+at_most LrSc n meant = meant
+at_most AdoptCommit n meant = meant
+at_most Rounds n meant = meant
+
 pub few : (kind : Kind) (n : ℕ) → IsMeantFor kind n → n < 2 ^ 32
-few Swap n meant = omega (arith, meant)
-few Add n meant = omega (arith, meant)
-few LrSc n meant = omega (arith, meant)
-few AdoptCommit n meant = omega (arith, meant)
-few Rounds n meant = omega (arith, meant)
+few kind n meant = let below = at_most kind n meant in omega (arith, below)
 
 pub shows_kept : (form : ProgramForm) (inputs : List ℕ) (rule : Option Kind) (program text : List ℕ) → All (λ x. x < 2 ^ 32) inputs
     → IsCertified form program inputs rule → ShowsKept (exit_answer form inputs rule program text)

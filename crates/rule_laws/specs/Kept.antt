@@ -28,3 +28,8 @@ AnswersNothing (Err why) = Unit {0}
 abbrev pub ShowsKept : Answer → Type 0
 ShowsKept (Ok answer) = ((ends : List ℕ) × (answer.0 ≡ ends ++ verdict_line (Some Kept))) × IsUnbroken Must answer.1
 ShowsKept (Err why) = Unit {0}
+
+-- a run answers, and its status is 0
+abbrev pub EndsWell : Answer → Type 0
+EndsWell (Ok answer) = answer.1 ≡ status.Done
+EndsWell (Err why) = ⊥
