@@ -8,12 +8,6 @@ pub(crate) struct Row {
     pub(crate) example: &'static str,
 }
 
-/// The names of commands.
-pub(crate) const NAMES: [&str; 12] = [
-    "asm", "list", "info", "run", "debug", "threads", "replay", "lib", "campaign", "schedule",
-    "shrink", "trace",
-];
-
 /// The commands.
 pub(crate) const COMMANDS: [Row; 12] = [
     Row {

@@ -1,7 +1,7 @@
 //! The advice on a command line.
 
 use crate::names::nearest;
-use crate::options::{COMMANDS, NAMES, OTHER_COMMANDS, OTHER_OPTIONS, Row};
+use crate::options::{COMMANDS, OTHER_COMMANDS, OTHER_OPTIONS, Row};
 use crate::sentence::Part::{First, Second, Words};
 use crate::sentence::{Form, Sentence, push_sentence};
 use crate::table::told_of;
@@ -107,15 +107,41 @@ fn row_of(name: &str) -> Option<&'static Row> {
     row_in(&COMMANDS, name)
 }
 
+// The names of commands.
+fn names_of<'a, A: Allocator + Copy>(
+    alloc: A,
+    rows: &'a [Row],
+) -> Result<Vec<&'a str, A>, AllocError> {
+    let mut names = Vec::new(alloc);
+    'rows: for row in rows {
+        names.push(row.name)?;
+    }
+    Ok(names)
+}
+
+// The command whose name is nearest.
+fn near_command<A: Allocator + Copy>(
+    alloc: A,
+    name: &str,
+) -> Result<Option<&'static str>, AllocError> {
+    let known = names_of(alloc, &COMMANDS)?;
+    nearest(alloc, &known, name, EDITS)
+}
+
+// The command that another tool calls so.
+fn other_command(name: &str) -> Option<&'static str> {
+    told_of(&OTHER_COMMANDS, name)
+}
+
 // What stands for a command that is none.
 fn command_sentence<'a, A: Allocator + Copy>(
     alloc: A,
     name: &'a str,
 ) -> Result<Sentence<'a>, AllocError> {
-    if let Some(other) = told_of(&OTHER_COMMANDS, name) {
+    if let Some(other) = other_command(name) {
         return Ok(Sentence::of_two(CALLED, name, other));
     }
-    Ok(match nearest(alloc, &NAMES, name, EDITS)? {
+    Ok(match near_command(alloc, name)? {
         Some(near) => Sentence::of(MEANT, near),
         None => Sentence::of(THE_COMMANDS, ""),
     })
