@@ -15,7 +15,7 @@ use std::alloc::{AllocError, Allocator};
 const EDITS: usize = 3;
 
 /// A source with the path by which it was named.
-#[derive(Clone, Copy, Debug)]
+#[derive(Clone, Copy)]
 pub struct SourceText<'a> {
     /// The path.
     pub path: &'a str,

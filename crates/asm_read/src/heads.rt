@@ -7,7 +7,7 @@ use crate::statement::Section;
 use isa_table::{AmoOp, BranchOp, ImmediateOp, LoadOp, Order, RegisterOp, ShiftOp, StoreOp};
 
 /// A pseudo-instruction of two registers, rd and rs.
-#[derive(Clone, Copy, Debug, PartialEq, Eq)]
+#[derive(Clone, Copy, PartialEq, Eq)]
 pub enum Unary {
     /// rd gets rs.
     Move,
@@ -26,7 +26,7 @@ pub enum Unary {
 }
 
 /// An instruction, or a pseudo-instruction that is one instruction wherever it stands.
-#[derive(Clone, Copy, Debug, PartialEq, Eq)]
+#[derive(Clone, Copy, PartialEq, Eq)]
 pub enum Operation {
     Lui,
     Auipc,
@@ -66,7 +66,7 @@ pub enum Operation {
 }
 
 /// What a statement's first name says.
-#[derive(Clone, Copy, Debug, PartialEq, Eq)]
+#[derive(Clone, Copy, PartialEq, Eq)]
 pub enum Head {
     Operation(Operation),
     Li,

@@ -2,7 +2,7 @@
 use crate::name::Name;
 
 /// A number, or a symbol's address and a number, both modulo 2^32.
-#[derive(Debug, Drop)]
+#[derive(Drop)]
 pub enum Value<'a> {
     /// A number from -(2^32 - 1) to 2^32 - 1.
     Number(i64),
@@ -11,7 +11,7 @@ pub enum Value<'a> {
 }
 
 /// The immediate of 12 bits of an instruction.
-#[derive(Debug, Drop)]
+#[derive(Drop)]
 pub enum Immediate<'a> {
     /// A number, which must be from -2048 to 2047.
     Number(i64),
@@ -20,7 +20,7 @@ pub enum Immediate<'a> {
 }
 
 /// The immediate of 20 bits of LUI and AUIPC.
-#[derive(Debug, Drop)]
+#[derive(Drop)]
 pub enum Upper<'a> {
     /// A number, which must be from 0 to 1048575.
     Number(i64),
@@ -29,7 +29,7 @@ pub enum Upper<'a> {
 }
 
 /// Where a branch or a jump goes.
-#[derive(Debug, Drop)]
+#[derive(Drop)]
 pub enum Target<'a> {
     /// To this address, modulo 2^32.
     Address(i64),

@@ -7,7 +7,7 @@ use crate::fault::{AsmFault, Fault, FaultKind};
 use crate::statement::Section;
 
 /// Where a statement stands: its source, its line, and the section that it is in.
-#[derive(Clone, Copy, Debug, PartialEq, Eq)]
+#[derive(Clone, Copy, PartialEq, Eq)]
 pub struct Place {
     /// The source's index, from 0.
     pub source: usize,

@@ -6,7 +6,7 @@ use crate::fault::FaultKind;
 use std::alloc::{AllocError, AllocFailed};
 
 /// Why a statement is refused: its fault, or want of memory.
-#[derive(Clone, Copy, Debug, PartialEq, Eq)]
+#[derive(Clone, Copy, PartialEq, Eq)]
 pub enum Refusal {
     /// The statement is wrong.
     Wrong(FaultKind),

@@ -7,7 +7,7 @@ use std::alloc::Allocator;
 use std::marker::Model;
 
 /// What a program's bytes are sorted into.
-#[derive(Clone, Copy, Debug, PartialEq, Eq)]
+#[derive(Clone, Copy, PartialEq, Eq)]
 pub enum Section {
     /// Instructions: `.text`.
     Text,
@@ -18,7 +18,7 @@ pub enum Section {
 }
 
 /// An instruction whose operands are not yet valued.
-#[derive(Debug, Drop)]
+#[derive(Drop)]
 pub enum Instruction<'a> {
     /// An instruction with nothing left to value: registers, fences, ECALL, EBREAK and the A extension.
     Fixed(Instr),
@@ -73,7 +73,7 @@ pub enum Instruction<'a> {
 }
 
 /// A pseudo-instruction whose instructions depend on its operand's value.
-#[derive(Debug, Drop)]
+#[derive(Drop)]
 pub enum Pseudo<'a> {
     /// `li rd, n`: rd gets the number modulo 2^32; below -2^31 it is out of range.
     Li {

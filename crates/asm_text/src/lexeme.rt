@@ -10,7 +10,7 @@ use crate::token::{Kind, Token, text_of};
 use std::str;
 
 /// A token by what it says, without where it stands. The kinds are those of `Kind`.
-#[derive(Clone, Copy, Debug, PartialEq, Eq)]
+#[derive(Clone, Copy, PartialEq, Eq)]
 pub enum Lexeme<'a> {
     Name(&'a str),
     /// A number's value, and how it is written.
@@ -34,7 +34,7 @@ pub enum Lexeme<'a> {
 }
 
 /// What stands next in a source.
-#[derive(Clone, Copy, Debug, PartialEq, Eq)]
+#[derive(Clone, Copy, PartialEq, Eq)]
 pub enum Next<'a> {
     /// A lexeme, and where the rest of the source begins.
     Lexeme(Lexeme<'a>, usize),

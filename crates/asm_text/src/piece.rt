@@ -10,7 +10,7 @@ use crate::number::number_of;
 use crate::token::Kind;
 
 /// The piece at the front of a text, with its length.
-#[derive(Clone, Copy, Debug, PartialEq, Eq)]
+#[derive(Clone, Copy, PartialEq, Eq)]
 pub enum Piece {
     /// A blank or a comment.
     Gap(usize),

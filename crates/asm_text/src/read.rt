@@ -11,7 +11,7 @@ use crate::token::Token;
 use std::alloc::{AllocError, Allocator};
 
 /// The tokens of a text up to its first fault, if it has one.
-#[derive(Debug, Drop)]
+#[derive(Drop)]
 pub struct Scan<A: Allocator> {
     /// The tokens before the fault, in order.
     pub tokens: Vec<Token, A>,

@@ -3,7 +3,7 @@ ghost use Rattle.std.specs.Prelude.{◌≡◌};
 ghost use Rattle.asm_text.specs.Lexemes.{text_in};
 
 /// What a token is. Each punctuation sign is a kind of its own.
-#[derive(Clone, Copy, Debug, PartialEq, Eq)]
+#[derive(Clone, Copy, PartialEq, Eq)]
 pub enum Kind {
     /// A name: letters, digits, `_`, `.` and `$`, no digit first.
     Name,
@@ -38,7 +38,7 @@ pub enum Kind {
 }
 
 /// A token, and where it stands in the source: its bytes are those from offset `start` to before `end`.
-#[derive(Clone, Copy, Debug, PartialEq, Eq)]
+#[derive(Clone, Copy, PartialEq, Eq)]
 pub struct Token {
     /// What it is.
     pub kind: Kind,

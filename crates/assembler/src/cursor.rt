@@ -6,7 +6,7 @@ use asm_read::{Body, Directive, Section, Statement};
 use std::alloc::Allocator;
 
 /// The next address in each section, and the section in which the next statement stands.
-#[derive(Clone, Copy, Debug, PartialEq, Eq)]
+#[derive(Clone, Copy, PartialEq, Eq)]
 pub struct Cursor {
     pub section: Section,
     pub text_at: u128,

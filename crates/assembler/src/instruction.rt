@@ -14,7 +14,7 @@ use isa_table::{BranchOffset, Immediate12, ImmediateOp, Instr, JumpOffset, Reg};
 use std::alloc::Allocator;
 
 /// One or two instructions, one after the other.
-#[derive(Clone, Copy, Debug)]
+#[derive(Clone, Copy)]
 pub struct Pair {
     pub first: Instr,
     pub second: Option<Instr>,

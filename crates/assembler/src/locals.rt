@@ -10,7 +10,7 @@ use asm_read::{Body, Instruction, Statement, Target};
 use std::alloc::{AllocError, Allocator};
 
 /// Where a local label stands.
-#[derive(Clone, Copy, Debug, PartialEq, Eq)]
+#[derive(Clone, Copy, PartialEq, Eq)]
 pub struct Place {
     /// The index of its source, from 0.
     pub source: usize,

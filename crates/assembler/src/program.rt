@@ -14,7 +14,7 @@ pub const TEXT_BASE: u32 = 0x0001_0000;
 pub const PROGRAM_LIMIT: u32 = 0x0100_0000;
 
 /// A symbol of a program.
-#[derive(Clone, Copy, Debug, PartialEq, Eq)]
+#[derive(Clone, Copy, PartialEq, Eq)]
 pub struct Symbol {
     /// The section in which the symbol is defined.
     pub section: Section,

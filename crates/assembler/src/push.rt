@@ -18,7 +18,7 @@ use isa_table::Instr;
 use std::alloc::{AllocError, Allocator};
 
 /// Why the bytes of a statement can't be made.
-#[derive(Clone, Copy, Debug)]
+#[derive(Clone, Copy)]
 pub enum PushFault {
     /// An operand has no value, or one out of range.
     Kind(FaultKind),

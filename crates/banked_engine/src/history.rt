@@ -1,7 +1,7 @@
 //! What becomes of a history.
 
 /// What becomes of the history of a run.
-#[derive(Clone, Copy, Debug, PartialEq, Eq)]
+#[derive(Clone, Copy, PartialEq, Eq)]
 pub enum HistoryUse {
     /// It is written or looked at.
     Read,

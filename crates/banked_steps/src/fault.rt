@@ -1,7 +1,7 @@
 //! Why a hart's thread leaves no log.
 
 /// Why a hart's thread leaves no log.
-#[derive(Clone, Copy, Debug, PartialEq, Eq)]
+#[derive(Clone, Copy, PartialEq, Eq)]
 pub enum StepFault {
     /// The host refused a thread.
     StartRefused,

@@ -17,7 +17,7 @@ use std::sync::Wait;
 use told_steps::{PlannedTouch, Word, needed_word, planned_touch};
 
 /// A segment of a hart without its stamp and its accesses, and the slot that its last step begins from.
-#[derive(Clone, Copy, Debug)]
+#[derive(Clone, Copy)]
 pub struct Walked {
     pub hart: u32,
     pub local: u32,

@@ -41,7 +41,7 @@ impl Gate for Holding {
 }
 
 /// Where two harts meet.
-#[derive(Clone, Copy, Debug)]
+#[derive(Clone, Copy)]
 pub enum Place {
     /// Before their first segment, where no lock is held.
     Segment,

@@ -205,7 +205,7 @@ fn ask_run<A: Allocator + Copy + Send + Sync, R: Threads + Wait + Sync>(
 }
 
 // A call that asks for memory.
-#[derive(Clone, Copy, Debug)]
+#[derive(Clone, Copy)]
 enum Asking {
     Segment,
     Access,

@@ -15,7 +15,7 @@ use segment_order::LogSegment;
 use std::alloc::Allocator;
 
 /// What logs or their run are found to lack.
-#[derive(Clone, Copy, Debug, PartialEq, Eq)]
+#[derive(Clone, Copy, PartialEq, Eq)]
 pub enum Lack {
     /// Memory was refused beside these calls.
     Memory,

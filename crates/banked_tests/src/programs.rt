@@ -9,7 +9,7 @@ use std::collections::BTreeSet;
 pub const PROGRAM_START: u32 = 0x0001_0000;
 
 /// A program for tests.
-#[derive(Clone, Copy, Debug)]
+#[derive(Clone, Copy)]
 pub enum Program {
     /// An object of the library: its text may not be written.
     Object(Kind),

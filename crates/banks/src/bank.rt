@@ -24,7 +24,7 @@ use told_steps::bytes_at;
 pub const BANKS: u32 = 16;
 
 /// Why an access is not taken; then nothing has changed.
-#[derive(Clone, Copy, Debug, Drop, PartialEq, Eq)]
+#[derive(Clone, Copy, Drop, PartialEq, Eq)]
 pub enum AddFault {
     /// The access is to no word of the bank or of no hart, or hasn't found what the bank has, or its stamp is too low.
     Mismatch,

@@ -1,7 +1,7 @@
 //! One access of one word, as logs have it.
 
 /// How a step accesses a word.
-#[derive(Clone, Copy, Debug, Drop, PartialEq, Eq, PartialOrd, Ord)]
+#[derive(Clone, Copy, Drop, PartialEq, Eq, PartialOrd, Ord)]
 pub enum LoggedKind {
     /// The step fetches its instruction.
     CodeRead,
@@ -18,7 +18,7 @@ pub enum LoggedKind {
 }
 
 /// One access of one word by one step.
-#[derive(Clone, Copy, Debug, Drop, PartialEq, Eq, PartialOrd, Ord)]
+#[derive(Clone, Copy, Drop, PartialEq, Eq, PartialOrd, Ord)]
 pub struct LoggedAccess {
     /// The stamp of the step, which orders it among those of other harts.
     pub stamp: u64,

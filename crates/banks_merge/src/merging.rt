@@ -18,7 +18,7 @@ use segment_order::{LogSegment, is_rising};
 use std::alloc::{AllocError, Allocator};
 
 /// Why logs are not merged.
-#[derive(Clone, Copy, Debug, Drop, PartialEq, Eq)]
+#[derive(Clone, Copy, Drop, PartialEq, Eq)]
 pub enum MergeFault {
     /// An access stands in a hart's log and not in its bank's, or the other way round.
     Unmatched,

@@ -6,7 +6,7 @@ use refusing::{Call, tried};
 use std::alloc::{AllocError, Allocator, Global};
 
 // An access is added.
-#[derive(Clone, Copy, Debug)]
+#[derive(Clone, Copy)]
 struct Adding;
 
 impl Call for Adding {

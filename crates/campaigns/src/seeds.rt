@@ -14,7 +14,7 @@ pub const LEAST_SEEDS: u64 = 64;
 pub const BLOCK_STEPS: u64 = 1 << 24;
 
 /// Seeds that follow one another.
-#[derive(Clone, Copy, Debug, PartialEq, Eq)]
+#[derive(Clone, Copy, PartialEq, Eq)]
 pub struct Block {
     /// The first of them.
     pub first: u64,
@@ -23,7 +23,7 @@ pub struct Block {
 }
 
 /// The seeds that a campaign has still to run. They are handed out in order, block by block.
-#[derive(Clone, Copy, Debug, Drop)]
+#[derive(Clone, Copy, Drop)]
 pub struct Seeds {
     first: u64,
     count: u64,

@@ -7,7 +7,7 @@ use reservations::MAX_HARTS;
 use std::alloc::{AllocError, Allocator};
 
 /// Which harts were chosen. It takes no memory of the host.
-#[derive(Clone, Copy, Debug, Drop)]
+#[derive(Clone, Copy, Drop)]
 pub struct Chosen {
     marks: [bool; MAX_HARTS],
 }

@@ -10,7 +10,7 @@ pub trait ChoicesLeft {
 }
 
 /// Tells nobody.
-#[derive(Clone, Copy, Debug)]
+#[derive(Clone, Copy)]
 pub struct Unheard;
 
 impl ChoicesLeft for Unheard {

@@ -6,7 +6,7 @@ use machine::Choice;
 pub const MOST_EQUAL: u32 = 16_777_216;
 
 /// So many equal choices.
-#[derive(Clone, Copy, Debug, PartialEq, Eq)]
+#[derive(Clone, Copy, PartialEq, Eq)]
 pub struct Run {
     /// The choice.
     pub choice: Choice,

@@ -7,7 +7,7 @@ use reservations::{MAX_HARTS, Reserve};
 
 /// The word that each hart reserved last. Reservations can be asked whether they are of a word, so this is how a hart's reservation
 /// is found. It takes no memory of the host.
-#[derive(Clone, Copy, Debug, Drop)]
+#[derive(Clone, Copy, Drop)]
 pub struct Latest {
     words: [u32; MAX_HARTS],
 }

@@ -14,7 +14,7 @@ use isa_table::Instr;
 use memory::Store;
 
 /// What a hart meets at its step, before it is done.
-#[derive(Clone, Copy, Debug)]
+#[derive(Clone, Copy)]
 pub struct Met {
     /// Where it stands.
     pub pc: u32,

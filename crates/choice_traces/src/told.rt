@@ -5,7 +5,7 @@ use isa_table::{Instr, Reg};
 use machine::Choice;
 
 /// What one choice did.
-#[derive(Clone, Copy, Debug, PartialEq, Eq)]
+#[derive(Clone, Copy, PartialEq, Eq)]
 pub struct Told {
     /// The choice.
     pub choice: Choice,
@@ -28,7 +28,7 @@ pub struct Told {
 }
 
 /// Bytes of memory that an instruction accessed together.
-#[derive(Clone, Copy, Debug, PartialEq, Eq)]
+#[derive(Clone, Copy, PartialEq, Eq)]
 pub struct ToldAccess {
     /// What is done with them.
     pub kind: AccessKind,
@@ -43,7 +43,7 @@ pub struct ToldAccess {
 }
 
 /// A register that was written.
-#[derive(Clone, Copy, Debug, PartialEq, Eq)]
+#[derive(Clone, Copy, PartialEq, Eq)]
 pub struct Written {
     /// The register, never `x0`.
     pub register: Reg,

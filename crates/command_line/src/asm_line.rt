@@ -10,7 +10,7 @@ use clap::{ArgMatches, Command};
 use std::alloc::{AllocError, Global};
 
 /// `asm [--out OUT] IN...`: assembles sources, in order, and prints the listing or writes an ELF file.
-#[derive(Debug, Drop)]
+#[derive(Drop)]
 pub struct AsmOrder<'a> {
     /// The file's path; without it the listing is printed.
     pub out: Option<&'a str>,

@@ -14,7 +14,7 @@ use std::alloc::{AllocError, Global};
 /// `campaign FILE --inputs L --first S --count C --steps N [--rule K] [--failures] [--summary] [--outcomes] [--schedule KIND]
 /// [--refusals never|one-in:N] [--must-exit]`: runs a program under a random schedule for each of C seeds from S on, and prints a line for each,
 /// with a rule also its verdict; or the lines of bad seeds alone, or how many seeds end in which way.
-#[derive(Debug, Drop)]
+#[derive(Drop)]
 pub struct CampaignOrder<'a> {
     /// The program's path.
     pub file: &'a str,

@@ -12,7 +12,7 @@ use clap::{ArgMatches, Command};
 use std::alloc::{AllocError, Global};
 
 /// `debug FILE --inputs L --choices C`: obeys commands of standard input, which go forward and back in a run.
-#[derive(Debug, Drop)]
+#[derive(Drop)]
 pub struct DebugOrder<'a> {
     /// The program's path.
     pub file: &'a str,

@@ -11,7 +11,7 @@ use clap::{ArgMatches, Command};
 use std::alloc::{AllocError, Global};
 
 /// `list FILE` or `info FILE`: lists the executable segments of an ELF file, or shows its entry, segments and symbols.
-#[derive(Debug, Drop)]
+#[derive(Drop)]
 pub struct FileOrder<'a> {
     /// The file's path.
     pub file: &'a str,

@@ -12,7 +12,7 @@ use protocol_library::KIND_NAMES;
 use std::alloc::{AllocError, Global};
 
 /// `lib K`: prints the source of an object of the library.
-#[derive(Debug, Drop)]
+#[derive(Drop)]
 pub struct LibOrder<'a> {
     /// The object's name.
     pub object: &'a str,

@@ -21,7 +21,7 @@ use clap::{ArgMatches, Command};
 use std::alloc::{AllocError, Global};
 
 /// A command with the texts of its arguments.
-#[derive(Debug, Drop)]
+#[derive(Drop)]
 pub enum Order<'a> {
     /// `asm`
     Asm(AsmOrder<'a>),
@@ -50,7 +50,7 @@ pub enum Order<'a> {
 }
 
 /// Why a command line gives no order.
-#[derive(Debug, Drop)]
+#[derive(Drop)]
 pub enum LineFault {
     /// The line is refused, or asks for help or the version: what clap says of it.
     Told(clap::Error),

@@ -9,7 +9,7 @@ use crate::schedule_line::is_word;
 use item_texts::split_at_byte;
 
 /// How often a drawn choice refuses a store-conditional.
-#[derive(Clone, Copy, Debug, PartialEq, Eq)]
+#[derive(Clone, Copy, PartialEq, Eq)]
 pub enum Refused {
     /// None does.
     Never,

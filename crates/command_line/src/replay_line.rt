@@ -12,7 +12,7 @@ use clap::{ArgMatches, Command};
 use std::alloc::{AllocError, Global};
 
 /// `replay FILE --inputs L --history H [--rule K]`: runs a program under a history, and prints what the run that left it printed.
-#[derive(Debug, Drop)]
+#[derive(Drop)]
 pub struct ReplayOrder<'a> {
     /// The program's path.
     pub file: &'a str,

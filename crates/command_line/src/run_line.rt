@@ -13,7 +13,7 @@ use std::alloc::{AllocError, Global};
 
 /// `run [--hex] FILE --inputs L --choices C [--rule K] [--must-exit]`: runs a program under a schedule, and prints each hart's end and,
 /// with a rule, its verdict.
-#[derive(Debug, Drop)]
+#[derive(Drop)]
 pub struct RunOrder<'a> {
     /// Whether the file has words in hexadecimal.
     pub hex: bool,

@@ -16,7 +16,7 @@ use item_texts::split_at_byte;
 use std::alloc::{AllocError, Global};
 
 /// How the choices of a seed are drawn.
-#[derive(Clone, Copy, Debug, PartialEq, Eq)]
+#[derive(Clone, Copy, PartialEq, Eq)]
 pub enum Draw {
     /// Each from all harts, as a campaign draws them.
     Even,
@@ -28,7 +28,7 @@ pub enum Draw {
 
 /// `schedule --harts N --steps M [--seed S] [--turns] [--only H] [--schedule KIND] [--refusals never|one-in:N] [--inputs L] [FILE]`: prints
 /// the choice text of a seed, of turns, or of one hart alone.
-#[derive(Debug, Drop)]
+#[derive(Drop)]
 pub struct ScheduleOrder<'a> {
     /// How many harts there are.
     pub harts: &'a str,

@@ -13,7 +13,7 @@ use std::alloc::{AllocError, Global};
 
 /// `shrink FILE --inputs L --choices C [--rule K] [--must-exit]`: prints a minimal choice text under which a program fails as it does
 /// under the given one.
-#[derive(Debug, Drop)]
+#[derive(Drop)]
 pub struct ShrinkOrder<'a> {
     /// The program's path.
     pub file: &'a str,

@@ -26,7 +26,7 @@ const WRITTEN: &str = "the file that the history is written to";
 const BANKED: &str = "a lock for each of sixteen banks of memory, in place of one lock for all";
 
 /// What harts lock for a step on what they share.
-#[derive(Clone, Copy, Debug, PartialEq, Eq)]
+#[derive(Clone, Copy, PartialEq, Eq)]
 pub enum Locks {
     /// One lock for all memory.
     One,
@@ -36,7 +36,7 @@ pub enum Locks {
 
 /// `threads FILE --inputs L --budget N [--refuse P] [--history OUT] [--rule K] [--banked]`: runs each hart in a thread of its own,
 /// writes the history of what they did, and prints each hart's end and, with a rule, its verdict.
-#[derive(Debug, Drop)]
+#[derive(Drop)]
 pub struct ThreadsOrder<'a> {
     /// The program's path.
     pub file: &'a str,

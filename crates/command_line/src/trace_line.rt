@@ -12,7 +12,7 @@ use clap::{ArgMatches, Command};
 use std::alloc::{AllocError, Global};
 
 /// `trace [--hex] FILE --inputs L --choices C [--from A] [--to B] [--table]`: prints what each choice of a run did.
-#[derive(Debug, Drop)]
+#[derive(Drop)]
 pub struct TraceOrder<'a> {
     /// Whether the file has words in hexadecimal.
     pub hex: bool,

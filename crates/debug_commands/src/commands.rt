@@ -6,7 +6,7 @@ ghost use Rattle.debug_commands.specs.Commands.{bare_command, single_command, do
 use crate::number::{address_of, decimal_of};
 
 /// What a line asks for. A number of choices above 2^64 - 1 is held as that: it is past every end.
-#[derive(Clone, Copy, Debug, PartialEq, Eq)]
+#[derive(Clone, Copy, PartialEq, Eq)]
 pub enum Command {
     /// A blank line.
     Nothing,

@@ -14,7 +14,7 @@ use devices::{ReadFault, Sink, Source, write_all};
 use std::alloc::{AllocError, Allocator};
 
 /// Why a conversation ended early.
-#[derive(Clone, Copy, Debug, PartialEq, Eq)]
+#[derive(Clone, Copy, PartialEq, Eq)]
 pub enum TalkFault {
     /// The commands can't be read.
     Read,

@@ -15,7 +15,7 @@ use memory::Store;
 use std::alloc::{AllocError, Allocator};
 
 /// What a hart meets at a step.
-#[derive(Clone, Copy, Debug, PartialEq, Eq)]
+#[derive(Clone, Copy, PartialEq, Eq)]
 pub enum Event {
     /// The hart has stopped before, so nothing is done.
     Stopped,
@@ -26,7 +26,7 @@ pub enum Event {
 }
 
 /// One step of a run.
-#[derive(Clone, Copy, Debug, PartialEq, Eq)]
+#[derive(Clone, Copy, PartialEq, Eq)]
 pub struct StepView {
     /// How many choices were done before.
     pub index: usize,

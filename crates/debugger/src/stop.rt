@@ -1,7 +1,7 @@
 //! Where a search stops.
 
 /// Why a search stopped at its position.
-#[derive(Clone, Copy, Debug, PartialEq, Eq)]
+#[derive(Clone, Copy, PartialEq, Eq)]
 pub enum Stop {
     /// The hart that stepped last stands on a breakpoint, whether it moved or not. It wins over a watch.
     Break {

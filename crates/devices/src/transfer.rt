@@ -11,7 +11,7 @@ use std::alloc::Allocator;
 const PIECE: usize = 16384;
 
 /// Why not all was read.
-#[derive(Clone, Copy, PartialEq, Eq, Debug)]
+#[derive(Clone, Copy, PartialEq, Eq)]
 pub enum ReadFault {
     /// The source has failed.
     Device,

@@ -6,7 +6,7 @@ use schedule_kinds::ScheduleKind;
 use summary_engine::Detail;
 
 /// A campaign under schedules of some kind.
-#[derive(Clone, Copy, Debug, Drop)]
+#[derive(Clone, Copy, Drop)]
 pub struct DrawnPlan {
     /// The seeds, the steps of each run, and the rule that is judged, if there is one.
     pub runs: CampaignPlan,

@@ -3,7 +3,7 @@
 use drawn_campaigns::DrawnPlan;
 
 /// Which runs have a line.
-#[derive(Clone, Copy, Debug, PartialEq, Eq)]
+#[derive(Clone, Copy, PartialEq, Eq)]
 pub enum Shown {
     /// Each.
     All,
@@ -12,7 +12,7 @@ pub enum Shown {
 }
 
 /// The lines of a campaign that are asked for.
-#[derive(Clone, Copy, Debug, Drop)]
+#[derive(Clone, Copy, Drop)]
 pub struct LinesPlan {
     /// Which runs are done.
     pub drawn: DrawnPlan,

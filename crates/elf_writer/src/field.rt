@@ -6,7 +6,7 @@ use byteorder::{ByteOrder, LittleEndian};
 use std::alloc::{AllocError, Allocator};
 
 /// A number of a header, with its width. It is written little-endian.
-#[derive(Clone, Copy, Debug, PartialEq, Eq)]
+#[derive(Clone, Copy, PartialEq, Eq)]
 pub enum Field {
     Byte(u8),
     Half(u16),

@@ -10,7 +10,7 @@ use std::alloc::Allocator;
 pub const PAGE: u32 = 4096;
 
 /// The sizes of a program's parts in bytes, and how far its data begins after its text's first byte.
-#[derive(Clone, Copy, Debug, PartialEq, Eq)]
+#[derive(Clone, Copy, PartialEq, Eq)]
 pub struct Layout {
     pub text: u32,
     pub data_distance: u32,

@@ -29,7 +29,7 @@ struct SectionHeader {
 }
 
 /// Where the parts behind the data begin in the file, in bytes.
-#[derive(Clone, Copy, Debug, PartialEq, Eq)]
+#[derive(Clone, Copy, PartialEq, Eq)]
 pub struct TablePlaces {
     pub symbols: u128,
     pub names: u128,

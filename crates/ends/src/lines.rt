@@ -41,7 +41,7 @@ impl fmt::Display for CauseName {
 }
 
 /// A hart's number and its end, shown as a line without its end.
-#[derive(Clone, Copy, Debug)]
+#[derive(Clone, Copy)]
 pub struct EndLine {
     /// The hart's number, from 0.
     pub number: usize,

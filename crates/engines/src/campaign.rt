@@ -27,7 +27,7 @@ use std::thread::Threads;
 
 /// Which runs a campaign does: one for each of `count` seeds from `first` on, each of so many steps, and each judged by a
 /// rule, if there is one.
-#[derive(Clone, Copy, Debug, PartialEq, Eq)]
+#[derive(Clone, Copy, PartialEq, Eq)]
 pub struct CampaignPlan {
     /// The first seed.
     pub first: u64,
@@ -40,7 +40,7 @@ pub struct CampaignPlan {
 }
 
 /// A kind of state in which a run may leave a hart.
-#[derive(Clone, Copy, Debug, PartialEq, Eq)]
+#[derive(Clone, Copy, PartialEq, Eq)]
 pub enum End {
     /// The hart has exited.
     Exited,

@@ -13,7 +13,7 @@ use programs::{Input, ProgramForm, RunFault, read_program};
 use std::alloc::Allocator;
 
 /// What is shown of a file.
-#[derive(Clone, Copy, Debug, PartialEq, Eq)]
+#[derive(Clone, Copy, PartialEq, Eq)]
 pub enum FileView {
     /// The lines of its executable segments.
     Listing,

@@ -12,7 +12,7 @@ use run_failures::{Failure, failure_after};
 use std::alloc::{AllocError, Allocator};
 
 /// What is asked of a run, which fails where it isn't so.
-#[derive(Clone, Copy, Debug, PartialEq, Eq)]
+#[derive(Clone, Copy, PartialEq, Eq)]
 pub struct Demands {
     /// The kind whose rule has to be kept; without one no hart may fault.
     pub rule: Option<Kind>,
@@ -21,7 +21,7 @@ pub struct Demands {
 }
 
 /// How a run fails.
-#[derive(Clone, Copy, Debug, PartialEq, Eq)]
+#[derive(Clone, Copy, PartialEq, Eq)]
 pub enum ExitFailure {
     /// Its rule is broken, or a hart has faulted.
     Fails(Failure),

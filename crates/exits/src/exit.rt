@@ -7,7 +7,7 @@ ghost use Rattle.exits.specs.Exits.{hangs, some_run};
 use hart_step::{Hart, HartState};
 
 /// Whether a run may leave a hart that runs.
-#[derive(Clone, Copy, Debug, PartialEq, Eq)]
+#[derive(Clone, Copy, PartialEq, Eq)]
 pub enum Exit {
     /// It may: the steps may have been too few.
     May,

@@ -12,7 +12,7 @@ use std::rt::Files;
 const PROGRAM_MODE: u32 = 0o777;
 
 /// Why a file can't be opened.
-#[derive(Clone, Copy, Debug, PartialEq, Eq)]
+#[derive(Clone, Copy, PartialEq, Eq)]
 pub enum OpenFault {
     /// The system refused it.
     Refused,

@@ -24,7 +24,7 @@ use std::marker::Model;
 use told_steps::PlannedTouch;
 
 /// Why a segment is not taken; then nothing has changed.
-#[derive(Clone, Copy, Debug, Drop, PartialEq, Eq)]
+#[derive(Clone, Copy, Drop, PartialEq, Eq)]
 pub enum AddFault {
     /// The segment is of another hart, or its local steps touch something, or its accesses are not those of its last step.
     Mismatch,
@@ -33,7 +33,7 @@ pub enum AddFault {
 }
 
 /// A hart some local steps ahead of its log.
-#[derive(Clone, Copy, Debug)]
+#[derive(Clone, Copy)]
 pub struct Ahead {
     /// How many steps.
     pub local: u32,

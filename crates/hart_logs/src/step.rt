@@ -20,7 +20,7 @@ use std::alloc::Allocator;
 use told_steps::{PlannedTouch, ToldWords, Word, needed_word, planned_touch, settle, settle_store};
 
 /// A hart with the word that its last LR without a fault named, if no store-conditional without a fault came after it.
-#[derive(Clone, Copy, Debug)]
+#[derive(Clone, Copy)]
 pub struct Slot {
     /// The hart.
     pub hart: Hart,
@@ -92,7 +92,7 @@ fn is_same(first: &LoggedAccess, second: &LoggedAccess) -> bool
 }
 
 /// What an access finds: the word's bytes, and whether the hart's mark stands on it.
-#[derive(Clone, Copy, Debug)]
+#[derive(Clone, Copy)]
 pub struct Found {
     /// The bytes, the lowest first.
     pub bytes: [u8; 4],

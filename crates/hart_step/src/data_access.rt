@@ -11,7 +11,7 @@ use isa_table::instr::Instr;
 use isa_table::mnemonic::{LoadOp, StoreOp};
 
 /// What an instruction does with the bytes that it accesses.
-#[derive(Clone, Copy, Debug, PartialEq, Eq)]
+#[derive(Clone, Copy, PartialEq, Eq)]
 pub enum AccessKind {
     /// A load reads them.
     Load,
@@ -26,7 +26,7 @@ pub enum AccessKind {
 }
 
 /// Bytes of memory that an instruction accesses together.
-#[derive(Clone, Copy, Debug, PartialEq, Eq)]
+#[derive(Clone, Copy, PartialEq, Eq)]
 pub struct Access {
     /// What is done with them.
     pub kind: AccessKind,

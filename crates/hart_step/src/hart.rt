@@ -3,7 +3,7 @@ ghost use Rattle.std.specs.Prelude.{◌≡◌, slice_index};
 
 /// Why a hart was stopped by its instruction. The first cause that stands is given, in this order: fetch, illegal,
 /// misaligned, access, jump.
-#[derive(Clone, Copy, Debug, PartialEq, Eq)]
+#[derive(Clone, Copy, PartialEq, Eq)]
 pub enum Cause {
     /// A byte of the instruction may not be executed.
     FetchAccess,
@@ -26,7 +26,7 @@ pub enum Cause {
 }
 
 /// Whether a hart runs.
-#[derive(Clone, Copy, Debug, PartialEq, Eq)]
+#[derive(Clone, Copy, PartialEq, Eq)]
 pub enum HartState {
     /// It goes on when it is chosen.
     Running,
@@ -38,7 +38,7 @@ pub enum HartState {
 
 /// The state of one hart. Whoever makes or changes one has to leave 0 in `x0`. Unprivileged ISA, "Programmers' Model for Base
 /// Integer ISA".
-#[derive(Clone, Copy, Debug, PartialEq, Eq)]
+#[derive(Clone, Copy, PartialEq, Eq)]
 pub struct Hart {
     /// `x0` to `x31`; `x0` is 0.
     pub registers: [u32; 32],

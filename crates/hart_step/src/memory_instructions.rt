@@ -21,7 +21,7 @@ use reservations::Reserve;
 use std::alloc::AllocError;
 
 /// The registers that an instruction with three of them names.
-#[derive(Clone, Copy, Debug)]
+#[derive(Clone, Copy)]
 pub struct Operands {
     pub rd: Reg,
     pub rs1: Reg,

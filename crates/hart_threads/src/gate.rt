@@ -12,7 +12,7 @@ pub trait Gate {
 }
 
 /// Lets each hart go on at once.
-#[derive(Clone, Copy, Debug)]
+#[derive(Clone, Copy)]
 pub struct OpenGate;
 
 impl Gate for OpenGate {

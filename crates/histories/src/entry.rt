@@ -1,7 +1,7 @@
 //! What one hart did between two looks at what the harts share.
 
 /// Local steps of a hart, and then one step that may touch what the harts share.
-#[derive(Clone, Copy, Debug, PartialEq, Eq)]
+#[derive(Clone, Copy, PartialEq, Eq)]
 pub struct Entry {
     /// The hart's number, from 0.
     pub hart: u32,

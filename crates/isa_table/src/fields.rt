@@ -9,7 +9,7 @@ use crate::signed::signed;
 use std::marker::Model;
 
 /// A register, x0 to x31, by its number. x0 is always zero.
-#[derive(Clone, Copy, Debug, PartialEq, Eq)]
+#[derive(Clone, Copy, PartialEq, Eq)]
 pub struct Reg {
     number: u8,
 }
@@ -52,7 +52,7 @@ impl Reg {
 }
 
 /// By how many places to shift, 0 to 31.
-#[derive(Clone, Copy, Debug, PartialEq, Eq)]
+#[derive(Clone, Copy, PartialEq, Eq)]
 pub struct ShiftAmount {
     count: u8,
 }
@@ -87,7 +87,7 @@ impl ShiftAmount {
 
 /// What an instruction of the A extension orders, as its bits aq and rl say.
 /// A extension, "Specifying Ordering of Atomic Instructions".
-#[derive(Clone, Copy, Debug, PartialEq, Eq)]
+#[derive(Clone, Copy, PartialEq, Eq)]
 pub struct Order {
     /// Acquire: later accesses of the hart come after this one.
     pub aq: bool,
@@ -120,7 +120,7 @@ impl Order {
 
 /// Four bits of a fence: a set of accesses (device input 8, device output 4, read 2, write 1), or
 /// its mode.
-#[derive(Clone, Copy, Debug, PartialEq, Eq)]
+#[derive(Clone, Copy, PartialEq, Eq)]
 pub struct FenceSet {
     bits: u8,
 }
@@ -154,7 +154,7 @@ impl FenceSet {
 }
 
 /// The immediate of LUI and AUIPC: the bits 31 to 12 of the word that it stands for.
-#[derive(Clone, Copy, Debug, PartialEq, Eq)]
+#[derive(Clone, Copy, PartialEq, Eq)]
 pub struct UpperImmediate {
     high: u32,
 }
@@ -188,7 +188,7 @@ impl UpperImmediate {
 }
 
 /// An immediate of 12 bits, -2048 to 2047, held as the 32-bit word that it is sign-extended to.
-#[derive(Clone, Copy, Debug, PartialEq, Eq)]
+#[derive(Clone, Copy, PartialEq, Eq)]
 pub struct Immediate12 {
     word: u32,
 }
@@ -265,7 +265,7 @@ impl Immediate12 {
 
 /// The offset of a branch in bytes, even, -4096 to 4094, held as the 32-bit word that it is
 /// sign-extended to.
-#[derive(Clone, Copy, Debug, PartialEq, Eq)]
+#[derive(Clone, Copy, PartialEq, Eq)]
 pub struct BranchOffset {
     word: u32,
 }
@@ -321,7 +321,7 @@ impl BranchOffset {
 
 /// The offset of a jump in bytes, even, -2^20 to 2^20 - 2, held as the 32-bit word that it is
 /// sign-extended to.
-#[derive(Clone, Copy, Debug, PartialEq, Eq)]
+#[derive(Clone, Copy, PartialEq, Eq)]
 pub struct JumpOffset {
     word: u32,
 }

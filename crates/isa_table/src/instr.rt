@@ -11,7 +11,7 @@ use crate::mnemonic::{
 
 /// An instruction of RV32IA with its operands, each in range by its type.
 /// `rd` is the register that gets the result, `rs1` and `rs2` are the sources.
-#[derive(Clone, Copy, Debug, PartialEq, Eq)]
+#[derive(Clone, Copy, PartialEq, Eq)]
 pub enum Instr {
     /// LUI: rd gets the immediate's 20 bits with twelve zeros below. "Integer Register-Immediate
     /// Instructions".

@@ -6,7 +6,7 @@ ghost use Rattle.isa_table.specs.Names.{first_with_name};
 use crate::table::{Row, rows};
 
 /// A conditional branch, by its test of the registers rs1 and rs2. "Conditional Branches".
-#[derive(Clone, Copy, Debug, PartialEq, Eq)]
+#[derive(Clone, Copy, PartialEq, Eq)]
 pub enum BranchOp {
     /// Taken where rs1 and rs2 are equal.
     Beq,
@@ -23,7 +23,7 @@ pub enum BranchOp {
 }
 
 /// A load, by what it brings to rd. "Load and Store Instructions".
-#[derive(Clone, Copy, Debug, PartialEq, Eq)]
+#[derive(Clone, Copy, PartialEq, Eq)]
 pub enum LoadOp {
     /// A byte, sign-extended.
     Lb,
@@ -38,7 +38,7 @@ pub enum LoadOp {
 }
 
 /// A store, by what it writes. "Load and Store Instructions".
-#[derive(Clone, Copy, Debug, PartialEq, Eq)]
+#[derive(Clone, Copy, PartialEq, Eq)]
 pub enum StoreOp {
     /// The low byte of rs2.
     Sb,
@@ -50,7 +50,7 @@ pub enum StoreOp {
 
 /// An operation on rs1 and an immediate of 12 bits, by what rd gets.
 /// "Integer Register-Immediate Instructions".
-#[derive(Clone, Copy, Debug, PartialEq, Eq)]
+#[derive(Clone, Copy, PartialEq, Eq)]
 pub enum ImmediateOp {
     /// The sum.
     Addi,
@@ -67,7 +67,7 @@ pub enum ImmediateOp {
 }
 
 /// A shift of rs1 by an immediate. "Integer Register-Immediate Instructions".
-#[derive(Clone, Copy, Debug, PartialEq, Eq)]
+#[derive(Clone, Copy, PartialEq, Eq)]
 pub enum ShiftOp {
     /// To the left.
     Slli,
@@ -78,7 +78,7 @@ pub enum ShiftOp {
 }
 
 /// An operation on rs1 and rs2, by what rd gets. "Integer Register-Register Operations".
-#[derive(Clone, Copy, Debug, PartialEq, Eq)]
+#[derive(Clone, Copy, PartialEq, Eq)]
 pub enum RegisterOp {
     /// The sum.
     Add,
@@ -104,7 +104,7 @@ pub enum RegisterOp {
 
 /// An atomic memory operation, by what it writes, from the word that rd gets and rs2.
 /// A extension, "Atomic Memory Operations".
-#[derive(Clone, Copy, Debug, PartialEq, Eq)]
+#[derive(Clone, Copy, PartialEq, Eq)]
 pub enum AmoOp {
     /// rs2 itself.
     Amoswap,
@@ -127,7 +127,7 @@ pub enum AmoOp {
 }
 
 /// A mnemonic of the listing: an instruction without its operands.
-#[derive(Clone, Copy, Debug, PartialEq, Eq)]
+#[derive(Clone, Copy, PartialEq, Eq)]
 pub enum Mnemonic {
     Lui,
     Auipc,

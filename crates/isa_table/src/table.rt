@@ -7,7 +7,7 @@ use crate::mnemonic::{
 };
 
 /// What a field of a word holds.
-#[derive(Clone, Copy, Debug, PartialEq, Eq)]
+#[derive(Clone, Copy, PartialEq, Eq)]
 pub enum Operand {
     /// The register that gets the result.
     Rd,
@@ -33,7 +33,7 @@ pub enum Operand {
 
 /// A field: `width` bits of an operand, from its bit `low` on, stand in the word from bit `place`
 /// on. A split immediate has several fields.
-#[derive(Clone, Copy, Debug, PartialEq, Eq)]
+#[derive(Clone, Copy, PartialEq, Eq)]
 pub struct Field {
     /// Whose bits these are.
     pub operand: Operand,
@@ -46,7 +46,7 @@ pub struct Field {
 }
 
 /// A row: the word with zeros for the operands, and where the operands stand.
-#[derive(Clone, Copy, Debug)]
+#[derive(Clone, Copy)]
 pub struct Row {
     /// Whose row this is.
     pub mnemonic: Mnemonic,

@@ -6,7 +6,7 @@ use crate::mnemonic::{
 };
 
 /// A word, and the mnemonic and operands of its text. An operand that the mnemonic lacks is 0.
-#[derive(Clone, Copy, Debug)]
+#[derive(Clone, Copy)]
 pub struct Vector {
     /// The instruction word.
     pub word: u32,

@@ -17,7 +17,7 @@ use std::fmt;
 /// A word at an address (in bytes), shown as its canonical line in the assembler's language: the instruction that the
 /// word spells, with the addresses that branches and jumps lead to; `.word` where it spells none, and for fences that
 /// the language has no text for. Registers have their names by role, x8 being `s0`. There is no line end.
-#[derive(Clone, Copy, Debug)]
+#[derive(Clone, Copy)]
 pub struct Line {
     /// Where the word stands.
     pub address: u32,

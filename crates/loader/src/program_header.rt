@@ -12,7 +12,7 @@ use crate::span::Span;
 use std::alloc::{AllocError, Allocator};
 
 /// What is read of a program header: all but p_paddr and p_align (System V ELF, "Program Header").
-#[derive(Clone, Copy, Debug, PartialEq, Eq)]
+#[derive(Clone, Copy, PartialEq, Eq)]
 pub struct ProgramHeader {
     /// What it tells of (p_type).
     pub kind: u32,

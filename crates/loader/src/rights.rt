@@ -5,7 +5,7 @@ ghost use Rattle.std.specs.Int.RustNames.{bit_and};
 use bitflags::{Flag, Flags, bitflag_items};
 
 /// What may be done with the bytes of a segment: the low bits of `p_flags` (System V ELF, "Program Header").
-#[derive(Clone, Copy, PartialEq, Eq, Debug)]
+#[derive(Clone, Copy, PartialEq, Eq)]
 pub struct Rights(u8);
 
 bitflag_items! {

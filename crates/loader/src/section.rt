@@ -10,7 +10,7 @@ use crate::number::word_at;
 use std::alloc::{AllocError, Allocator};
 
 /// What is read of a section header (System V ELF, "Sections").
-#[derive(Clone, Copy, Debug, PartialEq, Eq)]
+#[derive(Clone, Copy, PartialEq, Eq)]
 pub struct SectionHeader {
     /// What the section is (sh_type).
     pub kind: u32,

@@ -14,7 +14,7 @@ use reservations::Reserve;
 use std::alloc::{AllocError, Allocator};
 
 /// The host refused memory in a run.
-#[derive(Clone, Copy, Debug, PartialEq, Eq)]
+#[derive(Clone, Copy, PartialEq, Eq)]
 pub struct Stopped {
     /// How many choices were done before.
     pub done: usize,

@@ -7,7 +7,7 @@ ghost use Rattle.memory.specs.Instruction.{instruction_at};
 use isa_table::Instr;
 
 /// Why a load is refused.
-#[derive(Clone, Copy, Debug, PartialEq, Eq)]
+#[derive(Clone, Copy, PartialEq, Eq)]
 pub enum AccessFault {
     /// The address is no multiple of the number of bytes. It wins over a missing right.
     Misaligned,
@@ -16,7 +16,7 @@ pub enum AccessFault {
 }
 
 /// Why there is no instruction at an address.
-#[derive(Clone, Copy, Debug, PartialEq, Eq)]
+#[derive(Clone, Copy, PartialEq, Eq)]
 pub enum FetchFault {
     /// A byte of the word may not be executed.
     Access,
@@ -25,7 +25,7 @@ pub enum FetchFault {
 }
 
 /// Why a store is refused; then nothing has changed.
-#[derive(Clone, Copy, Debug, PartialEq, Eq)]
+#[derive(Clone, Copy, PartialEq, Eq)]
 pub enum StoreFault {
     /// The address is no multiple of the number of bytes. It wins over a missing right.
     Misaligned,

@@ -33,7 +33,7 @@ pub fn accesses_name(set: FenceSet) -> &'static str
 }
 
 /// A set of accesses, shown by its letters.
-#[derive(Clone, Copy, Debug)]
+#[derive(Clone, Copy)]
 pub struct FenceAccesses(pub FenceSet);
 
 impl fmt::Display for FenceAccesses {

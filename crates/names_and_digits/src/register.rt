@@ -49,7 +49,7 @@ pub fn abi_name(register: Reg) -> &'static str
 }
 
 /// A register, shown by its name.
-#[derive(Clone, Copy, Debug)]
+#[derive(Clone, Copy)]
 pub struct RegisterName(pub Reg);
 
 impl fmt::Display for RegisterName {

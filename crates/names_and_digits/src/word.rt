@@ -42,7 +42,7 @@ fn ascii(bytes: &[u8]) -> &str
 }
 
 /// A word or an address, shown as eight lower-case hexadecimal digits.
-#[derive(Clone, Copy, Debug)]
+#[derive(Clone, Copy)]
 pub struct Word(pub u32);
 
 impl fmt::Display for Word {
@@ -55,7 +55,7 @@ impl fmt::Display for Word {
 }
 
 /// A byte, shown as two lower-case hexadecimal digits.
-#[derive(Clone, Copy, Debug)]
+#[derive(Clone, Copy)]
 pub struct Byte(pub u8);
 
 impl fmt::Display for Byte {

@@ -10,7 +10,7 @@ use protocol_library::Kind;
 use summary_engine::Detail;
 
 /// What is told of a campaign's seeds.
-#[derive(Clone, Copy, Debug, PartialEq, Eq)]
+#[derive(Clone, Copy, PartialEq, Eq)]
 pub enum Telling {
     /// A line for each.
     All,

@@ -7,7 +7,7 @@ use loader::Rights;
 use std::alloc::{AllocError, Allocator};
 
 /// Bytes of a page that are mapped with the same rights: those at the offsets from `from` up to but not `to`.
-#[derive(Clone, Copy, Debug)]
+#[derive(Clone, Copy)]
 pub struct Span {
     pub from: usize,
     pub to: usize,

@@ -12,7 +12,7 @@ use loader::{Image, load};
 use std::alloc::Allocator;
 
 /// How a program is written.
-#[derive(Clone, Copy, Debug, PartialEq, Eq)]
+#[derive(Clone, Copy, PartialEq, Eq)]
 pub enum ProgramForm {
     /// Words in hexadecimal, which begin one segment.
     Hex,

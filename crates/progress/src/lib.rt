@@ -12,7 +12,7 @@ pub trait Progress {
 }
 
 /// Tells nobody.
-#[derive(Clone, Copy, Debug)]
+#[derive(Clone, Copy)]
 pub struct Unheard;
 
 impl Progress for Unheard {}

@@ -6,7 +6,7 @@ ghost use Rattle.protocol_library.specs.Names.{name_of};
 use crate::entry::entry_of;
 
 /// A consensus object: harts that run its program come out with one value of those that they went in with.
-#[derive(Clone, Copy, Debug, PartialEq, Eq)]
+#[derive(Clone, Copy, PartialEq, Eq)]
 pub enum Kind {
     /// Consensus of two harts by `amoswap.w`.
     Swap,

@@ -7,7 +7,7 @@ ghost use Rattle.refusals.specs.Limit.{most_one_in};
 pub const MOST_ONE_IN: u32 = 65_536;
 
 /// The chance that a choice refuses its store-conditional: one in 1 to `MOST_ONE_IN`.
-#[derive(Clone, Copy, Debug, Drop)]
+#[derive(Clone, Copy, Drop)]
 pub struct Chance {
     one_in: u32,
     ghost within: { (0 < one_in) × (one_in ≤ most_one_in) },

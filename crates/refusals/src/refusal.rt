@@ -6,7 +6,7 @@ ghost use Rattle.refusals.specs.Refusing.{is_refused, IsOneIn};
 use crate::chance::Chance;
 
 /// Which choices of a drawn schedule refuse a store-conditional.
-#[derive(Clone, Copy, Debug, Drop)]
+#[derive(Clone, Copy, Drop)]
 pub enum Refusals {
     /// None.
     Never,

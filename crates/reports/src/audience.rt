@@ -4,7 +4,7 @@ use hart_threads::Gate;
 use std::sync::atomic::{AtomicU64, Ordering};
 
 /// Who reads standard error. Progress is told to a person alone.
-#[derive(Clone, Copy, Debug, PartialEq, Eq)]
+#[derive(Clone, Copy, PartialEq, Eq)]
 pub enum Audience {
     /// Somebody at a terminal.
     Person,

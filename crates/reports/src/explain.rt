@@ -13,7 +13,7 @@ use std::rt::Files;
 use std::{fs, io};
 
 /// The files of a run, as its command line names them, and its harts.
-#[derive(Clone, Copy, Debug)]
+#[derive(Clone, Copy)]
 pub struct RunFiles<'a> {
     /// The program's file, and its form.
     pub program: &'a str,

@@ -3,7 +3,7 @@ ghost use Rattle.std.specs.Prelude.{◌≡◌};
 ghost use Rattle.reservations.specs.Holders.{holders_with, has_other, left_by};
 
 /// Which harts may have a reservation.
-#[derive(Clone, Copy, Debug, Drop)]
+#[derive(Clone, Copy, Drop)]
 pub enum Holders {
     /// No hart has one.
     Nobody,

@@ -11,7 +11,7 @@ pub const MAX_HARTS: usize = 32;
 /// The word that each hart has reserved, if it has one, by its address. It takes no memory of the host.
 ///
 /// The reservation set of the Unprivileged ISA, "Load-Reserved/Store-Conditional Instructions", is one aligned word.
-#[derive(Clone, Copy, Debug, Drop)]
+#[derive(Clone, Copy, Drop)]
 pub struct Reserve {
     words: [Option<u32>; MAX_HARTS],
     holders: Holders,

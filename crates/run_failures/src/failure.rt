@@ -8,7 +8,7 @@ use machine::Choice;
 use protocol_library::{Kind, Verdict, judge};
 
 /// How a run fails.
-#[derive(Clone, Copy, Debug, PartialEq, Eq)]
+#[derive(Clone, Copy, PartialEq, Eq)]
 pub enum Failure {
     /// The verdict on it is that the rule of this kind is broken.
     Broken(Kind),

@@ -3,7 +3,7 @@
 use refusals::Refusals;
 
 /// How the choices of a schedule are made.
-#[derive(Clone, Copy, Debug, Drop)]
+#[derive(Clone, Copy, Drop)]
 pub enum Maker {
     /// The harts by turns, from hart 0 on.
     Turns,
@@ -28,7 +28,7 @@ pub enum Maker {
 }
 
 /// A schedule that is asked for.
-#[derive(Clone, Copy, Debug, Drop)]
+#[derive(Clone, Copy, Drop)]
 pub struct SchedulePlan {
     /// How many harts there are: 1 to 32 are taken.
     pub harts: u32,

@@ -9,7 +9,7 @@ use priority_schedules::MOST_DEPTH;
 use refusals::Refusals;
 
 /// How many choices a burst has in the mean: 1 to `MOST_MEAN`.
-#[derive(Clone, Copy, Debug, Drop)]
+#[derive(Clone, Copy, Drop)]
 pub struct Mean {
     choices: u32,
     ghost within: { (0 < choices) × (choices ≤ most_mean) },
@@ -37,7 +37,7 @@ impl Mean {
 }
 
 /// How deep a schedule by priorities looks, 1 to `MOST_DEPTH`: it has one change point less.
-#[derive(Clone, Copy, Debug, Drop)]
+#[derive(Clone, Copy, Drop)]
 pub struct Depth {
     number: u32,
     ghost within: { (0 < number) × (number ≤ most_depth) },
@@ -65,7 +65,7 @@ impl Depth {
 }
 
 /// How the hart of each choice of a seed is chosen.
-#[derive(Clone, Copy, Debug, Drop)]
+#[derive(Clone, Copy, Drop)]
 pub enum HartOrder {
     /// Each is drawn from all harts.
     Even,
@@ -76,7 +76,7 @@ pub enum HartOrder {
 }
 
 /// How the choices of a seed are made.
-#[derive(Clone, Copy, Debug, Drop)]
+#[derive(Clone, Copy, Drop)]
 pub struct ScheduleKind {
     /// How the hart of each is chosen.
     pub order: HartOrder,

@@ -3,7 +3,7 @@
 use schedule_kinds::ScheduleKind;
 
 /// The choices of a seed in a run.
-#[derive(Clone, Copy, Debug, Drop)]
+#[derive(Clone, Copy, Drop)]
 pub struct SeedPlan {
     /// How they are made.
     pub kind: ScheduleKind,

@@ -3,7 +3,7 @@ use banks_laws::LoggedAccess;
 use std::marker::Model;
 
 /// Some steps of a hart that touch nothing, and then one with its stamp and its accesses.
-#[derive(Debug, Drop)]
+#[derive(Drop)]
 pub struct LogSegment {
     /// The stamp of the last step.
     pub stamp: u64,

@@ -3,7 +3,7 @@
 use engines::CampaignPlan;
 
 /// By what runs are told apart.
-#[derive(Clone, Copy, Debug, PartialEq, Eq)]
+#[derive(Clone, Copy, PartialEq, Eq)]
 pub enum Detail {
     /// By how many harts have exited, were stopped by their instruction, and run, and by the verdict, if there is a rule.
     Ends,
@@ -12,7 +12,7 @@ pub enum Detail {
 }
 
 /// A summary that is asked for.
-#[derive(Clone, Copy, Debug, PartialEq, Eq)]
+#[derive(Clone, Copy, PartialEq, Eq)]
 pub struct SummaryPlan {
     /// Which runs are done.
     pub runs: CampaignPlan,

@@ -21,7 +21,7 @@ use reservations::Reserve;
 use std::alloc::Allocator;
 
 /// The word that a step touches.
-#[derive(Clone, Copy, Debug, PartialEq, Eq)]
+#[derive(Clone, Copy, PartialEq, Eq)]
 pub struct PlannedTouch {
     /// What is done with it.
     pub kind: AccessKind,
@@ -30,7 +30,7 @@ pub struct PlannedTouch {
 }
 
 /// The words of which a hart is told the bytes.
-#[derive(Clone, Copy, Debug, PartialEq, Eq)]
+#[derive(Clone, Copy, PartialEq, Eq)]
 pub struct ToldWords {
     /// The one that it must read to know its instruction, if it must.
     pub code: Option<Word>,

@@ -17,7 +17,7 @@ use memory::{AccessFault, FetchFault, Store, StoreFault};
 use std::alloc::Allocator;
 
 /// A word with its bytes.
-#[derive(Clone, Copy, Debug, PartialEq, Eq)]
+#[derive(Clone, Copy, PartialEq, Eq)]
 pub struct Word {
     /// The address of its first byte.
     pub address: u32,
@@ -109,7 +109,7 @@ fn spelled(bytes: [u8; 4], offset: usize, count: usize, value: u32) -> [u8; 4]
 }
 
 /// What stands at an address as an instruction.
-#[derive(Clone, Copy, Debug)]
+#[derive(Clone, Copy)]
 pub struct KnownInstr {
     /// The address.
     pub address: u32,

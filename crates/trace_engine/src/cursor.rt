@@ -8,7 +8,7 @@ use item_texts::next_item;
 use machine::Choice;
 
 /// A place in a choice text: the choices that are before it.
-#[derive(Clone, Copy, Debug)]
+#[derive(Clone, Copy)]
 pub struct Cursor<'a> {
     text: &'a [u8],
     at: usize,

@@ -5,7 +5,7 @@ ghost use Rattle.trace_engine.specs.Trace.{span_of, told_count};
 use trace_texts::Span;
 
 /// How a trace is written.
-#[derive(Clone, Copy, Debug, PartialEq, Eq)]
+#[derive(Clone, Copy, PartialEq, Eq)]
 pub enum TraceForm {
     /// A head and a line for each choice, each an object of JSON.
     Lines,
@@ -14,7 +14,7 @@ pub enum TraceForm {
 }
 
 /// Which choices of a run are told, and how. Choices are numbered from 1, by their places in the list.
-#[derive(Clone, Copy, Debug, PartialEq, Eq)]
+#[derive(Clone, Copy, PartialEq, Eq)]
 pub struct TracePlan {
     /// How the trace is written.
     pub form: TraceForm,

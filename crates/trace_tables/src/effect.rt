@@ -4,7 +4,7 @@ use choice_traces::Written;
 use hart_step::Cause;
 
 /// A thing that a choice did, which its row tells.
-#[derive(Clone, Copy, Debug, PartialEq, Eq)]
+#[derive(Clone, Copy, PartialEq, Eq)]
 pub enum Effect {
     /// The store-conditional stored.
     Succeeds,

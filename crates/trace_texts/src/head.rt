@@ -3,7 +3,7 @@
 use hart_step::Hart;
 
 /// Which choices are told, by their places in the list, counted from 1.
-#[derive(Clone, Copy, Debug, PartialEq, Eq)]
+#[derive(Clone, Copy, PartialEq, Eq)]
 pub struct Span {
     /// The first.
     pub from: u64,
@@ -12,7 +12,7 @@ pub struct Span {
 }
 
 /// A hart as it is before the first choice that is told.
-#[derive(Clone, Copy, Debug, PartialEq, Eq)]
+#[derive(Clone, Copy, PartialEq, Eq)]
 pub struct HartThen {
     /// The hart.
     pub hart: Hart,
