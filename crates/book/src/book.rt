@@ -9,12 +9,12 @@ ghost use Rattle.book.specs.Present.{IsFresh, GivesNone};
 
 use crate::fault::SegmentFault;
 use crate::segment::Segment;
+use flat_memory::FlatStore;
 use hart_step::Hart;
 use histories::Entry;
 use loader::Image;
 use local_steps::Code;
 use machine::{Machine, StartFault};
-use memory::FlatStore;
 use std::alloc::Allocator;
 use std::marker::Model;
 use std::sync::Arc;

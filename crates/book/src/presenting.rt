@@ -12,8 +12,8 @@ use crate::book::Book;
 use crate::fault::PresentFault;
 use crate::sameness::{is_same_code, is_same_hart};
 use crate::segment::Segment;
+use flat_memory::FlatStore;
 use machine::{Choice, Machine};
-use memory::FlatStore;
 use std::alloc::Allocator;
 
 impl<A: Allocator> Book<A> {

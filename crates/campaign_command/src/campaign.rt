@@ -3,14 +3,15 @@
 ghost use Rattle.std.specs.Prelude.{◌+◌, ◌-◌, ◌<◌, ◌≤◌, ◌^◌, IfOk};
 
 use crate::watching::Watching;
-use command_line::{CampaignOrder, read_inputs, read_rule};
+use campaign_engine::{CampaignPlan, campaign_engine};
+use command_line::{CampaignOrder, read_inputs};
 use devices::{MemorySink, MemorySource, ReaderSource, Sink, Source, Status, WriterSink};
 use drawn_campaigns::DrawnPlan;
 use drawn_engine::{LinesPlan, Shown, drawn_engine, drawn_summary_engine};
-use engines::{CampaignPlan, campaign_engine};
 use exits::Exit;
 use fault_advice::run_advice;
 use kind_plans::{read_kind, why_no_kind};
+use object_names::read_rule;
 use order_plans::{Telling, read_campaign_plan, read_telling};
 use programs::{ProgramForm, RunFault};
 use progress::Progress;

@@ -11,10 +11,11 @@ ghost use Rattle.scheduler.specs.Schedules.{seeded_choices};
 ghost use Rattle.campaigns.specs.Campaign.{ends_of, ends_from, RemembersChosen};
 
 use choice_runs::Chosen;
+use flat_memory::FlatStore;
 use hart_step::Hart;
 use loader::Image;
 use machine::{Choice, Machine};
-use memory::{FlatStore, FromImage, Store};
+use memory::{FromImage, Store};
 use scheduler::{draw_choice, seeded_generator};
 use std::alloc::{AllocError, Allocator};
 

@@ -10,8 +10,8 @@ ghost use Rattle.choice_runs.specs.Leads.{LeadsTo};
 use crate::chosen::Chosen;
 use crate::reading::Reading;
 use choice_texts::ChoiceFault;
+use flat_memory::FlatStore;
 use machine::{Choice, Machine};
-use memory::FlatStore;
 use std::alloc::Allocator;
 
 /// Runs the choices that a text spells for the harts of a machine, and answers which of them were chosen. It wants no memory. The

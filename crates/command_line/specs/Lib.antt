@@ -15,4 +15,3 @@ pub mod Line
 pub mod Numbers
 pub mod Inputs
 pub mod Plan
-pub mod Objects

@@ -1,4 +1,4 @@
-//! The words of a command line as an order, and the numbers, inputs and names in it.
+//! The words of a command line as an order, and the numbers and inputs in it.
 #![tactic(auto)]
 
 pub use asm_line::AsmOrder;
@@ -9,7 +9,6 @@ pub use inputs::{read_inputs, read_word};
 pub use lib_line::LibOrder;
 pub use line::{LineFault, Order, read_line};
 pub use numbers::read_number;
-pub use objects::{read_object, read_rule};
 pub use plan::read_plan;
 pub use refused::{Refused, read_refused};
 pub use replay_line::ReplayOrder;
@@ -29,7 +28,6 @@ mod inputs;
 mod lib_line;
 mod line;
 mod numbers;
-mod objects;
 mod plan;
 mod refused;
 mod replay_line;

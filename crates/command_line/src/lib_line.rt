@@ -8,7 +8,6 @@ ghost use Rattle.command_line.specs.LibLine.{lib_app, lib_names, IsLib};
 
 use crate::arguments::{add, headed, needed, text_of};
 use clap::{ArgMatches, Command};
-use protocol_library::KIND_NAMES;
 use std::alloc::{AllocError, Global};
 
 /// `lib K`: prints the source of an object of the library.
@@ -18,8 +17,8 @@ pub struct LibOrder<'a> {
     pub object: &'a str,
 }
 
-/// The command as clap takes it.
-pub(crate) fn lib_command<'a>(alloc: Global) -> Result<Command<'a>, AllocError>
+/// The command as clap takes it; its help has `objects`, the names of the library's objects.
+pub(crate) fn lib_command<'a>(alloc: Global, objects: &'a str) -> Result<Command<'a>, AllocError>
     ensures app { IfOk result (λ c. app_of c ≡ lib_app) }
     ensures local { IfOk result (λ c. (out-Command c).has_globals ≡ false) }
 {
@@ -29,7 +28,7 @@ pub(crate) fn lib_command<'a>(alloc: Global) -> Result<Command<'a>, AllocError>
         "Prints the source of an object of the library",
         "Example: rvcons lib swap",
     );
-    add(command, needed(alloc, "K", KIND_NAMES))
+    add(command, needed(alloc, "K", objects))
 }
 
 /// The order that clap's matches hold.

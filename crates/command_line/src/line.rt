@@ -78,7 +78,7 @@ fn bare_program<'a>(alloc: Global) -> Command<'a>
         .after_help("`rvcons run --help` shows a command's options and an example; so for each.")
 }
 
-fn program<'a>(alloc: Global) -> Result<Command<'a>, AllocError>
+fn program<'a>(alloc: Global, objects: &'a str) -> Result<Command<'a>, AllocError>
     ensures { IfOk result (λ c. app_of c ≡ program_app) }
 {
     let program = add_command(bare_program(alloc), asm_command(alloc))?;
@@ -88,7 +88,7 @@ fn program<'a>(alloc: Global) -> Result<Command<'a>, AllocError>
     let program = add_command(program, debug_command(alloc))?;
     let program = add_command(program, threads_command(alloc))?;
     let program = add_command(program, replay_command(alloc))?;
-    let program = add_command(program, lib_command(alloc))?;
+    let program = add_command(program, lib_command(alloc, objects))?;
     let program = add_command(program, campaign_command(alloc))?;
     let program = add_command(program, schedule_command(alloc))?;
     let program = add_command(program, shrink_command(alloc))?;
@@ -137,15 +137,19 @@ fn order_of<'a>(alloc: Global, matches: &ArgMatches<'a>) -> Result<Option<Order<
 }
 
 /// The order that the words give, of which the first is the program's name. Each text of it is the one that clap holds
-/// for these words, and clap refuses no line that it takes.
-pub fn read_line<'a>(alloc: Global, words: &'a [&'a str]) -> Result<Order<'a>, LineFault>
+/// for these words, and clap refuses no line that it takes. Help lists the library's objects by `objects`, their names.
+pub fn read_line<'a>(
+    alloc: Global,
+    words: &'a [&'a str],
+    objects: &'a str,
+) -> Result<Order<'a>, LineFault>
     ensures order { IfOk result (λ order.
         IsOrder (subcommand_of program_app (map (λ s. s.now) words.entry.now)) order) }
     ensures no_command { IfErr result (IfNoCommand
         (HasNoOrder (subcommand_of program_app (map (λ s. s.now) words.entry.now)))) }
     ensures told { IfErr result (IsTold (takes program_app (map (λ s. s.now) words.entry.now))) }
 {
-    let Ok(command) = program(alloc) else {
+    let Ok(command) = program(alloc, objects) else {
         return Err(LineFault::Memory);
     };
     let matches = match command.try_get_matches_from(words) {

@@ -1,6 +1,6 @@
 //! Which runs are asked for.
 
-use engines::CampaignPlan;
+use campaign_engine::CampaignPlan;
 use exits::Exit;
 use schedule_kinds::ScheduleKind;
 use summary_engine::Detail;

@@ -10,8 +10,8 @@ use Rattle.std.specs.List.{flat_map, range_with_len}
 use Rattle.loader.specs.Image.{ImageValue}
 use Rattle.machine.specs.Start.{started}
 use Rattle.outcomes.specs.Tally.{SeedOutcome}
-use Rattle.engines.specs.Campaign.{Begins}
-use Rattle.engines.proofs.CampaignLemmas.{begins_at, begins_in}
+use Rattle.engines.specs.Run.{Begins}
+use Rattle.campaign_engine.proofs.CampaignLemmas.{begins_at, begins_in}
 use Rattle.devices.specs.declared.status.Status.{Status}
 use Rattle.drawn_campaigns.specs.Campaign.{outcome_from, outcomes_of}
 use Rattle.drawn_campaigns.specs.declared.plan.DrawnPlan.{DrawnPlan}

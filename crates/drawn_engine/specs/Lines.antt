@@ -5,7 +5,7 @@ use Rattle.exits.specs.declared.exit.Exit.{Exit}
 use Rattle.drawn_engine.specs.Failing.{fails}
 use Rattle.drawn_engine.specs.declared.plan.Shown.{Shown}
 use Rattle.drawn_engine.specs.declared.plan.Shown.TheVariants.{All, Failures}
-use Rattle.engines.specs.Campaign.{seed_line, verdict_word}
+use Rattle.campaign_engine.specs.Campaign.{seed_line, verdict_word}
 use Rattle.outcomes.specs.Tally.{SeedOutcome}
 
 -- a run's line with its end, as a campaign's

@@ -4,8 +4,8 @@ ghost use Rattle.std.specs.Prelude.{◌≡◌, ◌≢◌, ◌+◌, ◌-◌, ◌^
 ghost use Rattle.std.specs.List.{range_with_len};
 ghost use Rattle.std.specs.Io.KnownBytes.{Appends, Keeps};
 ghost use Rattle.machine.specs.Start.{IsStartable};
-ghost use Rattle.engines.specs.Campaign.{Begins, IfHalts};
-ghost use Rattle.engines.specs.Run.{BeginsToPrint, Prints};
+ghost use Rattle.campaign_engine.specs.Campaign.{IfHalts};
+ghost use Rattle.engines.specs.Run.{BeginsToPrint, Prints, Begins};
 ghost use Rattle.programs.specs.RunFaults.{IfReads, IsRefusal};
 ghost use Rattle.drawn_campaigns.specs.Campaign.{end_of, outcomes_of, planned_outcomes};
 ghost use Rattle.drawn_engine.specs.Answers.{after_image, lines_answer};

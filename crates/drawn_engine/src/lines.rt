@@ -3,7 +3,7 @@
 ghost use Rattle.std.specs.Prelude.{◌≡◌, ◌++◌, IfOk, map, string_bytes};
 ghost use Rattle.drawn_campaigns.specs.Campaign.{end_of};
 ghost use Rattle.drawn_engine.specs.Lines.{end_entry, line_told, lines_told};
-ghost use Rattle.engines.specs.Campaign.{seed_line};
+ghost use Rattle.campaign_engine.specs.Campaign.{seed_line};
 
 use crate::failing::fails;
 use crate::plan::Shown;

@@ -1,7 +1,8 @@
 //! What no clause says: a file that is shown and run by campaigns, with devices that work and that fail.
+use campaign_engine::{CampaignPlan, campaign_engine};
 use engines::{
-    CampaignPlan, Failing, FileView, FullSink, Input, MemorySink, MemorySource, ProgramForm,
-    RunFault, Status, campaign_engine, file_engine, run_engine,
+    Failing, FileView, FullSink, Input, MemorySink, MemorySource, ProgramForm, RunFault, Status,
+    file_engine, run_engine,
 };
 use progress::Unheard;
 use std::alloc::Global;

@@ -1,9 +1,10 @@
 //! What no clause says: worked lines and lists.
 use command_line::{
     AsmOrder, CampaignOrder, DebugOrder, LineFault, Locks, Order, ReplayOrder, RunOrder,
-    ThreadsOrder, read_inputs, read_line, read_number, read_object, read_plan,
+    ThreadsOrder, read_inputs, read_line, read_number, read_plan,
 };
-use protocol_library::Kind;
+use object_names::read_object;
+use protocol_library::{KIND_NAMES, Kind};
 use std::alloc::Global;
 
 // Texts, and the inputs that they spell; none where they are refused.
@@ -146,7 +147,7 @@ fn is_order(order: &Order, wanted: Wanted) -> bool {
 
 // Whether a line gives the order that is wanted.
 fn gives(alloc: Global, words: &[&str], wanted: Wanted) -> bool {
-    match read_line(alloc, words) {
+    match read_line(alloc, words, KIND_NAMES) {
         Ok(order) => is_order(&order, wanted),
         Err(_) => false,
     }
@@ -280,7 +281,7 @@ const REFUSED: [(&str, &[&str], Refusal); 11] = [
 
 // How a line is refused; none where it gives an order, or is refused otherwise.
 fn refusal_of<'a>(alloc: Global, words: &'a [&'a str]) -> Option<Refusal> {
-    match read_line(alloc, words) {
+    match read_line(alloc, words, KIND_NAMES) {
         Err(LineFault::Told(error)) => Some(refusal_by_clap(error.use_stderr())),
         Err(LineFault::NoCommand) => Some(Refusal::NoCommand),
         Err(_fault) => None,

@@ -1,9 +1,10 @@
 //! What no clause says: the objects' files, run and put through campaigns under their rules.
 use crate::object_files::object_file;
+use campaign_engine::{CampaignPlan, campaign_engine, push_runs};
 use campaigns::SeedRun;
 use engines::{
-    CampaignPlan, FileView, MemorySink, MemorySource, ProgramForm, RunFault, Status,
-    campaign_engine, file_engine, push_runs, run_engine, source_engine,
+    FileView, MemorySink, MemorySource, ProgramForm, RunFault, Status, file_engine, run_engine,
+    source_engine,
 };
 use hart_step::{Hart, HartState};
 use progress::Unheard;

@@ -1,9 +1,7 @@
 //! What no clause says of schedules: worked ones, seeds whose texts run as their campaigns do, failing sinks, each request refused.
 use crate::object_files::object_file;
-use engines::{
-    CampaignPlan, FullSink, MemorySink, MemorySource, ProgramForm, Status, campaign_engine,
-    run_engine,
-};
+use campaign_engine::{CampaignPlan, campaign_engine};
+use engines::{FullSink, MemorySink, MemorySource, ProgramForm, Status, run_engine};
 use progress::Unheard;
 use protocol_library::Kind;
 use refusals::Refusals;

@@ -1,4 +1,3 @@
 pub mod RunLemmas
-pub mod CampaignLemmas
 pub mod InfoLemmas
 pub mod CertifiedLemmas

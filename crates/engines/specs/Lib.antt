@@ -1,5 +1,4 @@
 pub mod Run
 pub mod Info
 pub mod File
-pub mod Campaign
 pub mod Certified

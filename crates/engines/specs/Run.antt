@@ -46,7 +46,11 @@ abbrev pub Prints : Answer → Status → Option (List ℕ) → Option (List ℕ
 Prints (Ok answer) status old new = (answer.1 ≡ status) × Appends old new answer.0
 Prints (Err why) status old new = ⊥
 
+-- a beginning of a text was appended
+abbrev pub Begins : List ℕ → Option (List ℕ) → Option (List ℕ) → Type 0
+Begins text old new = (n : ℕ) × Appends old new (take n text)
+
 -- a beginning of the answer's text was appended
 abbrev pub BeginsToPrint : Answer → Option (List ℕ) → Option (List ℕ) → Type 0
-BeginsToPrint (Ok answer) old new = (n : ℕ) × Appends old new (take n answer.0)
+BeginsToPrint (Ok answer) old new = Begins answer.0 old new
 BeginsToPrint (Err why) old new = ⊥

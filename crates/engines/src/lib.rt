@@ -1,7 +1,6 @@
 //! What the program's commands do, over any source of bytes and any sink.
 #![tactic(auto)]
 
-pub use campaign::{CampaignPlan, End, campaign_engine, push_runs};
 pub use devices::{
     DeviceFault, Failing, FullSink, MemorySink, MemorySource, ReadFault, ReaderSource, Sink,
     Source, Status, WriterSink, read_all, write_all,
@@ -15,9 +14,8 @@ pub use programs::{
     HEX_BASE, HEX_SIZE, HexFault, Input, MOST_WORDS, ProgramForm, RunFault, hex_image, read_hex,
     read_image, read_program,
 };
-pub use run::{run_engine, run_text};
+pub use run::{run_engine, run_text, see_words};
 
-mod campaign;
 mod file;
 mod info;
 mod library;

@@ -3,7 +3,7 @@
 ghost use Rattle.std.specs.Prelude.{◌≡◌, ◌-◌, ◌^◌, ◌<◌, IfOk, IfErr, OnErr};
 ghost use Rattle.std.specs.Io.KnownBytes.{Appends};
 ghost use Rattle.protocol_library.specs.Sources.{source_of};
-ghost use Rattle.engines.specs.Campaign.{Begins};
+ghost use Rattle.engines.specs.Run.{Begins};
 
 use devices::{Sink, Status, write_all};
 use programs::RunFault;

@@ -21,16 +21,16 @@ use choice_runs::{Chosen, early_fault, run_choices};
 use choice_texts::ChoiceFault;
 use devices::{Sink, Source, Status, write_all};
 use ends::ends_text;
+use flat_memory::FlatStore;
 use hart_step::Hart;
 use loader::Image;
 use machine::Machine;
-use memory::FlatStore;
 use programs::{Input, ProgramForm, RunFault, open_text};
 use protocol_library::Kind;
 use std::alloc::{AllocError, Allocator};
 
-// Looks at each input, so that it is known to be a word.
-pub(crate) fn see_words(inputs: &[u32])
+/// Looks at each input, so that it is known to be a word.
+pub fn see_words(inputs: &[u32])
     ensures { All (λ x. x < 2 ^ 32) inputs.now }
 {
     'inputs: for input in inputs {

@@ -4,8 +4,8 @@ ghost use Rattle.machine.specs.State.{state};
 ghost use Rattle.machine.specs.World.{run};
 ghost use Rattle.scheduler.specs.Schedules.{alone, turns};
 
+use flat_memory::FlatStore;
 use machine::{Choice, Machine};
-use memory::FlatStore;
 use run_failures::take_step;
 use std::alloc::Allocator;
 

@@ -7,10 +7,11 @@ use crate::sentences::{
 };
 use advice::{Form, Sentence, Value, push_sentence};
 use decoder::decode;
+use flat_memory::FlatStore;
 use hart_step::{Access, Cause, Hart, HartState, access_by};
 use loader::{Image, Rights, Segment, Symbol};
 use machine::Machine;
-use memory::{FlatStore, Store};
+use memory::Store;
 use names_and_digits::Word;
 use std::alloc::{AllocError, Allocator};
 

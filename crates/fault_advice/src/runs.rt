@@ -5,10 +5,10 @@ ghost use Rattle.std.specs.List.{All};
 
 use crate::harts::harts_advice;
 use choice_runs::run_choices;
+use flat_memory::FlatStore;
 use histories::{Entry, read_history};
 use loader::{Image, Symbol, symbols};
 use machine::{Machine, check_inputs};
-use memory::FlatStore;
 use programs::{ProgramForm, read_program};
 use replays::replay_history;
 use std::alloc::Allocator;

@@ -3,13 +3,11 @@
 ghost use Rattle.std.specs.Prelude.{◌≡◌, ◌≢◌, ◌-◌, ◌^◌, ◌<◌, All, IfErr, IfOk, length, map};
 
 use crate::program_file::{OpenFault, ProgramFile};
+use crate::sources::{explain_no_text, explain_sources};
 use asm_engine::{AssemblyFault, file_engine, listing_engine};
 use command_line::AsmOrder;
 use devices::{ReaderSource, Source, Status, WriterSink};
-use reports::{
-    Audience, cannot_open, cannot_read, cannot_write, explain_no_text, explain_sources,
-    out_of_memory,
-};
+use reports::{Audience, cannot_open, cannot_read, cannot_write, out_of_memory};
 use std::rt::Files;
 use std::{fs, io};
 

@@ -9,3 +9,4 @@ mod asm;
 mod file;
 mod library;
 mod program_file;
+mod sources;

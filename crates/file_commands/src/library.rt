@@ -1,8 +1,9 @@
 //! Doing `lib`.
 
-use command_line::{LibOrder, read_object};
+use command_line::LibOrder;
 use devices::{Status, WriterSink};
 use engines::source_engine;
+use object_names::read_object;
 use reports::{refuse, say};
 use std::io;
 

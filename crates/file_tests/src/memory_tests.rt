@@ -2,8 +2,9 @@
 
 use crate::calls::{Call, GRANTS, Grants, count_answered, has_grants};
 use crate::images::{Part, image_of};
+use flat_memory::FlatStore;
 use loader::ElfFault;
-use memory::{AccessFault, FlatStore, FromImage, Store, StoreFault};
+use memory::{AccessFault, FromImage, Store, StoreFault};
 use std::alloc::Global;
 
 /// A store of segments.

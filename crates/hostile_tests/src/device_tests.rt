@@ -1,9 +1,10 @@
 //! What no clause says of devices that fail: that each engine comes to its full answer where none does. Each device of each engine fails
 //! at its first call, then at its second, and so on, until it is not called so often.
 use asm_engine::{AssemblyFault, assembled_file, listing_engine, write_file};
+use campaign_engine::{CampaignPlan, campaign_engine};
 use debug_engine::{DebugEngineFault, debug_engine};
 use devices::{Failing, FullSink, MemorySink, MemorySource, Status};
-use engines::{CampaignPlan, FileView, campaign_engine, file_engine, run_engine, source_engine};
+use engines::{FileView, file_engine, run_engine, source_engine};
 use programs::{Input, ProgramForm, RunFault};
 use progress::Unheard;
 use protocol_library::{Kind, source};

@@ -2,10 +2,10 @@
 ghost use Rattle.std.specs.Prelude.{◌≤◌};
 
 use campaigns::{SeedRun, Seeds, campaign, next_runs};
+use flat_memory::FlatStore;
 use hart_step::Hart;
 use loader::{Image, Rights, Segment};
 use machine::{Choice, Machine, StartFault};
-use memory::FlatStore;
 use scheduler::seeded;
 use std::alloc::{AllocError, Global};
 use std::thread::Threads;

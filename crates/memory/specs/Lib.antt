@@ -1,6 +1,4 @@
 pub mod Memory
 pub mod Access
 pub mod Image
-pub mod Blocks
 pub mod Instruction
-pub mod Kept

@@ -1,9 +1,10 @@
 //! Every schedule of two harts, step by step. A state is what the two harts and their data words are; schedules that have chosen each
 //! hart as often and lead to the same state go on as one, and how many they are is counted.
 
+use flat_memory::FlatStore;
 use hart_step::{Hart, HartState};
 use machine::{Choice, Machine, StartFault};
-use memory::{FlatStore, Store};
+use memory::Store;
 use protocol_library::{Kind, Verdict, judge, make_image};
 use std::alloc::{AllocError, Allocator};
 

@@ -1,6 +1,6 @@
 -- Plans of campaigns.
 use Rattle.std.specs.Prelude.{ℕ, ◌+◌, ◌^◌, nat_le, List, Option, Some, None, if◌then◌else◌}
-use Rattle.engines.specs.declared.campaign.CampaignPlan.{CampaignPlan}
+use Rattle.campaign_engine.specs.declared.campaign.CampaignPlan.{CampaignPlan}
 use Rattle.protocol_library.specs.declared.kind.Kind.{Kind}
 use Rattle.command_line.specs.Numbers.{number_below}
 

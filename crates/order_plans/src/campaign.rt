@@ -4,8 +4,8 @@ ghost use Rattle.std.specs.Prelude.{◌≡◌};
 ghost use Rattle.order_plans.specs.CampaignPlans.{plan_of};
 ghost use Rattle.order_plans.specs.Tellings.{telling_of};
 
+use campaign_engine::CampaignPlan;
 use command_line::read_number;
-use engines::CampaignPlan;
 use protocol_library::Kind;
 use summary_engine::Detail;
 

@@ -4,8 +4,8 @@ use Rattle.std.specs.List.{slice_get, slice_index}
 use Rattle.std.specs.declared.rc.Rc.{Rc}
 use Rattle.memory.specs.Memory.{grants, all_below, granted, number_of, number_at}
 use Rattle.memory.specs.Access.{fetched}
-use Rattle.memory.specs.Blocks.{number_if}
-use Rattle.memory.proofs.ReadLemmas.{all_below_fails, number_same}
+use Rattle.flat_memory.specs.Blocks.{number_if}
+use Rattle.flat_memory.proofs.ReadLemmas.{all_below_fails, number_same}
 use Rattle.pages.specs.Directory.{DirectoryValue, place_of}
 use Rattle.pages.specs.Pages.{right_at, right_in, byte_in, kept_at, spans_of, pages_memory}
 use Rattle.pages.specs.declared.page.Page.{Page}

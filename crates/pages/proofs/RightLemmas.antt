@@ -5,7 +5,7 @@ use Rattle.std.proofs.lemmas.Bool.Decides.{nat_tests}
 use Rattle.std.proofs.lemmas.Option.{none-some}
 use Rattle.std.specs.List.{slice_get}
 use Rattle.memory.specs.Memory.{grants, all_below}
-use Rattle.memory.proofs.ReadLemmas.{all_below_fails}
+use Rattle.flat_memory.proofs.ReadLemmas.{all_below_fails}
 use Rattle.pages.specs.Pages.{has_offset, has_all, right_at, spans_of}
 use Rattle.pages.specs.declared.page_rights.Span.{Span}
 use Rattle.pages.specs.declared.page_rights.PageRights.{PageRights}

@@ -7,8 +7,8 @@ use Rattle.std.proofs.Math.Path.{fun_ext}
 use Rattle.std.specs.List.{slice_get, slice_index}
 use Rattle.memory.specs.Memory.{grants, all_below, granted}
 use Rattle.memory.specs.Access.{written}
-use Rattle.memory.specs.Blocks.{spelled}
-use Rattle.memory.proofs.WriteLemmas.{spelled_in, spelled_out}
+use Rattle.flat_memory.specs.Blocks.{spelled}
+use Rattle.flat_memory.proofs.WriteLemmas.{spelled_in, spelled_out}
 use Rattle.pages.specs.Directory.{DirectoryValue, proposed, place_of}
 use Rattle.pages.specs.Pages.{right_at, byte_in, kept_at, spans_of, pages_memory}
 use Rattle.pages.specs.Number.{width_of, value_of}

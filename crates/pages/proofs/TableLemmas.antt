@@ -8,7 +8,7 @@ use Rattle.std.proofs.Math.Seq.{map-set_same, take-add}
 use Rattle.std.specs.List.{flat_map, slice_get}
 use Rattle.std.specs.Option.{option_map}
 use Rattle.std.specs.declared.rc.Rc.{Rc}
-use Rattle.memory.specs.Blocks.{spelled}
+use Rattle.flat_memory.specs.Blocks.{spelled}
 use Rattle.pages.specs.Table.{values_of, pages_in, pages_of}
 use Rattle.pages.specs.Written.{IsWritten}
 use Rattle.pages.specs.declared.page.Page.{Page}

@@ -1,6 +1,6 @@
 -- What a write into one of some pages leaves.
 use Rattle.std.specs.Prelude.{◌≡◌, ℕ, List, Some, Result, Ok, Err, length, slice_get, slice_set}
-use Rattle.memory.specs.Blocks.{spelled}
+use Rattle.flat_memory.specs.Blocks.{spelled}
 use Rattle.pages.specs.declared.page.Page.{Page}
 
 -- page k gave way to one whose n bytes from an offset on spell the low digits of a value, and whose others are as they were

@@ -1,7 +1,7 @@
 //! Pages.
 ghost use Rattle.std.specs.Prelude.{◌≡◌, ℕ, ◌+◌, ◌^◌, ◌≤◌, length, slice_index};
 ghost use Rattle.memory.specs.Memory.{number_of};
-ghost use Rattle.memory.specs.Blocks.{spelled};
+ghost use Rattle.flat_memory.specs.Blocks.{spelled};
 ghost use Rattle.pages.specs.Number.{width_of, value_of};
 ghost use Rattle.pages.specs.Runs.{byte_of_run};
 

@@ -1,12 +1,12 @@
 //! A memory of pages.
 ghost use Rattle.std.specs.Prelude.{◌≤◌, ◌*◌, vec_len, length};
-ghost use Rattle.memory.specs.Kept.{IsCodeOf};
+ghost use Rattle.flat_memory.specs.Kept.{IsCodeOf};
 ghost use Rattle.pages.specs.Pages.{spans_of, pages_memory};
 ghost use Rattle.pages.specs.Table.{pages_of};
 
 use crate::layout::Layout;
 use crate::table::Table;
-use memory::Code;
+use flat_memory::Code;
 use std::alloc::Allocator;
 use std::rc::Rc;
 

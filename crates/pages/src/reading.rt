@@ -2,7 +2,7 @@
 ghost use Rattle.std.specs.Prelude.{◌≡◌, ◌<◌, ◌≤◌, ◌+◌, ◌*◌, ◌^◌, ◌%◌, true, false, Some, MatchOption, slice_get, vec_len};
 ghost use Rattle.memory.specs.Memory.{grants, granted, to_write};
 ghost use Rattle.memory.specs.Access.{peeked};
-ghost use Rattle.memory.specs.Blocks.{number_if};
+ghost use Rattle.flat_memory.specs.Blocks.{number_if};
 ghost use Rattle.pages.specs.Store.{memory_of};
 ghost use Rattle.pages.specs.Table.{pages_of};
 

@@ -1,6 +1,6 @@
 //! Pages that were filled, made to be shared.
 ghost use Rattle.std.specs.Prelude.{◌≡◌, ◌+◌, ◌*◌, ◌/◌, ◌%◌, ◌≤◌, IfOk, take, vec_len, length};
-ghost use Rattle.memory.specs.Kept.{IsCodeOf};
+ghost use Rattle.flat_memory.specs.Kept.{IsCodeOf};
 ghost use Rattle.pages.specs.Building.{built, IsEven};
 ghost use Rattle.pages.specs.Store.{memory_of};
 ghost use Rattle.pages.specs.Table.{pages_of, values_of};
@@ -12,7 +12,7 @@ use crate::page::{PAGE_SIZE, Page};
 use crate::page_store::PageStore;
 use crate::sharing::{chunk_of, share};
 use crate::table::Table;
-use memory::Code;
+use flat_memory::Code;
 use std::alloc::{AllocError, Allocator};
 use std::rc::Rc;
 

@@ -1,7 +1,7 @@
 //! Writing to pages.
 ghost use Rattle.std.specs.Prelude.{◌≡◌, ◌+◌, ◌*◌, ◌<◌, ◌≤◌, ◌%◌, length, vec_len, OnOk, OnErr, true};
 ghost use Rattle.memory.specs.Access.{Stores};
-ghost use Rattle.memory.specs.Blocks.{spelled};
+ghost use Rattle.flat_memory.specs.Blocks.{spelled};
 ghost use Rattle.pages.specs.Number.{width_of, value_of};
 ghost use Rattle.pages.specs.Store.{memory_of};
 ghost use Rattle.pages.specs.Table.{pages_in, pages_of};

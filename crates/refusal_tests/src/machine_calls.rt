@@ -2,10 +2,11 @@
 use choice_runs::Chosen;
 use choice_texts::{ChoiceFault, print_choices, print_runs, read_choices};
 use debugger::byte_at;
+use flat_memory::FlatStore;
 use histories::{Entry, HistoryFault, print_history, read_history};
 use loader::{Image, Rights, Segment};
 use machine::{Choice, Machine};
-use memory::{FlatStore, FromImage};
+use memory::FromImage;
 use pages::PageStore;
 use refusing::{Call, tried};
 use scheduler::{round_robin, seeded, solo};

@@ -15,12 +15,12 @@ ghost use Rattle.replay_engine.specs.Replay.{replay_answer, Prints, BeginsToPrin
 use crate::fault::ReplayFault;
 use crate::opening::open_replay;
 use crate::shown::shown_after;
-use crate::words::see_words;
 use devices::{Sink, Source, Status, write_all};
+use engines::see_words;
+use flat_memory::FlatStore;
 use histories::Entry;
 use loader::Image;
 use machine::Machine;
-use memory::FlatStore;
 use programs::RunFault;
 use protocol_library::Kind;
 use replays::replay_history;

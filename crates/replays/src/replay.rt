@@ -6,9 +6,9 @@ ghost use Rattle.machine.specs.World.{step, run};
 ghost use Rattle.machine.specs.State.{state};
 ghost use Rattle.histories.specs.History.{choices_of, expanded};
 
+use flat_memory::FlatStore;
 use histories::Entry;
 use machine::{Choice, Machine};
-use memory::FlatStore;
 use std::alloc::Allocator;
 
 /// The run of the choices that a history stands for. It wants no memory.

@@ -3,8 +3,6 @@
 
 use crate::audience::Audience;
 use advice::{Mistake, order_advice};
-use asm_advice::{SourceText, asm_advice};
-use asm_read::Fault;
 use clap::error::ErrorKind;
 use command_line::LineFault;
 use fault_advice::{file_words, item_at};
@@ -37,58 +35,6 @@ pub fn read_again<R: Files + AllocGlobal>(rt: &R, path: &str) -> Option<Vec<u8>>
 pub fn show(rt: &impl Eprint, text: &str) {
     // Where standard error is closed there is nobody to tell.
     let _ = eprint!(rt; "{text}");
-}
-
-// The sources that can be read once more, as texts.
-fn texts_of<R: Files + AllocGlobal>(rt: &R, paths: &[&str]) -> Option<Vec<String>> {
-    let mut texts = Vec::new(rt.alloc());
-    'paths: for path in paths {
-        let bytes = read_again(rt, path)?;
-        let text = String::from_utf8(bytes).ok()?;
-        texts.push(text).ok()?;
-    }
-    Some(texts)
-}
-
-/// Explains a fault of sources.
-pub fn explain_sources<R: Files + AllocGlobal + Eprint>(
-    rt: &R,
-    audience: Audience,
-    paths: &[&str],
-    fault: Fault,
-) {
-    if audience == Audience::Person {
-        let _ = told_of_sources(rt, paths, fault);
-    }
-}
-
-/// Explains that a source is no text.
-pub fn explain_no_text(rt: &impl Eprint, audience: Audience, path: &str) {
-    if audience == Audience::Person {
-        let _ = eprintln!(rt;
-            "{path}: this is no text in UTF-8: is it a program? rvcons list shows one"
-        );
-    }
-}
-
-// Tells of a fault of sources, where they can be read once more.
-fn told_of_sources<R: Files + AllocGlobal + Eprint>(
-    rt: &R,
-    paths: &[&str],
-    fault: Fault,
-) -> Option<()> {
-    let texts = texts_of(rt, paths)?;
-    let mut sources = Vec::new(rt.alloc());
-    'paths: for (path, text) in paths.iter().zip(texts.iter()) {
-        let source = SourceText {
-            path: *path,
-            text: text.as_str(),
-        };
-        sources.push(source).ok()?;
-    }
-    let text = asm_advice(rt.alloc(), &sources, fault).ok()?;
-    show(rt, &text);
-    Some(())
 }
 
 /// Explains why a run gives no answer.

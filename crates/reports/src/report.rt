@@ -2,21 +2,13 @@
 
 ghost use Rattle.std.specs.Prelude.{◌≡◌, ◌≢◌};
 ghost use Rattle.programs.specs.RunFaults.{status_of_fault};
-ghost use Rattle.replay_engine.specs.Replay.{status_of};
-ghost use Rattle.banked_engine.specs.BankedAnswer.{status_of as status_of_threads};
-ghost use Rattle.schedule_engine.specs.Schedule.{status_of as status_of_schedule};
-ghost use Rattle.shrink_engine.specs.Faults.{status_of as status_of_shrink};
 
 use crate::audience::Audience;
 use crate::explain::explain_path;
-use banked_engine::BankedEngineFault;
 use command_line::LineFault;
 use devices::Status;
 use programs::RunFault;
 use protocol_library::KIND_NAMES;
-use replay_engine::ReplayFault;
-use schedule_engine::ScheduleFault;
-use shrink_engine::ShrinkFault;
 use std::io;
 
 /// Memory was refused.
@@ -31,38 +23,6 @@ pub fn say(rt: &impl Eprint, fault: RunFault) -> Status
     ensures { result ≡ status_of_fault fault }
 {
     // Where standard error is closed, the status alone tells.
-    let _ = eprintln!(rt; "rvcons: {fault}");
-    fault.status()
-}
-
-/// Says why a replay gives no answer.
-pub fn tell(rt: &impl Eprint, fault: ReplayFault) -> Status
-    ensures { result ≡ status_of fault }
-{
-    let _ = eprintln!(rt; "rvcons: {fault}");
-    fault.status()
-}
-
-/// Says why a run of threads gives no answer, whatever harts lock.
-pub fn tell_threads(rt: &impl Eprint, fault: BankedEngineFault) -> Status
-    ensures { result ≡ status_of_threads fault }
-{
-    let _ = eprintln!(rt; "rvcons: {fault}");
-    fault.status()
-}
-
-/// Says why no schedule is written.
-pub fn tell_schedule(rt: &impl Eprint, fault: ScheduleFault) -> Status
-    ensures { result ≡ status_of_schedule fault }
-{
-    let _ = eprintln!(rt; "rvcons: {fault}");
-    fault.status()
-}
-
-/// Says why nothing is shrunk.
-pub fn tell_shrink(rt: &impl Eprint, fault: ShrinkFault) -> Status
-    ensures { result ≡ status_of_shrink fault }
-{
     let _ = eprintln!(rt; "rvcons: {fault}");
     fault.status()
 }

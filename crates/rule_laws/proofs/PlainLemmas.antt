@@ -7,10 +7,11 @@ use Rattle.scheduler.specs.Schedules.{seeded_choices}
 use Rattle.devices.specs.declared.status.Status.TheVariants as status
 use Rattle.protocol_library.specs.declared.kind.Kind.{Kind}
 use Rattle.protocol_library.specs.Images.{image_of, IsSame}
-use Rattle.engines.specs.Campaign.{is_bad, run_verdict, seed_lines, status_of_runs}
+use Rattle.campaign_engine.specs.Campaign.{is_bad, run_verdict, seed_lines, status_of_runs}
 use Rattle.engines.specs.Certified.{IsCertified, IsMeantFor}
-use Rattle.engines.specs.declared.campaign.CampaignPlan.{CampaignPlan}
-use Rattle.engines.proofs.CertifiedLemmas.{kept_runs, object_is_kept, seeded_within}
+use Rattle.campaign_engine.specs.declared.campaign.CampaignPlan.{CampaignPlan}
+use Rattle.engines.proofs.CertifiedLemmas.{object_is_kept}
+use Rattle.campaign_engine.proofs.KeptLemmas.{kept_runs, seeded_within}
 use Rattle.exits.specs.declared.exit.Exit.TheVariants.{May}
 use Rattle.programs.specs.declared.program.ProgramForm.TheVariants as form
 use Rattle.summary_engine.specs.Answers.{after_image, failures_answer, summary_answer, told_answer}

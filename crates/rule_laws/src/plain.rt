@@ -2,7 +2,7 @@
 ghost use Rattle.std.specs.Prelude.{ℕ, List, ◌^◌, ◌<◌};
 ghost use Rattle.std.specs.List.{All};
 ghost use Rattle.engines.specs.Certified.{IsCertified};
-ghost use Rattle.engines.specs.declared.campaign.CampaignPlan.{CampaignPlan};
+ghost use Rattle.campaign_engine.specs.declared.campaign.CampaignPlan.{CampaignPlan};
 ghost use Rattle.exits.specs.declared.exit.Exit.TheVariants.{May};
 ghost use Rattle.programs.specs.declared.program.ProgramForm.TheVariants.{Elf};
 ghost use Rattle.rule_laws.specs.Kept.{AnswersNothing, AnswersUnbroken};

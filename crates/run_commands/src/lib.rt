@@ -1,16 +1,16 @@
-//! The commands about one run of a program: `run`, `replay`, `threads`, `trace`, `shrink`, and `schedule`, which makes choices for one.
+//! The commands about one run of a program beside `run`: `replay`, `threads`, `trace`, `shrink`, and `schedule`, which makes choices for one.
 #![tactic(auto)]
 
 pub use replay::replay_history;
-pub use run::run_schedule;
 pub use schedule::print_schedule;
 pub use shrink::shrink_schedule;
 pub use threads::run_on_threads;
 pub use trace::trace_run;
 
+mod faults;
 mod replay;
-mod run;
 mod schedule;
 mod shrink;
+mod telling_gate;
 mod threads;
 mod trace;

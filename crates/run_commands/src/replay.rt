@@ -1,13 +1,15 @@
 //! Doing `replay`.
 
-use command_line::{ReplayOrder, read_inputs, read_rule};
+use crate::faults::tell_replay;
+use command_line::{ReplayOrder, read_inputs};
 use devices::{ReaderSource, Status, WriterSink};
 use fault_advice::history_advice;
+use object_names::read_rule;
 use programs::{Input, ProgramForm, RunFault};
 use replay_engine::{ReplayFault, replay_engine};
 use reports::{
     Audience, RunFiles, cannot_open, cannot_read, explain_entry, explain_hart, explain_run,
-    read_again, refuse, show, tell,
+    read_again, refuse, show,
 };
 use std::rt::Files;
 use std::{fs, io};
@@ -54,7 +56,7 @@ pub fn replay_history<R: Files + AllocGlobal + Print + Eprint>(
         Err(ReplayFault::Run(RunFault::Read(Input::File))) => cannot_read(rt, order.file),
         Err(ReplayFault::History) => cannot_read(rt, order.history),
         Err(fault) => {
-            let status = tell(rt, fault);
+            let status = tell_replay(rt, fault);
             explain(rt, audience, order, inputs.len(), fault);
             status
         }

@@ -1,13 +1,12 @@
 //! Doing `schedule`.
 
+use crate::faults::tell_schedule;
 use command_line::{Draw, ScheduleOrder, read_draw, read_inputs, read_word};
 use devices::{ReaderSource, Status, WriterSink};
 use kind_plans::{DRAWS, REFUSALS, read_kind, read_refusals, read_seed_plan, why_no_kind};
 use order_plans::read_schedule_plan;
 use programs::{ProgramForm, RunFault};
-use reports::{
-    Audience, RunFiles, bad_line, cannot_open, cannot_read, explain_run, refuse, say, tell_schedule,
-};
+use reports::{Audience, RunFiles, bad_line, cannot_open, cannot_read, explain_run, refuse, say};
 use schedule_engine::schedule_engine;
 use schedule_kinds::ScheduleKind;
 use seed_choices::seed_choices_engine;

@@ -1,14 +1,14 @@
 //! Doing `shrink`.
 
+use crate::faults::tell_shrink;
 use choice_shrinking::ChoicesLeft;
-use command_line::{ShrinkOrder, read_inputs, read_rule};
+use command_line::{ShrinkOrder, read_inputs};
 use devices::{ReaderSource, Status, WriterSink};
 use exit_failures::Demands;
 use exits::Exit;
+use object_names::read_rule;
 use programs::{Input, ProgramForm, RunFault};
-use reports::{
-    Audience, RunFiles, WIPE, cannot_open, cannot_read, explain_run, refuse, say, show, tell_shrink,
-};
+use reports::{Audience, RunFiles, WIPE, cannot_open, cannot_read, explain_run, refuse, say, show};
 use shrink_engine::{ShrinkFault, shrink_engine};
 use std::rt::Files;
 use std::{fs, io};

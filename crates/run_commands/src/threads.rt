@@ -2,17 +2,18 @@
 
 ghost use Rattle.std.specs.Prelude.{◌^◌, ◌-◌, ◌<◌};
 
+use crate::faults::tell_threads;
+use crate::telling_gate::TellingGate;
 use banked_engine::{BankedEngineFault, HistoryUse, banked_engine};
-use command_line::{
-    LineFault, Locks, ThreadsOrder, read_inputs, read_number, read_plan, read_rule,
-};
+use command_line::{LineFault, Locks, ThreadsOrder, read_inputs, read_number, read_plan};
 use devices::{ReaderSource, Source, Status, WriterSink, write_all};
 use fault_advice::history_advice;
 use hart_threads::Gate;
+use object_names::read_rule;
 use programs::{Input, ProgramForm, RunFault};
 use reports::{
-    Audience, RunFiles, TellingGate, cannot_open, cannot_read, cannot_write, explain_run,
-    out_of_memory, read_again, refuse, say, show, tell_threads,
+    Audience, RunFiles, cannot_open, cannot_read, cannot_write, explain_run, out_of_memory,
+    read_again, refuse, say, show,
 };
 use std::alloc::Global;
 use std::collections::BTreeSet;

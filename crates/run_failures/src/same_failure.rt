@@ -7,9 +7,9 @@ ghost use Rattle.run_failures.specs.Failure.{failure_after, RunFailsSo};
 
 use crate::failure::{Failure, fails_so, failure_of};
 use choice_shrinking::Failing;
+use flat_memory::FlatStore;
 use loader::Image;
 use machine::{Choice, Machine};
-use memory::FlatStore;
 use protocol_library::Kind;
 use std::alloc::{AllocError, Allocator};
 

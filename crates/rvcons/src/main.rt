@@ -7,11 +7,11 @@ use debug_talk::converse;
 use devices::Status;
 use engines::FileView;
 use file_commands::{assemble, print_source, show_file};
-use reports::{Audience, bad_line, explain_line, out_of_memory, refuse};
-use run_commands::{
-    print_schedule, replay_history, run_on_threads, run_schedule, shrink_schedule, trace_run,
-};
-use std::io::{self, Input, IsTerminal};
+use protocol_library::KIND_NAMES;
+use reports::{Audience, explain_line, out_of_memory, read_arguments, refuse};
+use run_commands::{print_schedule, replay_history, run_on_threads, shrink_schedule, trace_run};
+use scheduled_run::run_schedule;
+use std::io::{Input, IsTerminal};
 use std::process::ExitCode;
 use std::rt::{Env, Files};
 use std::sync::Wait;
@@ -37,22 +37,18 @@ fn obey<R: Files + AllocGlobal + Print + Eprint + Env + Threads + Wait + Sync + 
     audience: Audience,
     talk: Audience,
 ) -> Status {
-    let args = match std::env::args(rt) {
-        Ok(args) => args,
-        Err(error) if error.kind() == io::ErrorKind::OutOfMemory => return out_of_memory(rt),
-        Err(_) => return bad_line(rt, "the arguments are no text"),
+    let arguments = match read_arguments(rt) {
+        Ok(arguments) => arguments,
+        Err(status) => return status,
     };
-    let Ok(owned) = args.collect::<Vec<String>>(rt.alloc()) else {
-        return out_of_memory(rt);
-    };
-    let Ok(words) = owned
+    let Ok(words) = arguments
         .iter()
         .map(|word| word.as_str())
         .collect::<Vec<&str>>(rt.alloc())
     else {
         return out_of_memory(rt);
     };
-    match read_line(rt.alloc(), words.as_slice()) {
+    match read_line(rt.alloc(), words.as_slice(), KIND_NAMES) {
         Ok(Order::Asm(order)) => assemble(rt, audience, &order),
         Ok(Order::Debug(order)) => converse(rt, audience, talk, &order),
         Ok(Order::Lib(order)) => print_source(rt, &order),

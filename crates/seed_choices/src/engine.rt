@@ -13,9 +13,9 @@ use crate::drawing::list_choices;
 use crate::plan::SeedPlan;
 use choice_texts::print_choices;
 use devices::{Sink, Source, Status, write_all};
+use flat_memory::FlatStore;
 use loader::Image;
 use machine::{Machine, check_inputs};
-use memory::FlatStore;
 use programs::{ProgramForm, RunFault, read_image};
 use std::alloc::{AllocError, Allocator};
 

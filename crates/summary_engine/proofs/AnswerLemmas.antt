@@ -12,9 +12,9 @@ use Rattle.programs.specs.Program.{program_of}
 use Rattle.programs.specs.declared.program.ProgramForm.TheVariants as form
 use Rattle.programs.specs.declared.run_fault.RunFault.{RunFault}
 use Rattle.programs.specs.declared.run_fault.RunFault.TheVariants as fault
-use Rattle.engines.specs.Campaign.{status_of_runs}
+use Rattle.campaign_engine.specs.Campaign.{status_of_runs}
 use Rattle.engines.specs.Run.{Answer, BeginsToPrint, Prints}
-use Rattle.engines.specs.declared.campaign.CampaignPlan.{CampaignPlan}
+use Rattle.campaign_engine.specs.declared.campaign.CampaignPlan.{CampaignPlan}
 use Rattle.devices.specs.declared.status.Status.{Status}
 use Rattle.summary_engine.specs.Answers.{View, after_image, planned_runs, told_answer}
 

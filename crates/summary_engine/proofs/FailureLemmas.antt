@@ -5,9 +5,10 @@ use Rattle.std.proofs.lemmas.Grind.{common_steps}
 use Rattle.std.specs.Io.KnownBytes.{Appends}
 use Rattle.campaigns.specs.Campaign.{SeedEnds, ends_of}
 use Rattle.campaigns.specs.declared.seed_run.SeedRun.{SeedRun}
-use Rattle.engines.specs.Campaign.{Begins, bad_runs, seed_lines}
-use Rattle.engines.specs.declared.campaign.CampaignPlan.{CampaignPlan}
-use Rattle.engines.proofs.CampaignLemmas.{bad-append, begins_at, begins_in, lines-append}
+use Rattle.campaign_engine.specs.Campaign.{bad_runs, seed_lines}
+use Rattle.engines.specs.Run.{Begins}
+use Rattle.campaign_engine.specs.declared.campaign.CampaignPlan.{CampaignPlan}
+use Rattle.campaign_engine.proofs.CampaignLemmas.{bad-append, begins_at, begins_in, lines-append}
 use Rattle.summary_engine.specs.Summary.{failures_of, is_bad_run, lines_where}
 use Rattle.summary_engine.proofs.RunLemmas.{next_run, only_run}
 

@@ -4,8 +4,8 @@ use Rattle.std.proofs.lemmas.List.{drop_more}
 use Rattle.std.specs.Int.{from_bool}
 use Rattle.campaigns.specs.Campaign.{ends_of}
 use Rattle.campaigns.specs.declared.seed_run.SeedRun.{SeedRun}
-use Rattle.engines.specs.Campaign.{bad_runs, one_if}
-use Rattle.engines.specs.declared.campaign.CampaignPlan.{CampaignPlan}
+use Rattle.campaign_engine.specs.Campaign.{bad_runs, one_if}
+use Rattle.campaign_engine.specs.declared.campaign.CampaignPlan.{CampaignPlan}
 use Rattle.summary_engine.specs.Summary.{is_bad_run}
 
 -- the run at a place comes first of those from there on

@@ -8,8 +8,8 @@ use Rattle.std.specs.List.{range_with_len}
 use Rattle.loader.specs.Image.{ImageValue}
 use Rattle.campaigns.specs.Campaign.{SeedEnds, ends_of, seed_ends}
 use Rattle.campaigns.specs.declared.seed_run.SeedRun.{SeedRun}
-use Rattle.engines.specs.Campaign.{bad_runs}
-use Rattle.engines.proofs.CampaignLemmas.{bad-append}
+use Rattle.campaign_engine.specs.Campaign.{bad_runs}
+use Rattle.campaign_engine.proofs.CampaignLemmas.{bad-append}
 use Rattle.outcomes.specs.Outcome.{OutcomeValue}
 use Rattle.outcomes.specs.Tally.{Row, SeedOutcome, add_seed, seeds_in, tally_of, tally_onto}
 use Rattle.outcomes.proofs.TallyLemmas.{seeds_in-add, seeds_in-onto, tally_onto-append}

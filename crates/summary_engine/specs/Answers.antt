@@ -5,9 +5,9 @@ use Rattle.std.specs.declared.result.Result.TheVariants.{Ok, Err}
 use Rattle.reservations.specs.Limit.{most_harts}
 use Rattle.loader.specs.Image.{ImageValue}
 use Rattle.campaigns.specs.Campaign.{SeedEnds, plain_runs}
-use Rattle.engines.specs.Campaign.{status_of_runs}
+use Rattle.campaign_engine.specs.Campaign.{status_of_runs}
 use Rattle.engines.specs.Run.{Answer}
-use Rattle.engines.specs.declared.campaign.CampaignPlan.{CampaignPlan}
+use Rattle.campaign_engine.specs.declared.campaign.CampaignPlan.{CampaignPlan}
 use Rattle.programs.specs.Program.{program_of}
 use Rattle.programs.specs.declared.program.ProgramForm.TheVariants as form
 use Rattle.programs.specs.declared.run_fault.RunFault.{RunFault}

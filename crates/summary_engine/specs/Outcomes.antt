@@ -4,8 +4,8 @@ use Rattle.hart_step.specs.Hart.{HartValue}
 use Rattle.campaigns.specs.Campaign.{SeedEnds}
 use Rattle.protocol_library.specs.declared.verdict.Verdict.{Verdict}
 use Rattle.ends.specs.Ends.{a0_of, a1_of}
-use Rattle.engines.specs.Campaign.{counted, run_verdict}
-use Rattle.engines.specs.declared.campaign.End.TheVariants as end
+use Rattle.campaign_engine.specs.Campaign.{counted, run_verdict}
+use Rattle.campaign_engine.specs.declared.campaign.End.TheVariants as end
 use Rattle.outcomes.specs.Outcome.{OutcomeValue}
 use Rattle.outcomes.specs.Tally.{SeedOutcome}
 use Rattle.outcomes.specs.declared.outcome.HartResult.{HartResult}

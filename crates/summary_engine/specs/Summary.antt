@@ -4,8 +4,8 @@ use Rattle.std.specs.Fmt.{decimal}
 use Rattle.std.specs.List.{flat_map}
 use Rattle.campaigns.specs.Campaign.{SeedEnds}
 use Rattle.names_and_digits.specs.Digits.{word_text}
-use Rattle.engines.specs.Campaign.{is_bad, run_verdict, seed_lines, verdict_word}
-use Rattle.engines.specs.declared.campaign.CampaignPlan.{CampaignPlan}
+use Rattle.campaign_engine.specs.Campaign.{is_bad, run_verdict, seed_lines, verdict_word}
+use Rattle.campaign_engine.specs.declared.campaign.CampaignPlan.{CampaignPlan}
 use Rattle.outcomes.specs.Tally.{Row, tally_of}
 use Rattle.outcomes.specs.declared.outcome.HartResult.{HartResult}
 use Rattle.outcomes.specs.declared.tally.SeedCount.{SeedCount}

@@ -4,17 +4,17 @@ ghost use Rattle.std.specs.Prelude.{◌≡◌, ◌≢◌, ◌+◌, ◌++◌, ◌
 ghost use Rattle.std.specs.Io.KnownBytes.{Appends, Keeps};
 ghost use Rattle.std.specs.List.{All};
 ghost use Rattle.campaigns.specs.Campaign.{ends_of, plain_runs, RemembersChosen};
-ghost use Rattle.engines.specs.Campaign.{bad_runs, status_of_runs, Begins, IfHalts};
-ghost use Rattle.engines.specs.Run.{BeginsToPrint, Prints};
+ghost use Rattle.campaign_engine.specs.Campaign.{bad_runs, status_of_runs, IfHalts};
+ghost use Rattle.engines.specs.Run.{BeginsToPrint, Prints, Begins};
 ghost use Rattle.machine.specs.Start.{IsStartable};
 ghost use Rattle.programs.specs.RunFaults.{IfReads, IsRefusal};
 ghost use Rattle.summary_engine.specs.Answers.{after_image, failures_answer, planned_runs};
 ghost use Rattle.summary_engine.specs.Summary.{failures_of, lines_where};
 
 use crate::judging::{is_bad_run, status_after};
+use campaign_engine::{CampaignPlan, push_runs};
 use campaigns::{Block, SeedRun, Seeds, campaign};
 use devices::{Sink, Source, Status, write_all};
-use engines::{CampaignPlan, push_runs};
 use loader::Image;
 use machine::check_inputs;
 use programs::{ProgramForm, RunFault, read_image};

@@ -3,13 +3,13 @@
 ghost use Rattle.std.specs.Prelude.{◌≡◌, map, length, nat_lt, if◌then◌else◌};
 ghost use Rattle.hart_step.specs.Hart.{hart_of};
 ghost use Rattle.campaigns.specs.Campaign.{ends_of, RemembersChosen};
-ghost use Rattle.engines.specs.Campaign.{bad_status, is_bad, run_verdict};
+ghost use Rattle.campaign_engine.specs.Campaign.{bad_status, is_bad, run_verdict};
 ghost use Rattle.summary_engine.specs.Summary.{is_bad_run};
 
+use campaign_engine::CampaignPlan;
 use campaigns::SeedRun;
 use devices::Status;
 use ends::has_faulted;
-use engines::CampaignPlan;
 use hart_step::Hart;
 use protocol_library::{Verdict, judge};
 use std::alloc::Allocator;

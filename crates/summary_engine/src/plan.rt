@@ -1,6 +1,6 @@
 //! Which summary is asked for.
 
-use engines::CampaignPlan;
+use campaign_engine::CampaignPlan;
 
 /// By what runs are told apart.
 #[derive(Clone, Copy, PartialEq, Eq)]

@@ -2,12 +2,12 @@
 
 ghost use Rattle.std.specs.Prelude.{◌≡◌, ◌≤◌, IfOk, map};
 ghost use Rattle.hart_step.specs.Hart.{hart_of};
-ghost use Rattle.engines.specs.Campaign.{counted, counts};
+ghost use Rattle.campaign_engine.specs.Campaign.{counted, counts};
 ghost use Rattle.outcomes.specs.Outcome.{outcome_of};
 ghost use Rattle.summary_engine.specs.Outcomes.{outcome_with, results_of};
 
 use crate::plan::Detail;
-use engines::End;
+use campaign_engine::End;
 use hart_step::{Hart, HartState};
 use outcomes::{HartResult, Outcome};
 use protocol_library::Verdict;

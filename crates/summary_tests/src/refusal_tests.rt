@@ -4,8 +4,8 @@ ghost use Rattle.std.specs.Prelude.{◌≡◌, IfOk, length};
 ghost use Rattle.std.specs.List.{All};
 ghost use Rattle.campaigns.specs.Campaign.{RemembersChosen};
 
+use campaign_engine::CampaignPlan;
 use campaigns::SeedRun;
-use engines::CampaignPlan;
 use hart_step::{Cause, Hart, HartState};
 use outcomes::{HartResult, Outcome, SeedCount, Tally};
 use protocol_library::{Kind, Verdict};

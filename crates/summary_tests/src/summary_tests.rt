@@ -2,9 +2,9 @@
 ghost use Rattle.std.specs.Prelude.{◌≡◌, ◌+◌, ◌-◌, ◌≤◌, ◌<◌, ◌^◌, true};
 
 use crate::object_files::object_file;
+use campaign_engine::{CampaignPlan, campaign_engine};
 use campaigns::{SeedRun, campaign};
 use devices::{Failing, FullSink, MemorySink, MemorySource, Status};
-use engines::{CampaignPlan, campaign_engine};
 use hart_step::{Hart, HartState};
 use loader::ElfFault;
 use programs::{Input, ProgramForm, RunFault, read_program};

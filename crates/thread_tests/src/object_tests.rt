@@ -3,11 +3,11 @@
 use crate::images::{LR_SC, Program, SWAP};
 use crate::runs::{Order, run};
 use book::Book;
+use flat_memory::FlatStore;
 use hart_step::HartState;
 use hart_threads::{Gate, OpenGate};
 use histories::Entry;
 use machine::{Choice, Machine};
-use memory::FlatStore;
 use protocol_library::{Kind, Verdict, judge};
 use std::alloc::{AllocError, Allocator, Global};
 use std::sync::Wait;

@@ -7,11 +7,12 @@ ghost use Rattle.threads_engine.specs.Threads.{IsAnswer, IsKept, IsRefusal, IfRe
 
 use crate::fault::ThreadsEngineFault;
 use devices::{Source, Status};
+use engines::see_words;
 use hart_threads::{Gate, Plan, RunFault as ThreadsFault, run_threads};
 use histories::print_history;
 use programs::{ProgramForm, RunFault, read_image};
 use protocol_library::Kind;
-use replay_engine::{see_words, shown_after};
+use replay_engine::shown_after;
 use std::alloc::{AllocError, Allocator};
 use std::sync::Wait;
 use std::thread::Threads;

@@ -4,8 +4,8 @@ use Rattle.std.specs.Prelude.{if◌then◌else◌, nat_le, nat_lt, slice_index, 
 use Rattle.std.proofs.lemmas.Bool.{cases_Bool, and_parts, and_from, leb-true, ltb-true, le-leb, lt-ltb, ltb-false}
 use Rattle.std.proofs.Math.Nat.{div-div-eq-div-mul, pow-suc}
 use Rattle.memory.specs.Memory.{Memory, granted, to_write, stored}
-use Rattle.memory.specs.Blocks.{spelled, Puts}
-use Rattle.memory.proofs.WriteLemmas.{spelled_in, spelled_out}
+use Rattle.flat_memory.specs.Blocks.{spelled, Puts}
+use Rattle.flat_memory.proofs.WriteLemmas.{spelled_in, spelled_out}
 use Rattle.banks_table.specs.Words.{bytes_at, with_four}
 use Rattle.told_steps.specs.declared.words.Word.{Word}
 use Rattle.told_steps.specs.Told.{has_all, rights_told, told_memory, with_told}

@@ -5,7 +5,7 @@ use Rattle.std.proofs.lemmas.Bool.{cases_Bool, false≢true, and_parts, and_from
 use Rattle.std.proofs.lemmas.Nat.Bits.{and_pow}
 use Rattle.std.proofs.lemmas.Nat.{and_mask}
 use Rattle.memory.specs.Memory.{Memory, to_execute, to_load, to_write, grants, all_below, granted}
-use Rattle.memory.proofs.ReadLemmas.{all_below_fails}
+use Rattle.flat_memory.proofs.ReadLemmas.{all_below_fails}
 use Rattle.told_steps.specs.declared.words.Word.{Word}
 use Rattle.told_steps.specs.Told.{is_in, has_all, without_write, rights_told, told_memory}
 

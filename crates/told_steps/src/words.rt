@@ -4,7 +4,7 @@ ghost use Rattle.std.specs.Option.{ForSome};
 ghost use Rattle.std.specs.Option.{is_some};
 ghost use Rattle.memory.specs.Memory.{granted, number_at, to_execute, to_load, to_write};
 ghost use Rattle.memory.specs.Image.{image_memory};
-ghost use Rattle.memory.specs.Blocks.{spelled, Puts};
+ghost use Rattle.flat_memory.specs.Blocks.{spelled, Puts};
 ghost use Rattle.memory.specs.Instruction.{instruction_at};
 ghost use Rattle.banks_table.specs.Words.{bytes_at};
 ghost use Rattle.told_steps.specs.Told.{has_all, told_memory, with_told};

@@ -1,5 +1,5 @@
 use Rattle.engines.specs.Run.{BeginsToPrint}
-use Rattle.engines.proofs.CampaignLemmas.{unread_still}
+use Rattle.campaign_engine.proofs.CampaignLemmas.{unread_still}
 use Rattle.drawn_engine.specs.Lines.{lines_told}
 use Rattle.drawn_engine.proofs.AnswerLemmas.{done_known, halted_known, image_known, refused_known, unread_known}
 use Rattle.drawn_engine.proofs.engine.drawn_engine.Goals as goal

@@ -1,6 +1,6 @@
 use Rattle.std.proofs.Common.{Err, inr, ap, sym, subst, ◌∙◌}
 use Rattle.programs.specs.RunFaults.{IfReads}
-use Rattle.engines.proofs.CampaignLemmas.{begins_answer, done_answer, halted_unread, start_unread}
+use Rattle.campaign_engine.proofs.CampaignLemmas.{begins_answer, done_answer, halted_unread, start_unread}
 use Rattle.drawn_engine.proofs.AnswerLemmas.{answer_of_refused, answer_of_runs}
 use Rattle.drawn_engine.specs.Lines.{lines_told}
 use Rattle.drawn_engine.proofs.engine.write_lines.Goals as goal

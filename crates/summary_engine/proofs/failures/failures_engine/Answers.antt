@@ -1,5 +1,5 @@
 use Rattle.engines.specs.Run.{BeginsToPrint}
-use Rattle.engines.proofs.CampaignLemmas.{unread_still}
+use Rattle.campaign_engine.proofs.CampaignLemmas.{unread_still}
 use Rattle.summary_engine.specs.Summary.{failures_of}
 use Rattle.summary_engine.proofs.AnswerLemmas.{done_known, halted_known, image_known, refused_known, unread_known}
 use Rattle.summary_engine.proofs.failures.failures_engine.Goals as goal

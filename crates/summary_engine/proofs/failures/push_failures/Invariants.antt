@@ -1,6 +1,6 @@
 use Rattle.std.proofs.Common.{◌≡◌, ◌+◌, ◌≤◌, ◌++◌, string_bytes, drop, map}
 use Rattle.campaigns.specs.Campaign.{ends_of}
-use Rattle.engines.specs.Campaign.{bad_runs}
+use Rattle.campaign_engine.specs.Campaign.{bad_runs}
 use Rattle.summary_engine.specs.Summary.{failures_of}
 use Rattle.summary_engine.proofs.failures.push_failures.Given as goal
 

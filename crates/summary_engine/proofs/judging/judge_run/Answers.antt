@@ -4,7 +4,7 @@ use Rattle.campaigns.specs.Campaign.{ends_of}
 use Rattle.scheduler.specs.Schedules.{seeded_choices}
 use Rattle.protocol_library.specs.Judging.{verdict_of}
 use Rattle.protocol_library.proofs.ChosenLemmas.{same_verdict}
-use Rattle.engines.specs.Campaign.{run_verdict}
+use Rattle.campaign_engine.specs.Campaign.{run_verdict}
 use Rattle.summary_engine.proofs.judging.judge_run.Goals as goal
 
 pub returns : goal.returns

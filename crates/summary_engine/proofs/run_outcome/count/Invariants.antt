@@ -1,6 +1,6 @@
 use Rattle.std.proofs.Common.{◌≡◌, ◌+◌, ◌≤◌, drop, map}
 use Rattle.hart_step.specs.Hart.{hart_of}
-use Rattle.engines.specs.Campaign.{counted}
+use Rattle.campaign_engine.specs.Campaign.{counted}
 use Rattle.summary_engine.proofs.run_outcome.count.Given as goal
 
 -- those that are counted, and those of the harts that are left

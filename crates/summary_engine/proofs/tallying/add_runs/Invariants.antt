@@ -1,6 +1,6 @@
 use Rattle.std.proofs.Common.{◌≡◌, ◌+◌, ◌≤◌, drop, map}
 use Rattle.campaigns.specs.Campaign.{ends_of}
-use Rattle.engines.specs.Campaign.{bad_runs}
+use Rattle.campaign_engine.specs.Campaign.{bad_runs}
 use Rattle.outcomes.specs.Tally.{rows_of, seeds_in, tally_onto}
 use Rattle.summary_engine.specs.Outcomes.{outcomes_of}
 use Rattle.summary_engine.proofs.tallying.add_runs.Given as goal

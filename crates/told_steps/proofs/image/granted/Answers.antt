@@ -2,7 +2,7 @@ use Rattle.std.proofs.Common.{sym, ap, ◌∙◌, ◌+◌, Some}
 use Rattle.loader.specs.Segment.{SegmentValue}
 use Rattle.memory.specs.Memory.{grants}
 use Rattle.memory.specs.Image.{segments_memory}
-use Rattle.memory.proofs.ReadLemmas.{all_below_fails}
+use Rattle.flat_memory.proofs.ReadLemmas.{all_below_fails}
 use Rattle.told_steps.proofs.ImageLemmas.{granted_in_one}
 use Rattle.told_steps.proofs.image.granted.Goals as goal
 

@@ -1,5 +1,5 @@
 use Rattle.std.proofs.Common.{◌≡◌, ◌/◌, ◌^◌, length}
-use Rattle.memory.specs.Blocks.{spelled}
+use Rattle.flat_memory.specs.Blocks.{spelled}
 use Rattle.told_steps.proofs.words.spelled.Given as goal
 
 abbrev pub invariant-digits : goal.invariant-digits

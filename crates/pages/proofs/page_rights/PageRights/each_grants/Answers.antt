@@ -1,6 +1,6 @@
 use Rattle.std.proofs.Common.{sym, ◌∙◌, ◌+◌}
 use Rattle.memory.specs.Memory.{grants}
-use Rattle.memory.proofs.ReadLemmas.{all_below_fails}
+use Rattle.flat_memory.proofs.ReadLemmas.{all_below_fails}
 use Rattle.pages.specs.Pages.{right_at}
 use Rattle.pages.proofs.page_rights.PageRights.each_grants.Goals as goal
 

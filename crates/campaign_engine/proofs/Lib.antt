@@ -1,0 +1,2 @@
+pub mod CampaignLemmas
+pub mod KeptLemmas

@@ -1,6 +1,0 @@
-use Rattle.std.proofs.Common.{◌≡◌, take, map}
-use Rattle.memory.specs.Blocks.{filled}
-use Rattle.memory.proofs.building.filled_blocks.Given as goal
-
-abbrev pub invariant-each : goal.invariant-each
-invariant-each g l = l.blocks.items ≡ map filled (take l.segment-index l.segments)

@@ -1,0 +1,47 @@
+//! The program of the command `run` alone. It stands on fewer crates than the whole program, so it is proved and built sooner.
+#![tactic(auto)]
+
+use command_line::{Order, read_line};
+use devices::Status;
+use protocol_library::KIND_NAMES;
+use reports::{Audience, bad_line, explain_line, out_of_memory, read_arguments, refuse};
+use scheduled_run::run_schedule;
+use std::io::IsTerminal;
+use std::process::ExitCode;
+use std::rt::{Env, Files};
+
+fn main(rt: HostRuntime) -> ExitCode {
+    let audience = if rt.stderr().is_terminal() {
+        Audience::Person
+    } else {
+        Audience::Program
+    };
+    ExitCode::from(obey(&rt, audience).code())
+}
+
+// Does the `run` that the command line orders. What a fault means is told to a person.
+fn obey<R: Files + AllocGlobal + Print + Eprint + Env>(rt: &R, audience: Audience) -> Status {
+    let arguments = match read_arguments(rt) {
+        Ok(arguments) => arguments,
+        Err(status) => return status,
+    };
+    let Ok(words) = arguments
+        .iter()
+        .map(|word| word.as_str())
+        .collect::<Vec<&str>>(rt.alloc())
+    else {
+        return out_of_memory(rt);
+    };
+    match read_line(rt.alloc(), words.as_slice(), KIND_NAMES) {
+        Ok(Order::Run(order)) => run_schedule(rt, audience, &order),
+        Ok(_) => bad_line(
+            rt,
+            "this is the program of run alone: the other commands are those of the whole program",
+        ),
+        Err(fault) => {
+            let status = refuse(rt, &fault);
+            explain_line(rt, audience, words.as_slice(), &fault);
+            status
+        }
+    }
+}

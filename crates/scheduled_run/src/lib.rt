@@ -1,0 +1,6 @@
+//! The command `run`.
+#![tactic(auto)]
+
+pub use run::run_schedule;
+
+mod run;
