@@ -4,7 +4,7 @@ use Rattle.std.specs.List.{AllByRecursion, All, Contains, slice_get}
 use Rattle.std.proofs.lemmas.List.Elements.{recursion_from_All}
 use Rattle.std.proofs.lemmas.List.{get_or-map, length-map}
 use Rattle.std.proofs.lemmas.Option.{slice_get-get_or}
-use Rattle.loader.specs.Image.{ImageValue}
+use Rattle.program_images.specs.Image.{ImageValue}
 use Rattle.memory.specs.Memory.{Memory}
 use Rattle.reservations.specs.Marks.{Marks}
 use Rattle.hart_step.specs.Hart.{HartValue, Registers}

@@ -1,6 +1,6 @@
 //! What no clause says: lines that another assembler takes for their words, listings written out by hand, and refused memory.
 use listing::{line_of, list_image, push_listing};
-use loader::{Image, Rights, Segment};
+use program_images::{Image, Rights, Segment};
 use refusing::Refusing;
 use std::alloc::{AllocError, Allocator, Global};
 

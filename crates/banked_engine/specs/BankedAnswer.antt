@@ -1,7 +1,7 @@
 -- What a run of threads over banks answers: the choices of the one run that the logs are, and what a replay of them prints.
 use Rattle.std.specs.Prelude.{◌≡◌, ℕ, ◌<◌, List, [], map, length, Option, Ok, Err, string_bytes}
 use Rattle.reservations.specs.Limit.{most_harts}
-use Rattle.loader.specs.Image.{ImageValue}
+use Rattle.program_images.specs.Image.{ImageValue}
 use Rattle.hart_step.specs.Hart.{HartValue}
 use Rattle.machine.specs.declared.choice.Choice.{Choice}
 use Rattle.banks_laws.specs.Banks.{after_log}

@@ -21,7 +21,7 @@ use devices::Source;
 use engines::see_words;
 use hart_logs::HartLog;
 use hart_threads::Gate;
-use loader::Image;
+use program_images::Image;
 use programs::{ProgramForm, RunFault, read_image};
 use std::alloc::{AllocError, Allocator};
 use std::sync::Wait;

@@ -1,6 +1,6 @@
 -- What a step that touches a word is given.
 use Rattle.std.proofs.Common.{◌≡◌, [], Some, None, ap, sym, subst, ◌∙◌}
-use Rattle.loader.specs.Image.{ImageValue}
+use Rattle.program_images.specs.Image.{ImageValue}
 use Rattle.hart_step.specs.Hart.{HartValue, hart_of}
 use Rattle.banks_laws.specs.Runs.{Touch}
 use Rattle.banks_laws.specs.Segments.{LoggedSegment}

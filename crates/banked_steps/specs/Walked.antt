@@ -1,6 +1,6 @@
 -- A hart that has walked ahead of its log.
 use Rattle.std.specs.Prelude.{◌≡◌}
-use Rattle.loader.specs.Image.{ImageValue}
+use Rattle.program_images.specs.Image.{ImageValue}
 use Rattle.hart_step.specs.Hart.{hart_of}
 use Rattle.banks_laws.specs.HartLogs.{AreLocal, local_hart}
 use Rattle.hart_logs.specs.HartLog.{HartLogValue, image_table, slot_of}

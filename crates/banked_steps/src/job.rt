@@ -7,8 +7,8 @@ ghost use Rattle.banks_runs.specs.Merged.{most_banks};
 
 use banks::{BANKS, Bank};
 use hart_threads::Plan;
-use loader::Image;
 use local_steps::Code;
+use program_images::Image;
 use std::alloc::{AllocError, Allocator};
 use std::sync::Mutex;
 

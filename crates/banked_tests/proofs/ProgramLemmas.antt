@@ -1,7 +1,7 @@
 -- Logs of one program, as merging wants them.
 use Rattle.std.proofs.Common.{◌≡◌, ℕ, zero, suc, ◌%◌, List, [], ◌∷◌, Some, length, sym, ap, subst, ◌∙◌}
 use Rattle.std.specs.Prelude.{slice_get}
-use Rattle.loader.specs.Image.{ImageValue}
+use Rattle.program_images.specs.Image.{ImageValue}
 use Rattle.banks_runs.specs.Merged.{most_banks}
 use Rattle.banks.specs.BankLog.{BankLog}
 use Rattle.hart_logs.specs.HartLog.{HartLogValue}

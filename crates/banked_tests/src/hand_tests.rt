@@ -5,7 +5,7 @@ use banks::{Bank, next_stamp};
 use banks_laws::{LoggedAccess, LoggedKind};
 use banks_merge::{MergeFault, merge};
 use hart_logs::HartLog;
-use loader::Image;
+use program_images::Image;
 use segment_order::LogSegment;
 use std::alloc::{AllocError, Allocator};
 

@@ -9,8 +9,8 @@ use banks_laws::LoggedAccess;
 use banks_merge::{MergeFault, merge};
 use hart_logs::HartLog;
 use hart_threads::Plan;
-use loader::Image;
 use machine::Choice;
+use program_images::Image;
 use segment_order::LogSegment;
 use std::alloc::Allocator;
 

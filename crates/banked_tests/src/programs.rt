@@ -1,6 +1,6 @@
 //! Programs for tests.
 use hart_threads::Plan;
-use loader::{Image, Rights, Segment};
+use program_images::{Image, Rights, Segment};
 use protocol_library::{Kind, make_image};
 use std::alloc::{AllocError, Allocator};
 use std::collections::BTreeSet;

@@ -4,8 +4,8 @@ use Rattle.std.specs.Prelude.{slice_get}
 use Rattle.std.proofs.lemmas.Bool.{cases_Bool}
 use Rattle.std.proofs.lemmas.List.{length-map}
 use Rattle.std.proofs.lemmas.Bool.Decides.{nat_tests}
-use Rattle.loader.specs.Image.{ImageValue, is_sound, IsSound}
-use Rattle.loader.specs.Segment.{SegmentValue}
+use Rattle.program_images.specs.Image.{ImageValue, is_sound, IsSound}
+use Rattle.program_images.specs.Segment.{SegmentValue}
 use Rattle.banks_laws.specs.Segments.{LoggedSegment, accesses}
 use Rattle.access_order.specs.AccessOrder.{logs_of, own_log, segments_of, HaveNoOthers, IsOrdered}
 use Rattle.access_order.proofs.OrderLemmas.{ordered_match}

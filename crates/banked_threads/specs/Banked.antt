@@ -1,7 +1,7 @@
 -- What a run of threads over banks leaves, and why it is refused.
 use Rattle.std.specs.Prelude.{◌≡◌, ◌⊎◌, ℕ, ◌+◌, ◌%◌, ◌<◌, ◌≤◌, true, List, [], ◌∷◌, Some, length, slice_get}
 use Rattle.reservations.specs.Limit.{most_harts}
-use Rattle.loader.specs.Image.{ImageValue}
+use Rattle.program_images.specs.Image.{ImageValue}
 use Rattle.hart_threads.specs.Outcome.{is_stopped}
 use Rattle.hart_threads.specs.Plan.{is_planned}
 use Rattle.banks_laws.specs.Segments.{LoggedSegment}

@@ -1,6 +1,6 @@
 -- Logs of a run whose accesses stand in the banks' logs in their own order.
 use Rattle.std.specs.Prelude.{◌≡◌, ℕ, List, Some, length, slice_get}
-use Rattle.loader.specs.Image.{ImageValue}
+use Rattle.program_images.specs.Image.{ImageValue}
 use Rattle.banks_laws.specs.declared.access.LoggedAccess.{LoggedAccess}
 use Rattle.banks_laws.specs.Segments.{accesses}
 use Rattle.access_order.specs.AccessOrder.{IsOrdered}

@@ -11,7 +11,7 @@ use banks::{BANKS, Bank};
 use hart_logs::HartLog;
 use hart_step::{Hart, HartState};
 use hart_threads::Plan;
-use loader::{Image, Segment};
+use program_images::{Image, Segment};
 use segment_order::{LogSegment, is_rising};
 use std::alloc::Allocator;
 

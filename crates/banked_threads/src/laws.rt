@@ -1,6 +1,6 @@
 //! What a run of threads over banks leaves can be merged.
 ghost use Rattle.std.specs.Prelude.{◌≡◌, ℕ, List};
-ghost use Rattle.loader.specs.Image.{ImageValue};
+ghost use Rattle.program_images.specs.Image.{ImageValue};
 ghost use Rattle.banks.specs.BankLog.{BankLog};
 ghost use Rattle.hart_logs.specs.HartLog.{HartLogValue};
 ghost use Rattle.banks_merge.specs.Logs.{AreOf};

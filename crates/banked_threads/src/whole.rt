@@ -12,7 +12,7 @@ use access_order::{have_no_others, is_ordered};
 use banks::Bank;
 use hart_logs::HartLog;
 use hart_threads::Plan;
-use loader::Image;
+use program_images::Image;
 use std::alloc::{AllocError, Allocator};
 use std::thread;
 use std::thread::Threads;

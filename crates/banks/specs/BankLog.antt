@@ -1,7 +1,7 @@
 -- What a bank is: a log over the words of an image.
 use Rattle.std.specs.Prelude.{◌≡◌, ℕ, ◌%◌, ◌<◌, true, List, [], ◌∷◌, ◌++◌, length}
 use Rattle.std.specs.List.{AllByRecursion}
-use Rattle.loader.specs.Image.{ImageValue}
+use Rattle.program_images.specs.Image.{ImageValue}
 use Rattle.banks_laws.specs.declared.access.LoggedAccess.{LoggedAccess}
 use Rattle.banks_laws.specs.Banks.{BankState, after_log, Finds, IsLogged}
 use Rattle.banks_laws.specs.Order.{Rises, Before}

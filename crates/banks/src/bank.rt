@@ -1,6 +1,6 @@
 //! A bank of words.
 ghost use Rattle.std.specs.Prelude.{◌≡◌, ◌↔◌, ◌%◌, ◌<◌, ◌≤◌, length, IfErr, OnErr, OnOk, [], true};
-ghost use Rattle.loader.specs.Image.{ImageValue};
+ghost use Rattle.program_images.specs.Image.{ImageValue};
 ghost use Rattle.reservations.specs.Limit.{most_harts};
 ghost use Rattle.reservations.specs.Marks.{names};
 ghost use Rattle.reservations.specs.Reserve.{marks};
@@ -13,7 +13,7 @@ ghost use Rattle.banks.specs.Stored.{value_in, StoresAt};
 
 use crate::order::may_follow;
 use banks_laws::{LoggedAccess, LoggedKind};
-use loader::Image;
+use program_images::Image;
 use reservations::Reserve;
 use std::alloc::Allocator;
 use std::collections::BTreeMap;

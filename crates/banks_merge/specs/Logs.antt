@@ -1,6 +1,6 @@
 -- The logs of all harts and of all banks of one program.
 use Rattle.std.specs.Prelude.{◌≡◌, ℕ, ◌%◌, List, [], Some, length, map, slice_get, slice_index_or}
-use Rattle.loader.specs.Image.{ImageValue}
+use Rattle.program_images.specs.Image.{ImageValue}
 use Rattle.banks_laws.specs.declared.access.LoggedAccess.{LoggedAccess}
 use Rattle.banks_laws.specs.Segments.{LoggedSegment}
 use Rattle.banks_laws.specs.Order.{Rises, Earlier}

@@ -1,6 +1,6 @@
 -- What merging answers.
 use Rattle.std.specs.Prelude.{ℕ, List}
-use Rattle.loader.specs.Image.{ImageValue}
+use Rattle.program_images.specs.Image.{ImageValue}
 use Rattle.hart_step.specs.Hart.{HartValue}
 use Rattle.machine.specs.World.{run}
 use Rattle.machine.specs.Start.{started}

@@ -4,7 +4,7 @@ use Rattle.std.specs.Prelude.{replicate, slice_index}
 use Rattle.std.specs.List.{All, AllByRecursion, slice_get}
 use Rattle.std.proofs.lemmas.Bool.{cases_lt}
 use Rattle.std.proofs.lemmas.Option.{slice_get-get_or}
-use Rattle.loader.specs.Image.{ImageValue}
+use Rattle.program_images.specs.Image.{ImageValue}
 use Rattle.memory.specs.Memory.{Memory}
 use Rattle.memory.specs.Image.{image_memory}
 use Rattle.hart_step.specs.Hart.{HartValue}

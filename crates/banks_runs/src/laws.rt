@@ -1,7 +1,7 @@
 //! What logs of harts and of banks say of a run.
 ghost use Rattle.std.specs.Prelude.{◌≡◌, ℕ, ◌%◌, ◌<◌, ◌≤◌, List, [], map, length};
 ghost use Rattle.std.specs.List.{All, AllByRecursion};
-ghost use Rattle.loader.specs.Image.{ImageValue};
+ghost use Rattle.program_images.specs.Image.{ImageValue};
 ghost use Rattle.memory.specs.Memory.{Memory};
 ghost use Rattle.memory.specs.Image.{image_memory};
 ghost use Rattle.hart_step.specs.Hart.{HartValue};

@@ -1,6 +1,6 @@
 //! A program of two words, and accesses to them.
 use banks_laws::{LoggedAccess, LoggedKind};
-use loader::{Image, Rights, Segment};
+use program_images::{Image, Rights, Segment};
 use std::alloc::{AllocError, Allocator};
 
 /// The first word, which is in bank 0.

@@ -1,8 +1,8 @@
 -- What a book is once it has taken a segment in.
 use Rattle.std.proofs.Common.{◌≡◌, ℕ, ◌<◌, List, [], ◌∷◌, ◌++◌, length, Some, false, ap, sym, ◌∙◌}
 use Rattle.std.specs.Prelude.{slice_get}
-use Rattle.loader.specs.Image.{ImageValue}
-use Rattle.loader.specs.Segment.{SegmentValue}
+use Rattle.program_images.specs.Image.{ImageValue}
+use Rattle.program_images.specs.Segment.{SegmentValue}
 use Rattle.memory.specs.Image.{segments_memory}
 use Rattle.hart_step.specs.Hart.{hart_of}
 use Rattle.hart_step.specs.declared.hart.Hart.{Hart}

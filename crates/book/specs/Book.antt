@@ -1,7 +1,7 @@
 -- What a book says, and the world that follows from it.
 use Rattle.std.specs.Prelude.{ℕ, List, Option, slice_get}
-use Rattle.loader.specs.Image.{ImageValue}
-use Rattle.loader.specs.Segment.{SegmentValue}
+use Rattle.program_images.specs.Image.{ImageValue}
+use Rattle.program_images.specs.Segment.{SegmentValue}
 use Rattle.hart_step.specs.Hart.{HartValue}
 use Rattle.local_steps.specs.CodeMemory.{code_segments}
 use Rattle.machine.specs.World.{World, run}

@@ -1,7 +1,7 @@
 -- What is true of the fields of each book.
 use Rattle.std.specs.Prelude.{◌≡◌, ℕ, List}
-use Rattle.loader.specs.Image.{ImageValue}
-use Rattle.loader.specs.Segment.{SegmentValue}
+use Rattle.program_images.specs.Image.{ImageValue}
+use Rattle.program_images.specs.Segment.{SegmentValue}
 use Rattle.memory.specs.Image.{segments_memory, image_memory}
 use Rattle.local_steps.specs.CodeMemory.{code_in, code_segments}
 use Rattle.machine.specs.World.{World}

@@ -1,6 +1,6 @@
 -- What a segment says.
 use Rattle.std.specs.Prelude.{ℕ, Bool, List}
-use Rattle.loader.specs.Segment.{SegmentValue}
+use Rattle.program_images.specs.Segment.{SegmentValue}
 use Rattle.hart_step.specs.declared.hart.Hart.{Hart}
 
 -- a hart, the slot and the code that it began from, how many local steps it did, where they led, and whether a

@@ -3,8 +3,8 @@ ghost use Rattle.std.specs.Prelude.{◌≡◌, MatchBool, length};
 ghost use Rattle.hart_step.specs.Hart.{hart_of, registers_of};
 
 use hart_step::Hart;
-use loader::Segment;
 use local_steps::Code;
+use program_images::Segment;
 use std::alloc::Allocator;
 
 /// Whether two arrays of one length hold the same words: then, and only then, they are the same registers.

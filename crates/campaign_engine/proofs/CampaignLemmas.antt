@@ -7,7 +7,7 @@ use Rattle.std.proofs.lemmas.Bool.{cases_lt}
 use Rattle.std.proofs.lemmas.List.{take-append-le}
 use Rattle.std.specs.Io.KnownBytes.{Appends}
 use Rattle.std.specs.Option.{IfSome}
-use Rattle.loader.specs.Image.{ImageValue}
+use Rattle.program_images.specs.Image.{ImageValue}
 use Rattle.reservations.specs.Limit.{most_harts}
 use Rattle.campaigns.specs.Campaign.{SeedEnds, plain_runs}
 use Rattle.machine.specs.Start.{IsStartable, Refuses}

@@ -3,7 +3,7 @@ use Rattle.std.proofs.Common.{zero, suc, [], ◌∷◌, ◌+◌, get_or, IfOk, �
 use Rattle.std.specs.List.{All}
 use Rattle.std.specs.Option.{IfSome}
 use Rattle.reservations.specs.Limit.{most_harts}
-use Rattle.loader.specs.Image.{ImageValue}
+use Rattle.program_images.specs.Image.{ImageValue}
 use Rattle.machine.specs.declared.choice.Choice.{Choice}
 use Rattle.protocol_library.specs.declared.kind.Kind.{Kind}
 use Rattle.protocol_library.specs.Images.{image_of, IsSame}

@@ -6,7 +6,7 @@ use Rattle.hart_step.specs.Hart.{HartValue}
 use Rattle.hart_step.specs.declared.hart.HartState.{HartState}
 use Rattle.hart_step.specs.declared.hart.HartState.TheVariants.{Running, Exited, Faulted}
 use Rattle.reservations.specs.Limit.{most_harts}
-use Rattle.loader.specs.Image.{ImageValue}
+use Rattle.program_images.specs.Image.{ImageValue}
 use Rattle.campaigns.specs.Campaign.{SeedEnds, plain_runs}
 use Rattle.scheduler.specs.Schedules.{seeded_choices}
 use Rattle.protocol_library.specs.declared.kind.Kind.{Kind}

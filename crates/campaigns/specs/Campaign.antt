@@ -1,7 +1,7 @@
 -- A campaign: the plain run of each seed.
 use Rattle.std.specs.Prelude.{ℕ, List, length, map}
 use Rattle.std.specs.List.{range_with_len}
-use Rattle.loader.specs.Image.{ImageValue}
+use Rattle.program_images.specs.Image.{ImageValue}
 use Rattle.hart_step.specs.Hart.{HartValue, hart_of}
 use Rattle.machine.specs.Chosen.{ChooseAlike}
 use Rattle.machine.specs.World.{World, run}

@@ -11,9 +11,9 @@ ghost use Rattle.campaigns.specs.Seeds.{seeds_left};
 
 use crate::seed_run::{SeedRun, first_machine, run_seed};
 use crate::seeds::Seeds;
-use loader::Image;
 use machine::{Machine, StartFault, check_inputs};
 use memory::FromImage;
+use program_images::Image;
 use rayon::prelude::*;
 use std::alloc::{AllocError, Allocator};
 use std::thread::Threads;

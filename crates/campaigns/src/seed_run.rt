@@ -13,9 +13,9 @@ ghost use Rattle.campaigns.specs.Campaign.{ends_of, ends_from, RemembersChosen};
 use choice_runs::Chosen;
 use flat_memory::FlatStore;
 use hart_step::Hart;
-use loader::Image;
 use machine::{Choice, Machine};
 use memory::{FromImage, Store};
+use program_images::Image;
 use scheduler::{draw_choice, seeded_generator};
 use std::alloc::{AllocError, Allocator};
 

@@ -4,8 +4,8 @@ use advice::Part::{First, Second, Words};
 use advice::{Form, Sentence, push_sentence, told_of};
 use debug_commands::{Command, read_command};
 use fault_advice::segment_at;
-use loader::{Rights, Segment};
 use names_and_digits::Word;
+use program_images::{Rights, Segment};
 use std::alloc::{AllocError, Allocator};
 
 // What each command takes.

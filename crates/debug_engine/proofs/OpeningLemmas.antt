@@ -1,6 +1,6 @@
 -- How a session begins.
 use Rattle.std.proofs.Common.{◌≡◌, ℕ, List, Option, Some, None, IfSome, Ok, length, subst, sym, ap, ◌∙◌}
-use Rattle.loader.specs.Image.{ImageValue}
+use Rattle.program_images.specs.Image.{ImageValue}
 use Rattle.machine.specs.declared.choice.Choice.{Choice}
 use Rattle.debugger.specs.Session.{Session}
 use Rattle.programs.specs.Opening.{opening}

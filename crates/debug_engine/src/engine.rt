@@ -5,7 +5,7 @@ ghost use Rattle.std.specs.Io.KnownBytes.{Keeps};
 ghost use Rattle.programs.specs.Program.{program_of};
 ghost use Rattle.machine.specs.Start.{IsStartable};
 ghost use Rattle.programs.specs.RunFaults.{IfReads, IsRefusal};
-ghost use Rattle.loader.specs.Image.{ImageValue};
+ghost use Rattle.program_images.specs.Image.{ImageValue};
 ghost use Rattle.debug_engine.specs.Opening.{opened, Answers, BeginsToAnswer, IfCut, IfUnopened};
 
 use crate::conversation::{TalkFault, talk};

@@ -4,8 +4,8 @@ ghost use Rattle.machine.specs.Start.{started};
 ghost use Rattle.debugger.specs.Kept.{AreKept};
 
 use crate::paged_machine::PagedMachine;
-use loader::Image;
 use machine::Choice;
+use program_images::Image;
 use std::alloc::Allocator;
 
 /// How many choices there are from one checkpoint to the next.

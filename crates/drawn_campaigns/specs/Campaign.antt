@@ -1,7 +1,7 @@
 -- A campaign under schedules of some kind: how the run of each seed ends.
 use Rattle.std.specs.Prelude.{ℕ, List, length, map}
 use Rattle.std.specs.List.{range_with_len}
-use Rattle.loader.specs.Image.{ImageValue}
+use Rattle.program_images.specs.Image.{ImageValue}
 use Rattle.machine.specs.World.{World, run}
 use Rattle.machine.specs.Start.{started}
 use Rattle.machine.specs.declared.choice.Choice.{Choice}

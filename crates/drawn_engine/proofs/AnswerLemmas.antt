@@ -2,7 +2,7 @@
 use Rattle.std.proofs.Common.{◌≡◌, ◌≢◌, ℕ, ◌<◌, ◌≤◌, true, false, cond, eqb, ltb, List, ◌⊎◌, length, take, Option, Some, None, Result, Ok, Err, IfOk, IfErr, arith, ne_eqb, le-ltb, lt-ltb, refl, ap, sym, subst, ◌∙◌}
 use Rattle.std.specs.Io.KnownBytes.{Appends}
 use Rattle.std.specs.Option.{IfSome}
-use Rattle.loader.specs.Image.{ImageValue}
+use Rattle.program_images.specs.Image.{ImageValue}
 use Rattle.reservations.specs.Limit.{most_harts}
 use Rattle.machine.specs.Start.{IsStartable, Refuses}
 use Rattle.machine.specs.declared.start.StartFault.{StartFault}

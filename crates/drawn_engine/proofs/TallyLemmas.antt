@@ -4,7 +4,7 @@ use Rattle.std.proofs.lemmas.List.{drop_more, length-append, length-map}
 use Rattle.std.proofs.lemmas.List.FromFn.{length-range_with_len}
 use Rattle.std.proofs.lemmas.List.Folds.{list_any-append}
 use Rattle.std.specs.List.{range_with_len}
-use Rattle.loader.specs.Image.{ImageValue}
+use Rattle.program_images.specs.Image.{ImageValue}
 use Rattle.machine.specs.Start.{started}
 use Rattle.outcomes.specs.Outcome.{OutcomeValue, outcome_of}
 use Rattle.outcomes.specs.Tally.{Row, SeedOutcome, add_seed, seeds_in, tally_of, tally_onto}

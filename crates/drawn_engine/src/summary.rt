@@ -9,8 +9,8 @@ ghost use Rattle.drawn_engine.specs.Answers.{after_image, summary_answer, summar
 use crate::tallying::tally_seeds;
 use devices::{Sink, Source, Status, write_all};
 use drawn_campaigns::DrawnPlan;
-use loader::Image;
 use machine::check_inputs;
+use program_images::Image;
 use programs::{ProgramForm, RunFault, read_image};
 use progress::Progress;
 use std::alloc::{AllocError, Allocator};

@@ -3,10 +3,10 @@ use Rattle.std.proofs.Common.{◌≡◌, ℕ, ◌+◌, ◌-◌, ◌%◌, ◌^◌
 use Rattle.std.proofs.lemmas.Bool.{cases_Bool}
 use Rattle.std.proofs.lemmas.Bool.Decides.{nat_tests}
 use Rattle.loader.specs.Number.{word_at}
-use Rattle.loader.specs.Fault.{fault_if}
+use Rattle.program_images.specs.Fault.{fault_if}
 use Rattle.loader.specs.ProgramHeader.{is_kept}
 use Rattle.loader.specs.File.{program_headers_of, segment_of, headers_fault, elf_fault, file_image, loaded}
-use Rattle.loader.specs.declared.fault.ElfFault.TheVariants as faults
+use Rattle.program_images.specs.declared.fault.ElfFault.TheVariants as faults
 use Rattle.assembler.specs.Program.{ProgramValue, IsWithinLimit}
 use Rattle.elf_writer.specs.Field.{zero_bytes}
 use Rattle.elf_writer.specs.Layout.{data_distance, data_size}

@@ -10,7 +10,7 @@ use Rattle.loader.specs.Number.{word_at, half_at}
 use Rattle.loader.specs.Header.{header_fault}
 use Rattle.loader.specs.ProgramHeader.{program_header_at, program_headers_from, header_span, is_load, is_outside, is_dynamic}
 use Rattle.loader.specs.File.{program_headers_of, is_table_outside}
-use Rattle.loader.specs.Spans.{space_fault}
+use Rattle.program_images.specs.Spans.{space_fault}
 use Rattle.loader.specs.declared.program_header.ProgramHeader.{ProgramHeader}
 use Rattle.assembler.specs.Program.{ProgramValue}
 use Rattle.elf_writer.specs.Field.{zero_bytes}

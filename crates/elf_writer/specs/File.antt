@@ -2,10 +2,10 @@
 use Rattle.std.specs.Prelude.{ℕ, ◌+◌, ◌-◌, ◌%◌, ◌^◌, ◌==◌, if◌then◌else◌, List, [], ◌∷◌, ◌++◌, length, Result, Ok, Err}
 use Rattle.assembler.specs.Program.{ProgramValue}
 use Rattle.assembler.specs.Program.{text_start}
-use Rattle.loader.specs.Image.{ImageValue}
-use Rattle.loader.specs.Segment.{SegmentValue}
-use Rattle.loader.specs.declared.fault.ElfFault.{ElfFault}
-use Rattle.loader.specs.declared.fault.ElfFault.TheVariants as faults
+use Rattle.program_images.specs.Image.{ImageValue}
+use Rattle.program_images.specs.Segment.{SegmentValue}
+use Rattle.program_images.specs.declared.fault.ElfFault.{ElfFault}
+use Rattle.program_images.specs.declared.fault.ElfFault.TheVariants as faults
 use Rattle.elf_writer.specs.Field.{zero_bytes}
 use Rattle.elf_writer.specs.Layout.{data_distance, data_size}
 use Rattle.elf_writer.specs.Section.{sections_at, table_bytes, own_sections, table_sections}

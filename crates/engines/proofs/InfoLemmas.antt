@@ -1,5 +1,5 @@
 -- An image that is the object of no kind.
-use Rattle.loader.specs.Image.{ImageValue}
+use Rattle.program_images.specs.Image.{ImageValue}
 use Rattle.protocol_library.specs.declared.kind.Kind.TheVariants.{Swap, Add, LrSc, AdoptCommit, Rounds}
 use Rattle.protocol_library.specs.Images.{image_of, IsSame}
 use Rattle.engines.specs.Info.{NamesLibrary}

@@ -3,7 +3,7 @@ use Rattle.std.proofs.Common.{◌≡◌, ℕ, ◌^◌, ◌<◌, Bool, true, fals
 use Rattle.std.specs.Option.{IfSome}
 use Rattle.std.specs.List.{All}
 use Rattle.reservations.specs.Limit.{most_harts}
-use Rattle.loader.specs.Image.{ImageValue}
+use Rattle.program_images.specs.Image.{ImageValue}
 use Rattle.hart_step.specs.Hart.{HartValue, hart_of}
 use Rattle.hart_step.specs.declared.hart.Hart.{Hart}
 use Rattle.machine.specs.World.{World, run}

@@ -2,7 +2,7 @@
 use Rattle.std.specs.Prelude.{◌≡◌, ℕ, List, take, Option}
 use Rattle.std.specs.Io.KnownBytes.{Appends}
 use Rattle.std.specs.declared.result.Result.TheVariants.{Ok}
-use Rattle.loader.specs.Image.{ImageValue}
+use Rattle.program_images.specs.Image.{ImageValue}
 use Rattle.loader.specs.SymbolTable.{symbols_of}
 use Rattle.listing.specs.Segments.{ListsSegments}
 use Rattle.engines.specs.Info.{ShowsFacts}

@@ -5,8 +5,9 @@ ghost use Rattle.std.specs.List.{flat_map};
 ghost use Rattle.loader.specs.SymbolTable.{symbols_of};
 ghost use Rattle.engines.specs.Info.{info_of, library_name, rights_text, segment_entry, segment_line, symbol_entry, symbol_line, symbols_text, NamesLibrary, ShowsFacts};
 
-use loader::{Image, Rights, Segment, SymFault, Symbol, symbols};
+use loader::{SymFault, Symbol, symbols};
 use names_and_digits::Word;
+use program_images::{Image, Rights, Segment};
 use protocol_library::{Kind, certify};
 use std::alloc::{AllocError, Allocator};
 use std::fmt;

@@ -15,7 +15,7 @@ ghost use Rattle.choice_runs.specs.Chosen.{harts_of};
 ghost use Rattle.ends.specs.Ends.{verdict_on};
 ghost use Rattle.machine.specs.Start.{IsStartable};
 ghost use Rattle.programs.specs.RunFaults.{IsRefusal, IfReads};
-ghost use Rattle.loader.specs.Image.{ImageValue};
+ghost use Rattle.program_images.specs.Image.{ImageValue};
 
 use choice_runs::{Chosen, early_fault, run_choices};
 use choice_texts::ChoiceFault;
@@ -23,8 +23,8 @@ use devices::{Sink, Source, Status, write_all};
 use ends::ends_text;
 use flat_memory::FlatStore;
 use hart_step::Hart;
-use loader::Image;
 use machine::Machine;
+use program_images::Image;
 use programs::{Input, ProgramForm, RunFault, open_text};
 use protocol_library::Kind;
 use std::alloc::{AllocError, Allocator};

@@ -1,6 +1,6 @@
 -- How a run fails where its harts may have to exit, and when a run fails in the same way as another.
 use Rattle.std.specs.Prelude.{ℕ, Bool, List, length, Option, Some, None, IsTrue, if◌then◌else◌}
-use Rattle.loader.specs.Image.{ImageValue}
+use Rattle.program_images.specs.Image.{ImageValue}
 use Rattle.machine.specs.declared.choice.Choice.{Choice}
 use Rattle.exits.specs.Exits.{hangs}
 use Rattle.exits.specs.declared.exit.Exit.{Exit}

@@ -1,6 +1,6 @@
 -- When the run of a list of choices hangs.
 use Rattle.std.specs.Prelude.{ℕ, max, Bool, ◌&&◌, List, ◌++◌, length}
-use Rattle.loader.specs.Image.{ImageValue}
+use Rattle.program_images.specs.Image.{ImageValue}
 use Rattle.memory.specs.Memory.{all_below}
 use Rattle.machine.specs.declared.choice.Choice.{Choice}
 use Rattle.scheduler.specs.Schedules.{alone, turns}

@@ -5,8 +5,8 @@ ghost use Rattle.exit_failures.specs.ExitFailure.{exit_failure_after};
 
 use crate::hanging::{hangs_after, steps_for};
 use exits::Exit;
-use loader::Image;
 use machine::Choice;
+use program_images::Image;
 use protocol_library::Kind;
 use run_failures::{Failure, failure_after};
 use std::alloc::{AllocError, Allocator};

@@ -7,8 +7,8 @@ ghost use Rattle.exit_failures.specs.Hanging.{alone_first, hangs_after, runs_on,
 
 use crate::going_on::{go_on_alone, go_on_by_turns};
 use exits::some_run;
-use loader::Image;
 use machine::{Choice, check_inputs};
+use program_images::Image;
 use run_failures::machine_after;
 use std::alloc::{AllocError, Allocator};
 

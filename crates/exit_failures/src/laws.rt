@@ -1,6 +1,6 @@
 //! A law of failures.
 ghost use Rattle.std.specs.Prelude.{◌≡◌, ℕ, List, Some};
-ghost use Rattle.loader.specs.Image.{ImageValue};
+ghost use Rattle.program_images.specs.Image.{ImageValue};
 ghost use Rattle.machine.specs.declared.choice.Choice.{Choice};
 ghost use Rattle.exit_failures.specs.ExitFailure.{exit_failure_after, RunFailsAs};
 ghost use Rattle.exit_failures.specs.declared.exit_failure.Demands.{Demands};

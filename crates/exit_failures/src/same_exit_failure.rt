@@ -4,8 +4,8 @@ ghost use Rattle.exit_failures.specs.ExitFailure.{RunFailsAs};
 use crate::exit_failure::ExitFailure;
 use crate::hanging::hangs_after;
 use choice_shrinking::Failing;
-use loader::Image;
 use machine::Choice;
+use program_images::Image;
 use run_failures::SameFailure;
 use std::alloc::{AllocError, Allocator};
 

@@ -1,6 +1,6 @@
 -- Places in a program.
 use Rattle.std.specs.Prelude.{ℕ, Bool, true, false, List, [], ◌∷◌, Option, Some, None, ◌-◌, ◌&&◌, nat_le, nat_lt, if◌then◌else◌}
-use Rattle.loader.specs.Segment.{SegmentValue}
+use Rattle.program_images.specs.Segment.{SegmentValue}
 use Rattle.loader.specs.Symbol.{SymbolValue}
 
 -- a symbol is at or below an address, and above another one, if there is one

@@ -1,7 +1,7 @@
 //! Files that are no program: what each is, and what to do.
 
-use loader::ElfFault;
 use loader::elf::E_TYPE;
+use program_images::ElfFault;
 
 // Text, as an assembler source is.
 const SOURCE: &str =

@@ -9,10 +9,11 @@ use advice::{Form, Sentence, Value, push_sentence};
 use decoder::decode;
 use flat_memory::FlatStore;
 use hart_step::{Access, Cause, Hart, HartState, access_by};
-use loader::{Image, Rights, Segment, Symbol};
+use loader::Symbol;
 use machine::Machine;
 use memory::Store;
 use names_and_digits::Word;
+use program_images::{Image, Rights, Segment};
 use std::alloc::{AllocError, Allocator};
 
 // So many harts are told of at most: the others mostly met the same.

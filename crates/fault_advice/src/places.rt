@@ -4,8 +4,9 @@ ghost use Rattle.std.specs.Prelude.{◌≡◌, None, option_map};
 ghost use Rattle.fault_advice.specs.Places.{is_nearer, label_before, segment_at};
 
 use listing::Line;
-use loader::{Rights, Segment, Symbol};
+use loader::Symbol;
 use names_and_digits::Word;
+use program_images::{Rights, Segment};
 use std::alloc::{AllocError, Allocator};
 
 // Whether a symbol is at or below an address, and above the one that was the nearest so far.

@@ -1,6 +1,6 @@
 //! What no clause says: the checks on rows from outside, the printed texts, and that calls succeed.
 
-use loader::{ElfFault, Image, Rights, Segment};
+use program_images::{ElfFault, Image, Rights, Segment};
 use std::alloc::{AllocError, Global};
 
 /// A segment: a base, a size, and a number of file bytes.

@@ -1,6 +1,6 @@
 //! Images of segments by hand.
 
-use loader::{ElfFault, Image, Rights, Segment};
+use program_images::{ElfFault, Image, Rights, Segment};
 use std::alloc::{AllocError, Global};
 
 /// A segment: its base, its size, its flags, and the first of its bytes.

@@ -1,7 +1,8 @@
 //! What no clause says of files: the checks on rows by hand, that calls succeed, and many segments.
 
 use crate::patching::{Patch, patched};
-use loader::{ElfFault, Image, Rights, Segment, load};
+use loader::load;
+use program_images::{ElfFault, Image, Rights, Segment};
 use std::alloc::{AllocError, Global};
 
 /// A file of 128 bytes: two segments side by side, with bytes 1 to 12 behind the headers.

@@ -3,8 +3,8 @@
 use crate::calls::{Call, GRANTS, Grants, count_answered, has_grants};
 use crate::images::{Part, image_of};
 use flat_memory::FlatStore;
-use loader::ElfFault;
 use memory::{AccessFault, FromImage, Store, StoreFault};
+use program_images::ElfFault;
 use std::alloc::Global;
 
 /// A store of segments.

@@ -2,7 +2,8 @@
 
 use crate::loading_tests::WORDS;
 use crate::patching::patched;
-use loader::{ElfFault, load};
+use loader::load;
+use program_images::ElfFault;
 use std::alloc::{AllocError, Global};
 
 /// A program header: type, offset, address, file size and memory size.

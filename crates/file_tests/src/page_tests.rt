@@ -2,9 +2,9 @@
 
 use crate::calls::{Call, GRANTS, Grants, count_answered, has_grants};
 use crate::images::{Part, image_of};
-use loader::{ElfFault, Image};
 use memory::{AccessFault, FromImage, Store, StoreFault};
 use pages::{Number, PageStore, store_into_copy, store_into_original, store_number};
+use program_images::{ElfFault, Image};
 use refusing::Refusing;
 use std::alloc::{AllocError, Allocator, Global};
 

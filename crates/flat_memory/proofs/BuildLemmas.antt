@@ -9,12 +9,12 @@ use Rattle.std.proofs.lemmas.List.Sorted.{IsPermutation-map, All-permutation}
 use Rattle.std.proofs.lemmas.List.Elements.{All-head, All-tail, All-cons, All-nil}
 use Rattle.std.specs.List.{slice_index, list_any, list_all, All}
 use Rattle.std.specs.List.Sorted.{IsNonDecreasingBy}
-use Rattle.loader.specs.Segment.{SegmentValue}
-use Rattle.loader.specs.Image.{span_of, is_mapped, IsSound}
-use Rattle.loader.specs.Spans.{overlaps, any_overlap, is_filled, stands_in_row}
-use Rattle.loader.specs.declared.span.Span.{Span}
-use Rattle.loader.proofs.Overlap.{row_decides}
-use Rattle.loader.proofs.Sound.{space_from_sound, apart_from_sound, extent_from_sound}
+use Rattle.program_images.specs.Segment.{SegmentValue}
+use Rattle.program_images.specs.Image.{span_of, is_mapped, IsSound}
+use Rattle.program_images.specs.Spans.{overlaps, any_overlap, is_filled, stands_in_row}
+use Rattle.program_images.specs.declared.span.Span.{Span}
+use Rattle.program_images.proofs.Overlap.{row_decides}
+use Rattle.program_images.proofs.Sound.{space_from_sound, apart_from_sound, extent_from_sound}
 use Rattle.memory.specs.Image.{segment_at, rights_in, byte_in, segments_memory}
 use Rattle.flat_memory.specs.Blocks.{filled, IsInOrder}
 use Rattle.flat_memory.proofs.OrderLemmas.{has, same_map}

@@ -7,9 +7,9 @@ use Rattle.std.specs.List.{slice_get, All, Contains}
 use Rattle.std.specs.List.Sorted.{IsPermutation}
 use Rattle.std.proofs.lemmas.List.Sorted.{All-permutation, Contains-permutation}
 use Rattle.std.proofs.lemmas.List.Elements.{All-head, All-tail, All-cons, All-nil}
-use Rattle.loader.specs.Segment.{SegmentValue}
-use Rattle.loader.specs.Image.{span_of}
-use Rattle.loader.specs.Spans.{has_address}
+use Rattle.program_images.specs.Segment.{SegmentValue}
+use Rattle.program_images.specs.Image.{span_of}
+use Rattle.program_images.specs.Spans.{has_address}
 use Rattle.memory.specs.Image.{segment_at}
 use Rattle.flat_memory.specs.Blocks.{IsInOrder, IsInside, StandsAt}
 

@@ -4,7 +4,7 @@ use Rattle.std.proofs.lemmas.Bool.{cases_Bool, cases_eq}
 use Rattle.std.proofs.lemmas.Bool.Decides.{nat_tests}
 use Rattle.std.specs.Option.{MatchOption, is_some}
 use Rattle.std.specs.List.{slice_index}
-use Rattle.loader.specs.Segment.{SegmentValue}
+use Rattle.program_images.specs.Segment.{SegmentValue}
 use Rattle.memory.specs.Memory.{grants, all_below, granted, number_of, number_at}
 use Rattle.memory.specs.Access.{peeked, fetched}
 use Rattle.memory.specs.Image.{segment_at, rights_in, byte_in, segments_memory}

@@ -1,7 +1,7 @@
 -- Blocks: segments whose bytes are all written out, one after the other.
 use Rattle.std.specs.Prelude.{◌≡◌, ℕ, zero, suc, ◌+◌, ◌-◌, ◌/◌, ◌%◌, ◌^◌, ◌<◌, ◌≤◌, Bool, true, false, if◌then◌else◌, Option, Some, None, List, ◌++◌, length, slice_get, slice_index_or, slice_set, replicate}
 use Rattle.std.specs.Option.{ForSome}
-use Rattle.loader.specs.Segment.{SegmentValue}
+use Rattle.program_images.specs.Segment.{SegmentValue}
 use Rattle.memory.specs.Memory.{Memory, to_write, granted, number_at}
 use Rattle.memory.specs.Access.{written}
 

@@ -3,7 +3,7 @@ ghost use Rattle.std.specs.Prelude.{◌≡◌, ◌+◌, ◌^◌, ◌<◌, ◌≤
 ghost use Rattle.memory.specs.Memory.{grants, number_of};
 ghost use Rattle.flat_memory.specs.Blocks.{filled, block_after};
 
-use loader::{Rights, Segment};
+use program_images::{Rights, Segment};
 use std::alloc::{AllocError, Allocator};
 use std::marker::Model;
 
@@ -17,7 +17,7 @@ pub struct Block<A: Allocator> {
 
 impl<A: Allocator> Model for Block<A> {
     ghost use Rattle.std.specs.Prelude.{◌+◌, ◌^◌, ◌≤◌, length};
-    ghost use Rattle.loader.specs.Segment.{SegmentValue};
+    ghost use Rattle.program_images.specs.Segment.{SegmentValue};
 
     ghost Value = { SegmentValue };
 

@@ -1,11 +1,11 @@
 //! Making blocks.
 ghost use Rattle.std.specs.Prelude.{◌≡◌, map, IfOk};
-ghost use Rattle.loader.specs.Image.{IsSound};
+ghost use Rattle.program_images.specs.Image.{IsSound};
 ghost use Rattle.flat_memory.specs.Blocks.{filled, IsInOrder};
 ghost use Rattle.memory.specs.Image.{image_memory, segments_memory};
 
 use crate::block::Block;
-use loader::Image;
+use program_images::Image;
 use std::alloc::{AllocError, Allocator};
 
 /// The blocks of an image, by rising base.

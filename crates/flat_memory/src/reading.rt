@@ -7,7 +7,7 @@ ghost use Rattle.flat_memory.specs.Blocks.{IsInOrder, number_if};
 
 use crate::block::Block;
 use crate::search::{find, in_last, place};
-use loader::Rights;
+use program_images::Rights;
 use std::alloc::Allocator;
 
 /// The byte at an address, whatever its rights.

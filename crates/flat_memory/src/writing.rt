@@ -8,7 +8,7 @@ ghost use Rattle.flat_memory.specs.Blocks.{IsInOrder, Puts};
 use crate::block::Block;
 use crate::reading::may_write;
 use crate::search::{find, in_last, place};
-use loader::Rights;
+use program_images::Rights;
 use std::alloc::Allocator;
 
 /// Puts a byte at an address, where it may be written; says whether it did.

@@ -1,7 +1,7 @@
 -- What every log of a hart keeps, and what a segment more makes of it.
 use Rattle.std.proofs.Common.{◌≡◌, ℕ, Bool, ◌&&◌, List, [], ◌∷◌, ◌++◌, Option, Some, None, refl, ap, ap₂, sym, subst, ◌∙◌}
 use Rattle.std.specs.List.{AllByRecursion}
-use Rattle.loader.specs.Image.{ImageValue}
+use Rattle.program_images.specs.Image.{ImageValue}
 use Rattle.hart_step.specs.Hart.{HartValue, hart_of}
 use Rattle.hart_step.specs.declared.hart.Hart.{Hart}
 use Rattle.reservations.specs.Marks.{names}

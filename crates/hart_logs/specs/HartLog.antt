@@ -1,7 +1,7 @@
 -- What a hart's log is: segments over the table of an image.
 use Rattle.std.specs.Prelude.{◌≡◌, ℕ, ◌-◌, ◌<◌, ◌≤◌, List, [], ◌∷◌, ◌++◌, length, Option, Some, None, slice_get}
 use Rattle.std.specs.List.{AllByRecursion}
-use Rattle.loader.specs.Image.{ImageValue}
+use Rattle.program_images.specs.Image.{ImageValue}
 use Rattle.memory.specs.Image.{image_memory}
 use Rattle.reservations.specs.Limit.{most_harts}
 use Rattle.hart_step.specs.Hart.{HartValue, hart_of}

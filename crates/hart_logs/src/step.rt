@@ -14,7 +14,7 @@ ghost use Rattle.hart_logs.specs.LastStep.{listed, slot_is, succeeds_at, data_sl
 
 use banks_laws::{LoggedAccess, LoggedKind};
 use hart_step::{AccessKind, Hart};
-use loader::Image;
+use program_images::Image;
 use segment_order::LogSegment;
 use std::alloc::Allocator;
 use told_steps::{PlannedTouch, ToldWords, Word, needed_word, planned_touch, settle, settle_store};

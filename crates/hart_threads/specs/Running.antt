@@ -1,7 +1,7 @@
 -- What holds under the lock while harts run.
 use Rattle.std.specs.Prelude.{◌≡◌, ℕ, zero, suc, ◌+◌, ◌<◌, ◌≤◌, ◌==◌, ◌||◌, Bool, List, [], length, slice_index, if◌then◌else◌}
 use Rattle.std.specs.List.{All}
-use Rattle.loader.specs.Image.{ImageValue}
+use Rattle.program_images.specs.Image.{ImageValue}
 use Rattle.book.specs.Book.{BookValue, slot_of}
 use Rattle.hart_threads.specs.Own.{owned}
 use Rattle.hart_threads.specs.Plan.{IsFlagged}

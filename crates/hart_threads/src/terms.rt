@@ -6,7 +6,7 @@ use std::sync::ledger::Ledger;
 /// alone, so that a lock's type can name them: each run picks its own.
 pub trait Terms: Ledger {
     ghost use Rattle.std.specs.Prelude.{ℕ, List};
-    ghost use Rattle.loader.specs.Image.{ImageValue};
+    ghost use Rattle.program_images.specs.Image.{ImageValue};
 
     ghost image: { ImageValue };
 

@@ -3,7 +3,8 @@
 use asm_engine::assembled_file;
 use devices::{MemorySink, MemorySource, Status};
 use engines::{FileView, file_engine};
-use loader::{ElfFault, SymFault, load, symbols};
+use loader::{SymFault, load, symbols};
+use program_images::ElfFault;
 use programs::RunFault;
 use protocol_library::{Kind, source};
 use std::alloc::{AllocError, Global};

@@ -6,9 +6,9 @@ use Rattle.std.proofs.lemmas.List.Elements.{All-filter}
 use Rattle.std.specs.List.{All, flat_map}
 use Rattle.std.specs.List.Sorted.{IsNonDecreasingBy}
 use Rattle.std.specs.Borrow.{Bor}
-use Rattle.loader.specs.Segment.{SegmentValue}
-use Rattle.loader.specs.Image.{IsSound}
-use Rattle.loader.proofs.Sound.{extent_from_sound}
+use Rattle.program_images.specs.Segment.{SegmentValue}
+use Rattle.program_images.specs.Image.{IsSound}
+use Rattle.program_images.proofs.Sound.{extent_from_sound}
 use Rattle.listing.specs.Segments.{is_executable, segment_text, HasRoom, ListsSegments, now_of}
 
 -- each segment of an image has room

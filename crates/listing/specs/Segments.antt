@@ -4,7 +4,7 @@ use Rattle.std.specs.Borrow.{Bor}
 use Rattle.std.specs.List.{flat_map}
 use Rattle.std.specs.List.Sorted.{IsNonDecreasingBy}
 use Rattle.std.specs.Fmt.{decimal}
-use Rattle.loader.specs.Segment.{SegmentValue}
+use Rattle.program_images.specs.Segment.{SegmentValue}
 use Rattle.names_and_digits.specs.Digits.{word_text}
 use Rattle.listing.specs.Listing.{lines_from}
 

@@ -5,8 +5,8 @@ ghost use Rattle.std.specs.List.{All, flat_map};
 ghost use Rattle.listing.specs.Segments.{is_executable, segment_text, contents_of, HasRoom, ListsSegments, now_of};
 
 use crate::lines::push_lines;
-use loader::{Image, Rights, Segment};
 use names_and_digits::Word;
+use program_images::{Image, Rights, Segment};
 use std::alloc::{AllocError, Allocator};
 
 /// The listing of an image: of each segment that may be executed, by rising base, a line `# segment 00010000 60` with

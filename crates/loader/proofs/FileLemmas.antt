@@ -6,15 +6,16 @@ use Rattle.std.proofs.lemmas.Grind.{common_steps}
 use Rattle.std.proofs.lemmas.List.{get_or-drop, get_or-take, get_or_past, length-take}
 use Rattle.std.proofs.Math.ListN.{length-drop}
 use Rattle.std.specs.List.{list_any, list_all}
-use Rattle.loader.specs.declared.fault.ElfFault.{ElfFault}
+use Rattle.program_images.specs.declared.fault.ElfFault.{ElfFault}
 use Rattle.loader.specs.declared.program_header.ProgramHeader.{ProgramHeader}
-use Rattle.loader.specs.declared.span.Span.{Span}
-use Rattle.loader.specs.Fault.{first_fault}
+use Rattle.program_images.specs.declared.span.Span.{Span}
+use Rattle.program_images.specs.Fault.{first_fault}
 use Rattle.loader.specs.File.{headers_fault, segment_of, byte_at, file_byte}
-use Rattle.loader.specs.Image.{span_of, is_mapped, IsSound}
+use Rattle.program_images.specs.Image.{span_of, is_mapped, IsSound, HaveLowRights}
 use Rattle.loader.specs.ProgramHeader.{is_load, is_dynamic, is_outside, is_kept, header_span}
-use Rattle.loader.specs.Spans.{is_filled, space_fault}
-use Rattle.loader.proofs.Sound.{sound_from, passed}
+use Rattle.program_images.specs.Spans.{is_filled, space_fault}
+use Rattle.program_images.proofs.RightsLemmas.{low}
+use Rattle.program_images.proofs.Sound.{sound_from, passed}
 
 -- the bytes that the file gives
 given : (bytes : List ℕ) (h : ProgramHeader) → is_load h ≡ true → is_outside (length bytes) h ≡ false → length (take h.file_size (drop h.offset bytes)) ≡ h.file_size
@@ -58,6 +59,11 @@ file_is_sound bytes entry hs pass =
     let c = passed (list_any is_dynamic hs) _ _ b.1 in
     let d = passed (not (eqb (entry % 4) 0)) _ _ c.1 in
     sound_from entry (map (segment_of bytes) (filter is_kept hs)) (map header_span (filter is_load hs)) (kept_mapped bytes hs) (kept_spans bytes hs a.0) b.0 (grind (arith, nat_tests))
+
+-- the segments of a file have the low three bits of its rights alone
+pub files_have_low : (bytes : List ℕ) (hs : List ProgramHeader) → HaveLowRights (map (segment_of bytes) hs)
+files_have_low bytes [] = refl
+files_have_low bytes (h ∷ hs) = rw (low h.flags, files_have_low bytes hs) refl
 
 -- a byte of a segment, and the file's
 pub file_bytes : (bytes : List ℕ) (h : ProgramHeader) (a : ℕ) → byte_at (segment_of bytes h) a ≡ file_byte bytes h a

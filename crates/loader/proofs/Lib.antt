@@ -1,6 +1,3 @@
-pub mod Overlap
-pub mod RightsLemmas
-pub mod Sound
 pub mod HeaderLemmas
 pub mod FileLemmas
 pub mod NameLemmas

@@ -1,16 +1,16 @@
 -- Files: the checks in their order, and the image of a file that passes them.
 use Rattle.std.specs.Prelude.{ℕ, ◌+◌, ◌-◌, ◌*◌, ◌%◌, Bool, not, ◌&&◌, ◌==◌, nat_lt, if◌then◌else◌, List, length, slice_index, take, drop, map, filter, Option, None, Result}
 use Rattle.std.specs.List.{list_any}
-use Rattle.loader.specs.Fault.{fault_if, first_fault}
+use Rattle.program_images.specs.Fault.{fault_if, first_fault}
 use Rattle.loader.specs.Header.{header_fault}
-use Rattle.loader.specs.Image.{ImageValue, fault_or}
+use Rattle.program_images.specs.Image.{ImageValue, fault_or}
 use Rattle.loader.specs.Number.{word_at, half_at}
 use Rattle.loader.specs.ProgramHeader.{program_headers_from, is_load, is_dynamic, is_outside, is_kept, header_span}
-use Rattle.loader.specs.Segment.{SegmentValue}
-use Rattle.loader.specs.Spans.{space_fault}
+use Rattle.program_images.specs.Segment.{SegmentValue}
+use Rattle.program_images.specs.Spans.{space_fault}
 use Rattle.loader.specs.Codes.{E_ENTRY, E_PHOFF, E_PHNUM, PROGRAM_HEADER_SIZE}
-use Rattle.loader.specs.declared.fault.ElfFault.{ElfFault}
-use Rattle.loader.specs.declared.fault.ElfFault.TheVariants as faults
+use Rattle.program_images.specs.declared.fault.ElfFault.{ElfFault}
+use Rattle.program_images.specs.declared.fault.ElfFault.TheVariants as faults
 use Rattle.loader.specs.declared.program_header.ProgramHeader.{ProgramHeader}
 
 -- whether there are program headers that pass the file's end

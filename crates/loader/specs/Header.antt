@@ -1,12 +1,12 @@
 -- The checks of the header alone.
 use Rattle.std.specs.Prelude.{ℕ, ◌%◌, Bool, not, ◌&&◌, ◌||◌, ◌==◌, nat_lt, List, length, slice_index, Option, None}
-use Rattle.loader.specs.Fault.{fault_if}
+use Rattle.program_images.specs.Fault.{fault_if}
 use Rattle.loader.specs.Number.{word_at, half_at}
 use Rattle.loader.specs.Codes.{MAGIC, EI_CLASS, EI_DATA, EI_VERSION, ELFCLASS32, ELFDATA2LSB, EV_CURRENT}
 use Rattle.loader.specs.Codes.{E_TYPE, E_MACHINE, E_VERSION, E_FLAGS, E_EHSIZE, E_PHENTSIZE, E_PHNUM}
 use Rattle.loader.specs.Codes.{ET_EXEC, EM_RISCV, EF_RISCV_RVC, PN_XNUM, HEADER_SIZE, PROGRAM_HEADER_SIZE}
-use Rattle.loader.specs.declared.fault.ElfFault.{ElfFault}
-use Rattle.loader.specs.declared.fault.ElfFault.TheVariants as faults
+use Rattle.program_images.specs.declared.fault.ElfFault.{ElfFault}
+use Rattle.program_images.specs.declared.fault.ElfFault.TheVariants as faults
 
 -- whether one of the two versions is another than the one that there is
 abbrev pub is_other_version : List ℕ → Bool

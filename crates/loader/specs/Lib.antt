@@ -1,9 +1,5 @@
 pub mod Codes
 pub mod Number
-pub mod Fault
-pub mod Spans
-pub mod Segment
-pub mod Image
 pub mod Header
 pub mod ProgramHeader
 pub mod File

@@ -3,7 +3,7 @@ use Rattle.std.specs.Prelude.{ℕ, zero, suc, ◌+◌, Bool, ◌&&◌, ◌||◌,
 use Rattle.loader.specs.Number.{word_at}
 use Rattle.loader.specs.Codes.{P_TYPE, P_OFFSET, P_VADDR, P_FILESZ, P_MEMSZ, P_FLAGS, PROGRAM_HEADER_SIZE, PT_LOAD, PT_DYNAMIC, PT_INTERP}
 use Rattle.loader.specs.declared.program_header.ProgramHeader.{ProgramHeader}
-use Rattle.loader.specs.declared.span.Span.{Span}
+use Rattle.program_images.specs.declared.span.Span.{Span}
 
 -- the program header at a place
 unfoldable pub program_header_at : List ℕ → ℕ → ProgramHeader

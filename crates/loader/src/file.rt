@@ -2,23 +2,19 @@
 ghost use Rattle.std.specs.Prelude.{◌≡◌, ◌+◌, ◌*◌, ◌<◌, ◌≤◌, ℕ, List, length, map, filter, IfOk};
 ghost use Rattle.std.specs.Bool.{OnFalse};
 ghost use Rattle.loader.specs.File.{loaded, headers_fault, is_table_outside, segment_of, byte_at, file_byte};
-ghost use Rattle.loader.specs.Image.{Gives};
+ghost use Rattle.program_images.specs.Image.{Gives};
 ghost use Rattle.loader.specs.Number.{word_at, half_at};
 ghost use Rattle.loader.specs.ProgramHeader.{is_kept};
 ghost use Rattle.loader.specs.Codes.{E_PHOFF, E_PHNUM, HEADER_SIZE, PROGRAM_HEADER_SIZE};
 ghost use Rattle.loader.specs.declared.program_header.ProgramHeader.{ProgramHeader};
 
 use crate::elf::{E_ENTRY, E_PHNUM, E_PHOFF, PROGRAM_HEADER_SIZE, PT_LOAD};
-use crate::fault::ElfFault;
 use crate::header::check_header;
-use crate::image::{Image, image_of};
 use crate::number::{half_at, word_at};
 use crate::program_header::{
     ProgramHeader, any_dynamic, any_outside, load_spans, read_program_headers,
 };
-use crate::rights::Rights;
-use crate::segment::Segment;
-use crate::space::check_space;
+use program_images::{ElfFault, Image, Rights, Segment, check_space, image_of};
 use std::alloc::{AllocError, Allocator};
 
 /// A segment's byte is the file's at p_offset and as far on as the address is from p_vaddr, where that is below
@@ -33,7 +29,7 @@ pub fn a_segments_bytes_are_the_files()
 /// Else the first check that refuses it, in the order of `ElfFault`: each check is looked at only where those before it
 /// pass. Sections are not looked at. No byte of a segment is copied before all checks have passed.
 /// System V ELF, "ELF Header", "Program Header".
-#[tactic(auto, using(crate::proofs::FileLemmas::file_is_sound, crate::proofs::RightsLemmas::files_have_low), unfolding(crate::specs::File::loaded, crate::specs::File::elf_fault, crate::specs::File::file_image, crate::specs::File::program_headers_of))]
+#[tactic(auto, using(crate::proofs::FileLemmas::file_is_sound, crate::proofs::FileLemmas::files_have_low), unfolding(crate::specs::File::loaded, crate::specs::File::elf_fault, crate::specs::File::file_image, crate::specs::File::program_headers_of))]
 pub fn load<A: Allocator + Copy>(alloc: A, bytes: &[u8]) -> Result<Image<A>, ElfFault>
     ensures { Gives result (loaded bytes.now) }
 {

@@ -8,8 +8,8 @@ use crate::elf::{
     EI_DATA, EI_VERSION, ELFCLASS32, ELFDATA2LSB, EM_RISCV, ET_EXEC, EV_CURRENT, HEADER_SIZE,
     MAGIC, PN_XNUM, PROGRAM_HEADER_SIZE,
 };
-use crate::fault::ElfFault;
 use crate::number::{half_at, word_at};
+use program_images::ElfFault;
 
 /// The first check of the header alone that refuses a file. Where none does, the file has a whole header.
 #[tactic(auto, unfolding(crate::specs::Header::header_fault))]

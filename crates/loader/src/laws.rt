@@ -1,9 +1,7 @@
 //! The numbers of ELF files that the code has are those of the definitions.
 ghost use Rattle.std.specs.Prelude.{◌≡◌};
 ghost use Rattle.loader.specs.Codes as standard;
-ghost use Rattle.loader.specs.Spans.{image_limit};
 ghost use Rattle.loader.specs.declared.elf.TheConstants as code;
-ghost use Rattle.loader.specs.declared.space.TheConstants.{IMAGE_LIMIT};
 
 /// Each number of an ELF file is the definitions', which have the standard's numerals.
 pub fn numbers_are_the_standards()
@@ -38,10 +36,4 @@ pub fn numbers_are_the_standards()
         (code.SHF_EXECINSTR ≡ standard.SHF_EXECINSTR) }
     ensures symbol { (code.ST_NAME ≡ standard.ST_NAME) × (code.ST_VALUE ≡ standard.ST_VALUE) ×
         (code.STB_GLOBAL ≡ standard.STB_GLOBAL) }
-{}
-
-/// The segments of an image have 2^24 bytes together at most: the code's limit is the definitions'.
-pub fn images_are_limited()
-    ensures limit { IMAGE_LIMIT ≡ image_limit }
-    ensures numeral { image_limit ≡ 0x0100_0000 }
 {}

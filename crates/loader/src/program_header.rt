@@ -8,7 +8,7 @@ use crate::elf::{
     PT_INTERP, PT_LOAD,
 };
 use crate::number::word_at;
-use crate::span::Span;
+use program_images::Span;
 use std::alloc::{AllocError, Allocator};
 
 /// What is read of a program header: all but p_paddr and p_align (System V ELF, "Program Header").

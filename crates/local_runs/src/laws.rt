@@ -1,6 +1,6 @@
 //! What a run of local steps makes of a world.
 ghost use Rattle.std.specs.Prelude.{◌≡◌, ℕ, List, Some, slice_get};
-ghost use Rattle.loader.specs.Image.{ImageValue};
+ghost use Rattle.program_images.specs.Image.{ImageValue};
 ghost use Rattle.memory.specs.Image.{image_memory};
 ghost use Rattle.hart_step.specs.Hart.{HartValue};
 ghost use Rattle.local_steps.specs.CodeMemory.{code_in};

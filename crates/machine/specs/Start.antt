@@ -1,6 +1,6 @@
 -- How a machine starts.
 use Rattle.std.specs.Prelude.{◌≡◌, ℕ, ◌+◌, ◌<◌, ◌≤◌, ◌==◌, List, [], ◌∷◌, None, length, if◌then◌else◌}
-use Rattle.loader.specs.Image.{ImageValue}
+use Rattle.program_images.specs.Image.{ImageValue}
 use Rattle.memory.specs.Image.{image_memory}
 use Rattle.reservations.specs.Limit.{most_harts}
 use Rattle.hart_step.specs.Hart.{HartValue, Registers}

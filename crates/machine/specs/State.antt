@@ -1,7 +1,7 @@
 -- The world of a machine over a flat store, and the worlds of a run.
 use Rattle.std.specs.Prelude.{ℕ, List, take}
-use Rattle.loader.specs.Image.{ImageValue}
-use Rattle.loader.specs.Segment.{SegmentValue}
+use Rattle.program_images.specs.Image.{ImageValue}
+use Rattle.program_images.specs.Segment.{SegmentValue}
 use Rattle.memory.specs.Image.{segments_memory}
 use Rattle.machine.specs.Machine.{world}
 use Rattle.machine.specs.World.{World, run}

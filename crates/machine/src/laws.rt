@@ -1,7 +1,7 @@
 //! What holds in every run.
 ghost use Rattle.std.specs.Prelude.{◌≡◌, ℕ, ◌%◌, List, ◌++◌, length};
 ghost use Rattle.std.specs.List.{All};
-ghost use Rattle.loader.specs.Image.{ImageValue};
+ghost use Rattle.program_images.specs.Image.{ImageValue};
 ghost use Rattle.hart_step.specs.Laws.{Keeps, IsAligned, HasZero};
 ghost use Rattle.machine.specs.World.{World, run};
 ghost use Rattle.machine.specs.Start.{started};

@@ -7,8 +7,8 @@ ghost use Rattle.reservations.specs.Limit.{most_harts as most};
 
 use crate::machine::Machine;
 use hart_step::{Hart, HartState};
-use loader::Image;
 use memory::FromImage;
+use program_images::Image;
 use reservations::{MAX_HARTS, Reserve};
 use std::alloc::{AllocError, Allocator};
 use thiserror::Error;

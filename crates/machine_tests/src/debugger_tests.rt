@@ -1,7 +1,7 @@
 //! What no clause says: that a call is refused only where a request for memory was, and what stands after it.
 use debugger::{Debugger, MoveFault, Stop, byte_at};
-use loader::{Image, Rights, Segment};
 use machine::Choice;
+use program_images::{Image, Rights, Segment};
 use progress::Progress;
 use refusing::{Refusing, tried};
 use std::alloc::{AllocError, Allocator, Global};

@@ -1,8 +1,8 @@
 //! What no clause says of code and local steps: single rows of each instruction, seams, and refused memory.
 use hart_step::{Hart, HartState};
 use isa_table::Instr;
-use loader::{Image, Rights, Segment};
 use local_steps::{Class, Code, classify, local_steps};
+use program_images::{Image, Rights, Segment};
 use refusing::{Call, tried};
 use std::alloc::{AllocError, Allocator, Global};
 use std::mem::size_of;

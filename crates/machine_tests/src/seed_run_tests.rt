@@ -1,7 +1,7 @@
 //! What no clause says of the first machine of a campaign and of one seed's run: that they are had where memory is left, with each request
 //! refused in turn.
 use campaigns::{first_machine, run_seed};
-use loader::{Image, Rights, Segment};
+use program_images::{Image, Rights, Segment};
 use refusing::{Call, tried};
 use std::alloc::{AllocError, Allocator, Global};
 

@@ -1,8 +1,8 @@
 -- The memory that a program begins with.
 use Rattle.std.specs.Prelude.{ℕ, ◌-◌, List, [], ◌∷◌, Option, Some, None, slice_index, if◌then◌else◌}
-use Rattle.loader.specs.Image.{ImageValue, span_of}
-use Rattle.loader.specs.Segment.{SegmentValue}
-use Rattle.loader.specs.Spans.{has_address}
+use Rattle.program_images.specs.Image.{ImageValue, span_of}
+use Rattle.program_images.specs.Segment.{SegmentValue}
+use Rattle.program_images.specs.Spans.{has_address}
 use Rattle.memory.specs.Memory.{Memory}
 
 -- the first segment that has an address

@@ -3,7 +3,7 @@ ghost use Rattle.std.specs.Prelude.{◌≡◌, IfOk};
 ghost use Rattle.memory.specs.Image.{image_memory};
 
 use crate::store::Store;
-use loader::Image;
+use program_images::Image;
 use std::alloc::{AllocError, Allocator};
 
 /// A memory that can be made, of an image or as a copy. Only want of memory refuses either.

@@ -1,6 +1,6 @@
 -- The choices of merged logs, and where their run leads.
 use Rattle.std.specs.Prelude.{◌≡◌, ℕ, ◌%◌, ◌≤◌, Bool, false, List, [], ◌∷◌, ◌++◌, length, replicate}
-use Rattle.loader.specs.Image.{ImageValue}
+use Rattle.program_images.specs.Image.{ImageValue}
 use Rattle.memory.specs.Image.{image_memory}
 use Rattle.hart_step.specs.Hart.{HartValue}
 use Rattle.machine.specs.World.{run}

@@ -2,8 +2,8 @@
 //! all.
 
 use hart_step::{Cause, Hart, HartState};
-use loader::{Image, Rights, Segment};
 use machine::Choice;
+use program_images::{Image, Rights, Segment};
 use protocol_library::{
     KIND_NAMES, Kind, Verdict, certify, judge, make_image, source, table, words,
 };

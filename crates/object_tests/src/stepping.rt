@@ -1,7 +1,7 @@
 //! Machines of images, and steps of one hart.
 use flat_memory::FlatStore;
-use loader::Image;
 use machine::{Choice, Machine};
+use program_images::Image;
 use std::alloc::{AllocError, Global};
 
 /// A machine over a plain memory.

@@ -9,8 +9,8 @@ use Rattle.std.proofs.lemmas.List.Sorted.{All-permutation, length_permutation}
 use Rattle.names_and_digits.specs.Digits.{word_text}
 use Rattle.isa_table.specs.Spells.{InRange, word_of}
 use Rattle.isa_table.specs.declared.instr.Instr.{Instr}
-use Rattle.loader.specs.Image.{ImageValue}
-use Rattle.loader.specs.Segment.{SegmentValue}
+use Rattle.program_images.specs.Image.{ImageValue}
+use Rattle.program_images.specs.Segment.{SegmentValue}
 use Rattle.listing.specs.Listing.{listing, byte_lines, lines_from}
 use Rattle.listing.specs.Segments.{is_executable, segment_text, ListsSegments}
 use Rattle.assembler.specs.Placed.{Bases, Standing, AreBases, IsNextMultiple, taken}

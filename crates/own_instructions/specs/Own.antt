@@ -6,8 +6,8 @@ use Rattle.std.specs.Fmt.{decimal}
 use Rattle.isa_table.specs.Spells.{Spells}
 use Rattle.isa_table.specs.declared.instr.Instr.{Instr}
 use Rattle.loader.specs.File.{loaded}
-use Rattle.loader.specs.Image.{ImageValue}
-use Rattle.loader.specs.Segment.{SegmentValue}
+use Rattle.program_images.specs.Image.{ImageValue}
+use Rattle.program_images.specs.Segment.{SegmentValue}
 use Rattle.listing.specs.Listing.{listing, word_entry}
 use Rattle.listing.specs.Segments.{ListsSegments}
 use Rattle.asm_read.specs.Statement.{StatementValue, BodyValue}

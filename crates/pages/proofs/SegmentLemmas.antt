@@ -7,10 +7,10 @@ use Rattle.std.proofs.lemmas.List.Elements.{All-weaker, All-more}
 use Rattle.std.proofs.Math.Path.{fun_ext}
 use Rattle.std.specs.List.{All}
 use Rattle.std.specs.Int.{div_ceil}
-use Rattle.loader.specs.Segment.{SegmentValue}
-use Rattle.loader.specs.Image.{IsSound, span_of}
-use Rattle.loader.specs.Spans.{has_address}
-use Rattle.loader.proofs.Sound.{extent_from_sound}
+use Rattle.program_images.specs.Segment.{SegmentValue}
+use Rattle.program_images.specs.Image.{IsSound, span_of}
+use Rattle.program_images.specs.Spans.{has_address}
+use Rattle.program_images.proofs.Sound.{extent_from_sound}
 use Rattle.memory.specs.Memory.{Memory}
 use Rattle.memory.specs.Image.{segments_memory}
 use Rattle.pages.specs.Building.{unmapped, over, IsCovered}

@@ -1,8 +1,8 @@
 -- Pages that are being filled.
 use Rattle.std.specs.Prelude.{◌≡◌, ℕ, ◌+◌, ◌-◌, ◌*◌, ◌^◌, ◌≤◌, if◌then◌else◌, Some, None, length, vec_len, slice_index}
-use Rattle.loader.specs.Segment.{SegmentValue}
-use Rattle.loader.specs.Image.{span_of}
-use Rattle.loader.specs.Spans.{has_address}
+use Rattle.program_images.specs.Segment.{SegmentValue}
+use Rattle.program_images.specs.Image.{span_of}
+use Rattle.program_images.specs.Spans.{has_address}
 use Rattle.memory.specs.Memory.{Memory}
 use Rattle.pages.specs.Pages.{spans_of, pages_memory}
 use Rattle.pages.specs.declared.building.Building.{Building}

@@ -9,7 +9,7 @@ use crate::building::Building;
 use crate::directory::Directory;
 use crate::page::{PAGE_SIZE, PAGES, Page};
 use crate::page_rights::{PageRights, Span};
-use loader::{Image, Rights, Segment};
+use program_images::{Image, Rights, Segment};
 use std::alloc::{AllocError, Allocator};
 
 /// How many of the bytes that are left are in the page of an address.

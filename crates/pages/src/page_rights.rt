@@ -3,7 +3,7 @@ ghost use Rattle.std.specs.Prelude.{◌≡◌, ◌+◌, ◌<◌, ◌≤◌, ◌�
 ghost use Rattle.memory.specs.Memory.{grants, all_below};
 ghost use Rattle.pages.specs.Pages.{has_offset, has_all, right_at};
 
-use loader::Rights;
+use program_images::Rights;
 use std::alloc::{AllocError, Allocator};
 
 /// Bytes of a page that are mapped with the same rights: those at the offsets from `from` up to but not `to`.

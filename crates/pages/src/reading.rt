@@ -10,7 +10,7 @@ use crate::chunk::CHUNK_PAGES;
 use crate::page::{PAGE_SIZE, Page};
 use crate::page_store::PageStore;
 use crate::table::Table;
-use loader::Rights;
+use program_images::Rights;
 use std::alloc::Allocator;
 use std::rc::Rc;
 

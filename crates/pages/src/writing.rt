@@ -12,8 +12,8 @@ use crate::number::Number;
 use crate::page::{PAGE_SIZE, Page};
 use crate::page_store::PageStore;
 use crate::table::Table;
-use loader::Rights;
 use memory::StoreFault;
+use program_images::Rights;
 use std::alloc::{AllocError, Allocator};
 use std::rc::Rc;
 

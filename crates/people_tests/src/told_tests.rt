@@ -4,7 +4,7 @@ use advice::{Mistake, order_advice, push_mark};
 use asm_advice::{SourceText, asm_advice};
 use asm_read::{Fault, FaultKind};
 use debug_advice::line_advice;
-use loader::Segment;
+use program_images::Segment;
 use refusing::{Call, tried};
 use std::alloc::{AllocError, Allocator, Global};
 

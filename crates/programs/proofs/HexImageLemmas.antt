@@ -1,8 +1,8 @@
 -- No check of an image refuses a program of few words.
 use Rattle.std.proofs.Common.{◌≡◌, ℕ, ◌*◌, ◌≤◌, false, List, [], ◌∷◌, length, Ok, refl, arith, length-append, le-ltb}
 use Rattle.std.specs.Prelude.{nat_lt}
-use Rattle.loader.specs.Image.{image_or_fault, image_fault}
-use Rattle.loader.specs.Spans.{space_fault}
+use Rattle.program_images.specs.Image.{image_or_fault, image_fault}
+use Rattle.program_images.specs.Spans.{space_fault}
 use Rattle.programs.specs.HexImage.{bytes_of, word_bytes, hex_segment, hex_image_of}
 use Rattle.programs.specs.HexText.{most_words}
 use Rattle.programs.specs.HexImage.{hex_base, hex_size}

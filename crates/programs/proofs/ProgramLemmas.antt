@@ -1,9 +1,9 @@
 -- What the loader's answer says of a program that is a file.
 use Rattle.std.proofs.Common.{◌≡◌, ◌≢◌, ℕ, List, Ok, Err, refl, ap}
 use Rattle.loader.specs.File.{loaded}
-use Rattle.loader.specs.Image.{ImageValue, Fails}
-use Rattle.loader.specs.declared.fault.ElfFault.{ElfFault}
-use Rattle.loader.specs.declared.fault.ElfFault.TheVariants as elf
+use Rattle.program_images.specs.Image.{ImageValue, Fails}
+use Rattle.program_images.specs.declared.fault.ElfFault.{ElfFault}
+use Rattle.program_images.specs.declared.fault.ElfFault.TheVariants as elf
 use Rattle.programs.specs.Program.{image_of_file, program_of}
 use Rattle.programs.specs.RunFaults.{fault_of_elf}
 use Rattle.programs.specs.declared.program.ProgramForm.TheVariants as form

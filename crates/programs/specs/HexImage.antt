@@ -1,7 +1,7 @@
 -- The image of a program of words.
 use Rattle.std.specs.Prelude.{ℕ, ◌/◌, ◌%◌, List, [], ◌∷◌, ◌++◌}
-use Rattle.loader.specs.Image.{ImageValue}
-use Rattle.loader.specs.Segment.{SegmentValue}
+use Rattle.program_images.specs.Image.{ImageValue}
+use Rattle.program_images.specs.Segment.{SegmentValue}
 
 -- where the words begin, which is also the entry
 abbrev pub hex_base : ℕ

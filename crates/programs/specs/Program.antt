@@ -3,8 +3,8 @@ use Rattle.std.specs.Prelude.{ℕ, List}
 use Rattle.std.specs.declared.result.Result.{Result}
 use Rattle.std.specs.declared.result.Result.TheVariants.{Ok, Err}
 use Rattle.loader.specs.File.{loaded}
-use Rattle.loader.specs.Image.{ImageValue}
-use Rattle.loader.specs.declared.fault.ElfFault.{ElfFault}
+use Rattle.program_images.specs.Image.{ImageValue}
+use Rattle.program_images.specs.declared.fault.ElfFault.{ElfFault}
 use Rattle.programs.specs.HexImage.{hex_image_of}
 use Rattle.programs.specs.HexText.{words_of}
 use Rattle.programs.specs.RunFaults.{fault_of_elf, fault_of_hex}

@@ -1,6 +1,6 @@
 -- The faults of a run, from those of its parts.
-use Rattle.loader.specs.declared.fault.ElfFault.{ElfFault}
-use Rattle.loader.specs.declared.fault.ElfFault.TheVariants as elf
+use Rattle.program_images.specs.declared.fault.ElfFault.{ElfFault}
+use Rattle.program_images.specs.declared.fault.ElfFault.TheVariants as elf
 use Rattle.machine.specs.declared.start.StartFault.{StartFault}
 use Rattle.machine.specs.declared.start.StartFault.TheVariants as start
 use Rattle.choice_texts.specs.declared.choice_text.ChoiceFault.{ChoiceFault}

@@ -4,7 +4,7 @@ ghost use Rattle.std.specs.Prelude.{◌≡◌, ◌≤◌, length, IfOk};
 ghost use Rattle.programs.specs.HexImage.{bytes_of, hex_image_of, word_bytes};
 ghost use Rattle.programs.specs.HexText.{most_words};
 
-use loader::{Image, Rights, Segment};
+use program_images::{Image, Rights, Segment};
 use std::alloc::{AllocError, Allocator};
 
 /// Where the words begin, which is also the entry.

@@ -2,7 +2,7 @@
 
 ghost use Rattle.std.specs.Prelude.{◌≡◌, ◌≢◌, ◌^◌, ◌-◌, ◌<◌, ℕ, List, Ok, Err, IfOk, IfErr, IfSome, length};
 ghost use Rattle.std.specs.List.{All};
-ghost use Rattle.loader.specs.Image.{ImageValue};
+ghost use Rattle.program_images.specs.Image.{ImageValue};
 ghost use Rattle.machine.specs.Start.{IsStartable};
 ghost use Rattle.choice_texts.specs.Reading.{choices_of};
 ghost use Rattle.programs.specs.Opening.{opening, with_choices};
@@ -13,8 +13,8 @@ use crate::program::{ProgramForm, read_image};
 use crate::run_fault::{Input, RunFault};
 use choice_texts::read_choices;
 use devices::{ReadFault, Source, read_all};
-use loader::Image;
 use machine::{Choice, check_inputs};
+use program_images::Image;
 use std::alloc::Allocator;
 
 /// What a run begins with, its choices unread.

@@ -8,7 +8,8 @@ use crate::hex::read_hex;
 use crate::hex_program::hex_image;
 use crate::run_fault::{Input, RunFault};
 use devices::{ReadFault, Source, read_all};
-use loader::{Image, load};
+use loader::load;
+use program_images::Image;
 use std::alloc::Allocator;
 
 /// How a program is written.

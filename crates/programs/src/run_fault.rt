@@ -6,8 +6,8 @@ ghost use Rattle.programs.specs.RunFaults.{status_of_fault, fault_of_elf, fault_
 use crate::hex::HexFault;
 use choice_texts::ChoiceFault;
 use devices::Status;
-use loader::ElfFault;
 use machine::StartFault;
+use program_images::ElfFault;
 use thiserror::Error;
 
 /// An input of a run.

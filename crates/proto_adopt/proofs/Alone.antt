@@ -1,6 +1,6 @@
 -- The AdoptCommit object: one object, and its first and last instructions.
 use Rattle.std.proofs.Common.{◌≡◌, ℕ, ◌+◌, ◌-◌, ◌*◌, ◌<◌, ◌≤◌, Bool, true, false, List, length, Some, refl, ap, ◌⊎◌, inl, inr, arith, eq-eqb}
-use Rattle.loader.specs.Image.{ImageValue}
+use Rattle.program_images.specs.Image.{ImageValue}
 use Rattle.memory.specs.Access.{fetched}
 use Rattle.reservations.specs.Marks.{Marks}
 use Rattle.isa_table.specs.Decoded.{decoded}

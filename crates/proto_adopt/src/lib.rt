@@ -2,12 +2,12 @@
 #![tactic(auto)]
 
 ghost use Rattle.std.specs.Prelude.{◌≡◌, ◌+◌, ◌*◌, ◌≤◌, ℕ, IfOk};
-ghost use Rattle.loader.specs.Image.{ImageValue};
+ghost use Rattle.program_images.specs.Image.{ImageValue};
 ghost use Rattle.protocol_library.specs.Images.{adopt_image as image_for, image_of, IsSame};
 ghost use Rattle.protocol_library.specs.Rules.{EveryRun, EndsAfter, KeepsAdoptCommit};
 ghost use Rattle.protocol_library.specs.declared.kind.Kind.TheVariants.{AdoptCommit};
 
-use loader::Image;
+use program_images::Image;
 pub use proto_rounds::rounds_image;
 use protocol_library::{Kind, make_image};
 use std::alloc::{AllocError, Allocator};

@@ -5,7 +5,7 @@ use Rattle.std.specs.List.{AllByRecursion, All, Contains}
 use Rattle.std.proofs.lemmas.List.Elements.{recursion_from_All}
 use Rattle.std.proofs.lemmas.List.{length-set, get_or-map, length-map}
 use Rattle.std.proofs.lemmas.Option.{slice_get-get_or}
-use Rattle.loader.specs.Image.{ImageValue}
+use Rattle.program_images.specs.Image.{ImageValue}
 use Rattle.memory.specs.Memory.{Memory}
 use Rattle.reservations.specs.Marks.{names, word_of, with_mark, without_mark}
 use Rattle.isa_table.specs.Decoded.{decoded}

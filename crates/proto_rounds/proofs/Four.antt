@@ -1,6 +1,6 @@
 -- The Rounds object: four adopt-commit objects in a row, its first and last instructions, and those that lead from one object to the next.
 use Rattle.std.proofs.Common.{◌≡◌, ◌≢◌, ℕ, zero, suc, ◌+◌, ◌-◌, ◌*◌, ◌<◌, ◌≤◌, Bool, true, false, List, length, Some, refl, ap, ◌⊎◌, inl, inr, arith, eq-eqb, ne_eqb}
-use Rattle.loader.specs.Image.{ImageValue}
+use Rattle.program_images.specs.Image.{ImageValue}
 use Rattle.memory.specs.Access.{fetched}
 use Rattle.reservations.specs.Marks.{Marks}
 use Rattle.isa_table.specs.Decoded.{decoded}

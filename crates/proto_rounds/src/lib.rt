@@ -2,12 +2,12 @@
 #![tactic(auto)]
 
 ghost use Rattle.std.specs.Prelude.{◌≡◌, ◌+◌, ◌*◌, ◌≤◌, IfOk};
-ghost use Rattle.loader.specs.Image.{ImageValue};
+ghost use Rattle.program_images.specs.Image.{ImageValue};
 ghost use Rattle.protocol_library.specs.Images.{image_of, IsSame};
 ghost use Rattle.protocol_library.specs.Rules.{EveryRun, EndsAfter, KeepsAdoptCommit};
 ghost use Rattle.protocol_library.specs.declared.kind.Kind.TheVariants.{Rounds};
 
-use loader::Image;
+use program_images::Image;
 use protocol_library::{Kind, make_image};
 use std::alloc::{AllocError, Allocator};
 

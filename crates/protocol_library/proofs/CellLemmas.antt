@@ -2,10 +2,10 @@
 use Rattle.std.proofs.Common.{◌≡◌, ◌≢◌, ℕ, zero, suc, ◌+◌, ◌-◌, ◌*◌, ◌/◌, ◌%◌, ◌^◌, ◌<◌, ◌≤◌, Bool, true, false, ◌&&◌, ◌||◌, nat_le, nat_lt, List, [], ◌∷◌, length, get_or, take, Option, Some, None, refl, sym, ap, ◌∙◌, ◌⊎◌, inl, inr, arith, subst}
 use Rattle.std.proofs.Math.Nat.{zero-div}
 use Rattle.std.proofs.lemmas.List.Folds.{list_any_more}
-use Rattle.loader.specs.Image.{ImageValue, IsSound, span_of}
-use Rattle.loader.proofs.Sound.{extent_from_sound}
-use Rattle.loader.specs.Segment.{SegmentValue}
-use Rattle.loader.specs.Spans.{has_address}
+use Rattle.program_images.specs.Image.{ImageValue, IsSound, span_of}
+use Rattle.program_images.proofs.Sound.{extent_from_sound}
+use Rattle.program_images.specs.Segment.{SegmentValue}
+use Rattle.program_images.specs.Spans.{has_address}
 use Rattle.memory.specs.Image.{segment_at, rights_in, byte_in, segments_memory, image_memory}
 use Rattle.machine.specs.Start.{started, first_harts}
 use Rattle.protocol_library.specs.Images.{bytes_of, object_image, words_of, zeros_of, image_of, cell, cell_in, IsSame}

@@ -1,8 +1,8 @@
 -- The bytes of words one word at a time, and the images of the objects.
 use Rattle.std.proofs.Common.{◌≡◌, ℕ, zero, suc, ◌+◌, ◌/◌, ◌%◌, ◌^◌, ◌<◌, List, [], ◌∷◌, ◌++◌, length, get_or, take, Result, Ok, refl, sym, ◌∙◌, ap, arith}
-use Rattle.loader.specs.Image.{ImageValue, image_or_fault, image_fault, Gives}
-use Rattle.loader.specs.Spans.{space_fault}
-use Rattle.loader.specs.declared.fault.ElfFault.{ElfFault}
+use Rattle.program_images.specs.Image.{ImageValue, image_or_fault, image_fault, Gives}
+use Rattle.program_images.specs.Spans.{space_fault}
+use Rattle.program_images.specs.declared.fault.ElfFault.{ElfFault}
 use Rattle.protocol_library.specs.Images.{bytes_of, image_of}
 use Rattle.protocol_library.specs.declared.kind.Kind.{Kind}
 use Rattle.protocol_library.specs.declared.kind.Kind.TheVariants.{Swap, Add, LrSc, AdoptCommit, Rounds}

@@ -1,9 +1,9 @@
 -- What a comparison of an image with an object's goes through. `Images` says what it decides.
 use Rattle.std.specs.Prelude.{◌≡◌, ℕ, ◌+◌, ◌-◌, ◌*◌, ◌/◌, ◌%◌, ◌^◌, ◌<◌, ◌≤◌, Bool, true, ◌&&◌, nat_le, nat_lt, if◌then◌else◌, List, length, Option, Some, None, slice_index, slice_index_or}
 use Rattle.std.specs.List.{list_any}
-use Rattle.loader.specs.Image.{ImageValue, span_of}
-use Rattle.loader.specs.Segment.{SegmentValue}
-use Rattle.loader.specs.Spans.{has_address}
+use Rattle.program_images.specs.Image.{ImageValue, span_of}
+use Rattle.program_images.specs.Segment.{SegmentValue}
+use Rattle.program_images.specs.Spans.{has_address}
 use Rattle.protocol_library.specs.Images.{cell}
 
 -- the byte and the rights that an object of these words and so many zeros has at an address

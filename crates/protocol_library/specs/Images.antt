@@ -1,7 +1,7 @@
 -- The programs of the consensus objects: their words, and the images that they make.
 use Rattle.std.specs.Prelude.{◌≡◌, ℕ, ◌+◌, ◌-◌, ◌*◌, ◌/◌, ◌%◌, ◌^◌, List, [], ◌∷◌, length, Option, Some, None, slice_index}
-use Rattle.loader.specs.Image.{ImageValue}
-use Rattle.loader.specs.Segment.{SegmentValue}
+use Rattle.program_images.specs.Image.{ImageValue}
+use Rattle.program_images.specs.Segment.{SegmentValue}
 use Rattle.memory.specs.Image.{segment_at}
 use Rattle.reservations.specs.Limit.{most_harts}
 use Rattle.protocol_library.specs.declared.kind.Kind.{Kind}

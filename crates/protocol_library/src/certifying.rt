@@ -1,13 +1,13 @@
 //! Recognition: whether an image is an object's.
 ghost use Rattle.std.specs.Prelude.{◌≡◌, ◌≢◌, ℕ, ◌+◌, ◌*◌, ◌^◌, ◌≤◌, length, slice_index, true, false};
-ghost use Rattle.loader.specs.Image.{IsSound};
+ghost use Rattle.program_images.specs.Image.{IsSound};
 ghost use Rattle.protocol_library.specs.Images.{cell, image_of, IsSame};
 ghost use Rattle.protocol_library.specs.Cells.{known, AgreeOn, AgreeWhereCovered, Differ, Matches, EndInRange};
 
 use crate::entry::{words, zeros};
 use crate::kind::Kind;
 use bitflags::Flags;
-use loader::{Image, Rights, Segment};
+use program_images::{Image, Rights, Segment};
 use std::alloc::Allocator;
 
 /// Whether an image is an object's: the same entry, and at each address the same byte with the same rights, whatever its

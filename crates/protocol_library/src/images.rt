@@ -4,7 +4,7 @@ ghost use Rattle.protocol_library.specs.Images.{bytes_of, image_of, object_image
 
 use crate::entry::{words, zeros};
 use crate::kind::Kind;
-use loader::{Image, Rights, Segment};
+use program_images::{Image, Rights, Segment};
 use std::alloc::{AllocError, Allocator};
 
 /// The bytes of words, the lowest byte of each first.

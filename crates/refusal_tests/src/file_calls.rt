@@ -1,10 +1,11 @@
 //! Calls that read files and images, and that make memories of them.
 use flat_memory::FlatStore;
 use listing::{line_of, list_image};
-use loader::{ElfFault, Image, Rights, Segment, SymFault, load, symbols};
+use loader::{SymFault, load, symbols};
 use local_steps::Code;
 use memory::{FromImage, Store, StoreFault};
 use pages::PageStore;
+use program_images::{ElfFault, Image, Rights, Segment};
 use refusing::{Call, tried};
 use std::alloc::{AllocError, Allocator, Global};
 

@@ -1,8 +1,8 @@
 //! Calls of a debugger, each at one place: how it is made, its moves, its breakpoints and its commands.
 use debug_commands::{Answer, DebugFault, command};
 use debugger::{Debugger, MoveFault, Stop};
-use loader::{Image, Rights, Segment};
 use machine::Choice;
+use program_images::{Image, Rights, Segment};
 use refusing::{Call, tried};
 use std::alloc::{AllocError, Allocator, Global};
 

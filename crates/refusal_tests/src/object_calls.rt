@@ -1,5 +1,5 @@
 //! Calls that make the objects' images and tables.
-use loader::Image;
+use program_images::Image;
 use proto_adopt::{adopt_image, rounds_image};
 use proto_amo::{add_image, swap_image};
 use proto_lrsc::lrsc_image;

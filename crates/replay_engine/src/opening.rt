@@ -2,7 +2,7 @@
 
 ghost use Rattle.std.specs.Prelude.{◌≡◌, ◌≢◌, ◌^◌, ◌-◌, ◌<◌, Ok, Err, IfOk, IfErr, IfSome, length};
 ghost use Rattle.std.specs.List.{All};
-ghost use Rattle.loader.specs.Image.{ImageValue};
+ghost use Rattle.program_images.specs.Image.{ImageValue};
 ghost use Rattle.machine.specs.Start.{IsStartable};
 ghost use Rattle.programs.specs.Program.{program_of};
 ghost use Rattle.programs.specs.declared.program.ProgramForm.{ProgramForm};
@@ -11,8 +11,8 @@ ghost use Rattle.replay_engine.specs.Replay.{replay_opening, IsRefusal, IfReads}
 use crate::fault::ReplayFault;
 use devices::{ReadFault, Source, read_all};
 use histories::{Entry, read_history};
-use loader::Image;
 use machine::check_inputs;
+use program_images::Image;
 use programs::{ProgramForm, RunFault, read_image};
 use std::alloc::Allocator;
 

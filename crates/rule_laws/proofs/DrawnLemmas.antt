@@ -1,7 +1,7 @@
 -- Campaigns of an object under schedules of any kind.
 use Rattle.std.proofs.Common.{◌≡◌, ℕ, ◌^◌, ◌<◌, Bool, true, false, ◌||◌, List, [], ◌∷◌, length, Some, refl, ap, ap₂, sym, subst, ◌∙◌, inl, inr}
 use Rattle.std.specs.List.{All, range_with_len}
-use Rattle.loader.specs.Image.{ImageValue}
+use Rattle.program_images.specs.Image.{ImageValue}
 use Rattle.machine.specs.Start.{started}
 use Rattle.machine.specs.World.{run}
 use Rattle.schedule_kinds.specs.Kinds.{kind_choices}

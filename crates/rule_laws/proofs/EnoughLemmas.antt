@@ -2,7 +2,7 @@
 use Rattle.std.proofs.Common.{suc, ◌≡◌, ℕ, ◌^◌, ◌<◌, true, false, ◌||◌, cond, List, [], ◌∷◌, length, ltb, le-ltb, ne_eqb, slice_index_or, Option, Some, Ok, Err, refl, arith, ap, ap₂, sym, subst, ◌∙◌}
 use Rattle.std.specs.List.{All}
 use Rattle.reservations.specs.Limit.{most_harts}
-use Rattle.loader.specs.Image.{ImageValue}
+use Rattle.program_images.specs.Image.{ImageValue}
 use Rattle.hart_step.specs.Hart.{HartValue}
 use Rattle.hart_step.specs.declared.hart.HartState.{HartState}
 use Rattle.hart_step.specs.declared.hart.HartState.TheVariants.{Running, Exited, Faulted}

@@ -1,7 +1,7 @@
 -- Campaigns of an object whose choices are drawn from all harts.
 use Rattle.std.proofs.Common.{◌≡◌, ℕ, ◌^◌, ◌<◌, false, cond, ltb, List, [], ◌∷◌, length, filter, Option, Some, refl, ap, sym, subst, ◌∙◌}
 use Rattle.std.specs.List.{All, range_with_len}
-use Rattle.loader.specs.Image.{ImageValue}
+use Rattle.program_images.specs.Image.{ImageValue}
 use Rattle.campaigns.specs.Campaign.{plain_run, plain_runs, runs_of, seed_ends}
 use Rattle.scheduler.specs.Schedules.{seeded_choices}
 use Rattle.devices.specs.declared.status.Status.TheVariants as status

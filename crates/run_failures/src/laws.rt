@@ -1,6 +1,6 @@
 //! A law of failures.
 ghost use Rattle.std.specs.Prelude.{◌≡◌, ℕ, List, Option, Some};
-ghost use Rattle.loader.specs.Image.{ImageValue};
+ghost use Rattle.program_images.specs.Image.{ImageValue};
 ghost use Rattle.machine.specs.declared.choice.Choice.{Choice};
 ghost use Rattle.protocol_library.specs.declared.kind.Kind.{Kind};
 ghost use Rattle.run_failures.specs.Failure.{failure_after, RunFailsSo};

@@ -8,8 +8,8 @@ ghost use Rattle.run_failures.specs.Failure.{failure_after, RunFailsSo};
 use crate::failure::{Failure, fails_so, failure_of};
 use choice_shrinking::Failing;
 use flat_memory::FlatStore;
-use loader::Image;
 use machine::{Choice, Machine};
+use program_images::Image;
 use protocol_library::Kind;
 use std::alloc::{AllocError, Allocator};
 

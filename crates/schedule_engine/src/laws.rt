@@ -1,7 +1,7 @@
 //! Laws of schedules and campaigns.
 
 ghost use Rattle.std.specs.Prelude.{ℕ, List, length};
-ghost use Rattle.loader.specs.Image.{ImageValue};
+ghost use Rattle.program_images.specs.Image.{ImageValue};
 ghost use Rattle.machine.specs.Start.{IsStartable};
 ghost use Rattle.choice_texts.specs.Printing.{choices_text};
 ghost use Rattle.scheduler.specs.Schedules.{seeded_choices};

@@ -2,7 +2,7 @@
 use Rattle.std.proofs.Common.{◌≡◌, ℕ, List, take, Option, Some, None, Ok, Err, refl, ap, sym, subst, ◌∙◌}
 use Rattle.std.specs.Io.KnownBytes.{Appends}
 use Rattle.std.specs.Option.{IfSome}
-use Rattle.loader.specs.Image.{ImageValue}
+use Rattle.program_images.specs.Image.{ImageValue}
 use Rattle.programs.specs.Program.{program_of}
 use Rattle.programs.specs.declared.program.ProgramForm.TheVariants as form
 use Rattle.programs.specs.declared.run_fault.RunFault.{RunFault}

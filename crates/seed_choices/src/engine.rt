@@ -14,8 +14,8 @@ use crate::plan::SeedPlan;
 use choice_texts::print_choices;
 use devices::{Sink, Source, Status, write_all};
 use flat_memory::FlatStore;
-use loader::Image;
 use machine::{Machine, check_inputs};
+use program_images::Image;
 use programs::{ProgramForm, RunFault, read_image};
 use std::alloc::{AllocError, Allocator};
 

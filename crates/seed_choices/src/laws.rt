@@ -1,7 +1,7 @@
 //! Laws of written seeds.
 
 ghost use Rattle.std.specs.Prelude.{ℕ, List, length};
-ghost use Rattle.loader.specs.Image.{ImageValue};
+ghost use Rattle.program_images.specs.Image.{ImageValue};
 ghost use Rattle.machine.specs.Start.{IsStartable, started};
 ghost use Rattle.choice_texts.specs.Printing.{choices_text};
 ghost use Rattle.schedule_kinds.specs.Kinds.{kind_choices};

@@ -1,7 +1,8 @@
 //! What no clause says: worked sources, their files as they load, and devices and memory that fail.
 use asm_engine::{AssemblyFault, assembled_file, listing_engine, write_file};
 use devices::{Failing, FullSink, MemorySink, MemorySource, Status};
-use loader::{ElfFault, load};
+use loader::load;
+use program_images::ElfFault;
 use protocol_library::{Kind, certify, source};
 use refusing::Refusing;
 use std::alloc::Global;

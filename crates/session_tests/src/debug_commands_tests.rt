@@ -2,7 +2,7 @@
 use choice_texts::read_choices;
 use debug_commands::{Answer, DebugFault, command};
 use debugger::Debugger;
-use loader::Image;
+use program_images::Image;
 use programs::{hex_image, read_hex};
 use refusing::Refusing;
 use reservations::MAX_HARTS;

@@ -1,7 +1,7 @@
 //! What no clause says: a transcript, lines that are no text, devices that fail, and refused memory.
 use debug_engine::{DebugEngineFault, debug_engine};
 use devices::{Failing, MemorySink, MemorySource, Status};
-use loader::ElfFault;
+use program_images::ElfFault;
 use programs::{Input, RunFault};
 use progress::Unheard;
 use refusing::Refusing;

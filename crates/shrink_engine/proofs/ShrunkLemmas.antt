@@ -2,7 +2,7 @@
 use Rattle.std.proofs.Common.{◌≡◌, ℕ, suc, ◌^◌, ◌<◌, List, [], ◌∷◌, length, Option, Some, sym, subst, ap, ◌∙◌, arith, inl, inr}
 use Rattle.std.specs.List.{All}
 use Rattle.std.proofs.lemmas.List.Elements.{All-nil, All-cons}
-use Rattle.loader.specs.Image.{ImageValue}
+use Rattle.program_images.specs.Image.{ImageValue}
 use Rattle.machine.specs.declared.choice.Choice.{Choice}
 use Rattle.choice_texts.specs.Printing.{runs_text}
 use Rattle.choice_texts.specs.Reading.{choices_of}

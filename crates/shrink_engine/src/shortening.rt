@@ -10,8 +10,8 @@ use crate::fault::ShrinkFault;
 use choice_shrinking::{ChoicesLeft, shrink_choices};
 use choice_texts::print_runs;
 use exit_failures::{Demands, SameExitFailure, exit_failure_after};
-use loader::Image;
 use machine::Choice;
+use program_images::Image;
 use programs::RunFault;
 use std::alloc::{AllocError, Allocator};
 

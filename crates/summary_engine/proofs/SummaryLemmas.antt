@@ -5,7 +5,7 @@ use Rattle.std.proofs.lemmas.Grind.{common_steps}
 use Rattle.std.proofs.lemmas.List.{length-append, length-map, map-append}
 use Rattle.std.proofs.lemmas.List.FromFn.{length-range_with_len}
 use Rattle.std.specs.List.{range_with_len}
-use Rattle.loader.specs.Image.{ImageValue}
+use Rattle.program_images.specs.Image.{ImageValue}
 use Rattle.campaigns.specs.Campaign.{SeedEnds, ends_of, seed_ends}
 use Rattle.campaigns.specs.declared.seed_run.SeedRun.{SeedRun}
 use Rattle.campaign_engine.specs.Campaign.{bad_runs}

@@ -3,7 +3,7 @@ use Rattle.std.specs.Prelude.{ℕ, ◌==◌, nat_lt, List, length, if◌then◌e
 use Rattle.std.specs.declared.result.Result.{Result}
 use Rattle.std.specs.declared.result.Result.TheVariants.{Ok, Err}
 use Rattle.reservations.specs.Limit.{most_harts}
-use Rattle.loader.specs.Image.{ImageValue}
+use Rattle.program_images.specs.Image.{ImageValue}
 use Rattle.campaigns.specs.Campaign.{SeedEnds, plain_runs}
 use Rattle.campaign_engine.specs.Campaign.{status_of_runs}
 use Rattle.engines.specs.Run.{Answer}

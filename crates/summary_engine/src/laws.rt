@@ -1,7 +1,7 @@
 //! Laws of summaries.
 
 ghost use Rattle.std.specs.Prelude.{◌≡◌, ℕ, List};
-ghost use Rattle.loader.specs.Image.{ImageValue};
+ghost use Rattle.program_images.specs.Image.{ImageValue};
 ghost use Rattle.outcomes.specs.Tally.{seeds_in, tally_of};
 ghost use Rattle.summary_engine.specs.Answers.{planned_runs};
 ghost use Rattle.summary_engine.specs.Outcomes.{outcomes_of};

@@ -6,7 +6,7 @@ use campaign_engine::{CampaignPlan, campaign_engine};
 use campaigns::{SeedRun, campaign};
 use devices::{Failing, FullSink, MemorySink, MemorySource, Status};
 use hart_step::{Hart, HartState};
-use loader::ElfFault;
+use program_images::ElfFault;
 use programs::{Input, ProgramForm, RunFault, read_program};
 use progress::Unheard;
 use protocol_library::Kind;

@@ -1,7 +1,7 @@
 //! Programs for tests, and their books.
 use book::Book;
 use hart_threads::Plan;
-use loader::{Image, Rights, Segment};
+use program_images::{Image, Rights, Segment};
 use protocol_library::{Kind, make_image};
 use std::alloc::{AllocError, Allocator};
 use std::collections::BTreeSet;

@@ -1,7 +1,7 @@
 -- Bytes that one segment has.
 use Rattle.std.proofs.Common.{◌≡◌, ℕ, zero, suc, ◌+◌, ◌-◌, ◌<◌, ◌≤◌, Bool, true, false, not, ◌&&◌, List, [], ◌∷◌, Option, Some, refl, ap, ap₂, sym, ◌∙◌, arith}
 use Rattle.std.specs.Prelude.{slice_index, slice_index_or}
-use Rattle.loader.specs.Segment.{SegmentValue}
+use Rattle.program_images.specs.Segment.{SegmentValue}
 use Rattle.memory.specs.Memory.{grants, granted, all_below, to_write}
 use Rattle.memory.specs.Image.{segments_memory, segment_at, byte_in, rights_in}
 use Rattle.banks_table.specs.Table.{is_unwritable}

@@ -1,14 +1,14 @@
 //! The rights and the bytes of an image.
 ghost use Rattle.std.specs.Prelude.{◌≡◌, ℕ, ◌+◌, ◌<◌, ◌≤◌, Some, IfSome, option_map};
 ghost use Rattle.std.specs.Option.{is_some};
-ghost use Rattle.loader.specs.Image.{span_of};
-ghost use Rattle.loader.specs.Spans.{has_address};
+ghost use Rattle.program_images.specs.Image.{span_of};
+ghost use Rattle.program_images.specs.Spans.{has_address};
 ghost use Rattle.memory.specs.Memory.{grants, granted};
 ghost use Rattle.memory.specs.Image.{segments_memory, segment_at, byte_in, rights_in};
 ghost use Rattle.banks_table.specs.Table.{is_unwritable};
 ghost use Rattle.banks_table.specs.Words.{bytes_at};
 
-use loader::{Rights, Segment};
+use program_images::{Rights, Segment};
 use std::alloc::Allocator;
 
 /// Whether a segment has an address.

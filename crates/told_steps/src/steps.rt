@@ -15,8 +15,8 @@ use crate::image::{granted, is_unwritable};
 use crate::words::{ToldMemory, Word};
 use hart_step::{Access, AccessKind, Hart, HartState, access_by, step_hart};
 use isa_table::Instr;
-use loader::{Image, Rights};
 use memory::{FetchFault, Store};
+use program_images::{Image, Rights};
 use reservations::Reserve;
 use std::alloc::Allocator;
 

@@ -12,8 +12,8 @@ ghost use Rattle.told_steps.specs.Told.{has_all, told_memory, with_told};
 use crate::image::{byte_at, bytes_at, granted, is_mapped};
 use decoder::decode;
 use isa_table::Instr;
-use loader::{Image, Rights};
 use memory::{AccessFault, FetchFault, Store, StoreFault};
+use program_images::{Image, Rights};
 use std::alloc::Allocator;
 
 /// A word with its bytes.

@@ -1,7 +1,7 @@
 -- Choices that are done one after the other.
 use Rattle.std.proofs.Common.{◌≡◌, ℕ, zero, suc, ◌+◌, ◌-◌, ◌≤◌, List, [], ◌∷◌, ◌++◌, length, take, drop, Some, None, refl, ap, sym, subst, ◌∙◌, arith}
 use Rattle.std.proofs.lemmas.List.{take_all, drop_all, length-drop}
-use Rattle.loader.specs.Image.{ImageValue}
+use Rattle.program_images.specs.Image.{ImageValue}
 use Rattle.machine.specs.World.{World, step, run}
 use Rattle.machine.specs.Start.{started}
 use Rattle.machine.specs.declared.choice.Choice.{Choice}

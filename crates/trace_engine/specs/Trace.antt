@@ -1,6 +1,6 @@
 -- What `trace` writes: what stands before the choices that are told, and then what each of them did.
 use Rattle.std.specs.Prelude.{ℕ, ◌+◌, ◌-◌, min, max, List, [], ◌∷◌, ◌++◌, length, take, drop, Option, Some, None}
-use Rattle.loader.specs.Image.{ImageValue}
+use Rattle.program_images.specs.Image.{ImageValue}
 use Rattle.loader.specs.Symbol.{SymbolValue}
 use Rattle.reservations.specs.Marks.{Marks}
 use Rattle.hart_step.specs.Hart.{HartValue}

@@ -1,7 +1,7 @@
 //! How a trace begins: the program with its symbols, the number of inputs and the choice text, read once, in this order.
 
 ghost use Rattle.std.specs.Prelude.{◌≡◌, ◌≢◌, ◌^◌, ◌-◌, ◌<◌, Ok, Err, IfOk, IfErr, IfSome, length};
-ghost use Rattle.loader.specs.Image.{ImageValue};
+ghost use Rattle.program_images.specs.Image.{ImageValue};
 ghost use Rattle.machine.specs.Start.{IsStartable};
 ghost use Rattle.choice_texts.specs.Reading.{choices_of};
 ghost use Rattle.programs.specs.Opening.{opening, with_choices};
@@ -11,8 +11,9 @@ ghost use Rattle.trace_engine.specs.Answer.{after_opening, program_symbols, trac
 ghost use Rattle.trace_engine.specs.declared.plan.TracePlan.{TracePlan};
 
 use devices::{ReadFault, Source, read_all};
-use loader::{Image, SymFault, Symbol, symbols};
+use loader::{SymFault, Symbol, symbols};
 use machine::check_inputs;
+use program_images::Image;
 use programs::{Input, ProgramForm, RunFault, read_program};
 use std::alloc::{AllocError, Allocator};
 

@@ -7,8 +7,8 @@ ghost use Rattle.choice_traces.specs.Latest.{words_of};
 use crate::cursor::Cursor;
 use choice_traces::{Latest, Told, tell_step};
 use flat_memory::FlatStore;
-use loader::Image;
 use machine::{Choice, Machine};
+use program_images::Image;
 use std::alloc::{AllocError, Allocator};
 use trace_texts::HartThen;
 

@@ -1,5 +1,5 @@
 use Rattle.std.proofs.Common.{arith, rules, subst, ap, ◌∙◌, ◌≡◌, ℕ, List, [], ◌∷◌}
-use Rattle.loader.specs.Image.{ImageValue}
+use Rattle.program_images.specs.Image.{ImageValue}
 use Rattle.hart_logs.specs.HartLog.{HartLogValue}
 use Rattle.banked_tests.proofs.ProgramLemmas.{by_hand, Banks}
 use Rattle.banked_tests.proofs.merging.by_hand.Goals as goal

@@ -1,6 +1,6 @@
 use Rattle.std.proofs.Common.{rules}
 use Rattle.std.proofs.lemmas.List.Sorted.{IsNonDecreasingBy-from_sort_by_key}
-use Rattle.loader.specs.Segment.{SegmentValue}
+use Rattle.program_images.specs.Segment.{SegmentValue}
 use Rattle.flat_memory.specs.Blocks.{IsInOrder}
 use Rattle.flat_memory.proofs.BuildLemmas.{sorted_order, sorted_memory}
 use Rattle.flat_memory.proofs.building.blocks_of.Goals as goal

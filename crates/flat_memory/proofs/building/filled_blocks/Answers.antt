@@ -1,4 +1,4 @@
-use Rattle.loader.proofs.Sound.{extent_from_sound}
+use Rattle.program_images.proofs.Sound.{extent_from_sound}
 use Rattle.flat_memory.proofs.building.filled_blocks.Goals as goal
 
 pub of_segment-requires-clause-in_range : goal.of_segment-requires-clause-in_range

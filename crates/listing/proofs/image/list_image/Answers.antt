@@ -2,7 +2,7 @@ use Rattle.std.proofs.Common.{◌≡◌, rules, map, string_bytes}
 use Rattle.std.proofs.lemmas.List.Sorted.{IsNonDecreasingBy-from_sort_by_key}
 use Rattle.std.specs.List.{flat_map}
 use Rattle.std.specs.Borrow.{Bor}
-use Rattle.loader.specs.Segment.{SegmentValue}
+use Rattle.program_images.specs.Segment.{SegmentValue}
 use Rattle.listing.specs.Segments.{segment_text, now_of}
 use Rattle.listing.proofs.SegmentLemmas.{all_have_room, lists_segments}
 use Rattle.listing.proofs.image.list_image.Goals as goal

@@ -1,7 +1,7 @@
 use Rattle.std.proofs.Common.{◌+◌, ◌/◌, ◌∙◌, ap, min, max}
 use Rattle.std.proofs.lemmas.List.{take_all}
 use Rattle.std.specs.Int.{div_ceil}
-use Rattle.loader.specs.Segment.{SegmentValue}
+use Rattle.program_images.specs.Segment.{SegmentValue}
 use Rattle.pages.proofs.SegmentLemmas.{between_next, covered_from}
 use Rattle.pages.proofs.filling.range_of.Goals as goal
 

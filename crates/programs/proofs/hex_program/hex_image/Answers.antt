@@ -1,6 +1,6 @@
 use Rattle.std.proofs.Common.{◌≡◌, ◌∷◌, [], Ok, ap, sym, rules, ◌∙◌}
 use Rattle.std.proofs.lemmas.Grind.{common_steps}
-use Rattle.loader.specs.Image.{image_or_fault}
+use Rattle.program_images.specs.Image.{image_or_fault}
 use Rattle.programs.specs.HexImage.{hex_segment, hex_image_of}
 use Rattle.programs.specs.HexImage.{hex_base}
 use Rattle.programs.proofs.HexImageLemmas.{hex_image_is}

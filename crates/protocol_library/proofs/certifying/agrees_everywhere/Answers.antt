@@ -1,5 +1,5 @@
 use Rattle.std.proofs.Common.{◌≤◌, ◌+◌, ◌^◌, subst, sym}
-use Rattle.loader.specs.Segment.{SegmentValue}
+use Rattle.program_images.specs.Segment.{SegmentValue}
 use Rattle.protocol_library.specs.Images.{cell}
 use Rattle.protocol_library.specs.Cells.{known, AgreeOn}
 use Rattle.protocol_library.proofs.CellLemmas.{more}

@@ -1,5 +1,5 @@
 use Rattle.std.proofs.Common.{ap, ◌∙◌, ◌-◌}
-use Rattle.loader.specs.Segment.{SegmentValue}
+use Rattle.program_images.specs.Segment.{SegmentValue}
 use Rattle.told_steps.proofs.ImageLemmas.{bytes_seen}
 use Rattle.told_steps.proofs.image.bytes_in_one.Goals as goal
 

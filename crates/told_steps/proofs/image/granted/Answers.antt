@@ -1,5 +1,5 @@
 use Rattle.std.proofs.Common.{sym, ap, ◌∙◌, ◌+◌, Some}
-use Rattle.loader.specs.Segment.{SegmentValue}
+use Rattle.program_images.specs.Segment.{SegmentValue}
 use Rattle.memory.specs.Memory.{grants}
 use Rattle.memory.specs.Image.{segments_memory}
 use Rattle.flat_memory.proofs.ReadLemmas.{all_below_fails}

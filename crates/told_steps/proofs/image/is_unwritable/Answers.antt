@@ -1,5 +1,5 @@
 use Rattle.std.proofs.Common.{sym, ap, ◌∙◌, not, Some}
-use Rattle.loader.specs.Segment.{SegmentValue}
+use Rattle.program_images.specs.Segment.{SegmentValue}
 use Rattle.memory.specs.Memory.{grants, to_write}
 use Rattle.told_steps.proofs.ImageLemmas.{unwritable_in_one}
 use Rattle.told_steps.proofs.image.is_unwritable.Goals as goal

@@ -1,5 +1,5 @@
 use Rattle.std.proofs.Common.{◌∙◌, sym, ap, arith, refl}
-use Rattle.loader.specs.Segment.{SegmentValue}
+use Rattle.program_images.specs.Segment.{SegmentValue}
 use Rattle.pages.specs.Building.{built}
 use Rattle.pages.proofs.SegmentLemmas.{over_none, over_whole, run_over_seen}
 use Rattle.pages.proofs.building.Building.add.Goals as goal

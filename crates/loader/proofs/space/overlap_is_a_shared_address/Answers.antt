@@ -1,5 +1,0 @@
-use Rattle.loader.proofs.Overlap.{shared_decides}
-use Rattle.loader.proofs.space.overlap_is_a_shared_address.Goals as goal
-
-pub returns : goal.returns
-returns c = shared_decides

@@ -1,0 +1,3 @@
+pub mod Overlap
+pub mod RightsLemmas
+pub mod Sound

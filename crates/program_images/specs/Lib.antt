@@ -1,0 +1,4 @@
+pub mod Fault
+pub mod Spans
+pub mod Segment
+pub mod Image
