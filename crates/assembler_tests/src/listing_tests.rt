@@ -1,8 +1,8 @@
 //! What no clause says: lines that another assembler takes for their words, listings written out by hand, and refused memory.
 use listing::{line_of, list_image, push_listing};
-use program_images::{Image, Rights, Segment};
 use refusing::Refusing;
 use std::alloc::{AllocError, Allocator, Global};
+use test_images::{PROGRAM_START, Part, image_of};
 
 // Texts at 0x00010000 and the words that GNU as made of them (`-march=rv32ia -mabi=ilp32`): each mnemonic, and each suffix, once.
 #[rattlefmt::skip]
@@ -168,45 +168,24 @@ fn words_are_followed_by_single_bytes(rt: HostRuntime) -> Result<(), AllocError>
     Ok(())
 }
 
-// A segment: its base, its size, its flags, and its first bytes.
-type Given = (u32, u32, u32, &'static [u8]);
-
-fn segment_of<A: Allocator>(alloc: A, given: &Given) -> Result<Segment<A>, AllocError> {
-    let (base, size, flags, bytes) = given;
-    Ok(Segment {
-        base: *base,
-        size: *size,
-        rights: Rights::of_flags(*flags),
-        bytes: Vec::from_slice(alloc, bytes)?,
-    })
-}
-
-// An image of segments.
-fn image_of<A: Allocator + Copy>(alloc: A, rows: &[Given]) -> Result<Image<A>, AllocError> {
-    let mut segments = Vec::new(alloc);
-    for given in rows {
-        segments.push(segment_of(alloc, given)?)?;
-    }
-    Image::new(alloc, 0x0001_0000, segments).map_err(|_| AllocError)
-}
-
 // The listing of an image of segments.
-fn listing_of<A: Allocator + Copy>(alloc: A, rows: &[Given]) -> Result<String<A>, AllocError> {
-    let image = image_of(alloc, rows)?;
+fn listing_of<A: Allocator + Copy>(alloc: A, parts: &[Part]) -> Result<String<A>, AllocError> {
+    let image = image_of(alloc, PROGRAM_START, parts)?;
     list_image(alloc, &image)
 }
 
 // Whether an image of segments has this listing; None where memory is refused.
-fn is_listed(alloc: Global, rows: &[Given], wanted: &str) -> Option<bool> {
-    let text = listing_of(alloc, rows).ok()?;
+fn is_listed(alloc: Global, parts: &[Part], wanted: &str) -> Option<bool> {
+    let text = listing_of(alloc, parts).ok()?;
     Some(text.as_str() == wanted)
 }
 
 // Segments that may be executed, and their listings.
-const UNALIGNED: [(Given, &str); 5] = [
-    ((0x0001_0000, 0, 1, &[]), ""),
+#[rattlefmt::skip]
+const UNALIGNED: [(Part, &str); 5] = [
+    (Part { base: 0x0001_0000, size: 0, flags: 1, bytes: &[] }, ""),
     (
-        (0x0001_0003, 6, 1, &[1, 0x13, 0, 0, 0, 2]),
+        Part { base: 0x0001_0003, size: 6, flags: 1, bytes: &[1, 0x13, 0, 0, 0, 2] },
         "# segment 00010003 6
 .byte 0x01  # 00010003
 addi zero, zero, 0  # 00010004 00000013
@@ -214,14 +193,14 @@ addi zero, zero, 0  # 00010004 00000013
 ",
     ),
     (
-        (0x0001_0001, 2, 1, &[1, 2]),
+        Part { base: 0x0001_0001, size: 2, flags: 1, bytes: &[1, 2] },
         "# segment 00010001 2
 .byte 0x01  # 00010001
 .byte 0x02  # 00010002
 ",
     ),
     (
-        (0x0001_0002, 4, 1, &[1, 2, 3, 4]),
+        Part { base: 0x0001_0002, size: 4, flags: 1, bytes: &[1, 2, 3, 4] },
         "# segment 00010002 4
 .byte 0x01  # 00010002
 .byte 0x02  # 00010003
@@ -230,7 +209,7 @@ addi zero, zero, 0  # 00010004 00000013
 ",
     ),
     (
-        (0xffff_fffc, 4, 1, &[0x13, 0, 0, 0]),
+        Part { base: 0xffff_fffc, size: 4, flags: 1, bytes: &[0x13, 0, 0, 0] },
         "# segment fffffffc 4
 addi zero, zero, 0  # fffffffc 00000013
 ",
@@ -239,19 +218,20 @@ addi zero, zero, 0  # fffffffc 00000013
 
 #[test]
 fn unaligned_ends_are_single_bytes(rt: HostRuntime) {
-    for (given, wanted) in &UNALIGNED {
+    for (part, wanted) in &UNALIGNED {
         assert!(rt;
-            is_listed(rt.alloc(), &[*given], wanted) == Some(true),
+            is_listed(rt.alloc(), &[*part], wanted) == Some(true),
             "{wanted}"
         );
     }
 }
 
 // An image with data between two pieces of text, the higher one first.
-const TWO_TEXTS: [Given; 3] = [
-    (0x0002_0000, 6, 5, &[0x73, 0, 0, 0]),
-    (0x0001_8000, 4, 6, &[0x13, 0, 0, 0]),
-    (0x0001_0000, 4, 1, &[0x13, 0, 0, 0]),
+#[rattlefmt::skip]
+const TWO_TEXTS: [Part; 3] = [
+    Part { base: 0x0002_0000, size: 6, flags: 5, bytes: &[0x73, 0, 0, 0] },
+    Part { base: 0x0001_8000, size: 4, flags: 6, bytes: &[0x13, 0, 0, 0] },
+    Part { base: 0x0001_0000, size: 4, flags: 1, bytes: &[0x13, 0, 0, 0] },
 ];
 
 const IMAGE_LISTING: &str = "# segment 00010000 4

@@ -1,6 +1,5 @@
 //! Runs over banks that are merged, and done again choice by choice.
 use crate::merging::{Lack, merged_with};
-use crate::programs::{Program, image_of, plan_of};
 use banked_threads::{Banked, run_banked};
 use banks::Bank;
 use banks_laws::LoggedAccess;
@@ -16,6 +15,7 @@ use reservations::Reserve;
 use std::alloc::Allocator;
 use std::sync::Wait;
 use std::thread::Threads;
+use test_programs::{Program, plan_of, program_image};
 
 /// A run over banks, and the choices that it is.
 #[derive(Drop)]
@@ -152,7 +152,7 @@ pub fn checked<A: Allocator + Copy + Send + Sync, G: Gate + Sync, R: Threads + W
     pairs: &[(u32, u32)],
     gate: &G,
 ) -> Result<Done<A>, Lack> {
-    let (Ok(image), Ok(plan)) = (image_of(alloc, program), plan_of(alloc, pairs)) else {
+    let (Ok(image), Ok(plan)) = (program_image(alloc, program), plan_of(alloc, pairs)) else {
         return Err(Lack::Memory);
     };
     let Merged { banked, choices } = run_merged(rt, alloc, &image, inputs, budget, &plan, gate)?;

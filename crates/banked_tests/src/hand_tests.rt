@@ -1,6 +1,6 @@
 //! Logs that are filled by hand: stamps, and what is merged and what isn't.
 use crate::merging::{Lack, by_hand};
-use crate::programs::{ADDITIONS, Program, STORES, image_of};
+use crate::programs::{ADDITIONS, STORES};
 use banks::{Bank, next_stamp};
 use banks_laws::{LoggedAccess, LoggedKind};
 use banks_merge::{MergeFault, merge};
@@ -8,6 +8,7 @@ use hart_logs::HartLog;
 use program_images::Image;
 use segment_order::LogSegment;
 use std::alloc::{AllocError, Allocator};
+use test_programs::{Program, program_image};
 
 /// The first store of the hart of `STORES` with the input 7.
 pub const FIRST: LoggedAccess = LoggedAccess {
@@ -138,7 +139,7 @@ const ROWS: [Row; 8] = [
 
 // How many choices a row's logs are merged to.
 fn count_merged<A: Allocator + Copy>(alloc: A, row: &Row) -> Result<usize, Lack> {
-    let Ok(image) = image_of(alloc, row.program) else {
+    let Ok(image) = program_image(alloc, row.program) else {
         return Err(Lack::Memory);
     };
     let first = segment(row.first.0, row.first.1);
@@ -179,7 +180,7 @@ fn bank_has_no_next<A: Allocator + Copy>(alloc: A, image: &Image<A>) -> bool {
 
 #[test]
 fn nothing_comes_behind_the_last_stamp(rt: HostRuntime) -> Result<(), AllocError> {
-    let image = image_of(rt.alloc(), STORES)?;
+    let image = program_image(rt.alloc(), STORES)?;
     assert!(rt; hart_has_no_next(rt.alloc(), &image) && bank_has_no_next(rt.alloc(), &image));
     Ok(())
 }

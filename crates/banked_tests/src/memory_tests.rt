@@ -5,7 +5,7 @@ ghost use Rattle.banks_merge.specs.Logs.{AreOfOne};
 use crate::checked::{checked, one_value};
 use crate::hand_tests::{FIRST, SECOND, segment};
 use crate::merging::{ByHand, by_hand};
-use crate::programs::{PROGRAM_START, Program, STORES, image_of};
+use crate::programs::STORES;
 use banks::Bank;
 use banks_merge::{MergeFault, merge};
 use choice_histories::history_of;
@@ -19,6 +19,8 @@ use refusing::{Call, Refusing, Shortage, tried};
 use std::alloc::{AllocError, Allocator, Global};
 use std::sync::Wait;
 use std::thread::Threads;
+use test_images::PROGRAM_START;
+use test_programs::{Program, program_image};
 
 const FIRST_HART: Choice = Choice {
     hart: 0,
@@ -215,7 +217,7 @@ enum Asking {
 
 impl Call for Asking {
     fn answer<A: Allocator + Copy>(&self, alloc: A, _host: Global) -> Result<bool, AllocError> {
-        let image = image_of(alloc, STORES)?;
+        let image = program_image(alloc, STORES)?;
         match self {
             Asking::Segment => ask_segment(alloc, &image),
             Asking::Access => ask_access(alloc, &image),

@@ -2,7 +2,6 @@
 ghost use Rattle.std.specs.Prelude.{◌≤◌, length, IfOk};
 ghost use Rattle.banks_merge.specs.Logs.{AreOfOne};
 
-use crate::programs::PROGRAM_START;
 use banked_threads::{RunFault, are_of_banks, are_of_harts};
 use banks::{BANKS, Bank};
 use banks_laws::LoggedAccess;
@@ -13,6 +12,7 @@ use machine::Choice;
 use program_images::Image;
 use segment_order::LogSegment;
 use std::alloc::Allocator;
+use test_images::PROGRAM_START;
 
 /// What logs or their run are found to lack.
 #[derive(Clone, Copy, PartialEq, Eq)]

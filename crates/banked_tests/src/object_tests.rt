@@ -1,13 +1,13 @@
 //! The library's objects on threads over banks, under plans of any kind: each run is merged, and ends as its logs, with its rule kept.
 use crate::checked::checked;
 use crate::merging::Lack;
-use crate::programs::Program;
 use hart_step::HartState;
 use hart_threads::OpenGate;
 use protocol_library::{Kind, Verdict, judge};
 use std::alloc::Allocator;
 use std::sync::Wait;
 use std::thread::Threads;
+use test_programs::Program;
 
 // An object, and its harts' inputs.
 const OBJECTS: [(Kind, &[u32]); 5] = [

@@ -2,12 +2,13 @@
 use crate::checked::{checked, one_value};
 use crate::gates::{Meeting, Place};
 use crate::merging::Lack;
-use crate::programs::{Program, RESERVE_AND_STORE, STORE_OVER_NEXT};
+use crate::programs::RESERVE_AND_STORE;
 use hart_threads::OpenGate;
 use protocol_library::Kind;
 use std::alloc::Allocator;
 use std::sync::Wait;
 use std::thread::Threads;
+use test_programs::{Program, STORE_OVER_NEXT};
 
 const LR_SC: Program = Program::Object(Kind::LrSc);
 

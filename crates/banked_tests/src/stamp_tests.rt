@@ -1,11 +1,12 @@
 //! Stamps that are used up, which no run of threads can lead to: a bank's word was accessed with a late stamp before a hart begins.
-use crate::programs::{STORES, image_of};
+use crate::programs::STORES;
 use banked_steps::{Job, StepFault, work};
 use banks_laws::{LoggedAccess, LoggedKind};
 use hart_threads::OpenGate;
 use std::alloc::{AllocError, Allocator};
 use std::collections::BTreeSet;
 use std::sync::Wait;
+use test_programs::program_image;
 
 // A load of the word at 0.
 fn load_at(stamp: u64) -> LoggedAccess {
@@ -27,7 +28,7 @@ fn fault_behind<A: Allocator + Copy, R: Wait>(
     stamp: u64,
     budget: u32,
 ) -> Result<Option<StepFault>, AllocError> {
-    let image = image_of(alloc, STORES)?;
+    let image = program_image(alloc, STORES)?;
     let plan = BTreeSet::new(alloc);
     let inputs = [7];
     let job = Job::new(alloc, &image, &inputs, budget, &plan)?;

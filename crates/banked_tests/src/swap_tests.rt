@@ -2,7 +2,6 @@
 use crate::checked::{Merged, machine_after, run_merged};
 use crate::gates::Holding;
 use crate::merging::{Lack, banks_of, merged_with};
-use crate::programs::{Program, image_of, plan_of};
 use banks::Bank;
 use banks_laws::LoggedAccess;
 use banks_merge::MergeFault;
@@ -16,6 +15,7 @@ use protocol_library::Kind;
 use std::alloc::{AllocError, Allocator};
 use std::sync::Wait;
 use std::thread::Threads;
+use test_programs::{Program, plan_of, program_image};
 
 const INPUTS: [u32; 2] = [7, 9];
 
@@ -93,7 +93,7 @@ fn found_wrong<A: Allocator + Copy + Send + Sync, R: Threads + Wait + Sync>(
     alloc: A,
 ) -> Result<(), Lack> {
     let program = Program::Object(Kind::Swap);
-    let (Ok(image), Ok(plan)) = (image_of(alloc, program), plan_of(alloc, &[])) else {
+    let (Ok(image), Ok(plan)) = (program_image(alloc, program), plan_of(alloc, &[])) else {
         return Err(Lack::Memory);
     };
     let Merged { banked, choices } = run_swap(rt, alloc, &image, &plan)?;
@@ -142,7 +142,7 @@ fn merged_without<A: Allocator + Copy + Send + Sync, R: Threads + Wait + Sync>(
     dropped: usize,
 ) -> Result<usize, Lack> {
     let program = Program::Object(Kind::Swap);
-    let (Ok(image), Ok(plan)) = (image_of(alloc, program), plan_of(alloc, &[])) else {
+    let (Ok(image), Ok(plan)) = (program_image(alloc, program), plan_of(alloc, &[])) else {
         return Err(Lack::Memory);
     };
     let Merged { banked, .. } = run_swap(rt, alloc, &image, &plan)?;

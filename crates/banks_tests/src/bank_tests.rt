@@ -1,9 +1,10 @@
 //! A bank takes what it has, and only that.
-use crate::worked::{FIRST, OTHER, WORD, access, image_of};
+use crate::worked::{FIRST, OTHER, TWO_WORDS, WORD, access};
 use banks::{AddFault, Bank, next_stamp};
 use banks_laws::{LoggedAccess, LoggedKind};
 use segment_order::{LogSegment, is_rising};
 use std::alloc::{AllocError, Global};
+use test_images::image_of;
 
 // Adds accesses, and tells whether each was taken.
 fn are_taken(bank: &mut Bank<Global>, accesses: &[LoggedAccess]) -> bool {
@@ -17,7 +18,7 @@ fn are_taken(bank: &mut Bank<Global>, accesses: &[LoggedAccess]) -> bool {
 
 #[test]
 fn store_of_the_same_value_ends_a_mark(rt: HostRuntime) -> Result<(), AllocError> {
-    let image = image_of(rt.alloc())?;
+    let image = image_of(rt.alloc(), WORD, &TWO_WORDS)?;
     let mut bank = Bank::new(rt.alloc(), &image, &[7, 9], 0);
     assert!(rt; bank.bytes(WORD) == FIRST);
     assert!(rt; bank.last_stamp() == 0);
@@ -39,7 +40,7 @@ fn store_of_the_same_value_ends_a_mark(rt: HostRuntime) -> Result<(), AllocError
 
 #[test]
 fn what_a_bank_does_not_have_is_not_taken(rt: HostRuntime) -> Result<(), AllocError> {
-    let image = image_of(rt.alloc())?;
+    let image = image_of(rt.alloc(), WORD, &TWO_WORDS)?;
     let mut bank = Bank::new(rt.alloc(), &image, &[7, 9], 0);
     let first = [access(5, 0, LoggedKind::Load, FIRST, FIRST)];
     assert!(rt; are_taken(&mut bank, &first));

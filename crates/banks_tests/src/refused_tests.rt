@@ -1,9 +1,10 @@
 //! Where the host refuses memory, an access is not taken.
-use crate::worked::{FIRST, OTHER, access, image_of};
+use crate::worked::{FIRST, OTHER, TWO_WORDS, WORD, access};
 use banks::{AddFault, Bank};
 use banks_laws::LoggedKind;
 use refusing::{Call, tried};
 use std::alloc::{AllocError, Allocator, Global};
+use test_images::image_of;
 
 // An access is added.
 #[derive(Clone, Copy)]
@@ -11,7 +12,7 @@ struct Adding;
 
 impl Call for Adding {
     fn answer<A: Allocator + Copy>(&self, alloc: A, _host: Global) -> Result<bool, AllocError> {
-        let image = image_of(alloc)?;
+        let image = image_of(alloc, WORD, &TWO_WORDS)?;
         let mut bank = Bank::new(alloc, &image, &[7], 0);
         match bank.add(access(1, 0, LoggedKind::Store, FIRST, OTHER)) {
             Ok(()) => Ok(bank.log().len() == 1),

@@ -6,8 +6,6 @@ mod calls;
 #[cfg(test)]
 mod image_tests;
 #[cfg(test)]
-mod images;
-#[cfg(test)]
 mod loading_tests;
 #[cfg(test)]
 mod memory_tests;

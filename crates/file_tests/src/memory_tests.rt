@@ -1,15 +1,15 @@
 //! What no clause says: that calls succeed, and answers on rows from outside.
 
 use crate::calls::{Call, GRANTS, Grants, count_answered, has_grants};
-use crate::images::{Part, image_of};
 use flat_memory::FlatStore;
 use memory::{AccessFault, FromImage, Store, StoreFault};
 use program_images::ElfFault;
 use std::alloc::Global;
+use test_images::{Part, checked_image};
 
 /// A store of segments.
 fn store_of(alloc: Global, parts: &[Part]) -> Result<FlatStore<Global>, ElfFault> {
-    let image = image_of(alloc, parts)?;
+    let image = checked_image(alloc, 0, parts)?;
     FlatStore::from_image(alloc, &image).map_err(|_| ElfFault::Memory)
 }
 

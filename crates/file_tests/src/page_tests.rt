@@ -1,16 +1,16 @@
 //! What no clause says of a memory of pages: that calls succeed, what refused memory leaves, and answers on rows from outside.
 
 use crate::calls::{Call, GRANTS, Grants, count_answered, has_grants};
-use crate::images::{Part, image_of};
 use memory::{AccessFault, FromImage, Store, StoreFault};
 use pages::{Number, PageStore, store_into_copy, store_into_original, store_number};
 use program_images::{ElfFault, Image};
 use refusing::Refusing;
 use std::alloc::{AllocError, Allocator, Global};
+use test_images::{Part, checked_image};
 
 /// A store of segments.
 fn store_of(alloc: Global, parts: &[Part]) -> Result<PageStore<Global>, ElfFault> {
-    let image = image_of(alloc, parts)?;
+    let image = checked_image(alloc, 0, parts)?;
     PageStore::from_image(alloc, &image).map_err(|_| ElfFault::Memory)
 }
 
@@ -268,7 +268,7 @@ fn outcome_of(alloc: Global, image: &Image<Global>, passed: u64) -> Outcome {
 
 #[test]
 fn a_store_that_is_refused_memory_changes_nothing(rt: HostRuntime) -> Result<(), ElfFault> {
-    let image = image_of(rt.alloc(), &TWO_PAGES)?;
+    let image = checked_image(rt.alloc(), 0, &TWO_PAGES)?;
     let mut last = Outcome::Refused;
     for passed in 0..40u64 {
         last = outcome_of(rt.alloc(), &image, passed);
@@ -380,7 +380,7 @@ fn takes_one<'a>(heap: &'a Refusing<Global>, store: &Scarce<'a>) -> bool {
 
 /// Whether a copy takes one request behind those of the store.
 fn is_copied_by_one(alloc: Global) -> Result<bool, ElfFault> {
-    let image = image_of(alloc, &A_CHUNK_AND_A_PAGE)?;
+    let image = checked_image(alloc, 0, &A_CHUNK_AND_A_PAGE)?;
     let made = requests_of(alloc, &image);
     let heap = Refusing::new(alloc, made.saturating_add(1));
     let Ok(store) = PageStore::from_image(&heap, &image) else {

@@ -5,50 +5,15 @@ use campaigns::{SeedRun, Seeds, campaign, next_runs};
 use flat_memory::FlatStore;
 use hart_step::Hart;
 use machine::{Choice, Machine, StartFault};
-use program_images::{Image, Rights, Segment};
+use program_images::Image;
 use scheduler::seeded;
-use std::alloc::{AllocError, Global};
+use std::alloc::Global;
 use std::thread::Threads;
+use test_images::{CONDITIONAL, writable_program};
 
-/// Each hart reserves a word, stores its address there if the reservation holds, loads it, and exits with what the
-/// store-conditional answered.
-const CONDITIONAL: [u32; 6] = [
-    0x0001_1437, // lui s0, 0x11
-    0x1004_22af, // lr.w t0, (s0)
-    0x1884_252f, // sc.w a0, s0, (s0)
-    0x0004_2583, // lw a1, 0(s0)
-    0x05d0_0893, // addi a7, x0, 93
-    0x0000_0073, // ecall
-];
-
-/// The bytes of the program's words.
-fn bytes_of_program(alloc: Global) -> Result<Vec<u8>, AllocError> {
-    let mut bytes = Vec::new(alloc);
-    for word in &CONDITIONAL {
-        bytes.extend_from_slice(&word.to_le_bytes())?;
-    }
-    Ok(bytes)
-}
-
-/// The program at 0x00010000 with all rights, and room for data.
+/// The program.
 fn program(alloc: Global) -> Result<Image<Global>, StartFault> {
-    let Ok(bytes) = bytes_of_program(alloc) else {
-        return Err(StartFault::Memory);
-    };
-    let mut segments = Vec::new(alloc);
-    let whole = Segment {
-        base: 0x0001_0000,
-        size: 0x2000,
-        rights: Rights::of_flags(7),
-        bytes,
-    };
-    if segments.push(whole).is_err() {
-        return Err(StartFault::Memory);
-    }
-    match Image::new(alloc, 0x0001_0000, segments) {
-        Ok(image) => Ok(image),
-        Err(_) => Err(StartFault::Memory),
-    }
+    writable_program(alloc, &CONDITIONAL).map_err(|_| StartFault::Memory)
 }
 
 /// The inputs of four harts.

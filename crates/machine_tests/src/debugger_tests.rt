@@ -1,15 +1,10 @@
 //! What no clause says: that a call is refused only where a request for memory was, and what stands after it.
 use debugger::{Debugger, MoveFault, Stop, byte_at};
 use machine::Choice;
-use program_images::{Image, Rights, Segment};
 use progress::Progress;
 use refusing::{Refusing, tried};
 use std::alloc::{AllocError, Allocator, Global};
-
-// `lui t0, 0x11` at 0x10000, then `sb a1, 6(t0)`, and at 0x10008 a jump to itself.
-const PROGRAM: [u8; 12] = [
-    0xb7, 0x12, 0x01, 0x00, 0x23, 0x83, 0xb2, 0x00, 0x6f, 0x00, 0x00, 0x00,
-];
+use test_images::{STORES_INPUT, writable_program};
 
 fn turn(hart: u32) -> Choice {
     Choice {
@@ -38,23 +33,9 @@ fn many_choices<A: Allocator + Copy>(alloc: A) -> Option<Vec<Choice, A>> {
     turns(alloc, 1000)
 }
 
-// The image of the program.
-fn image_of<A: Allocator + Copy>(alloc: A) -> Option<Image<A>> {
-    let bytes = Vec::from_slice(alloc, &PROGRAM).ok()?;
-    let mut segments = Vec::new(alloc);
-    let whole = Segment {
-        base: 0x10000,
-        size: 0x2000,
-        rights: Rights::ANY,
-        bytes,
-    };
-    segments.push(whole).ok()?;
-    Image::new(alloc, 0x10000, segments).ok()
-}
-
 // A debugger of the program with two harts, of which each stores its own input, at the start of these choices.
 fn begin<A: Allocator + Copy>(alloc: A, choices: Vec<Choice, A>) -> Option<Debugger<A>> {
-    let image = image_of(alloc)?;
+    let image = writable_program(alloc, &STORES_INPUT).ok()?;
     let inputs = Vec::from_slice(alloc, &[7, 9]).ok()?;
     if !choices.iter().all(|choice| choice.hart < 2) {
         return None;
@@ -359,7 +340,7 @@ fn heard_of<A: Allocator + Copy>(alloc: A, count: u32) -> Option<Heard> {
         all: 0,
     };
     let choices = turns(alloc, count)?;
-    let image = image_of(alloc)?;
+    let image = writable_program(alloc, &STORES_INPUT).ok()?;
     let inputs = Vec::from_slice(alloc, &[7, 9]).ok()?;
     if !choices.iter().all(|choice| choice.hart < 2) {
         return None;

@@ -9,6 +9,7 @@ use protocol_library::{
 };
 use refusing::{Call, tried};
 use std::alloc::{AllocError, Allocator, Global};
+use test_images::bytes_of;
 
 const EXITED: HartState = HartState::Exited(0);
 
@@ -155,14 +156,6 @@ fn an_image_is_of_one_kind(rt: HostRuntime) {
             assert!(rt; is_image_of(rt.alloc(), made, asked) == Ok(asked == made));
         }
     }
-}
-
-fn bytes_of(alloc: Global, words: &[u32]) -> Result<Vec<u8>, AllocError> {
-    let mut bytes = Vec::new(alloc);
-    for word in words {
-        bytes.extend_from_slice(&word.to_le_bytes())?;
-    }
-    Ok(bytes)
 }
 
 /// The first four words of Swap's text, and the rest.

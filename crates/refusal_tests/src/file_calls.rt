@@ -5,9 +5,10 @@ use loader::{SymFault, load, symbols};
 use local_steps::Code;
 use memory::{FromImage, Store, StoreFault};
 use pages::PageStore;
-use program_images::{ElfFault, Image, Rights, Segment};
+use program_images::ElfFault;
 use refusing::{Call, tried};
 use std::alloc::{AllocError, Allocator, Global};
+use test_images::{PROGRAM_START, Part, image_of};
 
 // A call.
 #[derive(Clone, Copy)]
@@ -143,35 +144,24 @@ fn has_symbols<A: Allocator + Copy>(alloc: A) -> Result<bool, AllocError> {
     }
 }
 
-// A segment of four bytes.
-fn segment_of<A: Allocator + Copy>(
-    alloc: A,
-    base: u32,
-    flags: u32,
-    bytes: &[u8],
-) -> Result<Segment<A>, AllocError> {
-    let bytes = Vec::from_slice(alloc, bytes)?;
-    Ok(Segment {
-        base,
-        size: 4,
-        rights: Rights::of_flags(flags),
-        bytes,
-    })
-}
-
 // `ecall` at 0x10000, and four bytes that may be written at 0x11000.
-fn image_of<A: Allocator + Copy>(alloc: A) -> Result<Image<A>, AllocError> {
-    let mut segments = Vec::new(alloc);
-    segments.push(segment_of(alloc, 0x0001_0000, 5, &[0x73, 0, 0, 0])?)?;
-    segments.push(segment_of(alloc, 0x0001_1000, 6, &[1])?)?;
-    match Image::new(alloc, 0x0001_0000, segments) {
-        Ok(image) => Ok(image),
-        Err(_) => Err(AllocError),
-    }
-}
+const TWO_SEGMENTS: [Part; 2] = [
+    Part {
+        base: 0x0001_0000,
+        size: 4,
+        flags: 5,
+        bytes: &[0x73, 0, 0, 0],
+    },
+    Part {
+        base: 0x0001_1000,
+        size: 4,
+        flags: 6,
+        bytes: &[1],
+    },
+];
 
 fn is_image<A: Allocator + Copy>(alloc: A) -> Result<bool, AllocError> {
-    let image = image_of(alloc)?;
+    let image = image_of(alloc, PROGRAM_START, &TWO_SEGMENTS)?;
     Ok(image.segments().len() == 2)
 }
 
@@ -181,13 +171,13 @@ fn is_line<A: Allocator + Copy>(alloc: A) -> Result<bool, AllocError> {
 }
 
 fn is_listed<A: Allocator + Copy>(alloc: A) -> Result<bool, AllocError> {
-    let image = image_of(alloc)?;
+    let image = image_of(alloc, PROGRAM_START, &TWO_SEGMENTS)?;
     let text = list_image(alloc, &image)?;
     Ok(text.as_str() == "# segment 00010000 4\necall  # 00010000 00000073\n")
 }
 
 fn is_code<A: Allocator + Copy>(alloc: A) -> Result<bool, AllocError> {
-    let image = image_of(alloc)?;
+    let image = image_of(alloc, PROGRAM_START, &TWO_SEGMENTS)?;
     let code = Code::new(alloc, &image)?;
     Ok(code.segments().len() == 1)
 }
@@ -198,20 +188,20 @@ fn has_words<S: Store>(store: &S) -> bool {
 }
 
 fn is_flat<A: Allocator + Copy>(alloc: A) -> Result<bool, AllocError> {
-    let image = image_of(alloc)?;
+    let image = image_of(alloc, PROGRAM_START, &TWO_SEGMENTS)?;
     let store = FlatStore::from_image(alloc, &image)?;
     Ok(has_words(&store))
 }
 
 fn is_copied<A: Allocator + Copy>(alloc: A) -> Result<bool, AllocError> {
-    let image = image_of(alloc)?;
+    let image = image_of(alloc, PROGRAM_START, &TWO_SEGMENTS)?;
     let store = FlatStore::from_image(alloc, &image)?;
     let copy = store.copy(alloc)?;
     Ok(has_words(&store) && has_words(&copy))
 }
 
 fn is_paged<A: Allocator + Copy>(alloc: A) -> Result<bool, AllocError> {
-    let image = image_of(alloc)?;
+    let image = image_of(alloc, PROGRAM_START, &TWO_SEGMENTS)?;
     let store = PageStore::from_image(alloc, &image)?;
     Ok(has_words(&store))
 }
@@ -231,7 +221,7 @@ fn answer_of_store<S: Store>(
 
 // A copy, and a store into a page that it shares.
 fn is_stored<A: Allocator + Copy>(alloc: A) -> Result<bool, AllocError> {
-    let image = image_of(alloc)?;
+    let image = image_of(alloc, PROGRAM_START, &TWO_SEGMENTS)?;
     let mut store = PageStore::from_image(alloc, &image)?;
     let copy = store.copy(alloc)?;
     let stored = store.store32(0x0001_1000, 7);

@@ -7,10 +7,10 @@ use histories::{Entry, HistoryFault, print_history, read_history};
 use machine::{Choice, Machine};
 use memory::FromImage;
 use pages::PageStore;
-use program_images::{Image, Rights, Segment};
 use refusing::{Call, tried};
 use scheduler::{round_robin, seeded, solo};
 use std::alloc::{AllocError, Allocator, Global};
+use test_images::{STORES_INPUT, writable_program};
 
 // A call.
 #[derive(Clone, Copy)]
@@ -128,28 +128,9 @@ const ENTRIES: [Entry; 2] = [
     },
 ];
 
-// `lui t0, 0x11` at 0x10000, then `sb a1, 6(t0)`, and at 0x10008 a jump to itself.
-const PROGRAM: [u8; 12] = [
-    0xb7, 0x12, 0x01, 0x00, 0x23, 0x83, 0xb2, 0x00, 0x6f, 0x00, 0x00, 0x00,
-];
-
-fn image_of<A: Allocator + Copy>(alloc: A) -> Result<Image<A>, AllocError> {
-    let mut segments = Vec::new(alloc);
-    segments.push(Segment {
-        base: 0x0001_0000,
-        size: 0x2000,
-        rights: Rights::ANY,
-        bytes: Vec::from_slice(alloc, &PROGRAM)?,
-    })?;
-    match Image::new(alloc, 0x0001_0000, segments) {
-        Ok(image) => Ok(image),
-        Err(_) => Err(AllocError),
-    }
-}
-
 // A machine with two harts, at its start.
 fn started<S: FromImage<A>, A: Allocator + Copy>(alloc: A) -> Result<Machine<S, A>, AllocError> {
-    let image = image_of(alloc)?;
+    let image = writable_program(alloc, &STORES_INPUT)?;
     match Machine::start(alloc, &image, &[7, 9]) {
         Ok(machine) => Ok(machine),
         Err(_) => Err(AllocError),

@@ -2,9 +2,9 @@
 use debug_commands::{Answer, DebugFault, command};
 use debugger::{Debugger, MoveFault, Stop};
 use machine::Choice;
-use program_images::{Image, Rights, Segment};
 use refusing::{Call, tried};
 use std::alloc::{AllocError, Allocator, Global};
+use test_images::{STORES_INPUT, writable_program};
 
 // A call, behind three of six choices; those with `Far` behind 600 of a thousand, with checkpoints between.
 #[derive(Clone, Copy)]
@@ -53,29 +53,10 @@ const CALLS: [(&str, MoveCall); 23] = [
     ("mem", MoveCall::Command("mem 0x11004 1", "00011004 00070000\n")),
 ];
 
-// `lui t0, 0x11` at 0x10000, then `sb a1, 6(t0)`, and at 0x10008 a jump to itself.
-const PROGRAM: [u8; 12] = [
-    0xb7, 0x12, 0x01, 0x00, 0x23, 0x83, 0xb2, 0x00, 0x6f, 0x00, 0x00, 0x00,
-];
-
 fn turn(hart: u32) -> Choice {
     Choice {
         hart,
         refuse: false,
-    }
-}
-
-fn image_of<A: Allocator + Copy>(alloc: A) -> Result<Image<A>, AllocError> {
-    let mut segments = Vec::new(alloc);
-    segments.push(Segment {
-        base: 0x0001_0000,
-        size: 0x2000,
-        rights: Rights::ANY,
-        bytes: Vec::from_slice(alloc, &PROGRAM)?,
-    })?;
-    match Image::new(alloc, 0x0001_0000, segments) {
-        Ok(image) => Ok(image),
-        Err(_) => Err(AllocError),
     }
 }
 
@@ -93,7 +74,7 @@ fn begin<A: Allocator + Copy>(
     alloc: A,
     choices: Vec<Choice, A>,
 ) -> Result<Debugger<A>, AllocError> {
-    let image = image_of(alloc)?;
+    let image = writable_program(alloc, &STORES_INPUT)?;
     let inputs = Vec::from_slice(alloc, &[7, 9])?;
     if !choices.iter().all(|choice| choice.hart < 2) {
         return Err(AllocError);

@@ -1,10 +1,11 @@
 //! What no clause says of books: that segments are taken where memory is left, worked histories, and refused memory.
-use crate::images::{LR_SC, Program, STORE_AND_LOAD, SWAP, book_of};
+use crate::images::{LR_SC, STORE_AND_LOAD, SWAP, book_of};
 use book::{Book, PresentFault, Segment};
 use hart_step::HartState;
 use histories::print_history;
 use refusing::Refusing;
 use std::alloc::{Allocator, Global};
+use test_programs::Program;
 
 // Lets a hart run until it stops; each segment is as long as it can be. The step behind the local ones of one entry, told by its
 // place in the history, is refused its store-conditional.

@@ -1,6 +1,6 @@
 //! What no clause says of the library's objects on threads: that runs under plans of any kind come to their end, and that a hart
 //! which is held holds up nobody. Their rules hold by law of each history; here each history is done again beside.
-use crate::images::{LR_SC, Program, SWAP};
+use crate::images::{LR_SC, SWAP};
 use crate::runs::{Order, run};
 use book::Book;
 use flat_memory::FlatStore;
@@ -14,6 +14,7 @@ use std::sync::Wait;
 use std::sync::atomic::{AtomicU64, Ordering};
 use std::thread;
 use std::thread::Threads;
+use test_programs::Program;
 
 // How often a hart is chosen at most.
 const BUDGET: u32 = 500;

@@ -1,6 +1,6 @@
 //! What no clause says of runs of threads: that they come to their end, that harts run at once, worked histories, and refused
 //! memory.
-use crate::images::{LR_SC, Program, STORE_AND_LOAD, STORE_OVER_NEXT, SWAP};
+use crate::images::{LR_SC, STORE_AND_LOAD, SWAP};
 use crate::runs::{Order, run};
 use hart_step::{Hart, HartState};
 use hart_threads::{Gate, OpenGate, RunFault};
@@ -11,6 +11,7 @@ use std::sync::Wait;
 use std::sync::atomic::{AtomicU64, Ordering};
 use std::thread;
 use std::thread::Threads;
+use test_programs::{Program, STORE_OVER_NEXT};
 
 // What all harts exited with, if they did so with one value.
 fn one_value(harts: &[Hart]) -> Option<u32> {
@@ -116,7 +117,7 @@ const WORKED: [Worked; 8] = [
     Worked {
         name: "store over the next one",
         order: Order {
-            program: Program::Writable(&STORE_OVER_NEXT),
+            program: STORE_OVER_NEXT,
             inputs: &[9],
             budget: 7,
             pairs: &[],
@@ -173,7 +174,7 @@ const MANY: [Many; 3] = [
     Many {
         name: "store over the next one",
         order: Order {
-            program: Program::Writable(&STORE_OVER_NEXT),
+            program: STORE_OVER_NEXT,
             inputs: &[7, 9],
             budget: 7,
             pairs: &[],

@@ -1,10 +1,10 @@
 //! Runs of threads for tests.
-use crate::images::{Program, image_of, plan_of};
 use book::Book;
 use hart_threads::{Gate, RunFault, run_threads};
 use std::alloc::Allocator;
 use std::sync::Wait;
 use std::thread::Threads;
+use test_programs::{Program, plan_of, program_image};
 
 /// What is run: a program with a hart for each input, how often each hart is chosen at most, and the pairs of its plan.
 #[derive(Clone, Copy)]
@@ -23,7 +23,7 @@ pub fn run<A: Allocator + Copy + Send + Sync, G: Gate + Sync, R: Threads + Wait 
     gate: &G,
 ) -> Result<Book<A>, RunFault> {
     let (Ok(image), Ok(inputs), Ok(plan)) = (
-        image_of(alloc, order.program),
+        program_image(alloc, order.program),
         Vec::from_slice(alloc, order.inputs),
         plan_of(alloc, order.pairs),
     ) else {

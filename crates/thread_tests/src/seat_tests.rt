@@ -1,6 +1,6 @@
 //! What no clause says of seats: that they are had and committed to the shared book where memory is left, worked histories, and
 //! refused memory.
-use crate::images::{LR_SC, Program, SWAP, book_of};
+use crate::images::{LR_SC, SWAP, book_of};
 use book::SegmentFault;
 use hart_step::HartState;
 use hart_threads::{CommitFault, Seat, Shared};
@@ -9,6 +9,7 @@ use protocol_library::Kind;
 use refusing::Refusing;
 use std::alloc::{Allocator, Global};
 use std::sync::Wait;
+use test_programs::Program;
 
 const ADD: Program = Program::Object(Kind::Add);
 
