@@ -1,6 +1,6 @@
 -- Arguments of the command line, as clap's own matching function takes them.
 use Rattle.std.specs.Prelude.{◌≡◌, Bool, true, false, ◌&&◌, List, [], ◌∷◌, Option, Some, None, codes}
-use Rattle.clap.specs.Words.{Row, Rule, Text, first_of, new_rule}
+use Rattle.clap.specs.Words.{App, Row, Rule, Text, first_of, new_rule, with_rule}
 use Rattle.clap.specs.declared.builder.ArgAction.TheVariants.{SetTrue, Append}
 
 -- a word that has to stand
@@ -26,6 +26,14 @@ needed_option id = record (new_rule id) { required = true; long = Some id }
 -- an option without a value
 abbrev pub flag : Text → Rule
 flag id = record (new_rule id) { long = Some id; action = Some SetTrue }
+
+-- a program and the inputs of its harts: `FILE --inputs L`
+abbrev pub with_program : App → App
+with_program app = with_rule (with_rule app (needed (codes "FILE"))) (needed_option (codes "inputs"))
+
+-- also a schedule: `FILE --inputs L --choices C`
+abbrev pub with_schedule : App → App
+with_schedule app = with_rule (with_program app) (needed_option (codes "choices"))
 
 -- whether a flag is set, by the text that clap holds of it
 pub record IsSet (text : Option Text) (set : Bool) : Type 0 where

@@ -2,8 +2,19 @@
 use Rattle.std.specs.Prelude.{◌≡◌, List, [], ◌∷◌, Some, codes, option_map}
 use Rattle.clap.specs.Words.{App, Row, Text, first_of, new_app, with_rule}
 use Rattle.clap.specs.Walk.{one_of}
-use Rattle.command_line.specs.Arguments.{flag, needed, needed_option, optional, IsSet}
+use Rattle.command_line.specs.Arguments.{flag, needed_option, optional, with_program, IsSet}
 use Rattle.command_line.specs.declared.campaign_line.CampaignOrder.{CampaignOrder}
+
+-- `campaign FILE --inputs L --first S --count N --steps M [--rule K]`
+abbrev pub seeds_app : App
+seeds_app =
+    with_rule
+    (with_rule
+    (with_rule
+    (with_rule (with_program (new_app (codes "campaign"))) (needed_option (codes "first")))
+    (needed_option (codes "count")))
+    (needed_option (codes "steps")))
+    (optional (codes "rule"))
 
 -- `campaign FILE --inputs L --first S --count C --steps N [--rule K] [--failures] [--summary] [--outcomes] [--schedule KIND]
 -- [--refusals never|one-in:N] [--must-exit]`
@@ -14,19 +25,7 @@ campaign_app =
     (with_rule
     (with_rule
     (with_rule
-    (with_rule
-    (with_rule
-    (with_rule
-    (with_rule
-    (with_rule
-    (with_rule
-    (with_rule (new_app (codes "campaign")) (needed (codes "FILE")))
-    (needed_option (codes "inputs")))
-    (needed_option (codes "first")))
-    (needed_option (codes "count")))
-    (needed_option (codes "steps")))
-    (optional (codes "rule")))
-    (flag (codes "failures")))
+    (with_rule seeds_app (flag (codes "failures")))
     (flag (codes "summary")))
     (flag (codes "outcomes")))
     (optional (codes "schedule")))

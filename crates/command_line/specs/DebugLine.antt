@@ -1,17 +1,12 @@
 -- The command `debug`.
 use Rattle.std.specs.Prelude.{◌≡◌, List, [], ◌∷◌, Some, codes}
-use Rattle.clap.specs.Words.{App, Row, Text, first_of, new_app, with_rule}
-use Rattle.command_line.specs.Arguments.{needed, needed_option}
+use Rattle.clap.specs.Words.{App, Row, Text, first_of, new_app}
+use Rattle.command_line.specs.Arguments.{with_schedule}
 use Rattle.command_line.specs.declared.debug_line.DebugOrder.{DebugOrder}
 
 -- `debug FILE --inputs L --choices C`
 abbrev pub debug_app : App
-debug_app =
-    with_rule
-    (with_rule
-    (with_rule (new_app (codes "debug")) (needed (codes "FILE")))
-    (needed_option (codes "inputs")))
-    (needed_option (codes "choices"))
+debug_app = with_schedule (new_app (codes "debug"))
 
 -- the names of the texts that have to stand
 abbrev pub debug_names : List Text

@@ -1,18 +1,14 @@
 -- The command `replay`.
 use Rattle.std.specs.Prelude.{◌≡◌, List, [], ◌∷◌, Some, codes, option_map}
 use Rattle.clap.specs.Words.{App, Row, Text, first_of, new_app, with_rule}
-use Rattle.command_line.specs.Arguments.{needed, needed_option, optional}
+use Rattle.command_line.specs.Arguments.{needed_option, optional, with_program}
 use Rattle.command_line.specs.declared.replay_line.ReplayOrder.{ReplayOrder}
 
 -- `replay FILE --inputs L --history H [--rule K]`
 abbrev pub replay_app : App
 replay_app =
     with_rule
-    (with_rule
-    (with_rule
-    (with_rule (new_app (codes "replay")) (needed (codes "FILE")))
-    (needed_option (codes "inputs")))
-    (needed_option (codes "history")))
+    (with_rule (with_program (new_app (codes "replay"))) (needed_option (codes "history")))
     (optional (codes "rule"))
 
 -- the names of the texts that have to stand

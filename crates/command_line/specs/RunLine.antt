@@ -2,7 +2,7 @@
 use Rattle.std.specs.Prelude.{◌≡◌, List, [], ◌∷◌, Some, codes, option_map}
 use Rattle.clap.specs.Words.{App, Row, Text, new_app, with_rule, first_of}
 use Rattle.clap.specs.Walk.{one_of}
-use Rattle.command_line.specs.Arguments.{needed, needed_option, flag, optional, IsSet}
+use Rattle.command_line.specs.Arguments.{flag, optional, with_schedule, IsSet}
 use Rattle.command_line.specs.declared.run_line.RunOrder.{RunOrder}
 
 -- `run [--hex] FILE --inputs L --choices C [--rule K] [--must-exit]`
@@ -10,13 +10,7 @@ abbrev pub run_app : App
 run_app =
     with_rule
     (with_rule
-    (with_rule
-    (with_rule
-    (with_rule
-    (with_rule (new_app (codes "run")) (flag (codes "hex")))
-    (needed (codes "FILE")))
-    (needed_option (codes "inputs")))
-    (needed_option (codes "choices")))
+    (with_schedule (with_rule (new_app (codes "run")) (flag (codes "hex"))))
     (optional (codes "rule")))
     (flag (codes "must-exit"))
 

@@ -10,14 +10,10 @@ use Rattle.command_line.specs.declared.schedule_line.Draw.{Draw}
 use Rattle.command_line.specs.declared.schedule_line.Draw.TheVariants.{Even, Bursts, Priorities}
 use Rattle.command_line.specs.declared.schedule_line.ScheduleOrder.{ScheduleOrder}
 
--- `schedule --harts N --steps M [--seed S] [--turns] [--only H] [--schedule KIND] [--refusals never|one-in:N] [--inputs L] [FILE]`
-abbrev pub schedule_app : App
-schedule_app =
+-- `schedule --harts N --steps M [--seed S] [--turns] [--only H]`
+abbrev pub drawn_app : App
+drawn_app =
     with_rule
-    (with_rule
-    (with_rule
-    (with_rule
-    (with_rule
     (with_rule
     (with_rule
     (with_rule
@@ -25,8 +21,15 @@ schedule_app =
     (needed_option (codes "steps")))
     (optional (codes "seed")))
     (flag (codes "turns")))
-    (optional (codes "only")))
-    (optional (codes "schedule")))
+    (optional (codes "only"))
+
+-- `schedule --harts N --steps M [--seed S] [--turns] [--only H] [--schedule KIND] [--refusals never|one-in:N] [--inputs L] [FILE]`
+abbrev pub schedule_app : App
+schedule_app =
+    with_rule
+    (with_rule
+    (with_rule
+    (with_rule drawn_app (optional (codes "schedule")))
     (optional (codes "refusals")))
     (optional (codes "inputs")))
     (allowed (codes "FILE"))

@@ -2,20 +2,14 @@
 use Rattle.std.specs.Prelude.{◌≡◌, List, [], ◌∷◌, Some, codes, option_map}
 use Rattle.clap.specs.Words.{App, Row, Text, first_of, new_app, with_rule}
 use Rattle.clap.specs.Walk.{one_of}
-use Rattle.command_line.specs.Arguments.{flag, needed, needed_option, optional, IsSet}
+use Rattle.command_line.specs.Arguments.{flag, optional, with_schedule, IsSet}
 use Rattle.command_line.specs.declared.shrink_line.ShrinkOrder.{ShrinkOrder}
 
 -- `shrink FILE --inputs L --choices C [--rule K] [--must-exit]`
 abbrev pub shrink_app : App
 shrink_app =
     with_rule
-    (with_rule
-    (with_rule
-    (with_rule
-    (with_rule (new_app (codes "shrink")) (needed (codes "FILE")))
-    (needed_option (codes "inputs")))
-    (needed_option (codes "choices")))
-    (optional (codes "rule")))
+    (with_rule (with_schedule (new_app (codes "shrink"))) (optional (codes "rule")))
     (flag (codes "must-exit"))
 
 -- the names of the texts that have to stand

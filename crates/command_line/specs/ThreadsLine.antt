@@ -2,7 +2,7 @@
 use Rattle.std.specs.Prelude.{◌≡◌, Bool, true, false, List, [], ◌∷◌, Some, codes, option_map}
 use Rattle.clap.specs.Words.{App, Row, Text, first_of, new_app, with_rule}
 use Rattle.clap.specs.Walk.{one_of}
-use Rattle.command_line.specs.Arguments.{flag, needed, needed_option, optional, IsSet}
+use Rattle.command_line.specs.Arguments.{flag, needed_option, optional, with_program, IsSet}
 use Rattle.command_line.specs.declared.threads_line.Locks.{Locks}
 use Rattle.command_line.specs.declared.threads_line.Locks.TheVariants as locks
 use Rattle.command_line.specs.declared.threads_line.ThreadsOrder.{ThreadsOrder}
@@ -14,11 +14,7 @@ threads_app =
     (with_rule
     (with_rule
     (with_rule
-    (with_rule
-    (with_rule
-    (with_rule (new_app (codes "threads")) (needed (codes "FILE")))
-    (needed_option (codes "inputs")))
-    (needed_option (codes "budget")))
+    (with_rule (with_program (new_app (codes "threads"))) (needed_option (codes "budget")))
     (optional (codes "refuse")))
     (optional (codes "history")))
     (optional (codes "rule")))

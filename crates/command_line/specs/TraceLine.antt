@@ -2,26 +2,17 @@
 use Rattle.std.specs.Prelude.{◌≡◌, List, [], ◌∷◌, Some, codes, option_map}
 use Rattle.clap.specs.Words.{App, Row, Text, first_of, new_app, with_rule}
 use Rattle.clap.specs.Walk.{one_of}
-use Rattle.command_line.specs.Arguments.{flag, needed, needed_option, optional, IsSet}
+use Rattle.command_line.specs.Arguments.{flag, optional, with_schedule, IsSet}
 use Rattle.command_line.specs.declared.trace_line.TraceOrder.{TraceOrder}
-
--- `trace [--hex] FILE --inputs L --choices C`
-abbrev pub traced_app : App
-traced_app =
-    with_rule
-    (with_rule
-    (with_rule
-    (with_rule (new_app (codes "trace")) (flag (codes "hex")))
-    (needed (codes "FILE")))
-    (needed_option (codes "inputs")))
-    (needed_option (codes "choices"))
 
 -- `trace [--hex] FILE --inputs L --choices C [--from A] [--to B] [--table]`
 abbrev pub trace_app : App
 trace_app =
     with_rule
     (with_rule
-    (with_rule traced_app (optional (codes "from")))
+    (with_rule
+    (with_schedule (with_rule (new_app (codes "trace")) (flag (codes "hex"))))
+    (optional (codes "from")))
     (optional (codes "to")))
     (flag (codes "table"))
 

@@ -4,8 +4,9 @@ ghost use Rattle.std.specs.Prelude.{◌≡◌, false, IfOk, IsOkAnd, map, option
 ghost use Rattle.clap.specs.Walk.{one_of};
 ghost use Rattle.clap.specs.Words.{all_of, app_of, first_of, new_app, with_rule, with_subcommand, rows_of, found_of, rule_of};
 ghost use Rattle.clap.specs.declared.builder.command.Command.TheViews.{out-Command};
-ghost use Rattle.command_line.specs.Arguments.{allowed, flag, many, needed, needed_option, optional, IsSet};
+ghost use Rattle.command_line.specs.Arguments.{allowed, flag, many, needed, needed_option, optional, with_program, with_schedule, IsSet};
 
+use crate::help::{CHOICES, INPUTS};
 use clap::{Arg, ArgAction, ArgMatches, Command};
 use std::alloc::{AllocError, Global};
 
@@ -85,6 +86,32 @@ pub(crate) fn add<'a>(command: Command<'a>, arg: Arg<'a>) -> Result<Command<'a>,
         (out-Command c).has_globals ≡ (out-Command command.entry).has_globals) }
 {
     command.arg(arg)
+}
+
+/// A command that also takes a program and the inputs of its harts.
+pub(crate) fn add_program<'a>(
+    alloc: Global,
+    command: Command<'a>,
+) -> Result<Command<'a>, AllocError>
+    ensures app { IfOk result (λ c. app_of c ≡ with_program (app_of command.entry)) }
+    ensures globals { IfOk result (λ c.
+        (out-Command c).has_globals ≡ (out-Command command.entry).has_globals) }
+{
+    let command = add(command, needed(alloc, "FILE", "the program, an ELF file"))?;
+    add(command, needed_option(alloc, "inputs", INPUTS))
+}
+
+/// A command that also takes a program, the inputs of its harts, and a schedule.
+pub(crate) fn add_schedule<'a>(
+    alloc: Global,
+    command: Command<'a>,
+) -> Result<Command<'a>, AllocError>
+    ensures app { IfOk result (λ c. app_of c ≡ with_schedule (app_of command.entry)) }
+    ensures globals { IfOk result (λ c.
+        (out-Command c).has_globals ≡ (out-Command command.entry).has_globals) }
+{
+    let command = add_program(alloc, command)?;
+    add(command, needed_option(alloc, "choices", CHOICES))
 }
 
 /// A program with one command more, if memory was left for it. The command comes as it was made, so that a chain of these

@@ -4,12 +4,18 @@ ghost use Rattle.std.specs.Prelude.{◌≡◌, false, None, IfOk, IfSome};
 ghost use Rattle.clap.specs.Words.{app_of, rows_of, found_of};
 ghost use Rattle.clap.specs.declared.builder.command.Command.TheViews.{out-Command};
 ghost use Rattle.command_line.specs.Arguments.{holds_all};
-ghost use Rattle.command_line.specs.CampaignLine.{campaign_app, campaign_names, IsCampaign};
+ghost use Rattle.command_line.specs.CampaignLine.{campaign_app, campaign_names, seeds_app, IsCampaign};
 
-use crate::arguments::{add, flag, headed, is_set, needed, needed_option, optional, text_of};
-use crate::help::{DRAW, INPUTS, MUST_EXIT, REFUSALS, RULE};
+use crate::arguments::{add, add_program, flag, headed, is_set, needed_option, optional, text_of};
+use crate::help::{DRAW, MUST_EXIT, REFUSALS, RULE};
 use clap::{ArgMatches, Command};
 use std::alloc::{AllocError, Global};
+
+// What help says of `--summary`.
+const SUMMARY: &str = "print how many seeds end in which way, in place of a line for each";
+
+// Of `--outcomes`.
+const OUTCOMES: &str = "with --summary: tell ends apart by each hart's a0 and a1 too";
 
 /// `campaign FILE --inputs L --first S --count C --steps N [--rule K] [--failures] [--summary] [--outcomes] [--schedule KIND]
 /// [--refusals never|one-in:N] [--must-exit]`: runs a program under a random schedule for each of C seeds from S on, and prints a line for each,
@@ -42,9 +48,9 @@ pub struct CampaignOrder<'a> {
     pub must_exit: bool,
 }
 
-/// The command as clap takes it.
-pub(crate) fn campaign_command<'a>(alloc: Global) -> Result<Command<'a>, AllocError>
-    ensures app { IfOk result (λ c. app_of c ≡ campaign_app) }
+// The command with a program, its seeds and a rule.
+fn seeds_command<'a>(alloc: Global) -> Result<Command<'a>, AllocError>
+    ensures app { IfOk result (λ c. app_of c ≡ seeds_app) }
     ensures local { IfOk result (λ c. (out-Command c).has_globals ≡ false) }
 {
     let command = headed(
@@ -53,35 +59,27 @@ pub(crate) fn campaign_command<'a>(alloc: Global) -> Result<Command<'a>, AllocEr
         "Runs a program under random schedules and prints a line for each seed",
         "Example: rvcons campaign swap.elf --inputs 7,9 --first 0 --count 1000 --steps 40 --rule swap",
     );
-    let command = add(command, needed(alloc, "FILE", "the program, an ELF file"))?;
-    let command = add(command, needed_option(alloc, "inputs", INPUTS))?;
+    let command = add_program(alloc, command)?;
     let command = add(command, needed_option(alloc, "first", "the first seed"))?;
     let command = add(command, needed_option(alloc, "count", "how many seeds"))?;
     let command = add(
         command,
         needed_option(alloc, "steps", "how many steps for each seed"),
     )?;
-    let command = add(command, optional(alloc, "rule", RULE))?;
+    add(command, optional(alloc, "rule", RULE))
+}
+
+/// The command as clap takes it.
+pub(crate) fn campaign_command<'a>(alloc: Global) -> Result<Command<'a>, AllocError>
+    ensures app { IfOk result (λ c. app_of c ≡ campaign_app) }
+    ensures local { IfOk result (λ c. (out-Command c).has_globals ≡ false) }
+{
     let command = add(
-        command,
+        seeds_command(alloc)?,
         flag(alloc, "failures", "print the lines of bad seeds alone"),
     )?;
-    let command = add(
-        command,
-        flag(
-            alloc,
-            "summary",
-            "print how many seeds end in which way, in place of a line for each",
-        ),
-    )?;
-    let command = add(
-        command,
-        flag(
-            alloc,
-            "outcomes",
-            "with --summary: tell ends apart by each hart's a0 and a1 too",
-        ),
-    )?;
+    let command = add(command, flag(alloc, "summary", SUMMARY))?;
+    let command = add(command, flag(alloc, "outcomes", OUTCOMES))?;
     let command = add(command, optional(alloc, "schedule", DRAW))?;
     let command = add(command, optional(alloc, "refusals", REFUSALS))?;
     add(command, flag(alloc, "must-exit", MUST_EXIT))

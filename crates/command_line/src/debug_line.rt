@@ -6,8 +6,7 @@ ghost use Rattle.clap.specs.declared.builder.command.Command.TheViews.{out-Comma
 ghost use Rattle.command_line.specs.Arguments.{holds_all};
 ghost use Rattle.command_line.specs.DebugLine.{debug_app, debug_names, IsDebug};
 
-use crate::arguments::{add, headed, needed, needed_option, text_of};
-use crate::help::{CHOICES, INPUTS};
+use crate::arguments::{add_schedule, headed, text_of};
 use clap::{ArgMatches, Command};
 use std::alloc::{AllocError, Global};
 
@@ -33,9 +32,7 @@ pub(crate) fn debug_command<'a>(alloc: Global) -> Result<Command<'a>, AllocError
         "Goes forward and back in a run, by commands of standard input",
         "Example: echo 'go' | rvcons debug swap.elf --inputs 7,9 --choices swap.choices",
     );
-    let command = add(command, needed(alloc, "FILE", "the program, an ELF file"))?;
-    let command = add(command, needed_option(alloc, "inputs", INPUTS))?;
-    add(command, needed_option(alloc, "choices", CHOICES))
+    add_schedule(alloc, command)
 }
 
 /// The order that clap's matches hold.

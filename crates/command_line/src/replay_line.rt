@@ -6,8 +6,8 @@ ghost use Rattle.clap.specs.declared.builder.command.Command.TheViews.{out-Comma
 ghost use Rattle.command_line.specs.Arguments.{holds_all};
 ghost use Rattle.command_line.specs.ReplayLine.{replay_app, replay_names, IsReplay};
 
-use crate::arguments::{add, headed, needed, needed_option, optional, text_of};
-use crate::help::{HISTORY, INPUTS, RULE};
+use crate::arguments::{add, add_program, headed, needed_option, optional, text_of};
+use crate::help::{HISTORY, RULE};
 use clap::{ArgMatches, Command};
 use std::alloc::{AllocError, Global};
 
@@ -35,8 +35,7 @@ pub(crate) fn replay_command<'a>(alloc: Global) -> Result<Command<'a>, AllocErro
         "Runs a program under a history and prints how each hart ends",
         "Example: rvcons replay lrsc.elf --inputs 3,5,7,9 --history lrsc.history --rule lrsc",
     );
-    let command = add(command, needed(alloc, "FILE", "the program, an ELF file"))?;
-    let command = add(command, needed_option(alloc, "inputs", INPUTS))?;
+    let command = add_program(alloc, command)?;
     let command = add(command, needed_option(alloc, "history", HISTORY))?;
     add(command, optional(alloc, "rule", RULE))
 }

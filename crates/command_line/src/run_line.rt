@@ -6,8 +6,8 @@ ghost use Rattle.clap.specs.declared.builder.command.Command.TheViews.{out-Comma
 ghost use Rattle.command_line.specs.Arguments.{holds_all};
 ghost use Rattle.command_line.specs.RunLine.{run_app, run_names, IsRun};
 
-use crate::arguments::{add, flag, headed, is_set, needed, needed_option, optional, text_of};
-use crate::help::{CHOICES, INPUTS, MUST_EXIT, RULE};
+use crate::arguments::{add, add_schedule, flag, headed, is_set, optional, text_of};
+use crate::help::{MUST_EXIT, RULE};
 use clap::{ArgMatches, Command};
 use std::alloc::{AllocError, Global};
 
@@ -44,9 +44,7 @@ pub(crate) fn run_command<'a>(alloc: Global) -> Result<Command<'a>, AllocError>
         command,
         flag(alloc, "hex", "FILE holds words of eight hexadecimal digits"),
     )?;
-    let command = add(command, needed(alloc, "FILE", "the program, an ELF file"))?;
-    let command = add(command, needed_option(alloc, "inputs", INPUTS))?;
-    let command = add(command, needed_option(alloc, "choices", CHOICES))?;
+    let command = add_schedule(alloc, command)?;
     let command = add(command, optional(alloc, "rule", RULE))?;
     add(command, flag(alloc, "must-exit", MUST_EXIT))
 }

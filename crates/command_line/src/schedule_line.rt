@@ -5,7 +5,7 @@ ghost use Rattle.clap.specs.Words.{app_of, rows_of, found_of};
 ghost use Rattle.clap.specs.declared.builder.command.Command.TheViews.{out-Command};
 ghost use Rattle.command_line.specs.Arguments.{holds_all};
 ghost use Rattle.std.specs.Str.{bytes_eq};
-ghost use Rattle.command_line.specs.ScheduleLine.{schedule_app, schedule_names, draw_of, IsSchedule};
+ghost use Rattle.command_line.specs.ScheduleLine.{drawn_app, schedule_app, schedule_names, draw_of, IsSchedule};
 
 use crate::arguments::{add, allowed, flag, headed, is_set, needed_option, optional, text_of};
 use crate::help::REFUSALS;
@@ -50,9 +50,9 @@ pub struct ScheduleOrder<'a> {
     pub file: Option<&'a str>,
 }
 
-/// The command as clap takes it.
-pub(crate) fn schedule_command<'a>(alloc: Global) -> Result<Command<'a>, AllocError>
-    ensures app { IfOk result (λ c. app_of c ≡ schedule_app) }
+// The command with what is printed, and where its choices come from.
+fn drawn_command<'a>(alloc: Global) -> Result<Command<'a>, AllocError>
+    ensures app { IfOk result (λ c. app_of c ≡ drawn_app) }
     ensures local { IfOk result (λ c. (out-Command c).has_globals ≡ false) }
 {
     let command = headed(
@@ -78,12 +78,19 @@ pub(crate) fn schedule_command<'a>(alloc: Global) -> Result<Command<'a>, AllocEr
         ),
     )?;
     let command = add(command, flag(alloc, "turns", "let the harts take turns"))?;
-    let command = add(
+    add(
         command,
         optional(alloc, "only", "let this hart, from 0 on, take all steps"),
-    )?;
+    )
+}
+
+/// The command as clap takes it.
+pub(crate) fn schedule_command<'a>(alloc: Global) -> Result<Command<'a>, AllocError>
+    ensures app { IfOk result (λ c. app_of c ≡ schedule_app) }
+    ensures local { IfOk result (λ c. (out-Command c).has_globals ≡ false) }
+{
     let command = add(
-        command,
+        drawn_command(alloc)?,
         optional(
             alloc,
             "schedule",

@@ -6,8 +6,8 @@ ghost use Rattle.clap.specs.declared.builder.command.Command.TheViews.{out-Comma
 ghost use Rattle.command_line.specs.Arguments.{holds_all};
 ghost use Rattle.command_line.specs.ShrinkLine.{shrink_app, shrink_names, IsShrink};
 
-use crate::arguments::{add, flag, headed, is_set, needed, needed_option, optional, text_of};
-use crate::help::{CHOICES, HANGS, INPUTS, RULE};
+use crate::arguments::{add, add_schedule, flag, headed, is_set, optional, text_of};
+use crate::help::{HANGS, RULE};
 use clap::{ArgMatches, Command};
 use std::alloc::{AllocError, Global};
 
@@ -38,9 +38,7 @@ pub(crate) fn shrink_command<'a>(alloc: Global) -> Result<Command<'a>, AllocErro
         "Prints a minimal choice text under which a program fails in the same way",
         "Example: rvcons shrink swap.elf --inputs 7,9 --choices seed.choices --rule swap",
     );
-    let command = add(command, needed(alloc, "FILE", "the program, an ELF file"))?;
-    let command = add(command, needed_option(alloc, "inputs", INPUTS))?;
-    let command = add(command, needed_option(alloc, "choices", CHOICES))?;
+    let command = add_schedule(alloc, command)?;
     let command = add(command, optional(alloc, "rule", RULE))?;
     add(command, flag(alloc, "must-exit", HANGS))
 }

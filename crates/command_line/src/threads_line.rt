@@ -7,8 +7,8 @@ ghost use Rattle.clap.specs.declared.builder.command.Command.TheViews.{out-Comma
 ghost use Rattle.command_line.specs.Arguments.{holds_all, IsSet};
 ghost use Rattle.command_line.specs.ThreadsLine.{are_banks, threads_app, threads_names, IsThreads};
 
-use crate::arguments::{add, flag, headed, is_set, needed, needed_option, optional, text_of};
-use crate::help::{INPUTS, RULE};
+use crate::arguments::{add, add_program, flag, headed, is_set, needed_option, optional, text_of};
+use crate::help::RULE;
 use clap::{ArgMatches, Command};
 use std::alloc::{AllocError, Global};
 
@@ -65,8 +65,7 @@ pub(crate) fn threads_command<'a>(alloc: Global) -> Result<Command<'a>, AllocErr
         "Runs each hart in a thread of its own and prints how each one ends",
         "Example: rvcons threads lrsc.elf --inputs 3,5,7,9 --budget 100 --refuse 0:7 --history lrsc.history --rule lrsc",
     );
-    let command = add(command, needed(alloc, "FILE", "the program, an ELF file"))?;
-    let command = add(command, needed_option(alloc, "inputs", INPUTS))?;
+    let command = add_program(alloc, command)?;
     let command = add(command, needed_option(alloc, "budget", BUDGET))?;
     let command = add(command, optional(alloc, "refuse", REFUSE))?;
     let command = add(command, optional(alloc, "history", WRITTEN))?;

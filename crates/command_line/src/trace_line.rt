@@ -4,10 +4,9 @@ ghost use Rattle.std.specs.Prelude.{◌≡◌, false, None, IfOk, IfSome};
 ghost use Rattle.clap.specs.Words.{app_of, rows_of, found_of};
 ghost use Rattle.clap.specs.declared.builder.command.Command.TheViews.{out-Command};
 ghost use Rattle.command_line.specs.Arguments.{holds_all};
-ghost use Rattle.command_line.specs.TraceLine.{trace_app, trace_names, traced_app, IsTrace};
+ghost use Rattle.command_line.specs.TraceLine.{trace_app, trace_names, IsTrace};
 
-use crate::arguments::{add, flag, headed, is_set, needed, needed_option, optional, text_of};
-use crate::help::{CHOICES, INPUTS};
+use crate::arguments::{add, add_schedule, flag, headed, is_set, optional, text_of};
 use clap::{ArgMatches, Command};
 use std::alloc::{AllocError, Global};
 
@@ -30,9 +29,9 @@ pub struct TraceOrder<'a> {
     pub table: bool,
 }
 
-// The command with the words that each trace has.
-fn run_words<'a>(alloc: Global) -> Result<Command<'a>, AllocError>
-    ensures app { IfOk result (λ c. app_of c ≡ traced_app) }
+/// The command as clap takes it.
+pub(crate) fn trace_command<'a>(alloc: Global) -> Result<Command<'a>, AllocError>
+    ensures app { IfOk result (λ c. app_of c ≡ trace_app) }
     ensures local { IfOk result (λ c. (out-Command c).has_globals ≡ false) }
 {
     let command = headed(
@@ -45,17 +44,7 @@ fn run_words<'a>(alloc: Global) -> Result<Command<'a>, AllocError>
         command,
         flag(alloc, "hex", "FILE holds words of eight hexadecimal digits"),
     )?;
-    let command = add(command, needed(alloc, "FILE", "the program, an ELF file"))?;
-    let command = add(command, needed_option(alloc, "inputs", INPUTS))?;
-    add(command, needed_option(alloc, "choices", CHOICES))
-}
-
-/// The command as clap takes it.
-pub(crate) fn trace_command<'a>(alloc: Global) -> Result<Command<'a>, AllocError>
-    ensures app { IfOk result (λ c. app_of c ≡ trace_app) }
-    ensures local { IfOk result (λ c. (out-Command c).has_globals ≡ false) }
-{
-    let command = run_words(alloc)?;
+    let command = add_schedule(alloc, command)?;
     let command = add(
         command,
         optional(

@@ -5,24 +5,14 @@ use Rattle.command_line.proofs.schedule_line.schedule_command.Goals as goal
 
 pub returns-clause-app : goal.returns-clause-app
 returns-clause-app c =
-    let harts = c.in_ok-command.ensures.app ∙ ap₂ with_rule c.headed-command.ensures.app c.needed_option.ensures.rule in
-    let steps = c.in_ok-command-2.ensures.app ∙ ap₂ with_rule harts c.needed_option-2.ensures.rule in
-    let seed = c.in_ok-command-3.ensures.app ∙ ap₂ with_rule steps c.optional.ensures.rule in
-    let turns = c.in_ok-command-4.ensures.app ∙ ap₂ with_rule seed c.flag.ensures.rule in
-    let only = c.in_ok-command-5.ensures.app ∙ ap₂ with_rule turns c.optional-2.ensures.rule in
-    let schedule = c.in_ok-command-6.ensures.app ∙ ap₂ with_rule only c.optional-3.ensures.rule in
-    let refusals = c.in_ok-command-7.ensures.app ∙ ap₂ with_rule schedule c.optional-4.ensures.rule in
-    let inputs = c.in_ok-command-8.ensures.app ∙ ap₂ with_rule refusals c.optional-5.ensures.rule in
-    IfOk-weaker c.add-9.result _ _ (λ r last. last ∙ ap₂ with_rule inputs c.allowed.ensures.rule) c.add-9.ensures.app
+    let schedule = c.in_ok-command.ensures.app ∙ ap₂ with_rule c.in_ok-drawn_command.ensures.app c.optional.ensures.rule in
+    let refusals = c.in_ok-command-2.ensures.app ∙ ap₂ with_rule schedule c.optional-2.ensures.rule in
+    let inputs = c.in_ok-command-3.ensures.app ∙ ap₂ with_rule refusals c.optional-3.ensures.rule in
+    IfOk-weaker c.add-4.result _ _ (λ r last. last ∙ ap₂ with_rule inputs c.allowed.ensures.rule) c.add-4.ensures.app
 
 pub returns-clause-local : goal.returns-clause-local
 returns-clause-local c =
-    let harts = c.in_ok-command.ensures.globals ∙ c.headed-command.ensures.globals in
-    let steps = c.in_ok-command-2.ensures.globals ∙ harts in
-    let seed = c.in_ok-command-3.ensures.globals ∙ steps in
-    let turns = c.in_ok-command-4.ensures.globals ∙ seed in
-    let only = c.in_ok-command-5.ensures.globals ∙ turns in
-    let schedule = c.in_ok-command-6.ensures.globals ∙ only in
-    let refusals = c.in_ok-command-7.ensures.globals ∙ schedule in
-    let inputs = c.in_ok-command-8.ensures.globals ∙ refusals in
-    IfOk-weaker c.add-9.result _ _ (λ r last. last ∙ inputs) c.add-9.ensures.globals
+    let schedule = c.in_ok-command.ensures.globals ∙ c.in_ok-drawn_command.ensures.local in
+    let refusals = c.in_ok-command-2.ensures.globals ∙ schedule in
+    let inputs = c.in_ok-command-3.ensures.globals ∙ refusals in
+    IfOk-weaker c.add-4.result _ _ (λ r last. last ∙ inputs) c.add-4.ensures.globals
