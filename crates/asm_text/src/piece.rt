@@ -106,7 +106,8 @@ fn reference_of(word: &[u8]) -> Piece
     }
 }
 
-// A run of name characters as a piece.
+// A run of name characters as a piece. Inlined as `front` is, which it is a part of.
+#[inline(always)]
 #[tactic(auto, unfolding(crate::specs::Pieces::word_piece))]
 fn word_piece(word: &[u8]) -> Piece
     requires { 0 < length word.now }
@@ -123,6 +124,9 @@ fn word_piece(word: &[u8]) -> Piece
 }
 
 /// The piece at the front of a text.
+// It has two callers: what reads sources, for each lexeme, and what reads one line for advice. Left to itself the compiler inlines it in neither, and a line of
+// source takes a tenth more instructions.
+#[inline(always)]
 #[tactic(auto, unfolding(crate::specs::Pieces::front))]
 pub fn front(text: &[u8]) -> Piece
     requires { 0 < length text.now }
