@@ -4,14 +4,15 @@ ghost use Rattle.std.specs.Prelude.{◌≡◌, ◌++◌, ◌+◌, ◌<◌, ◌�
 ghost use Rattle.std.specs.List.{range_with_len};
 ghost use Rattle.campaigns.specs.Blocks.{block_seeds};
 
-/// The most seeds of a block: the harts of their ends take less than 2 MB.
-pub const MOST_SEEDS: u64 = 1024;
+/// The most seeds of a block: the ends of their runs take less than 6 MB for 8 harts, and some 20 MB for 32.
+pub const MOST_SEEDS: u64 = 4096;
 
 /// The fewest seeds of a block, where so many are left: enough to keep the processors at work.
 pub const LEAST_SEEDS: u64 = 64;
 
-/// About how many steps the runs of a block take together, within these limits.
-pub const BLOCK_STEPS: u64 = 1 << 24;
+/// About how many steps the runs of a block take together, within these limits. At a block's end processors wait for the last of them, so the longer a block
+/// runs, the less of its time they wait; 2^26 steps take some tenths of a second.
+pub const BLOCK_STEPS: u64 = 1 << 26;
 
 /// Seeds that follow one another.
 #[derive(Clone, Copy, PartialEq, Eq)]

@@ -153,7 +153,7 @@ fn left_behind<'a>(
 
 /// Whether the blocks of a campaign of so many seeds are the campaign as a whole; none where memory is refused.
 fn are_blocks_whole<R: Threads + Sync>(rt: &R, alloc: Global, count: u64) -> Option<bool>
-    requires { count ≤ 2500 }
+    requires { count ≤ 5000 }
 {
     let image = program(alloc).ok()?;
     let inputs = [7, 9];
@@ -173,7 +173,7 @@ fn are_blocks_whole<R: Threads + Sync>(rt: &R, alloc: Global, count: u64) -> Opt
 
 #[test]
 fn blocks_are_the_whole(rt: HostRuntime) {
-    for count in [0, 1, 63, 64, 65, 2500] {
+    for count in [0, 1, 63, 64, 65, 5000] {
         assert!(rt;
             are_blocks_whole(&rt, rt.alloc(), count) == Some(true),
             "{count} seeds"

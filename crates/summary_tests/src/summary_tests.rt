@@ -265,8 +265,8 @@ fn counted_summary(
 // Several blocks, from the first step on.
 #[rattlefmt::skip]
 const HISTOGRAMS: [CampaignPlan; 4] = [
-    CampaignPlan { first: 0, count: 3000, steps: 12, rule: None },
-    CampaignPlan { first: 7, count: 1500, steps: 22, rule: None },
+    CampaignPlan { first: 0, count: 9000, steps: 12, rule: None },
+    CampaignPlan { first: 7, count: 5000, steps: 22, rule: None },
     CampaignPlan { first: u64::MAX - 99, count: 100, steps: 40, rule: None },
     CampaignPlan { first: 5, count: 1, steps: 300, rule: None },
 ];
@@ -340,7 +340,7 @@ fn has_bad_lines(rt: &(impl Threads + Sync), alloc: Global, row: &Bad) -> Option
     let program = program_of(&file, &[7, 9, 5]);
     let plan = CampaignPlan {
         first: 3,
-        count: 2500,
+        count: 5000,
         steps: row.steps,
         rule: row.rule,
     };
