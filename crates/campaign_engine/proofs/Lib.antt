@@ -1,2 +1,3 @@
 pub mod CampaignLemmas
 pub mod KeptLemmas
+pub mod JudgedLemmas

@@ -1,1 +1,2 @@
 pub mod Campaign
+pub mod Judged

@@ -1,28 +1,25 @@
 //! `campaign`: a program and a range of seeds in; a line for the run of each seed out.
 
-ghost use Rattle.std.specs.Prelude.{◌≡◌, ◌≢◌, ◌+◌, ◌++◌, ◌-◌, ◌^◌, ◌<◌, ◌≤◌, ◌⊎◌, Ok, Err, IfOk, IfErr, IfSome, length, map, string_bytes};
-ghost use Rattle.std.specs.List.{All};
+ghost use Rattle.std.specs.Prelude.{◌≡◌, ◌≢◌, ◌+◌, ◌-◌, ◌^◌, ◌<◌, ◌≤◌, ◌⊎◌, Ok, Err, IfOk, IfErr, IfSome, string_bytes};
 ghost use Rattle.std.specs.Io.KnownBytes.{Appends, Keeps};
-ghost use Rattle.hart_step.specs.Hart.{hart_of};
-ghost use Rattle.campaigns.specs.Campaign.{ends_of, plain_runs, RemembersChosen};
+ghost use Rattle.campaigns.specs.Campaign.{plain_runs};
 ghost use Rattle.machine.specs.Start.{IsStartable};
-ghost use Rattle.campaign_engine.specs.Campaign.{after_image, bad_runs, bad_status, campaign_answer, counted, counts, entry_with, is_bad, run_verdict, seed_line, seed_lines, status_of_runs, IfHalts};
+ghost use Rattle.campaign_engine.specs.Campaign.{after_image, bad_runs, bad_status, campaign_answer, seed_lines, status_of_runs, IfHalts};
 ghost use Rattle.engines.specs.Certified.{IsCertified};
 ghost use Rattle.engines.specs.Run.{BeginsToPrint, Prints, Begins};
 ghost use Rattle.programs.specs.RunFaults.{IfReads, IsRefusal};
 
-use campaigns::{Block, SeedRun, Seeds, campaign};
+use crate::block::judge_block;
+use crate::judged_run::push_judged;
+use campaigns::{Block, Seeds};
 use devices::{Sink, Source, Status, write_all};
-use ends::has_faulted;
 use engines::see_words;
-use hart_step::{Hart, HartState};
 use machine::check_inputs;
 use program_images::Image;
 use programs::{ProgramForm, RunFault, read_image};
 use progress::Progress;
-use protocol_library::{Kind, Verdict, judge};
+use protocol_library::Kind;
 use std::alloc::{AllocError, Allocator};
-use std::fmt;
 use std::thread::Threads;
 
 /// Which runs a campaign does: one for each of `count` seeds from `first` on, each of so many steps, and each judged by a
@@ -50,78 +47,6 @@ pub enum End {
     Running,
 }
 
-// 1 where a state is of this kind, else 0.
-fn counts(wanted: End, state: HartState) -> usize
-    ensures value { result ≡ counts wanted state }
-    ensures small { result ≤ 1 }
-{
-    match (wanted, state) {
-        (End::Exited, HartState::Exited(_)) => 1,
-        (End::Faulted, HartState::Faulted(_)) => 1,
-        (End::Running, HartState::Running) => 1,
-        _ => 0,
-    }
-}
-
-// How many harts have a state of this kind.
-fn count(wanted: End, harts: &[Hart]) -> usize
-    ensures { result ≡ counted wanted (map hart_of harts.now) }
-{
-    let mut count = 0;
-    'harts: for hart in harts {
-        count += counts(wanted, hart.state);
-    }
-    count
-}
-
-// How many harts of a seed's run ended in each way, shown as a line without its end.
-#[derive(Clone, Copy)]
-struct SeedLine {
-    seed: u64,
-    exited: usize,
-    faulted: usize,
-    running: usize,
-}
-
-impl fmt::Display for SeedLine {
-    ghost use Rattle.std.specs.Prelude.{Some};
-
-    ghost output = { λ l. Some (seed_line l.seed l.exited l.faulted l.running) };
-
-    fn fmt<W: fmt::Write>(&self, f: &mut fmt::Formatter<W>) -> fmt::Result {
-        let seed = self.seed;
-        let exited = self.exited;
-        let faulted = self.faulted;
-        let running = self.running;
-        write!(
-            f,
-            "seed {seed} exited {exited} faulted {faulted} running {running}"
-        )
-    }
-}
-
-// What a judge says of a run, where there is a rule.
-fn judge_run<A: Allocator>(inputs: &[u32], plan: CampaignPlan, run: &SeedRun<A>) -> Option<Verdict>
-    requires { RemembersChosen (length inputs.now) plan.steps run.now }
-    ensures { result ≡ run_verdict plan.rule inputs.now plan.steps (ends_of run.now) }
-{
-    let Some(kind) = plan.rule else {
-        return None;
-    };
-    Some(judge(kind, inputs, &run.chosen, &run.harts))
-}
-
-// Whether a run is bad: by the verdict, or without one by whether some hart was stopped by its instruction.
-fn is_bad(verdict: Option<Verdict>, harts: &[Hart]) -> bool
-    ensures { result ≡ is_bad verdict (map hart_of harts.now) }
-{
-    match verdict {
-        None => has_faulted(harts),
-        Some(Verdict::Kept) => false,
-        Some(Verdict::Broken) => true,
-    }
-}
-
 // The status of a campaign with a bad run.
 fn bad_status(rule: Option<Kind>) -> Status
     ensures { result ≡ bad_status rule }
@@ -130,51 +55,6 @@ fn bad_status(rule: Option<Kind>) -> Status
         None => Status::Faulted,
         Some(_) => Status::Broken,
     }
-}
-
-// Appends the line of a run.
-fn push_run<A: Allocator>(
-    text: &mut String<A>,
-    run: &SeedRun<A>,
-    verdict: Option<Verdict>,
-) -> Result<(), AllocError>
-    ensures { IfOk result (λ _.
-        string_bytes text.new ≡ string_bytes text.old ++ entry_with verdict (ends_of run.now)) }
-{
-    let line = SeedLine {
-        seed: run.seed,
-        exited: count(End::Exited, &run.harts),
-        faulted: count(End::Faulted, &run.harts),
-        running: count(End::Running, &run.harts),
-    };
-    match verdict {
-        None => writeln!(text, "{line}")?,
-        Some(verdict) => writeln!(text, "{line} {verdict}")?,
-    }
-    Ok(())
-}
-
-/// Appends the lines of runs of a plan, in order, and counts those that are bad.
-pub fn push_runs<A: Allocator>(
-    text: &mut String<A>,
-    inputs: &[u32],
-    plan: CampaignPlan,
-    runs: &[SeedRun<A>],
-) -> Result<usize, AllocError>
-    // Each run remembers which harts its seed's schedule chose.
-    requires { All (RemembersChosen (length inputs.now) plan.steps) runs.now }
-    ensures lines { IfOk result (λ _. string_bytes text.new
-        ≡ string_bytes text.old ++ seed_lines plan.rule inputs.now plan.steps (map ends_of runs.now)) }
-    ensures bad { IfOk result (λ bad.
-        bad ≡ bad_runs plan.rule inputs.now plan.steps (map ends_of runs.now)) }
-{
-    let mut bad = 0;
-    'runs: for run in runs {
-        let verdict = judge_run(inputs, plan, run);
-        push_run(text, run, verdict)?;
-        bad += usize::from(is_bad(verdict, &run.harts));
-    }
-    Ok(bad)
 }
 
 // The lines of a block of seeds, and how many of them are bad.
@@ -195,19 +75,9 @@ fn block_text<A: Allocator + Copy + Send + Sync>(
         ≡ bad_runs plan.rule inputs.now plan.steps
         (plain_runs image.now inputs.now plan.steps block.first block.count)) }
 {
-    let Ok(runs) = campaign(
-        rt,
-        alloc,
-        image,
-        inputs,
-        block.first,
-        block.count,
-        plan.steps,
-    ) else {
-        return Err(AllocError);
-    };
+    let runs = judge_block(rt, alloc, image, inputs, plan, block)?;
     let mut text = String::new(alloc);
-    let bad = push_runs(&mut text, inputs, plan, &runs)?;
+    let bad = push_judged(&mut text, &runs)?;
     Ok((text, bad))
 }
 

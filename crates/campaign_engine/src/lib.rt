@@ -1,6 +1,9 @@
 //! What `campaign` does, over any source of bytes and any sink.
 #![tactic(auto)]
 
-pub use campaign::{CampaignPlan, End, campaign_engine, push_runs};
+pub use campaign::{CampaignPlan, End, campaign_engine};
+pub use judged_run::push_runs;
 
+mod block;
 mod campaign;
+mod judged_run;

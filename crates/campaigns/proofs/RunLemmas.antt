@@ -39,7 +39,7 @@ runs-plain image inputs steps first count start begun =
     ap (λ w. map (ends_from w (length inputs) steps) (range_with_len first count)) begun
 
 -- places that are counted from 0, and numbers that are counted from a first one
-map-shifted : {X : Type 0} (f : ℕ → X) (a b n : ℕ) → map (λ place. f (a + place)) (range_with_len b n) ≡ map f (range_with_len (a + b) n)
+pub map-shifted : {X : Type 0} (f : ℕ → X) (a b n : ℕ) → map (λ place. f (a + place)) (range_with_len b n) ≡ map f (range_with_len (a + b) n)
 map-shifted f a b zero = refl
 map-shifted f a b (suc n) =
     let next : a + (b + 1) ≡ a + b + 1 = omega arith in

@@ -1,5 +1,5 @@
 -- The runs of seeds, one by one and as a list.
-use Rattle.std.proofs.Common.{◌≡◌, ℕ, zero, suc, ◌+◌, List, [], ◌∷◌, map, length, Ok, Err, IfOk, Option, Some, None, refl, arith, ap, ap₂, sym, ◌∙◌, subst}
+use Rattle.std.proofs.Common.{◌≡◌, ℕ, ◌+◌, List, [], ◌∷◌, map, length, Ok, Err, IfOk, Option, Some, None, refl, arith, ap, ap₂, sym, ◌∙◌, subst}
 use Rattle.std.specs.Prelude.{MatchResult}
 use Rattle.std.specs.List.{AllZip, Contains, range_with_len}
 use Rattle.std.specs.declared.result.Result.{Result}
@@ -13,6 +13,7 @@ use Rattle.machine.specs.Chosen.{is_chosen}
 use Rattle.machine.specs.declared.choice.Choice.{Choice}
 use Rattle.machine.proofs.RunLaws.{length-started}
 use Rattle.choice_runs.specs.Harts.{Harts}
+use Rattle.campaigns.proofs.RunLemmas.{map-shifted}
 use Rattle.schedule_kinds.specs.Kinds.{kind_choices, RanOver}
 use Rattle.ends.specs.Ends.{verdict_on}
 use Rattle.outcomes.specs.Outcome.{OutcomeValue}
@@ -48,13 +49,6 @@ pub outcomes-started : (plan : DrawnPlan) (image : ImageValue) (inputs seeds : L
     → map (outcome_from start plan inputs) seeds ≡ outcomes_of plan image inputs seeds
 unfolding outcomes_of
 outcomes-started plan image inputs seeds start begun = ap (λ w. map (outcome_from w plan inputs) seeds) begun
-
--- places that are counted from 0, and numbers that are counted from a first one
-map-shifted : {X : Type 0} (f : ℕ → X) (a b n : ℕ) → map (λ place. f (a + place)) (range_with_len b n) ≡ map f (range_with_len (a + b) n)
-map-shifted f a b zero = refl
-map-shifted f a b (suc n) =
-    let next : a + (b + 1) ≡ a + b + 1 = omega arith in
-    ap (λ xs. f (a + b) ∷ xs) (map-shifted f a (b + 1) n ∙ ap (λ k. map f (range_with_len k n)) next)
 
 abbrev all_ok : {Z : Type 0} → List (SeedEnd Z) → List (Result (SeedEnd Z) AllocError)
 all_ok ys = map Ok ys

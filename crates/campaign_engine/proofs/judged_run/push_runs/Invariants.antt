@@ -1,7 +1,7 @@
 use Rattle.std.proofs.Common.{◌≡◌, ◌+◌, ◌≤◌, ◌++◌, string_bytes, drop, map}
 use Rattle.campaigns.specs.Campaign.{ends_of}
 use Rattle.campaign_engine.specs.Campaign.{bad_runs, seed_lines}
-use Rattle.campaign_engine.proofs.campaign.push_runs.Given as goal
+use Rattle.campaign_engine.proofs.judged_run.push_runs.Given as goal
 
 -- the text so far, and then the lines that are left; those that are counted, and those of the runs that are left
 abbrev pub invariant-runs : goal.invariant-runs

@@ -5,7 +5,7 @@ use Rattle.scheduler.specs.Schedules.{seeded_choices}
 use Rattle.protocol_library.specs.Judging.{verdict_of}
 use Rattle.protocol_library.proofs.ChosenLemmas.{same_verdict}
 use Rattle.campaign_engine.specs.Campaign.{run_verdict}
-use Rattle.campaign_engine.proofs.campaign.judge_run.Goals as goal
+use Rattle.campaign_engine.proofs.judged_run.judge_run.Goals as goal
 
 pub returns : goal.returns
 returns g c =
