@@ -19,7 +19,7 @@ use std::thread::Threads;
 
 /// What is told of the runs of a block of seeds, in order. Each run is judged by the thread that does it, and its harts are
 /// given back then. One machine is started for all of them.
-pub(crate) fn judge_block<A: Allocator + Copy + Send + Sync, B: Allocator + Sync>(
+pub fn judge_block<A: Allocator + Copy + Send + Sync, B: Allocator + Sync>(
     rt: &(impl Threads + Sync),
     alloc: A,
     image: &Image<B>,

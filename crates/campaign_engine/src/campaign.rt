@@ -10,7 +10,7 @@ ghost use Rattle.engines.specs.Run.{BeginsToPrint, Prints, Begins};
 ghost use Rattle.programs.specs.RunFaults.{IfReads, IsRefusal};
 
 use crate::block::judge_block;
-use crate::judged_run::push_judged;
+use crate::judged_run::push_runs;
 use campaigns::{Block, Seeds};
 use devices::{Sink, Source, Status, write_all};
 use engines::see_words;
@@ -77,7 +77,7 @@ fn block_text<A: Allocator + Copy + Send + Sync>(
 {
     let runs = judge_block(rt, alloc, image, inputs, plan, block)?;
     let mut text = String::new(alloc);
-    let bad = push_judged(&mut text, &runs)?;
+    let bad = push_runs(&mut text, &runs)?;
     Ok((text, bad))
 }
 

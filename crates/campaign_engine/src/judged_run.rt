@@ -1,10 +1,9 @@
 //! What is told of the run of a seed: its line, and whether it is bad.
 
 ghost use Rattle.std.specs.Prelude.{◌≡◌, ◌++◌, ◌≤◌, IfOk, length, map, string_bytes};
-ghost use Rattle.std.specs.List.{All};
 ghost use Rattle.hart_step.specs.Hart.{hart_of};
 ghost use Rattle.campaigns.specs.Campaign.{ends_of, RemembersChosen};
-ghost use Rattle.campaign_engine.specs.Campaign.{bad_runs, counted, counts, is_bad, run_verdict, seed_line, seed_lines};
+ghost use Rattle.campaign_engine.specs.Campaign.{counted, counts, is_bad, run_verdict, seed_line};
 ghost use Rattle.campaign_engine.specs.Judged.{bad_count, judged, judged_entry, judged_lines};
 
 use crate::campaign::{CampaignPlan, End};
@@ -67,13 +66,22 @@ impl fmt::Display for SeedLine {
 
 /// What is told of the run of a seed. It is small, however many harts there are.
 #[derive(Clone, Copy, Drop)]
-pub(crate) struct JudgedRun {
+pub struct JudgedRun {
     // How the harts ended.
     line: SeedLine,
     // What a judge says of the run, where there is a rule.
     verdict: Option<Verdict>,
     // By the verdict, or without one by whether some hart was stopped by its instruction.
     is_bad: bool,
+}
+
+impl JudgedRun {
+    /// Whether the run is bad: by the verdict, or without a rule by whether some hart was stopped by its instruction.
+    pub fn is_bad(&self) -> bool
+        ensures { result ≡ self.now.is_bad }
+    {
+        self.is_bad
+    }
 }
 
 // What a judge says of a run, where there is a rule.
@@ -99,11 +107,7 @@ fn is_bad(verdict: Option<Verdict>, harts: &[Hart]) -> bool
 }
 
 /// What is told of a run under a plan's rule, if there is one.
-pub(crate) fn judged<A: Allocator>(
-    inputs: &[u32],
-    plan: CampaignPlan,
-    run: &SeedRun<A>,
-) -> JudgedRun
+pub fn judged<A: Allocator>(inputs: &[u32], plan: CampaignPlan, run: &SeedRun<A>) -> JudgedRun
     requires { RemembersChosen (length inputs.now) plan.steps run.now }
     ensures { result ≡ judged plan.rule inputs.now plan.steps (ends_of run.now) }
 {
@@ -120,8 +124,8 @@ pub(crate) fn judged<A: Allocator>(
     }
 }
 
-// Appends the line of a run.
-fn push_line<A: Allocator>(text: &mut String<A>, run: &JudgedRun) -> Result<(), AllocError>
+/// Appends the line of a run that was judged.
+pub fn push_line<A: Allocator>(text: &mut String<A>, run: &JudgedRun) -> Result<(), AllocError>
     ensures { IfOk result (λ _. string_bytes text.new ≡ string_bytes text.old ++ judged_entry run.now) }
 {
     let line = run.line;
@@ -133,7 +137,7 @@ fn push_line<A: Allocator>(text: &mut String<A>, run: &JudgedRun) -> Result<(), 
 }
 
 /// Appends the lines of runs that were judged, in order, and counts those that are bad.
-pub(crate) fn push_judged<A: Allocator>(
+pub fn push_runs<A: Allocator>(
     text: &mut String<A>,
     runs: &[JudgedRun],
 ) -> Result<usize, AllocError>
@@ -143,29 +147,6 @@ pub(crate) fn push_judged<A: Allocator>(
     let mut bad = 0;
     'runs: for run in runs {
         push_line(text, run)?;
-        bad += usize::from(run.is_bad);
-    }
-    Ok(bad)
-}
-
-/// Appends the lines of runs of a plan, in order, and counts those that are bad.
-pub fn push_runs<A: Allocator>(
-    text: &mut String<A>,
-    inputs: &[u32],
-    plan: CampaignPlan,
-    runs: &[SeedRun<A>],
-) -> Result<usize, AllocError>
-    // Each run remembers which harts its seed's schedule chose.
-    requires { All (RemembersChosen (length inputs.now) plan.steps) runs.now }
-    ensures lines { IfOk result (λ _. string_bytes text.new
-        ≡ string_bytes text.old ++ seed_lines plan.rule inputs.now plan.steps (map ends_of runs.now)) }
-    ensures bad { IfOk result (λ bad.
-        bad ≡ bad_runs plan.rule inputs.now plan.steps (map ends_of runs.now)) }
-{
-    let mut bad = 0;
-    'runs: for run in runs {
-        let run = judged(inputs, plan, run);
-        push_line(text, &run)?;
         bad += usize::from(run.is_bad);
     }
     Ok(bad)

@@ -1,8 +1,9 @@
 //! What `campaign` does, over any source of bytes and any sink.
 #![tactic(auto)]
 
+pub use block::judge_block;
 pub use campaign::{CampaignPlan, End, campaign_engine};
-pub use judged_run::push_runs;
+pub use judged_run::{JudgedRun, judged, push_line, push_runs};
 
 mod block;
 mod campaign;

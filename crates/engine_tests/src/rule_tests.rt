@@ -1,6 +1,6 @@
 //! What no clause says: the objects' files, run and put through campaigns under their rules.
 use crate::object_files::object_file;
-use campaign_engine::{CampaignPlan, campaign_engine, push_runs};
+use campaign_engine::{CampaignPlan, campaign_engine, judged, push_runs};
 use campaigns::SeedRun;
 use engines::{
     FileView, MemorySink, MemorySource, ProgramForm, RunFault, Status, file_engine, run_engine,
@@ -296,13 +296,12 @@ fn lines_of<A: Allocator + Copy>(alloc: A) -> Result<String<A>, AllocError> {
         state: HartState::Running,
     };
     let harts = Vec::from_slice(alloc, &[hart, hart])?;
-    let mut runs = Vec::new(alloc);
     let chosen = Vec::new(alloc);
-    runs.push(SeedRun {
+    let run = SeedRun {
         seed: 5,
         harts,
         chosen,
-    })?;
+    };
     let plan = CampaignPlan {
         first: 5,
         count: 1,
@@ -310,7 +309,7 @@ fn lines_of<A: Allocator + Copy>(alloc: A) -> Result<String<A>, AllocError> {
         rule: Some(Kind::Swap),
     };
     let mut text = String::new(alloc);
-    push_runs(&mut text, &[7, 9], plan, &runs)?;
+    push_runs(&mut text, &[judged(&[7, 9], plan, &run)])?;
     Ok(text)
 }
 

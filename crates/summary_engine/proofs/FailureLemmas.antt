@@ -1,16 +1,15 @@
 -- How far the failures of a campaign are written, block by block.
-use Rattle.std.proofs.Common.{◌≡◌, ℕ, ◌+◌, ◌<◌, Bool, true, false, ltb, List, [], ◌∷◌, ◌++◌, filter, map, length, drop, take, get_or, slice_range, if◌then◌else◌, Option, append-nil, append_assoc, refl, rules, ap, sym, subst, ◌∙◌}
+use Rattle.std.proofs.Common.{◌≡◌, ℕ, ◌+◌, Bool, true, false, ltb, List, [], ◌∷◌, ◌++◌, filter, map, take, if◌then◌else◌, Option, append-nil, append_assoc, refl, rules, ap, sym, subst, ◌∙◌}
 use Rattle.std.proofs.KnownBytes.{Appends-nil, Appends-trans}
 use Rattle.std.proofs.lemmas.Grind.{common_steps}
 use Rattle.std.specs.Io.KnownBytes.{Appends}
-use Rattle.campaigns.specs.Campaign.{SeedEnds, ends_of}
-use Rattle.campaigns.specs.declared.seed_run.SeedRun.{SeedRun}
-use Rattle.campaign_engine.specs.Campaign.{bad_runs, seed_lines}
+use Rattle.campaigns.specs.Campaign.{SeedEnds}
+use Rattle.campaign_engine.specs.Campaign.{bad_runs, seed_entry, seed_lines}
+use Rattle.campaign_engine.specs.Judged.{judged}
 use Rattle.engines.specs.Run.{Begins}
 use Rattle.campaign_engine.specs.declared.campaign.CampaignPlan.{CampaignPlan}
 use Rattle.campaign_engine.proofs.CampaignLemmas.{bad-append, begins_at, begins_in, lines-append}
-use Rattle.summary_engine.specs.Summary.{failures_of, is_bad_run, lines_where}
-use Rattle.summary_engine.proofs.RunLemmas.{next_run, only_run}
+use Rattle.summary_engine.specs.Summary.{failures_of, is_bad_run, judged_failures}
 
 module _ (plan : CampaignPlan) (inputs : List ℕ) where
   filter_both : (runs more : List SeedEnds) → filter (is_bad_run plan inputs) (runs ++ more) ≡ filter (is_bad_run plan inputs) runs ++ filter (is_bad_run plan inputs) more
@@ -80,29 +79,19 @@ module _ (plan : CampaignPlan) (inputs : List ℕ) where
       (begins_in old now new (failures_of plan inputs h.done) (failures_of plan inputs block) (failures_of plan inputs left) more.0 h.text
       (subst (λ text. Appends now new (take more.0 text)) lines more.1))
 
-  -- a run's line, where it is bad, comes before those of the runs behind it
-  pub line_first : (run : SeedEnds) (runs : List SeedEnds)
-      → failures_of plan inputs (run ∷ runs) ≡ lines_where (is_bad_run plan inputs run) plan inputs (run ∷ []) ++ failures_of plan inputs runs
-  line_first run runs = by (is_bad_run plan inputs run)
+  -- the lines of the bad ones among what is told of runs are the failures of the runs
+  pub failures-judged : (runs : List SeedEnds) → judged_failures (map (judged plan.rule inputs plan.steps) runs) ≡ failures_of plan inputs runs
+  failures-judged [] = refl
+  failures-judged (run ∷ runs) = by (is_bad_run plan inputs run) (failures-judged runs)
     where
-      bad : List SeedEnds
-      bad = filter (is_bad_run plan inputs) runs
+      entry : List ℕ
+      entry = seed_entry plan.rule inputs plan.steps run
 
-      by : (b : Bool) → seed_lines plan.rule inputs plan.steps (if b then run ∷ bad else bad)
-          ≡ lines_where b plan inputs (run ∷ []) ++ seed_lines plan.rule inputs plan.steps bad
-      by true = lines-append plan.rule inputs plan.steps (run ∷ []) bad
-      by false = refl
+      rest : List SeedEnds
+      rest = filter (is_bad_run plan inputs) runs
 
-  module _ {Z : Type 0} (runs : List (SeedRun Z)) (place : ℕ) (run : SeedRun Z) (there : place < length runs) (is : run ≡ get_or runs place run) (test : Bool) (tested : test ≡ is_bad_run plan inputs (ends_of run)) where
-    -- one run more is gone through: its line was appended, where it is bad
-    pub one_line_more : (before after target : List ℕ) → after ≡ before ++ lines_where test plan inputs (map ends_of (slice_range runs place (place + 1)))
-        → before ++ failures_of plan inputs (map ends_of (drop place runs)) ≡ target
-        → after ++ failures_of plan inputs (map ends_of (drop (place + 1) runs)) ≡ target
-    one_line_more before after target more so_far =
-        let rest = failures_of plan inputs (map ends_of (drop (place + 1) runs)) in
-        ap (λ text. text ++ rest) (more ∙ ap (λ one. before ++ lines_where test plan inputs (map ends_of one)) (only_run runs place run there is)
-        ∙ ap (λ b. before ++ lines_where b plan inputs (ends_of run ∷ [])) tested)
-        ∙ append_assoc before (lines_where (is_bad_run plan inputs (ends_of run)) plan inputs (ends_of run ∷ [])) rest
-        ∙ ap (λ text. before ++ text) (sym (line_first (ends_of run) (map ends_of (drop (place + 1) runs))))
-        ∙ ap (λ left. before ++ failures_of plan inputs (map ends_of left)) (sym (next_run runs place run there is))
-        ∙ so_far
+      by : (b : Bool) → judged_failures (map (judged plan.rule inputs plan.steps) runs) ≡ failures_of plan inputs runs
+          → (if b then entry else []) ++ judged_failures (map (judged plan.rule inputs plan.steps) runs)
+          ≡ seed_lines plan.rule inputs plan.steps (if b then run ∷ rest else rest)
+      by true more = ap (λ text. entry ++ text) more
+      by false more = more

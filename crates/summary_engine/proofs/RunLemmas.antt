@@ -1,5 +1,5 @@
 -- Runs, one by one.
-use Rattle.std.proofs.Common.{◌≡◌, ℕ, ◌+◌, ◌-◌, ◌<◌, ◌≤◌, Bool, true, false, List, [], ◌∷◌, map, length, drop, take, get_or, slice_range, arith, refl, ap, sym, ◌∙◌}
+use Rattle.std.proofs.Common.{◌≡◌, ℕ, ◌+◌, ◌-◌, ◌<◌, ◌≤◌, Bool, true, false, List, [], ◌∷◌, map, length, drop, get_or, arith, refl, ap, sym, ◌∙◌}
 use Rattle.std.proofs.lemmas.List.{drop_more}
 use Rattle.std.specs.Int.{from_bool}
 use Rattle.campaigns.specs.Campaign.{ends_of}
@@ -12,15 +12,6 @@ use Rattle.summary_engine.specs.Summary.{is_bad_run}
 pub next_run : {X : Type 0} (runs : List X) (place : ℕ) (run : X) → place < length runs → run ≡ get_or runs place run
     → drop place runs ≡ run ∷ drop (place + 1) runs
 next_run runs place run there is = drop_more runs place run there ∙ ap (λ first. first ∷ drop (place + 1) runs) (sym is)
-
--- and is all that stands there
-pub only_run : {X : Type 0} (runs : List X) (place : ℕ) (run : X) → place < length runs → run ≡ get_or runs place run
-    → slice_range runs place (place + 1) ≡ run ∷ []
-only_run runs place run there is =
-    ap (λ n. take n (drop place runs)) one ∙ ap (take 1) (next_run runs place run there is)
-  where
-    one : place + 1 - place ≡ 1
-    one = omega arith
 
 bit : (test : Bool) → from_bool test ≡ one_if test
 bit true = refl

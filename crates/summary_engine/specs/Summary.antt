@@ -5,7 +5,9 @@ use Rattle.std.specs.List.{flat_map}
 use Rattle.campaigns.specs.Campaign.{SeedEnds}
 use Rattle.names_and_digits.specs.Digits.{word_text}
 use Rattle.campaign_engine.specs.Campaign.{is_bad, run_verdict, seed_lines, verdict_word}
+use Rattle.campaign_engine.specs.Judged.{judged_entry}
 use Rattle.campaign_engine.specs.declared.campaign.CampaignPlan.{CampaignPlan}
+use Rattle.campaign_engine.specs.declared.judged_run.JudgedRun.{JudgedRun}
 use Rattle.outcomes.specs.Tally.{Row, tally_of}
 use Rattle.outcomes.specs.declared.outcome.HartResult.{HartResult}
 use Rattle.outcomes.specs.declared.tally.SeedCount.{SeedCount}
@@ -50,6 +52,10 @@ is_bad_run plan inputs run = is_bad (run_verdict plan.rule inputs plan.steps run
 abbrev pub failures_of : CampaignPlan → List ℕ → List SeedEnds → List ℕ
 failures_of plan inputs runs = seed_lines plan.rule inputs plan.steps (filter (is_bad_run plan inputs) runs)
 
--- the lines of runs where a test holds, else none
-abbrev pub lines_where : Bool → CampaignPlan → List ℕ → List SeedEnds → List ℕ
-lines_where test plan inputs runs = if test then seed_lines plan.rule inputs plan.steps runs else []
+-- the line of a run that was judged, where it is bad, else nothing
+abbrev pub entry_where_bad : JudgedRun → List ℕ
+entry_where_bad run = if run.is_bad then judged_entry run else []
+
+-- the lines of the bad ones among runs that were judged
+abbrev pub judged_failures : List JudgedRun → List ℕ
+judged_failures runs = flat_map entry_where_bad runs

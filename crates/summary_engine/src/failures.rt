@@ -1,19 +1,19 @@
 //! `campaign --failures`: a program and a range of seeds in; the lines of the bad ones out.
 
-ghost use Rattle.std.specs.Prelude.{◌≡◌, ◌≢◌, ◌+◌, ◌++◌, ◌-◌, ◌^◌, ◌<◌, ◌≤◌, ◌⊎◌, Ok, Err, IfOk, IfErr, IfSome, length, map, slice_range, string_bytes};
+ghost use Rattle.std.specs.Prelude.{◌≡◌, ◌≢◌, ◌+◌, ◌++◌, ◌-◌, ◌^◌, ◌<◌, ◌≤◌, ◌⊎◌, Ok, Err, IfOk, IfErr, IfSome, string_bytes};
 ghost use Rattle.std.specs.Io.KnownBytes.{Appends, Keeps};
-ghost use Rattle.std.specs.List.{All};
-ghost use Rattle.campaigns.specs.Campaign.{ends_of, plain_runs, RemembersChosen};
+ghost use Rattle.campaigns.specs.Campaign.{plain_runs};
 ghost use Rattle.campaign_engine.specs.Campaign.{bad_runs, status_of_runs, IfHalts};
 ghost use Rattle.engines.specs.Run.{BeginsToPrint, Prints, Begins};
 ghost use Rattle.machine.specs.Start.{IsStartable};
 ghost use Rattle.programs.specs.RunFaults.{IfReads, IsRefusal};
 ghost use Rattle.summary_engine.specs.Answers.{after_image, failures_answer, planned_runs};
-ghost use Rattle.summary_engine.specs.Summary.{failures_of, lines_where};
+ghost use Rattle.campaign_engine.specs.Judged.{bad_count};
+ghost use Rattle.summary_engine.specs.Summary.{entry_where_bad, failures_of, judged_failures};
 
-use crate::judging::{is_bad_run, status_after};
-use campaign_engine::{CampaignPlan, push_runs};
-use campaigns::{Block, SeedRun, Seeds, campaign};
+use crate::judging::status_after;
+use campaign_engine::{CampaignPlan, JudgedRun, judge_block, push_line};
+use campaigns::{Block, Seeds};
 use devices::{Sink, Source, Status, write_all};
 use machine::check_inputs;
 use program_images::Image;
@@ -22,46 +22,30 @@ use progress::Progress;
 use std::alloc::{AllocError, Allocator};
 use std::thread::Threads;
 
-/// Appends the lines of the bad ones among runs, in order, and counts them.
-pub fn push_failures<A: Allocator>(
-    text: &mut String<A>,
-    inputs: &[u32],
-    plan: CampaignPlan,
-    runs: &[SeedRun<A>],
-) -> Result<usize, AllocError>
-    requires { All (RemembersChosen (length inputs.now) plan.steps) runs.now }
-    ensures lines { IfOk result (λ _. string_bytes text.new
-        ≡ string_bytes text.old ++ failures_of plan inputs.now (map ends_of runs.now)) }
-    ensures bad { IfOk result (λ bad.
-        bad ≡ bad_runs plan.rule inputs.now plan.steps (map ends_of runs.now)) }
+// Appends the line of a run that was judged, where it is bad.
+fn push_where_bad<A: Allocator>(text: &mut String<A>, run: &JudgedRun) -> Result<(), AllocError>
+    ensures { IfOk result (λ _. string_bytes text.new ≡ string_bytes text.old ++ entry_where_bad run.now) }
 {
-    let mut bad = 0;
-    'runs: for (place, run) in runs.iter().enumerate() {
-        let is_bad = is_bad_run(inputs, plan, run);
-        push_where(text, inputs, plan, runs, place, is_bad)?;
-        bad += usize::from(is_bad);
-    }
-    Ok(bad)
-}
-
-// Appends the line of the run at a place, where the test holds.
-fn push_where<A: Allocator>(
-    text: &mut String<A>,
-    inputs: &[u32],
-    plan: CampaignPlan,
-    runs: &[SeedRun<A>],
-    place: usize,
-    is_bad: bool,
-) -> Result<(), AllocError>
-    requires chosen { All (RemembersChosen (length inputs.now) plan.steps) runs.now }
-    requires there { place < length runs.now }
-    ensures { IfOk result (λ _. string_bytes text.new ≡ string_bytes text.old
-        ++ lines_where is_bad plan inputs.now (map ends_of (slice_range runs.now place (place + 1)))) }
-{
-    if is_bad {
-        push_runs(text, inputs, plan, &runs[place..place + 1])?;
+    if run.is_bad() {
+        push_line(text, run)?;
     }
     Ok(())
+}
+
+/// Appends the lines of the bad ones among runs that were judged, in order, and counts them.
+pub fn push_failures<A: Allocator>(
+    text: &mut String<A>,
+    runs: &[JudgedRun],
+) -> Result<usize, AllocError>
+    ensures lines { IfOk result (λ _. string_bytes text.new ≡ string_bytes text.old ++ judged_failures runs.now) }
+    ensures bad { IfOk result (λ bad. bad ≡ bad_count runs.now) }
+{
+    let mut bad = 0;
+    'runs: for run in runs {
+        push_where_bad(text, run)?;
+        bad += usize::from(run.is_bad());
+    }
+    Ok(bad)
 }
 
 // The lines of the bad seeds of a block, and how many they are.
@@ -81,19 +65,9 @@ fn block_text<A: Allocator + Copy + Send + Sync>(
         ≡ bad_runs plan.rule inputs.now plan.steps
         (plain_runs image.now inputs.now plan.steps block.first block.count)) }
 {
-    let Ok(runs) = campaign(
-        rt,
-        alloc,
-        image,
-        inputs,
-        block.first,
-        block.count,
-        plan.steps,
-    ) else {
-        return Err(AllocError);
-    };
+    let runs = judge_block(rt, alloc, image, inputs, plan, block)?;
     let mut text = String::new(alloc);
-    let bad = push_failures(&mut text, inputs, plan, &runs)?;
+    let bad = push_failures(&mut text, &runs)?;
     Ok((text, bad))
 }
 

@@ -4,7 +4,7 @@ ghost use Rattle.std.specs.Prelude.{◌≡◌, IfOk, length};
 ghost use Rattle.std.specs.List.{All};
 ghost use Rattle.campaigns.specs.Campaign.{RemembersChosen};
 
-use campaign_engine::CampaignPlan;
+use campaign_engine::{CampaignPlan, JudgedRun, judged};
 use campaigns::SeedRun;
 use hart_step::{Cause, Hart, HartState};
 use outcomes::{HartResult, Outcome, SeedCount, Tally};
@@ -112,6 +112,18 @@ impl Call for Summing {
     }
 }
 
+// What is told of two such runs under a plan.
+fn told<A: Allocator>(plan: CampaignPlan, runs: &[SeedRun<A>]) -> [JudgedRun; 2]
+    requires steps { plan.steps ≡ 0 }
+    requires chosen { All (RemembersChosen 2 0) runs.now }
+    requires two { length runs.now ≡ 2 }
+{
+    [
+        judged(&[7, 9], plan, &runs[0]),
+        judged(&[7, 9], plan, &runs[1]),
+    ]
+}
+
 // The failures of a block, without a rule and with one.
 #[derive(Clone, Copy)]
 struct Failures;
@@ -119,13 +131,13 @@ struct Failures;
 impl Call for Failures {
     fn answer<A: Allocator + Copy>(&self, alloc: A, _host: Global) -> Result<bool, AllocError> {
         let runs = runs(alloc)?;
-        let mut text = String::new(alloc);
-        let bad = push_failures(&mut text, &[7, 9], PLAN, &runs)?;
         let ruled = CampaignPlan {
             rule: Some(Kind::Swap),
             ..PLAN
         };
-        let broken = push_failures(&mut text, &[7, 9], ruled, &runs)?;
+        let mut text = String::new(alloc);
+        let bad = push_failures(&mut text, &told(PLAN, &runs))?;
+        let broken = push_failures(&mut text, &told(ruled, &runs))?;
         let wanted =
             "seed 6 exited 0 faulted 1 running 1\nseed 6 exited 0 faulted 1 running 1 broken\n";
         Ok(bad == 1 && broken == 1 && text.as_str() == wanted)
