@@ -27,8 +27,8 @@ fn counts(wanted: End, state: HartState) -> usize
     }
 }
 
-// How many harts have a state of this kind.
-fn count(wanted: End, harts: &[Hart]) -> usize
+/// How many harts have a state of this kind.
+pub fn count_ends(wanted: End, harts: &[Hart]) -> usize
     ensures { result ≡ counted wanted (map hart_of harts.now) }
 {
     let mut count = 0;
@@ -84,8 +84,12 @@ impl JudgedRun {
     }
 }
 
-// What a judge says of a run, where there is a rule.
-fn judge_run<A: Allocator>(inputs: &[u32], plan: CampaignPlan, run: &SeedRun<A>) -> Option<Verdict>
+/// What a judge says of a run, where there is a rule.
+pub fn judge_run<A: Allocator>(
+    inputs: &[u32],
+    plan: CampaignPlan,
+    run: &SeedRun<A>,
+) -> Option<Verdict>
     requires { RemembersChosen (length inputs.now) plan.steps run.now }
     ensures { result ≡ run_verdict plan.rule inputs.now plan.steps (ends_of run.now) }
 {
@@ -95,8 +99,8 @@ fn judge_run<A: Allocator>(inputs: &[u32], plan: CampaignPlan, run: &SeedRun<A>)
     Some(judge(kind, inputs, &run.chosen, &run.harts))
 }
 
-// Whether a run is bad: by the verdict, or without one by whether some hart was stopped by its instruction.
-fn is_bad(verdict: Option<Verdict>, harts: &[Hart]) -> bool
+/// Whether a run is bad: by the verdict, or without one by whether some hart was stopped by its instruction.
+pub fn is_bad(verdict: Option<Verdict>, harts: &[Hart]) -> bool
     ensures { result ≡ is_bad verdict (map hart_of harts.now) }
 {
     match verdict {
@@ -115,9 +119,9 @@ pub fn judged<A: Allocator>(inputs: &[u32], plan: CampaignPlan, run: &SeedRun<A>
     JudgedRun {
         line: SeedLine {
             seed: run.seed,
-            exited: count(End::Exited, &run.harts),
-            faulted: count(End::Faulted, &run.harts),
-            running: count(End::Running, &run.harts),
+            exited: count_ends(End::Exited, &run.harts),
+            faulted: count_ends(End::Faulted, &run.harts),
+            running: count_ends(End::Running, &run.harts),
         },
         verdict,
         is_bad: is_bad(verdict, &run.harts),

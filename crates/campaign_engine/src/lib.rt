@@ -3,7 +3,7 @@
 
 pub use block::judge_block;
 pub use campaign::{CampaignPlan, End, campaign_engine};
-pub use judged_run::{JudgedRun, judged, push_line, push_runs};
+pub use judged_run::{JudgedRun, count_ends, is_bad, judge_run, judged, push_line, push_runs};
 
 mod block;
 mod campaign;

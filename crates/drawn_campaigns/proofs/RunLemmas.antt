@@ -11,7 +11,6 @@ use Rattle.machine.specs.World.{World, run}
 use Rattle.machine.specs.Start.{started}
 use Rattle.machine.specs.Chosen.{is_chosen}
 use Rattle.machine.specs.declared.choice.Choice.{Choice}
-use Rattle.machine.proofs.RunLaws.{length-started}
 use Rattle.choice_runs.specs.Harts.{Harts}
 use Rattle.campaigns.proofs.RunLemmas.{map-shifted}
 use Rattle.schedule_kinds.specs.Kinds.{kind_choices, RanOver}
@@ -23,10 +22,6 @@ use Rattle.summary_engine.specs.Outcomes.{outcome_with}
 use Rattle.drawn_campaigns.specs.Campaign.{end_of, outcome_after, outcome_from, outcomes_of}
 use Rattle.drawn_campaigns.specs.declared.plan.DrawnPlan.{DrawnPlan}
 use Rattle.drawn_campaigns.specs.declared.seed_end.SeedEnd.{SeedEnd}
-
--- a machine that was started has a hart for each input
-pub harts-started : (w : World) (image : ImageValue) (inputs : List ℕ) → w ≡ started image inputs → length w.harts ≡ length inputs
-harts-started w image inputs begun = ap (λ (v : World). length v.harts) begun ∙ length-started image inputs
 
 -- the outcome of a copy's run
 pub outcome-copied : (plan : DrawnPlan) (inputs : List ℕ) (seed : ℕ) (start v w : World) (chosen : Harts) (verdict : Option Verdict)

@@ -8,8 +8,8 @@ ghost use Rattle.drawn_campaigns.specs.Campaign.{end_of, outcome_from, outcomes_
 
 use crate::plan::DrawnPlan;
 use crate::seed_end::SeedEnd;
-use crate::seed_run::{first_machine, run_seed};
-use campaigns::Block;
+use crate::seed_run::run_seed;
+use campaigns::{Block, first_machine};
 use machine::Machine;
 use memory::FromImage;
 use program_images::Image;

@@ -3,9 +3,8 @@
 ghost use Rattle.std.specs.Prelude.{◌≡◌, ℕ, IfOk, List, length, map};
 ghost use Rattle.hart_step.specs.Hart.{hart_of};
 ghost use Rattle.machine.specs.Chosen.{is_chosen};
-ghost use Rattle.machine.specs.Start.{IsStartable, started};
+ghost use Rattle.machine.specs.Start.{IsStartable};
 ghost use Rattle.machine.specs.Machine.{world};
-ghost use Rattle.machine.specs.State.{state};
 ghost use Rattle.machine.specs.declared.choice.Choice.{Choice};
 ghost use Rattle.choice_runs.specs.Chosen.{harts_of};
 ghost use Rattle.ends.specs.Ends.{verdict_on};
@@ -14,31 +13,13 @@ ghost use Rattle.drawn_campaigns.specs.Campaign.{end_of, outcome_from};
 use crate::plan::DrawnPlan;
 use crate::seed_end::SeedEnd;
 use choice_runs::Chosen;
-use flat_memory::FlatStore;
 use hart_step::Hart;
 use machine::Machine;
 use memory::FromImage;
-use program_images::Image;
 use protocol_library::{Kind, Verdict, judge};
 use schedule_kinds::run_kind;
 use std::alloc::{AllocError, Allocator};
 use summary_engine::harts_outcome;
-
-// A machine at the beginning of a program.
-pub(crate) fn first_machine<A: Allocator + Copy, B: Allocator>(
-    alloc: A,
-    image: &Image<B>,
-    inputs: &[u32],
-) -> Result<Machine<FlatStore<A>, A>, AllocError>
-    requires { IsStartable inputs.now }
-    ensures begun { IfOk result (λ machine. state machine ≡ started image.now inputs.now) }
-    ensures harts { IfOk result (λ machine. length (state machine).harts ≡ length inputs.now) }
-{
-    match Machine::start(alloc, image, inputs) {
-        Ok(machine) => Ok(machine),
-        Err(_) => Err(AllocError),
-    }
-}
 
 // What a judge says of harts, where there is a rule, by which of them were chosen.
 fn verdict_after<A: Allocator>(

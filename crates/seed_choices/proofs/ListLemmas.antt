@@ -6,7 +6,6 @@ use Rattle.program_images.specs.Image.{ImageValue}
 use Rattle.machine.specs.Start.{IsStartable, started}
 use Rattle.machine.specs.World.{World, step}
 use Rattle.machine.specs.declared.choice.Choice.{Choice}
-use Rattle.machine.proofs.RunLaws.{length-started}
 use Rattle.choice_texts.specs.Printing.{choices_text}
 use Rattle.burst_schedules.proofs.BurstLemmas.{burst_choices-within}
 use Rattle.priority_schedules.specs.Priorities.{Drawing, drawing_of, next_choice, after_choice, choices_drawn, priority_choices}
@@ -74,7 +73,3 @@ ends_as_told plan image inputs seed startable =
       read = read_back (length inputs) choices (omega (arith, few)) (kind_within plan.kind (started image inputs) (length inputs) plan.runs.steps seed some);
       ends = refl;
     }
-
--- a machine that was started has a hart for each input
-pub harts-started : (w : World) (image : ImageValue) (inputs : List ℕ) → w ≡ started image inputs → length w.harts ≡ length inputs
-harts-started w image inputs begun = ap (λ (v : World). length v.harts) begun ∙ length-started image inputs

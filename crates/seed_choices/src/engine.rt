@@ -1,9 +1,8 @@
 //! `schedule` for the choices of a run: a program in; the choice text of a seed's choices out.
 
-ghost use Rattle.std.specs.Prelude.{◌≡◌, ◌≢◌, ◌-◌, ◌^◌, ◌<◌, ◌≤◌, Ok, Err, IfOk, IfErr, IfSome, length, string_bytes};
+ghost use Rattle.std.specs.Prelude.{◌≡◌, ◌≢◌, ◌-◌, ◌^◌, ◌<◌, ◌≤◌, Ok, Err, IfOk, IfErr, IfSome, string_bytes};
 ghost use Rattle.std.specs.Io.KnownBytes.{Keeps};
-ghost use Rattle.machine.specs.Start.{IsStartable, started};
-ghost use Rattle.machine.specs.State.{state};
+ghost use Rattle.machine.specs.Start.{IsStartable};
 ghost use Rattle.engines.specs.Run.{BeginsToPrint, Prints};
 ghost use Rattle.programs.specs.RunFaults.{IfReads, IsRefusal};
 ghost use Rattle.choice_texts.specs.Printing.{choices_text};
@@ -11,29 +10,13 @@ ghost use Rattle.seed_choices.specs.Seeds.{after_image, choices_answer, seed_lis
 
 use crate::drawing::list_choices;
 use crate::plan::SeedPlan;
+use campaigns::first_machine;
 use choice_texts::print_choices;
 use devices::{Sink, Source, Status, write_all};
-use flat_memory::FlatStore;
-use machine::{Machine, check_inputs};
+use machine::check_inputs;
 use program_images::Image;
 use programs::{ProgramForm, RunFault, read_image};
 use std::alloc::{AllocError, Allocator};
-
-// A machine at the beginning of a program.
-fn first_machine<A: Allocator + Copy>(
-    alloc: A,
-    image: &Image<A>,
-    inputs: &[u32],
-) -> Result<Machine<FlatStore<A>, A>, AllocError>
-    requires { IsStartable inputs.now }
-    ensures begun { IfOk result (λ machine. state machine ≡ started image.now inputs.now) }
-    ensures harts { IfOk result (λ machine. length (state machine).harts ≡ length inputs.now) }
-{
-    match Machine::start(alloc, image, inputs) {
-        Ok(machine) => Ok(machine),
-        Err(_) => Err(AllocError),
-    }
-}
 
 // The choice text of a seed's choices in a run of an image.
 fn seed_text<A: Allocator + Copy>(

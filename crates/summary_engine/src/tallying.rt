@@ -10,10 +10,10 @@ ghost use Rattle.outcomes.specs.Tally.{rows_of, seeds_in, tally_of, tally_onto};
 ghost use Rattle.summary_engine.specs.Answers.{planned_runs};
 ghost use Rattle.summary_engine.specs.Outcomes.{outcomes_of, run_outcome};
 
-use crate::judging::{is_bad_run, judge_run, status_after};
+use crate::judging::{is_bad_run, status_after};
 use crate::plan::SummaryPlan;
 use crate::run_outcome::harts_outcome;
-use campaign_engine::CampaignPlan;
+use campaign_engine::{CampaignPlan, judge_run};
 use campaigns::{SeedRun, Seeds, next_runs};
 use devices::Status;
 use outcomes::{Outcome, Tally};

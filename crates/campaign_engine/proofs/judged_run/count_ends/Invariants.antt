@@ -1,7 +1,7 @@
 use Rattle.std.proofs.Common.{◌≡◌, ◌+◌, ◌≤◌, drop, map}
 use Rattle.hart_step.specs.Hart.{hart_of}
 use Rattle.campaign_engine.specs.Campaign.{counted}
-use Rattle.campaign_engine.proofs.judged_run.count.Given as goal
+use Rattle.campaign_engine.proofs.judged_run.count_ends.Given as goal
 
 -- those that are counted, and those of the harts that are left
 abbrev pub invariant-harts : goal.invariant-harts
