@@ -15,13 +15,6 @@ use Rattle.campaign_engine.specs.declared.judged_run.JudgedRun.{JudgedRun}
 use Rattle.campaign_engine.specs.Campaign.{bad_runs, is_bad, one_if, run_verdict, seed_entry, seed_lines}
 use Rattle.campaign_engine.specs.Judged.{bad_count, judged, judged_from, judged_lines}
 
--- what is told of a seed, by what is told of its run
-pub judged-seed : (rule : Option Kind) (inputs : List ℕ) (steps harts seed : ℕ) (start : World) (ends : SeedEnds) (run : JudgedRun)
-    → harts ≡ length inputs → ends ≡ ends_from start harts steps seed → run ≡ judged rule inputs steps ends
-    → run ≡ judged_from start rule inputs steps seed
-judged-seed rule inputs steps harts seed start ends run all left told =
-    told ∙ ap (judged rule inputs steps) (left ∙ ap (λ n. ends_from start n steps seed) all)
-
 module _ (rule : Option Kind) (inputs : List ℕ) (steps : ℕ) where
   -- the lines of what is told of runs are the runs' lines
   pub lines-judged : (runs : List SeedEnds) → judged_lines (map (judged rule inputs steps) runs) ≡ seed_lines rule inputs steps runs

@@ -18,7 +18,7 @@ use std::alloc::{AllocError, Allocator};
 use std::thread::Threads;
 
 /// What is told of the runs of a block of seeds, in order. Each run is judged by the thread that does it, and its harts are
-/// given back then. One machine is started for all of them.
+/// given back then. One machine is started for all of them. Refused for want of memory alone.
 pub fn judge_block<A: Allocator + Copy + Send + Sync, B: Allocator + Sync>(
     rt: &(impl Threads + Sync),
     alloc: A,

@@ -128,7 +128,7 @@ pub fn judged<A: Allocator>(inputs: &[u32], plan: CampaignPlan, run: &SeedRun<A>
     }
 }
 
-/// Appends the line of a run that was judged.
+/// Appends the line of a run that was judged. Refused for want of memory alone.
 pub fn push_line<A: Allocator>(text: &mut String<A>, run: &JudgedRun) -> Result<(), AllocError>
     ensures { IfOk result (λ _. string_bytes text.new ≡ string_bytes text.old ++ judged_entry run.now) }
 {
@@ -140,7 +140,7 @@ pub fn push_line<A: Allocator>(text: &mut String<A>, run: &JudgedRun) -> Result<
     Ok(())
 }
 
-/// Appends the lines of runs that were judged, in order, and counts those that are bad.
+/// Appends the lines of runs that were judged, in order, and counts those that are bad. Refused for want of memory alone.
 pub fn push_runs<A: Allocator>(
     text: &mut String<A>,
     runs: &[JudgedRun],

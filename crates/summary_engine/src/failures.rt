@@ -32,7 +32,7 @@ fn push_where_bad<A: Allocator>(text: &mut String<A>, run: &JudgedRun) -> Result
     Ok(())
 }
 
-/// Appends the lines of the bad ones among runs that were judged, in order, and counts them.
+/// Appends the lines of the bad ones among runs that were judged, in order, and counts them. Refused for want of memory alone.
 pub fn push_failures<A: Allocator>(
     text: &mut String<A>,
     runs: &[JudgedRun],
