@@ -24,7 +24,7 @@ use Rattle.programs.specs.declared.program.ProgramForm.TheVariants as form
 use Rattle.programs.specs.declared.run_fault.RunFault.TheVariants as run
 use Rattle.devices.specs.declared.status.Status.{Status}
 use Rattle.devices.specs.declared.status.Status.TheVariants as status
-use Rattle.engines.specs.Run.{shown, world_after}
+use Rattle.engines.specs.Run.{may_run, shown, world_after}
 use Rattle.threads_engine.specs.Threads as one_lock
 use Rattle.threads_engine.specs.declared.fault.ThreadsEngineFault.TheVariants as threads
 use Rattle.threads_engine.specs.declared.threads.ThreadsAnswer.{ThreadsAnswer}
@@ -60,7 +60,7 @@ pub record IsOfRun {A : Type 0} (image : ImageValue) (inputs : List ℕ) (budget
   pub each : entries ≡ map plain_entry choices
   pub stand : expanded entries ≡ choices
   pub text : string_bytes answer.history ≡ text_for history entries
-  pub prints : shown rule inputs (expanded entries) (world_after image inputs (expanded entries))
+  pub prints : shown (may_run rule) inputs (expanded entries) (world_after image inputs (expanded entries))
       ≡ (string_bytes answer.lines, answer.status)
 
 -- an answer is that of a run of the file's program

@@ -5,11 +5,12 @@ ghost use Rattle.hart_step.specs.Hart.{hart_of};
 ghost use Rattle.choice_histories.specs.Plain.{plain_entry};
 ghost use Rattle.ends.specs.Ends.{verdict_on};
 ghost use Rattle.engines.specs.Run.{shown_with};
+ghost use Rattle.outcome.specs.declared.expect.Exit.TheVariants.{May};
 ghost use Rattle.banked_engine.specs.BankedAnswer.{hart_of_log, text_for};
 
 use crate::history::HistoryUse;
 use choice_histories::choices_text;
-use ends::ends_text;
+use engines::{Exit, Expect, ends_text};
 use hart_logs::HartLog;
 use hart_step::Hart;
 use machine::Choice;
@@ -57,11 +58,15 @@ pub(crate) fn answer_of<A: Allocator + Copy>(
     ensures history { IfOk result (λ answer.
         string_bytes answer.history ≡ text_for history (map plain_entry choices.now)) }
     ensures lines { IfOk result (λ answer.
-        shown_with (verdict_on rule inputs.now choices.now (map hart_of harts.now)) (map hart_of harts.now)
+        shown_with May (verdict_on rule inputs.now choices.now (map hart_of harts.now)) (map hart_of harts.now)
         ≡ (string_bytes answer.lines, answer.status)) }
 {
     let history = text_for(alloc, history, choices)?;
-    let (lines, status) = ends_text(alloc, inputs, choices, harts, rule)?;
+    let expect = Expect {
+        rule,
+        exit: Exit::May,
+    };
+    let (lines, status) = ends_text(alloc, expect, inputs, choices, harts)?;
     Ok(ThreadsAnswer {
         history,
         lines,

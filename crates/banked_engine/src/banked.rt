@@ -20,12 +20,12 @@ use banks_merge::{logs_are_one_run, merge_matched};
 use devices::Source;
 use engines::see_words;
 use hart_logs::HartLog;
-use hart_threads::Gate;
 use program_images::Image;
 use programs::{ProgramForm, RunFault, read_image};
 use std::alloc::{AllocError, Allocator};
 use std::sync::Wait;
 use std::thread::Threads;
+use thread_gate::Gate;
 use threads_engine::{ThreadsAnswer, ThreadsEngineFault, ThreadsTask};
 
 /// `threads --banked`: reads the program to its end, and runs it with a thread for each hart and a lock for each bank of memory.

@@ -3,8 +3,9 @@
 ghost use Rattle.std.specs.Prelude.{◌≡◌, None, [], IfOk, map, string_bytes};
 ghost use Rattle.hart_step.specs.Hart.{hart_of};
 ghost use Rattle.engines.specs.Run.{shown_with};
+ghost use Rattle.outcome.specs.declared.expect.Exit.TheVariants.{May};
 
-use ends::ends_text;
+use engines::{Exit, Expect, ends_text};
 use hart_step::Hart;
 use std::alloc::{AllocError, Allocator};
 use threads_engine::ThreadsAnswer;
@@ -17,9 +18,13 @@ pub(crate) fn answer_of_ends<A: Allocator + Copy>(
 ) -> Result<ThreadsAnswer<A>, AllocError>
     ensures history { IfOk result (λ answer. string_bytes answer.history ≡ []) }
     ensures lines { IfOk result (λ answer.
-        shown_with None (map hart_of harts.now) ≡ (string_bytes answer.lines, answer.status)) }
+        shown_with May None (map hart_of harts.now) ≡ (string_bytes answer.lines, answer.status)) }
 {
-    let (lines, status) = ends_text(alloc, inputs, &[], harts, None)?;
+    let expect = Expect {
+        rule: None,
+        exit: Exit::May,
+    };
+    let (lines, status) = ends_text(alloc, expect, inputs, &[], harts)?;
     Ok(ThreadsAnswer {
         history: String::new(alloc),
         lines,

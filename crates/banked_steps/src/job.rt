@@ -6,11 +6,11 @@ ghost use Rattle.local_steps.specs.CodeMemory.{code_in};
 ghost use Rattle.banks_runs.specs.Merged.{most_banks};
 
 use banks::{BANKS, Bank};
-use hart_threads::Plan;
 use local_steps::Code;
 use program_images::Image;
 use std::alloc::{AllocError, Allocator};
 use std::sync::Mutex;
+use thread_gate::Plan;
 
 /// The program, what it is run with, and its banks, each under a lock of its own.
 #[derive(Drop)]

@@ -10,10 +10,10 @@ use crate::fault::StepFault;
 use crate::job::Job;
 use banks::{BANKS, Bank, next_stamp};
 use hart_logs::{Found, HartLog, Slot, code_access, data_access};
-use hart_threads::Gate;
 use segment_order::LogSegment;
 use std::alloc::Allocator;
 use std::sync::Wait;
+use thread_gate::Gate;
 use told_steps::{PlannedTouch, Word, needed_word, planned_touch};
 
 /// A segment of a hart without its stamp and its accesses, and the slot that its last step begins from.

@@ -6,9 +6,9 @@ use crate::job::Job;
 use crate::step::{Walked, step};
 use hart_logs::{Ahead, HartLog, Slot};
 use hart_step::HartState;
-use hart_threads::Gate;
 use std::alloc::Allocator;
 use std::sync::Wait;
+use thread_gate::Gate;
 
 /// Makes a hart's choices until it has stopped or its budget is used up: local steps as long as they come, and one step more
 /// under the locks of the banks that it touches. No lock is held while the gate is asked to let the hart go on.

@@ -6,7 +6,6 @@ use banks_laws::LoggedAccess;
 use flat_memory::FlatStore;
 use hart_logs::HartLog;
 use hart_step::{Hart, HartState};
-use hart_threads::{Gate, Plan};
 use joined_reservations::joined;
 use machine::{Choice, Machine};
 use memory::Store;
@@ -16,6 +15,7 @@ use std::alloc::Allocator;
 use std::sync::Wait;
 use std::thread::Threads;
 use test_programs::{Program, plan_of, program_image};
+use thread_gate::{Gate, Plan};
 
 /// A run over banks, and the choices that it is.
 #[derive(Drop)]

@@ -1,7 +1,7 @@
 //! Gates that make harts wait for each other.
-use hart_threads::Gate;
 use std::sync::atomic::{AtomicU64, Ordering};
 use std::thread;
+use thread_gate::Gate;
 
 // How long a hart waits.
 const TURNS: u32 = 10_000_000;

@@ -10,7 +10,6 @@ use banks::Bank;
 use banks_merge::{MergeFault, merge};
 use choice_histories::history_of;
 use hart_logs::HartLog;
-use hart_threads::OpenGate;
 use histories::{Entry, print_history};
 use machine::Choice;
 use program_images::Image;
@@ -21,6 +20,7 @@ use std::sync::Wait;
 use std::thread::Threads;
 use test_images::PROGRAM_START;
 use test_programs::{Program, program_image};
+use thread_gate::OpenGate;
 
 const FIRST_HART: Choice = Choice {
     hart: 0,

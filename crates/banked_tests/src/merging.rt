@@ -7,12 +7,12 @@ use banks::{BANKS, Bank};
 use banks_laws::LoggedAccess;
 use banks_merge::{MergeFault, merge};
 use hart_logs::HartLog;
-use hart_threads::Plan;
 use machine::Choice;
 use program_images::Image;
 use segment_order::LogSegment;
 use std::alloc::Allocator;
 use test_images::PROGRAM_START;
+use thread_gate::Plan;
 
 /// What logs or their run are found to lack.
 #[derive(Clone, Copy, PartialEq, Eq)]

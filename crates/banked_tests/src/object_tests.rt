@@ -2,12 +2,12 @@
 use crate::checked::checked;
 use crate::merging::Lack;
 use hart_step::HartState;
-use hart_threads::OpenGate;
 use protocol_library::{Kind, Verdict, judge};
 use std::alloc::Allocator;
 use std::sync::Wait;
 use std::thread::Threads;
 use test_programs::Program;
+use thread_gate::OpenGate;
 
 // An object, and its harts' inputs.
 const OBJECTS: [(Kind, &[u32]); 5] = [

@@ -3,12 +3,12 @@ use crate::checked::{checked, one_value};
 use crate::gates::{Meeting, Place};
 use crate::merging::Lack;
 use crate::programs::RESERVE_AND_STORE;
-use hart_threads::OpenGate;
 use protocol_library::Kind;
 use std::alloc::Allocator;
 use std::sync::Wait;
 use std::thread::Threads;
 use test_programs::{Program, STORE_OVER_NEXT};
+use thread_gate::OpenGate;
 
 const LR_SC: Program = Program::Object(Kind::LrSc);
 

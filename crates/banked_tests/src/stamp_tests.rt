@@ -2,11 +2,11 @@
 use crate::programs::STORES;
 use banked_steps::{Job, StepFault, work};
 use banks_laws::{LoggedAccess, LoggedKind};
-use hart_threads::OpenGate;
 use std::alloc::{AllocError, Allocator};
 use std::collections::BTreeSet;
 use std::sync::Wait;
 use test_programs::program_image;
+use thread_gate::OpenGate;
 
 // A load of the word at 0.
 fn load_at(stamp: u64) -> LoggedAccess {

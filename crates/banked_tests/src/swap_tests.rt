@@ -8,7 +8,6 @@ use banks_merge::MergeFault;
 use choice_texts::print_runs;
 use hart_logs::HartLog;
 use hart_step::{Hart, HartState};
-use hart_threads::Plan;
 use machine::Choice;
 use program_images::Image;
 use protocol_library::Kind;
@@ -16,6 +15,7 @@ use std::alloc::{AllocError, Allocator};
 use std::sync::Wait;
 use std::thread::Threads;
 use test_programs::{Program, plan_of, program_image};
+use thread_gate::Plan;
 
 const INPUTS: [u32; 2] = [7, 9];
 

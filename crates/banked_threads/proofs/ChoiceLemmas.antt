@@ -1,7 +1,7 @@
 -- How many choices segments stand for, and their refusals.
 use Rattle.std.proofs.Common.{◌≡◌, ℕ, ◌+◌, Bool, true, false, not, List, [], ◌∷◌, refl, sym, subst, ◌∙◌, arith}
 use Rattle.std.specs.Bool.{beq}
-use Rattle.hart_threads.specs.Plan.{is_planned}
+use Rattle.thread_gate.specs.Plan.{is_planned}
 use Rattle.banks_laws.specs.Segments.{LoggedSegment}
 use Rattle.banked_threads.specs.Banked.{choices_in, IsFlagged}
 

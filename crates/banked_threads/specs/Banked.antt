@@ -2,8 +2,8 @@
 use Rattle.std.specs.Prelude.{◌≡◌, ◌⊎◌, ℕ, ◌+◌, ◌%◌, ◌<◌, ◌≤◌, true, List, [], ◌∷◌, Some, length, slice_get}
 use Rattle.reservations.specs.Limit.{most_harts}
 use Rattle.program_images.specs.Image.{ImageValue}
-use Rattle.hart_threads.specs.Outcome.{is_stopped}
-use Rattle.hart_threads.specs.Plan.{is_planned}
+use Rattle.thread_gate.specs.Stopped.{is_stopped}
+use Rattle.thread_gate.specs.Plan.{is_planned}
 use Rattle.banks_laws.specs.Segments.{LoggedSegment}
 use Rattle.banks_laws.specs.Order.{Rises, Earlier}
 use Rattle.banks_runs.specs.Merged.{most_banks}

@@ -3,17 +3,14 @@ ghost use Rattle.std.specs.Prelude.{◌≡◌, ℕ, ◌≤◌, Some, true, IfOk,
 ghost use Rattle.banks.specs.BankLog.{BankLog};
 ghost use Rattle.banks_runs.specs.Merged.{most_banks};
 ghost use Rattle.hart_logs.specs.HartLog.{HartLogValue};
-ghost use Rattle.hart_threads.specs.Outcome.{is_stopped};
-ghost use Rattle.hart_threads.specs.Plan.{is_planned};
 ghost use Rattle.banked_threads.specs.Banked.{choices_in, HasEnded, IsBankOf, IsFlagged, IsHartOf};
 
 use banks::{BANKS, Bank};
 use hart_logs::HartLog;
-use hart_step::{Hart, HartState};
-use hart_threads::Plan;
 use program_images::{Image, Segment};
 use segment_order::{LogSegment, is_rising};
 use std::alloc::Allocator;
+use thread_gate::{Plan, is_planned, is_stopped};
 
 /// Whether two segments are the same.
 fn same_segment<A: Allocator>(first: &Segment<A>, second: &Segment<A>) -> bool
@@ -45,24 +42,6 @@ fn same_image<A: Allocator>(first: &Image<A>, second: &Image<A>) -> bool
     ensures { result ≡ true → first.now ≡ second.now }
 {
     first.entry() == second.entry() && same_segments(first.segments(), second.segments())
-}
-
-/// Whether a hart does nothing any more.
-fn is_stopped(hart: &Hart) -> bool
-    ensures { result ≡ is_stopped hart.now.state }
-{
-    match hart.state {
-        HartState::Running => false,
-        HartState::Exited(_) => true,
-        HartState::Faulted(_) => true,
-    }
-}
-
-/// Whether a plan holds a hart and the number of its choice.
-fn is_planned<A: Allocator>(plan: &Plan<A>, hart: u32, number: u32) -> bool
-    ensures { result ≡ is_planned plan.now.keys hart number }
-{
-    plan.contains(&(hart, number))
 }
 
 /// How many choices segments stand for, if they are at most `budget` and each segment's refusal is what the plan says.

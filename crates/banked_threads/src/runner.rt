@@ -8,13 +8,13 @@ use crate::whole::are_of_a_run;
 use banked_steps::{Job, StepFault, work};
 use banks::Bank;
 use hart_logs::HartLog;
-use hart_threads::{Gate, Plan};
 use machine::{StartFault, check_inputs};
 use program_images::Image;
 use std::alloc::{AllocError, Allocator};
 use std::sync::{Mutex, Wait};
 use std::thread;
 use std::thread::{JoinHandle, Threads};
+use thread_gate::{Gate, Plan};
 
 /// What a run of threads over banks leaves.
 #[derive(Drop)]

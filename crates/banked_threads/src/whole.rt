@@ -11,11 +11,11 @@ use crate::compare::{are_of_banks, is_of_hart};
 use access_order::{have_no_others, is_ordered};
 use banks::Bank;
 use hart_logs::HartLog;
-use hart_threads::Plan;
 use program_images::Image;
 use std::alloc::{AllocError, Allocator};
 use std::thread;
 use std::thread::Threads;
+use thread_gate::Plan;
 
 /// Whether a log is that of a hart of a run, with its accesses in the banks' logs in its own order.
 fn is_ordered_hart<'a, A: Allocator>(

@@ -1,3 +1,2 @@
 mod NumberLemmas
-mod InputLemmas
-pub mod PlanLemmas
+pub mod InputLemmas

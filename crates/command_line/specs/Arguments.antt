@@ -2,6 +2,8 @@
 use Rattle.std.specs.Prelude.{◌≡◌, Bool, true, false, ◌&&◌, List, [], ◌∷◌, Option, Some, None, codes}
 use Rattle.clap.specs.Words.{App, Row, Rule, Text, first_of, new_rule, with_rule}
 use Rattle.clap.specs.declared.builder.ArgAction.TheVariants.{SetTrue, Append}
+use Rattle.command_line.specs.declared.arguments.Argument.{Argument}
+use Rattle.command_line.specs.declared.arguments.Argument.TheVariants as arguments
 
 -- a word that has to stand
 abbrev pub needed : Text → Rule
@@ -26,6 +28,20 @@ needed_option id = record (new_rule id) { required = true; long = Some id }
 -- an option without a value
 abbrev pub flag : Text → Rule
 flag id = record (new_rule id) { long = Some id; action = Some SetTrue }
+
+-- the argument by its name; help says the rest of it
+abbrev pub rule_by : Argument → Rule
+rule_by (arguments.Needed id help) = needed id.now
+rule_by (arguments.Allowed id help) = allowed id.now
+rule_by (arguments.Many id help) = many id.now
+rule_by (arguments.Optional id help) = optional id.now
+rule_by (arguments.NeededOption id help) = needed_option id.now
+rule_by (arguments.Flag id help) = flag id.now
+
+-- a command with these arguments too, in order
+abbrev pub with_arguments : App → List Argument → App
+with_arguments app [] = app
+with_arguments app (argument ∷ rest) = with_arguments (with_rule app (rule_by argument)) rest
 
 -- a program and the inputs of its harts: `FILE --inputs L`
 abbrev pub with_program : App → App

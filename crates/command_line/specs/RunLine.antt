@@ -1,18 +1,9 @@
 -- The command `run`.
 use Rattle.std.specs.Prelude.{◌≡◌, List, [], ◌∷◌, Some, codes, option_map}
-use Rattle.clap.specs.Words.{App, Row, Text, new_app, with_rule, first_of}
+use Rattle.clap.specs.Words.{Row, Text, first_of}
 use Rattle.clap.specs.Walk.{one_of}
-use Rattle.command_line.specs.Arguments.{flag, optional, with_schedule, IsSet}
+use Rattle.command_line.specs.Arguments.{IsSet}
 use Rattle.command_line.specs.declared.run_line.RunOrder.{RunOrder}
-
--- `run [--hex] FILE --inputs L --choices C [--rule K] [--must-exit]`
-abbrev pub run_app : App
-run_app =
-    with_rule
-    (with_rule
-    (with_schedule (with_rule (new_app (codes "run")) (flag (codes "hex"))))
-    (optional (codes "rule")))
-    (flag (codes "must-exit"))
 
 -- the names of the texts that have to stand
 abbrev pub run_names : List Text

@@ -1,4 +1,10 @@
-//! What help says of arguments that several commands take.
+//! What help says of arguments.
+
+/// Of `FILE`.
+pub(crate) const FILE: &str = "the program, an ELF file";
+
+/// Of `--hex`.
+pub(crate) const HEX: &str = "FILE holds words of eight hexadecimal digits";
 
 /// Of `--inputs`.
 pub(crate) const INPUTS: &str = "one decimal input below 2^32 for each hart, as 7,9";
@@ -28,3 +34,32 @@ pub(crate) const MUST_EXIT: &str = "a hart that still runs at the end is a failu
 /// Of `--must-exit` of a shrinking.
 pub(crate) const HANGS: &str =
     "a run that hangs is a failure: given as many steps more, a hart still runs";
+
+/// Of `--summary`.
+pub(crate) const SUMMARY: &str =
+    "print how many seeds end in which way, in place of a line for each";
+
+/// Of `--outcomes`.
+pub(crate) const OUTCOMES: &str = "with --summary: tell ends apart by each hart's a0 and a1 too";
+
+/// Of `--schedule` of `schedule`.
+pub(crate) const DRAW_OF_SCHEDULE: &str =
+    "how a seed draws them: even, bursts:MEAN, each of one hart, or priorities:DEPTH, in a run of FILE";
+
+/// Of `--inputs` of `schedule`.
+pub(crate) const INPUTS_OF_SCHEDULE: &str =
+    "with priorities:DEPTH: one decimal input below 2^32 for each hart, as 7,9";
+
+/// Of `--budget`.
+pub(crate) const BUDGET: &str = "how many steps each hart may take, below 2^32";
+
+/// Of `--refuse`.
+pub(crate) const REFUSE: &str =
+    "which store-conditionals are refused: pairs of a hart and the number of its step from 0, as 0:7,1:3";
+
+/// Of `--history` where it is written.
+pub(crate) const WRITTEN: &str = "the file that the history is written to";
+
+/// Of `--banked`.
+pub(crate) const BANKED: &str =
+    "a lock for each of sixteen banks of memory, in place of one lock for all";

@@ -9,7 +9,7 @@ use crate::numbers::number_in;
 use std::alloc::Allocator;
 
 /// The number that one or more decimal digits write, if it is below 2^32.
-pub(crate) fn read_input(digits: &[u8]) -> Option<u32>
+pub fn read_input(digits: &[u8]) -> Option<u32>
     ensures { result ≡ input_of digits.now }
 {
     let number = number_in(digits)?;
@@ -17,7 +17,7 @@ pub(crate) fn read_input(digits: &[u8]) -> Option<u32>
 }
 
 /// How many bytes stand before the first comma.
-pub(crate) fn part_len(rest: &[u8]) -> usize
+pub fn part_len(rest: &[u8]) -> usize
     ensures count { result ≡ position_or_len is_comma rest.now }
     ensures within { result ≤ length rest.now }
 {

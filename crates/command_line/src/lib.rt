@@ -1,38 +1,16 @@
-//! The words of a command line as an order, and the numbers and inputs in it.
+//! The words of a command line as clap takes them, the order of `run`, and numbers and inputs.
 #![tactic(auto)]
 
-pub use asm_line::AsmOrder;
-pub use campaign_line::CampaignOrder;
-pub use debug_line::DebugOrder;
-pub use file_line::FileOrder;
-pub use inputs::{read_inputs, read_word};
-pub use lib_line::LibOrder;
-pub use line::{LineFault, Order, read_line};
+pub use arguments::{is_set, text_of, texts_of};
+pub use inputs::{part_len, read_input, read_inputs, read_word};
+pub use line::{LineFault, match_line, read_run};
 pub use numbers::read_number;
-pub use plan::read_plan;
-pub use refused::{Refused, read_refused};
-pub use replay_line::ReplayOrder;
-pub use run_line::RunOrder;
-pub use schedule_line::{Draw, ScheduleOrder, read_draw};
-pub use shrink_line::ShrinkOrder;
-pub use threads_line::{Locks, ThreadsOrder};
-pub use trace_line::TraceOrder;
+pub use run_line::{RunOrder, run_order};
 
 mod arguments;
-mod asm_line;
-mod campaign_line;
-mod debug_line;
-mod file_line;
+mod commands;
 mod help;
 mod inputs;
-mod lib_line;
 mod line;
 mod numbers;
-mod plan;
-mod refused;
-mod replay_line;
 mod run_line;
-mod schedule_line;
-mod shrink_line;
-mod threads_line;
-mod trace_line;

@@ -1,7 +1,8 @@
 //! Doing `debug`.
 
 use crate::conversation::talk_to_person;
-use command_line::{DebugOrder, read_inputs};
+use command_line::read_inputs;
+use command_orders::DebugOrder;
 use debug_engine::{DebugEngineFault, debug_engine};
 use devices::{ReaderSource, Status, WriterSink};
 use programs::{Input as InputFile, ProgramForm, RunFault};

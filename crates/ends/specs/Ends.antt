@@ -1,5 +1,5 @@
 -- The printed lines of harts' ends, and of the verdict on them.
-use Rattle.std.specs.Prelude.{ℕ, ◌+◌, Bool, true, false, ◌||◌, List, [], ◌∷◌, ◌++◌, codes, if◌then◌else◌, Option, Some, None}
+use Rattle.std.specs.Prelude.{ℕ, ◌+◌, List, [], ◌∷◌, ◌++◌, codes, Option, Some, None}
 use Rattle.std.specs.Fmt.{decimal}
 use Rattle.hart_step.specs.declared.hart.Cause.{Cause}
 use Rattle.hart_step.specs.declared.hart.Cause.TheVariants.{FetchAccess, Illegal, LoadMisaligned, LoadAccess, StoreMisaligned, StoreAccess, JumpMisaligned, BadCall, Break}
@@ -10,11 +10,8 @@ use Rattle.names_and_digits.specs.Digits.{word_text}
 use Rattle.machine.specs.declared.choice.Choice.{Choice}
 use Rattle.protocol_library.specs.declared.kind.Kind.{Kind}
 use Rattle.protocol_library.specs.declared.verdict.Verdict.{Verdict}
-use Rattle.protocol_library.specs.declared.verdict.Verdict.TheVariants.{Kept, Broken}
 use Rattle.protocol_library.specs.Judging.{verdict_of}
 use Rattle.protocol_library.specs.Names.{verdict_name}
-use Rattle.devices.specs.declared.status.Status.{Status}
-use Rattle.devices.specs.declared.status.Status.TheVariants as status
 
 -- a cause's name
 abbrev pub cause_name : Cause → List ℕ
@@ -52,17 +49,6 @@ abbrev pub ends_of : ℕ → List HartValue → List ℕ
 ends_of number [] = []
 ends_of number (hart ∷ harts) = end_line number hart ++ 10 ∷ ends_of (number + 1) harts
 
--- whether a hart was stopped by its instruction
-abbrev pub has_faulted : HartState → Bool
-has_faulted Running = false
-has_faulted (Exited status) = false
-has_faulted (Faulted cause) = true
-
--- whether some hart was stopped by its instruction
-abbrev pub any_faulted : List HartValue → Bool
-any_faulted [] = false
-any_faulted (hart ∷ harts) = has_faulted hart.state || any_faulted harts
-
 -- what a judge says of harts, where there is a rule
 abbrev pub verdict_on : Option Kind → List ℕ → List Choice → List HartValue → Option Verdict
 verdict_on None inputs choices harts = None
@@ -76,9 +62,3 @@ verdict_line (Some verdict) = codes "verdict " ++ (verdict_name verdict ++ 10 �
 -- the harts' lines, and then that of the verdict
 abbrev pub text_of : Option Verdict → List HartValue → List ℕ
 text_of verdict harts = ends_of 0 harts ++ verdict_line verdict
-
--- the status of a run: by the verdict, or without a rule by whether some hart was stopped by its instruction
-abbrev pub status_of : Option Verdict → List HartValue → Status
-status_of None harts = if any_faulted harts then status.Faulted else status.Done
-status_of (Some Kept) harts = status.Done
-status_of (Some Broken) harts = status.Broken

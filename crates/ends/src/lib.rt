@@ -1,6 +1,6 @@
 //! The printed ends of harts, and of the verdict on them.
 #![tactic(auto)]
 
-pub use lines::{EndLine, ends_text, has_faulted, verdict_on};
+pub use lines::{EndLine, lines_text, verdict_on};
 
 mod lines;

@@ -2,9 +2,8 @@
 
 ghost use Rattle.std.specs.Prelude.{◌≡◌, Some, IfOk, map, string_bytes};
 ghost use Rattle.hart_step.specs.Hart.{hart_of};
-ghost use Rattle.ends.specs.Ends.{cause_name, end_line, any_faulted, verdict_on, text_of, status_of};
+ghost use Rattle.ends.specs.Ends.{cause_name, end_line, verdict_on, text_of};
 
-use devices::Status;
 use hart_step::{Cause, Hart, HartState};
 use machine::Choice;
 use names_and_digits::Word;
@@ -68,18 +67,6 @@ impl fmt::Display for EndLine {
     }
 }
 
-/// Whether some hart was stopped by its instruction.
-pub fn has_faulted(harts: &[Hart]) -> bool
-    ensures { result ≡ any_faulted (map hart_of harts.now) }
-{
-    'harts: for hart in harts {
-        if let HartState::Faulted(_) = hart.state {
-            return true;
-        }
-    }
-    false
-}
-
 /// What a judge says of harts, where there is a rule: by the inputs and the choices of their run.
 pub fn verdict_on(
     rule: Option<Kind>,
@@ -95,37 +82,13 @@ pub fn verdict_on(
     }
 }
 
-// The status of a run: a verdict decides it, and without one whether some hart was stopped by its instruction.
-fn status_of(verdict: Option<Verdict>, harts: &[Hart]) -> Status
-    ensures { result ≡ status_of verdict (map hart_of harts.now) }
-{
-    match verdict {
-        None => {
-            if has_faulted(harts) {
-                Status::Faulted
-            } else {
-                Status::Done
-            }
-        }
-        Some(Verdict::Kept) => Status::Done,
-        Some(Verdict::Broken) => Status::Broken,
-    }
-}
-
-/// The harts' lines in order, each ended by LF, and the status of their run. Under a rule the line of the verdict follows,
-/// by the inputs and the choices of the run, and the status is `Broken` or `Done`. Without one it is `Faulted` where some
-/// hart was stopped by its instruction, else `Done`.
-pub fn ends_text<A: Allocator + Copy>(
+/// The harts' lines in order, each ended by LF, and then the line of the verdict, if there is one.
+pub fn lines_text<A: Allocator>(
     alloc: A,
-    inputs: &[u32],
-    choices: &[Choice],
+    verdict: Option<Verdict>,
     harts: &[Hart],
-    rule: Option<Kind>,
-) -> Result<(String<A>, Status), AllocError>
-    ensures text { IfOk result (λ answer. string_bytes answer.0
-        ≡ text_of (verdict_on rule inputs.now choices.now (map hart_of harts.now)) (map hart_of harts.now)) }
-    ensures status { IfOk result (λ answer. answer.1
-        ≡ status_of (verdict_on rule inputs.now choices.now (map hart_of harts.now)) (map hart_of harts.now)) }
+) -> Result<String<A>, AllocError>
+    ensures { IfOk result (λ text. string_bytes text ≡ text_of verdict (map hart_of harts.now)) }
 {
     let mut text = String::new(alloc);
     for (number, hart) in harts.iter().enumerate() {
@@ -135,9 +98,8 @@ pub fn ends_text<A: Allocator + Copy>(
         };
         writeln!(text, "{line}")?;
     }
-    let verdict = verdict_on(rule, inputs, choices, harts);
     if let Some(verdict) = verdict {
         writeln!(text, "verdict {verdict}")?;
     }
-    Ok((text, status_of(verdict, harts)))
+    Ok(text)
 }

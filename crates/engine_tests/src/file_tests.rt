@@ -1,12 +1,13 @@
 //! What no clause says: a file that is shown and run by campaigns, with devices that work and that fail.
-use campaign_engine::{CampaignPlan, campaign_engine};
+use cmd_campaign::campaign_engine;
 use engines::{
-    Failing, FileView, FullSink, Input, MemorySink, MemorySource, ProgramForm, RunFault, Status,
-    file_engine, run_engine,
+    Exit, Expect, Failing, FileView, FullSink, Input, MemorySink, MemorySource, ProgramForm,
+    RunFault, Status, file_engine, run_engine,
 };
 use progress::Unheard;
 use std::alloc::Global;
 use std::thread::Threads;
+use test_campaigns::plain_campaign;
 
 // An ELF file of 92 bytes with one segment: `addi a7, zero, 93` and `ecall`.
 #[rattlefmt::skip]
@@ -74,7 +75,10 @@ fn is_run(alloc: Global, text: &str) -> bool {
         alloc,
         ProgramForm::Elf,
         &[7],
-        None,
+        Expect {
+            rule: None,
+            exit: Exit::May,
+        },
         &mut program,
         &mut choices,
         &mut sink,
@@ -106,24 +110,19 @@ const CAMPAIGNS: [Campaign; 2] = [
 
 // Whether a campaign ends as wanted.
 fn is_campaign(rt: &(impl Threads + Sync), alloc: Global, row: &Campaign) -> bool {
-    let plan = CampaignPlan {
-        first: u64::from(row.first),
-        count: u64::from(row.count),
-        steps: row.steps,
-        rule: None,
-    };
+    let campaign = plain_campaign(u64::from(row.first), u64::from(row.count), row.steps, None);
     let mut program = MemorySource::new(&EXITS);
     let mut sink = MemorySink::new(alloc);
     let ending = campaign_engine(
         rt,
         alloc,
         row.inputs,
-        plan,
+        campaign,
         &mut program,
         &mut sink,
         &mut Unheard,
     );
-    ending == row.ending && sink.bytes() == row.text.as_bytes()
+    ending.map(|finished| finished.status) == row.ending && sink.bytes() == row.text.as_bytes()
 }
 
 #[test]

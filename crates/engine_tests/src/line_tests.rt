@@ -1,7 +1,8 @@
 //! What no clause says: worked lines and lists.
-use command_line::{
-    AsmOrder, CampaignOrder, DebugOrder, LineFault, Locks, Order, ReplayOrder, RunOrder,
-    ThreadsOrder, read_inputs, read_line, read_number, read_plan,
+use command_line::{LineFault, RunOrder, read_inputs, read_number};
+use command_orders::{
+    AsmOrder, CampaignOrder, DebugOrder, Locks, Order, ReplayOrder, ThreadsOrder, read_line,
+    read_plan,
 };
 use object_names::read_object;
 use protocol_library::{KIND_NAMES, Kind};

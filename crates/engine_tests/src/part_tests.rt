@@ -1,9 +1,9 @@
 //! What no clause says: printed texts, words from another source, and failing devices.
 use choice_texts::ChoiceFault;
 use engines::{
-    DeviceFault, Failing, FullSink, HexFault, Input, MemorySink, MemorySource, ReadFault,
-    ReaderSource, RunFault, Status, WriterSink, ends_text, hex_image, read_all, read_hex,
-    write_all,
+    DeviceFault, Exit, Expect, Failing, FullSink, HexFault, Input, MemorySink, MemorySource,
+    ReadFault, ReaderSource, RunFault, Status, WriterSink, ends_text, hex_image, read_all,
+    read_hex, write_all,
 };
 use hart_step::{Cause, Hart, HartState};
 use std::alloc::{AllocError, Global};
@@ -107,6 +107,12 @@ const ENDS: [(u32, u32, u32, HartState, &str); 12] = [
     ),
 ];
 
+// No rule is judged, and harts may run.
+const UNJUDGED: Expect = Expect {
+    rule: None,
+    exit: Exit::May,
+};
+
 // The harts of these ends, and their lines one behind the other.
 fn harts_and_lines(alloc: Global) -> Result<(Vec<Hart, Global>, String<Global>), AllocError> {
     let mut harts = Vec::new(alloc);
@@ -121,22 +127,25 @@ fn harts_and_lines(alloc: Global) -> Result<(Vec<Hart, Global>, String<Global>),
 // Whether the harts' ends are printed so, and the status is that of a fault.
 fn are_ends_printed(alloc: Global) -> Result<bool, AllocError> {
     let (harts, wanted) = harts_and_lines(alloc)?;
-    let (text, status) = ends_text(alloc, &[], &[], harts.as_slice(), None)?;
+    let (text, status) = ends_text(alloc, UNJUDGED, &[], &[], harts.as_slice())?;
     Ok(text.as_str() == wanted.as_str() && status.code() == 3)
 }
 
 // The status of a run that leaves its hart running.
-fn running_status(alloc: Global) -> Result<Status, AllocError> {
+fn running_status(alloc: Global, exit: Exit) -> Result<Status, AllocError> {
+    let expect = Expect { exit, ..UNJUDGED };
     let running = hart(1, 2, 4, HartState::Running);
-    let (_, status) = ends_text(alloc, &[], &[], &[running], None)?;
+    let (_, status) = ends_text(alloc, expect, &[], &[], &[running])?;
     Ok(status)
 }
 
 #[test]
 fn ends_are_printed(rt: HostRuntime) -> Result<(), AllocError> {
     assert!(rt; are_ends_printed(rt.alloc()) == Ok(true));
-    let status = running_status(rt.alloc())?;
+    let status = running_status(rt.alloc(), Exit::May)?;
     assert!(rt; status.code() == 0);
+    let status = running_status(rt.alloc(), Exit::Must)?;
+    assert!(rt; status.code() == 3);
     Ok(())
 }
 

@@ -1,17 +1,15 @@
 //! What no clause says: the objects' files, run and put through campaigns under their rules.
 use crate::object_files::object_file;
-use campaign_engine::{CampaignPlan, campaign_engine, judged, push_runs};
-use campaigns::SeedRun;
+use cmd_campaign::{Finished, campaign_engine};
 use engines::{
-    FileView, MemorySink, MemorySource, ProgramForm, RunFault, Status, file_engine, run_engine,
-    source_engine,
+    Exit, Expect, FileView, MemorySink, MemorySource, ProgramForm, RunFault, Status, file_engine,
+    run_engine, source_engine,
 };
-use hart_step::{Hart, HartState};
 use progress::Unheard;
 use protocol_library::{Kind, source};
-use refusing::{Call, tried};
-use std::alloc::{AllocError, Allocator, Global};
+use std::alloc::Global;
 use std::thread::Threads;
+use test_campaigns::plain_campaign;
 
 // An object, the inputs, the rule, the choices, and what is printed.
 struct Worked {
@@ -103,7 +101,10 @@ fn is_worked(alloc: Global, row: &Worked) -> Option<bool> {
         alloc,
         ProgramForm::Elf,
         row.inputs,
-        row.rule,
+        Expect {
+            rule: row.rule,
+            exit: Exit::May,
+        },
         &mut program,
         &mut choices,
         &mut sink,
@@ -143,7 +144,10 @@ fn printed(
         alloc,
         ProgramForm::Elf,
         &[7, 9],
-        Some(kind),
+        Expect {
+            rule: Some(kind),
+            exit: Exit::May,
+        },
         &mut program,
         &mut choices,
         &mut sink,
@@ -240,44 +244,44 @@ struct Campaign {
     steps: u64,
     text: &'static str,
     status: Status,
+    first_failure: Option<u64>,
 }
 
 // Four harts of LrSc agree under each seed, and three harts of Swap never keep its rule once the third has stored.
 #[rattlefmt::skip]
 const CAMPAIGNS: [Campaign; 5] = [
-    Campaign { kind: Kind::LrSc, inputs: &[4, 5, 6, 7], steps: 600, status: Status::Done,
+    Campaign { kind: Kind::LrSc, inputs: &[4, 5, 6, 7], steps: 600, status: Status::Done, first_failure: None,
         text: "seed 5 exited 4 faulted 0 running 0 kept\nseed 6 exited 4 faulted 0 running 0 kept\n" },
-    Campaign { kind: Kind::AdoptCommit, inputs: &[4, 5, 6, 7], steps: 900, status: Status::Done,
+    Campaign { kind: Kind::AdoptCommit, inputs: &[4, 5, 6, 7], steps: 900, status: Status::Done, first_failure: None,
         text: "seed 5 exited 4 faulted 0 running 0 kept\nseed 6 exited 4 faulted 0 running 0 kept\n" },
-    Campaign { kind: Kind::Rounds, inputs: &[4, 5, 6, 7], steps: 4000, status: Status::Done,
+    Campaign { kind: Kind::Rounds, inputs: &[4, 5, 6, 7], steps: 4000, status: Status::Done, first_failure: None,
         text: "seed 5 exited 4 faulted 0 running 0 kept\nseed 6 exited 4 faulted 0 running 0 kept\n" },
-    Campaign { kind: Kind::Swap, inputs: &[7, 9, 5], steps: 300, status: Status::Broken,
+    Campaign { kind: Kind::Swap, inputs: &[7, 9, 5], steps: 300, status: Status::Broken, first_failure: Some(5),
         text: "seed 5 exited 2 faulted 1 running 0 broken\nseed 6 exited 2 faulted 1 running 0 broken\n" },
-    Campaign { kind: Kind::Swap, inputs: &[7, 9, 5], steps: 0, status: Status::Done,
+    Campaign { kind: Kind::Swap, inputs: &[7, 9, 5], steps: 0, status: Status::Done, first_failure: None,
         text: "seed 5 exited 0 faulted 0 running 3 kept\nseed 6 exited 0 faulted 0 running 3 kept\n" },
 ];
 
 // Whether a campaign ends so; nothing where there is no file.
 fn is_campaign(rt: &(impl Threads + Sync), alloc: Global, row: &Campaign) -> Option<bool> {
     let file = object_file(alloc, row.kind).ok()?;
-    let plan = CampaignPlan {
-        first: 5,
-        count: 2,
-        steps: row.steps,
-        rule: Some(row.kind),
-    };
+    let campaign = plain_campaign(5, 2, row.steps, Some(row.kind));
     let mut program = MemorySource::new(&file);
     let mut sink = MemorySink::new(alloc);
     let ending = campaign_engine(
         rt,
         alloc,
         row.inputs,
-        plan,
+        campaign,
         &mut program,
         &mut sink,
         &mut Unheard,
     );
-    Some(ending == Ok(row.status) && sink.bytes() == row.text.as_bytes())
+    let finished = Finished {
+        status: row.status,
+        first_failure: row.first_failure,
+    };
+    Some(ending == Ok(finished) && sink.bytes() == row.text.as_bytes())
 }
 
 #[test]
@@ -286,45 +290,4 @@ fn each_seed_has_its_verdict(rt: HostRuntime) {
         let steps = row.steps;
         assert!(rt; is_campaign(&rt, rt.alloc(), row) == Some(true), "{steps}");
     }
-}
-
-// The lines of one run of two harts that have taken no step, so that none of them was chosen.
-fn lines_of<A: Allocator + Copy>(alloc: A) -> Result<String<A>, AllocError> {
-    let hart = Hart {
-        registers: [0; 32],
-        pc: 0x0001_0000,
-        state: HartState::Running,
-    };
-    let harts = Vec::from_slice(alloc, &[hart, hart])?;
-    let chosen = Vec::new(alloc);
-    let run = SeedRun {
-        seed: 5,
-        harts,
-        chosen,
-    };
-    let plan = CampaignPlan {
-        first: 5,
-        count: 1,
-        steps: 0,
-        rule: Some(Kind::Swap),
-    };
-    let mut text = String::new(alloc);
-    push_runs(&mut text, &[judged(&[7, 9], plan, &run)])?;
-    Ok(text)
-}
-
-// The verdicts and lines of a block.
-#[derive(Clone, Copy)]
-struct Lines;
-
-impl Call for Lines {
-    fn answer<A: Allocator + Copy>(&self, alloc: A, _host: Global) -> Result<bool, AllocError> {
-        let text = lines_of(alloc)?;
-        Ok(text.as_str() == "seed 5 exited 0 faulted 0 running 2 kept\n")
-    }
-}
-
-#[test]
-fn each_refused_request_of_lines_is_told(rt: HostRuntime) {
-    assert!(rt; tried(rt.alloc(), &Lines) == Ok(()));
 }

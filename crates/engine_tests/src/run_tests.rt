@@ -1,6 +1,7 @@
 //! What no clause says: worked programs, run to their printed ends.
 use engines::{
-    Failing, FullSink, Input, MemorySink, MemorySource, ProgramForm, RunFault, Status, run_engine,
+    Exit, Expect, Failing, FullSink, Input, MemorySink, MemorySource, ProgramForm, RunFault,
+    Status, run_engine,
 };
 use refusing::Refusing;
 use std::alloc::{Allocator, Global};
@@ -210,6 +211,12 @@ static WORKED: [Worked; 64] = [
         answer: Ok(("hart 0 faulted Break pc 00010008\n", Status::Faulted)) },
 ];
 
+// No rule is judged, and harts may run.
+const UNJUDGED: Expect = Expect {
+    rule: None,
+    exit: Exit::May,
+};
+
 // Whether a run of two texts ends so: its end, or why it is refused, where nothing is printed.
 fn is_worked(alloc: Global, row: &Worked) -> bool {
     let mut program = MemorySource::new(row.program.as_bytes());
@@ -219,7 +226,7 @@ fn is_worked(alloc: Global, row: &Worked) -> bool {
         alloc,
         ProgramForm::Hex,
         row.inputs,
-        None,
+        UNJUDGED,
         &mut program,
         &mut choices,
         &mut sink,
@@ -272,7 +279,7 @@ fn ran<A: Allocator + Copy>(
         alloc,
         ProgramForm::Hex,
         &[7, 9],
-        None,
+        UNJUDGED,
         &mut program,
         &mut choices,
         &mut sink,
@@ -336,7 +343,7 @@ fn ran_in_vain(alloc: Global) -> Result<Status, RunFault> {
         alloc,
         ProgramForm::Hex,
         &[7, 9],
-        None,
+        UNJUDGED,
         &mut program,
         &mut choices,
         &mut FullSink::new(),

@@ -1,7 +1,7 @@
 //! What no clause says of schedules: worked ones, seeds whose texts run as their campaigns do, failing sinks, each request refused.
 use crate::object_files::object_file;
-use campaign_engine::{CampaignPlan, campaign_engine};
-use engines::{FullSink, MemorySink, MemorySource, ProgramForm, Status, run_engine};
+use cmd_campaign::{Finished, campaign_engine};
+use engines::{Exit, Expect, FullSink, MemorySink, MemorySource, ProgramForm, Status, run_engine};
 use progress::Unheard;
 use protocol_library::Kind;
 use refusals::Refusals;
@@ -9,6 +9,7 @@ use refusing::Refusing;
 use schedule_engine::{Maker, ScheduleFault, SchedulePlan, schedule_engine};
 use std::alloc::{AllocError, Allocator, Global};
 use std::thread::Threads;
+use test_campaigns::plain_campaign;
 
 const SEEDS: u64 = 1000;
 
@@ -97,12 +98,7 @@ fn lines_of_campaign(
     alloc: Global,
     file: &[u8],
 ) -> Option<MemorySink<Global>> {
-    let campaign = CampaignPlan {
-        first: 0,
-        count: SEEDS,
-        steps: u64::from(STEPS),
-        rule: None,
-    };
+    let campaign = plain_campaign(0, SEEDS, u64::from(STEPS), None);
     let mut program = MemorySource::new(file);
     let mut lines = MemorySink::new(alloc);
     let told = campaign_engine(
@@ -114,11 +110,11 @@ fn lines_of_campaign(
         &mut lines,
         &mut Unheard,
     );
-    if told == Ok(Status::Done) {
-        Some(lines)
-    } else {
-        None
-    }
+    let done = Finished {
+        status: Status::Done,
+        first_failure: None,
+    };
+    if told == Ok(done) { Some(lines) } else { None }
 }
 
 // The ends of a run of a file under a text of choices; nothing where it isn't done.
@@ -130,7 +126,10 @@ fn ends_under(alloc: Global, file: &[u8], text: &[u8]) -> Option<MemorySink<Glob
         alloc,
         ProgramForm::Elf,
         &[7, 9],
-        None,
+        Expect {
+            rule: None,
+            exit: Exit::May,
+        },
         &mut program,
         &mut choices,
         &mut ends,

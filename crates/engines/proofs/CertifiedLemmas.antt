@@ -1,5 +1,5 @@
 -- The rules that the objects keep, as a run's answer shows them.
-use Rattle.std.proofs.Common.{◌≡◌, ℕ, ◌^◌, ◌<◌, cond, rules, List, length, Option, Some, None, Result, Ok, refl, arith, ap, sym, subst, ◌∙◌}
+use Rattle.std.proofs.Common.{◌≡◌, ℕ, ◌^◌, ◌<◌, Bool, true, false, cond, rules, List, length, Option, Some, None, Result, Ok, refl, arith, ap, sym, subst, ◌∙◌, inl, inr}
 use Rattle.std.specs.List.{All}
 use Rattle.reservations.specs.Limit.{most_harts}
 use Rattle.program_images.specs.Image.{ImageValue}
@@ -18,8 +18,13 @@ use Rattle.proto_amo.proofs.Race.{swap_agrees_in, add_agrees_in}
 use Rattle.proto_lrsc.proofs.Race.{agrees_in as lrsc_agrees_in}
 use Rattle.proto_adopt.proofs.Alone.{agrees_in as adopt_agrees_in}
 use Rattle.proto_rounds.proofs.Four.{agrees_in as rounds_agrees_in}
-use Rattle.engines.specs.Certified.{AnswersKept, IsCertified, IsMeantFor}
+use Rattle.engines.specs.Certified.{AnswersKept, IsCertified, IsMeantFor, IsUnbroken}
 use Rattle.ends.specs.Ends.{ends_of, verdict_on}
+use Rattle.outcome.specs.Expect.{status_by}
+use Rattle.outcome.specs.Outcome.{some_run}
+use Rattle.outcome.specs.declared.expect.Exit.{Exit}
+use Rattle.outcome.specs.declared.expect.Exit.TheVariants.{May, Must}
+use Rattle.outcome.specs.declared.expect.Expect.{Expect}
 use Rattle.programs.specs.Program.{program_of}
 use Rattle.programs.specs.Opening.{opening}
 use Rattle.engines.specs.Run.{after_opening, run_answer, shown_with, world_after}
@@ -47,26 +52,33 @@ object_is_kept kind image inputs choices same meant words there =
     ap (λ kept. Some (cond kept verdict.Kept verdict.Broken))
     ((kept-decides kind inputs choices harts).1 (object_keeps kind image inputs choices same meant words there))
 
+-- whether some hart runs is all that decides then
+unbroken : (b : Bool) → IsUnbroken Must (status_by false b)
+unbroken true = inr refl
+unbroken false = inl refl
+
 -- harts that are shown with such a verdict
-shown-kept : (v : Option Verdict) (harts : List HartValue) → v ≡ Some verdict.Kept
-    → AnswersKept (Ok (shown_with v harts))
-shown-kept (Some verdict.Kept) harts e = record { ends = ends_of 0 harts; text_is = refl; done = refl }
-shown-kept (Some verdict.Broken) harts e = absurd (cc)
-shown-kept None harts e = absurd (cc)
+pub shown-kept : (exit : Exit) (v : Option Verdict) (harts : List HartValue) → v ≡ Some verdict.Kept
+    → AnswersKept exit (Ok (shown_with exit v harts))
+shown-kept May (Some verdict.Kept) harts e = record { ends = ends_of 0 harts; text_is = refl; unbroken = refl }
+shown-kept Must (Some verdict.Kept) harts e =
+    record { ends = ends_of 0 harts; text_is = refl; unbroken = unbroken (some_run harts) }
+shown-kept exit (Some verdict.Broken) harts e = absurd (cc)
+shown-kept exit None harts e = absurd (cc)
 
 -- what a run answers that begins with an object's image
-pub certified_keeps : (form : ProgramForm) (inputs : List ℕ) (rule : Option Kind) (program text : List ℕ) (image : ImageValue) (choices : List Choice)
+pub certified_keeps : (form : ProgramForm) (inputs : List ℕ) (expect : Expect) (program text : List ℕ) (image : ImageValue) (choices : List Choice)
     → All (λ x. x < 2 ^ 32) inputs → All (λ c. c.hart < length inputs) choices → program_of form program ≡ Ok image
-    → opening form (length inputs) program text ≡ Ok (image, choices) → IsCertified form program inputs rule
-    → AnswersKept (run_answer form inputs rule program text)
+    → opening form (length inputs) program text ≡ Ok (image, choices) → IsCertified form program inputs expect.rule
+    → AnswersKept expect.exit (run_answer form inputs expect program text)
 unfolding run_answer
-certified_keeps form inputs rule program text image choices words there reads opens h =
+certified_keeps form inputs expect program text image choices words there reads opens h =
     let one : h.image ≡ image = same_image h.image image (sym h.reads ∙ reads) in
     let harts = (world_after image inputs choices).harts in
-    subst (λ o. AnswersKept (after_opening rule inputs o)) (sym opens)
-    (subst (λ r. AnswersKept (after_opening r inputs (Ok (image, choices)))) (sym h.ruled)
-    (shown-kept (verdict_on (Some h.kind) inputs choices harts) harts
-    (object_is_kept h.kind image inputs choices (subst (λ i. IsSame i (image_of h.kind)) one h.same) h.meant words there)))
+    subst (λ o. AnswersKept expect.exit (after_opening expect inputs o)) (sym opens)
+    (shown-kept expect.exit (verdict_on expect.rule inputs choices harts) harts
+    (ap (λ r. verdict_on r inputs choices harts) h.ruled
+    ∙ object_is_kept h.kind image inputs choices (subst (λ i. IsSame i (image_of h.kind)) one h.same) h.meant words there))
   where
     loads : ImageValue → Result ImageValue RunFault
     loads x = Ok x

@@ -1,3 +1,4 @@
 pub mod RunLemmas
 pub mod InfoLemmas
 pub mod CertifiedLemmas
+pub mod EnoughLemmas

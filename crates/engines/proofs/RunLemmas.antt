@@ -8,7 +8,7 @@ use Rattle.hart_step.specs.Hart.{HartValue, hart_of}
 use Rattle.hart_step.specs.declared.hart.Hart.{Hart}
 use Rattle.machine.specs.World.{World, run}
 use Rattle.machine.specs.Start.{started}
-use Rattle.machine.specs.Chosen.{is_chosen, ChooseAlike}
+use Rattle.machine.specs.Chosen.{is_chosen}
 use Rattle.machine.specs.declared.choice.Choice.{Choice}
 use Rattle.machine.proofs.RunLaws.{length-started}
 use Rattle.choice_texts.specs.declared.choice_text.ChoiceFault.{ChoiceFault}
@@ -16,9 +16,8 @@ use Rattle.choice_texts.specs.Reading.{choices_of}
 use Rattle.choice_texts.proofs.Agreement.{spells_of, hart_within}
 use Rattle.choice_runs.specs.Harts.{Harts}
 use Rattle.choice_runs.specs.Leads.{LeadsTo}
-use Rattle.protocol_library.specs.declared.kind.Kind.{Kind}
-use Rattle.protocol_library.proofs.ChosenLemmas.{same_verdict}
 use Rattle.ends.specs.Ends.{verdict_on}
+use Rattle.outcome.specs.declared.expect.Expect.{Expect}
 use Rattle.devices.specs.declared.status.Status.{Status}
 use Rattle.programs.specs.Program.{program_of}
 use Rattle.programs.specs.Opening.{Opened, opening, after_program, with_choices}
@@ -35,29 +34,23 @@ pub harts-started : (harts : List Hart) (w : World) (image : ImageValue) (inputs
 harts-started harts w image inputs here begun =
     ap length (sym here) ∙ ap (λ (v : World). length v.harts) begun ∙ length-started image inputs
 
--- a verdict asks no more of choices than which harts they choose
-pub verdict_alike : (rule : Option Kind) (inputs : List ℕ) (a b : List Choice) (harts : List HartValue) → ChooseAlike a b
-    → verdict_on rule inputs a harts ≡ verdict_on rule inputs b harts
-verdict_alike None inputs a b harts alike = refl
-verdict_alike (Some kind) inputs a b harts alike = ap Some (same_verdict kind inputs a b harts alike)
-
 -- the ends of the harts after a text that was run
-pub text_answered : (rule : Option Kind) (image : ImageValue) (inputs text : List ℕ) (old now : World) (chosen : Harts) (harts : List HartValue)
+pub text_answered : (expect : Expect) (image : ImageValue) (inputs text : List ℕ) (old now : World) (chosen : Harts) (harts : List HartValue)
     (lines : List ℕ) (status : Status) → old ≡ started image inputs → LeadsTo (length inputs) text old now chosen → harts ≡ now.harts
     → ((choices : List Choice) → ((k : ℕ) → chosen k ≡ is_chosen choices k)
-    → shown_with (verdict_on rule inputs choices harts) harts ≡ (lines, status))
-    → after_opening rule inputs (with_choices image (choices_of (length inputs) text)) ≡ Ok (lines, status)
-text_answered rule image inputs text old now chosen harts lines status begun leads same shows =
+    → shown_with expect.exit (verdict_on expect.rule inputs choices harts) harts ≡ (lines, status))
+    → after_opening expect inputs (with_choices image (choices_of (length inputs) text)) ≡ Ok (lines, status)
+text_answered expect image inputs text old now chosen harts lines status begun leads same shows =
     ap read_as leads.read ∙ ap world_as (sym here) ∙ ap harts_as (sym same) ∙ ap told (shows leads.choices leads.told)
   where
     read_as : Result (List Choice) ChoiceFault → Answer
-    read_as r = after_opening rule inputs (with_choices image r)
+    read_as r = after_opening expect inputs (with_choices image r)
 
     world_as : World → Answer
-    world_as w = Ok (shown rule inputs leads.choices w)
+    world_as w = Ok (shown expect inputs leads.choices w)
 
     harts_as : List HartValue → Answer
-    harts_as hs = Ok (shown_with (verdict_on rule inputs leads.choices hs) hs)
+    harts_as hs = Ok (shown_with expect.exit (verdict_on expect.rule inputs leads.choices hs) hs)
 
     told : List ℕ × Status → Answer
     told a = Ok a
@@ -66,14 +59,14 @@ text_answered rule image inputs text old now chosen harts lines status begun lea
     here = leads.led ∙ ap (λ w. run w leads.choices) begun
 
 -- a text's answer is the answer to what the devices had left
-pub known_text : (form : ProgramForm) (inputs : List ℕ) (rule : Option Kind) (program text : Option (List ℕ)) (image : ImageValue) (bytes : List ℕ)
+pub known_text : (form : ProgramForm) (inputs : List ℕ) (expect : Expect) (program text : Option (List ℕ)) (image : ImageValue) (bytes : List ℕ)
     (answer : Answer) → IfSome program (λ p. IfSome text (λ c. opening form (length inputs) p c ≡ with_choices image (choices_of (length inputs) bytes)))
-    → after_opening rule inputs (with_choices image (choices_of (length inputs) bytes)) ≡ answer
-    → IfSome program (λ p. IfSome text (λ c. run_answer form inputs rule p c ≡ answer))
+    → after_opening expect inputs (with_choices image (choices_of (length inputs) bytes)) ≡ answer
+    → IfSome program (λ p. IfSome text (λ c. run_answer form inputs expect p c ≡ answer))
 unfolding run_answer
-known_text form inputs rule None text image bytes answer opens shows = tt
-known_text form inputs rule (Some p) None image bytes answer opens shows = tt
-known_text form inputs rule (Some p) (Some c) image bytes answer opens shows = ap (after_opening rule inputs) opens ∙ shows
+known_text form inputs expect None text image bytes answer opens shows = tt
+known_text form inputs expect (Some p) None image bytes answer opens shows = tt
+known_text form inputs expect (Some p) (Some c) image bytes answer opens shows = ap (after_opening expect inputs) opens ∙ shows
 
 -- ---- certified files
 -- what a run begins with that can begin
@@ -109,23 +102,23 @@ opened_parts form n program text image choices opens = first (program_of form pr
     first (Ok i) reads e = rest i reads (eqb n 0) (ltb most_harts n) (choices_of n text) refl e
 
 -- what a run of a certified file answers, whatever the choice text says
-certified_answers : (form : ProgramForm) (inputs : List ℕ) (rule : Option Kind) (program text : List ℕ) → All (λ x. x < 2 ^ 32) inputs
-    → length inputs < 2 ^ 32 → IsCertified form program inputs rule → AnswersKept (run_answer form inputs rule program text)
+certified_answers : (form : ProgramForm) (inputs : List ℕ) (expect : Expect) (program text : List ℕ) → All (λ x. x < 2 ^ 32) inputs
+    → length inputs < 2 ^ 32 → IsCertified form program inputs expect.rule → AnswersKept expect.exit (run_answer form inputs expect program text)
 unfolding run_answer
-certified_answers form inputs rule program text words few h = by (opening form (length inputs) program text) refl
+certified_answers form inputs expect program text words few h = by (opening form (length inputs) program text) refl
   where
-    by : (o : Opened) → opening form (length inputs) program text ≡ o → AnswersKept (after_opening rule inputs o)
+    by : (o : Opened) → opening form (length inputs) program text ≡ o → AnswersKept expect.exit (after_opening expect inputs o)
     by (Err why) opens = tt
     by (Ok o) opens =
         let parts = opened_parts form (length inputs) program text o.0 o.1 opens in
         let there = hart_within (length inputs) text o.1 (spells_of (length inputs) text o.1 few parts.1) in
-        subst (λ o. AnswersKept (after_opening rule inputs o)) opens
-        (certified_keeps form inputs rule program text o.0 o.1 words there parts.0 opens h)
+        subst (λ o. AnswersKept expect.exit (after_opening expect inputs o)) opens
+        (certified_keeps form inputs expect program text o.0 o.1 words there parts.0 opens h)
 
 -- and so by what the devices had left
-pub known_kept : (form : ProgramForm) (inputs : List ℕ) (rule : Option Kind) (program text : Option (List ℕ)) → All (λ x. x < 2 ^ 32) inputs
+pub known_kept : (form : ProgramForm) (inputs : List ℕ) (expect : Expect) (program text : Option (List ℕ)) → All (λ x. x < 2 ^ 32) inputs
     → length inputs < 2 ^ 32
-    → IfSome program (λ p. IfSome text (λ c. IsCertified form p inputs rule → AnswersKept (run_answer form inputs rule p c)))
-known_kept form inputs rule None text words few = tt
-known_kept form inputs rule (Some p) None words few = tt
-known_kept form inputs rule (Some p) (Some c) words few = certified_answers form inputs rule p c words few
+    → IfSome program (λ p. IfSome text (λ c. IsCertified form p inputs expect.rule → AnswersKept expect.exit (run_answer form inputs expect p c)))
+known_kept form inputs expect None text words few = tt
+known_kept form inputs expect (Some p) None words few = tt
+known_kept form inputs expect (Some p) (Some c) words few = certified_answers form inputs expect p c words few

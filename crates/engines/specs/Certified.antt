@@ -1,5 +1,5 @@
 -- Runs of files that are objects, under the rule of their kind.
-use Rattle.std.specs.Prelude.{◌≡◌, ℕ, ◌≤◌, ◌++◌, List, length, Option, Some}
+use Rattle.std.specs.Prelude.{◌≡◌, ℕ, ◌≤◌, ◌++◌, List, length, Option, Some, ◌⊎◌}
 use Rattle.std.specs.declared.result.Result.TheVariants.{Ok, Err}
 use Rattle.reservations.specs.Limit.{most_harts}
 use Rattle.program_images.specs.Image.{ImageValue}
@@ -8,6 +8,8 @@ use Rattle.protocol_library.specs.declared.kind.Kind.TheVariants.{Swap, Add, LrS
 use Rattle.protocol_library.specs.declared.verdict.Verdict.TheVariants.{Kept}
 use Rattle.protocol_library.specs.Images.{image_of, IsSame}
 use Rattle.ends.specs.Ends.{verdict_line}
+use Rattle.outcome.specs.declared.expect.Exit.{Exit}
+use Rattle.outcome.specs.declared.expect.Exit.TheVariants.{May, Must}
 use Rattle.programs.specs.Program.{program_of}
 use Rattle.engines.specs.Run.{Answer}
 use Rattle.programs.specs.declared.program.ProgramForm.{ProgramForm}
@@ -31,13 +33,18 @@ pub record IsCertified (form : ProgramForm) (program inputs : List ℕ) (rule : 
   pub meant : IsMeantFor kind (length inputs)
   pub ruled : rule ≡ Some kind
 
--- a text ends with `verdict kept`, and the status is 0
-pub record EndsKept (text : List ℕ) (code : Status) : Type 0 where
+-- a status that shows no broken rule: 0, or 3 where each hart must exit and one still runs
+abbrev pub IsUnbroken : Exit → Status → Type 0
+IsUnbroken May code = code ≡ status.Done
+IsUnbroken Must code = (code ≡ status.Done) ⊎ (code ≡ status.Faulted)
+
+-- a text ends with `verdict kept`, and the status shows no broken rule
+pub record EndsKept (exit : Exit) (text : List ℕ) (code : Status) : Type 0 where
   pub ends : List ℕ
   pub text_is : text ≡ ends ++ verdict_line (Some Kept)
-  pub done : code ≡ status.Done
+  pub unbroken : IsUnbroken exit code
 
--- where a run answers, its text ends with `verdict kept`, and the status is 0
-abbrev pub AnswersKept : Answer → Type 0
-AnswersKept (Ok answer) = EndsKept answer.0 answer.1
-AnswersKept (Err why) = Unit {0}
+-- where a run answers, its text ends with `verdict kept`, and its status shows no broken rule
+abbrev pub AnswersKept : Exit → Answer → Type 0
+AnswersKept exit (Ok answer) = EndsKept exit answer.0 answer.1
+AnswersKept exit (Err why) = Unit {0}

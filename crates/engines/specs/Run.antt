@@ -10,7 +10,12 @@ use Rattle.machine.specs.declared.choice.Choice.{Choice}
 use Rattle.hart_step.specs.Hart.{HartValue}
 use Rattle.protocol_library.specs.declared.kind.Kind.{Kind}
 use Rattle.protocol_library.specs.declared.verdict.Verdict.{Verdict}
-use Rattle.ends.specs.Ends.{text_of, status_of, verdict_on}
+use Rattle.ends.specs.Ends.{text_of, verdict_on}
+use Rattle.outcome.specs.Expect.{status_of}
+use Rattle.outcome.specs.Outcome.{outcome_of}
+use Rattle.outcome.specs.declared.expect.Exit.{Exit}
+use Rattle.outcome.specs.declared.expect.Exit.TheVariants.{May}
+use Rattle.outcome.specs.declared.expect.Expect.{Expect}
 use Rattle.programs.specs.Opening.{Opened, opening}
 use Rattle.programs.specs.declared.program.ProgramForm.{ProgramForm}
 use Rattle.programs.specs.declared.run_fault.RunFault.{RunFault}
@@ -20,26 +25,30 @@ use Rattle.devices.specs.declared.status.Status.{Status}
 abbrev pub Answer : Type 0
 Answer = Result (List ℕ × Status) RunFault
 
--- harts as they are printed with a verdict, and their status
-abbrev pub shown_with : Option Verdict → List HartValue → List ℕ × Status
-shown_with verdict harts = (text_of verdict harts, status_of verdict harts)
+-- under a rule, if there is one, and where harts may run at the end
+abbrev pub may_run : Option Kind → Expect
+may_run rule = record { rule = rule; exit = May }
+
+-- harts as they are printed with a verdict, and the status of the run that left them
+abbrev pub shown_with : Exit → Option Verdict → List HartValue → List ℕ × Status
+shown_with exit verdict harts = (text_of verdict harts, status_of exit (outcome_of verdict harts))
 
 -- the world that a list of choices leads to, as it is printed with the verdict on it
-abbrev pub shown : Option Kind → List ℕ → List Choice → World → List ℕ × Status
-shown rule inputs choices w = shown_with (verdict_on rule inputs choices w.harts) w.harts
+abbrev pub shown : Expect → List ℕ → List Choice → World → List ℕ × Status
+shown expect inputs choices w = shown_with expect.exit (verdict_on expect.rule inputs choices w.harts) w.harts
 
 -- the world after a list of choices, from an image's start
 abbrev pub world_after : ImageValue → List ℕ → List Choice → World
 world_after image inputs choices = run (started image inputs) choices
 
 -- what is answered once it is known what the run begins with
-abbrev pub after_opening : Option Kind → List ℕ → Opened → Answer
-after_opening rule inputs (Ok opened) = Ok (shown rule inputs opened.1 (world_after opened.0 inputs opened.1))
-after_opening rule inputs (Err why) = Err why
+abbrev pub after_opening : Expect → List ℕ → Opened → Answer
+after_opening expect inputs (Ok opened) = Ok (shown expect inputs opened.1 (world_after opened.0 inputs opened.1))
+after_opening expect inputs (Err why) = Err why
 
--- what a run of a program and a choice text answers, under a rule if there is one
-unfoldable pub run_answer : ProgramForm → List ℕ → Option Kind → List ℕ → List ℕ → Answer
-run_answer form inputs rule program text = after_opening rule inputs (opening form (length inputs) program text)
+-- what a run of a program and a choice text answers, by what is expected of it
+unfoldable pub run_answer : ProgramForm → List ℕ → Expect → List ℕ → List ℕ → Answer
+run_answer form inputs expect program text = after_opening expect inputs (opening form (length inputs) program text)
 
 -- the answer's text was appended, and this is its status
 abbrev pub Prints : Answer → Status → Option (List ℕ) → Option (List ℕ) → Type 0

@@ -5,18 +5,21 @@ pub use devices::{
     DeviceFault, Failing, FullSink, MemorySink, MemorySource, ReadFault, ReaderSource, Sink,
     Source, Status, WriterSink, read_all, write_all,
 };
-pub use ends::{EndLine, ends_text};
+pub use ends::EndLine;
 pub use file::{FileView, file_engine, file_text};
 pub use info::info_text;
 pub use library::source_engine;
 pub use names_and_digits::Word;
+pub use outcome::{Exit, Expect};
 pub use programs::{
     HEX_BASE, HEX_SIZE, HexFault, Input, MOST_WORDS, ProgramForm, RunFault, hex_image, read_hex,
     read_image, read_program,
 };
 pub use run::{run_engine, run_text, see_words};
+pub use shown::ends_text;
 
 mod file;
 mod info;
 mod library;
 mod run;
+mod shown;

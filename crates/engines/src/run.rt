@@ -4,6 +4,7 @@ ghost use Rattle.std.specs.Prelude.{ℕ, List, ◌≡◌, ◌≢◌, ◌^◌, �
 ghost use Rattle.std.specs.List.{All};
 ghost use Rattle.std.specs.Io.KnownBytes.{Keeps};
 ghost use Rattle.engines.specs.Certified.{AnswersKept, IsCertified};
+ghost use Rattle.engines.specs.Enough.{EndsWell, IsChosenEnough};
 ghost use Rattle.programs.specs.Opening.{with_choices};
 ghost use Rattle.programs.specs.Program.{program_of};
 ghost use Rattle.engines.specs.Run.{after_opening, run_answer, shown_with, Prints, BeginsToPrint};
@@ -20,13 +21,13 @@ ghost use Rattle.program_images.specs.Image.{ImageValue};
 use choice_runs::{Chosen, early_fault, run_choices};
 use choice_texts::ChoiceFault;
 use devices::{Sink, Source, Status, write_all};
-use ends::ends_text;
+use ends::lines_text;
 use flat_memory::FlatStore;
 use hart_step::Hart;
 use machine::Machine;
+use outcome::Expect;
 use program_images::Image;
 use programs::{Input, ProgramForm, RunFault, open_text};
-use protocol_library::Kind;
 use std::alloc::{AllocError, Allocator};
 
 /// Looks at each input, so that it is known to be a word.
@@ -38,38 +39,40 @@ pub fn see_words(inputs: &[u32])
     }
 }
 
-// The harts' lines and, under a rule, the verdict on them, by which harts were chosen.
+// The harts' lines and, under a rule, the verdict on them, by which harts were chosen; the status.
 fn ends_after<A: Allocator + Copy>(
     alloc: A,
     inputs: &[u32],
-    rule: Option<Kind>,
+    expect: Expect,
     chosen: &Chosen,
     harts: &[Hart],
 ) -> Result<(String<A>, Status), AllocError>
     ensures { IfOk result (λ answer. (choices : List Choice)
         → ((k : ℕ) → harts_of chosen.now k ≡ is_chosen choices k)
-        → shown_with (verdict_on rule inputs.now choices (map hart_of harts.now)) (map hart_of harts.now)
+        → shown_with expect.exit (verdict_on expect.rule inputs.now choices (map hart_of harts.now)) (map hart_of harts.now)
         ≡ (string_bytes answer.0, answer.1)) }
 {
-    let picked = chosen.choices(alloc)?;
-    let answer = ends_text(alloc, inputs, &picked, harts, rule)?;
-    Ok(answer)
+    let outcome = expect.judge(alloc, inputs, chosen, harts)?;
+    let text = lines_text(alloc, outcome.verdict, harts)?;
+    let status = expect.status(outcome);
+    Ok((text, status))
 }
 
-/// What a run of an image under a choice text prints and its status, or the text's first fault. Under a rule the verdict follows
-/// the harts' lines. The text's choices are taken as they stand in it, and never held. A text with counts is looked through before it
-/// is run, so that its fault is told at once.
+/// What a run of an image under a choice text prints and its status, or the text's first fault.
+/// Under a rule the verdict follows the harts' lines. The status shows whether the run did as
+/// expected. The text's choices are taken as they stand in it, and never held. A text with counts
+/// is looked through before it is run, so that its fault is reported at once.
 #[tactic(auto, using(crate::proofs::RunLemmas::text_answered))]
 pub fn run_text<A: Allocator + Copy>(
     alloc: A,
     image: &Image<A>,
     inputs: &[u32],
-    rule: Option<Kind>,
+    expect: Expect,
     text: &[u8],
 ) -> Result<(String<A>, Status), ChoiceFault>
     requires takes { IsStartable inputs.now }
     ensures shown { IfOk result (λ answer.
-        after_opening rule inputs.now (with_choices image.now (choices_of (length inputs.now) text.now))
+        after_opening expect inputs.now (with_choices image.now (choices_of (length inputs.now) text.now))
         ≡ Ok (string_bytes answer.0, answer.1)) }
     ensures refused { IfErr result (λ fault. fault ≢ ChoiceFault.Memory
         → choices_of (length inputs.now) text.now ≡ Err fault) }
@@ -86,7 +89,7 @@ pub fn run_text<A: Allocator + Copy>(
         Ok(chosen) => chosen,
         Err(why) => return Err(why),
     };
-    match ends_after(alloc, inputs, rule, &chosen, machine.ends()) {
+    match ends_after(alloc, inputs, expect, &chosen, machine.ends()) {
         Ok(answer) => Ok(answer),
         Err(AllocError) => Err(ChoiceFault::Memory),
     }
@@ -98,7 +101,7 @@ fn read_and_run<A: Allocator + Copy, P: Source, C: Source>(
     alloc: A,
     form: ProgramForm,
     inputs: &[u32],
-    rule: Option<Kind>,
+    expect: Expect,
     program: &mut P,
     choices: &mut C,
 ) -> Result<(String<A>, Status), RunFault>
@@ -107,10 +110,10 @@ fn read_and_run<A: Allocator + Copy, P: Source, C: Source>(
     ensures takes { IfOk result (λ _. IsStartable inputs.now) }
     ensures shown { IfOk result (λ answer.
         IfSome (P.left program.old) (λ p. IfSome (C.left choices.old) (λ c.
-        run_answer form inputs.now rule p c ≡ Ok (string_bytes answer.0, answer.1)))) }
+        run_answer form inputs.now expect p c ≡ Ok (string_bytes answer.0, answer.1)))) }
     ensures refused { IfErr result (λ fault. IsRefusal fault
         → IfSome (P.left program.old) (λ p. IfSome (C.left choices.old) (λ c.
-        run_answer form inputs.now rule p c ≡ Err fault))) }
+        run_answer form inputs.now expect p c ≡ Err fault))) }
     ensures read { IfErr result (λ fault. IfReads fault
         (P.failures program.old < P.failures program.new)
         (C.failures choices.old < C.failures choices.new)) }
@@ -123,20 +126,21 @@ fn read_and_run<A: Allocator + Copy, P: Source, C: Source>(
         Ok(run) => run,
         Err(why) => return Err(why),
     };
-    match run_text(alloc, &run.image, inputs, rule, &run.text) {
+    match run_text(alloc, &run.image, inputs, expect, &run.text) {
         Ok(answer) => Ok(answer),
         Err(why) => Err(RunFault::from(why)),
     }
 }
 
-/// `run`: reads the program in this form to its end, and where it is one and the inputs are not too many, the choice text to its end; writes how the harts
-/// end, and under a rule the verdict. Nothing is written where what was read is refused. The choices are taken as they stand in the text,
-/// and never held as a list.
+/// `run`: reads the program in this form to its end, and where it is one and the inputs are not
+/// too many, the choice text to its end; writes how the harts end, and under a rule the verdict.
+/// The status shows whether the run did as expected. Nothing is written where what was read is
+/// refused. The choices are taken as they stand in the text, and never held as a list.
 pub fn run_engine<A: Allocator + Copy, P: Source, C: Source, K: Sink>(
     alloc: A,
     form: ProgramForm,
     inputs: &[u32],
-    rule: Option<Kind>,
+    expect: Expect,
     program: &mut P,
     choices: &mut C,
     sink: &mut K,
@@ -147,11 +151,11 @@ pub fn run_engine<A: Allocator + Copy, P: Source, C: Source, K: Sink>(
     // The printed world of the run was appended, and this is its status.
     ensures done { IfOk result (λ status.
         IfSome (P.left program.old) (λ p. IfSome (C.left choices.old) (λ c.
-        Prints (run_answer form inputs.now rule p c) status (K.held sink.old) (K.held sink.new)))) }
+        Prints (run_answer form inputs.now expect p c) status (K.held sink.old) (K.held sink.new)))) }
     // What was read is refused, and nothing is written.
     ensures refused { IfErr result (λ fault. IsRefusal fault
         → IfSome (P.left program.old) (λ p. IfSome (C.left choices.old) (λ c.
-        run_answer form inputs.now rule p c ≡ Err fault))) }
+        run_answer form inputs.now expect p c ≡ Err fault))) }
     ensures unwritten { IfErr result (λ fault. fault ≢ RunFault.Write
         → Keeps (K.held sink.old) (K.held sink.new)) }
     // A device is named only where it failed.
@@ -167,14 +171,21 @@ pub fn run_engine<A: Allocator + Copy, P: Source, C: Source, K: Sink>(
     // After a failed write a beginning of the output stands there.
     ensures begun { result ≡ Err RunFault.Write
         → IfSome (P.left program.old) (λ p. IfSome (C.left choices.old) (λ c.
-        BeginsToPrint (run_answer form inputs.now rule p c) (K.held sink.old) (K.held sink.new))) }
-    // A file that is an object, run by as many harts as it is for, never has a broken verdict of its kind's rule.
+        BeginsToPrint (run_answer form inputs.now expect p c) (K.held sink.old) (K.held sink.new))) }
+    // A file that is an object, run by as many harts as it is for, never has a broken verdict of its
+    // kind's rule: the status is 0, or 3 where each hart must exit and one still runs.
     ensures certified { IfOk result (λ _.
         IfSome (P.left program.old) (λ p. IfSome (C.left choices.old) (λ c.
-        IsCertified form p inputs.now rule → AnswersKept (run_answer form inputs.now rule p c)))) }
+        IsCertified form p inputs.now expect.rule
+        → AnswersKept expect.exit (run_answer form inputs.now expect p c)))) }
+    // Where there are harts, and each is chosen as often as its object wants it at most,
+    // the run is not refused, and its status is 0.
+    ensures enough { IfSome (P.left program.old) (λ p. IfSome (C.left choices.old) (λ c.
+        IsChosenEnough form p inputs.now expect.rule c
+        → EndsWell (run_answer form inputs.now expect p c))) }
 {
     see_words(inputs);
-    let (lines, status) = match read_and_run(alloc, form, inputs, rule, program, choices) {
+    let (lines, status) = match read_and_run(alloc, form, inputs, expect, program, choices) {
         Ok(answer) => answer,
         Err(fault) => return Err(fault),
     };

@@ -5,7 +5,7 @@ pub use choices::item_at;
 pub use files::file_words;
 pub use harts::harts_advice;
 pub use places::{label_before, push_instruction, push_standing, segment_at};
-pub use runs::{history_advice, run_advice, symbols_or_none};
+pub use runs::{ends_advice, run_advice, symbols_or_none};
 
 mod choices;
 mod files;

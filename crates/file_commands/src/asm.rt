@@ -5,7 +5,7 @@ ghost use Rattle.std.specs.Prelude.{◌≡◌, ◌≢◌, ◌-◌, ◌^◌, ◌<
 use crate::program_file::{OpenFault, ProgramFile};
 use crate::sources::{explain_no_text, explain_sources};
 use asm_engine::{AssemblyFault, file_engine, listing_engine};
-use command_line::AsmOrder;
+use command_orders::AsmOrder;
 use devices::{ReaderSource, Source, Status, WriterSink};
 use reports::{Audience, cannot_open, cannot_read, cannot_write, out_of_memory};
 use std::rt::Files;

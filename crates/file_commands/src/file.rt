@@ -1,6 +1,6 @@
 //! Doing `list` and `info`.
 
-use command_line::FileOrder;
+use command_orders::FileOrder;
 use devices::{ReaderSource, Status, WriterSink};
 use engines::{FileView, file_engine};
 use programs::{ProgramForm, RunFault};

@@ -1,6 +1,6 @@
 //! Doing `lib`.
 
-use command_line::LibOrder;
+use command_orders::LibOrder;
 use devices::{Status, WriterSink};
 use engines::source_engine;
 use object_names::read_object;

@@ -18,8 +18,10 @@ use Rattle.book.specs.Segment.{SegmentState}
 use Rattle.book.specs.Present.{IsPresented}
 use Rattle.book.proofs.RunLemmas.{replayed-none}
 use Rattle.hart_threads.specs.Own.{own, owned}
-use Rattle.hart_threads.specs.Plan.{is_planned, IsFlagged}
-use Rattle.hart_threads.specs.Outcome.{is_stopped, has_stopped, HasEnded, IsWithin, IsOutcome}
+use Rattle.thread_gate.specs.Plan.{is_planned}
+use Rattle.thread_gate.specs.Stopped.{is_stopped}
+use Rattle.hart_threads.specs.Plan.{IsFlagged}
+use Rattle.hart_threads.specs.Outcome.{has_stopped, HasEnded, IsWithin, IsOutcome}
 use Rattle.hart_threads.specs.Running.{is_done, IsRunning}
 use Rattle.hart_threads.proofs.OwnLemmas.{expanded-more, expanded-none, own-append, own-none, own_same, own_other, others_stay}
 use Rattle.hart_threads.proofs.TicketLemmas.{none_open, all_open, eq_or_not, ticket_counts}

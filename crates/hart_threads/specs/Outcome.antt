@@ -4,20 +4,13 @@ use Rattle.std.specs.List.{All}
 use Rattle.reservations.specs.Limit.{most_harts}
 use Rattle.program_images.specs.Image.{ImageValue}
 use Rattle.hart_step.specs.Hart.{HartValue}
-use Rattle.hart_step.specs.declared.hart.HartState.{HartState}
-use Rattle.hart_step.specs.declared.hart.HartState.TheVariants.{Running, Exited, Faulted}
 use Rattle.histories.specs.declared.entry.Entry.{Entry}
 use Rattle.book.specs.Book.{BookValue, slot_of}
+use Rattle.thread_gate.specs.Stopped.{is_stopped}
 use Rattle.hart_threads.specs.Own.{owned}
 use Rattle.hart_threads.specs.Plan.{IsFlagged}
 use Rattle.hart_threads.specs.declared.fault.RunFault.{RunFault}
 use Rattle.hart_threads.specs.declared.fault.RunFault.TheVariants as fault
-
--- whether a hart in this state does nothing any more
-abbrev pub is_stopped : HartState → Bool
-is_stopped Running = false
-is_stopped (Exited status) = true
-is_stopped (Faulted cause) = true
 
 -- whether a hart is there and has stopped
 abbrev pub has_stopped : Option HartValue → Bool

@@ -2,15 +2,11 @@
 #![tactic(auto)]
 
 pub use fault::{CommitFault, RunFault};
-pub use gate::{Gate, OpenGate};
-pub use plan::Plan;
 pub use runner::{Outcome, run_threads};
 pub use seat::Seat;
 pub use shared::Shared;
 
 mod fault;
-mod gate;
-mod plan;
 mod runner;
 mod running;
 mod seat;

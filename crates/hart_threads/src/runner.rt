@@ -4,8 +4,6 @@ ghost use Rattle.reservations.specs.Limit.{most_harts as most};
 ghost use Rattle.hart_threads.specs.Outcome.{IsOutcome, RunRefuses};
 
 use crate::fault::{CommitFault, RunFault};
-use crate::gate::Gate;
-use crate::plan::Plan;
 use crate::running::Running;
 use crate::spent::Spent;
 use crate::terms::Terms;
@@ -19,6 +17,7 @@ use std::sync::ledger::{Blank, Share};
 use std::sync::{Mutex, Wait};
 use std::thread;
 use std::thread::{JoinHandle, Threads};
+use thread_gate::{Gate, Plan};
 
 /// What a run of threads leaves.
 #[derive(Drop)]

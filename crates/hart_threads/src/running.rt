@@ -1,17 +1,18 @@
 //! What the workers of a run share, under one lock.
 ghost use Rattle.std.specs.Prelude.{◌≡◌, ◌<◌, [], IfOk, OnOk, length, replicate, vec_len, slice_index, ◌||◌, ◌==◌, if◌then◌else◌};
-ghost use Rattle.hart_threads.specs.Outcome.{IsOutcome, is_stopped};
+ghost use Rattle.hart_threads.specs.Outcome.{IsOutcome};
+ghost use Rattle.thread_gate.specs.Stopped.{is_stopped};
 
 use crate::fault::CommitFault;
-use crate::plan::{Plan, is_planned};
 use crate::seat::Seat;
 use crate::terms::Terms;
 use book::{Book, SegmentFault};
-use hart_step::{Hart, HartState};
+use hart_step::Hart;
 use std::alloc::Allocator;
 use std::marker::Model;
 use std::sync::ledger;
 use std::sync::ledger::Share;
+use thread_gate::{Plan, is_planned, is_stopped};
 
 /// The book, how many choices of each hart are in it, and a ticket for each hart that needs further ones.
 #[derive(Drop)]
@@ -93,7 +94,7 @@ impl<T: Terms, A: Allocator> Running<T, A> {
         let local = seat.local();
         let budget = self.budget;
         // A worker asks for none of these; so the plan's number stays one of 32 bits, and each hart within its budget.
-        if has_stopped(seat.slot()) || made >= budget || local >= budget - made {
+        if is_stopped(seat.slot()) || made >= budget || local >= budget - made {
             return Err(CommitFault::Stale);
         }
         let refuse = is_planned(&self.plan, hart, made + local);
@@ -134,22 +135,11 @@ fn owned_by<A: Allocator>(owned: &Vec<u32, A>, at: usize) -> u32
     owned[at]
 }
 
-// Whether a hart does nothing any more.
-fn has_stopped(hart: &Hart) -> bool
-    ensures { result ≡ is_stopped hart.now.state }
-{
-    match hart.state {
-        HartState::Running => false,
-        HartState::Exited(_) => true,
-        HartState::Faulted(_) => true,
-    }
-}
-
 // Whether a hart with so many choices needs no further one.
 fn is_done(hart: &Hart, made: u32, budget: u32) -> bool
     ensures { result ≡ (is_stopped hart.now.state || (made == budget)) }
 {
-    has_stopped(hart) || made == budget
+    is_stopped(hart) || made == budget
 }
 
 // How many tickets a hart spends: its one, once it needs no further choice.

@@ -2,13 +2,13 @@
 ghost use Rattle.std.specs.Prelude.{◌≡◌};
 
 use crate::fault::CommitFault;
-use crate::gate::Gate;
 use crate::running::Running;
 use crate::spent::Spent;
 use crate::terms::Terms;
 use std::alloc::Allocator;
 use std::sync::ledger::Share;
 use std::sync::{Mutex, Wait};
+use thread_gate::Gate;
 
 /// Makes a hart's choices until it has stopped or its budget is used up: local steps as long as they come, and one step more
 /// under the lock. No lock is held while the gate is asked.

@@ -1,10 +1,10 @@
 //! What no clause says of devices that fail: that each engine comes to its full answer where none does. Each device of each engine fails
 //! at its first call, then at its second, and so on, until it is not called so often.
 use asm_engine::{AssemblyFault, assembled_file, listing_engine, write_file};
-use campaign_engine::{CampaignPlan, campaign_engine};
+use cmd_campaign::campaign_engine;
 use debug_engine::{DebugEngineFault, debug_engine};
 use devices::{Failing, FullSink, MemorySink, MemorySource, Status};
-use engines::{FileView, file_engine, run_engine, source_engine};
+use engines::{Exit, Expect, FileView, file_engine, run_engine, source_engine};
 use programs::{Input, ProgramForm, RunFault};
 use progress::Unheard;
 use protocol_library::{Kind, source};
@@ -12,6 +12,7 @@ use replay_engine::{ReplayFault, replay_engine};
 use schedule_engine::{Maker, ScheduleFault, SchedulePlan, schedule_engine};
 use std::alloc::Global;
 use std::thread::Threads;
+use test_campaigns::plain_campaign;
 
 #[derive(Clone, Copy)]
 enum Engine {
@@ -149,7 +150,10 @@ fn run(alloc: Global, failure: Failure) -> Outcome {
         alloc,
         ProgramForm::Elf,
         &[7, 9],
-        None,
+        Expect {
+            rule: None,
+            exit: Exit::May,
+        },
         &mut program,
         &mut choices,
         &mut sink,
@@ -180,18 +184,23 @@ fn replay(alloc: Global, failure: Failure) -> Outcome {
     checked(outcome, sink.device().bytes(), ENDS.as_bytes())
 }
 
-const PLAN: CampaignPlan = CampaignPlan {
-    first: 5,
-    count: 3,
-    steps: 2,
-    rule: None,
-};
-
 fn campaign<R: Threads + Sync>(rt: &R, alloc: Global, failure: Failure) -> Outcome {
     let mut program = Failing::new(MemorySource::new(&EXITS), failure.calls(Device::Program));
     let mut sink = Failing::new(MemorySink::new(alloc), failure.calls(Device::Output));
-    let result = campaign_engine(rt, alloc, &[7], PLAN, &mut program, &mut sink, &mut Unheard);
-    checked(told(result), sink.device().bytes(), SEEDS.as_bytes())
+    let result = campaign_engine(
+        rt,
+        alloc,
+        &[7],
+        plain_campaign(5, 3, 2, None),
+        &mut program,
+        &mut sink,
+        &mut Unheard,
+    );
+    checked(
+        told(result.map(|finished| finished.status)),
+        sink.device().bytes(),
+        SEEDS.as_bytes(),
+    )
 }
 
 fn assemble(alloc: Global, failure: Failure) -> Outcome {
@@ -342,15 +351,16 @@ fn full_view(alloc: Global, view: FileView) -> Result<Status, RunFault> {
 // By a campaign.
 fn full_campaign<R: Threads + Sync>(rt: &R, alloc: Global) -> Result<Status, RunFault> {
     let mut program = MemorySource::new(&EXITS);
-    campaign_engine(
+    let finished = campaign_engine(
         rt,
         alloc,
         &[7],
-        PLAN,
+        plain_campaign(5, 3, 2, None),
         &mut program,
         &mut FullSink::new(),
         &mut Unheard,
-    )
+    );
+    finished.map(|finished| finished.status)
 }
 
 // By the debugger.

@@ -7,12 +7,12 @@ use Rattle.refusals.specs.Limit.{most_one_in}
 use Rattle.refusals.specs.Refusing.{IsOneIn}
 use Rattle.refusals.specs.declared.refusal.Refusals.{Refusals}
 use Rattle.refusals.specs.declared.refusal.Refusals.TheVariants as refusing
-use Rattle.command_line.specs.Refused.{refused_of}
-use Rattle.command_line.specs.ScheduleLine.{draw_of}
-use Rattle.command_line.specs.declared.refused.Refused.{Refused}
-use Rattle.command_line.specs.declared.refused.Refused.TheVariants as said
-use Rattle.command_line.specs.declared.schedule_line.Draw.{Draw}
-use Rattle.command_line.specs.declared.schedule_line.Draw.TheVariants as draws
+use Rattle.command_orders.specs.Refused.{refused_of}
+use Rattle.command_orders.specs.ScheduleLine.{draw_of}
+use Rattle.command_orders.specs.declared.refused.Refused.{Refused}
+use Rattle.command_orders.specs.declared.refused.Refused.TheVariants as said
+use Rattle.command_orders.specs.declared.schedule_line.Draw.{Draw}
+use Rattle.command_orders.specs.declared.schedule_line.Draw.TheVariants as draws
 use Rattle.schedule_kinds.specs.declared.kind.HartOrder.{HartOrder}
 use Rattle.schedule_kinds.specs.declared.kind.HartOrder.TheVariants as orders
 use Rattle.schedule_kinds.specs.declared.kind.ScheduleKind.{ScheduleKind}

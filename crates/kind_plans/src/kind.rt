@@ -3,7 +3,7 @@
 ghost use Rattle.kind_plans.specs.Kinds.{draw_said, refused_said, MeansKind, MeansOrder, MeansRefusals};
 ghost use Rattle.std.specs.Prelude.{◌≡◌};
 
-use command_line::{Draw, Refused, read_draw, read_refused};
+use command_orders::{Draw, Refused, read_draw, read_refused};
 use refusals::{Chance, Refusals};
 use schedule_kinds::{Depth, HartOrder, Mean, ScheduleKind};
 

@@ -1,8 +1,7 @@
-//! Tests of runs: `choice_texts`, `choice_runs`, `scheduler`, `histories`, `campaigns`, `debugger` and `local_steps`.
+//! Tests of runs: `choice_texts`, `choice_runs`, `scheduler`, `histories`, `debugger` and
+//! `local_steps`.
 #![tactic(auto)]
 
-#[cfg(test)]
-mod campaign_tests;
 #[cfg(test)]
 mod choice_run_tests;
 #[cfg(test)]
@@ -15,5 +14,3 @@ mod history_text_tests;
 mod local_step_tests;
 #[cfg(test)]
 mod schedule_tests;
-#[cfg(test)]
-mod seed_run_tests;

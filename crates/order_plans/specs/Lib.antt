@@ -1,4 +1,4 @@
 pub mod CampaignPlans
 pub mod SchedulePlans
-pub mod Tellings
+pub mod Reports
 pub mod TracePlans

@@ -5,9 +5,9 @@ use Rattle.schedule_engine.specs.declared.plan.Maker.{Maker}
 use Rattle.schedule_engine.specs.declared.plan.Maker.TheVariants as makers
 use Rattle.schedule_engine.specs.declared.plan.SchedulePlan.{SchedulePlan}
 use Rattle.command_line.specs.Numbers.{number_below}
-use Rattle.command_line.specs.declared.schedule_line.Draw.{Draw}
-use Rattle.command_line.specs.declared.schedule_line.Draw.TheVariants as draws
-use Rattle.command_line.specs.declared.refused.Refused.{Refused}
+use Rattle.command_orders.specs.declared.schedule_line.Draw.{Draw}
+use Rattle.command_orders.specs.declared.schedule_line.Draw.TheVariants as draws
+use Rattle.command_orders.specs.declared.refused.Refused.{Refused}
 use Rattle.kind_plans.specs.Kinds.{draw_said, refused_said, MeansRefusals}
 use Rattle.refusals.specs.declared.refusal.Refusals.{Refusals}
 

@@ -1,34 +1,27 @@
-//! The plan of a campaign, and what is told of it.
+//! The seeds of a campaign, and what it reports.
 
 ghost use Rattle.std.specs.Prelude.{◌≡◌};
-ghost use Rattle.order_plans.specs.CampaignPlans.{plan_of};
-ghost use Rattle.order_plans.specs.Tellings.{telling_of};
+ghost use Rattle.order_plans.specs.CampaignPlans.{numbers_of};
+ghost use Rattle.order_plans.specs.Reports.{report_of};
 
-use campaign_engine::CampaignPlan;
+use campaign_runs::Report;
 use command_line::read_number;
-use protocol_library::Kind;
-use summary_engine::Detail;
 
-/// What is told of a campaign's seeds.
+/// The numbers of a campaign.
 #[derive(Clone, Copy, PartialEq, Eq)]
-pub enum Telling {
-    /// A line for each.
-    All,
-    /// The lines of bad ones alone.
-    Failures,
-    /// How many have each outcome.
-    Summary(Detail),
+pub struct SeedNumbers {
+    /// The first seed.
+    pub first: u64,
+    /// Number of seeds.
+    pub count: u64,
+    /// Number of steps of each run.
+    pub steps: u64,
 }
 
-/// The plan that three decimal numbers write: the first seed, how many seeds, and how many steps for each. `None` just where one is no number or too
+/// The numbers that three decimal texts write: the first seed, how many seeds, and how many steps for each. `None` just where one is no number or too
 /// large: the seeds end by 2^64, and the steps are below 2^32.
-pub fn read_campaign_plan(
-    rule: Option<Kind>,
-    first: &str,
-    count: &str,
-    steps: &str,
-) -> Option<CampaignPlan>
-    ensures { result ≡ plan_of rule first.now count.now steps.now }
+pub fn read_seed_numbers(first: &str, count: &str, steps: &str) -> Option<SeedNumbers>
+    ensures { result ≡ numbers_of first.now count.now steps.now }
 {
     let Ok(first) = read_number(first, u64::MAX) else {
         return None;
@@ -42,23 +35,22 @@ pub fn read_campaign_plan(
     if count > 0 && first > u64::MAX - (count - 1) {
         return None;
     }
-    Some(CampaignPlan {
+    Some(SeedNumbers {
         first,
         count,
         steps,
-        rule,
     })
 }
 
-/// What is told. `None` just where the options don't go together: failures and a summary, or outcomes without a summary.
-pub fn read_telling(failures: bool, summary: bool, outcomes: bool) -> Option<Telling>
-    ensures { result ≡ telling_of failures summary outcomes }
+/// What is reported. `None` just where the options don't go together: failures and a summary, or outcomes without a summary.
+pub fn read_report(failures: bool, summary: bool, outcomes: bool) -> Option<Report>
+    ensures { result ≡ report_of failures summary outcomes }
 {
     match (failures, summary, outcomes) {
-        (false, false, false) => Some(Telling::All),
-        (true, false, false) => Some(Telling::Failures),
-        (false, true, false) => Some(Telling::Summary(Detail::Ends)),
-        (false, true, true) => Some(Telling::Summary(Detail::Results)),
+        (false, false, false) => Some(Report::Lines),
+        (true, false, false) => Some(Report::Failures),
+        (false, true, false) => Some(Report::Summary),
+        (false, true, true) => Some(Report::Outcomes),
         _ => None,
     }
 }

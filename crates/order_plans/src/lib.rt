@@ -1,7 +1,7 @@
 //! The plans of commands, as the texts of their orders write them.
 #![tactic(auto)]
 
-pub use campaign::{Telling, read_campaign_plan, read_telling};
+pub use campaign::{SeedNumbers, read_report, read_seed_numbers};
 pub use schedule::read_schedule_plan;
 pub use trace::read_trace_plan;
 

@@ -4,7 +4,8 @@ ghost use Rattle.std.specs.Prelude.{◌≡◌};
 ghost use Rattle.kind_plans.specs.Kinds.{draw_said, refused_said};
 ghost use Rattle.order_plans.specs.SchedulePlans.{seed_maker, only_maker, schedule_plan_of, MeansDrawn, MeansMaker, MeansPlan};
 
-use command_line::{Draw, read_number, read_word};
+use command_line::{read_number, read_word};
+use command_orders::Draw;
 use kind_plans::{draw_said, read_refusals};
 use refusals::Refusals;
 use schedule_engine::{Maker, SchedulePlan};

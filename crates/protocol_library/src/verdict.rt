@@ -5,7 +5,7 @@ ghost use Rattle.protocol_library.specs.Names.{verdict_name};
 use std::fmt;
 
 /// Whether a rule is kept. Shown as `kept` or `broken`.
-#[derive(Clone, Copy, Debug, PartialEq, Eq)]
+#[derive(Clone, Copy, Debug, PartialEq, Eq, Hash)]
 pub enum Verdict {
     /// Each clause of the rule holds.
     Kept,

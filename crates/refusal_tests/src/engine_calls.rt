@@ -1,9 +1,10 @@
 //! Engines, and the calls on which they and the program stand. Sinks have ample memory.
 use asm_engine::{AssemblyFault, assembled_file, listing_engine};
-use command_line::{LineFault, read_inputs, read_plan};
+use command_line::{LineFault, read_inputs};
+use command_orders::read_plan;
 use debug_engine::{DebugEngineFault, debug_engine};
 use devices::{MemorySink, MemorySource, ReadFault, Status, read_all};
-use engines::{FileView, ends_text, file_engine, run_engine};
+use engines::{Exit, Expect, FileView, ends_text, file_engine, run_engine};
 use hart_step::{Hart, HartState};
 use programs::{HexFault, ProgramForm, RunFault, hex_image, read_hex};
 use progress::Unheard;
@@ -120,6 +121,12 @@ fn end_of_run(ending: Result<Status, RunFault>) -> End {
     }
 }
 
+// No rule is judged, and harts may run.
+const UNJUDGED: Expect = Expect {
+    rule: None,
+    exit: Exit::May,
+};
+
 fn is_run<A: Allocator + Copy>(alloc: A, host: Global) -> Result<bool, AllocError> {
     let mut program = MemorySource::new(&EXITS);
     let mut choices = MemorySource::new(b"0 0");
@@ -128,7 +135,7 @@ fn is_run<A: Allocator + Copy>(alloc: A, host: Global) -> Result<bool, AllocErro
         alloc,
         ProgramForm::Elf,
         &[7, 9],
-        None,
+        UNJUDGED,
         &mut program,
         &mut choices,
         &mut sink,
@@ -254,7 +261,7 @@ fn has_ends<A: Allocator + Copy>(alloc: A) -> Result<bool, AllocError> {
         pc: 0x0001_0000,
         state: HartState::Running,
     };
-    let (text, status) = ends_text(alloc, &[], &[], &[hart], None)?;
+    let (text, status) = ends_text(alloc, UNJUDGED, &[], &[], &[hart])?;
     Ok(status == Status::Done && text.as_str() == "hart 0 running pc 00010000\n")
 }
 

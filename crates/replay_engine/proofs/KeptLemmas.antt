@@ -18,14 +18,15 @@ use Rattle.programs.specs.Program.{program_of}
 use Rattle.programs.specs.declared.program.ProgramForm.TheVariants as form
 use Rattle.programs.specs.declared.run_fault.RunFault.{RunFault}
 use Rattle.engines.specs.Certified.{IsCertified}
-use Rattle.engines.specs.Run.{shown, shown_with, world_after}
+use Rattle.engines.specs.Run.{may_run, shown, shown_with, world_after}
+use Rattle.outcome.specs.declared.expect.Exit.TheVariants.{May}
 use Rattle.engines.proofs.CertifiedLemmas.{object_is_kept}
 use Rattle.replay_engine.specs.Replay.{ReplayAnswer, AnswersKept, after_opening, replay_opening, replay_answer}
 
 -- what holds of the printed world after a history holds of the answer to what the devices had left
 pub known : (P : ReplayAnswer → Type 0) (inputs : List ℕ) (rule : Option Kind) (program text : Option (List ℕ)) (image : ImageValue) (entries : List Entry)
     → IfSome program (λ p. IfSome text (λ h. replay_opening (length inputs) p h ≡ Ok (image, entries)))
-    → P (Ok (shown rule inputs (expanded entries) (world_after image inputs (expanded entries))))
+    → P (Ok (shown (may_run rule) inputs (expanded entries) (world_after image inputs (expanded entries))))
     → IfSome program (λ p. IfSome text (λ h. P (replay_answer inputs rule p h)))
 unfolding replay_answer
 known P inputs rule None text image entries opens holds = tt
@@ -48,8 +49,8 @@ within_history n (e ∷ entries) all =
     All-append (λ (c : Choice). c.hart < n) (choices_of e) (expanded entries) (within_entry n e (all 0 e (omega arith)))
     (within_history n entries (λ k d lt. all (suc k) d (omega arith)))
 
-shown_kept : (v : Option Verdict) (harts : List HartValue) → v ≡ Some verdict.Kept → AnswersKept (Ok (shown_with v harts))
-shown_kept (Some verdict.Kept) harts e = record { ends = ends_of 0 harts; text_is = refl; done = refl }
+shown_kept : (v : Option Verdict) (harts : List HartValue) → v ≡ Some verdict.Kept → AnswersKept (Ok (shown_with May v harts))
+shown_kept (Some verdict.Kept) harts e = record { ends = ends_of 0 harts; text_is = refl; unbroken = refl }
 shown_kept (Some verdict.Broken) harts e = absurd (cc)
 shown_kept None harts e = absurd (cc)
 
@@ -63,12 +64,12 @@ same_image x y e = search (rules, e)
 -- the printed world of a certified file keeps its rule
 pub certified_shown : (inputs : List ℕ) (rule : Option Kind) (program : List ℕ) (image : ImageValue) (choices : List Choice)
     → All (λ x. x < 2 ^ 32) inputs → All (λ c. c.hart < length inputs) choices → program_of form.Elf program ≡ Ok image
-    → IsCertified form.Elf program inputs rule → AnswersKept (Ok (shown rule inputs choices (world_after image inputs choices)))
+    → IsCertified form.Elf program inputs rule → AnswersKept (Ok (shown (may_run rule) inputs choices (world_after image inputs choices)))
 unfolding loaded
 certified_shown inputs rule program image choices words there reads h =
     let one : h.image ≡ image = same_image h.image image (sym h.reads ∙ reads) in
     let harts = (world_after image inputs choices).harts in
-    subst (λ r. AnswersKept (Ok (shown_with (verdict_on r inputs choices harts) harts))) (sym h.ruled)
+    subst (λ r. AnswersKept (Ok (shown_with May (verdict_on r inputs choices harts) harts))) (sym h.ruled)
     (shown_kept (verdict_on (Some h.kind) inputs choices harts) harts
     (object_is_kept h.kind image inputs choices (subst (λ i. IsSame i (image_of h.kind)) one h.same) h.meant words there))
 

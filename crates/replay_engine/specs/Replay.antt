@@ -18,8 +18,9 @@ use Rattle.programs.specs.RunFaults as faults
 use Rattle.programs.specs.declared.program.ProgramForm.TheVariants as form
 use Rattle.programs.specs.declared.run_fault.RunFault.{RunFault}
 use Rattle.programs.specs.declared.run_fault.RunFault.TheVariants as run
-use Rattle.engines.specs.Run.{shown, world_after}
+use Rattle.engines.specs.Run.{may_run, shown, world_after}
 use Rattle.engines.specs.Certified.{EndsKept}
+use Rattle.outcome.specs.declared.expect.Exit.TheVariants.{May}
 use Rattle.replay_engine.specs.declared.fault.ReplayFault.{ReplayFault}
 use Rattle.replay_engine.specs.declared.fault.ReplayFault.TheVariants as engine
 
@@ -57,7 +58,7 @@ replay_opening harts program text = after_program harts text (program_of form.El
 -- what is answered once it is known what the replay begins with
 abbrev pub after_opening : Option Kind → List ℕ → Opened → ReplayAnswer
 after_opening rule inputs (Ok opened) =
-    Ok (shown rule inputs (expanded opened.1) (world_after opened.0 inputs (expanded opened.1)))
+    Ok (shown (may_run rule) inputs (expanded opened.1) (world_after opened.0 inputs (expanded opened.1)))
 after_opening rule inputs (Err why) = Err why
 
 -- what a replay of a program and a history text answers, under a rule if there is one
@@ -76,7 +77,7 @@ BeginsToPrint (Err why) old new = ⊥
 
 -- where a replay answers, its text ends with `verdict kept`, and the status is 0
 abbrev pub AnswersKept : ReplayAnswer → Type 0
-AnswersKept (Ok answer) = EndsKept answer.0 answer.1
+AnswersKept (Ok answer) = EndsKept May answer.0 answer.1
 AnswersKept (Err why) = Unit {0}
 
 -- a fault of what was read, and of no device or memory

@@ -4,7 +4,7 @@ ghost use Rattle.std.specs.Prelude.{◌≡◌, ◌≢◌, ◌^◌, ◌-◌, ◌<
 ghost use Rattle.std.specs.List.{All};
 ghost use Rattle.std.specs.Io.KnownBytes.{Keeps};
 ghost use Rattle.engines.specs.Certified.{IsCertified};
-ghost use Rattle.engines.specs.Run.{shown, world_after};
+ghost use Rattle.engines.specs.Run.{may_run, shown, world_after};
 ghost use Rattle.histories.specs.History.{expanded};
 ghost use Rattle.program_images.specs.Image.{ImageValue};
 ghost use Rattle.machine.specs.Start.{IsStartable};
@@ -37,7 +37,7 @@ fn replay_image<A: Allocator + Copy>(
     requires takes { IsStartable inputs.now }
     requires within { All (λ e. e.hart < length inputs.now) history.now }
     ensures { IfOk result (λ answer.
-        shown rule inputs.now (expanded history.now) (world_after image.now inputs.now (expanded history.now))
+        shown (may_run rule) inputs.now (expanded history.now) (world_after image.now inputs.now (expanded history.now))
         ≡ (string_bytes answer.0, answer.1)) }
 {
     let mut machine: Machine<FlatStore<A>, A> = match Machine::start(alloc, image, inputs) {

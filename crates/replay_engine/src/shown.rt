@@ -5,9 +5,10 @@ ghost use Rattle.hart_step.specs.Hart.{hart_of};
 ghost use Rattle.histories.specs.History.{expanded};
 ghost use Rattle.engines.specs.Run.{shown_with};
 ghost use Rattle.ends.specs.Ends.{verdict_on};
+ghost use Rattle.outcome.specs.declared.expect.Exit.TheVariants.{May};
 
 use devices::Status;
-use ends::ends_text;
+use engines::{Exit, Expect, ends_text};
 use hart_step::Hart;
 use histories::Entry;
 use protocol_library::Kind;
@@ -23,10 +24,14 @@ pub fn shown_after<A: Allocator + Copy>(
     harts: &[Hart],
 ) -> Result<(String<A>, Status), AllocError>
     ensures { IfOk result (λ answer.
-        shown_with (verdict_on rule inputs.now (expanded history.now) (map hart_of harts.now)) (map hart_of harts.now)
+        shown_with May (verdict_on rule inputs.now (expanded history.now) (map hart_of harts.now)) (map hart_of harts.now)
         ≡ (string_bytes answer.0, answer.1)) }
 {
     let chosen = chosen_harts(alloc, history)?;
-    let answer = ends_text(alloc, inputs, &chosen, harts, rule)?;
+    let expect = Expect {
+        rule,
+        exit: Exit::May,
+    };
+    let answer = ends_text(alloc, expect, inputs, &chosen, harts)?;
     Ok(answer)
 }

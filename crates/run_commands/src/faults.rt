@@ -4,13 +4,13 @@ ghost use Rattle.std.specs.Prelude.{◌≡◌};
 ghost use Rattle.replay_engine.specs.Replay.{status_of as status_of_replay};
 ghost use Rattle.banked_engine.specs.BankedAnswer.{status_of as status_of_threads};
 ghost use Rattle.schedule_engine.specs.Schedule.{status_of as status_of_schedule};
-ghost use Rattle.shrink_engine.specs.Faults.{status_of as status_of_shrink};
+ghost use Rattle.cmd_shrink.specs.Faults.{status_of as status_of_shrink};
 
 use banked_engine::BankedEngineFault;
+use cmd_shrink::ShrinkFault;
 use devices::Status;
 use replay_engine::ReplayFault;
 use schedule_engine::ScheduleFault;
-use shrink_engine::ShrinkFault;
 
 /// Says why a replay gives no answer.
 pub(crate) fn tell_replay(rt: &impl Eprint, fault: ReplayFault) -> Status

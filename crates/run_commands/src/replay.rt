@@ -1,9 +1,10 @@
 //! Doing `replay`.
 
 use crate::faults::tell_replay;
-use command_line::{ReplayOrder, read_inputs};
+use command_line::read_inputs;
+use command_orders::ReplayOrder;
 use devices::{ReaderSource, Status, WriterSink};
-use fault_advice::history_advice;
+use history_advice::history_advice;
 use object_names::read_rule;
 use programs::{Input, ProgramForm, RunFault};
 use replay_engine::{ReplayFault, replay_engine};

@@ -1,7 +1,8 @@
 //! Doing `schedule`.
 
 use crate::faults::tell_schedule;
-use command_line::{Draw, ScheduleOrder, read_draw, read_inputs, read_word};
+use command_line::{read_inputs, read_word};
+use command_orders::{Draw, ScheduleOrder, read_draw};
 use devices::{ReaderSource, Status, WriterSink};
 use kind_plans::{DRAWS, REFUSALS, read_kind, read_refusals, read_seed_plan, why_no_kind};
 use order_plans::read_schedule_plan;

@@ -2,14 +2,14 @@
 
 use crate::faults::tell_shrink;
 use choice_shrinking::ChoicesLeft;
-use command_line::{ShrinkOrder, read_inputs};
+use cmd_shrink::{ShrinkFault, shrink_engine};
+use command_line::read_inputs;
+use command_orders::ShrinkOrder;
 use devices::{ReaderSource, Status, WriterSink};
-use exit_failures::Demands;
-use exits::Exit;
 use object_names::read_rule;
+use outcome::{Exit, Expect};
 use programs::{Input, ProgramForm, RunFault};
 use reports::{Audience, RunFiles, WIPE, cannot_open, cannot_read, explain_run, refuse, say, show};
-use shrink_engine::{ShrinkFault, shrink_engine};
 use std::rt::Files;
 use std::{fs, io};
 
@@ -71,7 +71,7 @@ pub fn shrink_schedule<R: Files + AllocGlobal + Print + Eprint>(
     match shrink_engine(
         rt.alloc(),
         inputs.as_slice(),
-        Demands { rule, exit },
+        Expect { rule, exit },
         &mut program,
         &mut choices,
         &mut sink,

@@ -1,8 +1,8 @@
 //! How many entries the history of a run in threads has, for a person.
 
-use hart_threads::Gate;
 use reports::{Audience, WIPE, wipe_line};
 use std::sync::atomic::{AtomicU64, Ordering};
+use thread_gate::Gate;
 
 // After so many entries of a history a person is told how many there are.
 const TOLD_EACH: u64 = 65536;

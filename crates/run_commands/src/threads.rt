@@ -5,10 +5,10 @@ ghost use Rattle.std.specs.Prelude.{◌^◌, ◌-◌, ◌<◌};
 use crate::faults::tell_threads;
 use crate::telling_gate::TellingGate;
 use banked_engine::{BankedEngineFault, HistoryUse, banked_engine};
-use command_line::{LineFault, Locks, ThreadsOrder, read_inputs, read_number, read_plan};
+use command_line::{LineFault, read_inputs, read_number};
+use command_orders::{Locks, ThreadsOrder, read_plan};
 use devices::{ReaderSource, Source, Status, WriterSink, write_all};
-use fault_advice::history_advice;
-use hart_threads::Gate;
+use history_advice::history_advice;
 use object_names::read_rule;
 use programs::{Input, ProgramForm, RunFault};
 use reports::{
@@ -21,6 +21,7 @@ use std::rt::Files;
 use std::sync::Wait;
 use std::thread::Threads;
 use std::{fs, io};
+use thread_gate::Gate;
 use threads_engine::{ThreadsAnswer, ThreadsEngineFault, ThreadsTask, threads_engine};
 
 // What the order's texts say.

@@ -1,6 +1,7 @@
 //! Doing `trace`.
 
-use command_line::{TraceOrder, read_inputs};
+use command_line::read_inputs;
+use command_orders::TraceOrder;
 use devices::{ReaderSource, Status, WriterSink};
 use order_plans::read_trace_plan;
 use programs::{Input, ProgramForm, RunFault};

@@ -2,7 +2,7 @@
 #![tactic(auto)]
 
 use campaign_command::run_campaign;
-use command_line::{Order, read_line};
+use command_orders::{Order, read_line};
 use debug_talk::converse;
 use devices::Status;
 use engines::FileView;

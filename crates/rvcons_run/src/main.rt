@@ -1,7 +1,7 @@
 //! The program of the command `run` alone. It stands on fewer crates than the whole program, so it is proved and built sooner.
 #![tactic(auto)]
 
-use command_line::{Order, read_line};
+use command_line::read_run;
 use devices::Status;
 use protocol_library::KIND_NAMES;
 use reports::{Audience, bad_line, explain_line, out_of_memory, read_arguments, refuse};
@@ -32,9 +32,9 @@ fn obey<R: Files + AllocGlobal + Print + Eprint + Env>(rt: &R, audience: Audienc
     else {
         return out_of_memory(rt);
     };
-    match read_line(rt.alloc(), words.as_slice(), KIND_NAMES) {
-        Ok(Order::Run(order)) => run_schedule(rt, audience, &order),
-        Ok(_) => bad_line(
+    match read_run(rt.alloc(), words.as_slice(), KIND_NAMES) {
+        Ok(Some(order)) => run_schedule(rt, audience, &order),
+        Ok(None) => bad_line(
             rt,
             "this is the program of run alone: the other commands are those of the whole program",
         ),

@@ -10,12 +10,11 @@ use Rattle.machine.specs.Start.{started}
 use Rattle.machine.specs.declared.choice.Choice.{Choice}
 use Rattle.choice_texts.specs.Printing.{choices_text}
 use Rattle.choice_texts.specs.Reading.{choices_of}
-use Rattle.scheduler.specs.Schedules.{turns, alone}
+use Rattle.scheduler.specs.Schedules.{alone, seeded_choices, turns}
 use Rattle.refusals.specs.Refusing.{even_choices}
 use Rattle.refusals.specs.declared.refusal.Refusals.{Refusals}
 use Rattle.burst_schedules.specs.Bursts.{burst_choices}
 use Rattle.burst_schedules.specs.Bursts.{most_mean}
-use Rattle.campaigns.specs.Campaign.{plain_run}
 use Rattle.devices.specs.declared.status.Status.{Status}
 use Rattle.devices.specs.declared.status.Status.TheVariants as status
 use Rattle.schedule_engine.specs.declared.plan.Maker.{Maker}
@@ -84,4 +83,5 @@ status_of fault.Memory = status.NoMemory
 pub record EndsAsSeed (image : ImageValue) (inputs : List ℕ) (steps seed : ℕ) (text : List ℕ) : Type 0 where
   pub choices : List Choice
   pub read : choices_of (length inputs) text ≡ Ok choices
-  pub ends : (run (started image inputs) choices).harts ≡ plain_run image inputs steps seed
+  pub ends : (run (started image inputs) choices).harts
+      ≡ (run (started image inputs) (seeded_choices (length inputs) steps seed)).harts

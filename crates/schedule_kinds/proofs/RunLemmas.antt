@@ -8,11 +8,16 @@ use Rattle.machine.specs.declared.choice.Choice.{Choice}
 use Rattle.machine.proofs.WorldLemmas.{run_append, run_none}
 use Rattle.choice_runs.specs.Harts.{Harts, with_hart}
 use Rattle.choice_runs.proofs.ChosenLemmas.{choice_chosen}
+use Rattle.scheduler.specs.Schedules as plain
+use Rattle.scheduler.proofs.ScheduleLemmas as plain_drawn
 use Rattle.refusals.specs.Refusing as even
 use Rattle.refusals.specs.declared.refusal.Refusals.{Refusals}
 use Rattle.refusals.proofs.RefusalLemmas as even_drawn
 use Rattle.burst_schedules.specs.Bursts.{Drawing, next_choice, after_choice, choices_drawn}
-use Rattle.schedule_kinds.specs.Kinds.{RanOver}
+use Rattle.refusals.specs.Refusing.{IsOneIn}
+use Rattle.schedule_kinds.specs.Kinds.{RanOver, kind_choices, ordered_choices}
+use Rattle.schedule_kinds.specs.declared.kind.HartOrder.TheVariants.{Even}
+use Rattle.schedule_kinds.specs.declared.kind.ScheduleKind.{ScheduleKind}
 
 -- of all choices those that were taken, whose run has led from a world to another, come before those that are left
 pub record SoFar (all left : List Choice) (old now : World) (chosen : Harts) : Type 0 where
@@ -51,6 +56,22 @@ pub all_done : (all left : List Choice) (old now : World) (chosen : Harts) → l
 all_done all left old now chosen none s =
     let whole : s.done ≡ all = sym (s.order ∙ ap (λ cs. s.done ++ cs) none ∙ append-nil s.done) in
     (s.led ∙ ap (run old) whole, λ k. s.told k ∙ ap (λ cs. is_chosen cs k) whole)
+
+-- even choices with the usual refusals are those of a plain seed
+pub usual_kind : (kind : ScheduleKind) (world : World) (harts steps seed : ℕ) → kind.order ≡ Even → IsOneIn 16 kind.refusals
+    → plain.seeded_choices harts steps seed ≡ kind_choices kind world harts steps seed
+unfolding kind_choices
+usual_kind kind world harts steps seed evenly usual =
+    sym (ap (λ order. ordered_choices order kind.refusals world harts steps seed) evenly
+    ∙ even_drawn.usual-choices kind.refusals harts steps seed usual)
+
+-- the next of choices that are drawn from all harts with the usual refusals
+pub usually_next : (harts n m : ℕ) (g h : Lcg) (c : Choice) → n ≡ m + 1
+    → c ≡ plain.choice_of_word harts (pcg32 g).0 → h ≡ (pcg32 g).1
+    → plain.choices_drawn harts n g ≡ c ∷ plain.choices_drawn harts m h
+usually_next harts n m g h c more choice state =
+    plain_drawn.drawn-more harts n m g more
+    ∙ ap₂ (λ d i. d ∷ plain.choices_drawn harts m i) (sym choice) (sym state)
 
 -- the next of choices that are drawn from all harts
 pub evenly_next : (refusals : Refusals) (harts n m : ℕ) (g h : Lcg) (c : Choice) → n ≡ m + 1

@@ -1,15 +1,11 @@
 //! Doing `run`.
 
-ghost use Rattle.std.specs.Prelude.{◌-◌, ◌<◌, ◌^◌};
-
 use command_line::{RunOrder, read_inputs};
-use devices::{ReaderSource, Sink, Source, Status, WriterSink};
-use engines::run_engine;
-use exit_engine::exit_engine;
+use devices::{ReaderSource, Status, WriterSink};
+use engines::{Exit, Expect, run_engine};
 use fault_advice::run_advice;
 use object_names::read_rule;
 use programs::{Input, ProgramForm, RunFault};
-use protocol_library::Kind;
 use reports::{
     Audience, RunFiles, cannot_open, cannot_read, explain_run, read_again, refuse, say, show,
 };
@@ -42,11 +38,15 @@ pub fn run_schedule<R: Files + AllocGlobal + Print + Eprint>(
     let mut program = ReaderSource::new(program);
     let mut choices = ReaderSource::new(choices);
     let mut sink = WriterSink::new(io::writer(rt));
-    match run_program(
-        rt.alloc(),
-        order,
-        inputs.as_slice(),
+    let expect = Expect {
         rule,
+        exit: exit_of(order),
+    };
+    match run_engine(
+        rt.alloc(),
+        form_of(order),
+        inputs.as_slice(),
+        expect,
         &mut program,
         &mut choices,
         &mut sink,
@@ -70,25 +70,12 @@ fn form_of(order: &RunOrder) -> ProgramForm {
     }
 }
 
-// Runs a program under a schedule, with the engine for what is asked of the run.
-fn run_program<A: Allocator + Copy, P: Source, C: Source, K: Sink>(
-    alloc: A,
-    order: &RunOrder,
-    inputs: &[u32],
-    rule: Option<Kind>,
-    program: &mut P,
-    choices: &mut C,
-    sink: &mut K,
-) -> Result<Status, RunFault>
-    requires program_counts { P.failures program.old < 2 ^ 64 - 1 }
-    requires choices_count { C.failures choices.old < 2 ^ 64 - 1 }
-    requires sink_counts { K.failures sink.old < 2 ^ 64 - 1 }
-{
-    let form = form_of(order);
+// Whether a hart may still run at the end.
+fn exit_of(order: &RunOrder) -> Exit {
     if order.must_exit {
-        exit_engine(alloc, form, inputs, rule, program, choices, sink)
+        Exit::Must
     } else {
-        run_engine(alloc, form, inputs, rule, program, choices, sink)
+        Exit::May
     }
 }
 

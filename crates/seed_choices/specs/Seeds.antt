@@ -10,8 +10,8 @@ use Rattle.choice_texts.specs.Printing.{choices_text}
 use Rattle.choice_texts.specs.Reading.{choices_of}
 use Rattle.devices.specs.declared.status.Status.TheVariants as status
 use Rattle.schedule_kinds.specs.Kinds.{kind_choices}
-use Rattle.drawn_campaigns.specs.Campaign.{outcome_after, outcome_from}
-use Rattle.drawn_campaigns.specs.declared.plan.DrawnPlan.{DrawnPlan}
+use Rattle.campaign_runs.specs.Runs.{ending_after, ending_from}
+use Rattle.campaign_runs.specs.declared.campaign.Campaign.{Campaign}
 use Rattle.engines.specs.Run.{Answer}
 use Rattle.programs.specs.Program.{program_of}
 use Rattle.programs.specs.declared.program.ProgramForm.TheVariants as form
@@ -36,7 +36,7 @@ unfoldable pub choices_answer : SeedPlan → List ℕ → List ℕ → Answer
 choices_answer plan inputs bytes = after_image plan inputs (program_of form.Elf bytes)
 
 -- a text is read as choices whose run ends as a campaign tells of a seed
-pub record EndsAsTold (plan : DrawnPlan) (image : ImageValue) (inputs : List ℕ) (seed : ℕ) (text : List ℕ) : Type 0 where
+pub record EndsAsTold (campaign : Campaign) (image : ImageValue) (inputs : List ℕ) (seed : ℕ) (text : List ℕ) : Type 0 where
   pub choices : List Choice
   pub read : choices_of (length inputs) text ≡ Ok choices
-  pub ends : outcome_after (started image inputs) plan inputs seed choices ≡ outcome_from (started image inputs) plan inputs seed
+  pub ends : ending_after (started image inputs) campaign inputs choices ≡ (ending_from (started image inputs) campaign inputs seed).ending

@@ -10,7 +10,7 @@ ghost use Rattle.seed_choices.specs.Seeds.{after_image, choices_answer, seed_lis
 
 use crate::drawing::list_choices;
 use crate::plan::SeedPlan;
-use campaigns::first_machine;
+use campaign_runs::first_machine;
 use choice_texts::print_choices;
 use devices::{Sink, Source, Status, write_all};
 use machine::check_inputs;

@@ -2,38 +2,37 @@
 use crate::worked::{CROSSED, LOST, NEEDS_SC, OWN_INPUT, TWO_FAULTS, file_of};
 use choice_shrinking::Unheard;
 use choice_texts::{print_choices, read_choices};
+use cmd_shrink::{ShrinkFault, shrink_engine};
 use devices::{Failing, FullSink, MemorySink, MemorySource, Status};
-use exit_failures::Demands;
-use exits::Exit;
+use outcome::{Exit, Expect};
 use programs::{Input, RunFault};
 use protocol_library::Kind;
 use scheduler::seeded;
-use shrink_engine::{ShrinkFault, shrink_engine};
 use std::alloc::Global;
 
-// A program, its inputs, what is asked of its runs, a choice text, and the text that is left of it.
+// A program, its inputs, what is expected of its runs, a choice text, and the text that is left of it.
 struct Row {
     source: &'static str,
     inputs: &'static [u32],
-    demands: Demands,
+    expect: Expect,
     given: &'static str,
     left: &'static str,
 }
 
 // No hart may fault, but it may run.
-const NO_FAULT: Demands = Demands {
+const NO_FAULT: Expect = Expect {
     rule: None,
     exit: Exit::May,
 };
 
 // No hart may fault, and each has to exit.
-const ALL_EXIT: Demands = Demands {
+const ALL_EXIT: Expect = Expect {
     rule: None,
     exit: Exit::Must,
 };
 
 // Consensus by AMOSWAP is kept.
-const AGREED: Demands = Demands {
+const AGREED: Expect = Expect {
     rule: Some(Kind::Swap),
     exit: Exit::May,
 };
@@ -42,7 +41,7 @@ const AGREED: Demands = Demands {
 const UPDATE_LOST: Row = Row {
     source: LOST,
     inputs: &[2, 2],
-    demands: NO_FAULT,
+    expect: NO_FAULT,
     given: "0*3 1*12 0*14 1*3",
     left: "0*3 1*9 0*11\n",
 };
@@ -51,7 +50,7 @@ const UPDATE_LOST: Row = Row {
 const MARKS_GO: Row = Row {
     source: LOST,
     inputs: &[2, 2],
-    demands: NO_FAULT,
+    expect: NO_FAULT,
     given: "0! 0*2 1!*5 1*7 0*14 1 0! 1!*3 0!*40",
     left: "0*3 1*9 0*11\n",
 };
@@ -60,7 +59,7 @@ const MARKS_GO: Row = Row {
 const SAME_FAULT: Row = Row {
     source: TWO_FAULTS,
     inputs: &[0, 0],
-    demands: NO_FAULT,
+    expect: NO_FAULT,
     given: "1*6 0*8",
     left: "1*4 0*6\n",
 };
@@ -69,7 +68,7 @@ const SAME_FAULT: Row = Row {
 const ONE_MARK: Row = Row {
     source: NEEDS_SC,
     inputs: &[0, 0],
-    demands: NO_FAULT,
+    expect: NO_FAULT,
     given: "1 0!*6 1!*9 0!*3",
     left: "0*3 0! 0*2\n",
 };
@@ -78,7 +77,7 @@ const ONE_MARK: Row = Row {
 const BROKEN_RULE: Row = Row {
     source: OWN_INPUT,
     inputs: &[7, 9],
-    demands: AGREED,
+    expect: AGREED,
     given: "0!*5 1*6",
     left: "0*4 1*4\n",
 };
@@ -87,7 +86,7 @@ const BROKEN_RULE: Row = Row {
 const DEADLOCK: Row = Row {
     source: CROSSED,
     inputs: &[0, 0],
-    demands: ALL_EXIT,
+    expect: ALL_EXIT,
     given: "0*9 1!*20",
     left: "0*8 1*8\n",
 };
@@ -96,7 +95,7 @@ const DEADLOCK: Row = Row {
 const FAULT_FIRST: Row = Row {
     source: LOST,
     inputs: &[2, 2],
-    demands: ALL_EXIT,
+    expect: ALL_EXIT,
     given: "0*3 1*12 0*14",
     left: "0*3 1*9 0*11\n",
 };
@@ -116,7 +115,7 @@ const WORKED: [Row; 7] = [
 struct Given {
     source: &'static str,
     inputs: &'static [u32],
-    demands: Demands,
+    expect: Expect,
     passed: u64,
 }
 
@@ -133,7 +132,7 @@ fn shrunk(
     let ending = shrink_engine(
         alloc,
         given.inputs,
-        given.demands,
+        given.expect,
         &mut program,
         &mut choices,
         &mut sink,
@@ -147,7 +146,7 @@ fn is_left(alloc: Global, row: &Row) -> Option<bool> {
     let given = Given {
         source: row.source,
         inputs: row.inputs,
-        demands: row.demands,
+        expect: row.expect,
         passed: u64::MAX,
     };
     let (ending, sink) = shrunk(alloc, given, row.given.as_bytes())?;
@@ -172,21 +171,21 @@ struct Refused {
 // Too few steps are no hang.
 #[rattlefmt::skip]
 const REFUSED: [Refused; 8] = [
-    Refused { given: Given { source: LOST, inputs: &[2, 2], demands: NO_FAULT, passed: u64::MAX }, choices: "0*15 1*15",
+    Refused { given: Given { source: LOST, inputs: &[2, 2], expect: NO_FAULT, passed: u64::MAX }, choices: "0*15 1*15",
         fault: ShrinkFault::NothingFails },
-    Refused { given: Given { source: LOST, inputs: &[2, 2], demands: NO_FAULT, passed: u64::MAX }, choices: "",
+    Refused { given: Given { source: LOST, inputs: &[2, 2], expect: NO_FAULT, passed: u64::MAX }, choices: "",
         fault: ShrinkFault::NothingFails },
-    Refused { given: Given { source: CROSSED, inputs: &[0, 0], demands: ALL_EXIT, passed: u64::MAX }, choices: "0*8 1*6",
+    Refused { given: Given { source: CROSSED, inputs: &[0, 0], expect: ALL_EXIT, passed: u64::MAX }, choices: "0*8 1*6",
         fault: ShrinkFault::NothingFails },
-    Refused { given: Given { source: OWN_INPUT, inputs: &[7, 9], demands: NO_FAULT, passed: u64::MAX }, choices: "0*5 1*6",
+    Refused { given: Given { source: OWN_INPUT, inputs: &[7, 9], expect: NO_FAULT, passed: u64::MAX }, choices: "0*5 1*6",
         fault: ShrinkFault::NothingFails },
-    Refused { given: Given { source: OWN_INPUT, inputs: &[7, 7], demands: AGREED, passed: u64::MAX }, choices: "0*5 1*6",
+    Refused { given: Given { source: OWN_INPUT, inputs: &[7, 7], expect: AGREED, passed: u64::MAX }, choices: "0*5 1*6",
         fault: ShrinkFault::NothingFails },
-    Refused { given: Given { source: LOST, inputs: &[], demands: NO_FAULT, passed: u64::MAX }, choices: "0 2",
+    Refused { given: Given { source: LOST, inputs: &[], expect: NO_FAULT, passed: u64::MAX }, choices: "0 2",
         fault: ShrinkFault::Run(RunFault::NoHarts) },
-    Refused { given: Given { source: LOST, inputs: &[2, 2], demands: NO_FAULT, passed: u64::MAX }, choices: "0 2",
+    Refused { given: Given { source: LOST, inputs: &[2, 2], expect: NO_FAULT, passed: u64::MAX }, choices: "0 2",
         fault: ShrinkFault::Run(RunFault::NoHart(2)) },
-    Refused { given: Given { source: TWO_FAULTS, inputs: &[0, 0], demands: NO_FAULT, passed: 0 }, choices: "1*6 0*8",
+    Refused { given: Given { source: TWO_FAULTS, inputs: &[0, 0], expect: NO_FAULT, passed: 0 }, choices: "1*6 0*8",
         fault: ShrinkFault::Run(RunFault::Read(Input::Choices)) },
 ];
 
@@ -238,7 +237,7 @@ fn left_of(alloc: Global, seed: u64) -> Option<usize> {
     let given = Given {
         source: LOST,
         inputs: &[2, 2],
-        demands: NO_FAULT,
+        expect: NO_FAULT,
         passed: u64::MAX,
     };
     let (ending, sink) = shrunk(alloc, given, text.as_bytes())?;

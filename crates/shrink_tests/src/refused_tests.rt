@@ -1,12 +1,11 @@
 //! Each request of a shrinking refused in turn, once and for good.
 use crate::worked::{TWO_FAULTS, file_of};
 use choice_shrinking::Unheard;
+use cmd_shrink::{ShrinkFault, shrink_engine};
 use devices::{MemorySink, MemorySource, Status};
-use exit_failures::Demands;
-use exits::Exit;
+use outcome::{Exit, Expect};
 use programs::RunFault;
 use refusing::{Call, Wrong, tried};
-use shrink_engine::{ShrinkFault, shrink_engine};
 use std::alloc::{AllocError, Allocator, Global};
 
 // A shrinking of this file's run.
@@ -32,7 +31,7 @@ impl<'a> Call for Shrinking<'a> {
         let ending = shrink_engine(
             alloc,
             &[0, 0],
-            Demands {
+            Expect {
                 rule: None,
                 exit: Exit::May,
             },

@@ -1,12 +1,12 @@
 //! Programs and plans for tests of harts on threads.
 #![tactic(auto)]
 
-use hart_threads::Plan;
 use program_images::{Image, Rights, Segment};
 use protocol_library::{Kind, make_image};
 use std::alloc::{AllocError, Allocator};
 use std::collections::BTreeSet;
 use test_images::{PROGRAM_START, bytes_of, writable_program};
+use thread_gate::Plan;
 
 /// A program for tests.
 #[derive(Clone, Copy)]

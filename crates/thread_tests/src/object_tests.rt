@@ -5,7 +5,6 @@ use crate::runs::{Order, run};
 use book::Book;
 use flat_memory::FlatStore;
 use hart_step::HartState;
-use hart_threads::{Gate, OpenGate};
 use histories::Entry;
 use machine::{Choice, Machine};
 use protocol_library::{Kind, Verdict, judge};
@@ -15,6 +14,7 @@ use std::sync::atomic::{AtomicU64, Ordering};
 use std::thread;
 use std::thread::Threads;
 use test_programs::Program;
+use thread_gate::{Gate, OpenGate};
 
 // How often a hart is chosen at most.
 const BUDGET: u32 = 500;

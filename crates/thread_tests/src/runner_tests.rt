@@ -3,7 +3,7 @@
 use crate::images::{LR_SC, STORE_AND_LOAD, SWAP};
 use crate::runs::{Order, run};
 use hart_step::{Hart, HartState};
-use hart_threads::{Gate, OpenGate, RunFault};
+use hart_threads::RunFault;
 use histories::print_history;
 use refusing::{Refusing, Shortage};
 use std::alloc::Global;
@@ -12,6 +12,7 @@ use std::sync::atomic::{AtomicU64, Ordering};
 use std::thread;
 use std::thread::Threads;
 use test_programs::{Program, STORE_OVER_NEXT};
+use thread_gate::{Gate, OpenGate};
 
 // What all harts exited with, if they did so with one value.
 fn one_value(harts: &[Hart]) -> Option<u32> {

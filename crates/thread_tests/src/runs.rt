@@ -1,10 +1,11 @@
 //! Runs of threads for tests.
 use book::Book;
-use hart_threads::{Gate, RunFault, run_threads};
+use hart_threads::{RunFault, run_threads};
 use std::alloc::Allocator;
 use std::sync::Wait;
 use std::thread::Threads;
 use test_programs::{Program, plan_of, program_image};
+use thread_gate::Gate;
 
 /// What is run: a program with a hart for each input, how often each hart is chosen at most, and the pairs of its plan.
 #[derive(Clone, Copy)]

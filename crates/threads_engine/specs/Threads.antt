@@ -12,8 +12,9 @@ use Rattle.programs.specs.RunFaults as faults
 use Rattle.programs.specs.declared.run_fault.RunFault.TheVariants as run
 use Rattle.devices.specs.declared.status.Status.{Status}
 use Rattle.devices.specs.declared.status.Status.TheVariants as status
-use Rattle.engines.specs.Run.{shown, world_after}
+use Rattle.engines.specs.Run.{may_run, shown, world_after}
 use Rattle.engines.specs.Certified.{EndsKept}
+use Rattle.outcome.specs.declared.expect.Exit.TheVariants.{May}
 use Rattle.hart_threads.specs.Outcome.{IsOutcome}
 use Rattle.hart_threads.specs.declared.fault.RunFault.{RunFault}
 use Rattle.hart_threads.specs.declared.fault.RunFault.TheVariants as threads
@@ -28,12 +29,12 @@ pub record IsAnswer {A : Type 0} (inputs : List ℕ) (budget : ℕ) (plan : List
   pub reads : program_of form.Elf program ≡ Ok image
   pub outcome : IsOutcome image inputs budget plan (record { image = image; inputs = inputs; history = entries })
   pub text : string_bytes answer.history ≡ history_text entries
-  pub prints : shown rule inputs (expanded entries) (world_after image inputs (expanded entries))
+  pub prints : shown (may_run rule) inputs (expanded entries) (world_after image inputs (expanded entries))
       ≡ (string_bytes answer.lines, answer.status)
 
 -- the lines end with `verdict kept`, and the status is 0
 abbrev pub IsKept : {A : Type 0} → ThreadsAnswer A → Type 0
-IsKept {A} answer = EndsKept (string_bytes answer.lines) answer.status
+IsKept {A} answer = EndsKept May (string_bytes answer.lines) answer.status
 
 -- a fault of the threads
 abbrev pub fault_of_run : RunFault → ThreadsEngineFault

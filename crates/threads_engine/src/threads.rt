@@ -8,7 +8,7 @@ ghost use Rattle.threads_engine.specs.Threads.{IsAnswer, IsKept, IsRefusal, IfRe
 use crate::fault::ThreadsEngineFault;
 use devices::{Source, Status};
 use engines::see_words;
-use hart_threads::{Gate, Plan, RunFault as ThreadsFault, run_threads};
+use hart_threads::{RunFault as ThreadsFault, run_threads};
 use histories::print_history;
 use programs::{ProgramForm, RunFault, read_image};
 use protocol_library::Kind;
@@ -16,6 +16,7 @@ use replay_engine::shown_after;
 use std::alloc::{AllocError, Allocator};
 use std::sync::Wait;
 use std::thread::Threads;
+use thread_gate::{Gate, Plan};
 
 /// What is run on threads, besides the program.
 #[derive(Drop)]

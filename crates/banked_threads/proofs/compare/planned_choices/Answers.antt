@@ -1,6 +1,6 @@
 use Rattle.std.proofs.Common.{arith, ap, ◌≡◌, ◌+◌, ◌∙◌, refl}
 use Rattle.banks_laws.specs.Segments.{LoggedSegment}
-use Rattle.hart_threads.specs.Plan.{is_planned}
+use Rattle.thread_gate.specs.Plan.{is_planned}
 use Rattle.banked_threads.proofs.ListLemmas.{drop_here, drop_none}
 use Rattle.banked_threads.proofs.ChoiceLemmas.{goes_first, goes_next, goes_last, flag_is}
 use Rattle.banked_threads.proofs.compare.planned_choices.Goals as goal

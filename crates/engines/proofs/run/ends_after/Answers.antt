@@ -1,16 +1,12 @@
-use Rattle.std.proofs.Common.{◌≡◌, map, ap, sym, ◌∙◌}
+use Rattle.std.proofs.Common.{map, ap, sym, ◌∙◌}
 use Rattle.hart_step.specs.Hart.{hart_of}
-use Rattle.machine.specs.Chosen.{ChooseAlike}
-use Rattle.ends.specs.Ends.{verdict_on}
-use Rattle.engines.specs.Run.{shown_with}
-use Rattle.engines.proofs.RunLemmas.{verdict_alike}
+use Rattle.ends.specs.Ends.{text_of}
+use Rattle.outcome.specs.Expect.{status_of}
+use Rattle.outcome.specs.declared.run_outcome.Outcome.{Outcome}
 use Rattle.engines.proofs.run.ends_after.Goals as goal
 
 pub returns : goal.returns
 returns g c = λ choices told.
     let harts = map hart_of c.args.harts.now in
-    let alike : ChooseAlike c.in_ok-picked.picked.items choices = λ k. c.in_ok-picked.ensures k ∙ told k in
-    let same : verdict_on c.args.rule c.args.inputs.now c.deref.result.now harts ≡ verdict_on c.args.rule c.args.inputs.now choices harts
-    = ap (λ cs. verdict_on c.args.rule c.args.inputs.now cs harts) c.deref.ensures.value
-    ∙ verdict_alike c.args.rule c.args.inputs.now c.in_ok-picked.picked.items choices harts alike in
-    ap (λ v. shown_with v harts) (sym same) ∙ (λ i. (sym c.in_ok-answer.ensures.text i, sym c.in_ok-answer.ensures.status i))
+    ap (λ (o : Outcome). (text_of o.verdict harts, status_of c.args.expect.exit o)) (sym (c.in_ok-outcome.ensures choices told))
+    ∙ (λ i. (sym c.in_ok-text.ensures i, sym c.status-status.ensures i))

@@ -3,6 +3,7 @@ use Rattle.hart_step.specs.Hart.{hart_of}
 use Rattle.histories.specs.History.{expanded}
 use Rattle.engines.specs.Run.{shown_with}
 use Rattle.ends.specs.Ends.{verdict_on}
+use Rattle.outcome.specs.declared.expect.Exit.TheVariants.{May}
 use Rattle.replay_engine.proofs.ShownLemmas.{verdict_alike}
 use Rattle.replay_engine.proofs.shown.shown_after.Goals as goal
 
@@ -12,4 +13,4 @@ returns g c =
     let same : verdict_on c.args.rule c.args.inputs.now c.deref.result.now harts ≡ verdict_on c.args.rule c.args.inputs.now (expanded c.args.history.now) harts
     = ap (λ cs. verdict_on c.args.rule c.args.inputs.now cs harts) c.deref.ensures.value
     ∙ verdict_alike c.args.rule c.args.inputs.now c.in_ok-chosen.chosen.items (expanded c.args.history.now) harts c.in_ok-chosen.ensures in
-    ap (λ v. shown_with v harts) (sym same) ∙ (λ i. (sym c.in_ok-answer.ensures.text i, sym c.in_ok-answer.ensures.status i))
+    ap (λ v. shown_with May v harts) (sym same) ∙ c.in_ok-answer.ensures

@@ -1,11 +1,9 @@
 use Rattle.std.proofs.Common.{length, arith, refl}
 use Rattle.scheduler.specs.Schedules.{seeded_choices}
-use Rattle.campaigns.specs.Campaign.{plain_run}
 use Rattle.schedule_engine.proofs.ScheduleLemmas.{read_back, seeded_within}
 use Rattle.schedule_engine.proofs.laws.seed_text_ends_alike.Goals as goal
 
 pub returns : goal.returns
-unfolding plain_run
 returns c = λ image inputs steps seed startable.
     let some = startable.0 in
     let few = startable.1 in

@@ -2,4 +2,4 @@ use Rattle.seed_choices.proofs.ListLemmas.{ends_as_told}
 use Rattle.seed_choices.proofs.laws.written_seeds_end_as_told.Goals as goal
 
 pub returns : goal.returns
-returns c = λ plan image inputs seed startable. ends_as_told plan image inputs seed startable
+returns c = λ campaign image inputs seed startable. ends_as_told campaign image inputs seed startable

@@ -1,8 +1,8 @@
 use Rattle.std.proofs.Common.{◌≡◌, ◌+◌, ◌≤◌, ◌<◌, false, length, ap, sym, ◌∙◌, arith, rules, ◌||◌, ◌==◌}
 use Rattle.std.specs.Prelude.{if◌then◌else◌, slice_index}
 use Rattle.hart_step.specs.declared.hart.Hart.{Hart}
-use Rattle.hart_threads.specs.Outcome.{is_stopped}
-use Rattle.hart_threads.specs.Plan.{is_planned}
+use Rattle.thread_gate.specs.Stopped.{is_stopped}
+use Rattle.thread_gate.specs.Plan.{is_planned}
 use Rattle.hart_threads.specs.Seat.{with_refusal}
 use Rattle.hart_threads.proofs.RunningLemmas.{run_on, planned_as, done_as}
 use Rattle.hart_threads.proofs.running.Running.commit.Goals as goal
@@ -22,7 +22,7 @@ invariant_of-self-2 g c =
     let flag : c.is_planned-refuse.result ≡ is_planned g.T.Terms.plan seg.hart (made + seg.local) =
     planned_as c.is_planned-refuse.result r.plan.keys g.T.Terms.plan c.hart-hart.result seg.hart made c.local-local.result seg.local c.is_planned-refuse.ensures kept.1 hart local in
     let running : is_stopped seg.slot.state ≡ false =
-    ap (λ (x : Hart). is_stopped x.state) (sym c.slot.ensures) ∙ sym c.has_stopped.ensures ∙ c.if-has_stopped.false in
+    ap (λ (x : Hart). is_stopped x.state) (sym c.slot.ensures) ∙ sym c.is_stopped.ensures ∙ c.if-is_stopped.false in
     let fits : made + seg.local + 1 ≤ g.T.Terms.budget = omega (arith, kept.2) in
     let done : c.is_done-done.result ≡ (is_stopped t.slot.state || (made + seg.local + 1 == g.T.Terms.budget)) =
     done_as c.is_done-done.result c.slot-2.result.now t.slot made c.local-local.result seg.local r.budget g.T.Terms.budget c.is_done-done.ensures c.slot-2.ensures local kept.2 in

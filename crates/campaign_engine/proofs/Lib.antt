@@ -1,3 +1,0 @@
-pub mod CampaignLemmas
-pub mod KeptLemmas
-pub mod JudgedLemmas

@@ -1,2 +1,0 @@
-pub mod Campaign
-pub mod Judged

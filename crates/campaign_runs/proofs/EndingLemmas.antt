@@ -1,0 +1,68 @@
+-- Endings that are the same are equal.
+use Rattle.std.proofs.Common.{◌≡◌, true, List, [], ◌∷◌, Option, Some, None, eq-eqb, refl, ap, sym, ◌∙◌, true≢false}
+use Rattle.std.proofs.lemmas.Bool.{and_from, and_parts, eqb-true}
+use Rattle.outcome.specs.declared.run_outcome.Outcome.{Outcome}
+use Rattle.protocol_library.specs.declared.verdict.Verdict.{Verdict}
+use Rattle.protocol_library.specs.declared.verdict.Verdict.TheVariants.{Kept, Broken}
+use Rattle.campaign_runs.specs.Ending.{EndingValue, same_ending, same_outcome, same_results, same_verdict}
+use Rattle.campaign_runs.specs.declared.ending.HartResult.{HartResult}
+
+verdicts_equal : (a b : Option Verdict) → same_verdict a b ≡ true → a ≡ b
+verdicts_equal None None same = refl
+verdicts_equal (Some Kept) (Some Kept) same = refl
+verdicts_equal (Some Broken) (Some Broken) same = refl
+verdicts_equal None (Some b) same = absurd (true≢false (sym same))
+verdicts_equal (Some Kept) None same = absurd (true≢false (sym same))
+verdicts_equal (Some Broken) None same = absurd (true≢false (sym same))
+verdicts_equal (Some Kept) (Some Broken) same = absurd (true≢false (sym same))
+verdicts_equal (Some Broken) (Some Kept) same = absurd (true≢false (sym same))
+
+verdict_itself : (a : Option Verdict) → same_verdict a a ≡ true
+verdict_itself None = refl
+verdict_itself (Some Kept) = refl
+verdict_itself (Some Broken) = refl
+
+outcomes_equal : (a b : Outcome) → same_outcome a b ≡ true → a ≡ b
+outcomes_equal a b same =
+    let verdict = and_parts _ _ same in
+    let running = and_parts _ _ verdict.0 in
+    let ends = and_parts _ _ running.0 in
+    λ i. record {
+      exited = eqb-true a.exited b.exited ends.0 i;
+      faulted = eqb-true a.faulted b.faulted ends.1 i;
+      running = eqb-true a.running b.running running.1 i;
+      verdict = verdicts_equal a.verdict b.verdict verdict.1 i;
+    }
+
+outcome_itself : (a : Outcome) → same_outcome a a ≡ true
+outcome_itself a =
+    and_from _ _ (and_from _ _ (and_from _ _ (eq-eqb a.exited a.exited refl) (eq-eqb a.faulted a.faulted refl))
+    (eq-eqb a.running a.running refl)) (verdict_itself a.verdict)
+
+results_equal : (xs ys : List HartResult) → same_results xs ys ≡ true → xs ≡ ys
+results_equal [] [] same = refl
+results_equal [] (y ∷ ys) same = absurd (true≢false (sym same))
+results_equal (x ∷ xs) [] same = absurd (true≢false (sym same))
+results_equal (x ∷ xs) (y ∷ ys) same =
+    let rest = and_parts _ _ same in
+    let words = and_parts _ _ rest.0 in
+    λ i. record { a0 = eqb-true x.a0 y.a0 words.0 i; a1 = eqb-true x.a1 y.a1 words.1 i } ∷ results_equal xs ys rest.1 i
+
+results_itself : (xs : List HartResult) → same_results xs xs ≡ true
+results_itself [] = refl
+results_itself (x ∷ xs) =
+    and_from _ _ (and_from _ _ (eq-eqb x.a0 x.a0 refl) (eq-eqb x.a1 x.a1 refl)) (results_itself xs)
+
+pub endings_equal : (a b : EndingValue) → same_ending a b ≡ true → a ≡ b
+endings_equal a b same =
+    let parts = and_parts _ _ same in
+    λ i. record {
+      outcome = outcomes_equal a.outcome b.outcome parts.0 i;
+      results = results_equal a.results b.results parts.1 i;
+    }
+
+pub ending_itself : (a : EndingValue) → same_ending a a ≡ true
+ending_itself a = and_from _ _ (outcome_itself a.outcome) (results_itself a.results)
+
+pub same_from_equal : (a b : EndingValue) → a ≡ b → same_ending a b ≡ true
+same_from_equal a b equal = ap (same_ending a) (sym equal) ∙ ending_itself a

@@ -1,0 +1,4 @@
+pub mod SeedLemmas
+pub mod EndingLemmas
+pub mod TallyLemmas
+pub mod RunLemmas

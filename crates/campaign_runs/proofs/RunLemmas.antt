@@ -1,0 +1,85 @@
+-- The runs of seeds, one by one and as a list.
+use Rattle.std.proofs.Common.{◌≡◌, ℕ, zero, suc, ◌+◌, List, [], ◌∷◌, map, length, Ok, Err, IfOk, refl, arith, ap, ap₂, sym, ◌∙◌, subst}
+use Rattle.std.specs.Prelude.{MatchResult}
+use Rattle.std.specs.List.{AllZip, Contains, range_with_len}
+use Rattle.std.specs.declared.result.Result.{Result}
+use Rattle.std.specs.declared.vec.Vec.{Vec}
+use Rattle.std.specs.declared.alloc.AllocError.{AllocError}
+use Rattle.program_images.specs.Image.{ImageValue}
+use Rattle.hart_step.specs.Hart.{HartValue}
+use Rattle.machine.specs.World.{World, run}
+use Rattle.machine.specs.Start.{started}
+use Rattle.machine.specs.Chosen.{is_chosen}
+use Rattle.machine.specs.declared.choice.Choice.{Choice}
+use Rattle.machine.proofs.RunLaws.{length-started}
+use Rattle.choice_runs.specs.Harts.{Harts}
+use Rattle.schedule_kinds.specs.Kinds.{kind_choices, RanOver}
+use Rattle.outcome.specs.Expect.{judged}
+use Rattle.outcome.specs.declared.run_outcome.Outcome.{Outcome}
+use Rattle.campaign_runs.specs.Ending.{EndingValue, ending_with}
+use Rattle.campaign_runs.specs.Runs.{SeedEnding, end_of, ending_after, ending_from, endings_of}
+use Rattle.campaign_runs.specs.declared.campaign.Campaign.{Campaign}
+use Rattle.campaign_runs.specs.declared.seed_run.SeedEnd.{SeedEnd}
+
+-- a machine that was started has a hart for each input
+pub harts-started : (w : World) (image : ImageValue) (inputs : List ℕ) → w ≡ started image inputs → length w.harts ≡ length inputs
+harts-started w image inputs begun = ap (λ (v : World). length v.harts) begun ∙ length-started image inputs
+
+-- the ending of a copy's run
+pub ending-copied : (campaign : Campaign) (inputs : List ℕ) (seed : ℕ) (start v w : World) (chosen : Harts) (outcome : Outcome)
+    (harts left : List HartValue) (ending : EndingValue)
+    → v ≡ start → RanOver (kind_choices campaign.schedule v (length inputs) campaign.steps seed) v w chosen → harts ≡ w.harts → left ≡ w.harts
+    → ((choices : List Choice) → ((k : ℕ) → chosen k ≡ is_chosen choices k) → outcome ≡ judged campaign.expect.rule inputs choices harts)
+    → ending ≡ ending_with campaign.report outcome left
+    → record { seed = seed; ending = ending } ≡ ending_from start campaign inputs seed
+unfolding ending_from
+ending-copied campaign inputs seed start v w chosen outcome harts left ending copied ran ends rest judges is =
+    let choices = kind_choices campaign.schedule v (length inputs) campaign.steps seed in
+    let after : w.harts ≡ (run v choices).harts = ap (λ (x : World). x.harts) ran.0 in
+    let says : outcome ≡ judged campaign.expect.rule inputs choices (run v choices).harts
+    = judges choices ran.1 ∙ ap (judged campaign.expect.rule inputs choices) (ends ∙ after) in
+    ap {A = EndingValue} {B = SeedEnding} (λ e. record { seed = seed; ending = e })
+    (is ∙ ap₂ (ending_with campaign.report) says (rest ∙ after))
+    ∙ ap (λ x. ending_from x campaign inputs seed) copied
+
+-- the runs from the world in which a program begins are its runs
+pub endings-started : (campaign : Campaign) (image : ImageValue) (inputs seeds : List ℕ) (start : World) → start ≡ started image inputs
+    → map (ending_from start campaign inputs) seeds ≡ endings_of campaign image inputs seeds
+unfolding endings_of
+endings-started campaign image inputs seeds start begun = ap (λ w. map (ending_from w campaign inputs) seeds) begun
+
+-- places that are counted from 0, and numbers that are counted from a first one
+map-shifted : {X : Type 0} (f : ℕ → X) (a b n : ℕ) → map (λ place. f (a + place)) (range_with_len b n) ≡ map f (range_with_len (a + b) n)
+map-shifted f a b zero = refl
+map-shifted f a b (suc n) =
+    let next : a + (b + 1) ≡ a + b + 1 = omega arith in
+    ap (λ xs. f (a + b) ∷ xs) (map-shifted f a (b + 1) n ∙ ap (λ k. map f (range_with_len k n)) next)
+
+abbrev all_ok : {Z : Type 0} → List (SeedEnd Z) → List (Result (SeedEnd Z) AllocError)
+all_ok ys = map Ok ys
+
+-- the end of a seed's run
+abbrev EndsSo : {Z : Type 0} → (ℕ → SeedEnding) → ℕ → ℕ → Result (SeedEnd Z) AllocError → Type 0
+EndsSo f first place r = IfOk r (λ end. end_of end ≡ f (first + place))
+
+module _ {Z : Type 0} (f : ℕ → SeedEnding) (first : ℕ) where
+  listed : (zs : List ℕ) (ys : List (SeedEnd Z)) → AllZip (EndsSo f first) zs (all_ok ys)
+      → map end_of ys ≡ map (λ place. f (first + place)) zs
+  listed [] [] h = refl
+  listed [] (y ∷ ys) h = absurd h
+  listed (z ∷ zs) [] h = absurd h
+  listed (z ∷ zs) (y ∷ ys) h = ap₂ (λ x xs. x ∷ xs) h.0 (listed zs ys h.1)
+
+  -- where each place has the end of its seed's run, the list has those of all seeds
+  pub all-listed : (count : ℕ) (r : Result (Vec (SeedEnd Z) Z) AllocError) (zs : List ℕ) (xs : List (Result (SeedEnd Z) AllocError))
+      → zs ≡ range_with_len 0 count → AllZip (EndsSo f first) zs xs
+      → MatchResult r (λ v. (ys : List (SeedEnd Z)) × (xs ≡ all_ok ys) × (v.items ≡ ys)) (λ e. Contains xs (Err e))
+      → IfOk r (λ v. map end_of v.items ≡ map f (range_with_len first count))
+  all-listed count (Ok v) zs xs places each whole =
+      let here : first + 0 ≡ first = omega arith in
+      ap (map end_of) whole.2
+      ∙ listed zs whole.0 (subst (AllZip (EndsSo f first) zs) whole.1 each)
+      ∙ ap (map (λ place. f (first + place))) places
+      ∙ map-shifted f first 0 count
+      ∙ ap (λ k. map f (range_with_len k count)) here
+  all-listed count (Err e) zs xs places each whole = tt

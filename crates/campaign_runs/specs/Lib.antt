@@ -1,0 +1,5 @@
+pub mod Seeds
+pub mod Blocks
+pub mod Ending
+pub mod Runs
+pub mod Tally

@@ -1,0 +1,41 @@
+-- How the run of each seed of a campaign ends.
+use Rattle.std.specs.Prelude.{ℕ, List, length, map}
+use Rattle.std.specs.List.{range_with_len}
+use Rattle.program_images.specs.Image.{ImageValue}
+use Rattle.machine.specs.World.{World, run}
+use Rattle.machine.specs.Start.{started}
+use Rattle.machine.specs.declared.choice.Choice.{Choice}
+use Rattle.schedule_kinds.specs.Kinds.{kind_choices}
+use Rattle.outcome.specs.Expect.{judged}
+use Rattle.campaign_runs.specs.Ending.{EndingValue, ending_of, ending_with}
+use Rattle.campaign_runs.specs.declared.campaign.Campaign.{Campaign}
+use Rattle.campaign_runs.specs.declared.seed_run.SeedEnd.{SeedEnd}
+
+-- a seed, and how its run ended
+pub record SeedEnding : Type 0 where
+  pub seed : ℕ
+  pub ending : EndingValue
+
+-- what a seed's end holds
+abbrev pub end_of : {Z : Type 0} → SeedEnd Z → SeedEnding
+end_of end = record { seed = end.seed; ending = ending_of end.ending }
+
+-- the ending of the run from a world over a list of choices
+abbrev pub ending_after : World → Campaign → List ℕ → List Choice → EndingValue
+ending_after world campaign inputs choices =
+    ending_with campaign.report (judged campaign.expect.rule inputs choices (run world choices).harts) (run world choices).harts
+
+-- a seed, and the ending of the run from a world over the list of choices that the seed gives
+unfoldable pub ending_from : World → Campaign → List ℕ → ℕ → SeedEnding
+ending_from world campaign inputs seed = record {
+  seed = seed;
+  ending = ending_after world campaign inputs (kind_choices campaign.schedule world (length inputs) campaign.steps seed);
+}
+
+-- seeds with the endings of their runs from the start, in their order
+unfoldable pub endings_of : Campaign → ImageValue → List ℕ → List ℕ → List SeedEnding
+endings_of campaign image inputs seeds = map (ending_from (started image inputs) campaign inputs) seeds
+
+-- all seeds of a campaign with the endings of their runs
+abbrev pub all_endings : Campaign → ImageValue → List ℕ → List SeedEnding
+all_endings campaign image inputs = endings_of campaign image inputs (range_with_len campaign.first campaign.count)

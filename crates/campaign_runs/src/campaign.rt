@@ -1,0 +1,34 @@
+//! Which runs a campaign does, and what it reports of them.
+
+use outcome::Expect;
+use schedule_kinds::ScheduleKind;
+
+/// What a campaign reports of its runs.
+#[derive(Clone, Copy, PartialEq, Eq)]
+pub enum Report {
+    /// A line for each run, while the runs go on.
+    Lines,
+    /// The lines of the runs that have failed, while the runs go on.
+    Failures,
+    /// A line for each outcome, once all runs are done.
+    Summary,
+    /// A line for each outcome, with runs told apart by each hart's `a0` and `a1` too.
+    Outcomes,
+}
+
+/// A campaign: a run for each of `count` seeds from `first` on.
+#[derive(Clone, Copy, Drop)]
+pub struct Campaign {
+    /// The first seed.
+    pub first: u64,
+    /// Number of seeds.
+    pub count: u64,
+    /// Number of steps of each run.
+    pub steps: u64,
+    /// How a seed makes the choices of its run.
+    pub schedule: ScheduleKind,
+    /// What is expected of each run.
+    pub expect: Expect,
+    /// What is reported of the runs.
+    pub report: Report,
+}

@@ -1,0 +1,79 @@
+//! The seeds of a campaign, in blocks.
+
+ghost use Rattle.std.specs.Prelude.{◌≡◌, ◌++◌, ◌+◌, ◌<◌, ◌≤◌, ◌^◌, [], MatchOption, IfSome, length, min};
+ghost use Rattle.std.specs.List.{range_with_len};
+ghost use Rattle.campaign_runs.specs.Blocks.{block_seeds};
+
+/// The most seeds of a block: what is kept of their runs takes 0.3 MB, and 1 MB more where it has the
+/// results of 32 harts.
+pub const MOST_SEEDS: u64 = 4096;
+
+/// The fewest seeds of a block, where so many are left: enough to keep the processors at work.
+pub const LEAST_SEEDS: u64 = 64;
+
+/// About how many steps the runs of a block take together, within these limits. At a block's end processors wait for the last of them, so the longer a block
+/// runs, the less of its time they wait; 2^26 steps take some tenths of a second.
+pub const BLOCK_STEPS: u64 = 1 << 26;
+
+/// Seeds that follow one another.
+#[derive(Clone, Copy, PartialEq, Eq)]
+pub struct Block {
+    /// The first of them.
+    pub first: u64,
+    /// How many there are, 1 at least.
+    pub count: u64,
+}
+
+/// The seeds that a campaign has still to run. They are handed out in order, block by block.
+#[derive(Clone, Copy, Drop)]
+pub struct Seeds {
+    first: u64,
+    count: u64,
+    done: u64,
+    ghost within: { (done ≤ count) × (first + count ≤ 2 ^ 64) },
+}
+
+impl Seeds {
+    ghost use Rattle.campaign_runs.specs.Seeds.{seeds_left};
+
+    /// So many seeds from a first one on.
+    pub fn new(first: u64, count: u64) -> Seeds
+        requires { first + count ≤ 2 ^ 64 }
+        ensures { seeds_left result ≡ range_with_len first count }
+    {
+        Seeds {
+            first,
+            count,
+            done: 0,
+        }
+    }
+
+    /// The next block of seeds for runs of so many steps, or none where no seed is left. The longer the runs, the
+    /// smaller the block, so that results come early.
+    #[tactic(auto, using(crate::proofs::SeedLemmas::seeds_none, crate::proofs::SeedLemmas::seeds_split, crate::proofs::SeedLemmas::seeds_size))]
+    pub fn next_block(&mut self, steps: u64) -> Option<Block>
+        ensures order { MatchOption result (seeds_left self.old ≡ [])
+            (λ block. seeds_left self.old ≡ range_with_len block.first block.count ++ seeds_left self.new) }
+        ensures block { MatchOption result (seeds_left self.new ≡ [])
+            (λ block. (0 < block.count) × (block.first + block.count ≤ 2 ^ 64)) }
+        ensures size { IfSome result (λ block. block.count
+            ≡ min (length (seeds_left self.old)) (block_seeds steps)) }
+    {
+        let left = self.count - self.done;
+        if left == 0 {
+            return None;
+        }
+        let count = left.min(block_seeds(steps));
+        let first = self.first + self.done;
+        self.done += count;
+        Some(Block { first, count })
+    }
+}
+
+// How many seeds a block has, where so many are left.
+fn block_seeds(steps: u64) -> u64
+    ensures value { result ≡ block_seeds steps }
+    ensures some { 0 < result }
+{
+    (BLOCK_STEPS / steps.max(1)).clamp(LEAST_SEEDS, MOST_SEEDS)
+}

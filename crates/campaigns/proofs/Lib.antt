@@ -1,4 +1,0 @@
-pub mod SeedLemmas
-pub mod DrawLemmas
-pub mod RunLemmas
-pub mod ChosenLemmas

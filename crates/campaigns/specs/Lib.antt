@@ -1,3 +1,0 @@
-pub mod Campaign
-pub mod Seeds
-pub mod Blocks

@@ -1,0 +1,150 @@
+-- What is answered once the program is read, and over what the device had left.
+use Rattle.std.proofs.Common.{◌≡◌, ◌≢◌, ℕ, ◌<◌, ◌≤◌, true, false, cond, eqb, ltb, List, ◌⊎◌, length, Option, Some, None, Result, Ok, Err, IfOk, IfErr, arith, ne_eqb, le-ltb, lt-ltb, refl, ap, sym, subst, ◌∙◌}
+use Rattle.std.specs.Io.KnownBytes.{Appends}
+use Rattle.std.specs.Option.{IfSome}
+use Rattle.program_images.specs.Image.{ImageValue}
+use Rattle.reservations.specs.Limit.{most_harts}
+use Rattle.machine.specs.Start.{IsStartable, Refuses}
+use Rattle.machine.specs.declared.start.StartFault.{StartFault}
+use Rattle.machine.specs.declared.start.StartFault.TheVariants as start
+use Rattle.programs.specs.RunFaults.{fault_of_start, IfReads, IsRefusal}
+use Rattle.programs.specs.Program.{program_of}
+use Rattle.programs.specs.declared.program.ProgramForm.TheVariants as form
+use Rattle.programs.specs.declared.run_fault.Input.TheVariants as input
+use Rattle.programs.specs.declared.run_fault.RunFault.{RunFault}
+use Rattle.programs.specs.declared.run_fault.RunFault.TheVariants as fault
+use Rattle.engines.specs.Run.{Answer, BeginsToPrint, Begins, Prints}
+use Rattle.campaign_runs.specs.Runs.{all_endings}
+use Rattle.campaign_runs.specs.declared.campaign.Campaign.{Campaign}
+use Rattle.devices.specs.declared.status.Status.{Status}
+use Rattle.cmd_campaign.specs.Answers.{IfHalts, after_image, campaign_answer, campaign_failure, failure_after, reported}
+use Rattle.cmd_campaign.specs.Status.{finished_of}
+use Rattle.cmd_campaign.specs.declared.engine.Finished.{Finished}
+
+module _ (campaign : Campaign) (inputs : List ℕ) where
+  -- what is told of an image's runs
+  abbrev shown : ImageValue → Answer
+  shown image = Ok (reported campaign (all_endings campaign image inputs))
+
+  -- runs that may start
+  pub answer_of_runs : (image : ImageValue) → IsStartable inputs
+      → after_image campaign inputs (Ok image) ≡ Ok (reported campaign (all_endings campaign image inputs))
+  answer_of_runs image startable =
+      ap (λ none. cond none (Err fault.NoHarts) (cond (ltb most_harts (length inputs)) (Err fault.TooManyHarts) (shown image)))
+      (some (length inputs) startable.0)
+      ∙ ap (λ many. cond many (Err fault.TooManyHarts) (shown image)) (few (length inputs) startable.1)
+    where
+      some : (n : ℕ) → 0 < n → eqb n 0 ≡ false
+      some n h = ne_eqb n 0 (λ none. omega (arith, h, none))
+
+      few : (n : ℕ) → n ≤ most_harts → ltb most_harts n ≡ false
+      few n h = le-ltb most_harts n h
+
+  -- inputs that no run can start with
+  answer_of_none : (image : ImageValue) → length inputs ≡ 0 → after_image campaign inputs (Ok image) ≡ Err fault.NoHarts
+  answer_of_none image none =
+      ap (λ n. cond (eqb n 0) (Err fault.NoHarts) (cond (ltb most_harts n) (Err fault.TooManyHarts) (shown image))) none
+
+  answer_of_many : (image : ImageValue) → most_harts < length inputs → after_image campaign inputs (Ok image) ≡ Err fault.TooManyHarts
+  answer_of_many image many =
+      ap (λ none. cond none (Err fault.NoHarts) (cond (ltb most_harts (length inputs)) (Err fault.TooManyHarts) (shown image)))
+      (some (length inputs) many)
+      ∙ ap (λ many. cond many (Err fault.TooManyHarts) (shown image)) (much (length inputs) many)
+    where
+      some : (n : ℕ) → most_harts < n → eqb n 0 ≡ false
+      some n h = ne_eqb n 0 (λ none. omega (arith, h, none))
+
+      much : (n : ℕ) → most_harts < n → ltb most_harts n ≡ true
+      much n h = lt-ltb most_harts n h
+
+  -- a refusal of the inputs
+  pub answer_of_refused : (image : ImageValue) (why : StartFault) → Refuses inputs why → why ≢ start.Memory
+      → after_image campaign inputs (Ok image) ≡ Err (fault_of_start why)
+  answer_of_refused image start.NoHarts none other = answer_of_none image none
+  answer_of_refused image start.TooManyHarts many other = answer_of_many image many
+  answer_of_refused image start.Memory startable other = absurd (other refl)
+
+  -- ---- the answer to an image is that to what the device had left
+  -- a program that isn't read
+  pub unread_known : (left : Option (List ℕ)) (why : RunFault) → IfSome left (λ p. program_of form.Elf p ≡ Err why)
+      → IfSome left (λ p. campaign_answer campaign inputs p ≡ Err why)
+  unfolding campaign_answer
+  unread_known None why reads = tt
+  unread_known (Some p) why reads = ap (after_image campaign inputs) reads
+
+  module _ (left : Option (List ℕ)) (image : ImageValue) (reads : IfSome left (λ p. program_of form.Elf p ≡ Ok image)) where
+    pub image_known : (P : Answer → Type 0) → P (after_image campaign inputs (Ok image)) → IfSome left (λ p. P (campaign_answer campaign inputs p))
+    unfolding campaign_answer
+    image_known P h = go left reads
+      where
+        go : (o : Option (List ℕ)) → IfSome o (λ p. program_of form.Elf p ≡ Ok image) → IfSome o (λ p. P (campaign_answer campaign inputs p))
+        go None r = tt
+        go (Some p) r = subst P (sym (ap (after_image campaign inputs) r)) h
+
+    -- all lines
+    pub done_known : (r : Result Finished RunFault) (old new : Option (List ℕ))
+        → IfOk r (λ f. Prints (after_image campaign inputs (Ok image)) f.status old new)
+        → IfOk r (λ f. IfSome left (λ p. Prints (campaign_answer campaign inputs p) f.status old new))
+    done_known (Ok f) old new h = image_known (λ a. Prints a f.status old new) h
+    done_known (Err why) old new h = h
+
+    -- the first seed whose run has failed
+    pub first_known : (r : Result Finished RunFault)
+        → IfOk r (λ f. f ≡ finished_of campaign.expect.exit (all_endings campaign image inputs))
+        → IfOk r (λ f. IfSome left (λ p. f.first_failure ≡ campaign_failure campaign inputs p))
+    unfolding campaign_failure
+    first_known (Ok f) h = go left reads
+      where
+        go : (o : Option (List ℕ)) → IfSome o (λ p. program_of form.Elf p ≡ Ok image)
+            → IfSome o (λ p. f.first_failure ≡ campaign_failure campaign inputs p)
+        go None r = tt
+        go (Some p) r = ap (λ (x : Finished). x.first_failure) h ∙ sym (ap (failure_after campaign inputs) r)
+    first_known (Err why) h = h
+
+    -- a refusal
+    pub refused_known : (r : Result Finished RunFault)
+        → IfErr r (λ why. IsRefusal why → after_image campaign inputs (Ok image) ≡ Err why)
+        → IfErr r (λ why. IsRefusal why → IfSome left (λ p. campaign_answer campaign inputs p ≡ Err why))
+    refused_known (Ok s) h = h
+    refused_known (Err why) h = λ refusal. image_known (λ a. a ≡ Err why) (h refusal)
+
+    -- memory was refused before the first block or later
+    pub halted_known : (K : Type 0) (old new : Option (List ℕ))
+        → K ⊎ BeginsToPrint (after_image campaign inputs (Ok image)) old new
+        → IfSome left (λ p. K ⊎ BeginsToPrint (campaign_answer campaign inputs p) old new)
+    halted_known K old new h = image_known (λ a. K ⊎ BeginsToPrint a old new) h
+
+-- a beginning of the report, after a fault that halted the runs
+pub begins_answer : (r : Result Finished RunFault) (why : RunFault) (answer : Answer) (lines : List ℕ) (status : Status) (old new : Option (List ℕ))
+    → answer ≡ Ok (lines, status) → IfErr r (λ _. Begins lines old new) → r ≡ Err why → BeginsToPrint answer old new
+begins_answer r why answer lines status old new shown begun is =
+    subst (λ a. BeginsToPrint a old new) (sym shown) (subst (λ x. IfErr x (λ _. Begins lines old new)) is begun)
+
+-- the whole report, where the runs came to their end
+pub done_answer : (r : Result Finished RunFault) (answer : Answer) (lines : List ℕ) (wanted : Finished) (old new : Option (List ℕ))
+    → answer ≡ Ok (lines, wanted.status) → IfOk r (λ _. Appends old new lines) → IfOk r (λ f. f ≡ wanted)
+    → IfOk r (λ f. Prints answer f.status old new)
+done_answer (Ok f) answer lines wanted old new shown written is =
+    subst (λ a. Prints a f.status old new) (sym shown) (ap (λ (x : Finished). x.status) (sym is), written)
+done_answer (Err why) answer lines wanted old new shown written is = is
+
+-- ---- which input a fault names
+-- none, where the inputs are refused
+pub start_unread : (why : StartFault) (file choices : Type 0) → IfReads (fault_of_start why) file choices
+start_unread start.NoHarts file choices = tt
+start_unread start.TooManyHarts file choices = tt
+start_unread start.Memory file choices = tt
+
+-- none, where the runs were halted
+pub halted_unread : (r : Result Finished RunFault) (risen : Type 0) → IfErr r (λ why. IfHalts why risen) → IfErr r (λ why. IfReads why ⊥ ⊥)
+halted_unread (Ok s) risen h = h
+halted_unread (Err fault.Memory) risen h = tt
+halted_unread (Err fault.Write) risen h = tt
+halted_unread (Err why) risen h = absurd h
+
+-- a fault that names none names none that did not fail
+pub unread_still : (r : Result Finished RunFault) (file choices : Type 0) → IfErr r (λ why. IfReads why ⊥ ⊥) → IfErr r (λ why. IfReads why file choices)
+unread_still (Ok s) file choices h = h
+unread_still (Err (fault.Read input.File)) file choices h = absurd h
+unread_still (Err (fault.Read input.Choices)) file choices h = absurd h
+unread_still (Err why) file choices h = h

@@ -1,0 +1,158 @@
+-- Campaigns of an object.
+use Rattle.std.proofs.Common.{◌≡◌, ℕ, ◌^◌, ◌<◌, Bool, true, false, cond, ◌||◌, rules, List, [], ◌∷◌, ◌++◌, zero, suc, eqb, ltb, arith, length, Option, Some, None, Result, Ok, Err, IfOk, refl, ap, ap₂, sym, subst, ◌∙◌, inl, inr}
+use Rattle.std.specs.Prelude.{is_some}
+use Rattle.std.specs.List.{All, range_with_len}
+use Rattle.std.specs.Option.{IfSome}
+use Rattle.std.proofs.lemmas.List.Elements.{All-nil, All-cons}
+use Rattle.program_images.specs.Image.{ImageValue}
+use Rattle.reservations.specs.Limit.{most_harts}
+use Rattle.machine.specs.Start.{IsStartable, started}
+use Rattle.machine.specs.World.{run}
+use Rattle.schedule_kinds.specs.Kinds.{kind_choices}
+use Rattle.schedule_kinds.proofs.ChoiceLemmas.{kind-within}
+use Rattle.ends.specs.Ends.{verdict_on}
+use Rattle.protocol_library.specs.declared.kind.Kind.{Kind}
+use Rattle.protocol_library.specs.declared.verdict.Verdict.TheVariants.{Kept}
+use Rattle.protocol_library.specs.Images.{image_of, IsSame}
+use Rattle.engines.specs.Certified.{IsCertified, IsMeantFor, IsUnbroken}
+use Rattle.engines.proofs.CertifiedLemmas.{object_is_kept}
+use Rattle.outcome.specs.Expect.{breaks, faults, status_by}
+use Rattle.outcome.specs.declared.expect.Exit.{Exit}
+use Rattle.outcome.specs.declared.expect.Exit.TheVariants.{May, Must}
+use Rattle.programs.specs.Program.{program_of}
+use Rattle.programs.specs.declared.program.ProgramForm.TheVariants as form
+use Rattle.programs.specs.declared.run_fault.RunFault.{RunFault}
+use Rattle.campaign_runs.specs.Runs.{SeedEnding, all_endings, ending_from, endings_of}
+use Rattle.campaign_runs.specs.declared.campaign.Campaign.{Campaign}
+use Rattle.campaign_runs.specs.declared.campaign.Report.{Report}
+use Rattle.campaign_runs.specs.declared.campaign.Report.TheVariants.{Failures}
+use Rattle.devices.specs.declared.status.Status.TheVariants as status
+use Rattle.cmd_campaign.specs.Answers.{after_image, campaign_answer}
+use Rattle.cmd_campaign.specs.Kept.{AllKept, AnswersNothing}
+use Rattle.cmd_campaign.specs.Lines.{end_entry, entries_of, has_failed}
+use Rattle.cmd_campaign.specs.Summary.{report_text}
+use Rattle.cmd_campaign.specs.Status.{any_breaks, finished_of, first_failure, status_of}
+use Rattle.cmd_campaign.specs.declared.engine.Finished.{Finished}
+
+module _ (kind : Kind) (image : ImageValue) (campaign : Campaign) (inputs : List ℕ) (some : 0 < length inputs) (same : IsSame image (image_of kind))
+    (meant : IsMeantFor kind (length inputs)) (words : All (λ x. x < 2 ^ 32) inputs) (ruled : campaign.expect.rule ≡ Some kind) where
+  -- the run of a seed
+  end : ℕ → SeedEnding
+  end seed = ending_from (started image inputs) campaign inputs seed
+
+  kept : (seed : ℕ) → (end seed).ending.outcome.verdict ≡ Some Kept
+  unfolding end ending_from
+  kept seed =
+      let choices = kind_choices campaign.schedule (started image inputs) (length inputs) campaign.steps seed in
+      ap (λ r. verdict_on r inputs choices (run (started image inputs) choices).harts) ruled
+      ∙ object_is_kept kind image inputs choices same meant words
+      (kind-within campaign.schedule (started image inputs) (length inputs) campaign.steps seed some)
+
+  -- each verdict is kept
+  all_kept : (seeds : List ℕ) → AllKept (endings_of campaign image inputs seeds)
+  unfolding endings_of end
+  all_kept [] = All-nil (λ (end : SeedEnding). end.ending.outcome.verdict ≡ Some Kept)
+  all_kept (seed ∷ seeds) =
+      All-cons (λ (end : SeedEnding). end.ending.outcome.verdict ≡ Some Kept) (end seed) (endings_of campaign image inputs seeds) (kept seed) (all_kept seeds)
+
+  -- no rule is broken
+  none_breaks : (seeds : List ℕ) → any_breaks (endings_of campaign image inputs seeds) ≡ false
+  unfolding endings_of end
+  none_breaks [] = refl
+  none_breaks (seed ∷ seeds) = ap₂ (λ a b. a || b) (ap breaks (kept seed)) (none_breaks seeds)
+
+  fails_not : (seed : ℕ) → has_failed May (end seed) ≡ false
+  fails_not seed = ap (λ v. breaks v || (faults v (end seed).ending.outcome.faulted || false)) (kept seed)
+
+  -- and where harts may run, no run has failed
+  none_fails : (seeds : List ℕ) → first_failure May (endings_of campaign image inputs seeds) ≡ None
+  unfolding endings_of end
+  none_fails [] = refl
+  none_fails (seed ∷ seeds) =
+      ap₂ (λ failed rest. cond failed (Some (end seed).seed) rest) (fails_not seed) (none_fails seeds)
+
+  -- so none has a line among the failures
+  none_listed : (seeds : List ℕ) → entries_of Failures May (endings_of campaign image inputs seeds) ≡ []
+  unfolding endings_of end
+  none_listed [] = refl
+  none_listed (seed ∷ seeds) =
+      ap₂ (λ failed rest. cond failed (end_entry (end seed)) [] ++ rest) (fails_not seed) (none_listed seeds)
+
+  nothing : (report : Report) (exit : Exit) (seeds : List ℕ) → report ≡ Failures → exit ≡ May
+      → (report_text report exit (endings_of campaign image inputs seeds) ≡ []) × (status_of exit (endings_of campaign image inputs seeds) ≡ status.Done)
+  nothing report exit seeds failures may =
+      let ends = endings_of campaign image inputs seeds in (
+        ap₂ (λ r e. report_text r e ends) failures may ∙ none_listed seeds,
+        ap (λ e. status_of e ends) may ∙ ap₂ (λ b f. status_by b (is_some f)) (none_breaks seeds) (none_fails seeds),
+      )
+
+  -- the status
+  unbroken : (exit : Exit) (seeds : List ℕ) → IsUnbroken exit (status_of exit (endings_of campaign image inputs seeds))
+  unbroken May seeds = ap₂ (λ b f. status_by b (is_some f)) (none_breaks seeds) (none_fails seeds)
+  unbroken Must seeds =
+      let ends = endings_of campaign image inputs seeds in
+      subst (λ b. IsUnbroken Must (status_by b (is_some (first_failure Must ends)))) (sym (none_breaks seeds)) (by (is_some (first_failure Must ends)))
+    where
+      by : (b : Bool) → IsUnbroken Must (status_by false b)
+      by true = inr refl
+      by false = inl refl
+
+abbrev loads : ImageValue → Result ImageValue RunFault
+loads x = Ok x
+
+same_image : (x y : ImageValue) → loads x ≡ loads y → x ≡ y
+same_image x y e = search (rules, e)
+
+-- what is known of the campaign of an object over what the device had left
+module _ (campaign : Campaign) (inputs : List ℕ) (words : All (λ x. x < 2 ^ 32) inputs) (image : ImageValue) where
+  abbrev Certifies : Finished → List ℕ → Type 0
+  Certifies finished p = (object : IsCertified form.Elf p inputs campaign.expect.rule)
+      → IsUnbroken campaign.expect.exit finished.status × AllKept (all_endings campaign object.image inputs)
+
+  certified : (finished : Finished) (p : List ℕ) → IsStartable inputs → program_of form.Elf p ≡ Ok image
+      → finished ≡ finished_of campaign.expect.exit (all_endings campaign image inputs) → Certifies finished p
+  certified finished p startable reads is = λ object.
+      let seeds = range_with_len campaign.first campaign.count in
+      let one : object.image ≡ image = same_image object.image image (sym object.reads ∙ reads) in
+      let status : finished.status ≡ status_of campaign.expect.exit (all_endings campaign object.image inputs)
+      = ap (λ (f : Finished). f.status) is ∙ ap (λ i. status_of campaign.expect.exit (all_endings campaign i inputs)) (sym one) in (
+        subst (IsUnbroken campaign.expect.exit) (sym status)
+            (unbroken object.kind object.image campaign inputs startable.0 object.same object.meant words object.ruled campaign.expect.exit seeds),
+        all_kept object.kind object.image campaign inputs startable.0 object.same object.meant words object.ruled seeds,
+      )
+
+  pub certified_known : (left : Option (List ℕ)) (r : Result Finished RunFault) → IfSome left (λ p. program_of form.Elf p ≡ Ok image)
+      → IfOk r (λ _. IsStartable inputs)
+      → IfOk r (λ f. f ≡ finished_of campaign.expect.exit (all_endings campaign image inputs))
+      → IfOk r (λ f. IfSome left (λ p. Certifies f p))
+  certified_known None (Ok f) reads startable is = tt
+  certified_known (Some p) (Ok f) reads startable is = certified f p startable reads is
+  certified_known left (Err why) reads startable is = is
+
+-- ---- failures
+-- what holds of both refusals, and of the answer where there are inputs, holds
+answered : {X : Type 0} (P : X → Type 0) (n : ℕ) (none many shown : X) → P none → P many → (0 < n → P shown)
+    → P (cond (eqb n 0) none (cond (ltb most_harts n) many shown))
+answered P n none many shown of_none of_many runs = by (eqb n 0) refl
+  where
+    some : (n : ℕ) → eqb n 0 ≡ false → 0 < n
+    some zero e = absurd (cc)
+    some (suc n) e = omega arith
+
+    few : (b : Bool) → 0 < n → P (cond b many shown)
+    few true there = of_many
+    few false there = runs there
+
+    by : (b : Bool) → eqb n 0 ≡ b → P (cond b none (cond (ltb most_harts n) many shown))
+    by true e = of_none
+    by false e = few (ltb most_harts n) (some n e)
+
+pub no_failures : (campaign : Campaign) (inputs program : List ℕ) → campaign.report ≡ Failures → campaign.expect.exit ≡ May
+    → All (λ x. x < 2 ^ 32) inputs → IsCertified form.Elf program inputs campaign.expect.rule
+    → AnswersNothing (campaign_answer campaign inputs program)
+unfolding campaign_answer
+no_failures campaign inputs program failures may words h =
+    subst (λ p. AnswersNothing (after_image campaign inputs p)) (sym h.reads)
+    (answered AnswersNothing (length inputs) _ _ _ tt tt (λ some.
+    nothing h.kind h.image campaign inputs some h.same h.meant words h.ruled campaign.report campaign.expect.exit
+    (range_with_len campaign.first campaign.count) failures may))

@@ -1,0 +1,7 @@
+pub mod RowLemmas
+pub mod TallyLemmas
+pub mod ReportLemmas
+pub mod BlockLemmas
+pub mod AnswerLemmas
+pub mod StatusLemmas
+pub mod KeptLemmas

@@ -1,0 +1,64 @@
+use Rattle.std.proofs.Common.{◌||◌, map, refl, rules, ap, sym, ◌∙◌}
+use Rattle.campaign_runs.specs.Runs.{end_of, endings_of}
+use Rattle.cmd_campaign.specs.Status.{any_breaks, first_failure, first_of}
+use Rattle.cmd_campaign.proofs.BlockLemmas.{at_end, at_start, endings_none, fewer, goes_on, halts_between, halts_in_block, room, split}
+use Rattle.cmd_campaign.proofs.engine.run_blocks.Goals as goal
+
+pub blocks-2-init : goal.blocks-2-init
+blocks-2-init g c = (
+  at_start c.args.campaign.report c.args.campaign.expect.exit _ _ _ _
+      (ap (endings_of c.args.campaign c.args.image.now c.args.inputs.now) c.new-seeds.ensures) c.new-tally.ensures,
+  refl,
+)
+
+pub returns-in-Err-clause-begun : goal.returns-in-Err-clause-begun
+returns-in-Err-clause-begun g c =
+    halts_between c.args.campaign.report c.args.campaign.expect.exit _ _ _ _ _ _ _ c.blocks-2.invariant.0
+
+pub record_block-requires-clause-fits : goal.record_block-requires-clause-fits
+record_block-requires-clause-fits g c =
+    room c.args.campaign c.args.image.now c.args.inputs.now _ _ _ _ _ _ _ c.deref.result.now c.blocks-2.invariant.0
+    (split c.args.campaign c.args.image.now c.args.inputs.now _ _ _ _ c.in-Some.ensures.order
+    (ap (map end_of) c.deref.ensures.value ∙ c.in-Ok.ensures)) c.see_count.ensures
+
+pub returns-in-Err-record_block-clause-begun : goal.returns-in-Err-record_block-clause-begun
+returns-in-Err-record_block-clause-begun g c =
+    halts_in_block c.args.campaign.report c.args.campaign.expect.exit _ _ _ _ _ _ _ _ _ _
+    (split c.args.campaign c.args.image.now c.args.inputs.now _ _ _ _ c.in-Some.ensures.order
+    (ap (map end_of) c.deref.ensures.value ∙ c.in-Ok.ensures)) c.blocks-2.invariant.0
+    c.in-Err-record_block.ensures.begun
+
+pub blocks-2-smaller : goal.blocks-2-smaller
+blocks-2-smaller g c = fewer c.in-Some.block.first c.in-Some.block.count _ _ c.in-Some.ensures.order c.in-Some.ensures.block.0
+
+pub blocks-2-preserved : goal.blocks-2-preserved
+blocks-2-preserved g c = (
+  goes_on c.args.campaign.report c.args.campaign.expect.exit _ _ (map end_of c.deref.result.now) _ _ _ _ _ _ _ _ _ _
+      (split c.args.campaign c.args.image.now c.args.inputs.now _ _ _ _ c.in-Some.ensures.order
+      (ap (map end_of) c.deref.ensures.value ∙ c.in-Ok.ensures))
+      c.in-Ok-record_block.ensures.written c.in-Ok-record_block.ensures.counted
+      (c.add.ensures.broken ∙ ap (λ ends. c.blocks-2.found.is_broken || any_breaks (map end_of ends))
+      (c.deref-in-Some.ensures.value ∙ sym c.deref.ensures.value))
+      (c.add.ensures.first ∙ ap (λ ends. first_of c.blocks-2.found.first_failure (first_failure c.args.campaign.expect.exit (map end_of ends)))
+      (c.deref-in-Some.ensures.value ∙ sym c.deref.ensures.value))
+      c.blocks-2.invariant.0,
+  search rules,
+)
+
+pub returns-clause-written : goal.returns-clause-written
+returns-clause-written g c =
+    (at_end c.args.campaign.report c.args.campaign.expect.exit _ _ _ _ _ _ _ _
+    (endings_none c.args.campaign c.args.image.now c.args.inputs.now _ c.in_default.ensures.order)
+    c.finished.ensures.status c.finished.ensures.first c.blocks-2.invariant.0).written
+
+pub returns-clause-counted : goal.returns-clause-counted
+returns-clause-counted g c =
+    (at_end c.args.campaign.report c.args.campaign.expect.exit _ _ _ _ _ _ _ _
+    (endings_none c.args.campaign c.args.image.now c.args.inputs.now _ c.in_default.ensures.order)
+    c.finished.ensures.status c.finished.ensures.first c.blocks-2.invariant.0).counted
+
+pub returns-clause-finished : goal.returns-clause-finished
+returns-clause-finished g c =
+    (at_end c.args.campaign.report c.args.campaign.expect.exit _ _ _ _ _ _ _ _
+    (endings_none c.args.campaign c.args.image.now c.args.inputs.now _ c.in_default.ensures.order)
+    c.finished.ensures.status c.finished.ensures.first c.blocks-2.invariant.0).finished_is

@@ -1,0 +1,30 @@
+use Rattle.std.proofs.Common.{Err, inr, ap, sym, subst, ◌∙◌}
+use Rattle.programs.specs.RunFaults.{IfReads}
+use Rattle.cmd_campaign.proofs.AnswerLemmas.{answer_of_refused, answer_of_runs, begins_answer, done_answer, halted_unread, start_unread}
+use Rattle.cmd_campaign.proofs.engine.write_campaign.Goals as goal
+
+pub returns-in-Err-clause-refused : goal.returns-in-Err-clause-refused
+returns-in-Err-clause-refused g c = λ refusal.
+    answer_of_refused c.args.campaign c.args.inputs.now c.args.image.now c.in-Err.fault c.in-Err.ensures.0 c.in-Err.ensures.1
+    ∙ ap Err (sym c.from.ensures)
+
+pub returns-in-Err-clause-read : goal.returns-in-Err-clause-read
+returns-in-Err-clause-read g c = subst (λ why. IfReads why ⊥ ⊥) (sym c.from.ensures) (start_unread c.in-Err.fault ⊥ ⊥)
+
+pub returns-clause-read : goal.returns-clause-read
+returns-clause-read g c = halted_unread _ _ c.write_report.ensures.fault
+
+pub returns-clause-done : goal.returns-clause-done
+returns-clause-done g c =
+    done_answer _ _ _ _ _ _ (answer_of_runs c.args.campaign c.args.inputs.now c.args.image.now c.in-Ok.ensures)
+    c.write_report.ensures.written c.write_report.ensures.finished
+
+pub returns-clause-begun : goal.returns-clause-begun
+returns-clause-begun g c = λ e.
+    begins_answer _ _ _ _ _ _ _ (answer_of_runs c.args.campaign c.args.inputs.now c.args.image.now c.in-Ok.ensures)
+    c.write_report.ensures.begun e
+
+pub returns-clause-halted : goal.returns-clause-halted
+returns-clause-halted g c = λ e.
+    inr (begins_answer _ _ _ _ _ _ _ (answer_of_runs c.args.campaign c.args.inputs.now c.args.image.now c.in-Ok.ensures)
+    c.write_report.ensures.begun e)

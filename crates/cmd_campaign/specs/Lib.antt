@@ -1,0 +1,5 @@
+pub mod Lines
+pub mod Summary
+pub mod Status
+pub mod Answers
+pub mod Kept

@@ -1,0 +1,43 @@
+-- The lines of runs.
+use Rattle.std.specs.Prelude.{ℕ, Bool, List, [], ◌∷◌, ◌++◌, codes, Option, Some, None, if◌then◌else◌}
+use Rattle.std.specs.Fmt.{decimal}
+use Rattle.std.specs.List.{flat_map}
+use Rattle.protocol_library.specs.declared.verdict.Verdict.{Verdict}
+use Rattle.protocol_library.specs.Names.{verdict_name}
+use Rattle.outcome.specs.Expect.{fails}
+use Rattle.outcome.specs.declared.expect.Exit.{Exit}
+use Rattle.campaign_runs.specs.Runs.{SeedEnding}
+use Rattle.campaign_runs.specs.declared.campaign.Report.{Report}
+use Rattle.campaign_runs.specs.declared.campaign.Report.TheVariants.{Lines, Failures, Summary, Outcomes}
+
+-- a seed's line, without its verdict and its end: how many harts have exited, have faulted, and run
+abbrev pub seed_line : ℕ → ℕ → ℕ → ℕ → List ℕ
+seed_line seed exited faulted running =
+    codes "seed " ++ (decimal seed ++ (codes " exited " ++ (decimal exited
+    ++ (codes " faulted " ++ (decimal faulted ++ (codes " running " ++ decimal running))))))
+
+-- a verdict's word in a line
+abbrev pub verdict_word : Option Verdict → List ℕ
+verdict_word None = []
+verdict_word (Some verdict) = codes " " ++ verdict_name verdict
+
+-- a run's line with its end
+abbrev pub end_entry : SeedEnding → List ℕ
+end_entry end =
+    seed_line end.seed end.ending.outcome.exited end.ending.outcome.faulted end.ending.outcome.running
+    ++ (verdict_word end.ending.outcome.verdict ++ 10 ∷ [])
+
+-- whether the run of a seed has failed
+abbrev pub has_failed : Exit → SeedEnding → Bool
+has_failed exit end = fails exit end.ending.outcome
+
+-- what a report has of a run while the runs go on
+abbrev pub entry_of : Report → Exit → SeedEnding → List ℕ
+entry_of Lines exit end = end_entry end
+entry_of Failures exit end = if has_failed exit end then end_entry end else []
+entry_of Summary exit end = []
+entry_of Outcomes exit end = []
+
+-- what a report has of runs while they go on, in order
+abbrev pub entries_of : Report → Exit → List SeedEnding → List ℕ
+entries_of report exit ends = flat_map (entry_of report exit) ends

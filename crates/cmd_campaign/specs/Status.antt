@@ -1,0 +1,31 @@
+-- The status of a campaign, and the first of its runs that has failed.
+use Rattle.std.specs.Prelude.{ℕ, Bool, List, [], ◌∷◌, Option, Some, None, is_some, if◌then◌else◌}
+use Rattle.std.specs.List.{list_any}
+use Rattle.devices.specs.declared.status.Status.{Status}
+use Rattle.outcome.specs.Expect.{breaks, status_by}
+use Rattle.outcome.specs.declared.expect.Exit.{Exit}
+use Rattle.campaign_runs.specs.Runs.{SeedEnding}
+use Rattle.cmd_campaign.specs.Lines.{has_failed}
+use Rattle.cmd_campaign.specs.declared.engine.Finished.{Finished}
+
+-- whether a rule is broken in some run
+abbrev pub any_breaks : List SeedEnding → Bool
+any_breaks ends = list_any (λ end. breaks end.ending.outcome.verdict) ends
+
+-- the first seed whose run has failed, if there is one
+abbrev pub first_failure : Exit → List SeedEnding → Option ℕ
+first_failure exit [] = None
+first_failure exit (end ∷ ends) = if has_failed exit end then Some end.seed else first_failure exit ends
+
+-- the first one, or else the second
+abbrev pub first_of : Option ℕ → Option ℕ → Option ℕ
+first_of None other = other
+first_of (Some seed) other = Some seed
+
+-- the status of a campaign's runs: by whether a rule is broken in one, and whether one has failed
+abbrev pub status_of : Exit → List SeedEnding → Status
+status_of exit ends = status_by (any_breaks ends) (is_some (first_failure exit ends))
+
+-- how a campaign of these runs ends
+abbrev pub finished_of : Exit → List SeedEnding → Finished
+finished_of exit ends = record { status = status_of exit ends; first_failure = first_failure exit ends }

@@ -1,0 +1,61 @@
+-- The lines of outcomes, and all that a report has of runs.
+use Rattle.std.specs.Prelude.{ℕ, ◌+◌, List, [], ◌∷◌, ◌++◌, codes}
+use Rattle.std.specs.Fmt.{decimal}
+use Rattle.std.specs.List.{flat_map}
+use Rattle.names_and_digits.specs.Digits.{word_text}
+use Rattle.outcome.specs.declared.expect.Exit.{Exit}
+use Rattle.campaign_runs.specs.Runs.{SeedEnding}
+use Rattle.campaign_runs.specs.Tally.{Row, tally_of}
+use Rattle.campaign_runs.specs.declared.campaign.Report.{Report}
+use Rattle.campaign_runs.specs.declared.campaign.Report.TheVariants.{Lines, Failures, Summary, Outcomes}
+use Rattle.campaign_runs.specs.declared.ending.HartResult.{HartResult}
+use Rattle.campaign_runs.specs.declared.tally.SeedCount.{SeedCount}
+use Rattle.cmd_campaign.specs.Lines.{entries_of, verdict_word}
+
+-- an outcome's line, without its verdict and its end: how many seeds have it, the first of them, and how many
+-- harts have exited, have faulted, and run
+abbrev pub row_line : SeedCount → ℕ → ℕ → ℕ → List ℕ
+row_line count exited faulted running =
+    codes "seeds " ++ (decimal count.seeds ++ (codes " first " ++ (decimal count.first
+    ++ (codes " exited " ++ (decimal exited ++ (codes " faulted " ++ (decimal faulted
+    ++ (codes " running " ++ decimal running))))))))
+
+-- what harts left that are numbered from a number on: ` 0:a0=00000001 0:a1=00000000` for each
+abbrev pub result_words : ℕ → List HartResult → List ℕ
+result_words number [] = []
+result_words number (result ∷ results) =
+    codes " " ++ (decimal number ++ (codes ":a0=" ++ (word_text result.a0
+    ++ (codes " " ++ (decimal number ++ (codes ":a1=" ++ (word_text result.a1
+    ++ result_words (number + 1) results)))))))
+
+-- an outcome's line with its end
+abbrev pub row_entry : Row → List ℕ
+row_entry row =
+    row_line row.count row.ending.outcome.exited row.ending.outcome.faulted row.ending.outcome.running
+    ++ (verdict_word row.ending.outcome.verdict ++ (result_words 0 row.ending.results ++ 10 ∷ []))
+
+-- the lines of outcomes
+abbrev pub rows_text : List Row → List ℕ
+rows_text rows = flat_map row_entry rows
+
+-- the runs that a report counts by their outcomes
+abbrev pub counted_of : Report → List SeedEnding → List SeedEnding
+counted_of Lines ends = []
+counted_of Failures ends = []
+counted_of Summary ends = ends
+counted_of Outcomes ends = ends
+
+-- all that a report has of runs: their lines, those of the failed ones, or a line for each outcome in the order of
+-- the first seeds
+abbrev pub report_text : Report → Exit → List SeedEnding → List ℕ
+report_text Lines exit ends = entries_of Lines exit ends
+report_text Failures exit ends = entries_of Failures exit ends
+report_text Summary exit ends = rows_text (tally_of ends)
+report_text Outcomes exit ends = rows_text (tally_of ends)
+
+-- a report is written once all runs are done
+abbrev pub IsSummary : Report → Type 0
+IsSummary Lines = ⊥
+IsSummary Failures = ⊥
+IsSummary Summary = Unit {0}
+IsSummary Outcomes = Unit {0}

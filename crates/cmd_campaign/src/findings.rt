@@ -1,0 +1,88 @@
+//! What is known of a campaign's runs so far.
+
+ghost use Rattle.std.specs.Prelude.{◌≡◌, map};
+ghost use Rattle.campaign_runs.specs.Runs.{end_of};
+ghost use Rattle.cmd_campaign.specs.Status.{any_breaks, first_failure};
+
+use crate::engine::Finished;
+use campaign_runs::SeedEnd;
+use outcome::{Expect, status_by};
+use std::alloc::Allocator;
+
+/// What is known of the runs that are done.
+#[derive(Clone, Copy, Drop)]
+pub(crate) struct Findings {
+    /// Whether a rule is broken in one.
+    pub(crate) is_broken: bool,
+    /// The first seed whose run has failed.
+    pub(crate) first_failure: Option<u64>,
+}
+
+impl Findings {
+    ghost use Rattle.std.specs.Prelude.{◌||◌, is_some};
+    ghost use Rattle.outcome.specs.Expect.{status_by};
+    ghost use Rattle.cmd_campaign.specs.Status.{first_of};
+
+    /// No run is done.
+    pub(crate) const NONE: Findings = Findings {
+        is_broken: false,
+        first_failure: None,
+    };
+
+    /// More runs are done.
+    pub(crate) fn add<A: Allocator>(&mut self, expect: Expect, ends: &[SeedEnd<A>])
+        ensures broken { self.new.is_broken ≡ (self.old.is_broken || any_breaks (map end_of ends.now)) }
+        ensures first { self.new.first_failure
+            ≡ first_of self.old.first_failure (first_failure expect.exit (map end_of ends.now)) }
+    {
+        self.is_broken = self.is_broken || any_breaks(ends);
+        self.first_failure = match self.first_failure {
+            None => first_failure(expect, ends),
+            Some(seed) => Some(seed),
+        };
+    }
+
+    /// How a campaign of these runs ends.
+    pub(crate) fn finished(self) -> Finished
+        ensures status { result.status ≡ status_by self.is_broken (is_some self.first_failure) }
+        ensures first { result.first_failure ≡ self.first_failure }
+    {
+        Finished {
+            status: status_by(self.is_broken, self.first_failure.is_some()),
+            first_failure: self.first_failure,
+        }
+    }
+}
+
+// Whether a rule is broken in some run.
+fn any_breaks<A: Allocator>(ends: &[SeedEnd<A>]) -> bool
+    ensures { result ≡ any_breaks (map end_of ends.now) }
+{
+    'ends: for end in ends {
+        if end.ending.outcome.breaks() {
+            return true;
+        }
+    }
+    false
+}
+
+// The first seed whose run has failed.
+fn first_failure<A: Allocator>(expect: Expect, ends: &[SeedEnd<A>]) -> Option<u64>
+    ensures { result ≡ first_failure expect.exit (map end_of ends.now) }
+{
+    'ends: for end in ends {
+        if expect.fails(end.ending.outcome) {
+            return Some(end.seed);
+        }
+    }
+    None
+}
+
+/// Number of runs that have failed, for the progress line.
+pub(crate) fn count_failures<A: Allocator>(expect: Expect, ends: &[SeedEnd<A>]) -> u64 {
+    let mut count = 0u64;
+    'ends: for end in ends {
+        count = count.saturating_add(u64::from(expect.fails(end.ending.outcome)));
+    }
+    count
+}

@@ -1,0 +1,18 @@
+//! What `campaign` does, over any source of bytes and any sink.
+#![tactic(auto)]
+
+pub use campaign_runs::{Campaign, Report};
+pub use engine::{Finished, campaign_engine};
+pub use laws::{
+    all_seeds_are_counted, campaign_of_one_run_has_its_status, failures_of_an_object_are_none,
+};
+pub use lines::push_lines;
+pub use record::{count_ends_of, record_block};
+pub use rows::summary_text;
+
+mod engine;
+mod findings;
+mod laws;
+mod lines;
+mod record;
+mod rows;

@@ -1,0 +1,93 @@
+//! The lines of runs.
+
+ghost use Rattle.std.specs.Prelude.{◌≡◌, ◌++◌, IfOk, map, string_bytes};
+ghost use Rattle.campaign_runs.specs.Runs.{end_of};
+ghost use Rattle.cmd_campaign.specs.Lines.{end_entry, entries_of, entry_of, seed_line};
+
+use campaign_runs::{Report, SeedEnd};
+use outcome::Expect;
+use std::alloc::{AllocError, Allocator};
+use std::fmt;
+
+// How many harts of a seed's run ended in each way, shown as a line without its end.
+#[derive(Clone, Copy)]
+struct SeedLine {
+    seed: u64,
+    exited: usize,
+    faulted: usize,
+    running: usize,
+}
+
+impl fmt::Display for SeedLine {
+    ghost use Rattle.std.specs.Prelude.{Some};
+
+    ghost output = { λ l. Some (seed_line l.seed l.exited l.faulted l.running) };
+
+    fn fmt<W: fmt::Write>(&self, f: &mut fmt::Formatter<W>) -> fmt::Result {
+        let seed = self.seed;
+        let exited = self.exited;
+        let faulted = self.faulted;
+        let running = self.running;
+        write!(
+            f,
+            "seed {seed} exited {exited} faulted {faulted} running {running}"
+        )
+    }
+}
+
+// Appends the line of a run.
+fn push_end<A: Allocator>(text: &mut String<A>, end: &SeedEnd<A>) -> Result<(), AllocError>
+    ensures { IfOk result (λ _.
+        string_bytes text.new ≡ string_bytes text.old ++ end_entry (end_of end.now)) }
+{
+    let outcome = end.ending.outcome;
+    let line = SeedLine {
+        seed: end.seed,
+        exited: outcome.exited,
+        faulted: outcome.faulted,
+        running: outcome.running,
+    };
+    match outcome.verdict {
+        None => writeln!(text, "{line}")?,
+        Some(verdict) => writeln!(text, "{line} {verdict}")?,
+    }
+    Ok(())
+}
+
+// Appends what a report has of a run while the runs go on.
+fn push_entry<A: Allocator>(
+    text: &mut String<A>,
+    report: Report,
+    expect: Expect,
+    end: &SeedEnd<A>,
+) -> Result<(), AllocError>
+    ensures { IfOk result (λ _. string_bytes text.new
+        ≡ string_bytes text.old ++ entry_of report expect.exit (end_of end.now)) }
+{
+    match report {
+        Report::Lines => push_end(text, end)?,
+        Report::Failures => {
+            if expect.fails(end.ending.outcome) {
+                push_end(text, end)?;
+            }
+        }
+        Report::Summary | Report::Outcomes => {}
+    }
+    Ok(())
+}
+
+/// Appends what a report has of runs while they go on, in order. Refused for want of memory alone.
+pub fn push_lines<A: Allocator>(
+    text: &mut String<A>,
+    report: Report,
+    expect: Expect,
+    ends: &[SeedEnd<A>],
+) -> Result<(), AllocError>
+    ensures { IfOk result (λ _. string_bytes text.new
+        ≡ string_bytes text.old ++ entries_of report expect.exit (map end_of ends.now)) }
+{
+    'ends: for end in ends {
+        push_entry(text, report, expect, end)?;
+    }
+    Ok(())
+}

@@ -1,0 +1,117 @@
+//! What becomes of a block's runs: lines that are written, or seeds that are counted.
+
+ghost use Rattle.std.specs.Prelude.{◌≡◌, ◌+◌, ◌-◌, ◌<◌, ◌^◌, IfOk, IfErr, length, map};
+ghost use Rattle.std.specs.Io.KnownBytes.{Appends};
+ghost use Rattle.engines.specs.Run.{Begins};
+ghost use Rattle.campaign_runs.specs.Ending.{ending_of};
+ghost use Rattle.campaign_runs.specs.Runs.{end_of};
+ghost use Rattle.campaign_runs.specs.Tally.{rows_of, seeds_in, tally_onto};
+ghost use Rattle.cmd_campaign.specs.Answers.{IfHalts};
+ghost use Rattle.cmd_campaign.specs.Lines.{entries_of};
+ghost use Rattle.cmd_campaign.specs.Summary.{counted_of};
+
+use crate::lines::push_lines;
+use campaign_runs::{Campaign, Ending, Report, SeedEnd, Tally};
+use devices::{Sink, write_all};
+use programs::RunFault;
+use std::alloc::{AllocError, Allocator};
+
+// An ending once more.
+fn copied<A: Allocator + Copy>(alloc: A, ending: &Ending<A>) -> Result<Ending<A>, AllocError>
+    ensures { IfOk result (λ copy. ending_of copy ≡ ending_of ending.now) }
+{
+    Ok(Ending {
+        outcome: ending.outcome,
+        results: Vec::from_slice(alloc, &ending.results)?,
+    })
+}
+
+/// Counts seeds under the endings of their runs. Refused for want of memory alone.
+pub fn count_ends_of<A: Allocator + Copy>(
+    alloc: A,
+    tally: &mut Tally<A>,
+    ends: &[SeedEnd<A>],
+) -> Result<(), AllocError>
+    requires { seeds_in (rows_of tally.old) + length ends.now < 2 ^ 64 }
+    ensures { IfOk result (λ _.
+        rows_of tally.new ≡ tally_onto (rows_of tally.old) (map end_of ends.now)) }
+{
+    'ends: for end in ends {
+        let ending = copied(alloc, &end.ending)?;
+        tally.add(ending, end.seed)?;
+    }
+    Ok(())
+}
+
+// Writes what a report has of a block's runs while the runs go on.
+fn write_lines<A: Allocator + Copy, K: Sink>(
+    alloc: A,
+    campaign: Campaign,
+    ends: &[SeedEnd<A>],
+    sink: &mut K,
+) -> Result<(), RunFault>
+    requires sink_counts { K.failures sink.old < 2 ^ 64 - 1 }
+    ensures written { IfOk result (λ _. Appends (K.held sink.old) (K.held sink.new)
+        (entries_of campaign.report campaign.expect.exit (map end_of ends.now))) }
+    ensures begun { IfErr result (λ _. Begins
+        (entries_of campaign.report campaign.expect.exit (map end_of ends.now))
+        (K.held sink.old) (K.held sink.new)) }
+    ensures fault { IfErr result (λ fault.
+        IfHalts fault (K.failures sink.old < K.failures sink.new)) }
+    ensures count { IfOk result (λ _. K.failures sink.new ≡ K.failures sink.old) }
+{
+    let mut text = String::new(alloc);
+    match push_lines(&mut text, campaign.report, campaign.expect, ends) {
+        Ok(()) => {}
+        Err(AllocError) => return Err(RunFault::Memory),
+    }
+    match write_all(sink, text.as_bytes()) {
+        Ok(()) => Ok(()),
+        Err(_) => Err(RunFault::Write),
+    }
+}
+
+// Counts a block's seeds.
+fn count_block<A: Allocator + Copy>(
+    alloc: A,
+    tally: &mut Tally<A>,
+    ends: &[SeedEnd<A>],
+) -> Result<(), RunFault>
+    requires { seeds_in (rows_of tally.old) + length ends.now < 2 ^ 64 }
+    ensures counted { IfOk result (λ _.
+        rows_of tally.new ≡ tally_onto (rows_of tally.old) (map end_of ends.now)) }
+    ensures fault { IfErr result (λ fault. fault ≡ RunFault.Memory) }
+{
+    match count_ends_of(alloc, tally, ends) {
+        Ok(()) => Ok(()),
+        Err(AllocError) => Err(RunFault::Memory),
+    }
+}
+
+/// Records a block's runs as a campaign's report wants it: writes their lines, or counts their seeds.
+/// After a fault a beginning of the lines may stand in the sink.
+pub fn record_block<A: Allocator + Copy, K: Sink>(
+    alloc: A,
+    campaign: Campaign,
+    ends: &[SeedEnd<A>],
+    tally: &mut Tally<A>,
+    sink: &mut K,
+) -> Result<(), RunFault>
+    requires fits { seeds_in (rows_of tally.old) + length ends.now < 2 ^ 64 }
+    requires sink_counts { K.failures sink.old < 2 ^ 64 - 1 }
+    ensures written { IfOk result (λ _. Appends (K.held sink.old) (K.held sink.new)
+        (entries_of campaign.report campaign.expect.exit (map end_of ends.now))) }
+    ensures counted { IfOk result (λ _. rows_of tally.new
+        ≡ tally_onto (rows_of tally.old) (counted_of campaign.report (map end_of ends.now))) }
+    ensures begun { IfErr result (λ _. Begins
+        (entries_of campaign.report campaign.expect.exit (map end_of ends.now))
+        (K.held sink.old) (K.held sink.new)) }
+    ensures fault { IfErr result (λ fault.
+        IfHalts fault (K.failures sink.old < K.failures sink.new)) }
+    ensures count { IfOk result (λ _. K.failures sink.new ≡ K.failures sink.old) }
+{
+    match campaign.report {
+        Report::Lines | Report::Failures => write_lines(alloc, campaign, ends, sink),
+        Report::Summary | Report::Outcomes => count_block(alloc, tally, ends),
+    }
+}

@@ -1,0 +1,94 @@
+//! The lines of a summary.
+
+ghost use Rattle.std.specs.Prelude.{◌≡◌, ◌++◌, IfOk, string_bytes};
+ghost use Rattle.campaign_runs.specs.Ending.{ending_of};
+ghost use Rattle.campaign_runs.specs.Tally.{rows_of};
+ghost use Rattle.cmd_campaign.specs.Summary.{result_words, row_entry, row_line, rows_text};
+
+use campaign_runs::{Ending, HartResult, SeedCount, Tally};
+use names_and_digits::Word;
+use std::alloc::{AllocError, Allocator};
+use std::fmt;
+
+// How many seeds there are, the first of them, and how many harts ended in each way, shown as a line without its end.
+#[derive(Clone, Copy)]
+struct RowLine {
+    count: SeedCount,
+    exited: usize,
+    faulted: usize,
+    running: usize,
+}
+
+impl fmt::Display for RowLine {
+    ghost use Rattle.std.specs.Prelude.{Some};
+
+    ghost output = { λ l. Some (row_line l.count l.exited l.faulted l.running) };
+
+    fn fmt<W: fmt::Write>(&self, f: &mut fmt::Formatter<W>) -> fmt::Result {
+        let seeds = self.count.seeds;
+        let first = self.count.first;
+        let exited = self.exited;
+        let faulted = self.faulted;
+        let running = self.running;
+        write!(
+            f,
+            "seeds {seeds} first {first} exited {exited} faulted {faulted} running {running}"
+        )
+    }
+}
+
+// Appends what each hart left.
+fn push_results<A: Allocator>(
+    text: &mut String<A>,
+    results: &[HartResult],
+) -> Result<(), AllocError>
+    ensures { IfOk result (λ _.
+        string_bytes text.new ≡ string_bytes text.old ++ result_words 0 results.now) }
+{
+    for (number, result) in results.iter().enumerate() {
+        let a0 = Word(result.a0);
+        let a1 = Word(result.a1);
+        write!(text, " {number}:a0={a0} {number}:a1={a1}")?;
+    }
+    Ok(())
+}
+
+// Appends the line of an outcome.
+fn push_row<A: Allocator>(
+    text: &mut String<A>,
+    ending: &Ending<A>,
+    count: SeedCount,
+) -> Result<(), AllocError>
+    ensures { IfOk result (λ _. string_bytes text.new ≡ string_bytes text.old
+        ++ row_entry (record { ending = ending_of ending.now; count = count })) }
+{
+    let outcome = ending.outcome;
+    let line = RowLine {
+        count,
+        exited: outcome.exited,
+        faulted: outcome.faulted,
+        running: outcome.running,
+    };
+    match outcome.verdict {
+        None => write!(text, "{line}")?,
+        Some(verdict) => write!(text, "{line} {verdict}")?,
+    }
+    push_results(text, &ending.results)?;
+    writeln!(text)?;
+    Ok(())
+}
+
+/// The lines of a tally. Refused for want of memory alone.
+pub fn summary_text<A: Allocator + Copy>(
+    alloc: A,
+    tally: &Tally<A>,
+) -> Result<String<A>, AllocError>
+    ensures { IfOk result (λ text. string_bytes text ≡ rows_text (rows_of tally.now)) }
+{
+    let mut text = String::new(alloc);
+    'rows: for place in 0..tally.len() {
+        let (ending, count) = tally.row(place);
+        push_row(&mut text, ending, count)?;
+    }
+    Ok(text)
+}

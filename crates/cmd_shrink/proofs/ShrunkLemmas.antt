@@ -1,0 +1,47 @@
+-- The text of a minimal failing list.
+use Rattle.std.proofs.Common.{◌≡◌, ℕ, suc, ◌^◌, ◌<◌, List, [], ◌∷◌, length, Some, sym, subst, ap, ◌∙◌, arith, inl, inr}
+use Rattle.std.specs.List.{All}
+use Rattle.std.proofs.lemmas.List.Elements.{All-nil, All-cons}
+use Rattle.program_images.specs.Image.{ImageValue}
+use Rattle.machine.specs.declared.choice.Choice.{Choice}
+use Rattle.choice_texts.specs.Printing.{runs_text}
+use Rattle.choice_texts.specs.Reading.{choices_of}
+use Rattle.choice_texts.proofs.Agreement.{choices_of-spelled}
+use Rattle.choice_texts.proofs.PrintLemmas.{runs_spell}
+use Rattle.choice_shrinking.specs.Less.{IsLess}
+use Rattle.choice_shrinking.specs.Minimal.{IsMinimal}
+use Rattle.outcome.specs.declared.expect.Expect.{Expect}
+use Rattle.cmd_shrink.specs.Failure.{failure_after, RunFailsSo}
+use Rattle.cmd_shrink.specs.declared.failure.Failure.{Failure}
+use Rattle.cmd_shrink.specs.Shrink.{IsShrunk}
+
+-- the choices of a list that is another with some left out name harts that are there, if those of the other do
+within_less : (n : ℕ) (list given : List Choice) → IsLess list given → All (λ c. c.hart < n) given → All (λ c. c.hart < n) list
+unfolding IsLess
+within_less n [] given less all = All-nil (λ (c : Choice). c.hart < n)
+within_less n (c ∷ list) [] less all = absurd less
+within_less n (c ∷ list) (d ∷ given) (inl (soft, less)) all =
+    All-cons (λ (c : Choice). c.hart < n) c list (subst (λ h. h < n) (sym soft.0) (all 0 d (omega arith)))
+    (within_less n list given less (λ k e lt. all (suc k) e (omega (arith, lt))))
+within_less n (c ∷ list) (d ∷ given) (inr less) all =
+    within_less n (c ∷ list) given less (λ k e lt. all (suc k) e (omega (arith, lt)))
+
+module _ (expect : Expect) (image : ImageValue) (inputs : List ℕ) (given choices printed : List Choice) (text : List ℕ)
+    (how : Failure) where
+  pub is_shrunk : length inputs < 2 ^ 32 → All (λ c. c.hart < length inputs) given → failure_after expect image inputs given ≡ Some how
+      → IsLess choices given → RunFailsSo how image inputs choices → IsMinimal (RunFailsSo how image inputs) choices
+      → printed ≡ choices → text ≡ runs_text printed → IsShrunk expect image inputs given text
+  is_shrunk few within given_fails less fails minimal same shows =
+      let is : text ≡ runs_text choices = shows ∙ ap runs_text same in
+      let there = within_less (length inputs) choices given less within in
+      record {
+        choices = choices;
+        how = how;
+        given_fails = given_fails;
+        less = less;
+        fails = fails;
+        minimal = minimal;
+        printed = is;
+        read = ap (choices_of (length inputs)) is
+            ∙ choices_of-spelled (length inputs) (runs_text choices) choices few (runs_spell (length inputs) choices few there);
+      }

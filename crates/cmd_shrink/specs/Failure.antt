@@ -1,0 +1,80 @@
+-- How a run fails, and when a run fails in the same way as another.
+use Rattle.std.specs.Prelude.{◌≡◌, ℕ, ◌+◌, Bool, IsTrue, if◌then◌else◌}
+use Rattle.std.specs.Prelude.{List, [], ◌∷◌, length, slice_get, Option, Some, None}
+use Rattle.program_images.specs.Image.{ImageValue}
+use Rattle.hart_step.specs.Hart.{HartValue}
+use Rattle.hart_step.specs.declared.hart.Cause.{Cause}
+use Rattle.hart_step.specs.declared.hart.HartState.{HartState}
+use Rattle.hart_step.specs.declared.hart.HartState.TheVariants.{Running, Exited, Faulted}
+use Rattle.machine.specs.declared.choice.Choice.{Choice}
+use Rattle.protocol_library.specs.declared.kind.Kind.{Kind}
+use Rattle.protocol_library.specs.declared.verdict.Verdict.{Verdict}
+use Rattle.protocol_library.specs.declared.verdict.Verdict.TheVariants as verdict
+use Rattle.protocol_library.specs.Judging.{verdict_of}
+use Rattle.outcome.specs.Expect.{hangs}
+use Rattle.outcome.specs.declared.expect.Exit.{Exit}
+use Rattle.outcome.specs.declared.expect.Expect.{Expect}
+use Rattle.cmd_shrink.specs.Hanging.{hangs_after, harts_after, steps_for}
+use Rattle.cmd_shrink.specs.declared.failure.Failure.{Failure}
+use Rattle.cmd_shrink.specs.declared.failure.Failure.TheVariants as failure
+
+-- the verdict on a run with these inputs, choices and harts is that the rule of a kind is broken
+abbrev pub BreaksRule : Kind → List ℕ → List Choice → List HartValue → Type 0
+BreaksRule kind inputs choices harts = verdict_of kind inputs choices harts ≡ verdict.Broken
+
+-- a hart has faulted with a cause, and its pc is this
+abbrev pub HasFaulted : HartValue → Cause → ℕ → Type 0
+HasFaulted hart cause pc = (hart.state ≡ Faulted cause) × (hart.pc ≡ pc)
+
+-- the hart of this number has faulted with this cause at this pc
+abbrev pub HasFaultedAt : ℕ → Cause → ℕ → List HartValue → Type 0
+HasFaultedAt number cause pc harts =
+    (hart : HartValue) × (slice_get harts number ≡ Some hart) × HasFaulted hart cause pc
+
+-- the run of a list of choices fails so, from an image's start: its verdict is that the rule is
+-- broken, or this hart has faulted with this cause at this pc, or the run hangs for so many further
+-- steps
+abbrev pub RunFailsSo : Failure → ImageValue → List ℕ → List Choice → Type 0
+RunFailsSo (failure.Broken kind) image inputs choices =
+    BreaksRule kind inputs choices (harts_after image inputs choices)
+RunFailsSo (failure.Faulted number cause pc) image inputs choices =
+    HasFaultedAt number cause pc (harts_after image inputs choices)
+RunFailsSo (failure.Hangs steps) image inputs choices =
+    IsTrue (hangs_after steps image inputs choices)
+
+-- the failure of a hart in this state, or else another
+abbrev pub fault_or : Option Failure → ℕ → ℕ → HartState → Option Failure
+fault_or other number pc Running = other
+fault_or other number pc (Exited status) = other
+fault_or other number pc (Faulted cause) = Some (failure.Faulted number cause pc)
+
+-- the fault of the lowest hart that has one, of harts that are numbered from a number on
+abbrev pub first_fault : ℕ → List HartValue → Option Failure
+first_fault number [] = None
+first_fault number (hart ∷ harts) =
+    fault_or (first_fault (number + 1) harts) number hart.pc hart.state
+
+-- a broken rule is a failure
+abbrev pub failure_by : Kind → Verdict → Option Failure
+failure_by kind verdict.Kept = None
+failure_by kind verdict.Broken = Some (failure.Broken kind)
+
+-- how a run fails at its end, if it does: under a rule by its verdict, and without one by the
+-- lowest hart that has faulted
+abbrev pub failure_of : Option Kind → List ℕ → List Choice → List HartValue → Option Failure
+failure_of None inputs choices harts = first_fault 0 harts
+failure_of (Some kind) inputs choices harts = failure_by kind (verdict_of kind inputs choices harts)
+
+-- a failure, or else that the run hangs, where each hart must exit
+abbrev pub failure_or : Exit → ℕ → Bool → Option Failure → Option Failure
+failure_or exit steps running (Some how) = Some how
+failure_or exit steps running None = if hangs exit running then Some (failure.Hangs steps) else None
+
+-- how the run of a list of choices fails, from an image's start: at its end, or else, where each
+-- hart must exit, it hangs for as many further steps as the list has choices, and for 10,000 at
+-- least
+abbrev pub failure_after : Expect → ImageValue → List ℕ → List Choice → Option Failure
+failure_after expect image inputs choices =
+    failure_or expect.exit (steps_for (length choices))
+    (hangs_after (steps_for (length choices)) image inputs choices)
+    (failure_of expect.rule inputs choices (harts_after image inputs choices))

@@ -1,0 +1,33 @@
+-- When the run of a list of choices hangs.
+use Rattle.std.specs.Prelude.{ℕ, max, Bool, ◌&&◌, List, ◌++◌, length}
+use Rattle.program_images.specs.Image.{ImageValue}
+use Rattle.memory.specs.Memory.{all_below}
+use Rattle.hart_step.specs.Hart.{HartValue}
+use Rattle.machine.specs.Start.{started}
+use Rattle.machine.specs.World.{run}
+use Rattle.machine.specs.declared.choice.Choice.{Choice}
+use Rattle.scheduler.specs.Schedules.{alone, turns}
+use Rattle.outcome.specs.Outcome.{some_run}
+
+-- the harts after choices, from an image's start
+abbrev pub harts_after : ImageValue → List ℕ → List Choice → List HartValue
+harts_after image inputs choices = (run (started image inputs) choices).harts
+
+-- some hart runs after a list of choices and more of them
+abbrev pub runs_on : ImageValue → List ℕ → List Choice → List Choice → Bool
+runs_on image inputs choices more = some_run (harts_after image inputs (choices ++ more))
+
+-- so many steps of one hart alone, and then as many of all by turns
+abbrev pub alone_first : ℕ → ℕ → ℕ → List Choice
+alone_first harts steps hart = alone hart steps ++ turns harts steps
+
+-- a run hangs: some hart still runs where after its choices harts take so many further steps by
+-- turns, and also where any one of them takes so many before that
+abbrev pub hangs_after : ℕ → ImageValue → List ℕ → List Choice → Bool
+hangs_after steps image inputs choices =
+    runs_on image inputs choices (turns (length inputs) steps)
+    && all_below (length inputs) (λ hart. runs_on image inputs choices (alone_first (length inputs) steps hart))
+
+-- how many further steps are enough, by how many choices there are
+abbrev pub steps_for : ℕ → ℕ
+steps_for choices = max 10000 choices

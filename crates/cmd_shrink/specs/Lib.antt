@@ -1,0 +1,4 @@
+pub mod Hanging
+pub mod Failure
+pub mod Faults
+pub mod Shrink

@@ -1,0 +1,108 @@
+//! Whether the run of a list of choices hangs.
+ghost use Rattle.std.specs.Prelude.{◌≡◌, ◌<◌, IfOk, length};
+ghost use Rattle.machine.specs.Start.{IsStartable};
+ghost use Rattle.scheduler.specs.Schedules.{turns};
+ghost use Rattle.memory.specs.Memory.{all_below};
+ghost use Rattle.cmd_shrink.specs.Hanging.{alone_first, hangs_after, runs_on, steps_for};
+
+use crate::going_on::{go_on_alone, go_on_by_turns};
+use crate::running::machine_after;
+use machine::{Choice, check_inputs};
+use outcome::some_run;
+use program_images::Image;
+use std::alloc::{AllocError, Allocator};
+
+/// How many further steps are taken at least, where it is asked whether a run hangs.
+pub const FEWEST_STEPS: usize = 10_000;
+
+/// How many further steps are taken where it is asked whether a run of so many choices hangs.
+pub fn steps_for(choices: usize) -> usize
+    ensures { result ≡ steps_for choices }
+{
+    if choices < FEWEST_STEPS {
+        FEWEST_STEPS
+    } else {
+        choices
+    }
+}
+
+// Whether some hart runs after choices and so many steps more by turns.
+fn runs_on_by_turns<A: Allocator + Copy>(
+    alloc: A,
+    image: &Image<A>,
+    inputs: &[u32],
+    choices: &[Choice],
+    steps: usize,
+) -> Result<bool, AllocError>
+    requires { IsStartable inputs.now }
+    ensures { IfOk result (λ running. running
+        ≡ runs_on image.now inputs.now choices.now (turns (length inputs.now) steps)) }
+{
+    let mut machine = machine_after(alloc, image, inputs, choices)?;
+    go_on_by_turns(&mut machine, inputs.len() as u32, steps);
+    Ok(some_run(machine.ends()))
+}
+
+// Whether some hart runs after choices, so many steps more of one hart, and then as many by turns.
+fn runs_on_after_one<A: Allocator + Copy>(
+    alloc: A,
+    image: &Image<A>,
+    inputs: &[u32],
+    choices: &[Choice],
+    steps: usize,
+    hart: u32,
+) -> Result<bool, AllocError>
+    requires { IsStartable inputs.now }
+    ensures { IfOk result (λ running. running
+        ≡ runs_on image.now inputs.now choices.now (alone_first (length inputs.now) steps hart)) }
+{
+    let mut machine = machine_after(alloc, image, inputs, choices)?;
+    go_on_alone(&mut machine, hart, steps);
+    go_on_by_turns(&mut machine, inputs.len() as u32, steps);
+    Ok(some_run(machine.ends()))
+}
+
+// Whether some hart runs after choices and steps more, whichever hart takes its own first.
+#[tactic(auto, using(crate::proofs::BelowLemmas::all_none, crate::proofs::BelowLemmas::all_more))]
+fn runs_on_after_any<A: Allocator + Copy>(
+    alloc: A,
+    image: &Image<A>,
+    inputs: &[u32],
+    choices: &[Choice],
+    steps: usize,
+) -> Result<bool, AllocError>
+    requires { IsStartable inputs.now }
+    ensures { IfOk result (λ running. running
+        ≡ all_below (length inputs.now)
+        (λ hart. runs_on image.now inputs.now choices.now (alone_first (length inputs.now) steps hart))) }
+{
+    let harts = inputs.len() as u32;
+    'harts: for hart in 0..harts {
+        if !runs_on_after_one(alloc, image, inputs, choices, steps, hart)? {
+            return Ok(false);
+        }
+    }
+    Ok(true)
+}
+
+/// Whether a run hangs: some hart still runs where after its choices harts take so many further
+/// steps by turns, and also where any one of them takes so many before that. There has to be a hart
+/// for each input: 1 to `MAX_HARTS` inputs, or it is refused.
+pub fn hangs_after<A: Allocator + Copy>(
+    alloc: A,
+    image: &Image<A>,
+    inputs: &[u32],
+    choices: &[Choice],
+    steps: usize,
+) -> Result<bool, AllocError>
+    ensures { IfOk result (λ hangs. hangs ≡ hangs_after steps image.now inputs.now choices.now) }
+{
+    let Ok(()) = check_inputs(inputs) else {
+        return Err(AllocError);
+    };
+    if !runs_on_by_turns(alloc, image, inputs, choices, steps)? {
+        return Ok(false);
+    }
+    let running = runs_on_after_any(alloc, image, inputs, choices, steps)?;
+    Ok(running)
+}

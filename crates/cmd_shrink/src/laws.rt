@@ -1,0 +1,13 @@
+//! A law of failures.
+ghost use Rattle.std.specs.Prelude.{◌≡◌, ℕ, List, Some};
+ghost use Rattle.cmd_shrink.specs.Failure.{failure_after, RunFailsSo};
+ghost use Rattle.cmd_shrink.specs.declared.failure.Failure.{Failure};
+ghost use Rattle.machine.specs.declared.choice.Choice.{Choice};
+ghost use Rattle.outcome.specs.declared.expect.Expect.{Expect};
+ghost use Rattle.program_images.specs.Image.{ImageValue};
+
+/// A run that fails, fails so: in the way that it is said to fail.
+pub fn failing_run_fails_so()
+    ensures { (expect : Expect) (image : ImageValue) (inputs : List ℕ) (choices : List Choice) (how : Failure)
+        → failure_after expect image inputs choices ≡ Some how → RunFailsSo how image inputs choices }
+{}

@@ -1,0 +1,43 @@
+//! The test of lists of choices whether their runs, from an image's start, fail in one way.
+ghost use Rattle.cmd_shrink.specs.Failure.{RunFailsSo};
+
+use crate::failure::{Failure, breaks_rule, has_faulted_at};
+use crate::hanging::hangs_after;
+use crate::running::machine_after;
+use choice_shrinking::Failing;
+use machine::Choice;
+use program_images::Image;
+use std::alloc::{AllocError, Allocator};
+
+/// The test of lists of choices whether their runs, from an image's start, fail in one way.
+#[derive(Drop)]
+pub struct SameFailure<'a, A: Allocator> {
+    /// Where memory for the runs comes from.
+    pub alloc: A,
+    /// The image.
+    pub image: &'a Image<A>,
+    /// An input for each hart: 1 to `MAX_HARTS` of them, or the test is refused.
+    pub inputs: &'a [u32],
+    /// The way to fail.
+    pub failure: Failure,
+}
+
+impl<'a, A: Allocator + Copy> Failing for SameFailure<'a, A> {
+    ghost fails = { λ t choices. RunFailsSo t.failure t.image.now t.inputs.now choices };
+
+    fn is_failing(&self, choices: &[Choice]) -> Result<bool, AllocError> {
+        match self.failure {
+            Failure::Broken(kind) => {
+                let machine = machine_after(self.alloc, self.image, self.inputs, choices)?;
+                Ok(breaks_rule(kind, self.inputs, choices, machine.ends()))
+            }
+            Failure::Faulted { number, cause, pc } => {
+                let machine = machine_after(self.alloc, self.image, self.inputs, choices)?;
+                Ok(has_faulted_at(machine.ends(), number, cause, pc))
+            }
+            Failure::Hangs { steps } => {
+                hangs_after(self.alloc, self.image, self.inputs, choices, steps)
+            }
+        }
+    }
+}

@@ -1,3 +1,0 @@
-pub mod BlockLemmas
-pub mod AnswerLemmas
-pub mod TallyLemmas

@@ -1,3 +1,0 @@
-pub mod Failing
-pub mod Lines
-pub mod Answers

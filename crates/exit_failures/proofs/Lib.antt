@@ -1,3 +1,0 @@
-pub mod TurnLemmas
-pub mod BelowLemmas
-pub mod LawLemmas

@@ -1,9 +1,0 @@
-use Rattle.std.proofs.Common.{◌≡◌}
-use Rattle.machine.specs.State.{state}
-use Rattle.machine.specs.World.{run}
-use Rattle.scheduler.specs.Schedules.{alone}
-use Rattle.exit_failures.proofs.going_on.go_on_alone.Given as goal
-
--- so many steps were taken
-abbrev pub invariant-steps : goal.invariant-steps
-invariant-steps g l = state l.machine ≡ run (state l.fn.machine) (alone l.hart l.counter)

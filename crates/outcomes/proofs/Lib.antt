@@ -1,2 +1,0 @@
-pub mod OutcomeLemmas
-pub mod TallyLemmas

@@ -1,6 +1,0 @@
-use Rattle.std.proofs.Common.{[], sym}
-use Rattle.outcomes.proofs.TallyLemmas.{tally_onto-append}
-use Rattle.outcomes.proofs.laws.blocks_are_counted_together.Goals as goal
-
-pub returns : goal.returns
-returns c = λ before block. sym (tally_onto-append [] before block)

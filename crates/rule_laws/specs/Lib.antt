@@ -1,2 +1,0 @@
-pub mod Enough
-pub mod Kept

@@ -1,5 +1,0 @@
-pub mod RunLemmas
-pub mod AnswerLemmas
-pub mod RowLemmas
-pub mod FailureLemmas
-pub mod SummaryLemmas

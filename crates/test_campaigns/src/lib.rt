@@ -1,0 +1,6 @@
+//! Campaigns for tests.
+#![tactic(auto)]
+
+pub use plain::plain_campaign;
+
+mod plain;
