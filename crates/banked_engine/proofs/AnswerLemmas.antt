@@ -26,7 +26,7 @@ use Rattle.programs.specs.declared.program.ProgramForm.TheVariants as form
 use Rattle.engines.specs.Certified.{IsCertified, EndsKept}
 use Rattle.engines.specs.Run.{may_run, shown, shown_with, world_after}
 use Rattle.outcome.specs.declared.expect.Exit.TheVariants.{May}
-use Rattle.replay_engine.proofs.KeptLemmas.{certified_shown}
+use Rattle.engines.proofs.CertifiedLemmas.{certified_shown}
 use Rattle.threads_engine.specs.declared.threads.ThreadsAnswer.{ThreadsAnswer}
 use Rattle.banked_engine.specs.BankedAnswer.{hart_of_log, text_for, IsAnswer, IsMergedRun, IsOfRun}
 use Rattle.banked_engine.specs.declared.history.HistoryUse.{HistoryUse}
@@ -93,7 +93,7 @@ kept : {A : Type 0} (image : ImageValue) (inputs : List ℕ) (budget : ℕ) (pla
 kept image inputs budget plan program rule history answer words reads o certified =
     let there : All (λ c. c.hart < length inputs) o.choices = choices_within o.run.logs o.choices (length inputs) o.run.banked.harts o.run.merged in
     subst (λ (a : List ℕ × Status). EndsKept May a.0 a.1) o.prints
-    (certified_shown inputs rule program image (expanded o.entries) words (subst (λ (cs : List Choice). All (λ c. c.hart < length inputs) cs) (sym o.stand) there) reads certified)
+    (certified_shown form.Elf inputs (may_run rule) program image (expanded o.entries) words (subst (λ (cs : List Choice). All (λ c. c.hart < length inputs) cs) (sym o.stand) there) reads certified)
 
 pub kept_of : {A : Type 0} (image : ImageValue) (inputs : List ℕ) (budget : ℕ) (plan : List (ℕ × ℕ)) (left : Option (List ℕ)) (rule : Option Kind) (history : HistoryUse) (answer : ThreadsAnswer A)
     → All (λ x. x < 2 ^ 32) inputs → IfSome left (λ p. program_of form.Elf p ≡ Ok image) → IsOfRun image inputs budget plan rule history answer

@@ -1,6 +1,5 @@
 -- What a run of threads over banks answers: the choices of the one run that the logs are, and what a replay of them prints.
-use Rattle.std.specs.Prelude.{◌≡◌, ℕ, ◌<◌, List, [], map, length, Option, Ok, Err, string_bytes}
-use Rattle.reservations.specs.Limit.{most_harts}
+use Rattle.std.specs.Prelude.{◌≡◌, ℕ, List, [], map, Option, Ok, string_bytes}
 use Rattle.program_images.specs.Image.{ImageValue}
 use Rattle.hart_step.specs.Hart.{HartValue}
 use Rattle.machine.specs.declared.choice.Choice.{Choice}
@@ -21,17 +20,13 @@ use Rattle.choice_histories.specs.Plain.{plain_entry}
 use Rattle.protocol_library.specs.declared.kind.Kind.{Kind}
 use Rattle.programs.specs.Program.{program_of}
 use Rattle.programs.specs.declared.program.ProgramForm.TheVariants as form
-use Rattle.programs.specs.declared.run_fault.RunFault.TheVariants as run
-use Rattle.devices.specs.declared.status.Status.{Status}
-use Rattle.devices.specs.declared.status.Status.TheVariants as status
+use Rattle.programs.specs.declared.command_fault.CommandFault.{CommandFault}
+use Rattle.programs.specs.declared.command_fault.CommandFault.TheVariants as fault
 use Rattle.engines.specs.Run.{may_run, shown, world_after}
 use Rattle.threads_engine.specs.Threads as one_lock
-use Rattle.threads_engine.specs.declared.fault.ThreadsEngineFault.TheVariants as threads
 use Rattle.threads_engine.specs.declared.threads.ThreadsAnswer.{ThreadsAnswer}
 use Rattle.banked_engine.specs.declared.history.HistoryUse.{HistoryUse}
 use Rattle.banked_engine.specs.declared.history.HistoryUse.TheVariants.{Read, Unread}
-use Rattle.banked_engine.specs.declared.fault.BankedEngineFault.{BankedEngineFault}
-use Rattle.banked_engine.specs.declared.fault.BankedEngineFault.TheVariants as engine
 
 -- the hart to which a log leads
 abbrev pub hart_of_log : HartLogValue → HartValue
@@ -70,38 +65,20 @@ pub record IsAnswer {A : Type 0} (inputs : List ℕ) (budget : ℕ) (plan : List
   pub of_run : IsOfRun image inputs budget plan rule history answer
 
 -- a fault of the threads
-abbrev pub fault_of_run : RunFault → BankedEngineFault
-fault_of_run banked.NoHarts = engine.Threads (threads.Run run.NoHarts)
-fault_of_run banked.TooManyHarts = engine.Threads (threads.Run run.TooManyHarts)
-fault_of_run banked.StartRefused = engine.Threads threads.StartRefused
-fault_of_run banked.StampsExhausted = engine.StampsExhausted
-fault_of_run banked.Stale = engine.Threads threads.Stale
-fault_of_run banked.Memory = engine.Threads (threads.Run run.Memory)
+abbrev pub fault_of_run : RunFault → CommandFault
+fault_of_run banked.NoHarts = fault.NoHarts
+fault_of_run banked.TooManyHarts = fault.TooManyHarts
+fault_of_run banked.StartRefused = fault.ThreadRefused
+fault_of_run banked.StampsExhausted = fault.StampsExhausted
+fault_of_run banked.Stale = fault.Stale
+fault_of_run banked.Memory = fault.Memory
 
--- a fault of the program or of the number of inputs, and of no device, thread, stamp or memory
-abbrev pub IsRefusal : BankedEngineFault → Type 0
-IsRefusal (engine.Threads why) = one_lock.IsRefusal why
-IsRefusal engine.StampsExhausted = ⊥
-IsRefusal engine.Unmatched = ⊥
-IsRefusal engine.OutOfOrder = ⊥
-
--- when a task and a program are refused so
-abbrev pub Refuses : List ℕ → ℕ → List (ℕ × ℕ) → List ℕ → BankedEngineFault → Type 0
-Refuses inputs budget plan program (engine.Threads why) = one_lock.Refuses (length inputs) program why
-Refuses inputs budget plan program engine.StampsExhausted = ⊥
-Refuses inputs budget plan program engine.Unmatched = ⊥
-Refuses inputs budget plan program engine.OutOfOrder = ⊥
+-- when so many inputs and a program are refused so: as under one lock, or stamps are exhausted
+abbrev pub Refuses : ℕ → List ℕ → CommandFault → Type 0
+Refuses harts program fault.StampsExhausted = Unit {0}
+Refuses harts program why = one_lock.Refuses harts program why
 
 -- a fact of the program's file where a fault names it
-abbrev pub IfReads : BankedEngineFault → Type 0 → Type 0
-IfReads (engine.Threads why) file = one_lock.IfReads why file
-IfReads engine.StampsExhausted file = Unit {0}
-IfReads engine.Unmatched file = Unit {0}
-IfReads engine.OutOfOrder file = Unit {0}
-
--- the status of a fault
-abbrev pub status_of : BankedEngineFault → Status
-status_of (engine.Threads why) = one_lock.status_of why
-status_of engine.StampsExhausted = status.Refused
-status_of engine.Unmatched = status.Refused
-status_of engine.OutOfOrder = status.Refused
+abbrev pub IfReads : CommandFault → Type 0 → Type 0
+IfReads fault.StampsExhausted file = Unit {0}
+IfReads why file = one_lock.IfReads why file

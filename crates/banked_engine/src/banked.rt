@@ -1,32 +1,33 @@
 //! `threads --banked`: a program, inputs, a budget and a plan in; the history that the harts' logs are, their ends and the verdict
 //! on them out.
 
-ghost use Rattle.std.specs.Prelude.{◌≡◌, ◌≢◌, ◌^◌, ◌-◌, ◌<◌, None, IfOk, IfErr, IfSome, Err};
+ghost use Rattle.std.specs.Prelude.{◌≡◌, ◌≢◌, ◌^◌, ◌-◌, ◌<◌, length};
+ghost use Rattle.std.specs.Prelude.{Err, IfErr, IfOk, IfSome, None};
 ghost use Rattle.engines.specs.Certified.{IsCertified};
 ghost use Rattle.machine.specs.Start.{IsStartable};
 ghost use Rattle.programs.specs.declared.program.ProgramForm.{ProgramForm};
 ghost use Rattle.banked_threads.specs.Banked.{IsBanked};
 ghost use Rattle.threads_engine.specs.Threads.{IsKept};
 ghost use Rattle.banked_engine.specs.declared.history.HistoryUse.{HistoryUse};
-ghost use Rattle.banked_engine.specs.BankedAnswer.{fault_of_run, IfReads, IsAnswer, IsOfRun, IsRefusal, Refuses};
+ghost use Rattle.banked_engine.specs.BankedAnswer.{fault_of_run, IfReads, IsAnswer, IsOfRun, Refuses};
+ghost use Rattle.programs.specs.CommandFaults.{IsRefusal};
 
 use crate::answer::{answer_of, harts_of};
-use crate::fault::BankedEngineFault;
 use crate::history::HistoryUse;
 use crate::unread::answer_of_ends;
-use banked_threads::{RunFault as BankedFault, run_banked};
+use banked_threads::{RunFault, run_banked};
 use banks::Bank;
 use banks_merge::{logs_are_one_run, merge_matched};
 use devices::Source;
 use engines::see_words;
 use hart_logs::HartLog;
 use program_images::Image;
-use programs::{ProgramForm, RunFault, read_image};
+use programs::{CommandFault, ProgramForm, read_image};
 use std::alloc::{AllocError, Allocator};
 use std::sync::Wait;
 use std::thread::Threads;
 use thread_gate::Gate;
-use threads_engine::{ThreadsAnswer, ThreadsEngineFault, ThreadsTask};
+use threads_engine::{ThreadsAnswer, ThreadsTask};
 
 /// `threads --banked`: reads the program to its end, and runs it with a thread for each hart and a lock for each bank of memory.
 /// What is answered is what a replay of the run's history prints, which is answered where it is read.
@@ -42,7 +43,7 @@ pub fn banked_engine<
     history: HistoryUse,
     program: &mut P,
     gate: &G,
-) -> Result<ThreadsAnswer<A>, BankedEngineFault>
+) -> Result<ThreadsAnswer<A>, CommandFault>
     requires { P.failures program.old < 2 ^ 64 - 1 }
     ensures answer { IfOk result (λ answer. IfSome (P.left program.old) (λ p.
         IsAnswer task.inputs.items task.budget task.plan.keys task.rule history p answer)) }
@@ -52,19 +53,18 @@ pub fn banked_engine<
         IsCertified ProgramForm.Elf p task.inputs.items task.rule → IsKept answer)) }
     // What was read is refused, and no thread was started.
     ensures refused { IfErr result (λ fault. IsRefusal fault → IfSome (P.left program.old) (λ p.
-        Refuses task.inputs.items task.budget task.plan.keys p fault)) }
+        Refuses (length task.inputs.items) p fault)) }
     // Logs that threads have left match, and are in order.
-    ensures matched { result ≢ Err BankedEngineFault.Unmatched }
-    ensures in_order { result ≢ Err BankedEngineFault.OutOfOrder }
+    ensures matched { result ≢ Err CommandFault.Unmatched }
+    ensures in_order { result ≢ Err CommandFault.OutOfOrder }
     // The program's device is named only where it failed, and no other is.
-    ensures read { IfErr result (λ fault. IfReads fault (P.failures program.old < P.failures program.new)) }
-    ensures sink_unnamed { IfErr result (λ fault.
-        fault ≢ BankedEngineFault.Threads (ThreadsEngineFault.Run RunFault.Write)) }
+    ensures read { IfErr result (λ fault. IfReads fault
+        (P.failures program.old < P.failures program.new)) }
 {
     see_words(&task.inputs);
     let image = match read_image(alloc, ProgramForm::Elf, program) {
         Ok(image) => image,
-        Err(fault) => return Err(BankedEngineFault::Threads(ThreadsEngineFault::Run(fault))),
+        Err(fault) => return Err(fault),
     };
     let banked = match run_banked(
         rt,
@@ -80,9 +80,7 @@ pub fn banked_engine<
     };
     match answer_of_logs(alloc, &image, &task, history, &banked.logs, &banked.banks) {
         Ok(answer) => Ok(answer),
-        Err(AllocError) => Err(BankedEngineFault::Threads(ThreadsEngineFault::Run(
-            RunFault::Memory,
-        ))),
+        Err(AllocError) => Err(CommandFault::Memory),
     }
 }
 
@@ -146,21 +144,15 @@ fn unmerged_answer<A: Allocator + Copy>(
 }
 
 // A fault of the threads, as one of the command.
-fn fault_of_banked(fault: BankedFault) -> BankedEngineFault
+fn fault_of_banked(fault: RunFault) -> CommandFault
     ensures { result ≡ fault_of_run fault }
 {
     match fault {
-        BankedFault::NoHarts => BankedEngineFault::Threads(ThreadsEngineFault::Run(
-            RunFault::NoHarts,
-        )),
-        BankedFault::TooManyHarts => BankedEngineFault::Threads(ThreadsEngineFault::Run(
-            RunFault::TooManyHarts,
-        )),
-        BankedFault::StartRefused => BankedEngineFault::Threads(ThreadsEngineFault::StartRefused),
-        BankedFault::StampsExhausted => BankedEngineFault::StampsExhausted,
-        BankedFault::Stale => BankedEngineFault::Threads(ThreadsEngineFault::Stale),
-        BankedFault::Memory => BankedEngineFault::Threads(ThreadsEngineFault::Run(
-            RunFault::Memory,
-        )),
+        RunFault::NoHarts => CommandFault::NoHarts,
+        RunFault::TooManyHarts => CommandFault::TooManyHarts,
+        RunFault::StartRefused => CommandFault::ThreadRefused,
+        RunFault::StampsExhausted => CommandFault::StampsExhausted,
+        RunFault::Stale => CommandFault::Stale,
+        RunFault::Memory => CommandFault::Memory,
     }
 }

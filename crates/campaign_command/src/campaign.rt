@@ -12,7 +12,7 @@ use kind_plans::{read_kind, why_no_kind};
 use object_names::read_rule;
 use order_plans::{read_report, read_seed_numbers};
 use outcome::{Exit, Expect};
-use programs::{ProgramForm, RunFault};
+use programs::{CommandFault, ProgramForm};
 use progress::Progress;
 use reports::{
     Audience, RunFiles, WIPE, bad_line, cannot_open, cannot_read, explain_run, read_again, refuse,
@@ -191,9 +191,9 @@ fn tell<R: Files + AllocGlobal + Eprint>(
     audience: Audience,
     order: &CampaignOrder,
     harts: usize,
-    fault: RunFault,
+    fault: CommandFault,
 ) -> Status {
-    if let RunFault::Read(_) = fault {
+    if let CommandFault::Read(_) = fault {
         return cannot_read(rt, order.file);
     }
     let status = say(rt, fault);

@@ -8,7 +8,7 @@ use campaign_runs::{Block, HartResult, Report, SeedEnd, Seeds, run_block};
 use machine::{StartFault, check_inputs};
 use outcome::Exit;
 use program_images::Image;
-use programs::RunFault;
+use programs::CommandFault;
 use protocol_library::Kind;
 use std::alloc::Global;
 use std::thread::Threads;
@@ -121,7 +121,7 @@ fn count_of<R: Threads + Sync>(
     alloc: Global,
     inputs: &[u32],
     count: u64,
-) -> Option<Result<usize, RunFault>> {
+) -> Option<Result<usize, CommandFault>> {
     let file = object_file(alloc, Kind::LrSc).ok()?;
     let program = program_of(&file, inputs);
     let (ending, sink) = answered(rt, alloc, program, plan_of(0, count, 9), Report::Lines)?;
@@ -133,17 +133,17 @@ fn count_of<R: Threads + Sync>(
 struct Inputs {
     inputs: &'static [u32],
     count: u64,
-    runs: Result<usize, RunFault>,
+    runs: Result<usize, CommandFault>,
 }
 
 // The inputs are checked also where no seed is run.
 #[rattlefmt::skip]
 const INPUTS: [Inputs; 6] = [
-    Inputs { inputs: &[], count: 0, runs: Err(RunFault::NoHarts) },
-    Inputs { inputs: &[0; 100], count: 0, runs: Err(RunFault::TooManyHarts) },
+    Inputs { inputs: &[], count: 0, runs: Err(CommandFault::NoHarts) },
+    Inputs { inputs: &[0; 100], count: 0, runs: Err(CommandFault::TooManyHarts) },
     Inputs { inputs: &[7], count: 0, runs: Ok(0) },
-    Inputs { inputs: &[], count: 3, runs: Err(RunFault::NoHarts) },
-    Inputs { inputs: &[0; 100], count: 3, runs: Err(RunFault::TooManyHarts) },
+    Inputs { inputs: &[], count: 3, runs: Err(CommandFault::NoHarts) },
+    Inputs { inputs: &[0; 100], count: 3, runs: Err(CommandFault::TooManyHarts) },
     Inputs { inputs: &[7], count: 3, runs: Ok(3) },
 ];
 

@@ -7,7 +7,7 @@ use cmd_campaign::{Finished, campaign_engine};
 use devices::{FullSink, MemorySource, Status};
 use outcome::Exit;
 use program_images::ElfFault;
-use programs::{Input, ProgramForm, RunFault, read_program};
+use programs::{CommandFault, Input, ProgramForm, read_program};
 use progress::Unheard;
 use protocol_library::Kind;
 use std::alloc::{AllocError, Global};
@@ -199,16 +199,16 @@ struct Refused {
     passed: u64,
     inputs: &'static [u32],
     steps: u32,
-    fault: RunFault,
+    fault: CommandFault,
 }
 
 // Inputs of no hart and of too many, a file that is none, one that can't be read.
 #[rattlefmt::skip]
 const REFUSED: [Refused; 4] = [
-    Refused { file: File::Swap, passed: u64::MAX, inputs: &[], steps: 10, fault: RunFault::NoHarts },
-    Refused { file: File::Swap, passed: u64::MAX, inputs: &[1; 33], steps: 10, fault: RunFault::TooManyHarts },
-    Refused { file: File::None, passed: u64::MAX, inputs: &[], steps: 10, fault: RunFault::Elf(ElfFault::Short) },
-    Refused { file: File::Swap, passed: 0, inputs: &[7, 9, 5], steps: 300, fault: RunFault::Read(Input::File) },
+    Refused { file: File::Swap, passed: u64::MAX, inputs: &[], steps: 10, fault: CommandFault::NoHarts },
+    Refused { file: File::Swap, passed: u64::MAX, inputs: &[1; 33], steps: 10, fault: CommandFault::TooManyHarts },
+    Refused { file: File::None, passed: u64::MAX, inputs: &[], steps: 10, fault: CommandFault::Elf(ElfFault::Short) },
+    Refused { file: File::Swap, passed: 0, inputs: &[7, 9, 5], steps: 300, fault: CommandFault::Read(Input::File) },
 ];
 
 // Ten runs of so many steps.
@@ -253,7 +253,7 @@ fn ended_in_vain(
     rt: &(impl Threads + Sync),
     alloc: Global,
     report: Report,
-) -> Option<Result<Finished, RunFault>> {
+) -> Option<Result<Finished, CommandFault>> {
     let file = object_file(alloc, Kind::Swap).ok()?;
     let campaign = campaign_of(ten_runs(300), report)?;
     let mut source = MemorySource::new(&file);
@@ -273,7 +273,7 @@ fn ended_in_vain(
 fn full_sinks_are_told(rt: HostRuntime) {
     for (number, report) in REPORTS.iter().enumerate() {
         assert!(rt;
-            ended_in_vain(&rt, rt.alloc(), *report) == Some(Err(RunFault::Write)),
+            ended_in_vain(&rt, rt.alloc(), *report) == Some(Err(CommandFault::Write)),
             "{number}"
         );
     }

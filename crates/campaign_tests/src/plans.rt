@@ -5,7 +5,7 @@ use campaign_runs::{Campaign, Report};
 use cmd_campaign::{Finished, campaign_engine};
 use devices::{Failing, MemorySink, MemorySource};
 use outcome::{Exit, Expect};
-use programs::RunFault;
+use programs::CommandFault;
 use progress::Unheard;
 use protocol_library::Kind;
 use schedule_kinds::{Depth, HartOrder, Mean, Refusals, ScheduleKind};
@@ -114,7 +114,7 @@ pub(crate) fn program_of<'f, 'i>(file: &'f [u8], inputs: &'i [u32]) -> Program<'
 }
 
 /// What a campaign answers, and what it writes.
-pub(crate) type Answer = (Result<Finished, RunFault>, MemorySink<Global>);
+pub(crate) type Answer = (Result<Finished, CommandFault>, MemorySink<Global>);
 
 /// What the campaign of a plan answers and writes; none where the plan has none.
 pub(crate) fn answered(

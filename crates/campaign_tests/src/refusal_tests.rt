@@ -9,7 +9,7 @@ use cmd_campaign::{count_ends_of, push_lines, record_block, summary_text};
 use devices::MemorySink;
 use hart_step::{Cause, Hart, HartState};
 use outcome::{Exit, Expect, Outcome};
-use programs::RunFault;
+use programs::CommandFault;
 use protocol_library::{Kind, Verdict};
 use refusing::{Call, tried};
 use schedule_kinds::{HartOrder, Refusals, ScheduleKind};
@@ -133,9 +133,9 @@ impl Call for Summing {
 }
 
 // Refused memory, or another fault.
-fn refused(fault: RunFault) -> Result<bool, AllocError> {
+fn refused(fault: CommandFault) -> Result<bool, AllocError> {
     match fault {
-        RunFault::Memory => Err(AllocError),
+        CommandFault::Memory => Err(AllocError),
         _ => Ok(false),
     }
 }

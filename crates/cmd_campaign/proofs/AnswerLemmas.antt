@@ -7,17 +7,17 @@ use Rattle.reservations.specs.Limit.{most_harts}
 use Rattle.machine.specs.Start.{IsStartable, Refuses}
 use Rattle.machine.specs.declared.start.StartFault.{StartFault}
 use Rattle.machine.specs.declared.start.StartFault.TheVariants as start
-use Rattle.programs.specs.RunFaults.{fault_of_start, IfReads, IsRefusal}
+use Rattle.programs.specs.CommandFaults.{fault_of_start, IfHalts, IfNames, IsRefusal}
 use Rattle.programs.specs.Program.{program_of}
 use Rattle.programs.specs.declared.program.ProgramForm.TheVariants as form
-use Rattle.programs.specs.declared.run_fault.Input.TheVariants as input
-use Rattle.programs.specs.declared.run_fault.RunFault.{RunFault}
-use Rattle.programs.specs.declared.run_fault.RunFault.TheVariants as fault
-use Rattle.engines.specs.Run.{Answer, BeginsToPrint, Begins, Prints}
+use Rattle.programs.specs.declared.command_fault.CommandFault.{CommandFault}
+use Rattle.programs.specs.declared.command_fault.CommandFault.TheVariants as fault
+use Rattle.programs.specs.Answers.{Answer, BeginsToPrint, Begins, Prints}
+use Rattle.programs.proofs.FaultLemmas.{names_so}
 use Rattle.campaign_runs.specs.Runs.{all_endings}
 use Rattle.campaign_runs.specs.declared.campaign.Campaign.{Campaign}
 use Rattle.devices.specs.declared.status.Status.{Status}
-use Rattle.cmd_campaign.specs.Answers.{IfHalts, after_image, campaign_answer, campaign_failure, failure_after, reported}
+use Rattle.cmd_campaign.specs.Answers.{after_image, campaign_answer, campaign_failure, failure_after, reported}
 use Rattle.cmd_campaign.specs.Status.{finished_of}
 use Rattle.cmd_campaign.specs.declared.engine.Finished.{Finished}
 
@@ -66,7 +66,7 @@ module _ (campaign : Campaign) (inputs : List ℕ) where
 
   -- ---- the answer to an image is that to what the device had left
   -- a program that isn't read
-  pub unread_known : (left : Option (List ℕ)) (why : RunFault) → IfSome left (λ p. program_of form.Elf p ≡ Err why)
+  pub unread_known : (left : Option (List ℕ)) (why : CommandFault) → IfSome left (λ p. program_of form.Elf p ≡ Err why)
       → IfSome left (λ p. campaign_answer campaign inputs p ≡ Err why)
   unfolding campaign_answer
   unread_known None why reads = tt
@@ -82,14 +82,14 @@ module _ (campaign : Campaign) (inputs : List ℕ) where
         go (Some p) r = subst P (sym (ap (after_image campaign inputs) r)) h
 
     -- all lines
-    pub done_known : (r : Result Finished RunFault) (old new : Option (List ℕ))
+    pub done_known : (r : Result Finished CommandFault) (old new : Option (List ℕ))
         → IfOk r (λ f. Prints (after_image campaign inputs (Ok image)) f.status old new)
         → IfOk r (λ f. IfSome left (λ p. Prints (campaign_answer campaign inputs p) f.status old new))
     done_known (Ok f) old new h = image_known (λ a. Prints a f.status old new) h
     done_known (Err why) old new h = h
 
     -- the first seed whose run has failed
-    pub first_known : (r : Result Finished RunFault)
+    pub first_known : (r : Result Finished CommandFault)
         → IfOk r (λ f. f ≡ finished_of campaign.expect.exit (all_endings campaign image inputs))
         → IfOk r (λ f. IfSome left (λ p. f.first_failure ≡ campaign_failure campaign inputs p))
     unfolding campaign_failure
@@ -102,7 +102,7 @@ module _ (campaign : Campaign) (inputs : List ℕ) where
     first_known (Err why) h = h
 
     -- a refusal
-    pub refused_known : (r : Result Finished RunFault)
+    pub refused_known : (r : Result Finished CommandFault)
         → IfErr r (λ why. IsRefusal why → after_image campaign inputs (Ok image) ≡ Err why)
         → IfErr r (λ why. IsRefusal why → IfSome left (λ p. campaign_answer campaign inputs p ≡ Err why))
     refused_known (Ok s) h = h
@@ -115,36 +115,36 @@ module _ (campaign : Campaign) (inputs : List ℕ) where
     halted_known K old new h = image_known (λ a. K ⊎ BeginsToPrint a old new) h
 
 -- a beginning of the report, after a fault that halted the runs
-pub begins_answer : (r : Result Finished RunFault) (why : RunFault) (answer : Answer) (lines : List ℕ) (status : Status) (old new : Option (List ℕ))
+pub begins_answer : (r : Result Finished CommandFault) (why : CommandFault) (answer : Answer) (lines : List ℕ) (status : Status) (old new : Option (List ℕ))
     → answer ≡ Ok (lines, status) → IfErr r (λ _. Begins lines old new) → r ≡ Err why → BeginsToPrint answer old new
 begins_answer r why answer lines status old new shown begun is =
     subst (λ a. BeginsToPrint a old new) (sym shown) (subst (λ x. IfErr x (λ _. Begins lines old new)) is begun)
 
 -- the whole report, where the runs came to their end
-pub done_answer : (r : Result Finished RunFault) (answer : Answer) (lines : List ℕ) (wanted : Finished) (old new : Option (List ℕ))
+pub done_answer : (r : Result Finished CommandFault) (answer : Answer) (lines : List ℕ) (wanted : Finished) (old new : Option (List ℕ))
     → answer ≡ Ok (lines, wanted.status) → IfOk r (λ _. Appends old new lines) → IfOk r (λ f. f ≡ wanted)
     → IfOk r (λ f. Prints answer f.status old new)
 done_answer (Ok f) answer lines wanted old new shown written is =
     subst (λ a. Prints a f.status old new) (sym shown) (ap (λ (x : Finished). x.status) (sym is), written)
 done_answer (Err why) answer lines wanted old new shown written is = is
 
--- ---- which input a fault names
+-- ---- which device a fault names
 -- none, where the inputs are refused
-pub start_unread : (why : StartFault) (file choices : Type 0) → IfReads (fault_of_start why) file choices
-start_unread start.NoHarts file choices = tt
-start_unread start.TooManyHarts file choices = tt
-start_unread start.Memory file choices = tt
+pub start_unread : (why : StartFault) (file choices history sink : Type 0) → IfNames (fault_of_start why) file choices history sink
+start_unread start.NoHarts file choices history sink = tt
+start_unread start.TooManyHarts file choices history sink = tt
+start_unread start.Memory file choices history sink = tt
 
--- none, where the runs were halted
-pub halted_unread : (r : Result Finished RunFault) (risen : Type 0) → IfErr r (λ why. IfHalts why risen) → IfErr r (λ why. IfReads why ⊥ ⊥)
+-- the sink at most, where the runs were halted
+pub halted_unread : (r : Result Finished CommandFault) (risen : Type 0) → IfErr r (λ why. IfHalts why risen)
+    → IfErr r (λ why. IfNames why ⊥ ⊥ ⊥ risen)
 halted_unread (Ok s) risen h = h
 halted_unread (Err fault.Memory) risen h = tt
-halted_unread (Err fault.Write) risen h = tt
+halted_unread (Err fault.Write) risen h = h
 halted_unread (Err why) risen h = absurd h
 
--- a fault that names none names none that did not fail
-pub unread_still : (r : Result Finished RunFault) (file choices : Type 0) → IfErr r (λ why. IfReads why ⊥ ⊥) → IfErr r (λ why. IfReads why file choices)
-unread_still (Ok s) file choices h = h
-unread_still (Err (fault.Read input.File)) file choices h = absurd h
-unread_still (Err (fault.Read input.Choices)) file choices h = absurd h
-unread_still (Err why) file choices h = h
+-- so the file only where it failed
+pub unread_still : (r : Result Finished CommandFault) (file sink : Type 0) → IfErr r (λ why. IfNames why ⊥ ⊥ ⊥ sink)
+    → IfErr r (λ why. IfNames why file ⊥ ⊥ sink)
+unread_still (Ok s) file sink h = h
+unread_still (Err why) file sink h = names_so why (λ none. absurd none) (λ none. none) (λ none. none) (λ risen. risen) h

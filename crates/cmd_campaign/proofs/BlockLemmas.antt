@@ -10,7 +10,7 @@ use Rattle.std.specs.Io.KnownBytes.{Appends}
 use Rattle.std.specs.List.{range_with_len}
 use Rattle.program_images.specs.Image.{ImageValue}
 use Rattle.machine.specs.Start.{started}
-use Rattle.engines.specs.Run.{Begins}
+use Rattle.programs.specs.Answers.{Begins}
 use Rattle.outcome.specs.Expect.{breaks, status_by}
 use Rattle.outcome.specs.declared.expect.Exit.{Exit}
 use Rattle.campaign_runs.specs.Runs.{SeedEnding, all_endings, end_of, ending_from, endings_of}

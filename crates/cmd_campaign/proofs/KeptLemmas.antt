@@ -21,7 +21,7 @@ use Rattle.outcome.specs.declared.expect.Exit.{Exit}
 use Rattle.outcome.specs.declared.expect.Exit.TheVariants.{May, Must}
 use Rattle.programs.specs.Program.{program_of}
 use Rattle.programs.specs.declared.program.ProgramForm.TheVariants as form
-use Rattle.programs.specs.declared.run_fault.RunFault.{RunFault}
+use Rattle.programs.specs.declared.command_fault.CommandFault.{CommandFault}
 use Rattle.campaign_runs.specs.Runs.{SeedEnding, all_endings, ending_from, endings_of}
 use Rattle.campaign_runs.specs.declared.campaign.Campaign.{Campaign}
 use Rattle.campaign_runs.specs.declared.campaign.Report.{Report}
@@ -97,7 +97,7 @@ module _ (kind : Kind) (image : ImageValue) (campaign : Campaign) (inputs : List
       by true = inr refl
       by false = inl refl
 
-abbrev loads : ImageValue → Result ImageValue RunFault
+abbrev loads : ImageValue → Result ImageValue CommandFault
 loads x = Ok x
 
 same_image : (x y : ImageValue) → loads x ≡ loads y → x ≡ y
@@ -121,7 +121,7 @@ module _ (campaign : Campaign) (inputs : List ℕ) (words : All (λ x. x < 2 ^ 3
         all_kept object.kind object.image campaign inputs startable.0 object.same object.meant words object.ruled seeds,
       )
 
-  pub certified_known : (left : Option (List ℕ)) (r : Result Finished RunFault) → IfSome left (λ p. program_of form.Elf p ≡ Ok image)
+  pub certified_known : (left : Option (List ℕ)) (r : Result Finished CommandFault) → IfSome left (λ p. program_of form.Elf p ≡ Ok image)
       → IfOk r (λ _. IsStartable inputs)
       → IfOk r (λ f. f ≡ finished_of campaign.expect.exit (all_endings campaign image inputs))
       → IfOk r (λ f. IfSome left (λ p. Certifies f p))

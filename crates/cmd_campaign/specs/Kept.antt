@@ -3,7 +3,7 @@ use Rattle.std.specs.Prelude.{◌≡◌, List, [], Some}
 use Rattle.std.specs.List.{All}
 use Rattle.std.specs.declared.result.Result.TheVariants.{Ok, Err}
 use Rattle.devices.specs.declared.status.Status.TheVariants as status
-use Rattle.engines.specs.Run.{Answer}
+use Rattle.programs.specs.Answers.{Answer}
 use Rattle.protocol_library.specs.declared.verdict.Verdict.TheVariants.{Kept}
 use Rattle.campaign_runs.specs.Runs.{SeedEnding}
 

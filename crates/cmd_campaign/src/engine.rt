@@ -4,11 +4,11 @@ ghost use Rattle.std.specs.Prelude.{◌≡◌, ◌≢◌, ◌+◌, ◌-◌, ◌^
 ghost use Rattle.std.specs.Io.KnownBytes.{Appends, Keeps};
 ghost use Rattle.machine.specs.Start.{IsStartable};
 ghost use Rattle.engines.specs.Certified.{IsCertified, IsUnbroken};
-ghost use Rattle.engines.specs.Run.{BeginsToPrint, Prints, Begins};
-ghost use Rattle.programs.specs.RunFaults.{IfReads, IsRefusal};
+ghost use Rattle.programs.specs.Answers.{Begins, BeginsToPrint, Prints};
+ghost use Rattle.programs.specs.CommandFaults.{IfHalts, IfNames, IsRefusal};
 ghost use Rattle.campaign_runs.specs.Runs.{all_endings};
 ghost use Rattle.campaign_runs.specs.Tally.{rows_of, tally_of};
-ghost use Rattle.cmd_campaign.specs.Answers.{after_image, campaign_answer, campaign_failure, IfHalts};
+ghost use Rattle.cmd_campaign.specs.Answers.{after_image, campaign_answer, campaign_failure};
 ghost use Rattle.cmd_campaign.specs.Kept.{AllKept};
 ghost use Rattle.cmd_campaign.specs.Lines.{entries_of};
 ghost use Rattle.cmd_campaign.specs.Status.{finished_of};
@@ -22,7 +22,7 @@ use devices::{Sink, Source, Status, write_all};
 use engines::see_words;
 use machine::check_inputs;
 use program_images::Image;
-use programs::{ProgramForm, RunFault, read_image};
+use programs::{CommandFault, ProgramForm, read_image};
 use progress::Progress;
 use std::alloc::{AllocError, Allocator};
 use std::thread::Threads;
@@ -54,7 +54,7 @@ fn run_blocks<A: Allocator + Copy + Send + Sync, K: Sink>(
     campaign: Campaign,
     sink: &mut K,
     progress: &mut impl Progress,
-) -> Result<(Tally<A>, Finished), RunFault>
+) -> Result<(Tally<A>, Finished), CommandFault>
     requires startable { IsStartable inputs.now }
     requires fits { campaign.first + campaign.count ≤ 2 ^ 64 }
     requires sink_counts { K.failures sink.old < 2 ^ 64 - 1 }
@@ -80,7 +80,7 @@ fn run_blocks<A: Allocator + Copy + Send + Sync, K: Sink>(
     'blocks: while let Some(block) = seeds.next_block(campaign.steps) {
         let ends = match run_block(rt, alloc, image, inputs, campaign, block) {
             Ok(ends) => ends,
-            Err(AllocError) => return Err(RunFault::Memory),
+            Err(AllocError) => return Err(CommandFault::Memory),
         };
         match record_block(alloc, campaign, &ends, &mut tally, sink) {
             Ok(()) => {}
@@ -99,24 +99,24 @@ fn write_rows<A: Allocator + Copy, K: Sink>(
     alloc: A,
     tally: &Tally<A>,
     sink: &mut K,
-) -> Result<(), RunFault>
+) -> Result<(), CommandFault>
     requires sink_counts { K.failures sink.old < 2 ^ 64 - 1 }
     ensures written { IfOk result (λ _.
         Appends (K.held sink.old) (K.held sink.new) (rows_text (rows_of tally.now))) }
     ensures begun { IfErr result (λ _.
         Begins (rows_text (rows_of tally.now)) (K.held sink.old) (K.held sink.new)) }
-    ensures unwritten { IfErr result (λ fault. fault ≢ RunFault.Write
+    ensures unwritten { IfErr result (λ fault. fault ≢ CommandFault.Write
         → Keeps (K.held sink.old) (K.held sink.new)) }
     ensures fault { IfErr result (λ fault.
         IfHalts fault (K.failures sink.old < K.failures sink.new)) }
 {
     let text = match summary_text(alloc, tally) {
         Ok(text) => text,
-        Err(AllocError) => return Err(RunFault::Memory),
+        Err(AllocError) => return Err(CommandFault::Memory),
     };
     match write_all(sink, text.as_bytes()) {
         Ok(()) => Ok(()),
-        Err(_) => Err(RunFault::Write),
+        Err(_) => Err(CommandFault::Write),
     }
 }
 
@@ -130,7 +130,7 @@ fn write_report<A: Allocator + Copy + Send + Sync, K: Sink>(
     campaign: Campaign,
     sink: &mut K,
     progress: &mut impl Progress,
-) -> Result<Finished, RunFault>
+) -> Result<Finished, CommandFault>
     requires startable { IsStartable inputs.now }
     requires fits { campaign.first + campaign.count ≤ 2 ^ 64 }
     requires sink_counts { K.failures sink.old < 2 ^ 64 - 1 }
@@ -141,7 +141,7 @@ fn write_report<A: Allocator + Copy + Send + Sync, K: Sink>(
     ensures begun { IfErr result (λ _. Begins
         (report_text campaign.report campaign.expect.exit (all_endings campaign image.now inputs.now))
         (K.held sink.old) (K.held sink.new)) }
-    ensures whole { IsSummary campaign.report → IfErr result (λ fault. fault ≢ RunFault.Write
+    ensures whole { IsSummary campaign.report → IfErr result (λ fault. fault ≢ CommandFault.Write
         → Keeps (K.held sink.old) (K.held sink.new)) }
     ensures fault { IfErr result (λ fault.
         IfHalts fault (K.failures sink.old < K.failures sink.new)) }
@@ -165,7 +165,7 @@ fn write_campaign<A: Allocator + Copy + Send + Sync, K: Sink>(
     image: &Image<A>,
     sink: &mut K,
     progress: &mut impl Progress,
-) -> Result<Finished, RunFault>
+) -> Result<Finished, CommandFault>
     requires fits { campaign.first + campaign.count ≤ 2 ^ 64 }
     requires sink_counts { K.failures sink.old < 2 ^ 64 - 1 }
     ensures takes { IfOk result (λ _. IsStartable inputs.now) }
@@ -176,22 +176,22 @@ fn write_campaign<A: Allocator + Copy + Send + Sync, K: Sink>(
         finished ≡ finished_of campaign.expect.exit (all_endings campaign image.now inputs.now)) }
     ensures refused { IfErr result (λ fault. IsRefusal fault
         → after_image campaign inputs.now (Ok image.now) ≡ Err fault) }
-    ensures unwritten { IfErr result (λ fault. fault ≢ RunFault.Write → fault ≢ RunFault.Memory
+    ensures unwritten { IfErr result (λ fault. fault ≢ CommandFault.Write → fault ≢ CommandFault.Memory
         → Keeps (K.held sink.old) (K.held sink.new)) }
-    ensures whole { IsSummary campaign.report → IfErr result (λ fault. fault ≢ RunFault.Write
+    ensures whole { IsSummary campaign.report → IfErr result (λ fault. fault ≢ CommandFault.Write
         → Keeps (K.held sink.old) (K.held sink.new)) }
-    ensures read { IfErr result (λ fault. IfReads fault ⊥ ⊥) }
-    ensures write { result ≡ Err RunFault.Write → K.failures sink.old < K.failures sink.new }
-    ensures begun { result ≡ Err RunFault.Write →
+    ensures read { IfErr result (λ fault.
+        IfNames fault ⊥ ⊥ ⊥ (K.failures sink.old < K.failures sink.new)) }
+    ensures begun { result ≡ Err CommandFault.Write →
         BeginsToPrint (after_image campaign inputs.now (Ok image.now))
         (K.held sink.old) (K.held sink.new) }
-    ensures halted { result ≡ Err RunFault.Memory → Keeps (K.held sink.old) (K.held sink.new)
+    ensures halted { result ≡ Err CommandFault.Memory → Keeps (K.held sink.old) (K.held sink.new)
         ⊎ BeginsToPrint (after_image campaign inputs.now (Ok image.now))
         (K.held sink.old) (K.held sink.new) }
 {
     match check_inputs(inputs) {
         Ok(()) => {}
-        Err(fault) => return Err(RunFault::from(fault)),
+        Err(fault) => return Err(CommandFault::from(fault)),
     }
     write_report(rt, alloc, image, inputs, campaign, sink, progress)
 }
@@ -208,7 +208,7 @@ pub fn campaign_engine<A: Allocator + Copy + Send + Sync, P: Source, K: Sink>(
     program: &mut P,
     sink: &mut K,
     progress: &mut impl Progress,
-) -> Result<Finished, RunFault>
+) -> Result<Finished, CommandFault>
     requires fits { campaign.first + campaign.count ≤ 2 ^ 64 }
     requires program_counts { P.failures program.old < 2 ^ 64 - 1 }
     requires sink_counts { K.failures sink.old < 2 ^ 64 - 1 }
@@ -222,19 +222,19 @@ pub fn campaign_engine<A: Allocator + Copy + Send + Sync, P: Source, K: Sink>(
     // What was read is refused, and nothing is written.
     ensures refused { IfErr result (λ fault. IsRefusal fault
         → IfSome (P.left program.old) (λ p. campaign_answer campaign inputs.now p ≡ Err fault)) }
-    ensures unwritten { IfErr result (λ fault. fault ≢ RunFault.Write → fault ≢ RunFault.Memory
+    ensures unwritten { IfErr result (λ fault. fault ≢ CommandFault.Write → fault ≢ CommandFault.Memory
         → Keeps (K.held sink.old) (K.held sink.new)) }
     // Of a summary nothing is written unless all of it is there to be written.
-    ensures whole { IsSummary campaign.report → IfErr result (λ fault. fault ≢ RunFault.Write
+    ensures whole { IsSummary campaign.report → IfErr result (λ fault. fault ≢ CommandFault.Write
         → Keeps (K.held sink.old) (K.held sink.new)) }
-    // A device is named only where it failed; there are no choices to read.
-    ensures read { IfErr result (λ fault. IfReads fault
-        (P.failures program.old < P.failures program.new) ⊥) }
-    ensures write { result ≡ Err RunFault.Write → K.failures sink.old < K.failures sink.new }
+    // A device is named only where it failed; there is no other text to read.
+    ensures read { IfErr result (λ fault. IfNames fault
+        (P.failures program.old < P.failures program.new) ⊥ ⊥
+        (K.failures sink.old < K.failures sink.new)) }
     // After a failed write, and where memory is refused to a later run, a beginning of the report stands there.
-    ensures begun { result ≡ Err RunFault.Write → IfSome (P.left program.old) (λ p.
+    ensures begun { result ≡ Err CommandFault.Write → IfSome (P.left program.old) (λ p.
         BeginsToPrint (campaign_answer campaign inputs.now p) (K.held sink.old) (K.held sink.new)) }
-    ensures halted { result ≡ Err RunFault.Memory → IfSome (P.left program.old) (λ p.
+    ensures halted { result ≡ Err CommandFault.Memory → IfSome (P.left program.old) (λ p.
         Keeps (K.held sink.old) (K.held sink.new)
         ⊎ BeginsToPrint (campaign_answer campaign inputs.now p) (K.held sink.old) (K.held sink.new)) }
     // Of a file that is an object, run by as many harts as it is for, each verdict by its kind's rule is

@@ -2,18 +2,18 @@
 
 ghost use Rattle.std.specs.Prelude.{◌≡◌, ◌+◌, ◌-◌, ◌<◌, ◌^◌, IfOk, IfErr, length, map};
 ghost use Rattle.std.specs.Io.KnownBytes.{Appends};
-ghost use Rattle.engines.specs.Run.{Begins};
+ghost use Rattle.programs.specs.Answers.{Begins};
+ghost use Rattle.programs.specs.CommandFaults.{IfHalts};
 ghost use Rattle.campaign_runs.specs.Ending.{ending_of};
 ghost use Rattle.campaign_runs.specs.Runs.{end_of};
 ghost use Rattle.campaign_runs.specs.Tally.{rows_of, seeds_in, tally_onto};
-ghost use Rattle.cmd_campaign.specs.Answers.{IfHalts};
 ghost use Rattle.cmd_campaign.specs.Lines.{entries_of};
 ghost use Rattle.cmd_campaign.specs.Summary.{counted_of};
 
 use crate::lines::push_lines;
 use campaign_runs::{Campaign, Ending, Report, SeedEnd, Tally};
 use devices::{Sink, write_all};
-use programs::RunFault;
+use programs::CommandFault;
 use std::alloc::{AllocError, Allocator};
 
 // An ending once more.
@@ -49,7 +49,7 @@ fn write_lines<A: Allocator + Copy, K: Sink>(
     campaign: Campaign,
     ends: &[SeedEnd<A>],
     sink: &mut K,
-) -> Result<(), RunFault>
+) -> Result<(), CommandFault>
     requires sink_counts { K.failures sink.old < 2 ^ 64 - 1 }
     ensures written { IfOk result (λ _. Appends (K.held sink.old) (K.held sink.new)
         (entries_of campaign.report campaign.expect.exit (map end_of ends.now))) }
@@ -63,11 +63,11 @@ fn write_lines<A: Allocator + Copy, K: Sink>(
     let mut text = String::new(alloc);
     match push_lines(&mut text, campaign.report, campaign.expect, ends) {
         Ok(()) => {}
-        Err(AllocError) => return Err(RunFault::Memory),
+        Err(AllocError) => return Err(CommandFault::Memory),
     }
     match write_all(sink, text.as_bytes()) {
         Ok(()) => Ok(()),
-        Err(_) => Err(RunFault::Write),
+        Err(_) => Err(CommandFault::Write),
     }
 }
 
@@ -76,15 +76,15 @@ fn count_block<A: Allocator + Copy>(
     alloc: A,
     tally: &mut Tally<A>,
     ends: &[SeedEnd<A>],
-) -> Result<(), RunFault>
+) -> Result<(), CommandFault>
     requires { seeds_in (rows_of tally.old) + length ends.now < 2 ^ 64 }
     ensures counted { IfOk result (λ _.
         rows_of tally.new ≡ tally_onto (rows_of tally.old) (map end_of ends.now)) }
-    ensures fault { IfErr result (λ fault. fault ≡ RunFault.Memory) }
+    ensures fault { IfErr result (λ fault. fault ≡ CommandFault.Memory) }
 {
     match count_ends_of(alloc, tally, ends) {
         Ok(()) => Ok(()),
-        Err(AllocError) => Err(RunFault::Memory),
+        Err(AllocError) => Err(CommandFault::Memory),
     }
 }
 
@@ -96,7 +96,7 @@ pub fn record_block<A: Allocator + Copy, K: Sink>(
     ends: &[SeedEnd<A>],
     tally: &mut Tally<A>,
     sink: &mut K,
-) -> Result<(), RunFault>
+) -> Result<(), CommandFault>
     requires fits { seeds_in (rows_of tally.old) + length ends.now < 2 ^ 64 }
     requires sink_counts { K.failures sink.old < 2 ^ 64 - 1 }
     ensures written { IfOk result (λ _. Appends (K.held sink.old) (K.held sink.new)

@@ -1,6 +1,5 @@
--- What `shrink` writes: the text of a minimal list of choices that fails as the given one does.
-use Rattle.std.specs.Prelude.{◌≡◌, ℕ, List, length, take, Option, Some, None}
-use Rattle.std.specs.Io.KnownBytes.{Appends}
+-- What `shrink` answers: the text of a minimal list of choices that fails as the given one does.
+use Rattle.std.specs.Prelude.{◌≡◌, ℕ, List, length, Option, Some, None}
 use Rattle.std.specs.declared.result.Result.TheVariants.{Ok, Err}
 use Rattle.program_images.specs.Image.{ImageValue}
 use Rattle.machine.specs.declared.choice.Choice.{Choice}
@@ -9,11 +8,11 @@ use Rattle.choice_texts.specs.Reading.{choices_of}
 use Rattle.choice_shrinking.specs.Less.{IsLess}
 use Rattle.choice_shrinking.specs.Minimal.{IsMinimal}
 use Rattle.programs.specs.Opening.{Opened}
+use Rattle.programs.specs.declared.command_fault.CommandFault.{CommandFault}
+use Rattle.programs.specs.declared.command_fault.CommandFault.TheVariants as fault
 use Rattle.outcome.specs.declared.expect.Expect.{Expect}
 use Rattle.cmd_shrink.specs.Failure.{failure_after, RunFailsSo}
 use Rattle.cmd_shrink.specs.declared.failure.Failure.{Failure}
-use Rattle.cmd_shrink.specs.declared.fault.ShrinkFault.{ShrinkFault}
-use Rattle.cmd_shrink.specs.declared.fault.ShrinkFault.TheVariants as engine
 
 -- a text is that of a list of choices which is the given one with choices left out and marks taken
 -- away, whose run fails as the given one's does, and in which each choice and each mark is needed
@@ -28,25 +27,17 @@ pub record IsShrunk (expect : Expect) (image : ImageValue) (inputs : List ℕ) (
   pub printed : text ≡ runs_text choices
   pub read : choices_of (length inputs) text ≡ Ok choices
 
--- such a text was appended
-abbrev pub Shrinks : Expect → List ℕ → Opened → Option (List ℕ) → Option (List ℕ) → Type 0
-Shrinks expect inputs (Ok opened) old new =
-    (text : List ℕ) × IsShrunk expect opened.0 inputs opened.1 text × Appends old new text
-Shrinks expect inputs (Err why) old new = ⊥
+-- a text is such a one of what a run begins with
+abbrev pub Shrinks : Expect → List ℕ → Opened → List ℕ → Type 0
+Shrinks expect inputs (Ok opened) text = IsShrunk expect opened.0 inputs opened.1 text
+Shrinks expect inputs (Err why) text = ⊥
 
--- a beginning of such a text was appended
-abbrev pub BeginsToShrink : Expect → List ℕ → Opened → Option (List ℕ) → Option (List ℕ) → Type 0
-BeginsToShrink expect inputs (Ok opened) old new =
-    (text : List ℕ) × IsShrunk expect opened.0 inputs opened.1 text × ((n : ℕ) × Appends old new (take n text))
-BeginsToShrink expect inputs (Err why) old new = ⊥
-
--- why nothing is written of a run that fails or doesn't
-abbrev pub refusal_of : Option Failure → Option ShrinkFault
-refusal_of None = Some engine.NothingFails
+-- why there is no text of a run that fails or doesn't
+abbrev pub refusal_of : Option Failure → Option CommandFault
+refusal_of None = Some fault.NothingFails
 refusal_of (Some how) = None
 
--- why nothing is written, by what a run begins with: a fault of what was read, or that nothing
--- fails
-abbrev pub refusal : Expect → List ℕ → Opened → Option ShrinkFault
+-- why there is no text, by what a run begins with: a fault of what was read, or that nothing fails
+abbrev pub refusal : Expect → List ℕ → Opened → Option CommandFault
 refusal expect inputs (Ok opened) = refusal_of (failure_after expect opened.0 inputs opened.1)
-refusal expect inputs (Err why) = Some (engine.Run why)
+refusal expect inputs (Err why) = Some why

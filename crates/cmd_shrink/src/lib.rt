@@ -1,9 +1,8 @@
-//! `shrink`, over any sources and any sink: how a run fails, and a minimal choice text whose run
+//! `shrink`, over any sources: how a run fails, and a minimal choice text whose run
 //! fails in the same way.
 #![tactic(auto)]
 
 pub use failure::Failure;
-pub use fault::ShrinkFault;
 pub use hanging::{FEWEST_STEPS, hangs_after, steps_for};
 pub use laws::failing_run_fails_so;
 pub use run_failure::failure_after;
@@ -11,7 +10,6 @@ pub use same_failure::SameFailure;
 pub use shrink::shrink_engine;
 
 mod failure;
-mod fault;
 mod going_on;
 mod hanging;
 mod laws;

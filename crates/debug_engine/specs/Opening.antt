@@ -8,9 +8,9 @@ use Rattle.program_images.specs.Image.{ImageValue}
 use Rattle.machine.specs.declared.choice.Choice.{Choice}
 use Rattle.debugger.specs.Session.{Session}
 use Rattle.programs.specs.Opening.{Opened, opening}
-use Rattle.programs.specs.RunFaults.{status_of_fault}
+use Rattle.programs.specs.CommandFaults.{status_of_fault}
 use Rattle.programs.specs.declared.program.ProgramForm.TheVariants as form
-use Rattle.programs.specs.declared.run_fault.RunFault.{RunFault}
+use Rattle.programs.specs.declared.command_fault.CommandFault.{CommandFault}
 use Rattle.devices.specs.declared.status.Status.{Status}
 use Rattle.devices.specs.declared.status.Status.TheVariants as status
 use Rattle.debug_engine.specs.Talk.{answers, Begins}
@@ -19,7 +19,7 @@ use Rattle.debug_engine.specs.declared.fault.DebugEngineFault.TheVariants as eng
 
 -- a session, or why there is none
 abbrev pub Opening : Type 0
-Opening = Result Session RunFault
+Opening = Result Session CommandFault
 
 -- a session at the start, without breakpoints and watches
 abbrev pub first_session : ImageValue → List ℕ → List Choice → Session
@@ -46,7 +46,7 @@ BeginsToAnswer (Ok s) commands old new = Begins old new (answers s (lines comman
 BeginsToAnswer (Err why) commands old new = ⊥
 
 -- a fact that holds where no session was begun
-abbrev pub IfUnopened : DebugEngineFault → (RunFault → Type 0) → Type 0
+abbrev pub IfUnopened : DebugEngineFault → (CommandFault → Type 0) → Type 0
 IfUnopened (engine.Refused why) P = P why
 IfUnopened why P = Unit {0}
 

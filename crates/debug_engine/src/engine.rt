@@ -1,10 +1,10 @@
 //! `debug`: a program, inputs and a list of choices in; then commands in, and an answer out for each.
 
-ghost use Rattle.std.specs.Prelude.{◌≡◌, ◌≢◌, ◌^◌, ◌-◌, ◌<◌, Ok, Err, IfOk, IfErr, IfSome, length};
+ghost use Rattle.std.specs.Prelude.{◌≡◌, ◌^◌, ◌-◌, ◌<◌, Ok, Err, IfOk, IfErr, IfSome, length};
 ghost use Rattle.std.specs.Io.KnownBytes.{Keeps};
 ghost use Rattle.programs.specs.Program.{program_of};
 ghost use Rattle.machine.specs.Start.{IsStartable};
-ghost use Rattle.programs.specs.RunFaults.{IfReads, IsRefusal};
+ghost use Rattle.programs.specs.CommandFaults.{IfNames, IsRefusal};
 ghost use Rattle.program_images.specs.Image.{ImageValue};
 ghost use Rattle.debug_engine.specs.Opening.{opened, Answers, BeginsToAnswer, IfCut, IfUnopened};
 
@@ -12,7 +12,7 @@ use crate::conversation::{TalkFault, talk};
 use crate::fault::DebugEngineFault;
 use crate::opening::open_session;
 use devices::{Sink, Source, Status};
-use programs::{Input, ProgramForm, RunFault, open_run};
+use programs::{CommandFault, Input, ProgramForm, open_run};
 use progress::Progress;
 use std::alloc::{AllocError, Allocator};
 
@@ -48,17 +48,16 @@ pub fn debug_engine<A: Allocator + Copy, P: Source, C: Source, S: Source, K: Sin
     ensures unread { IfErr result (λ fault. IfUnopened fault (λ _.
         Keeps (S.left commands.old) (S.left commands.new))) }
     // A device is named only where it failed.
-    ensures read { IfErr result (λ fault. IfUnopened fault (λ why. IfReads why
+    ensures read { IfErr result (λ fault. IfUnopened fault (λ why. IfNames why
         (P.failures program.old < P.failures program.new)
-        (C.failures choices.old < C.failures choices.new))) }
+        (C.failures choices.old < C.failures choices.new) ⊥ ⊥)) }
     // A fault of the program comes before one of the device that the choices are read from.
-    ensures program_first { result ≡ Err (DebugEngineFault.Refused (RunFault.Read Input.Choices))
+    ensures program_first { result ≡ Err (DebugEngineFault.Refused (CommandFault.Read Input.Choices))
         → IfSome (P.left program.old) (λ p.
         (image : ImageValue) × (program_of ProgramForm.Elf p ≡ Ok image)) }
     // And so does the fault of the number of inputs.
-    ensures inputs_first { result ≡ Err (DebugEngineFault.Refused (RunFault.Read Input.Choices))
+    ensures inputs_first { result ≡ Err (DebugEngineFault.Refused (CommandFault.Read Input.Choices))
         → IsStartable inputs.now }
-    ensures sink_unnamed { IfErr result (λ fault. IfUnopened fault (λ why. why ≢ RunFault.Write)) }
     ensures commands { result ≡ Err DebugEngineFault.Commands
         → S.failures commands.old < S.failures commands.new }
     ensures write { result ≡ Err DebugEngineFault.Answers
@@ -75,7 +74,7 @@ pub fn debug_engine<A: Allocator + Copy, P: Source, C: Source, S: Source, K: Sin
     };
     let mut debugger = match open_session(alloc, run, inputs, progress) {
         Ok(debugger) => debugger,
-        Err(AllocError) => return Err(DebugEngineFault::Refused(RunFault::Memory)),
+        Err(AllocError) => return Err(DebugEngineFault::Refused(CommandFault::Memory)),
     };
     match talk(alloc, &mut debugger, commands, sink) {
         Ok(()) => Ok(Status::Done),

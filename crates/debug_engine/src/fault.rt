@@ -4,7 +4,7 @@ ghost use Rattle.std.specs.Prelude.{◌≡◌};
 ghost use Rattle.debug_engine.specs.Opening.{status_of};
 
 use devices::Status;
-use programs::RunFault;
+use programs::CommandFault;
 use thiserror::Error;
 
 /// Why a session isn't held to its end. The text of each is what stands after `rvcons: ` on standard error, but that the
@@ -13,7 +13,7 @@ use thiserror::Error;
 pub enum DebugEngineFault {
     /// No session is begun: a run of the same program, inputs and choice text would be refused so.
     #[error("{0}")]
-    Refused(RunFault),
+    Refused(CommandFault),
     /// The commands can't be read.
     #[error("cannot read -")]
     Commands,

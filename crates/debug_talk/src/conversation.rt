@@ -10,7 +10,7 @@ use devices::{MemorySource, ReadFault, Source, Status, read_all};
 use fault_advice::symbols_or_none;
 use loader::Symbol;
 use program_images::Image;
-use programs::{Input as InputFile, ProgramForm, RunFault, open_run, read_program};
+use programs::{CommandFault, Input as InputFile, ProgramForm, open_run, read_program};
 use progress::Progress;
 use std::alloc::{AllocError, Global};
 use std::io::{self, Input};
@@ -51,7 +51,7 @@ pub(crate) fn talk_to_person<R: AllocGlobal + Print + Input, P: Source, C: Sourc
     let bytes = match read_all(rt.alloc(), program) {
         Ok(bytes) => bytes,
         Err(ReadFault::Device) => {
-            return Err(DebugEngineFault::Refused(RunFault::Read(InputFile::File)));
+            return Err(DebugEngineFault::Refused(CommandFault::Read(InputFile::File)));
         }
         Err(ReadFault::Memory) => return Err(DebugEngineFault::Memory),
     };
@@ -62,7 +62,7 @@ pub(crate) fn talk_to_person<R: AllocGlobal + Print + Input, P: Source, C: Sourc
     };
     let mut debugger = match open_session(rt.alloc(), run, inputs, progress) {
         Ok(debugger) => debugger,
-        Err(AllocError) => return Err(DebugEngineFault::Refused(RunFault::Memory)),
+        Err(AllocError) => return Err(DebugEngineFault::Refused(CommandFault::Memory)),
     };
     let image = match read_program(rt.alloc(), ProgramForm::Elf, &bytes) {
         Ok(image) => image,

@@ -5,13 +5,9 @@ use command_line::read_inputs;
 use command_orders::DebugOrder;
 use debug_engine::{DebugEngineFault, debug_engine};
 use devices::{ReaderSource, Status, WriterSink};
-use programs::{Input as InputFile, ProgramForm, RunFault};
+use programs::ProgramForm;
 use progress::Progress;
-use reports::{
-    Audience, RunFiles, WIPE, cannot_open, cannot_read, explain_run, out_of_memory, refuse,
-    wipe_line,
-};
-use std::fs;
+use reports::{Audience, RunFiles, WIPE, open_both, out_of_memory, refuse, say_why, wipe_line};
 use std::io::{self, BufReader, Input};
 use std::rt::Files;
 
@@ -47,16 +43,10 @@ pub fn converse<R: Files + AllocGlobal + Print + Eprint + Input>(
         Ok(inputs) => inputs,
         Err(fault) => return refuse(rt, &fault),
     };
-    let program = match fs::open(rt, order.file) {
-        Ok(program) => program,
-        Err(error) => return cannot_open(rt, audience, order.file, &error),
+    let (mut program, mut choices) = match open_both(rt, audience, order.file, order.choices) {
+        Ok(files) => files,
+        Err(status) => return status,
     };
-    let choices = match fs::open(rt, order.choices) {
-        Ok(choices) => choices,
-        Err(error) => return cannot_open(rt, audience, order.choices, &error),
-    };
-    let mut program = ReaderSource::new(program);
-    let mut choices = ReaderSource::new(choices);
     let mut line = Line { rt, audience };
     if talk == Audience::Person {
         return match talk_to_person(rt, inputs.as_slice(), &mut program, &mut choices, &mut line) {
@@ -91,24 +81,16 @@ fn tell<R: Files + AllocGlobal + Eprint>(
     fault: DebugEngineFault,
     harts: usize,
 ) -> Status {
-    match fault {
-        DebugEngineFault::Refused(RunFault::Read(InputFile::File)) => cannot_read(rt, order.file),
-        DebugEngineFault::Refused(RunFault::Read(InputFile::Choices)) => {
-            cannot_read(rt, order.choices)
-        }
-        fault => {
-            // Where standard error is closed, the status alone tells.
-            let _ = eprintln!(rt; "rvcons: {fault}");
-            if let DebugEngineFault::Refused(why) = fault {
-                let files = RunFiles {
-                    program: order.file,
-                    form: ProgramForm::Elf,
-                    choices: order.choices,
-                    harts,
-                };
-                explain_run(rt, audience, files, why);
-            }
-            fault.status()
-        }
-    }
+    let DebugEngineFault::Refused(why) = fault else {
+        // Where standard error is closed, the status alone tells.
+        let _ = eprintln!(rt; "rvcons: {fault}");
+        return fault.status();
+    };
+    let files = RunFiles {
+        program: order.file,
+        form: ProgramForm::Elf,
+        choices: order.choices,
+        harts,
+    };
+    say_why(rt, audience, files, why)
 }

@@ -1,8 +1,8 @@
 //! What no clause says: a file that is shown and run by campaigns, with devices that work and that fail.
 use cmd_campaign::campaign_engine;
 use engines::{
-    Exit, Expect, Failing, FileView, FullSink, Input, MemorySink, MemorySource, ProgramForm,
-    RunFault, Status, file_engine, run_engine,
+    CommandFault, Exit, Expect, Failing, FileView, FullSink, Input, MemorySink, MemorySource,
+    ProgramForm, Status, deliver, file_engine, run_engine,
 };
 use progress::Unheard;
 use std::alloc::Global;
@@ -26,10 +26,10 @@ const LISTING: &str =
     "# segment 00010000 8\naddi a7, zero, 93  # 00010000 05d00893\necall  # 00010004 00000073\n";
 
 // What is shown of the file, how many reads of it pass, and how that ends. Nine reads are ample.
-const SHOWN: [(FileView, u64, Result<Status, RunFault>, &str); 3] = [
+const SHOWN: [(FileView, u64, Result<Status, CommandFault>, &str); 3] = [
     (FileView::Facts, 9, Ok(Status::Done), FACTS),
     (FileView::Listing, 9, Ok(Status::Done), LISTING),
-    (FileView::Facts, 0, Err(RunFault::Read(Input::File)), ""),
+    (FileView::Facts, 0, Err(CommandFault::Read(Input::File)), ""),
 ];
 
 // How a view of the file ends that is written, and whether this is written.
@@ -38,10 +38,11 @@ fn shown(
     view: FileView,
     passed: u64,
     text: &str,
-) -> (Result<Status, RunFault>, bool) {
+) -> (Result<Status, CommandFault>, bool) {
     let mut file = Failing::new(MemorySource::new(&EXITS), passed);
     let mut sink = MemorySink::new(alloc);
-    let ending = file_engine(alloc, view, &mut file, &mut sink);
+    let answer = file_engine(alloc, view, &mut file);
+    let ending = deliver(&mut sink, answer);
     (ending, sink.bytes() == text.as_bytes())
 }
 
@@ -56,14 +57,15 @@ fn a_file_is_shown(rt: HostRuntime) {
 }
 
 // How a view of the file ends that a full sink should take.
-fn shown_in_vain(alloc: Global) -> Result<Status, RunFault> {
+fn shown_in_vain(alloc: Global) -> Result<Status, CommandFault> {
     let mut file = MemorySource::new(&EXITS);
-    file_engine(alloc, FileView::Facts, &mut file, &mut FullSink::new())
+    let answer = file_engine(alloc, FileView::Facts, &mut file);
+    deliver(&mut FullSink::new(), answer)
 }
 
 #[test]
 fn a_full_sink_is_told(rt: HostRuntime) {
-    assert!(rt; shown_in_vain(rt.alloc()) == Err(RunFault::Write));
+    assert!(rt; shown_in_vain(rt.alloc()) == Err(CommandFault::Write));
 }
 
 // Whether the file's run ends so.
@@ -71,7 +73,7 @@ fn is_run(alloc: Global, text: &str) -> bool {
     let mut program = MemorySource::new(&EXITS);
     let mut choices = MemorySource::new(b"0 0");
     let mut sink = MemorySink::new(alloc);
-    let ending = run_engine(
+    let answer = run_engine(
         alloc,
         ProgramForm::Elf,
         &[7],
@@ -81,8 +83,8 @@ fn is_run(alloc: Global, text: &str) -> bool {
         },
         &mut program,
         &mut choices,
-        &mut sink,
     );
+    let ending = deliver(&mut sink, answer);
     ending == Ok(Status::Done) && sink.bytes() == text.as_bytes()
 }
 
@@ -97,7 +99,7 @@ struct Campaign {
     first: u32,
     count: u32,
     steps: u64,
-    ending: Result<Status, RunFault>,
+    ending: Result<Status, CommandFault>,
     text: &'static str,
 }
 
@@ -105,7 +107,7 @@ struct Campaign {
 const CAMPAIGNS: [Campaign; 2] = [
     Campaign { inputs: &[7], first: 5, count: 3, steps: 2, ending: Ok(Status::Done),
         text: "seed 5 exited 1 faulted 0 running 0\nseed 6 exited 1 faulted 0 running 0\nseed 7 exited 1 faulted 0 running 0\n" },
-    Campaign { inputs: &[], first: 0, count: 0, steps: 0, ending: Err(RunFault::NoHarts), text: "" },
+    Campaign { inputs: &[], first: 0, count: 0, steps: 0, ending: Err(CommandFault::NoHarts), text: "" },
 ];
 
 // Whether a campaign ends as wanted.

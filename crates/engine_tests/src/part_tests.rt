@@ -1,8 +1,8 @@
 //! What no clause says: printed texts, words from another source, and failing devices.
 use choice_texts::ChoiceFault;
 use engines::{
-    DeviceFault, Exit, Expect, Failing, FullSink, HexFault, Input, MemorySink, MemorySource,
-    ReadFault, ReaderSource, RunFault, Status, WriterSink, ends_text, hex_image, read_all,
+    CommandFault, DeviceFault, Exit, Expect, Failing, FullSink, HexFault, Input, MemorySink,
+    MemorySource, ReadFault, ReaderSource, Status, WriterSink, ends_text, hex_image, read_all,
     read_hex, write_all,
 };
 use hart_step::{Cause, Hart, HartState};
@@ -303,17 +303,17 @@ fn a_failing_device_is_told(rt: HostRuntime) {
 // Why a run is refused, in its own words or in those of what it stands on.
 #[derive(Clone, Copy)]
 enum Why {
-    Run(RunFault),
+    Run(CommandFault),
     Hex(HexFault),
     Choice(ChoiceFault),
 }
 
 impl Why {
-    fn fault(self) -> RunFault {
+    fn fault(self) -> CommandFault {
         match self {
             Why::Run(fault) => fault,
-            Why::Hex(fault) => RunFault::from(fault),
-            Why::Choice(fault) => RunFault::from(fault),
+            Why::Hex(fault) => CommandFault::from(fault),
+            Why::Choice(fault) => CommandFault::from(fault),
         }
     }
 }
@@ -323,18 +323,18 @@ impl Why {
 const FAULTS: [(Why, &str, u8); 10] = [
     (Why::Hex(HexFault::BadWord(3)), "hex fault BadWord at 3", 1),
     (Why::Hex(HexFault::TooMany(2048)), "hex fault TooMany at 2048", 1),
-    (Why::Run(RunFault::NoHarts), "start fault 1 NoHarts", 1),
-    (Why::Run(RunFault::TooManyHarts), "start fault 2 TooManyHarts", 1),
+    (Why::Run(CommandFault::NoHarts), "start fault 1 NoHarts", 1),
+    (Why::Run(CommandFault::TooManyHarts), "start fault 2 TooManyHarts", 1),
     (Why::Choice(ChoiceFault::BadChoice(0)), "choice fault BadChoice at 0", 1),
     (Why::Choice(ChoiceFault::NoHart(2)), "choice fault NoHart at 2", 1),
-    (Why::Run(RunFault::Read(Input::Choices)), "cannot read", 1),
-    (Why::Run(RunFault::Write), "cannot write -", 1),
+    (Why::Run(CommandFault::Read(Input::Choices)), "cannot read", 1),
+    (Why::Run(CommandFault::Write), "cannot write -", 1),
     (Why::Choice(ChoiceFault::Memory), "out of memory", 5),
     (Why::Hex(HexFault::Memory), "out of memory", 5),
 ];
 
 // Whether a fault has this text.
-fn has_text(alloc: Global, fault: RunFault, wanted: &str) -> Result<bool, AllocError> {
+fn has_text(alloc: Global, fault: CommandFault, wanted: &str) -> Result<bool, AllocError> {
     let text = format!(in alloc; "{fault}")?;
     Ok(text.as_str() == wanted)
 }

@@ -1,8 +1,8 @@
 //! What no clause says of replays: worked histories of the objects' files, and failing devices.
 use crate::object_files::object_file;
-use engines::{Failing, FullSink, Input, MemorySink, MemorySource, RunFault, Status};
+use engines::{CommandFault, Failing, FullSink, Input, MemorySink, MemorySource, Status, deliver};
 use protocol_library::Kind;
-use replay_engine::{ReplayFault, replay_engine};
+use replay_engine::replay_engine;
 use std::alloc::Global;
 
 // An object, the inputs, the rule, the history, and what is printed or why not.
@@ -12,7 +12,7 @@ struct Worked {
     inputs: &'static [u32],
     rule: Option<Kind>,
     history: &'static str,
-    answer: Result<(&'static str, Status), ReplayFault>,
+    answer: Result<(&'static str, Status), CommandFault>,
 }
 
 // The ends are those that another simulator printed of the same files, hart by hart and step by step.
@@ -41,15 +41,15 @@ static WORKED: [Worked; 16] = [
     Worked { name: "a_hart_that_has_ended_stays", kind: Kind::Swap, inputs: &[7], rule: None, history: "0+100000 0+0!",
         answer: Ok(("hart 0 exited a0 00000007 a1 00000001\n", Status::Done)) },
     Worked { name: "entry_without_a_count", kind: Kind::Swap, inputs: &[7, 9], rule: None, history: "0+1 0",
-        answer: Err(ReplayFault::BadEntry(4)) },
+        answer: Err(CommandFault::BadEntry(4)) },
     Worked { name: "count_of_33_bits", kind: Kind::Swap, inputs: &[7, 9], rule: None, history: "9+4294967296",
-        answer: Err(ReplayFault::BadEntry(0)) },
+        answer: Err(CommandFault::BadEntry(0)) },
     Worked { name: "entry_of_no_hart", kind: Kind::Swap, inputs: &[7, 9], rule: None, history: "0+1 2+0",
-        answer: Err(ReplayFault::NoHart(4)) },
+        answer: Err(CommandFault::NoHartOfEntry(4)) },
     Worked { name: "no_harts_before_a_bad_entry", kind: Kind::Swap, inputs: &[], rule: None, history: "x",
-        answer: Err(ReplayFault::Run(RunFault::NoHarts)) },
+        answer: Err(CommandFault::NoHarts) },
     Worked { name: "thirty_three_harts_before_a_bad_entry", kind: Kind::Swap, inputs: &[1; 33], rule: None, history: "x",
-        answer: Err(ReplayFault::Run(RunFault::TooManyHarts)) },
+        answer: Err(CommandFault::TooManyHarts) },
 ];
 
 // Whether a replay of an object's file ends so: its end, or why it is refused, where nothing is printed; nothing where there is no file.
@@ -58,14 +58,8 @@ fn is_worked(alloc: Global, row: &Worked) -> Option<bool> {
     let mut program = MemorySource::new(&file);
     let mut history = MemorySource::new(row.history.as_bytes());
     let mut sink = MemorySink::new(alloc);
-    let ending = replay_engine(
-        alloc,
-        row.inputs,
-        row.rule,
-        &mut program,
-        &mut history,
-        &mut sink,
-    );
+    let answer = replay_engine(alloc, row.inputs, row.rule, &mut program, &mut history);
+    let ending = deliver(&mut sink, answer);
     Some(match row.answer {
         Ok((text, status)) => ending == Ok(status) && sink.bytes() == text.as_bytes(),
         Err(fault) => ending == Err(fault) && sink.bytes().is_empty(),
@@ -91,24 +85,25 @@ struct Passed {
 
 // Inputs that fail, and the fault that is told.
 #[rattlefmt::skip]
-const FAILING: [(&str, Passed, ReplayFault); 4] = [
-    ("the program", Passed { program: 0, history: 9 }, ReplayFault::Run(RunFault::Read(Input::File))),
-    ("the program at its end", Passed { program: 1, history: 9 }, ReplayFault::Run(RunFault::Read(Input::File))),
-    ("the history", Passed { program: 9, history: 0 }, ReplayFault::History),
-    ("the history at its end", Passed { program: 9, history: 1 }, ReplayFault::History),
+const FAILING: [(&str, Passed, CommandFault); 4] = [
+    ("the program", Passed { program: 0, history: 9 }, CommandFault::Read(Input::File)),
+    ("the program at its end", Passed { program: 1, history: 9 }, CommandFault::Read(Input::File)),
+    ("the history", Passed { program: 9, history: 0 }, CommandFault::Read(Input::History)),
+    ("the history at its end", Passed { program: 9, history: 1 }, CommandFault::Read(Input::History)),
 ];
 
 // Whether this fault is told of a replay of a file where inputs fail, and nothing is printed.
-fn is_fault(alloc: Global, file: &[u8], passed: Passed, fault: ReplayFault) -> bool {
+fn is_fault(alloc: Global, file: &[u8], passed: Passed, fault: CommandFault) -> bool {
     let mut program = Failing::new(MemorySource::new(file), passed.program);
     let mut history = Failing::new(MemorySource::new(HISTORY), passed.history);
     let mut sink = MemorySink::new(alloc);
-    let ending = replay_engine(alloc, &[7, 9], None, &mut program, &mut history, &mut sink);
+    let answer = replay_engine(alloc, &[7, 9], None, &mut program, &mut history);
+    let ending = deliver(&mut sink, answer);
     ending == Err(fault) && sink.bytes().is_empty()
 }
 
 // And of the file of Swap; nothing where there is no file.
-fn is_told(alloc: Global, passed: Passed, fault: ReplayFault) -> Option<bool> {
+fn is_told(alloc: Global, passed: Passed, fault: CommandFault) -> Option<bool> {
     let file = object_file(alloc, Kind::Swap).ok()?;
     Some(is_fault(alloc, &file, passed, fault))
 }
@@ -124,23 +119,17 @@ fn a_failing_input_is_named(rt: HostRuntime) {
 }
 
 // How a replay ends that a full sink should take; nothing where there is no file.
-fn replayed_in_vain(alloc: Global) -> Option<Result<Status, ReplayFault>> {
+fn replayed_in_vain(alloc: Global) -> Option<Result<Status, CommandFault>> {
     let file = object_file(alloc, Kind::Swap).ok()?;
     let mut program = MemorySource::new(&file);
     let mut history = MemorySource::new(HISTORY);
-    let ending = replay_engine(
-        alloc,
-        &[7, 9],
-        None,
-        &mut program,
-        &mut history,
-        &mut FullSink::new(),
-    );
+    let answer = replay_engine(alloc, &[7, 9], None, &mut program, &mut history);
+    let ending = deliver(&mut FullSink::new(), answer);
     Some(ending)
 }
 
 #[test]
 fn a_failing_output_is_told(rt: HostRuntime) {
-    let told = Err(ReplayFault::Run(RunFault::Write));
+    let told = Err(CommandFault::Write);
     assert!(rt; replayed_in_vain(rt.alloc()) == Some(told));
 }

@@ -2,8 +2,8 @@
 use crate::object_files::object_file;
 use cmd_campaign::{Finished, campaign_engine};
 use engines::{
-    Exit, Expect, FileView, MemorySink, MemorySource, ProgramForm, RunFault, Status, file_engine,
-    run_engine, source_engine,
+    CommandFault, Exit, Expect, FileView, MemorySink, MemorySource, ProgramForm, Status, deliver,
+    file_engine, run_engine, write_text,
 };
 use progress::Unheard;
 use protocol_library::{Kind, source};
@@ -97,7 +97,7 @@ fn is_worked(alloc: Global, row: &Worked) -> Option<bool> {
     let mut program = MemorySource::new(&file);
     let mut choices = MemorySource::new(row.choices.as_bytes());
     let mut sink = MemorySink::new(alloc);
-    let ending = run_engine(
+    let answer = run_engine(
         alloc,
         ProgramForm::Elf,
         row.inputs,
@@ -107,8 +107,8 @@ fn is_worked(alloc: Global, row: &Worked) -> Option<bool> {
         },
         &mut program,
         &mut choices,
-        &mut sink,
     );
+    let ending = deliver(&mut sink, answer);
     Some(ending == Ok(row.status) && sink.bytes() == row.text.as_bytes())
 }
 
@@ -136,11 +136,11 @@ fn printed(
     kind: Kind,
     file: &[u8],
     text: &str,
-) -> (Result<Status, RunFault>, MemorySink<Global>) {
+) -> (Result<Status, CommandFault>, MemorySink<Global>) {
     let mut program = MemorySource::new(file);
     let mut choices = MemorySource::new(text.as_bytes());
     let mut sink = MemorySink::new(alloc);
-    let ending = run_engine(
+    let answer = run_engine(
         alloc,
         ProgramForm::Elf,
         &[7, 9],
@@ -150,8 +150,8 @@ fn printed(
         },
         &mut program,
         &mut choices,
-        &mut sink,
     );
+    let ending = deliver(&mut sink, answer);
     (ending, sink)
 }
 
@@ -177,14 +177,14 @@ fn counts_are_the_choices_written_out(rt: HostRuntime) {
 }
 
 // Texts with a bad item behind counts, and the fault.
-const BAD_ITEMS: [(&str, RunFault); 3] = [
-    ("0*100 x", RunFault::BadChoice(6)),
-    ("1*16777216 0*16777217", RunFault::BadChoice(11)),
-    ("0*20 1*20 2", RunFault::NoHart(10)),
+const BAD_ITEMS: [(&str, CommandFault); 3] = [
+    ("0*100 x", CommandFault::BadChoice(6)),
+    ("1*16777216 0*16777217", CommandFault::BadChoice(11)),
+    ("0*20 1*20 2", CommandFault::NoHart(10)),
 ];
 
 // Whether this fault is told of a text, and nothing is printed; nothing where there is no file.
-fn is_told(alloc: Global, text: &str, fault: RunFault) -> Option<bool> {
+fn is_told(alloc: Global, text: &str, fault: CommandFault) -> Option<bool> {
     let file = object_file(alloc, Kind::Swap).ok()?;
     let (ending, sink) = printed(alloc, Kind::Swap, &file, text);
     Some(ending == Err(fault) && sink.bytes().is_empty())
@@ -212,7 +212,8 @@ fn has_facts(alloc: Global, kind: Kind, text: &str) -> Option<bool> {
     let file = object_file(alloc, kind).ok()?;
     let mut program = MemorySource::new(&file);
     let mut sink = MemorySink::new(alloc);
-    let ending = file_engine(alloc, FileView::Facts, &mut program, &mut sink);
+    let answer = file_engine(alloc, FileView::Facts, &mut program);
+    let ending = deliver(&mut sink, answer);
     Some(ending == Ok(Status::Done) && sink.bytes() == text.as_bytes())
 }
 
@@ -226,8 +227,8 @@ fn info_names_the_object(rt: HostRuntime) {
 // Whether an object's source is written.
 fn is_written(alloc: Global, kind: Kind) -> bool {
     let mut sink = MemorySink::new(alloc);
-    let ending = source_engine(kind, &mut sink);
-    ending == Ok(Status::Done) && sink.bytes() == source(kind).as_bytes()
+    let written = write_text(&mut sink, source(kind).as_bytes());
+    written == Ok(()) && sink.bytes() == source(kind).as_bytes()
 }
 
 #[test]

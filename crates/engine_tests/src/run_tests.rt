@@ -1,7 +1,7 @@
 //! What no clause says: worked programs, run to their printed ends.
 use engines::{
-    Exit, Expect, Failing, FullSink, Input, MemorySink, MemorySource, ProgramForm, RunFault,
-    Status, run_engine,
+    CommandFault, Exit, Expect, Failing, FullSink, Input, MemorySink, MemorySource, ProgramForm,
+    Status, deliver, run_engine,
 };
 use refusing::Refusing;
 use std::alloc::{Allocator, Global};
@@ -12,7 +12,7 @@ struct Worked {
     program: &'static str,
     inputs: &'static [u32],
     choices: &'static str,
-    answer: Result<(&'static str, Status), RunFault>,
+    answer: Result<(&'static str, Status), CommandFault>,
 }
 
 #[rattlefmt::skip]
@@ -73,49 +73,49 @@ static WORKED: [Worked; 64] = [
         answer: Ok(("hart 0 exited a0 00000005 a1 00000003\n", Status::Done)) },
     Worked { name: "choice_with_two_marks", program: "0000006F",
         inputs: &[7, 9], choices: "0!!",
-        answer: Err(RunFault::BadChoice(0)) },
+        answer: Err(CommandFault::BadChoice(0)) },
     Worked { name: "empty_choice_text", program: "0000006F",
         inputs: &[7, 9], choices: "",
         answer: Ok(("hart 0 running pc 00010000\nhart 1 running pc 00010000\n", Status::Done)) },
     Worked { name: "choice_of_no_hart", program: "0000006F",
         inputs: &[7, 9], choices: "0 2",
-        answer: Err(RunFault::NoHart(2)) },
+        answer: Err(CommandFault::NoHart(2)) },
     Worked { name: "choice_text_with_mark", program: "0000006F",
         inputs: &[7, 9], choices: "0 1 0!",
         answer: Ok(("hart 0 running pc 00010000\nhart 1 running pc 00010000\n", Status::Done)) },
     Worked { name: "choice_with_leading_zero", program: "0000006F",
         inputs: &[7, 9], choices: "01",
-        answer: Err(RunFault::BadChoice(0)) },
+        answer: Err(CommandFault::BadChoice(0)) },
     Worked { name: "choices_with_comma", program: "0000006F",
         inputs: &[7], choices: "0,1",
-        answer: Err(RunFault::BadChoice(0)) },
+        answer: Err(CommandFault::BadChoice(0)) },
     Worked { name: "negative_choice", program: "0000006F",
         inputs: &[7], choices: "0 -1",
-        answer: Err(RunFault::BadChoice(2)) },
+        answer: Err(CommandFault::BadChoice(2)) },
     Worked { name: "mark_alone", program: "0000006F",
         inputs: &[7], choices: "0  !",
-        answer: Err(RunFault::BadChoice(3)) },
+        answer: Err(CommandFault::BadChoice(3)) },
     Worked { name: "choice_with_letter", program: "0000006F",
         inputs: &[7], choices: "0 1x",
-        answer: Err(RunFault::BadChoice(2)) },
+        answer: Err(CommandFault::BadChoice(2)) },
     Worked { name: "two_zeros", program: "0000006F",
         inputs: &[7], choices: "0 00",
-        answer: Err(RunFault::BadChoice(2)) },
+        answer: Err(CommandFault::BadChoice(2)) },
     Worked { name: "vertical_tab_is_no_blank", program: "0000006F",
         inputs: &[7], choices: "0\u{b}0",
-        answer: Err(RunFault::BadChoice(0)) },
+        answer: Err(CommandFault::BadChoice(0)) },
     Worked { name: "choice_with_plus", program: "0000006F",
         inputs: &[7], choices: "0 0 +0",
-        answer: Err(RunFault::BadChoice(4)) },
+        answer: Err(CommandFault::BadChoice(4)) },
     Worked { name: "mark_before_number", program: "0000006F",
         inputs: &[7], choices: "0! 0 !0",
-        answer: Err(RunFault::BadChoice(5)) },
+        answer: Err(CommandFault::BadChoice(5)) },
     Worked { name: "word_of_seven_digits", program: "0000006",
         inputs: &[7], choices: "0",
-        answer: Err(RunFault::BadWord(0)) },
+        answer: Err(CommandFault::BadWord(0)) },
     Worked { name: "fourth_word_is_bad", program: "\t0000006f\r\n0000006F 00000013 0x000013",
         inputs: &[7], choices: "0",
-        answer: Err(RunFault::BadWord(3)) },
+        answer: Err(CommandFault::BadWord(3)) },
     Worked { name: "mark_changes_no_other_instruction", program: "000112B7 00B2A023 0002A503 05D00893 00000073",
         inputs: &[7, 9], choices: "0! 0! 1! 1! 0 0! 0 1 1 1!",
         answer: Ok(("hart 0 exited a0 00000009 a1 00000007\nhart 1 exited a0 00000009 a1 00000009\n", Status::Done)) },
@@ -142,19 +142,19 @@ static WORKED: [Worked; 64] = [
         answer: Ok(("hart 0 faulted LoadMisaligned pc 00010000\n", Status::Faulted)) },
     Worked { name: "hart_number_of_any_length", program: "0000006F",
         inputs: &[7], choices: "0 99999999999999999999",
-        answer: Err(RunFault::NoHart(2)) },
+        answer: Err(CommandFault::NoHart(2)) },
     Worked { name: "nine_inputs", program: "000112B7 00B2A023 0002A503 05D00893 00000073",
         inputs: &[1, 1, 1, 1, 1, 1, 1, 1, 1], choices: "0",
         answer: Ok(("hart 0 running pc 00010004\nhart 1 running pc 00010000\nhart 2 running pc 00010000\nhart 3 running pc 00010000\nhart 4 running pc 00010000\nhart 5 running pc 00010000\nhart 6 running pc 00010000\nhart 7 running pc 00010000\nhart 8 running pc 00010000\n", Status::Done)) },
     Worked { name: "thirty_three_inputs", program: "000112B7 00B2A023 0002A503 05D00893 00000073",
         inputs: &[1; 33], choices: "0",
-        answer: Err(RunFault::TooManyHarts) },
+        answer: Err(CommandFault::TooManyHarts) },
     Worked { name: "choices_of_a_third_hart", program: "000112B7 00B2A023 0002A503 05D00893 00000073",
         inputs: &[7, 9], choices: "0 2",
-        answer: Err(RunFault::NoHart(2)) },
+        answer: Err(CommandFault::NoHart(2)) },
     Worked { name: "count_of_0_is_no_choice", program: "0000006F",
         inputs: &[7], choices: "0*0",
-        answer: Err(RunFault::BadChoice(0)) },
+        answer: Err(CommandFault::BadChoice(0)) },
     Worked { name: "other_call_faults", program: "00000073",
         inputs: &[7], choices: "0",
         answer: Ok(("hart 0 faulted BadCall pc 00010000\n", Status::Faulted)) },
@@ -222,15 +222,15 @@ fn is_worked(alloc: Global, row: &Worked) -> bool {
     let mut program = MemorySource::new(row.program.as_bytes());
     let mut choices = MemorySource::new(row.choices.as_bytes());
     let mut sink = MemorySink::new(alloc);
-    let ending = run_engine(
+    let answer = run_engine(
         alloc,
         ProgramForm::Hex,
         row.inputs,
         UNJUDGED,
         &mut program,
         &mut choices,
-        &mut sink,
     );
+    let ending = deliver(&mut sink, answer);
     match row.answer {
         Ok((text, status)) => ending == Ok(status) && sink.bytes() == text.as_bytes(),
         Err(fault) => ending == Err(fault) && sink.bytes().is_empty(),
@@ -271,19 +271,19 @@ fn ran<A: Allocator + Copy>(
     alloc: A,
     host: Global,
     passed: Passed,
-) -> (Result<Status, RunFault>, Failing<MemorySink<Global>>) {
+) -> (Result<Status, CommandFault>, Failing<MemorySink<Global>>) {
     let mut program = Failing::new(MemorySource::new(PROGRAM), passed.program);
     let mut choices = Failing::new(MemorySource::new(CHOICES), passed.choices);
     let mut sink = Failing::new(MemorySink::new(host), passed.sink);
-    let ending = run_engine(
+    let answer = run_engine(
         alloc,
         ProgramForm::Hex,
         &[7, 9],
         UNJUDGED,
         &mut program,
         &mut choices,
-        &mut sink,
     );
+    let ending = deliver(&mut sink, answer);
     (ending, sink)
 }
 
@@ -295,7 +295,7 @@ fn is_refused(host: Global, passed: u64) -> Option<bool> {
     let is_right = if ending == Ok(Status::Done) {
         bytes == ENDS.as_bytes()
     } else {
-        ending == Err(RunFault::Memory) && heap.refused() && bytes.is_empty()
+        ending == Err(CommandFault::Memory) && heap.refused() && bytes.is_empty()
     };
     if is_right { Some(heap.refused()) } else { None }
 }
@@ -314,16 +314,16 @@ fn a_run_survives_each_refused_request(rt: HostRuntime) {
 
 // Devices that fail, and the fault that is told.
 #[rattlefmt::skip]
-const FAILING: [(&str, Passed, RunFault); 5] = [
-    ("the program", Passed { program: 0, ..ALL }, RunFault::Read(Input::File)),
-    ("the program at its end", Passed { program: 1, ..ALL }, RunFault::Read(Input::File)),
-    ("the choices", Passed { choices: 0, ..ALL }, RunFault::Read(Input::Choices)),
-    ("the choices at their end", Passed { choices: 1, ..ALL }, RunFault::Read(Input::Choices)),
-    ("the sink", Passed { sink: 0, ..ALL }, RunFault::Write),
+const FAILING: [(&str, Passed, CommandFault); 5] = [
+    ("the program", Passed { program: 0, ..ALL }, CommandFault::Read(Input::File)),
+    ("the program at its end", Passed { program: 1, ..ALL }, CommandFault::Read(Input::File)),
+    ("the choices", Passed { choices: 0, ..ALL }, CommandFault::Read(Input::Choices)),
+    ("the choices at their end", Passed { choices: 1, ..ALL }, CommandFault::Read(Input::Choices)),
+    ("the sink", Passed { sink: 0, ..ALL }, CommandFault::Write),
 ];
 
 // Whether this fault is told where devices fail, and nothing is printed.
-fn is_told(alloc: Global, passed: Passed, fault: RunFault) -> bool {
+fn is_told(alloc: Global, passed: Passed, fault: CommandFault) -> bool {
     let (ending, sink) = ran(alloc, alloc, passed);
     ending == Err(fault) && sink.device().bytes().is_empty()
 }
@@ -336,21 +336,21 @@ fn a_failing_device_is_named(rt: HostRuntime) {
 }
 
 // How a run ends that a full sink should take.
-fn ran_in_vain(alloc: Global) -> Result<Status, RunFault> {
+fn ran_in_vain(alloc: Global) -> Result<Status, CommandFault> {
     let mut program = MemorySource::new(PROGRAM);
     let mut choices = MemorySource::new(CHOICES);
-    run_engine(
+    let answer = run_engine(
         alloc,
         ProgramForm::Hex,
         &[7, 9],
         UNJUDGED,
         &mut program,
         &mut choices,
-        &mut FullSink::new(),
-    )
+    );
+    deliver(&mut FullSink::new(), answer)
 }
 
 #[test]
 fn a_full_sink_is_told(rt: HostRuntime) {
-    assert!(rt; ran_in_vain(rt.alloc()) == Err(RunFault::Write));
+    assert!(rt; ran_in_vain(rt.alloc()) == Err(CommandFault::Write));
 }

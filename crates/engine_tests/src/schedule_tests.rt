@@ -1,7 +1,9 @@
 //! What no clause says of schedules: worked ones, seeds whose texts run as their campaigns do, failing sinks, each request refused.
 use crate::object_files::object_file;
 use cmd_campaign::{Finished, campaign_engine};
-use engines::{Exit, Expect, FullSink, MemorySink, MemorySource, ProgramForm, Status, run_engine};
+use engines::{
+    Exit, Expect, FullSink, MemorySink, MemorySource, ProgramForm, Status, deliver, run_engine,
+};
 use progress::Unheard;
 use protocol_library::Kind;
 use refusals::Refusals;
@@ -122,7 +124,7 @@ fn ends_under(alloc: Global, file: &[u8], text: &[u8]) -> Option<MemorySink<Glob
     let mut program = MemorySource::new(file);
     let mut choices = MemorySource::new(text);
     let mut ends = MemorySink::new(alloc);
-    let run = run_engine(
+    let answer = run_engine(
         alloc,
         ProgramForm::Elf,
         &[7, 9],
@@ -132,8 +134,8 @@ fn ends_under(alloc: Global, file: &[u8], text: &[u8]) -> Option<MemorySink<Glob
         },
         &mut program,
         &mut choices,
-        &mut ends,
     );
+    let run = deliver(&mut ends, answer);
     if run == Ok(Status::Done) {
         Some(ends)
     } else {

@@ -27,9 +27,9 @@ use Rattle.outcome.specs.declared.expect.Exit.TheVariants.{May, Must}
 use Rattle.outcome.specs.declared.expect.Expect.{Expect}
 use Rattle.programs.specs.Program.{program_of}
 use Rattle.programs.specs.Opening.{opening}
-use Rattle.engines.specs.Run.{after_opening, run_answer, shown_with, world_after}
+use Rattle.engines.specs.Run.{after_opening, run_answer, shown, shown_with, world_after}
 use Rattle.programs.specs.declared.program.ProgramForm.{ProgramForm}
-use Rattle.programs.specs.declared.run_fault.RunFault.{RunFault}
+use Rattle.programs.specs.declared.command_fault.CommandFault.{CommandFault}
 
 -- a run of an object keeps the rule of its kind
 pub object_keeps : (kind : Kind) (image : ImageValue) (inputs : List ℕ) (choices : List Choice) → IsSame image (image_of kind)
@@ -66,22 +66,30 @@ shown-kept Must (Some verdict.Kept) harts e =
 shown-kept exit (Some verdict.Broken) harts e = absurd (cc)
 shown-kept exit None harts e = absurd (cc)
 
--- what a run answers that begins with an object's image
+-- what is printed of a certified file's run keeps its rule
+pub certified_shown : (form : ProgramForm) (inputs : List ℕ) (expect : Expect) (program : List ℕ) (image : ImageValue) (choices : List Choice)
+    → All (λ x. x < 2 ^ 32) inputs → All (λ c. c.hart < length inputs) choices → program_of form program ≡ Ok image
+    → IsCertified form program inputs expect.rule
+    → AnswersKept expect.exit (Ok (shown expect inputs choices (world_after image inputs choices)))
+certified_shown form inputs expect program image choices words there reads h =
+    let one : h.image ≡ image = same_image h.image image (sym h.reads ∙ reads) in
+    let harts = (world_after image inputs choices).harts in
+    shown-kept expect.exit (verdict_on expect.rule inputs choices harts) harts
+    (ap (λ r. verdict_on r inputs choices harts) h.ruled
+    ∙ object_is_kept h.kind image inputs choices (subst (λ i. IsSame i (image_of h.kind)) one h.same) h.meant words there)
+  where
+    loads : ImageValue → Result ImageValue CommandFault
+    loads x = Ok x
+
+    same_image : (x y : ImageValue) → loads x ≡ loads y → x ≡ y
+    same_image x y e = search (rules, e)
+
+-- and so does what a run answers that begins with its image
 pub certified_keeps : (form : ProgramForm) (inputs : List ℕ) (expect : Expect) (program text : List ℕ) (image : ImageValue) (choices : List Choice)
     → All (λ x. x < 2 ^ 32) inputs → All (λ c. c.hart < length inputs) choices → program_of form program ≡ Ok image
     → opening form (length inputs) program text ≡ Ok (image, choices) → IsCertified form program inputs expect.rule
     → AnswersKept expect.exit (run_answer form inputs expect program text)
 unfolding run_answer
 certified_keeps form inputs expect program text image choices words there reads opens h =
-    let one : h.image ≡ image = same_image h.image image (sym h.reads ∙ reads) in
-    let harts = (world_after image inputs choices).harts in
     subst (λ o. AnswersKept expect.exit (after_opening expect inputs o)) (sym opens)
-    (shown-kept expect.exit (verdict_on expect.rule inputs choices harts) harts
-    (ap (λ r. verdict_on r inputs choices harts) h.ruled
-    ∙ object_is_kept h.kind image inputs choices (subst (λ i. IsSame i (image_of h.kind)) one h.same) h.meant words there))
-  where
-    loads : ImageValue → Result ImageValue RunFault
-    loads x = Ok x
-
-    same_image : (x y : ImageValue) → loads x ≡ loads y → x ≡ y
-    same_image x y e = search (rules, e)
+    (certified_shown form inputs expect program image choices words there reads h)

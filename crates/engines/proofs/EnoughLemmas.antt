@@ -32,7 +32,7 @@ use Rattle.outcome.specs.declared.run_outcome.End.TheVariants as end
 use Rattle.devices.specs.declared.status.Status.TheVariants as status
 use Rattle.programs.specs.Opening.{Opened, after_program, opening, with_choices}
 use Rattle.programs.specs.declared.program.ProgramForm.{ProgramForm}
-use Rattle.programs.specs.declared.run_fault.RunFault.TheVariants as fault
+use Rattle.programs.specs.declared.command_fault.CommandFault.TheVariants as fault
 use Rattle.engines.specs.Certified.{IsMeantFor}
 use Rattle.engines.specs.Enough.{ChooseEnough, EndsWell, IsChosenEnough}
 use Rattle.engines.specs.Run.{after_opening, run_answer, world_after}
@@ -85,7 +85,7 @@ ends_well : (form : ProgramForm) (inputs : List ℕ) (expect : Expect) (program 
     → IsChosenEnough form program inputs expect.rule text → EndsWell (run_answer form inputs expect program text)
 unfolding run_answer opening
 ends_well form inputs expect program text words e =
-    subst (λ p. P (after_program n text p)) (sym e.object.reads)
+    subst (λ p. P (after_program n (λ i. with_choices i (choices_of n text)) p)) (sym e.object.reads)
     (subst (λ none. P (cond none (Err fault.NoHarts) (cond (ltb most_harts n) (Err fault.TooManyHarts) (with_choices e.object.image (choices_of n text)))))
     (sym (ne_eqb n 0 (λ none. omega (arith, some, none))))
     (subst (λ many. P (cond many (Err fault.TooManyHarts) (with_choices e.object.image (choices_of n text))))

@@ -20,12 +20,13 @@ use Rattle.ends.specs.Ends.{verdict_on}
 use Rattle.outcome.specs.declared.expect.Expect.{Expect}
 use Rattle.devices.specs.declared.status.Status.{Status}
 use Rattle.programs.specs.Program.{program_of}
+use Rattle.programs.specs.Answers.{Answer}
 use Rattle.programs.specs.Opening.{Opened, opening, after_program, with_choices}
 use Rattle.programs.specs.declared.program.ProgramForm.{ProgramForm}
-use Rattle.programs.specs.declared.run_fault.RunFault.{RunFault}
-use Rattle.programs.specs.declared.run_fault.RunFault.TheVariants as fault
+use Rattle.programs.specs.declared.command_fault.CommandFault.{CommandFault}
+use Rattle.programs.specs.declared.command_fault.CommandFault.TheVariants as fault
 use Rattle.engines.specs.Certified.{AnswersKept, IsCertified}
-use Rattle.engines.specs.Run.{Answer, after_opening, run_answer, shown, shown_with, world_after}
+use Rattle.engines.specs.Run.{after_opening, run_answer, shown, shown_with, world_after}
 use Rattle.engines.proofs.CertifiedLemmas.{certified_keeps}
 
 -- a machine that was started has a hart for each input
@@ -58,16 +59,6 @@ text_answered expect image inputs text old now chosen harts lines status begun l
     here : now ≡ world_after image inputs leads.choices
     here = leads.led ∙ ap (λ w. run w leads.choices) begun
 
--- a text's answer is the answer to what the devices had left
-pub known_text : (form : ProgramForm) (inputs : List ℕ) (expect : Expect) (program text : Option (List ℕ)) (image : ImageValue) (bytes : List ℕ)
-    (answer : Answer) → IfSome program (λ p. IfSome text (λ c. opening form (length inputs) p c ≡ with_choices image (choices_of (length inputs) bytes)))
-    → after_opening expect inputs (with_choices image (choices_of (length inputs) bytes)) ≡ answer
-    → IfSome program (λ p. IfSome text (λ c. run_answer form inputs expect p c ≡ answer))
-unfolding run_answer
-known_text form inputs expect None text image bytes answer opens shows = tt
-known_text form inputs expect (Some p) None image bytes answer opens shows = tt
-known_text form inputs expect (Some p) (Some c) image bytes answer opens shows = ap (after_opening expect inputs) opens ∙ shows
-
 -- ---- certified files
 -- what a run begins with that can begin
 opened_parts : (form : ProgramForm) (n : ℕ) (program text : List ℕ) (image : ImageValue) (choices : List Choice)
@@ -96,7 +87,7 @@ opened_parts form n program text image choices opens = first (program_of form pr
       subst (λ x. choices_of n text ≡ Ok x) (ap (choices_in cs) e) is,
     )
 
-    first : (p : Result ImageValue RunFault) → program_of form program ≡ p → after_program n text p ≡ Ok (image, choices)
+    first : (p : Result ImageValue CommandFault) → program_of form program ≡ p → after_program n (λ i. with_choices i (choices_of n text)) p ≡ Ok (image, choices)
         → (program_of form program ≡ Ok image) × (choices_of n text ≡ Ok choices)
     first (Err why) reads e = absurd (cc)
     first (Ok i) reads e = rest i reads (eqb n 0) (ltb most_harts n) (choices_of n text) refl e

@@ -11,7 +11,7 @@ use Rattle.ends.specs.Ends.{verdict_line}
 use Rattle.outcome.specs.declared.expect.Exit.{Exit}
 use Rattle.outcome.specs.declared.expect.Exit.TheVariants.{May, Must}
 use Rattle.programs.specs.Program.{program_of}
-use Rattle.engines.specs.Run.{Answer}
+use Rattle.programs.specs.Answers.{Answer}
 use Rattle.programs.specs.declared.program.ProgramForm.{ProgramForm}
 use Rattle.devices.specs.declared.status.Status.{Status}
 use Rattle.devices.specs.declared.status.Status.TheVariants as status

@@ -7,9 +7,9 @@ use Rattle.machine.specs.declared.choice.Choice.{Choice}
 use Rattle.protocol_library.specs.Counts.{own, refusals}
 use Rattle.protocol_library.specs.declared.kind.Kind.{Kind}
 use Rattle.protocol_library.specs.declared.kind.Kind.TheVariants.{Swap, Add, LrSc, AdoptCommit, Rounds}
+use Rattle.programs.specs.Answers.{Answer}
 use Rattle.programs.specs.declared.program.ProgramForm.{ProgramForm}
 use Rattle.engines.specs.Certified.{IsCertified}
-use Rattle.engines.specs.Run.{Answer}
 
 -- so often, for one of n harts of whose choices r refuse a store-conditional
 abbrev pub enough : Kind → ℕ → ℕ → ℕ

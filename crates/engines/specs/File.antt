@@ -1,6 +1,5 @@
 -- What is shown of a file that loads.
-use Rattle.std.specs.Prelude.{◌≡◌, ℕ, List, take, Option}
-use Rattle.std.specs.Io.KnownBytes.{Appends}
+use Rattle.std.specs.Prelude.{◌≡◌, ℕ, List}
 use Rattle.std.specs.declared.result.Result.TheVariants.{Ok}
 use Rattle.program_images.specs.Image.{ImageValue}
 use Rattle.loader.specs.SymbolTable.{symbols_of}
@@ -21,16 +20,3 @@ pub record ShowsFile (view : FileView) (bytes text : List ℕ) : Type 0 where
   pub image : ImageValue
   pub loads : program_of form.Elf bytes ≡ Ok image
   pub shows : ShowsImage view image bytes text
-
--- what is shown of a file was appended
-pub record Shows (view : FileView) (bytes : List ℕ) (old new : Option (List ℕ)) : Type 0 where
-  pub text : List ℕ
-  pub shows : ShowsFile view bytes text
-  pub appends : Appends old new text
-
--- a beginning of what is shown of a file was appended
-pub record BeginsToShow (view : FileView) (bytes : List ℕ) (old new : Option (List ℕ)) : Type 0 where
-  pub text : List ℕ
-  pub shows : ShowsFile view bytes text
-  pub count : ℕ
-  pub appends : Appends old new (take count text)

@@ -1,7 +1,5 @@
 -- What a run answers: the printed world after the choices with the verdict on it, or the first fault of what was read.
-use Rattle.std.specs.Prelude.{◌≡◌, ℕ, List, length, take, Option}
-use Rattle.std.specs.Io.KnownBytes.{Appends}
-use Rattle.std.specs.declared.result.Result.{Result}
+use Rattle.std.specs.Prelude.{ℕ, List, length, Option}
 use Rattle.std.specs.declared.result.Result.TheVariants.{Ok, Err}
 use Rattle.program_images.specs.Image.{ImageValue}
 use Rattle.machine.specs.World.{World, run}
@@ -16,14 +14,10 @@ use Rattle.outcome.specs.Outcome.{outcome_of}
 use Rattle.outcome.specs.declared.expect.Exit.{Exit}
 use Rattle.outcome.specs.declared.expect.Exit.TheVariants.{May}
 use Rattle.outcome.specs.declared.expect.Expect.{Expect}
+use Rattle.programs.specs.Answers.{Answer}
 use Rattle.programs.specs.Opening.{Opened, opening}
 use Rattle.programs.specs.declared.program.ProgramForm.{ProgramForm}
-use Rattle.programs.specs.declared.run_fault.RunFault.{RunFault}
 use Rattle.devices.specs.declared.status.Status.{Status}
-
--- the printed text and the status, or the fault
-abbrev pub Answer : Type 0
-Answer = Result (List ℕ × Status) RunFault
 
 -- under a rule, if there is one, and where harts may run at the end
 abbrev pub may_run : Option Kind → Expect
@@ -49,17 +43,3 @@ after_opening expect inputs (Err why) = Err why
 -- what a run of a program and a choice text answers, by what is expected of it
 unfoldable pub run_answer : ProgramForm → List ℕ → Expect → List ℕ → List ℕ → Answer
 run_answer form inputs expect program text = after_opening expect inputs (opening form (length inputs) program text)
-
--- the answer's text was appended, and this is its status
-abbrev pub Prints : Answer → Status → Option (List ℕ) → Option (List ℕ) → Type 0
-Prints (Ok answer) status old new = (answer.1 ≡ status) × Appends old new answer.0
-Prints (Err why) status old new = ⊥
-
--- a beginning of a text was appended
-abbrev pub Begins : List ℕ → Option (List ℕ) → Option (List ℕ) → Type 0
-Begins text old new = (n : ℕ) × Appends old new (take n text)
-
--- a beginning of the answer's text was appended
-abbrev pub BeginsToPrint : Answer → Option (List ℕ) → Option (List ℕ) → Type 0
-BeginsToPrint (Ok answer) old new = Begins answer.0 old new
-BeginsToPrint (Err why) old new = ⊥

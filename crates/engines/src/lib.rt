@@ -1,4 +1,4 @@
-//! What the program's commands do, over any source of bytes and any sink.
+//! What the program's commands do, over any source of bytes.
 #![tactic(auto)]
 
 pub use devices::{
@@ -8,18 +8,16 @@ pub use devices::{
 pub use ends::EndLine;
 pub use file::{FileView, file_engine, file_text};
 pub use info::info_text;
-pub use library::source_engine;
 pub use names_and_digits::Word;
 pub use outcome::{Exit, Expect};
 pub use programs::{
-    HEX_BASE, HEX_SIZE, HexFault, Input, MOST_WORDS, ProgramForm, RunFault, hex_image, read_hex,
-    read_image, read_program,
+    CommandFault, HEX_BASE, HEX_SIZE, HexFault, Input, MOST_WORDS, ProgramForm, deliver, hex_image,
+    read_hex, read_image, read_program, write_text,
 };
 pub use run::{run_engine, run_text, see_words};
 pub use shown::ends_text;
 
 mod file;
 mod info;
-mod library;
 mod run;
 mod shown;

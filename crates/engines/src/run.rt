@@ -2,12 +2,11 @@
 
 ghost use Rattle.std.specs.Prelude.{ℕ, List, ◌≡◌, ◌≢◌, ◌^◌, ◌-◌, ◌<◌, Ok, Err, IfOk, IfErr, IfSome, length, map, string_bytes};
 ghost use Rattle.std.specs.List.{All};
-ghost use Rattle.std.specs.Io.KnownBytes.{Keeps};
 ghost use Rattle.engines.specs.Certified.{AnswersKept, IsCertified};
 ghost use Rattle.engines.specs.Enough.{EndsWell, IsChosenEnough};
 ghost use Rattle.programs.specs.Opening.{with_choices};
 ghost use Rattle.programs.specs.Program.{program_of};
-ghost use Rattle.engines.specs.Run.{after_opening, run_answer, shown_with, Prints, BeginsToPrint};
+ghost use Rattle.engines.specs.Run.{after_opening, run_answer, shown_with};
 ghost use Rattle.hart_step.specs.Hart.{hart_of};
 ghost use Rattle.machine.specs.Chosen.{is_chosen};
 ghost use Rattle.machine.specs.declared.choice.Choice.{Choice};
@@ -15,19 +14,19 @@ ghost use Rattle.choice_texts.specs.Reading.{choices_of};
 ghost use Rattle.choice_runs.specs.Chosen.{harts_of};
 ghost use Rattle.ends.specs.Ends.{verdict_on};
 ghost use Rattle.machine.specs.Start.{IsStartable};
-ghost use Rattle.programs.specs.RunFaults.{IsRefusal, IfReads};
+ghost use Rattle.programs.specs.CommandFaults.{IfNames, IsRefusal};
 ghost use Rattle.program_images.specs.Image.{ImageValue};
 
 use choice_runs::{Chosen, early_fault, run_choices};
 use choice_texts::ChoiceFault;
-use devices::{Sink, Source, Status, write_all};
+use devices::{Source, Status};
 use ends::lines_text;
 use flat_memory::FlatStore;
 use hart_step::Hart;
 use machine::Machine;
 use outcome::Expect;
 use program_images::Image;
-use programs::{Input, ProgramForm, RunFault, open_text};
+use programs::{CommandFault, Input, ProgramForm, open_text};
 use std::alloc::{AllocError, Allocator};
 
 /// Looks at each input, so that it is known to be a word.
@@ -95,83 +94,37 @@ pub fn run_text<A: Allocator + Copy>(
     }
 }
 
-// Reads what a run wants, and answers what it prints and its status.
+/// `run`: reads the program in this form to its end, and where it is one and the inputs are not
+/// too many, the choice text to its end; answers how the harts end, and under a rule the verdict.
+/// The status shows whether the run did as expected. The choices are taken as they stand in the
+/// text, and never held as a list.
 #[tactic(auto, unfolding(crate::specs::Run::run_answer))]
-fn read_and_run<A: Allocator + Copy, P: Source, C: Source>(
+pub fn run_engine<A: Allocator + Copy, P: Source, C: Source>(
     alloc: A,
     form: ProgramForm,
     inputs: &[u32],
     expect: Expect,
     program: &mut P,
     choices: &mut C,
-) -> Result<(String<A>, Status), RunFault>
+) -> Result<(String<A>, Status), CommandFault>
     requires program_counts { P.failures program.old < 2 ^ 64 - 1 }
     requires choices_count { C.failures choices.old < 2 ^ 64 - 1 }
-    ensures takes { IfOk result (λ _. IsStartable inputs.now) }
-    ensures shown { IfOk result (λ answer.
+    // The printed world of the run, and its status.
+    ensures done { IfOk result (λ answer.
         IfSome (P.left program.old) (λ p. IfSome (C.left choices.old) (λ c.
         run_answer form inputs.now expect p c ≡ Ok (string_bytes answer.0, answer.1)))) }
     ensures refused { IfErr result (λ fault. IsRefusal fault
         → IfSome (P.left program.old) (λ p. IfSome (C.left choices.old) (λ c.
         run_answer form inputs.now expect p c ≡ Err fault))) }
-    ensures read { IfErr result (λ fault. IfReads fault
-        (P.failures program.old < P.failures program.new)
-        (C.failures choices.old < C.failures choices.new)) }
-    ensures sink_unnamed { IfErr result (λ fault. fault ≢ RunFault.Write) }
-    ensures program_first { result ≡ Err (RunFault.Read Input.Choices)
-        → IfSome (P.left program.old) (λ p. (image : ImageValue) × (program_of form p ≡ Ok image)) }
-    ensures inputs_first { result ≡ Err (RunFault.Read Input.Choices) → IsStartable inputs.now }
-{
-    let run = match open_text(alloc, form, inputs, program, choices) {
-        Ok(run) => run,
-        Err(why) => return Err(why),
-    };
-    match run_text(alloc, &run.image, inputs, expect, &run.text) {
-        Ok(answer) => Ok(answer),
-        Err(why) => Err(RunFault::from(why)),
-    }
-}
-
-/// `run`: reads the program in this form to its end, and where it is one and the inputs are not
-/// too many, the choice text to its end; writes how the harts end, and under a rule the verdict.
-/// The status shows whether the run did as expected. Nothing is written where what was read is
-/// refused. The choices are taken as they stand in the text, and never held as a list.
-pub fn run_engine<A: Allocator + Copy, P: Source, C: Source, K: Sink>(
-    alloc: A,
-    form: ProgramForm,
-    inputs: &[u32],
-    expect: Expect,
-    program: &mut P,
-    choices: &mut C,
-    sink: &mut K,
-) -> Result<Status, RunFault>
-    requires program_counts { P.failures program.old < 2 ^ 64 - 1 }
-    requires choices_count { C.failures choices.old < 2 ^ 64 - 1 }
-    requires sink_counts { K.failures sink.old < 2 ^ 64 - 1 }
-    // The printed world of the run was appended, and this is its status.
-    ensures done { IfOk result (λ status.
-        IfSome (P.left program.old) (λ p. IfSome (C.left choices.old) (λ c.
-        Prints (run_answer form inputs.now expect p c) status (K.held sink.old) (K.held sink.new)))) }
-    // What was read is refused, and nothing is written.
-    ensures refused { IfErr result (λ fault. IsRefusal fault
-        → IfSome (P.left program.old) (λ p. IfSome (C.left choices.old) (λ c.
-        run_answer form inputs.now expect p c ≡ Err fault))) }
-    ensures unwritten { IfErr result (λ fault. fault ≢ RunFault.Write
-        → Keeps (K.held sink.old) (K.held sink.new)) }
     // A device is named only where it failed.
-    ensures read { IfErr result (λ fault. IfReads fault
+    ensures read { IfErr result (λ fault. IfNames fault
         (P.failures program.old < P.failures program.new)
-        (C.failures choices.old < C.failures choices.new)) }
+        (C.failures choices.old < C.failures choices.new) ⊥ ⊥) }
     // A fault of the program comes before one of the device that the choices are read from.
-    ensures program_first { result ≡ Err (RunFault.Read Input.Choices)
+    ensures program_first { result ≡ Err (CommandFault.Read Input.Choices)
         → IfSome (P.left program.old) (λ p. (image : ImageValue) × (program_of form p ≡ Ok image)) }
     // And so does the fault of the number of inputs.
-    ensures inputs_first { result ≡ Err (RunFault.Read Input.Choices) → IsStartable inputs.now }
-    ensures write { result ≡ Err RunFault.Write → K.failures sink.old < K.failures sink.new }
-    // After a failed write a beginning of the output stands there.
-    ensures begun { result ≡ Err RunFault.Write
-        → IfSome (P.left program.old) (λ p. IfSome (C.left choices.old) (λ c.
-        BeginsToPrint (run_answer form inputs.now expect p c) (K.held sink.old) (K.held sink.new))) }
+    ensures inputs_first { result ≡ Err (CommandFault.Read Input.Choices) → IsStartable inputs.now }
     // A file that is an object, run by as many harts as it is for, never has a broken verdict of its
     // kind's rule: the status is 0, or 3 where each hart must exit and one still runs.
     ensures certified { IfOk result (λ _.
@@ -185,12 +138,12 @@ pub fn run_engine<A: Allocator + Copy, P: Source, C: Source, K: Sink>(
         → EndsWell (run_answer form inputs.now expect p c))) }
 {
     see_words(inputs);
-    let (lines, status) = match read_and_run(alloc, form, inputs, expect, program, choices) {
-        Ok(answer) => answer,
-        Err(fault) => return Err(fault),
+    let run = match open_text(alloc, form, inputs, program, choices) {
+        Ok(run) => run,
+        Err(why) => return Err(why),
     };
-    match write_all(sink, lines.as_bytes()) {
-        Ok(()) => Ok(status),
-        Err(_) => Err(RunFault::Write),
+    match run_text(alloc, &run.image, inputs, expect, &run.text) {
+        Ok(answer) => Ok(answer),
+        Err(why) => Err(CommandFault::from(why)),
     }
 }

@@ -3,8 +3,8 @@
 use command_orders::FileOrder;
 use devices::{ReaderSource, Status, WriterSink};
 use engines::{FileView, file_engine};
-use programs::{ProgramForm, RunFault};
-use reports::{Audience, RunFiles, cannot_open, cannot_read, explain_run, say};
+use programs::{ProgramForm, deliver};
+use reports::{Audience, RunFiles, cannot_open, say_why};
 use std::rt::Files;
 use std::{fs, io};
 
@@ -19,21 +19,15 @@ pub fn show_file<R: Files + AllocGlobal + Print + Eprint>(
         Ok(file) => file,
         Err(error) => return cannot_open(rt, audience, order.file, &error),
     };
-    let mut file = ReaderSource::new(file);
-    let mut sink = WriterSink::new(io::writer(rt));
-    match file_engine(rt.alloc(), view, &mut file, &mut sink) {
+    let answer = file_engine(rt.alloc(), view, &mut ReaderSource::new(file));
+    let files = RunFiles {
+        program: order.file,
+        form: ProgramForm::Elf,
+        choices: "",
+        harts: 0,
+    };
+    match deliver(&mut WriterSink::new(io::writer(rt)), answer) {
         Ok(status) => status,
-        Err(RunFault::Read(_)) => cannot_read(rt, order.file),
-        Err(fault) => {
-            let status = say(rt, fault);
-            let files = RunFiles {
-                program: order.file,
-                form: ProgramForm::Elf,
-                choices: "",
-                harts: 0,
-            };
-            explain_run(rt, audience, files, fault);
-            status
-        }
+        Err(fault) => say_why(rt, audience, files, fault),
     }
 }

@@ -2,8 +2,9 @@
 
 use command_orders::LibOrder;
 use devices::{Status, WriterSink};
-use engines::source_engine;
 use object_names::read_object;
+use programs::write_text;
+use protocol_library::source;
 use reports::{refuse, say};
 use std::io;
 
@@ -14,8 +15,8 @@ pub fn print_source<R: AllocGlobal + Print + Eprint>(rt: &R, order: &LibOrder) -
         Err(fault) => return refuse(rt, &fault),
     };
     let mut sink = WriterSink::new(io::writer(rt));
-    match source_engine(kind, &mut sink) {
-        Ok(status) => status,
+    match write_text(&mut sink, source(kind).as_bytes()) {
+        Ok(()) => Status::Done,
         Err(fault) => say(rt, fault),
     }
 }

@@ -4,11 +4,11 @@ use asm_engine::{AssemblyFault, assembled_file, listing_engine, write_file};
 use cmd_campaign::campaign_engine;
 use debug_engine::{DebugEngineFault, debug_engine};
 use devices::{Failing, FullSink, MemorySink, MemorySource, Status};
-use engines::{Exit, Expect, FileView, file_engine, run_engine, source_engine};
-use programs::{Input, ProgramForm, RunFault};
+use engines::{Exit, Expect, FileView, file_engine, run_engine};
+use programs::{CommandFault, Input, ProgramForm, deliver, write_text};
 use progress::Unheard;
 use protocol_library::{Kind, source};
-use replay_engine::{ReplayFault, replay_engine};
+use replay_engine::replay_engine;
 use schedule_engine::{Maker, ScheduleFault, SchedulePlan, schedule_engine};
 use std::alloc::Global;
 use std::thread::Threads;
@@ -130,12 +130,14 @@ const COMMANDS: &[u8] = b"where\nsteps 0 1\nback\nquit\n";
 const ANSWERS: &str = "step 0 of 2\n0 h0 00010000 addi a7, zero, 93\npast end\n";
 
 // What the answer of a run, a campaign or a view of a file tells.
-fn told(answer: Result<Status, RunFault>) -> Outcome {
+fn told(answer: Result<Status, CommandFault>) -> Outcome {
     match answer {
         Ok(Status::Done) => Outcome::Full,
-        Err(RunFault::Read(Input::File)) => Outcome::Failed(Device::Program),
-        Err(RunFault::Read(Input::Choices)) => Outcome::Failed(Device::Schedule),
-        Err(RunFault::Write) => Outcome::Failed(Device::Output),
+        Err(CommandFault::Read(Input::File)) => Outcome::Failed(Device::Program),
+        Err(CommandFault::Read(Input::Choices | Input::History)) => {
+            Outcome::Failed(Device::Schedule)
+        }
+        Err(CommandFault::Write) => Outcome::Failed(Device::Output),
         _ => Outcome::Other,
     }
 }
@@ -146,7 +148,7 @@ fn run(alloc: Global, failure: Failure) -> Outcome {
     let mut program = Failing::new(MemorySource::new(&EXITS), failure.calls(Device::Program));
     let mut choices = Failing::new(MemorySource::new(&blanks), failure.calls(Device::Schedule));
     let mut sink = Failing::new(MemorySink::new(alloc), failure.calls(Device::Output));
-    let result = run_engine(
+    let answer = run_engine(
         alloc,
         ProgramForm::Elf,
         &[7, 9],
@@ -156,15 +158,16 @@ fn run(alloc: Global, failure: Failure) -> Outcome {
         },
         &mut program,
         &mut choices,
-        &mut sink,
     );
+    let result = deliver(&mut sink, answer);
     checked(told(result), sink.device().bytes(), ENDS.as_bytes())
 }
 
 fn show(alloc: Global, failure: Failure, view: FileView, full: &[u8]) -> Outcome {
     let mut file = Failing::new(MemorySource::new(&EXITS), failure.calls(Device::Program));
     let mut sink = Failing::new(MemorySink::new(alloc), failure.calls(Device::Output));
-    let result = file_engine(alloc, view, &mut file, &mut sink);
+    let answer = file_engine(alloc, view, &mut file);
+    let result = deliver(&mut sink, answer);
     checked(told(result), sink.device().bytes(), full)
 }
 
@@ -174,14 +177,9 @@ fn replay(alloc: Global, failure: Failure) -> Outcome {
     let mut program = Failing::new(MemorySource::new(&EXITS), failure.calls(Device::Program));
     let mut history = Failing::new(MemorySource::new(&blanks), failure.calls(Device::Schedule));
     let mut sink = Failing::new(MemorySink::new(alloc), failure.calls(Device::Output));
-    let result = replay_engine(alloc, &[7, 9], None, &mut program, &mut history, &mut sink);
-    let outcome = match result {
-        Ok(status) => told(Ok(status)),
-        Err(ReplayFault::Run(fault)) => told(Err(fault)),
-        Err(ReplayFault::History) => Outcome::Failed(Device::Schedule),
-        Err(_) => Outcome::Other,
-    };
-    checked(outcome, sink.device().bytes(), ENDS.as_bytes())
+    let answer = replay_engine(alloc, &[7, 9], None, &mut program, &mut history);
+    let result = deliver(&mut sink, answer);
+    checked(told(result), sink.device().bytes(), ENDS.as_bytes())
 }
 
 fn campaign<R: Threads + Sync>(rt: &R, alloc: Global, failure: Failure) -> Outcome {
@@ -237,11 +235,12 @@ fn assemble_file(alloc: Global, failure: Failure) -> Outcome {
 
 fn library(alloc: Global, failure: Failure) -> Outcome {
     let mut sink = Failing::new(MemorySink::new(alloc), failure.calls(Device::Output));
-    let result = source_engine(Kind::Swap, &mut sink);
+    let text = source(Kind::Swap).as_bytes();
+    let result = write_text(&mut sink, text);
     checked(
-        told(result),
+        told(result.map(|_| Status::Done)),
         sink.device().bytes(),
-        source(Kind::Swap).as_bytes(),
+        text,
     )
 }
 
@@ -343,13 +342,14 @@ fn each_call_of_each_device_fails(rt: HostRuntime) {
 }
 
 // What a full sink is told as: by a view of a file.
-fn full_view(alloc: Global, view: FileView) -> Result<Status, RunFault> {
+fn full_view(alloc: Global, view: FileView) -> Result<Status, CommandFault> {
     let mut file = MemorySource::new(&EXITS);
-    file_engine(alloc, view, &mut file, &mut FullSink::new())
+    let answer = file_engine(alloc, view, &mut file);
+    deliver(&mut FullSink::new(), answer)
 }
 
 // By a campaign.
-fn full_campaign<R: Threads + Sync>(rt: &R, alloc: Global) -> Result<Status, RunFault> {
+fn full_campaign<R: Threads + Sync>(rt: &R, alloc: Global) -> Result<Status, CommandFault> {
     let mut program = MemorySource::new(&EXITS);
     let finished = campaign_engine(
         rt,
@@ -382,9 +382,9 @@ fn full_debug(alloc: Global) -> Result<Status, DebugEngineFault> {
 #[test]
 fn a_full_sink_is_told(rt: HostRuntime) {
     for view in [FileView::Listing, FileView::Facts] {
-        assert!(rt; full_view(rt.alloc(), view) == Err(RunFault::Write));
+        assert!(rt; full_view(rt.alloc(), view) == Err(CommandFault::Write));
     }
-    assert!(rt; source_engine(Kind::Swap, &mut FullSink::new()) == Err(RunFault::Write));
-    assert!(rt; full_campaign(&rt, rt.alloc()) == Err(RunFault::Write));
+    assert!(rt; write_text(&mut FullSink::new(), b"li") == Err(CommandFault::Write));
+    assert!(rt; full_campaign(&rt, rt.alloc()) == Err(CommandFault::Write));
     assert!(rt; full_debug(rt.alloc()) == Err(DebugEngineFault::Answers));
 }

@@ -5,7 +5,7 @@ use devices::{MemorySink, MemorySource, Status};
 use engines::{FileView, file_engine};
 use loader::{SymFault, load, symbols};
 use program_images::ElfFault;
-use programs::RunFault;
+use programs::{CommandFault, deliver};
 use protocol_library::{Kind, source};
 use std::alloc::{AllocError, Global};
 
@@ -81,10 +81,11 @@ fn each_beginning_has_its_answers(rt: HostRuntime) -> Result<(), AllocError> {
 }
 
 // What `info` says of a file.
-fn facts(alloc: Global, file: &[u8]) -> (Result<Status, RunFault>, MemorySink<Global>) {
+fn facts(alloc: Global, file: &[u8]) -> (Result<Status, CommandFault>, MemorySink<Global>) {
     let mut program = MemorySource::new(file);
     let mut sink = MemorySink::new(alloc);
-    let result = file_engine(alloc, FileView::Facts, &mut program, &mut sink);
+    let answer = file_engine(alloc, FileView::Facts, &mut program);
+    let result = deliver(&mut sink, answer);
     (result, sink)
 }
 
@@ -117,7 +118,7 @@ fn is_shown(
     let (result, sink) = facts(alloc, &file);
     match wanted {
         Ok(text) => Ok(result == Ok(Status::Done) && sink.bytes() == text.as_bytes()),
-        Err(fault) => Ok(result == Err(RunFault::Elf(fault)) && sink.bytes().is_empty()),
+        Err(fault) => Ok(result == Err(CommandFault::Elf(fault)) && sink.bytes().is_empty()),
     }
 }
 
@@ -151,7 +152,7 @@ fn is_told_alike(alloc: Global, file: &[u8]) -> bool {
         (Ok(Status::Done), None) => {
             sink.bytes().starts_with(b"entry ") && found != Some(SymFault::Memory)
         }
-        (Err(RunFault::Elf(fault)), Some(wanted)) => fault == wanted && sink.bytes().is_empty(),
+        (Err(CommandFault::Elf(fault)), Some(wanted)) => fault == wanted && sink.bytes().is_empty(),
         _ => false,
     }
 }

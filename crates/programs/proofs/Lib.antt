@@ -1,3 +1,4 @@
 mod HexLemmas
 mod HexImageLemmas
 mod ProgramLemmas
+pub mod FaultLemmas

@@ -5,16 +5,16 @@ use Rattle.program_images.specs.Image.{ImageValue, Fails}
 use Rattle.program_images.specs.declared.fault.ElfFault.{ElfFault}
 use Rattle.program_images.specs.declared.fault.ElfFault.TheVariants as elf
 use Rattle.programs.specs.Program.{image_of_file, program_of}
-use Rattle.programs.specs.RunFaults.{fault_of_elf}
+use Rattle.programs.specs.CommandFaults.{fault_of_elf}
 use Rattle.programs.specs.declared.program.ProgramForm.TheVariants as form
-use Rattle.programs.specs.declared.run_fault.RunFault.TheVariants as run
+use Rattle.programs.specs.declared.command_fault.CommandFault.TheVariants as fault
 
 -- a file that loads gives its image
 pub file_loads : (bytes : List ℕ) (image : ImageValue) → loaded bytes ≡ Ok image → program_of form.Elf bytes ≡ Ok image
 file_loads bytes image e = ap image_of_file e
 
 -- a file that is refused gives the loader's fault
-pub file_fails : (bytes : List ℕ) (why : ElfFault) → Fails why (loaded bytes) → fault_of_elf why ≢ run.Memory
+pub file_fails : (bytes : List ℕ) (why : ElfFault) → Fails why (loaded bytes) → fault_of_elf why ≢ fault.Memory
     → program_of form.Elf bytes ≡ Err (fault_of_elf why)
 file_fails bytes elf.Memory h other = absurd (other refl)
 file_fails bytes elf.Short h other = ap image_of_file h

@@ -1,5 +1,6 @@
 pub mod HexText
 pub mod HexImage
-pub mod RunFaults
+pub mod CommandFaults
 pub mod Program
 pub mod Opening
+pub mod Answers

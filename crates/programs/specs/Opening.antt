@@ -8,28 +8,29 @@ use Rattle.machine.specs.declared.choice.Choice.{Choice}
 use Rattle.choice_texts.specs.Reading.{choices_of}
 use Rattle.choice_texts.specs.declared.choice_text.ChoiceFault.{ChoiceFault}
 use Rattle.programs.specs.Program.{program_of}
-use Rattle.programs.specs.RunFaults.{fault_of_choices}
+use Rattle.programs.specs.CommandFaults.{fault_of_choices}
 use Rattle.programs.specs.declared.program.ProgramForm.{ProgramForm}
-use Rattle.programs.specs.declared.run_fault.RunFault.{RunFault}
-use Rattle.programs.specs.declared.run_fault.RunFault.TheVariants as run
+use Rattle.programs.specs.declared.command_fault.CommandFault.{CommandFault}
+use Rattle.programs.specs.declared.command_fault.CommandFault.TheVariants as fault
 
 -- an image with its choices, or why there is no run
 abbrev pub Opened : Type 0
-Opened = Result (ImageValue × List Choice) RunFault
+Opened = Result (ImageValue × List Choice) CommandFault
 
 -- an image with the choices that are read
 abbrev pub with_choices : ImageValue → Result (List Choice) ChoiceFault → Opened
 with_choices image (Ok choices) = Ok (image, choices)
 with_choices image (Err why) = Err (fault_of_choices why)
 
--- once the program is read, the inputs are counted, and then the choice text is looked at
-abbrev pub after_program : ℕ → List ℕ → Result ImageValue RunFault → Opened
-after_program harts text (Ok image) =
-    if harts == 0 then Err run.NoHarts
-    else (if nat_lt most_harts harts then Err run.TooManyHarts
-    else with_choices image (choices_of harts text))
-after_program harts text (Err why) = Err why
+-- once the program is read, the inputs are counted, and only then what follows decides
+abbrev pub after_program : {T : Type 0} → ℕ → (ImageValue → Result T CommandFault)
+    → Result ImageValue CommandFault → Result T CommandFault
+after_program harts next (Ok image) =
+    if harts == 0 then Err fault.NoHarts
+    else (if nat_lt most_harts harts then Err fault.TooManyHarts else next image)
+after_program harts next (Err why) = Err why
 
 -- what a run of a program and a choice text begins with, for so many inputs
 unfoldable pub opening : ProgramForm → ℕ → List ℕ → List ℕ → Opened
-opening form harts program text = after_program harts text (program_of form program)
+opening form harts program text = after_program harts
+    (λ image. with_choices image (choices_of harts text)) (program_of form program)

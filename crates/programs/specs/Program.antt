@@ -7,23 +7,23 @@ use Rattle.program_images.specs.Image.{ImageValue}
 use Rattle.program_images.specs.declared.fault.ElfFault.{ElfFault}
 use Rattle.programs.specs.HexImage.{hex_image_of}
 use Rattle.programs.specs.HexText.{words_of}
-use Rattle.programs.specs.RunFaults.{fault_of_elf, fault_of_hex}
+use Rattle.programs.specs.CommandFaults.{fault_of_elf, fault_of_hex}
 use Rattle.programs.specs.declared.hex.HexFault.{HexFault}
 use Rattle.programs.specs.declared.program.ProgramForm.{ProgramForm}
 use Rattle.programs.specs.declared.program.ProgramForm.TheVariants as form
-use Rattle.programs.specs.declared.run_fault.RunFault.{RunFault}
+use Rattle.programs.specs.declared.command_fault.CommandFault.{CommandFault}
 
 -- the image of words, if they are read
-abbrev pub image_of_hex : Result (List ℕ) HexFault → Result ImageValue RunFault
+abbrev pub image_of_hex : Result (List ℕ) HexFault → Result ImageValue CommandFault
 image_of_hex (Ok words) = Ok (hex_image_of words)
 image_of_hex (Err why) = Err (fault_of_hex why)
 
 -- the image of a file, if it loads
-abbrev pub image_of_file : Result ImageValue ElfFault → Result ImageValue RunFault
+abbrev pub image_of_file : Result ImageValue ElfFault → Result ImageValue CommandFault
 image_of_file (Ok image) = Ok image
 image_of_file (Err why) = Err (fault_of_elf why)
 
 -- the image of a program
-abbrev pub program_of : ProgramForm → List ℕ → Result ImageValue RunFault
+abbrev pub program_of : ProgramForm → List ℕ → Result ImageValue CommandFault
 program_of form.Hex bytes = image_of_hex (words_of bytes)
 program_of form.Elf bytes = image_of_file (loaded bytes)

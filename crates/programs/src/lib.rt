@@ -1,16 +1,19 @@
-//! A program's bytes, as hexadecimal words or as an ELF file, to its image; how a run begins, and why there is none.
+//! A program's bytes, as hexadecimal words or as an ELF file, to its image; how a run begins; the
+//! faults of all commands, and how their answers are written.
 #![tactic(auto)]
 
+pub use command_fault::{CommandFault, Input};
+pub use delivery::{deliver, write_text};
 pub use hex::{HexFault, MOST_WORDS, read_hex};
 pub use hex_program::{HEX_BASE, HEX_SIZE, hex_image};
 pub use limits::hex_programs_have_their_place;
 pub use opening::{OpenRun, OpenText, open_run, open_text};
 pub use program::{ProgramForm, read_image, read_program};
-pub use run_fault::{Input, RunFault};
 
+mod command_fault;
+mod delivery;
 mod hex;
 mod hex_program;
 mod limits;
 mod opening;
 mod program;
-mod run_fault;

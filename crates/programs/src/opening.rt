@@ -7,10 +7,10 @@ ghost use Rattle.machine.specs.Start.{IsStartable};
 ghost use Rattle.choice_texts.specs.Reading.{choices_of};
 ghost use Rattle.programs.specs.Opening.{opening, with_choices};
 ghost use Rattle.programs.specs.Program.{program_of};
-ghost use Rattle.programs.specs.RunFaults.{IfReads, IsRefusal};
+ghost use Rattle.programs.specs.CommandFaults.{IfNames, IsRefusal};
 
+use crate::command_fault::{CommandFault, Input};
 use crate::program::{ProgramForm, read_image};
-use crate::run_fault::{Input, RunFault};
 use choice_texts::read_choices;
 use devices::{ReadFault, Source, read_all};
 use machine::{Choice, check_inputs};
@@ -35,7 +35,7 @@ pub fn open_text<A: Allocator + Copy, P: Source, C: Source>(
     inputs: &[u32],
     program: &mut P,
     choices: &mut C,
-) -> Result<OpenText<A>, RunFault>
+) -> Result<OpenText<A>, CommandFault>
     requires program_counts { P.failures program.old < 2 ^ 64 - 1 }
     requires choices_count { C.failures choices.old < 2 ^ 64 - 1 }
     ensures takes { IfOk result (λ _. IsStartable inputs.now) }
@@ -49,14 +49,13 @@ pub fn open_text<A: Allocator + Copy, P: Source, C: Source>(
         → IfSome (P.left program.old) (λ p. IfSome (C.left choices.old) (λ c.
         opening form (length inputs.now) p c ≡ Err fault))) }
     // A device is named only where it failed.
-    ensures read { IfErr result (λ fault. IfReads fault
+    ensures read { IfErr result (λ fault. IfNames fault
         (P.failures program.old < P.failures program.new)
-        (C.failures choices.old < C.failures choices.new)) }
-    ensures sink_unnamed { IfErr result (λ fault. fault ≢ RunFault.Write) }
+        (C.failures choices.old < C.failures choices.new) ⊥ ⊥) }
     // A fault of the program, and that of the number of inputs, come before one of the device that the choices are read from.
-    ensures program_first { result ≡ Err (RunFault.Read Input.Choices)
+    ensures program_first { result ≡ Err (CommandFault.Read Input.Choices)
         → IfSome (P.left program.old) (λ p. (image : ImageValue) × (program_of form p ≡ Ok image)) }
-    ensures inputs_first { result ≡ Err (RunFault.Read Input.Choices) → IsStartable inputs.now }
+    ensures inputs_first { result ≡ Err (CommandFault.Read Input.Choices) → IsStartable inputs.now }
 {
     let image = match read_image(alloc, form, program) {
         Ok(image) => image,
@@ -64,12 +63,12 @@ pub fn open_text<A: Allocator + Copy, P: Source, C: Source>(
     };
     match check_inputs(inputs) {
         Ok(()) => {}
-        Err(fault) => return Err(RunFault::from(fault)),
+        Err(fault) => return Err(CommandFault::from(fault)),
     }
     match read_all(alloc, choices) {
         Ok(text) => Ok(OpenText { image, text }),
-        Err(ReadFault::Device) => Err(RunFault::Read(Input::Choices)),
-        Err(ReadFault::Memory) => Err(RunFault::Memory),
+        Err(ReadFault::Device) => Err(CommandFault::Read(Input::Choices)),
+        Err(ReadFault::Memory) => Err(CommandFault::Memory),
     }
 }
 
@@ -90,7 +89,7 @@ pub fn open_run<A: Allocator + Copy, P: Source, C: Source>(
     inputs: &[u32],
     program: &mut P,
     choices: &mut C,
-) -> Result<OpenRun<A>, RunFault>
+) -> Result<OpenRun<A>, CommandFault>
     requires program_counts { P.failures program.old < 2 ^ 64 - 1 }
     requires choices_count { C.failures choices.old < 2 ^ 64 - 1 }
     ensures takes { IfOk result (λ _. IsStartable inputs.now) }
@@ -104,14 +103,13 @@ pub fn open_run<A: Allocator + Copy, P: Source, C: Source>(
         → IfSome (P.left program.old) (λ p. IfSome (C.left choices.old) (λ c.
         opening form (length inputs.now) p c ≡ Err fault))) }
     // A device is named only where it failed.
-    ensures read { IfErr result (λ fault. IfReads fault
+    ensures read { IfErr result (λ fault. IfNames fault
         (P.failures program.old < P.failures program.new)
-        (C.failures choices.old < C.failures choices.new)) }
-    ensures sink_unnamed { IfErr result (λ fault. fault ≢ RunFault.Write) }
+        (C.failures choices.old < C.failures choices.new) ⊥ ⊥) }
     // A fault of the program, and that of the number of inputs, come before one of the device that the choices are read from.
-    ensures program_first { result ≡ Err (RunFault.Read Input.Choices)
+    ensures program_first { result ≡ Err (CommandFault.Read Input.Choices)
         → IfSome (P.left program.old) (λ p. (image : ImageValue) × (program_of form p ≡ Ok image)) }
-    ensures inputs_first { result ≡ Err (RunFault.Read Input.Choices) → IsStartable inputs.now }
+    ensures inputs_first { result ≡ Err (CommandFault.Read Input.Choices) → IsStartable inputs.now }
 {
     let run = match open_text(alloc, form, inputs, program, choices) {
         Ok(run) => run,
@@ -122,6 +120,6 @@ pub fn open_run<A: Allocator + Copy, P: Source, C: Source>(
             image: run.image,
             choices,
         }),
-        Err(fault) => Err(RunFault::from(fault)),
+        Err(fault) => Err(CommandFault::from(fault)),
     }
 }

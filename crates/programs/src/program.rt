@@ -2,11 +2,11 @@
 
 ghost use Rattle.std.specs.Prelude.{◌≡◌, ◌≢◌, ◌^◌, ◌-◌, ◌<◌, Ok, Err, IfOk, IfErr, IfSome};
 ghost use Rattle.programs.specs.Program.{program_of};
-ghost use Rattle.programs.specs.RunFaults.{IfReads, IsRefusal};
+ghost use Rattle.programs.specs.CommandFaults.{IfNames, IsRefusal};
 
+use crate::command_fault::{CommandFault, Input};
 use crate::hex::read_hex;
 use crate::hex_program::hex_image;
-use crate::run_fault::{Input, RunFault};
 use devices::{ReadFault, Source, read_all};
 use loader::load;
 use program_images::Image;
@@ -26,9 +26,9 @@ pub fn read_program<A: Allocator + Copy>(
     alloc: A,
     form: ProgramForm,
     bytes: &[u8],
-) -> Result<Image<A>, RunFault>
+) -> Result<Image<A>, CommandFault>
     ensures ok { IfOk result (λ image. program_of form bytes.now ≡ Ok image) }
-    ensures err { IfErr result (λ fault. fault ≢ RunFault.Memory
+    ensures err { IfErr result (λ fault. fault ≢ CommandFault.Memory
         → program_of form bytes.now ≡ Err fault) }
 {
     match form {
@@ -43,48 +43,47 @@ pub fn read_image<A: Allocator + Copy, P: Source>(
     alloc: A,
     form: ProgramForm,
     program: &mut P,
-) -> Result<Image<A>, RunFault>
+) -> Result<Image<A>, CommandFault>
     requires { P.failures program.old < 2 ^ 64 - 1 }
     ensures ok { IfOk result (λ image. IfSome (P.left program.old) (λ p. program_of form p ≡ Ok image)) }
     ensures refused { IfErr result (λ fault. IsRefusal fault
         → IfSome (P.left program.old) (λ p. program_of form p ≡ Err fault)) }
-    ensures read { IfErr result (λ fault. IfReads fault
-        (P.failures program.old < P.failures program.new) ⊥) }
-    ensures sink_unnamed { IfErr result (λ fault. fault ≢ RunFault.Write) }
+    ensures read { IfErr result (λ fault. IfNames fault
+        (P.failures program.old < P.failures program.new) ⊥ ⊥ ⊥) }
 {
     let bytes = match read_all(alloc, program) {
         Ok(bytes) => bytes,
-        Err(ReadFault::Device) => return Err(RunFault::Read(Input::File)),
-        Err(ReadFault::Memory) => return Err(RunFault::Memory),
+        Err(ReadFault::Device) => return Err(CommandFault::Read(Input::File)),
+        Err(ReadFault::Memory) => return Err(CommandFault::Memory),
     };
     read_program(alloc, form, &bytes)
 }
 
 // The image of words in hexadecimal.
-fn read_hex_program<A: Allocator + Copy>(alloc: A, bytes: &[u8]) -> Result<Image<A>, RunFault>
+fn read_hex_program<A: Allocator + Copy>(alloc: A, bytes: &[u8]) -> Result<Image<A>, CommandFault>
     ensures ok { IfOk result (λ image. program_of ProgramForm.Hex bytes.now ≡ Ok image) }
-    ensures err { IfErr result (λ fault. fault ≢ RunFault.Memory
+    ensures err { IfErr result (λ fault. fault ≢ CommandFault.Memory
         → program_of ProgramForm.Hex bytes.now ≡ Err fault) }
 {
     let words = match read_hex(alloc, bytes) {
         Ok(words) => words,
-        Err(fault) => return Err(RunFault::from(fault)),
+        Err(fault) => return Err(CommandFault::from(fault)),
     };
     match hex_image(alloc, &words) {
         Ok(image) => Ok(image),
-        Err(_) => Err(RunFault::Memory),
+        Err(_) => Err(CommandFault::Memory),
     }
 }
 
 // The image of an ELF file.
 #[tactic(auto, using(crate::proofs::ProgramLemmas::file_fails, crate::proofs::ProgramLemmas::file_loads))]
-fn read_file<A: Allocator + Copy>(alloc: A, bytes: &[u8]) -> Result<Image<A>, RunFault>
+fn read_file<A: Allocator + Copy>(alloc: A, bytes: &[u8]) -> Result<Image<A>, CommandFault>
     ensures ok { IfOk result (λ image. program_of ProgramForm.Elf bytes.now ≡ Ok image) }
-    ensures err { IfErr result (λ fault. fault ≢ RunFault.Memory
+    ensures err { IfErr result (λ fault. fault ≢ CommandFault.Memory
         → program_of ProgramForm.Elf bytes.now ≡ Err fault) }
 {
     match load(alloc, bytes) {
         Ok(image) => Ok(image),
-        Err(fault) => Err(RunFault::from(fault)),
+        Err(fault) => Err(CommandFault::from(fault)),
     }
 }

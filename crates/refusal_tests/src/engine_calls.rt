@@ -6,12 +6,12 @@ use debug_engine::{DebugEngineFault, debug_engine};
 use devices::{MemorySink, MemorySource, ReadFault, Status, read_all};
 use engines::{Exit, Expect, FileView, ends_text, file_engine, run_engine};
 use hart_step::{Hart, HartState};
-use programs::{HexFault, ProgramForm, RunFault, hex_image, read_hex};
+use programs::{CommandFault, HexFault, ProgramForm, deliver, hex_image, read_hex};
 use progress::Unheard;
 use protocol_library::{Kind, source};
 use refusals::Refusals;
 use refusing::{Call, tried};
-use replay_engine::{ReplayFault, replay_engine};
+use replay_engine::replay_engine;
 use schedule_engine::{Maker, ScheduleFault, SchedulePlan, schedule_engine};
 use std::alloc::{AllocError, Allocator, Global};
 
@@ -113,10 +113,10 @@ fn answer_of(end: End, bytes: &[u8], text: &str) -> Result<bool, AllocError> {
     }
 }
 
-fn end_of_run(ending: Result<Status, RunFault>) -> End {
+fn end_of_run(ending: Result<Status, CommandFault>) -> End {
     match ending {
         Ok(Status::Done) => End::Done,
-        Err(RunFault::Memory) => End::Want,
+        Err(CommandFault::Memory) => End::Want,
         _ => End::Other,
     }
 }
@@ -131,15 +131,15 @@ fn is_run<A: Allocator + Copy>(alloc: A, host: Global) -> Result<bool, AllocErro
     let mut program = MemorySource::new(&EXITS);
     let mut choices = MemorySource::new(b"0 0");
     let mut sink = MemorySink::new(host);
-    let ending = run_engine(
+    let answer = run_engine(
         alloc,
         ProgramForm::Elf,
         &[7, 9],
         UNJUDGED,
         &mut program,
         &mut choices,
-        &mut sink,
     );
+    let ending = deliver(&mut sink, answer);
     answer_of(end_of_run(ending), sink.bytes(), ENDS)
 }
 
@@ -151,24 +151,18 @@ fn is_shown<A: Allocator + Copy>(
 ) -> Result<bool, AllocError> {
     let mut file = MemorySource::new(&EXITS);
     let mut sink = MemorySink::new(host);
-    let ending = file_engine(alloc, view, &mut file, &mut sink);
+    let answer = file_engine(alloc, view, &mut file);
+    let ending = deliver(&mut sink, answer);
     answer_of(end_of_run(ending), sink.bytes(), text)
-}
-
-fn end_of_replay(ending: Result<Status, ReplayFault>) -> End {
-    match ending {
-        Ok(Status::Done) => End::Done,
-        Err(ReplayFault::Run(RunFault::Memory)) => End::Want,
-        _ => End::Other,
-    }
 }
 
 fn is_replayed<A: Allocator + Copy>(alloc: A, host: Global) -> Result<bool, AllocError> {
     let mut program = MemorySource::new(&EXITS);
     let mut history = MemorySource::new(b"0+1");
     let mut sink = MemorySink::new(host);
-    let ending = replay_engine(alloc, &[7, 9], None, &mut program, &mut history, &mut sink);
-    answer_of(end_of_replay(ending), sink.bytes(), ENDS)
+    let answer = replay_engine(alloc, &[7, 9], None, &mut program, &mut history);
+    let ending = deliver(&mut sink, answer);
+    answer_of(end_of_run(ending), sink.bytes(), ENDS)
 }
 
 // Lines are answered as they come, so that a beginning of the answers may be written.
@@ -178,7 +172,7 @@ fn answer_of_session(
 ) -> Result<bool, AllocError> {
     match ending {
         Ok(status) => Ok(status == Status::Done && bytes == ANSWERS.as_bytes()),
-        Err(DebugEngineFault::Refused(RunFault::Memory)) if bytes.is_empty() => Err(AllocError),
+        Err(DebugEngineFault::Refused(CommandFault::Memory)) if bytes.is_empty() => Err(AllocError),
         Err(DebugEngineFault::Memory) if ANSWERS.as_bytes().starts_with(bytes) => Err(AllocError),
         Err(_) => Ok(false),
     }

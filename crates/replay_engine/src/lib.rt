@@ -1,11 +1,9 @@
-//! What `replay` does, over any sources and any sink.
+//! What `replay` does, over any sources.
 #![tactic(auto)]
 
-pub use fault::ReplayFault;
 pub use replay::replay_engine;
 pub use shown::shown_after;
 
-mod fault;
 mod opening;
 mod replay;
 mod shown;

@@ -5,15 +5,14 @@ ghost use Rattle.std.specs.List.{All};
 ghost use Rattle.program_images.specs.Image.{ImageValue};
 ghost use Rattle.machine.specs.Start.{IsStartable};
 ghost use Rattle.programs.specs.Program.{program_of};
-ghost use Rattle.programs.specs.declared.program.ProgramForm.{ProgramForm};
-ghost use Rattle.replay_engine.specs.Replay.{replay_opening, IsRefusal, IfReads};
+ghost use Rattle.programs.specs.CommandFaults.{IfNames, IsRefusal};
+ghost use Rattle.replay_engine.specs.Replay.{fault_of_history, replay_opening};
 
-use crate::fault::ReplayFault;
 use devices::{ReadFault, Source, read_all};
-use histories::{Entry, read_history};
+use histories::{Entry, HistoryFault, read_history};
 use machine::check_inputs;
 use program_images::Image;
-use programs::{ProgramForm, RunFault, read_image};
+use programs::{CommandFault, Input, ProgramForm, read_image};
 use std::alloc::Allocator;
 
 /// What a replay begins with.
@@ -33,7 +32,7 @@ pub fn open_replay<A: Allocator + Copy, P: Source, H: Source>(
     inputs: &[u32],
     program: &mut P,
     history: &mut H,
-) -> Result<OpenReplay<A>, ReplayFault>
+) -> Result<OpenReplay<A>, CommandFault>
     requires program_counts { P.failures program.old < 2 ^ 64 - 1 }
     requires history_counts { H.failures history.old < 2 ^ 64 - 1 }
     ensures takes { IfOk result (λ _. IsStartable inputs.now) }
@@ -47,30 +46,40 @@ pub fn open_replay<A: Allocator + Copy, P: Source, H: Source>(
         → IfSome (P.left program.old) (λ p. IfSome (H.left history.old) (λ h.
         replay_opening (length inputs.now) p h ≡ Err fault))) }
     // A device is named only where it failed.
-    ensures read { IfErr result (λ fault. IfReads fault
-        (P.failures program.old < P.failures program.new)
-        (H.failures history.old < H.failures history.new)) }
-    ensures sink_unnamed { IfErr result (λ fault. fault ≢ ReplayFault.Run RunFault.Write) }
+    ensures read { IfErr result (λ fault. IfNames fault
+        (P.failures program.old < P.failures program.new) ⊥
+        (H.failures history.old < H.failures history.new) ⊥) }
     // A fault of the program, and that of the number of inputs, come before one of the device that the history is read from.
-    ensures program_first { result ≡ Err ReplayFault.History
+    ensures program_first { result ≡ Err (CommandFault.Read Input.History)
         → IfSome (P.left program.old) (λ p. (image : ImageValue) × (program_of ProgramForm.Elf p ≡ Ok image)) }
-    ensures inputs_first { result ≡ Err ReplayFault.History → IsStartable inputs.now }
+    ensures inputs_first { result ≡ Err (CommandFault.Read Input.History) → IsStartable inputs.now }
 {
     let image = match read_image(alloc, ProgramForm::Elf, program) {
         Ok(image) => image,
-        Err(fault) => return Err(ReplayFault::Run(fault)),
+        Err(fault) => return Err(fault),
     };
     match check_inputs(inputs) {
         Ok(()) => {}
-        Err(fault) => return Err(ReplayFault::Run(RunFault::from(fault))),
+        Err(fault) => return Err(CommandFault::from(fault)),
     }
     let text = match read_all(alloc, history) {
         Ok(bytes) => bytes,
-        Err(ReadFault::Device) => return Err(ReplayFault::History),
-        Err(ReadFault::Memory) => return Err(ReplayFault::Run(RunFault::Memory)),
+        Err(ReadFault::Device) => return Err(CommandFault::Read(Input::History)),
+        Err(ReadFault::Memory) => return Err(CommandFault::Memory),
     };
     match read_history(alloc, &text, inputs.len() as u32) {
         Ok(history) => Ok(OpenReplay { image, history }),
-        Err(fault) => Err(ReplayFault::from(fault)),
+        Err(fault) => Err(history_fault(fault)),
+    }
+}
+
+// A fault of the history text, as one of the command.
+fn history_fault(fault: HistoryFault) -> CommandFault
+    ensures { result ≡ fault_of_history fault }
+{
+    match fault {
+        HistoryFault::BadEntry(offset) => CommandFault::BadEntry(offset),
+        HistoryFault::NoHart(offset) => CommandFault::NoHartOfEntry(offset),
+        HistoryFault::Memory => CommandFault::Memory,
     }
 }

@@ -2,26 +2,25 @@
 
 ghost use Rattle.std.specs.Prelude.{◌≡◌, ◌≢◌, ◌^◌, ◌-◌, ◌<◌, Ok, Err, IfOk, IfErr, IfSome, length, string_bytes};
 ghost use Rattle.std.specs.List.{All};
-ghost use Rattle.std.specs.Io.KnownBytes.{Keeps};
-ghost use Rattle.engines.specs.Certified.{IsCertified};
+ghost use Rattle.engines.specs.Certified.{AnswersKept, IsCertified};
 ghost use Rattle.engines.specs.Run.{may_run, shown, world_after};
 ghost use Rattle.histories.specs.History.{expanded};
 ghost use Rattle.program_images.specs.Image.{ImageValue};
 ghost use Rattle.machine.specs.Start.{IsStartable};
 ghost use Rattle.programs.specs.Program.{program_of};
-ghost use Rattle.programs.specs.declared.program.ProgramForm.{ProgramForm};
-ghost use Rattle.replay_engine.specs.Replay.{replay_answer, Prints, BeginsToPrint, IsRefusal, IfReads, AnswersKept};
+ghost use Rattle.outcome.specs.declared.expect.Exit.TheVariants.{May};
+ghost use Rattle.programs.specs.CommandFaults.{IfNames, IsRefusal};
+ghost use Rattle.replay_engine.specs.Replay.{replay_answer};
 
-use crate::fault::ReplayFault;
 use crate::opening::open_replay;
 use crate::shown::shown_after;
-use devices::{Sink, Source, Status, write_all};
+use devices::{Source, Status};
 use engines::see_words;
 use flat_memory::FlatStore;
 use histories::Entry;
 use machine::Machine;
 use program_images::Image;
-use programs::RunFault;
+use programs::{CommandFault, Input, ProgramForm};
 use protocol_library::Kind;
 use replays::replay_history;
 use std::alloc::{AllocError, Allocator};
@@ -49,60 +48,46 @@ fn replay_image<A: Allocator + Copy>(
     shown_after(alloc, inputs, rule, history, machine.ends())
 }
 
-/// `replay`: reads the program to its end, and where it is one and the inputs are not too many, the history text to its end;
-/// writes how the harts end, and under a rule the verdict. Nothing is written where what was read is refused.
+/// `replay`: reads the program to its end, and where it is one and the inputs are not too many, the
+/// history text to its end; answers how the harts end, and under a rule the verdict.
 #[tactic(auto, unfolding(crate::specs::Replay::replay_answer))]
-pub fn replay_engine<A: Allocator + Copy, P: Source, H: Source, K: Sink>(
+pub fn replay_engine<A: Allocator + Copy, P: Source, H: Source>(
     alloc: A,
     inputs: &[u32],
     rule: Option<Kind>,
     program: &mut P,
     history: &mut H,
-    sink: &mut K,
-) -> Result<Status, ReplayFault>
+) -> Result<(String<A>, Status), CommandFault>
     requires program_counts { P.failures program.old < 2 ^ 64 - 1 }
     requires history_counts { H.failures history.old < 2 ^ 64 - 1 }
-    requires sink_counts { K.failures sink.old < 2 ^ 64 - 1 }
-    // The printed world of the replay was appended, and this is its status.
-    ensures done { IfOk result (λ status.
+    // The printed world of the replay, and its status.
+    ensures done { IfOk result (λ answer.
         IfSome (P.left program.old) (λ p. IfSome (H.left history.old) (λ h.
-        Prints (replay_answer inputs.now rule p h) status (K.held sink.old) (K.held sink.new)))) }
-    // What was read is refused, and nothing is written.
+        replay_answer inputs.now rule p h ≡ Ok (string_bytes answer.0, answer.1)))) }
     ensures refused { IfErr result (λ fault. IsRefusal fault
         → IfSome (P.left program.old) (λ p. IfSome (H.left history.old) (λ h.
         replay_answer inputs.now rule p h ≡ Err fault))) }
-    ensures unwritten { IfErr result (λ fault. fault ≢ ReplayFault.Run RunFault.Write
-        → Keeps (K.held sink.old) (K.held sink.new)) }
     // A device is named only where it failed.
-    ensures read { IfErr result (λ fault. IfReads fault
-        (P.failures program.old < P.failures program.new)
-        (H.failures history.old < H.failures history.new)) }
+    ensures read { IfErr result (λ fault. IfNames fault
+        (P.failures program.old < P.failures program.new) ⊥
+        (H.failures history.old < H.failures history.new) ⊥) }
     // A fault of the program, and that of the number of inputs, come before one of the device that the history is read from.
-    ensures program_first { result ≡ Err ReplayFault.History
+    ensures program_first { result ≡ Err (CommandFault.Read Input.History)
         → IfSome (P.left program.old) (λ p. (image : ImageValue) × (program_of ProgramForm.Elf p ≡ Ok image)) }
-    ensures inputs_first { result ≡ Err ReplayFault.History → IsStartable inputs.now }
-    ensures write { result ≡ Err (ReplayFault.Run RunFault.Write)
-        → K.failures sink.old < K.failures sink.new }
-    // After a failed write a beginning of the output stands there.
-    ensures begun { result ≡ Err (ReplayFault.Run RunFault.Write)
-        → IfSome (P.left program.old) (λ p. IfSome (H.left history.old) (λ h.
-        BeginsToPrint (replay_answer inputs.now rule p h) (K.held sink.old) (K.held sink.new))) }
+    ensures inputs_first { result ≡ Err (CommandFault.Read Input.History) → IsStartable inputs.now }
     // A file that is an object, run by as many harts as it is for, never has a broken verdict of its kind's rule.
     ensures certified { IfOk result (λ _.
         IfSome (P.left program.old) (λ p. IfSome (H.left history.old) (λ h.
-        IsCertified ProgramForm.Elf p inputs.now rule → AnswersKept (replay_answer inputs.now rule p h)))) }
+        IsCertified ProgramForm.Elf p inputs.now rule
+        → AnswersKept May (replay_answer inputs.now rule p h)))) }
 {
     see_words(inputs);
     let run = match open_replay(alloc, inputs, program, history) {
         Ok(run) => run,
         Err(fault) => return Err(fault),
     };
-    let (lines, status) = match replay_image(alloc, &run.image, inputs, rule, &run.history) {
-        Ok(answer) => answer,
-        Err(AllocError) => return Err(ReplayFault::Run(RunFault::Memory)),
-    };
-    match write_all(sink, lines.as_bytes()) {
-        Ok(()) => Ok(status),
-        Err(_) => Err(ReplayFault::Run(RunFault::Write)),
+    match replay_image(alloc, &run.image, inputs, rule, &run.history) {
+        Ok(answer) => Ok(answer),
+        Err(AllocError) => Err(CommandFault::Memory),
     }
 }

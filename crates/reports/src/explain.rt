@@ -6,7 +6,7 @@ use advice::{Mistake, order_advice};
 use clap::error::ErrorKind;
 use command_line::LineFault;
 use fault_advice::{file_words, item_at};
-use programs::{ProgramForm, RunFault};
+use programs::{CommandFault, ProgramForm};
 use std::rt::Files;
 use std::{fs, io};
 
@@ -16,7 +16,7 @@ pub struct RunFiles<'a> {
     /// The program's file, and its form.
     pub program: &'a str,
     pub form: ProgramForm,
-    /// The file of the choices, where there is one.
+    /// The file of the choices, or of the history that stands for them, where there is one.
     pub choices: &'a str,
     /// How many inputs there are.
     pub harts: usize,
@@ -37,37 +37,48 @@ pub fn show(rt: &impl Eprint, text: &str) {
     let _ = eprint!(rt; "{text}");
 }
 
-/// Explains why a run gives no answer.
+/// Explains why a command gives no answer.
 pub fn explain_run<R: Files + AllocGlobal + Eprint>(
     rt: &R,
     audience: Audience,
     files: RunFiles<'_>,
-    fault: RunFault,
+    fault: CommandFault,
 ) {
     if audience == Audience::Program {
         return;
     }
     match fault {
-        RunFault::Elf(_) | RunFault::BadWord(_) | RunFault::TooMany(_) => {
+        CommandFault::Elf(_) | CommandFault::BadWord(_) | CommandFault::TooMany(_) => {
             let _ = told_of_program(rt, files, fault);
         }
-        RunFault::NoHarts => show(
+        CommandFault::NoHarts => show(
             rt,
             "there is a hart for each input: write one at least, as --inputs 7,9\n",
         ),
-        RunFault::TooManyHarts => {
+        CommandFault::TooManyHarts => {
             let harts = files.harts;
             let _ = eprintln!(rt;
                 "there is a hart for each input: {harts} are given, and 32 are the most"
             );
         }
-        RunFault::BadChoice(offset) => {
+        CommandFault::BadChoice(offset) => {
             let _ = told_of_choice(rt, files, offset);
         }
-        RunFault::NoHart(offset) => {
+        CommandFault::NoHart(offset) | CommandFault::NoHartOfEntry(offset) => {
             let _ = told_of_hart(rt, files.choices, files.harts, offset);
         }
-        RunFault::Read(_) | RunFault::Write | RunFault::Memory => {}
+        CommandFault::BadEntry(offset) => {
+            let _ = told_of_entry(rt, files.choices, offset);
+        }
+        CommandFault::NothingFails
+        | CommandFault::ThreadRefused
+        | CommandFault::Stale
+        | CommandFault::StampsExhausted
+        | CommandFault::Unmatched
+        | CommandFault::OutOfOrder
+        | CommandFault::Read(_)
+        | CommandFault::Write
+        | CommandFault::Memory => {}
     }
 }
 
@@ -75,16 +86,16 @@ pub fn explain_run<R: Files + AllocGlobal + Eprint>(
 fn told_of_program<R: Files + AllocGlobal + Eprint>(
     rt: &R,
     files: RunFiles<'_>,
-    fault: RunFault,
+    fault: CommandFault,
 ) -> Option<()> {
     let path = files.program;
     let bytes = read_again(rt, path)?;
     match fault {
-        RunFault::Elf(fault) => {
+        CommandFault::Elf(fault) => {
             let words = file_words(fault, &bytes)?;
             eprintln!(rt; "{path}: {words}").ok()
         }
-        RunFault::BadWord(index) => {
+        CommandFault::BadWord(index) => {
             if bytes.starts_with(b"\x7fELF") {
                 return eprintln!(rt; "{path}: this is an ELF file: leave --hex away").ok();
             }
@@ -132,18 +143,6 @@ fn told_of_hart<R: Files + AllocGlobal + Eprint>(
     ).ok()
 }
 
-/// Explains an item of a history that is no entry, or names no hart.
-pub fn explain_entry<R: Files + AllocGlobal + Eprint>(
-    rt: &R,
-    audience: Audience,
-    path: &str,
-    offset: usize,
-) {
-    if audience == Audience::Person {
-        let _ = told_of_entry(rt, path, offset);
-    }
-}
-
 // Tells of an item that is no entry.
 fn told_of_entry<R: Files + AllocGlobal + Eprint>(rt: &R, path: &str, offset: usize) -> Option<()> {
     let bytes = read_again(rt, path)?;
@@ -153,19 +152,6 @@ fn told_of_entry<R: Files + AllocGlobal + Eprint>(rt: &R, path: &str, offset: us
          and one more"
     )
     .ok()
-}
-
-/// Explains an item of a history that names a hart that isn't there.
-pub fn explain_hart<R: Files + AllocGlobal + Eprint>(
-    rt: &R,
-    audience: Audience,
-    path: &str,
-    harts: usize,
-    offset: usize,
-) {
-    if audience == Audience::Person {
-        let _ = told_of_hart(rt, path, harts, offset);
-    }
 }
 
 /// Explains why a file can't be opened or read.

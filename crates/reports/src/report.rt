@@ -1,13 +1,13 @@
 //! What the program says on standard error.
 
 ghost use Rattle.std.specs.Prelude.{◌≡◌, ◌≢◌};
-ghost use Rattle.programs.specs.RunFaults.{status_of_fault};
+ghost use Rattle.programs.specs.CommandFaults.{status_of_fault};
 
 use crate::audience::Audience;
 use crate::explain::explain_path;
 use command_line::LineFault;
 use devices::Status;
-use programs::RunFault;
+use programs::CommandFault;
 use protocol_library::KIND_NAMES;
 use std::io;
 
@@ -15,11 +15,11 @@ use std::io;
 pub fn out_of_memory(rt: &impl Eprint) -> Status
     ensures { result ≡ Status.NoMemory }
 {
-    say(rt, RunFault::Memory)
+    say(rt, CommandFault::Memory)
 }
 
-/// Says why a run gives no answer.
-pub fn say(rt: &impl Eprint, fault: RunFault) -> Status
+/// Says why a command gives no answer.
+pub fn say(rt: &impl Eprint, fault: CommandFault) -> Status
     ensures { result ≡ status_of_fault fault }
 {
     // Where standard error is closed, the status alone tells.
@@ -63,7 +63,7 @@ pub fn refuse(rt: &(impl Print + Eprint), fault: &LineFault) -> Status {
             if error.use_stderr() {
                 Status::BadLine
             } else if printed.is_err() {
-                say(rt, RunFault::Write)
+                say(rt, CommandFault::Write)
             } else {
                 Status::Done
             }

@@ -1,19 +1,15 @@
 //! Doing `replay`.
 
-use crate::faults::tell_replay;
 use command_line::read_inputs;
 use command_orders::ReplayOrder;
-use devices::{ReaderSource, Status, WriterSink};
+use devices::{Status, WriterSink};
 use history_advice::history_advice;
 use object_names::read_rule;
-use programs::{Input, ProgramForm, RunFault};
-use replay_engine::{ReplayFault, replay_engine};
-use reports::{
-    Audience, RunFiles, cannot_open, cannot_read, explain_entry, explain_hart, explain_run,
-    read_again, refuse, show,
-};
+use programs::{ProgramForm, deliver};
+use replay_engine::replay_engine;
+use reports::{Audience, RunFiles, open_both, read_again, refuse, say_why, show};
+use std::io;
 use std::rt::Files;
-use std::{fs, io};
 
 /// Runs a program under a history. Both files are opened before either is read.
 pub fn replay_history<R: Files + AllocGlobal + Print + Eprint>(
@@ -29,62 +25,31 @@ pub fn replay_history<R: Files + AllocGlobal + Print + Eprint>(
         Ok(rule) => rule,
         Err(fault) => return refuse(rt, &fault),
     };
-    let program = match fs::open(rt, order.file) {
-        Ok(program) => program,
-        Err(error) => return cannot_open(rt, audience, order.file, &error),
+    let (mut program, mut history) = match open_both(rt, audience, order.file, order.history) {
+        Ok(files) => files,
+        Err(status) => return status,
     };
-    let history = match fs::open(rt, order.history) {
-        Ok(history) => history,
-        Err(error) => return cannot_open(rt, audience, order.history, &error),
-    };
-    let mut program = ReaderSource::new(program);
-    let mut history = ReaderSource::new(history);
-    let mut sink = WriterSink::new(io::writer(rt));
-    match replay_engine(
+    let answer = replay_engine(
         rt.alloc(),
         inputs.as_slice(),
         rule,
         &mut program,
         &mut history,
-        &mut sink,
-    ) {
+    );
+    let files = RunFiles {
+        program: order.file,
+        form: ProgramForm::Elf,
+        choices: order.history,
+        harts: inputs.len(),
+    };
+    match deliver(&mut WriterSink::new(io::writer(rt)), answer) {
         Ok(status) => {
             if status == Status::Faulted && audience == Audience::Person {
                 let _ = explain_faults(rt, order, inputs.as_slice());
             }
             status
         }
-        Err(ReplayFault::Run(RunFault::Read(Input::File))) => cannot_read(rt, order.file),
-        Err(ReplayFault::History) => cannot_read(rt, order.history),
-        Err(fault) => {
-            let status = tell_replay(rt, fault);
-            explain(rt, audience, order, inputs.len(), fault);
-            status
-        }
-    }
-}
-
-// Tells why a replay gives no answer.
-fn explain<R: Files + AllocGlobal + Eprint>(
-    rt: &R,
-    audience: Audience,
-    order: &ReplayOrder,
-    harts: usize,
-    fault: ReplayFault,
-) {
-    match fault {
-        ReplayFault::Run(fault) => {
-            let files = RunFiles {
-                program: order.file,
-                form: ProgramForm::Elf,
-                choices: "",
-                harts,
-            };
-            explain_run(rt, audience, files, fault);
-        }
-        ReplayFault::BadEntry(offset) => explain_entry(rt, audience, order.history, offset),
-        ReplayFault::NoHart(offset) => explain_hart(rt, audience, order.history, harts, offset),
-        ReplayFault::History => {}
+        Err(fault) => say_why(rt, audience, files, fault),
     }
 }
 

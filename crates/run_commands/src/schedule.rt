@@ -6,7 +6,7 @@ use command_orders::{Draw, ScheduleOrder, read_draw};
 use devices::{ReaderSource, Status, WriterSink};
 use kind_plans::{DRAWS, REFUSALS, read_kind, read_refusals, read_seed_plan, why_no_kind};
 use order_plans::read_schedule_plan;
-use programs::{ProgramForm, RunFault};
+use programs::{CommandFault, ProgramForm};
 use reports::{Audience, RunFiles, bad_line, cannot_open, cannot_read, explain_run, refuse, say};
 use schedule_engine::schedule_engine;
 use schedule_kinds::ScheduleKind;
@@ -137,7 +137,7 @@ fn print_run_choices<R: Files + AllocGlobal + Print + Eprint>(
     let mut sink = WriterSink::new(io::writer(rt));
     match seed_choices_engine(rt.alloc(), inputs.as_slice(), plan, &mut program, &mut sink) {
         Ok(status) => status,
-        Err(RunFault::Read(_)) => cannot_read(rt, run.file),
+        Err(CommandFault::Read(_)) => cannot_read(rt, run.file),
         Err(fault) => {
             let status = say(rt, fault);
             let files = RunFiles {

@@ -1,17 +1,16 @@
 //! Doing `shrink`.
 
-use crate::faults::tell_shrink;
 use choice_shrinking::ChoicesLeft;
-use cmd_shrink::{ShrinkFault, shrink_engine};
+use cmd_shrink::shrink_engine;
 use command_line::read_inputs;
 use command_orders::ShrinkOrder;
-use devices::{ReaderSource, Status, WriterSink};
+use devices::{Status, WriterSink};
 use object_names::read_rule;
 use outcome::{Exit, Expect};
-use programs::{Input, ProgramForm, RunFault};
-use reports::{Audience, RunFiles, WIPE, cannot_open, cannot_read, explain_run, refuse, say, show};
+use programs::{CommandFault, ProgramForm, deliver};
+use reports::{Audience, RunFiles, WIPE, open_both, refuse, say_why, show};
+use std::io;
 use std::rt::Files;
-use std::{fs, io};
 
 // Tells a person how many choices are left.
 #[derive(Drop)]
@@ -51,32 +50,24 @@ pub fn shrink_schedule<R: Files + AllocGlobal + Print + Eprint>(
         Ok(rule) => rule,
         Err(fault) => return refuse(rt, &fault),
     };
-    let program = match fs::open(rt, order.file) {
-        Ok(program) => program,
-        Err(error) => return cannot_open(rt, audience, order.file, &error),
+    let (mut program, mut choices) = match open_both(rt, audience, order.file, order.choices) {
+        Ok(files) => files,
+        Err(status) => return status,
     };
-    let choices = match fs::open(rt, order.choices) {
-        Ok(choices) => choices,
-        Err(error) => return cannot_open(rt, audience, order.choices, &error),
-    };
-    let mut program = ReaderSource::new(program);
-    let mut choices = ReaderSource::new(choices);
-    let mut sink = WriterSink::new(io::writer(rt));
-    let mut line = Line { rt, audience };
     let exit = if order.must_exit {
         Exit::Must
     } else {
         Exit::May
     };
-    match shrink_engine(
+    let answer = shrink_engine(
         rt.alloc(),
         inputs.as_slice(),
         Expect { rule, exit },
         &mut program,
         &mut choices,
-        &mut sink,
-        &mut line,
-    ) {
+        &mut Line { rt, audience },
+    );
+    match deliver(&mut WriterSink::new(io::writer(rt)), answer) {
         Ok(status) => status,
         Err(fault) => tell(rt, audience, order, inputs.len(), fault),
     }
@@ -97,28 +88,17 @@ fn tell<R: Files + AllocGlobal + Eprint>(
     audience: Audience,
     order: &ShrinkOrder,
     harts: usize,
-    fault: ShrinkFault,
+    fault: CommandFault,
 ) -> Status {
-    match fault {
-        ShrinkFault::Run(RunFault::Read(Input::File)) => cannot_read(rt, order.file),
-        ShrinkFault::Run(RunFault::Read(Input::Choices)) => cannot_read(rt, order.choices),
-        ShrinkFault::Run(fault) => {
-            let status = say(rt, fault);
-            let files = RunFiles {
-                program: order.file,
-                form: ProgramForm::Elf,
-                choices: order.choices,
-                harts,
-            };
-            explain_run(rt, audience, files, fault);
-            status
-        }
-        ShrinkFault::NothingFails => {
-            let status = tell_shrink(rt, fault);
-            if audience == Audience::Person {
-                show(rt, what_would_fail(order.must_exit));
-            }
-            status
-        }
+    let files = RunFiles {
+        program: order.file,
+        form: ProgramForm::Elf,
+        choices: order.choices,
+        harts,
+    };
+    let status = say_why(rt, audience, files, fault);
+    if fault == CommandFault::NothingFails && audience == Audience::Person {
+        show(rt, what_would_fail(order.must_exit));
     }
+    status
 }

@@ -2,18 +2,17 @@
 
 ghost use Rattle.std.specs.Prelude.{◌^◌, ◌-◌, ◌<◌};
 
-use crate::faults::tell_threads;
 use crate::telling_gate::TellingGate;
-use banked_engine::{BankedEngineFault, HistoryUse, banked_engine};
+use banked_engine::{HistoryUse, banked_engine};
 use command_line::{LineFault, read_inputs, read_number};
 use command_orders::{Locks, ThreadsOrder, read_plan};
-use devices::{ReaderSource, Source, Status, WriterSink, write_all};
+use devices::{ReaderSource, Source, Status, WriterSink};
 use history_advice::history_advice;
 use object_names::read_rule;
-use programs::{Input, ProgramForm, RunFault};
+use programs::{CommandFault, ProgramForm, write_text};
 use reports::{
-    Audience, RunFiles, cannot_open, cannot_read, cannot_write, explain_run, out_of_memory,
-    read_again, refuse, say, show,
+    Audience, RunFiles, cannot_open, cannot_write, out_of_memory, read_again, refuse, say, say_why,
+    show,
 };
 use std::alloc::Global;
 use std::collections::BTreeSet;
@@ -22,7 +21,7 @@ use std::sync::Wait;
 use std::thread::Threads;
 use std::{fs, io};
 use thread_gate::Gate;
-use threads_engine::{ThreadsAnswer, ThreadsEngineFault, ThreadsTask, threads_engine};
+use threads_engine::{ThreadsAnswer, ThreadsTask, threads_engine};
 
 // What the order's texts say.
 fn read_task(alloc: Global, order: &ThreadsOrder) -> Result<ThreadsTask<Global>, LineFault> {
@@ -58,14 +57,11 @@ fn run_task<P: Source, G: Gate + Sync, R: AllocGlobal + Threads + Wait + Sync>(
     history: HistoryUse,
     program: &mut P,
     gate: &G,
-) -> Result<ThreadsAnswer<Global>, BankedEngineFault>
+) -> Result<ThreadsAnswer<Global>, CommandFault>
     requires { P.failures program.old < 2 ^ 64 - 1 }
 {
     match locks {
-        Locks::One => match threads_engine(rt, rt.alloc(), task, program, gate) {
-            Ok(answer) => Ok(answer),
-            Err(fault) => Err(BankedEngineFault::Threads(fault)),
-        },
+        Locks::One => threads_engine(rt, rt.alloc(), task, program, gate),
         Locks::Banks => banked_engine(rt, rt.alloc(), task, history, program, gate),
     }
 }
@@ -107,7 +103,7 @@ fn write_answer<R: Files + AllocGlobal + Print + Eprint>(
             return status;
         }
     }
-    match write_all(
+    match write_text(
         &mut WriterSink::new(io::writer(rt)),
         answer.lines.as_bytes(),
     ) {
@@ -117,7 +113,7 @@ fn write_answer<R: Files + AllocGlobal + Print + Eprint>(
             }
             answer.status
         }
-        Err(_) => say(rt, RunFault::Write),
+        Err(fault) => say(rt, fault),
     }
 }
 
@@ -132,7 +128,7 @@ fn write_history<R: Files + AllocGlobal + Print + Eprint>(
         Err(error) if error.kind() == io::ErrorKind::OutOfMemory => return Err(out_of_memory(rt)),
         Err(_) => return Err(cannot_write(rt, path)),
     };
-    match write_all(&mut WriterSink::new(file), text) {
+    match write_text(&mut WriterSink::new(file), text) {
         Ok(()) => Ok(()),
         Err(_) => Err(cannot_write(rt, path)),
     }
@@ -143,14 +139,8 @@ fn tell_fault<R: Files + AllocGlobal + Eprint>(
     rt: &R,
     audience: Audience,
     order: &ThreadsOrder,
-    fault: BankedEngineFault,
+    fault: CommandFault,
 ) -> Status {
-    let BankedEngineFault::Threads(ThreadsEngineFault::Run(why)) = fault else {
-        return tell_threads(rt, fault);
-    };
-    if why == RunFault::Read(Input::File) {
-        return cannot_read(rt, order.file);
-    }
     let harts = match read_inputs(rt.alloc(), order.inputs) {
         Ok(inputs) => inputs.len(),
         Err(_) => 0,
@@ -161,9 +151,7 @@ fn tell_fault<R: Files + AllocGlobal + Eprint>(
         choices: "",
         harts,
     };
-    let status = tell_threads(rt, fault);
-    explain_run(rt, audience, files, why);
-    status
+    say_why(rt, audience, files, fault)
 }
 
 // Tells what the faults mean with which the run ended, by its history, where its program can be read once more.

@@ -2,12 +2,12 @@
 
 use command_line::read_inputs;
 use command_orders::TraceOrder;
-use devices::{ReaderSource, Status, WriterSink};
+use devices::{Status, WriterSink};
 use order_plans::read_trace_plan;
-use programs::{Input, ProgramForm, RunFault};
-use reports::{Audience, RunFiles, bad_line, cannot_open, cannot_read, explain_run, refuse, say};
+use programs::ProgramForm;
+use reports::{Audience, RunFiles, bad_line, open_both, refuse, say_why};
+use std::io;
 use std::rt::Files;
-use std::{fs, io};
 use trace_engine::trace_engine;
 
 /// Prints what each choice of a run did. Both files are opened before either is read.
@@ -31,17 +31,16 @@ pub fn trace_run<R: Files + AllocGlobal + Print + Eprint>(
     } else {
         ProgramForm::Elf
     };
-    let program = match fs::open(rt, order.file) {
-        Ok(program) => program,
-        Err(error) => return cannot_open(rt, audience, order.file, &error),
+    let (mut program, mut choices) = match open_both(rt, audience, order.file, order.choices) {
+        Ok(files) => files,
+        Err(status) => return status,
     };
-    let choices = match fs::open(rt, order.choices) {
-        Ok(choices) => choices,
-        Err(error) => return cannot_open(rt, audience, order.choices, &error),
+    let files = RunFiles {
+        program: order.file,
+        form,
+        choices: order.choices,
+        harts: inputs.len(),
     };
-    let mut program = ReaderSource::new(program);
-    let mut choices = ReaderSource::new(choices);
-    let mut sink = WriterSink::new(io::writer(rt));
     match trace_engine(
         rt.alloc(),
         form,
@@ -49,35 +48,9 @@ pub fn trace_run<R: Files + AllocGlobal + Print + Eprint>(
         inputs.as_slice(),
         &mut program,
         &mut choices,
-        &mut sink,
+        &mut WriterSink::new(io::writer(rt)),
     ) {
         Ok(status) => status,
-        Err(fault) => tell(rt, audience, form, order, inputs.len(), fault),
-    }
-}
-
-// Says why nothing is told.
-fn tell<R: Files + AllocGlobal + Eprint>(
-    rt: &R,
-    audience: Audience,
-    form: ProgramForm,
-    order: &TraceOrder,
-    harts: usize,
-    fault: RunFault,
-) -> Status {
-    match fault {
-        RunFault::Read(Input::File) => cannot_read(rt, order.file),
-        RunFault::Read(Input::Choices) => cannot_read(rt, order.choices),
-        fault => {
-            let status = say(rt, fault);
-            let files = RunFiles {
-                program: order.file,
-                form,
-                choices: order.choices,
-                harts,
-            };
-            explain_run(rt, audience, files, fault);
-            status
-        }
+        Err(fault) => say_why(rt, audience, files, fault),
     }
 }

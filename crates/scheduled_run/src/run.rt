@@ -1,17 +1,14 @@
 //! Doing `run`.
 
 use command_line::{RunOrder, read_inputs};
-use devices::{ReaderSource, Status, WriterSink};
+use devices::{Status, WriterSink};
 use engines::{Exit, Expect, run_engine};
 use fault_advice::run_advice;
 use object_names::read_rule;
-use programs::{Input, ProgramForm, RunFault};
-use reports::{
-    Audience, RunFiles, cannot_open, cannot_read, explain_run, read_again, refuse, say, show,
-};
-use std::alloc::Allocator;
+use programs::{ProgramForm, deliver};
+use reports::{Audience, RunFiles, open_both, read_again, refuse, say_why, show};
+use std::io;
 use std::rt::Files;
-use std::{fs, io};
 
 /// Runs a program under a schedule. Both files are opened before either is read.
 pub fn run_schedule<R: Files + AllocGlobal + Print + Eprint>(
@@ -27,37 +24,36 @@ pub fn run_schedule<R: Files + AllocGlobal + Print + Eprint>(
         Ok(rule) => rule,
         Err(fault) => return refuse(rt, &fault),
     };
-    let program = match fs::open(rt, order.file) {
-        Ok(program) => program,
-        Err(error) => return cannot_open(rt, audience, order.file, &error),
+    let (mut program, mut choices) = match open_both(rt, audience, order.file, order.choices) {
+        Ok(files) => files,
+        Err(status) => return status,
     };
-    let choices = match fs::open(rt, order.choices) {
-        Ok(choices) => choices,
-        Err(error) => return cannot_open(rt, audience, order.choices, &error),
-    };
-    let mut program = ReaderSource::new(program);
-    let mut choices = ReaderSource::new(choices);
-    let mut sink = WriterSink::new(io::writer(rt));
     let expect = Expect {
         rule,
         exit: exit_of(order),
     };
-    match run_engine(
+    let answer = run_engine(
         rt.alloc(),
         form_of(order),
         inputs.as_slice(),
         expect,
         &mut program,
         &mut choices,
-        &mut sink,
-    ) {
+    );
+    let files = RunFiles {
+        program: order.file,
+        form: form_of(order),
+        choices: order.choices,
+        harts: inputs.len(),
+    };
+    match deliver(&mut WriterSink::new(io::writer(rt)), answer) {
         Ok(status) => {
             if status == Status::Faulted && audience == Audience::Person {
                 let _ = explain_faults(rt, order, inputs.as_slice());
             }
             status
         }
-        Err(fault) => tell(rt, audience, order, inputs.len(), fault),
+        Err(fault) => say_why(rt, audience, files, fault),
     }
 }
 
@@ -76,31 +72,6 @@ fn exit_of(order: &RunOrder) -> Exit {
         Exit::Must
     } else {
         Exit::May
-    }
-}
-
-// Says why a run gives no answer.
-fn tell<R: Files + AllocGlobal + Eprint>(
-    rt: &R,
-    audience: Audience,
-    order: &RunOrder,
-    harts: usize,
-    fault: RunFault,
-) -> Status {
-    match fault {
-        RunFault::Read(Input::File) => cannot_read(rt, order.file),
-        RunFault::Read(Input::Choices) => cannot_read(rt, order.choices),
-        fault => {
-            let status = say(rt, fault);
-            let files = RunFiles {
-                program: order.file,
-                form: form_of(order),
-                choices: order.choices,
-                harts,
-            };
-            explain_run(rt, audience, files, fault);
-            status
-        }
     }
 }
 

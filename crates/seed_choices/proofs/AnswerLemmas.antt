@@ -5,14 +5,14 @@ use Rattle.std.specs.Option.{IfSome}
 use Rattle.program_images.specs.Image.{ImageValue}
 use Rattle.programs.specs.Program.{program_of}
 use Rattle.programs.specs.declared.program.ProgramForm.TheVariants as form
-use Rattle.programs.specs.declared.run_fault.RunFault.{RunFault}
-use Rattle.engines.specs.Run.{Answer, BeginsToPrint, Prints}
+use Rattle.programs.specs.declared.command_fault.CommandFault.{CommandFault}
+use Rattle.programs.specs.Answers.{Answer, BeginsToPrint, Prints}
 use Rattle.devices.specs.declared.status.Status.{Status}
 use Rattle.seed_choices.specs.Seeds.{after_image, choices_answer}
 use Rattle.seed_choices.specs.declared.plan.SeedPlan.{SeedPlan}
 
 -- a program that isn't read
-pub unread_known : (plan : SeedPlan) (inputs : List ℕ) (left : Option (List ℕ)) (why : RunFault)
+pub unread_known : (plan : SeedPlan) (inputs : List ℕ) (left : Option (List ℕ)) (why : CommandFault)
     → IfSome left (λ p. program_of form.Elf p ≡ Err why) → IfSome left (λ p. choices_answer plan inputs p ≡ Err why)
 unfolding choices_answer
 unread_known plan inputs None why reads = tt

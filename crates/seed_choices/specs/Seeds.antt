@@ -12,11 +12,11 @@ use Rattle.devices.specs.declared.status.Status.TheVariants as status
 use Rattle.schedule_kinds.specs.Kinds.{kind_choices}
 use Rattle.campaign_runs.specs.Runs.{ending_after, ending_from}
 use Rattle.campaign_runs.specs.declared.campaign.Campaign.{Campaign}
-use Rattle.engines.specs.Run.{Answer}
+use Rattle.programs.specs.Answers.{Answer}
 use Rattle.programs.specs.Program.{program_of}
 use Rattle.programs.specs.declared.program.ProgramForm.TheVariants as form
-use Rattle.programs.specs.declared.run_fault.RunFault.{RunFault}
-use Rattle.programs.specs.declared.run_fault.RunFault.TheVariants as fault
+use Rattle.programs.specs.declared.command_fault.CommandFault.{CommandFault}
+use Rattle.programs.specs.declared.command_fault.CommandFault.TheVariants as fault
 use Rattle.seed_choices.specs.declared.plan.SeedPlan.{SeedPlan}
 
 -- the choices of a plan in a run of an image
@@ -24,7 +24,7 @@ abbrev pub seed_list : SeedPlan → List ℕ → ImageValue → List Choice
 seed_list plan inputs image = kind_choices plan.kind (started image inputs) (length inputs) plan.steps plan.seed
 
 -- what is answered once the program is read: the number of inputs is looked at before the run
-abbrev pub after_image : SeedPlan → List ℕ → Result ImageValue RunFault → Answer
+abbrev pub after_image : SeedPlan → List ℕ → Result ImageValue CommandFault → Answer
 after_image plan inputs (Ok image) =
     if length inputs == 0 then Err fault.NoHarts
     else (if nat_lt most_harts (length inputs) then Err fault.TooManyHarts

@@ -3,8 +3,8 @@
 ghost use Rattle.std.specs.Prelude.{◌≡◌, ◌≢◌, ◌-◌, ◌^◌, ◌<◌, ◌≤◌, Ok, Err, IfOk, IfErr, IfSome, string_bytes};
 ghost use Rattle.std.specs.Io.KnownBytes.{Keeps};
 ghost use Rattle.machine.specs.Start.{IsStartable};
-ghost use Rattle.engines.specs.Run.{BeginsToPrint, Prints};
-ghost use Rattle.programs.specs.RunFaults.{IfReads, IsRefusal};
+ghost use Rattle.programs.specs.Answers.{BeginsToPrint, Prints};
+ghost use Rattle.programs.specs.CommandFaults.{IfNames, IsRefusal};
 ghost use Rattle.choice_texts.specs.Printing.{choices_text};
 ghost use Rattle.seed_choices.specs.Seeds.{after_image, choices_answer, seed_list};
 
@@ -15,7 +15,7 @@ use choice_texts::print_choices;
 use devices::{Sink, Source, Status, write_all};
 use machine::check_inputs;
 use program_images::Image;
-use programs::{ProgramForm, RunFault, read_image};
+use programs::{CommandFault, ProgramForm, read_image};
 use std::alloc::{AllocError, Allocator};
 
 // The choice text of a seed's choices in a run of an image.
@@ -48,21 +48,20 @@ fn made<A: Allocator + Copy>(
     inputs: &[u32],
     plan: SeedPlan,
     image: &Image<A>,
-) -> Result<String<A>, RunFault>
+) -> Result<String<A>, CommandFault>
     ensures ok { IfOk result (λ text.
         after_image plan inputs.now (Ok image.now) ≡ Ok (string_bytes text, Status.Done)) }
     ensures refused { IfErr result (λ fault. IsRefusal fault
         → after_image plan inputs.now (Ok image.now) ≡ Err fault) }
-    ensures read { IfErr result (λ fault. IfReads fault ⊥ ⊥) }
-    ensures sink_unnamed { IfErr result (λ fault. fault ≢ RunFault.Write) }
+    ensures read { IfErr result (λ fault. IfNames fault ⊥ ⊥ ⊥ ⊥) }
 {
     match check_inputs(inputs) {
         Ok(()) => {}
-        Err(fault) => return Err(RunFault::from(fault)),
+        Err(fault) => return Err(CommandFault::from(fault)),
     }
     match seed_text(alloc, inputs, plan, image) {
         Ok(text) => Ok(text),
-        Err(AllocError) => Err(RunFault::Memory),
+        Err(AllocError) => Err(CommandFault::Memory),
     }
 }
 
@@ -74,7 +73,7 @@ pub fn seed_choices_engine<A: Allocator + Copy, P: Source, K: Sink>(
     plan: SeedPlan,
     program: &mut P,
     sink: &mut K,
-) -> Result<Status, RunFault>
+) -> Result<Status, CommandFault>
     requires program_counts { P.failures program.old < 2 ^ 64 - 1 }
     requires sink_counts { K.failures sink.old < 2 ^ 64 - 1 }
     // The choices' text was appended.
@@ -83,14 +82,14 @@ pub fn seed_choices_engine<A: Allocator + Copy, P: Source, K: Sink>(
     // What was read is refused, and nothing is written.
     ensures refused { IfErr result (λ fault. IsRefusal fault
         → IfSome (P.left program.old) (λ p. choices_answer plan inputs.now p ≡ Err fault)) }
-    ensures unwritten { IfErr result (λ fault. fault ≢ RunFault.Write
+    ensures unwritten { IfErr result (λ fault. fault ≢ CommandFault.Write
         → Keeps (K.held sink.old) (K.held sink.new)) }
-    // A device is named only where it failed; there are no choices to read.
-    ensures read { IfErr result (λ fault. IfReads fault
-        (P.failures program.old < P.failures program.new) ⊥) }
-    ensures write { result ≡ Err RunFault.Write → K.failures sink.old < K.failures sink.new }
+    // A device is named only where it failed; there is no other text to read.
+    ensures read { IfErr result (λ fault. IfNames fault
+        (P.failures program.old < P.failures program.new) ⊥ ⊥
+        (K.failures sink.old < K.failures sink.new)) }
     // After a failed write a beginning of the text stands there.
-    ensures begun { result ≡ Err RunFault.Write → IfSome (P.left program.old) (λ p.
+    ensures begun { result ≡ Err CommandFault.Write → IfSome (P.left program.old) (λ p.
         BeginsToPrint (choices_answer plan inputs.now p) (K.held sink.old) (K.held sink.new)) }
 {
     let image = match read_image(alloc, ProgramForm::Elf, program) {
@@ -103,7 +102,7 @@ pub fn seed_choices_engine<A: Allocator + Copy, P: Source, K: Sink>(
     };
     match write_all(sink, text.as_bytes()) {
         Ok(()) => {}
-        Err(_) => return Err(RunFault::Write),
+        Err(_) => return Err(CommandFault::Write),
     }
     Ok(Status::Done)
 }

@@ -2,7 +2,7 @@
 use debug_engine::{DebugEngineFault, debug_engine};
 use devices::{Failing, MemorySink, MemorySource, Status};
 use program_images::ElfFault;
-use programs::{Input, RunFault};
+use programs::{CommandFault, Input};
 use progress::Unheard;
 use refusing::Refusing;
 use std::alloc::{AllocError, Allocator, Global};
@@ -75,19 +75,19 @@ const SESSIONS: [Session; 10] = [
     Session { name: "a line that is no text is a bad command", commands: b"wh\xffere\nwhere\n",
         answers: b"bad command\nstep 0 of 4\n", ..ANSWERED },
     Session { name: "no hart", inputs: &[],
-        result: Err(DebugEngineFault::Refused(RunFault::NoHarts)), answers: b"", ..ANSWERED },
+        result: Err(DebugEngineFault::Refused(CommandFault::NoHarts)), answers: b"", ..ANSWERED },
     Session { name: "33 harts", inputs: &[7; 33],
-        result: Err(DebugEngineFault::Refused(RunFault::TooManyHarts)), answers: b"", ..ANSWERED },
+        result: Err(DebugEngineFault::Refused(CommandFault::TooManyHarts)), answers: b"", ..ANSWERED },
     Session { name: "a choice of a second hart of one", inputs: &[7],
-        result: Err(DebugEngineFault::Refused(RunFault::NoHart(2))), answers: b"", ..ANSWERED },
+        result: Err(DebugEngineFault::Refused(CommandFault::NoHart(2))), answers: b"", ..ANSWERED },
     Session { name: "a program that fails", passed: Passed { program: 0, ..ALL },
-        result: Err(DebugEngineFault::Refused(RunFault::Read(Input::File))), answers: b"", ..ANSWERED },
+        result: Err(DebugEngineFault::Refused(CommandFault::Read(Input::File))), answers: b"", ..ANSWERED },
     Session { name: "commands that fail", passed: Passed { commands: 7, ..ALL },
         result: Err(DebugEngineFault::Commands), answers: b"step 0 of 4\n", ..ANSWERED },
     Session { name: "a sink that fails", passed: Passed { sink: 1, ..ALL },
         result: Err(DebugEngineFault::Answers), answers: b"step 0 of 4\n", ..ANSWERED },
     Session { name: "a refused program is told before the choices fail", program: b"no program", passed: Passed { choices: 0, ..ALL },
-        result: Err(DebugEngineFault::Refused(RunFault::Elf(ElfFault::Short))), answers: b"", ..ANSWERED },
+        result: Err(DebugEngineFault::Refused(CommandFault::Elf(ElfFault::Short))), answers: b"", ..ANSWERED },
 ];
 
 // How a session ends that is held with these commands, and what it has answered.
@@ -179,7 +179,7 @@ fn a_line_of_any_length_is_the_command_that_it_is(rt: HostRuntime) {
 // Whether a session that wants memory may end so with these answers.
 fn may_want(end: Result<Status, DebugEngineFault>, answers: &[u8]) -> bool {
     match end {
-        Err(DebugEngineFault::Refused(RunFault::Memory)) => answers.is_empty(),
+        Err(DebugEngineFault::Refused(CommandFault::Memory)) => answers.is_empty(),
         Err(DebugEngineFault::Memory) => TRANSCRIPT.starts_with(answers),
         _ => end == Ok(Status::Done) && answers == TRANSCRIPT,
     }

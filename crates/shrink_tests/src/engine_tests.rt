@@ -2,10 +2,10 @@
 use crate::worked::{CROSSED, LOST, NEEDS_SC, OWN_INPUT, TWO_FAULTS, file_of};
 use choice_shrinking::Unheard;
 use choice_texts::{print_choices, read_choices};
-use cmd_shrink::{ShrinkFault, shrink_engine};
+use cmd_shrink::shrink_engine;
 use devices::{Failing, FullSink, MemorySink, MemorySource, Status};
 use outcome::{Exit, Expect};
-use programs::{Input, RunFault};
+use programs::{CommandFault, Input, deliver};
 use protocol_library::Kind;
 use scheduler::seeded;
 use std::alloc::Global;
@@ -124,20 +124,20 @@ fn shrunk(
     alloc: Global,
     given: Given,
     choices: &[u8],
-) -> Option<(Result<Status, ShrinkFault>, MemorySink<Global>)> {
+) -> Option<(Result<Status, CommandFault>, MemorySink<Global>)> {
     let file = file_of(alloc, given.source)?;
     let mut program = MemorySource::new(&file);
     let mut choices = Failing::new(MemorySource::new(choices), given.passed);
     let mut sink = MemorySink::new(alloc);
-    let ending = shrink_engine(
+    let answer = shrink_engine(
         alloc,
         given.inputs,
         given.expect,
         &mut program,
         &mut choices,
-        &mut sink,
         &mut Unheard,
     );
+    let ending = deliver(&mut sink, answer);
     Some((ending, sink))
 }
 
@@ -165,28 +165,28 @@ fn worked_lists_are_shrunk(rt: HostRuntime) {
 struct Refused {
     given: Given,
     choices: &'static str,
-    fault: ShrinkFault,
+    fault: CommandFault,
 }
 
 // Too few steps are no hang.
 #[rattlefmt::skip]
 const REFUSED: [Refused; 8] = [
     Refused { given: Given { source: LOST, inputs: &[2, 2], expect: NO_FAULT, passed: u64::MAX }, choices: "0*15 1*15",
-        fault: ShrinkFault::NothingFails },
+        fault: CommandFault::NothingFails },
     Refused { given: Given { source: LOST, inputs: &[2, 2], expect: NO_FAULT, passed: u64::MAX }, choices: "",
-        fault: ShrinkFault::NothingFails },
+        fault: CommandFault::NothingFails },
     Refused { given: Given { source: CROSSED, inputs: &[0, 0], expect: ALL_EXIT, passed: u64::MAX }, choices: "0*8 1*6",
-        fault: ShrinkFault::NothingFails },
+        fault: CommandFault::NothingFails },
     Refused { given: Given { source: OWN_INPUT, inputs: &[7, 9], expect: NO_FAULT, passed: u64::MAX }, choices: "0*5 1*6",
-        fault: ShrinkFault::NothingFails },
+        fault: CommandFault::NothingFails },
     Refused { given: Given { source: OWN_INPUT, inputs: &[7, 7], expect: AGREED, passed: u64::MAX }, choices: "0*5 1*6",
-        fault: ShrinkFault::NothingFails },
+        fault: CommandFault::NothingFails },
     Refused { given: Given { source: LOST, inputs: &[], expect: NO_FAULT, passed: u64::MAX }, choices: "0 2",
-        fault: ShrinkFault::Run(RunFault::NoHarts) },
+        fault: CommandFault::NoHarts },
     Refused { given: Given { source: LOST, inputs: &[2, 2], expect: NO_FAULT, passed: u64::MAX }, choices: "0 2",
-        fault: ShrinkFault::Run(RunFault::NoHart(2)) },
+        fault: CommandFault::NoHart(2) },
     Refused { given: Given { source: TWO_FAULTS, inputs: &[0, 0], expect: NO_FAULT, passed: 0 }, choices: "1*6 0*8",
-        fault: ShrinkFault::Run(RunFault::Read(Input::Choices)) },
+        fault: CommandFault::Read(Input::Choices) },
 ];
 
 // Whether a shrinking is refused so, and nothing is written.
@@ -203,25 +203,25 @@ fn what_does_not_fail_or_is_not_read_is_refused(rt: HostRuntime) {
 }
 
 // How a shrinking ends that a full sink should take; none for want of memory.
-fn shrunk_in_vain(alloc: Global) -> Option<Result<Status, ShrinkFault>> {
+fn shrunk_in_vain(alloc: Global) -> Option<Result<Status, CommandFault>> {
     let file = file_of(alloc, TWO_FAULTS)?;
     let mut program = MemorySource::new(&file);
     let mut choices = MemorySource::new(b"1*6 0*8");
-    let ending = shrink_engine(
+    let answer = shrink_engine(
         alloc,
         &[0, 0],
         NO_FAULT,
         &mut program,
         &mut choices,
-        &mut FullSink::new(),
         &mut Unheard,
     );
+    let ending = deliver(&mut FullSink::new(), answer);
     Some(ending)
 }
 
 #[test]
 fn a_full_sink_is_told(rt: HostRuntime) {
-    let told = Err(ShrinkFault::Run(RunFault::Write));
+    let told = Err(CommandFault::Write);
     assert!(rt; shrunk_in_vain(rt.alloc()) == Some(told));
 }
 

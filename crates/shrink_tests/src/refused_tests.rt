@@ -1,10 +1,10 @@
 //! Each request of a shrinking refused in turn, once and for good.
 use crate::worked::{TWO_FAULTS, file_of};
 use choice_shrinking::Unheard;
-use cmd_shrink::{ShrinkFault, shrink_engine};
+use cmd_shrink::shrink_engine;
 use devices::{MemorySink, MemorySource, Status};
 use outcome::{Exit, Expect};
-use programs::RunFault;
+use programs::{CommandFault, deliver};
 use refusing::{Call, Wrong, tried};
 use std::alloc::{AllocError, Allocator, Global};
 
@@ -15,10 +15,10 @@ struct Shrinking<'a> {
 }
 
 // Whether a shrinking gave its full answer; or it told want of memory and wrote nothing.
-fn answer_of(ending: Result<Status, ShrinkFault>, bytes: &[u8]) -> Result<bool, AllocError> {
+fn answer_of(ending: Result<Status, CommandFault>, bytes: &[u8]) -> Result<bool, AllocError> {
     match ending {
         Ok(status) => Ok(status == Status::Done && bytes == b"1*4 0*6\n".as_slice()),
-        Err(ShrinkFault::Run(RunFault::Memory)) if bytes.is_empty() => Err(AllocError),
+        Err(CommandFault::Memory) if bytes.is_empty() => Err(AllocError),
         Err(_) => Ok(false),
     }
 }
@@ -28,7 +28,7 @@ impl<'a> Call for Shrinking<'a> {
         let mut program = MemorySource::new(self.file);
         let mut choices = MemorySource::new(b"1*6 0*8");
         let mut sink = MemorySink::new(host);
-        let ending = shrink_engine(
+        let answer = shrink_engine(
             alloc,
             &[0, 0],
             Expect {
@@ -37,9 +37,9 @@ impl<'a> Call for Shrinking<'a> {
             },
             &mut program,
             &mut choices,
-            &mut sink,
             &mut Unheard,
         );
+        let ending = deliver(&mut sink, answer);
         answer_of(ending, sink.bytes())
     }
 }

@@ -21,7 +21,8 @@ use Rattle.book.specs.Book.{BookValue, replayed, world_of}
 use Rattle.hart_threads.specs.Outcome.{IsOutcome}
 use Rattle.threads_engine.specs.Threads.{IsAnswer}
 use Rattle.threads_engine.specs.declared.threads.ThreadsAnswer.{ThreadsAnswer}
-use Rattle.replay_engine.proofs.KeptLemmas.{within_history, certified_shown}
+use Rattle.engines.proofs.CertifiedLemmas.{certified_shown}
+use Rattle.replay_engine.proofs.KeptLemmas.{within_history}
 
 module _ (image : ImageValue) (inputs : List ℕ) (budget : ℕ) (plan : List (ℕ × ℕ)) (b : BookValue) (o : IsOutcome image inputs budget plan b) where
   -- the book is that of the image and the inputs
@@ -44,7 +45,7 @@ module _ (image : ImageValue) (inputs : List ℕ) (budget : ℕ) (plan : List (�
       → shown (may_run rule) inputs (expanded b.history) (world_after image inputs (expanded b.history)) ≡ answer → EndsKept May answer.0 answer.1
   kept rule program answer words reads certified prints =
       subst (λ (a : List ℕ × Status). EndsKept May a.0 a.1) prints
-      (certified_shown inputs rule program image (expanded b.history) words
+      (certified_shown form.Elf inputs (may_run rule) program image (expanded b.history) words
       (within_history (length inputs) b.history (λ k d lt. (o.within k d lt).0)) reads certified)
 
   -- what is printed of what the book shows

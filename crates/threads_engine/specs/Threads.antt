@@ -6,20 +6,17 @@ use Rattle.protocol_library.specs.declared.kind.Kind.{Kind}
 use Rattle.histories.specs.declared.entry.Entry.{Entry}
 use Rattle.histories.specs.History.{expanded}
 use Rattle.histories.specs.Printing.{history_text}
+use Rattle.programs.specs.CommandFaults.{IfNames}
 use Rattle.programs.specs.Program.{program_of}
 use Rattle.programs.specs.declared.program.ProgramForm.TheVariants as form
-use Rattle.programs.specs.RunFaults as faults
-use Rattle.programs.specs.declared.run_fault.RunFault.TheVariants as run
-use Rattle.devices.specs.declared.status.Status.{Status}
-use Rattle.devices.specs.declared.status.Status.TheVariants as status
+use Rattle.programs.specs.declared.command_fault.CommandFault.{CommandFault}
+use Rattle.programs.specs.declared.command_fault.CommandFault.TheVariants as fault
 use Rattle.engines.specs.Run.{may_run, shown, world_after}
 use Rattle.engines.specs.Certified.{EndsKept}
 use Rattle.outcome.specs.declared.expect.Exit.TheVariants.{May}
 use Rattle.hart_threads.specs.Outcome.{IsOutcome}
 use Rattle.hart_threads.specs.declared.fault.RunFault.{RunFault}
 use Rattle.hart_threads.specs.declared.fault.RunFault.TheVariants as threads
-use Rattle.threads_engine.specs.declared.fault.ThreadsEngineFault.{ThreadsEngineFault}
-use Rattle.threads_engine.specs.declared.fault.ThreadsEngineFault.TheVariants as engine
 use Rattle.threads_engine.specs.declared.threads.ThreadsAnswer.{ThreadsAnswer}
 
 -- a history of the file's program, which no plan, budget or print contradicts
@@ -37,35 +34,23 @@ abbrev pub IsKept : {A : Type 0} → ThreadsAnswer A → Type 0
 IsKept {A} answer = EndsKept May (string_bytes answer.lines) answer.status
 
 -- a fault of the threads
-abbrev pub fault_of_run : RunFault → ThreadsEngineFault
-fault_of_run threads.NoHarts = engine.Run run.NoHarts
-fault_of_run threads.TooManyHarts = engine.Run run.TooManyHarts
-fault_of_run threads.StartRefused = engine.StartRefused
-fault_of_run threads.Stale = engine.Stale
-fault_of_run threads.Memory = engine.Run run.Memory
-
--- a fault of the program or of the number of inputs, and of no device, thread or memory
-abbrev pub IsRefusal : ThreadsEngineFault → Type 0
-IsRefusal (engine.Run why) = faults.IsRefusal why
-IsRefusal engine.StartRefused = ⊥
-IsRefusal engine.Stale = ⊥
+abbrev pub fault_of_run : RunFault → CommandFault
+fault_of_run threads.NoHarts = fault.NoHarts
+fault_of_run threads.TooManyHarts = fault.TooManyHarts
+fault_of_run threads.StartRefused = fault.ThreadRefused
+fault_of_run threads.Stale = fault.Stale
+fault_of_run threads.Memory = fault.Memory
 
 -- when so many inputs and a program are refused so: the program is looked at first
-abbrev pub Refuses : ℕ → List ℕ → ThreadsEngineFault → Type 0
-Refuses harts program (engine.Run run.NoHarts) = harts ≡ 0
-Refuses harts program (engine.Run run.TooManyHarts) = most_harts < harts
-Refuses harts program (engine.Run why) = program_of form.Elf program ≡ Err why
-Refuses harts program engine.StartRefused = ⊥
-Refuses harts program engine.Stale = ⊥
+abbrev pub Refuses : ℕ → List ℕ → CommandFault → Type 0
+Refuses harts program fault.NoHarts = harts ≡ 0
+Refuses harts program fault.TooManyHarts = most_harts < harts
+Refuses harts program fault.ThreadRefused = Unit {0}
+Refuses harts program fault.Stale = Unit {0}
+Refuses harts program why = program_of form.Elf program ≡ Err why
 
--- a fact of the program's file where a fault names it; a run of threads has no choice text
-abbrev pub IfReads : ThreadsEngineFault → Type 0 → Type 0
-IfReads (engine.Run why) file = faults.IfReads why file ⊥
-IfReads engine.StartRefused file = Unit {0}
-IfReads engine.Stale file = Unit {0}
-
--- the status of a fault
-abbrev pub status_of : ThreadsEngineFault → Status
-status_of (engine.Run why) = faults.status_of_fault why
-status_of engine.StartRefused = status.Refused
-status_of engine.Stale = status.Refused
+-- a fact of the program's file where a fault names it; or the host refused a thread, or a hart is stale
+abbrev pub IfReads : CommandFault → Type 0 → Type 0
+IfReads fault.ThreadRefused file = Unit {0}
+IfReads fault.Stale file = Unit {0}
+IfReads why file = IfNames why file ⊥ ⊥ ⊥

@@ -1,16 +1,16 @@
 //! `threads`: a program, inputs, a budget and a plan in; the history of the harts, their ends and the verdict on them out.
 
-ghost use Rattle.std.specs.Prelude.{◌≡◌, ◌≢◌, ◌^◌, ◌-◌, ◌<◌, ◌≤◌, IfOk, IfErr, IfSome, length};
+ghost use Rattle.std.specs.Prelude.{◌≡◌, ◌^◌, ◌-◌, ◌<◌, ◌≤◌, IfOk, IfErr, IfSome, length};
 ghost use Rattle.engines.specs.Certified.{IsCertified};
 ghost use Rattle.programs.specs.declared.program.ProgramForm.{ProgramForm};
-ghost use Rattle.threads_engine.specs.Threads.{IsAnswer, IsKept, IsRefusal, IfReads, Refuses, fault_of_run};
+ghost use Rattle.programs.specs.CommandFaults.{IsRefusal};
+ghost use Rattle.threads_engine.specs.Threads.{IfReads, IsAnswer, IsKept, Refuses, fault_of_run};
 
-use crate::fault::ThreadsEngineFault;
 use devices::{Source, Status};
 use engines::see_words;
-use hart_threads::{RunFault as ThreadsFault, run_threads};
+use hart_threads::{RunFault, run_threads};
 use histories::print_history;
-use programs::{ProgramForm, RunFault, read_image};
+use programs::{CommandFault, ProgramForm, read_image};
 use protocol_library::Kind;
 use replay_engine::shown_after;
 use std::alloc::{AllocError, Allocator};
@@ -55,7 +55,7 @@ pub fn threads_engine<
     task: ThreadsTask<A>,
     program: &mut P,
     gate: &G,
-) -> Result<ThreadsAnswer<A>, ThreadsEngineFault>
+) -> Result<ThreadsAnswer<A>, CommandFault>
     requires { P.failures program.old < 2 ^ 64 - 1 }
     ensures answer { IfOk result (λ answer. IfSome (P.left program.old) (λ p.
         IsAnswer task.inputs.items task.budget task.plan.keys task.rule p answer)) }
@@ -66,13 +66,13 @@ pub fn threads_engine<
     ensures refused { IfErr result (λ fault. IsRefusal fault
         → IfSome (P.left program.old) (λ p. Refuses (length task.inputs.items) p fault)) }
     // The program's device is named only where it failed, and no other is.
-    ensures read { IfErr result (λ fault. IfReads fault (P.failures program.old < P.failures program.new)) }
-    ensures sink_unnamed { IfErr result (λ fault. fault ≢ ThreadsEngineFault.Run RunFault.Write) }
+    ensures read { IfErr result (λ fault. IfReads fault
+        (P.failures program.old < P.failures program.new)) }
 {
     see_words(&task.inputs);
     let image = match read_image(alloc, ProgramForm::Elf, program) {
         Ok(image) => image,
-        Err(fault) => return Err(ThreadsEngineFault::Run(fault)),
+        Err(fault) => return Err(fault),
     };
     let ThreadsTask {
         inputs,
@@ -85,7 +85,7 @@ pub fn threads_engine<
         Err(fault) => return Err(fault_of_threads(fault)),
     };
     let Ok(history) = print_history(alloc, book.history()) else {
-        return Err(ThreadsEngineFault::Run(RunFault::Memory));
+        return Err(CommandFault::Memory);
     };
     match shown_after(
         alloc,
@@ -99,19 +99,19 @@ pub fn threads_engine<
             lines,
             status,
         }),
-        Err(AllocError) => Err(ThreadsEngineFault::Run(RunFault::Memory)),
+        Err(AllocError) => Err(CommandFault::Memory),
     }
 }
 
 // A fault of the threads, as one of the command.
-fn fault_of_threads(fault: ThreadsFault) -> ThreadsEngineFault
+fn fault_of_threads(fault: RunFault) -> CommandFault
     ensures { result ≡ fault_of_run fault }
 {
     match fault {
-        ThreadsFault::NoHarts => ThreadsEngineFault::Run(RunFault::NoHarts),
-        ThreadsFault::TooManyHarts => ThreadsEngineFault::Run(RunFault::TooManyHarts),
-        ThreadsFault::StartRefused => ThreadsEngineFault::StartRefused,
-        ThreadsFault::Stale => ThreadsEngineFault::Stale,
-        ThreadsFault::Memory => ThreadsEngineFault::Run(RunFault::Memory),
+        RunFault::NoHarts => CommandFault::NoHarts,
+        RunFault::TooManyHarts => CommandFault::TooManyHarts,
+        RunFault::StartRefused => CommandFault::ThreadRefused,
+        RunFault::Stale => CommandFault::Stale,
+        RunFault::Memory => CommandFault::Memory,
     }
 }

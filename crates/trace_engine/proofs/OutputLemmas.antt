@@ -6,7 +6,8 @@ use Rattle.std.proofs.lemmas.Grind.{common_steps}
 use Rattle.std.proofs.lemmas.Bool.{cases_lt}
 use Rattle.std.proofs.lemmas.List.{take-append-le}
 use Rattle.std.specs.Io.KnownBytes.{Appends}
-use Rattle.trace_engine.specs.Output.{SoFar, Begins}
+use Rattle.programs.specs.Answers.{Begins}
+use Rattle.trace_engine.specs.Output.{SoFar}
 
 take_within : (n : ℕ) (ys : List ℕ) → (m : ℕ) × ((m ≤ length ys) × (take m ys ≡ take n ys))
 take_within n ys = ⊎_elim

@@ -7,7 +7,8 @@ use Rattle.machine.specs.World.{World, run}
 use Rattle.machine.specs.Start.{started}
 use Rattle.machine.specs.declared.choice.Choice.{Choice}
 use Rattle.trace_texts.specs.declared.head.Span.{Span}
-use Rattle.trace_engine.specs.Output.{SoFar, Begins}
+use Rattle.programs.specs.Answers.{Begins}
+use Rattle.trace_engine.specs.Output.{SoFar}
 use Rattle.trace_engine.specs.Trace.{head_of, span_of, told_entries, trace_text}
 use Rattle.trace_engine.specs.declared.plan.TracePlan.{TracePlan}
 use Rattle.trace_engine.proofs.OutputLemmas.{begun_with}

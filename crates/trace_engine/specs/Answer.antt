@@ -1,15 +1,13 @@
 -- What `trace` answers to a program and a choice text.
-use Rattle.std.specs.Prelude.{ℕ, List, [], length, Option}
-use Rattle.std.specs.Io.KnownBytes.{Appends}
-use Rattle.std.specs.declared.result.Result.{Result}
+use Rattle.std.specs.Prelude.{ℕ, List, [], length}
 use Rattle.std.specs.declared.result.Result.TheVariants.{Ok, Err}
 use Rattle.loader.specs.Symbol.{SymbolValue}
 use Rattle.loader.specs.SymbolTable.{Symbols, symbols_of}
+use Rattle.devices.specs.declared.status.Status.TheVariants.{Done}
+use Rattle.programs.specs.Answers.{Answer}
 use Rattle.programs.specs.Opening.{Opened, opening}
 use Rattle.programs.specs.declared.program.ProgramForm.{ProgramForm}
 use Rattle.programs.specs.declared.program.ProgramForm.TheVariants as form
-use Rattle.programs.specs.declared.run_fault.RunFault.{RunFault}
-use Rattle.trace_engine.specs.Output.{Begins}
 use Rattle.trace_engine.specs.Trace.{trace_text}
 use Rattle.trace_engine.specs.declared.plan.TracePlan.{TracePlan}
 
@@ -23,26 +21,12 @@ abbrev pub program_symbols : ProgramForm → List ℕ → List SymbolValue
 program_symbols form.Hex bytes = []
 program_symbols form.Elf bytes = shown_symbols (symbols_of bytes)
 
--- the text that is written, or why none is
-abbrev pub Traced : Type 0
-Traced = Result (List ℕ) RunFault
-
 -- by what a run begins with
-abbrev pub after_opening : TracePlan → List SymbolValue → List ℕ → Opened → Traced
-after_opening plan symbols inputs (Ok opened) = Ok (trace_text plan opened.0 symbols inputs opened.1)
+abbrev pub after_opening : TracePlan → List SymbolValue → List ℕ → Opened → Answer
+after_opening plan symbols inputs (Ok opened) = Ok (trace_text plan opened.0 symbols inputs opened.1, Done)
 after_opening plan symbols inputs (Err why) = Err why
 
 -- what is answered to a program and a choice text
-unfoldable pub trace_answer : ProgramForm → TracePlan → List ℕ → List ℕ → List ℕ → Traced
+unfoldable pub trace_answer : ProgramForm → TracePlan → List ℕ → List ℕ → List ℕ → Answer
 trace_answer form plan inputs program text =
     after_opening plan (program_symbols form program) inputs (opening form (length inputs) program text)
-
--- the whole text was appended
-abbrev pub Prints : Traced → Option (List ℕ) → Option (List ℕ) → Type 0
-Prints (Ok text) old new = Appends old new text
-Prints (Err why) old new = ⊥
-
--- a beginning of the text was appended
-abbrev pub BeginsToPrint : Traced → Option (List ℕ) → Option (List ℕ) → Type 0
-BeginsToPrint (Ok text) old new = Begins text old new
-BeginsToPrint (Err why) old new = ⊥

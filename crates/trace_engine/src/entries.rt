@@ -3,14 +3,16 @@ ghost use Rattle.std.specs.Prelude.{◌≡◌, ℕ, ◌-◌, ◌+◌, ◌^◌, �
 ghost use Rattle.machine.specs.State.{state};
 ghost use Rattle.machine.specs.declared.choice.Choice.{Choice};
 ghost use Rattle.trace_engine.specs.Cursor.{Has};
-ghost use Rattle.trace_engine.specs.Output.{SoFar, Begins, IfHalts};
+ghost use Rattle.programs.specs.Answers.{Begins};
+ghost use Rattle.programs.specs.CommandFaults.{IfHalts};
+ghost use Rattle.trace_engine.specs.Output.{SoFar};
 ghost use Rattle.trace_engine.specs.Trace.{told_entries};
 
 use crate::output::write_entry;
 use crate::plan::{TraceForm, told_count};
 use crate::teller::Teller;
 use devices::Sink;
-use programs::RunFault;
+use programs::CommandFault;
 use std::alloc::Allocator;
 use trace_texts::Span;
 
@@ -23,7 +25,7 @@ pub(crate) fn write_entries<A: Allocator + Copy, K: Sink>(
     teller: &mut Teller<'_, A>,
     buffer: &mut Vec<u8, A>,
     sink: &mut K,
-) -> Result<(), RunFault>
+) -> Result<(), CommandFault>
     requires some { 1 ≤ span.from }
     requires order { span.from ≤ span.to + 1 }
     requires sink_counts { K.failures sink.old < 2 ^ 64 - 1 }

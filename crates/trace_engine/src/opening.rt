@@ -1,12 +1,12 @@
 //! How a trace begins: the program with its symbols, the number of inputs and the choice text, read once, in this order.
 
-ghost use Rattle.std.specs.Prelude.{◌≡◌, ◌≢◌, ◌^◌, ◌-◌, ◌<◌, Ok, Err, IfOk, IfErr, IfSome, length};
+ghost use Rattle.std.specs.Prelude.{◌≡◌, ◌^◌, ◌-◌, ◌<◌, Ok, Err, IfOk, IfErr, IfSome, length};
 ghost use Rattle.program_images.specs.Image.{ImageValue};
 ghost use Rattle.machine.specs.Start.{IsStartable};
 ghost use Rattle.choice_texts.specs.Reading.{choices_of};
 ghost use Rattle.programs.specs.Opening.{opening, with_choices};
 ghost use Rattle.programs.specs.Program.{program_of};
-ghost use Rattle.programs.specs.RunFaults.{IfReads, IsRefusal};
+ghost use Rattle.programs.specs.CommandFaults.{IfNames, IsRefusal};
 ghost use Rattle.trace_engine.specs.Answer.{after_opening, program_symbols, trace_answer};
 ghost use Rattle.trace_engine.specs.declared.plan.TracePlan.{TracePlan};
 
@@ -14,7 +14,7 @@ use devices::{ReadFault, Source, read_all};
 use loader::{SymFault, Symbol, symbols};
 use machine::check_inputs;
 use program_images::Image;
-use programs::{Input, ProgramForm, RunFault, read_program};
+use programs::{CommandFault, Input, ProgramForm, read_program};
 use std::alloc::{AllocError, Allocator};
 
 /// A program that was read, with its symbols.
@@ -59,20 +59,19 @@ fn open_program<A: Allocator + Copy, P: Source>(
     alloc: A,
     form: ProgramForm,
     program: &mut P,
-) -> Result<OpenProgram<A>, RunFault>
+) -> Result<OpenProgram<A>, CommandFault>
     requires { P.failures program.old < 2 ^ 64 - 1 }
     ensures image { IfOk result (λ o. IfSome (P.left program.old) (λ p. program_of form p ≡ Ok o.image)) }
     ensures symbols { IfOk result (λ o. IfSome (P.left program.old) (λ p. o.symbols.items ≡ program_symbols form p)) }
     ensures refused { IfErr result (λ fault. IsRefusal fault
         → IfSome (P.left program.old) (λ p. program_of form p ≡ Err fault)) }
-    ensures read { IfErr result (λ fault. IfReads fault
-        (P.failures program.old < P.failures program.new) ⊥) }
-    ensures sink_unnamed { IfErr result (λ fault. fault ≢ RunFault.Write) }
+    ensures read { IfErr result (λ fault. IfNames fault
+        (P.failures program.old < P.failures program.new) ⊥ ⊥ ⊥) }
 {
     let bytes = match read_all(alloc, program) {
         Ok(bytes) => bytes,
-        Err(ReadFault::Device) => return Err(RunFault::Read(Input::File)),
-        Err(ReadFault::Memory) => return Err(RunFault::Memory),
+        Err(ReadFault::Device) => return Err(CommandFault::Read(Input::File)),
+        Err(ReadFault::Memory) => return Err(CommandFault::Memory),
     };
     let image = match read_program(alloc, form, &bytes) {
         Ok(image) => image,
@@ -80,7 +79,7 @@ fn open_program<A: Allocator + Copy, P: Source>(
     };
     match program_symbols(alloc, form, &bytes) {
         Ok(symbols) => Ok(OpenProgram { image, symbols }),
-        Err(AllocError) => Err(RunFault::Memory),
+        Err(AllocError) => Err(CommandFault::Memory),
     }
 }
 
@@ -93,7 +92,7 @@ pub(crate) fn open_trace<A: Allocator + Copy, P: Source, C: Source>(
     inputs: &[u32],
     program: &mut P,
     choices: &mut C,
-) -> Result<OpenTrace<A>, RunFault>
+) -> Result<OpenTrace<A>, CommandFault>
     requires program_counts { P.failures program.old < 2 ^ 64 - 1 }
     requires choices_count { C.failures choices.old < 2 ^ 64 - 1 }
     ensures takes { IfOk result (λ _. IsStartable inputs.now) }
@@ -104,13 +103,12 @@ pub(crate) fn open_trace<A: Allocator + Copy, P: Source, C: Source>(
     ensures refused { IfErr result (λ fault. IsRefusal fault → (plan : TracePlan)
         → IfSome (P.left program.old) (λ p. IfSome (C.left choices.old) (λ c.
         trace_answer form plan inputs.now p c ≡ Err fault))) }
-    ensures read { IfErr result (λ fault. IfReads fault
+    ensures read { IfErr result (λ fault. IfNames fault
         (P.failures program.old < P.failures program.new)
-        (C.failures choices.old < C.failures choices.new)) }
-    ensures sink_unnamed { IfErr result (λ fault. fault ≢ RunFault.Write) }
-    ensures program_first { result ≡ Err (RunFault.Read Input.Choices)
+        (C.failures choices.old < C.failures choices.new) ⊥ ⊥) }
+    ensures program_first { result ≡ Err (CommandFault.Read Input.Choices)
         → IfSome (P.left program.old) (λ p. (image : ImageValue) × (program_of form p ≡ Ok image)) }
-    ensures inputs_first { result ≡ Err (RunFault.Read Input.Choices) → IsStartable inputs.now }
+    ensures inputs_first { result ≡ Err (CommandFault.Read Input.Choices) → IsStartable inputs.now }
 {
     let program = match open_program(alloc, form, program) {
         Ok(program) => program,
@@ -118,11 +116,11 @@ pub(crate) fn open_trace<A: Allocator + Copy, P: Source, C: Source>(
     };
     match check_inputs(inputs) {
         Ok(()) => {}
-        Err(fault) => return Err(RunFault::from(fault)),
+        Err(fault) => return Err(CommandFault::from(fault)),
     }
     match read_all(alloc, choices) {
         Ok(text) => Ok(OpenTrace { program, text }),
-        Err(ReadFault::Device) => Err(RunFault::Read(Input::Choices)),
-        Err(ReadFault::Memory) => Err(RunFault::Memory),
+        Err(ReadFault::Device) => Err(CommandFault::Read(Input::Choices)),
+        Err(ReadFault::Memory) => Err(CommandFault::Memory),
     }
 }

@@ -1,12 +1,14 @@
 //! The output, a piece a write.
 ghost use Rattle.std.specs.Prelude.{◌≡◌, ◌-◌, ◌^◌, ◌<◌, ◌++◌, ℕ, List, [], Option, OnOk, IfOk, IfErr};
-ghost use Rattle.trace_engine.specs.Output.{SoFar, Begins, IfHalts};
+ghost use Rattle.programs.specs.Answers.{Begins};
+ghost use Rattle.programs.specs.CommandFaults.{IfHalts};
+ghost use Rattle.trace_engine.specs.Output.{SoFar};
 ghost use Rattle.trace_engine.specs.Trace.{entry_of};
 
 use crate::plan::TraceForm;
 use choice_traces::Told;
 use devices::{Sink, write_all};
-use programs::RunFault;
+use programs::CommandFault;
 use std::alloc::{AllocError, Allocator};
 use trace_tables::push_row;
 use trace_texts::push_line;
@@ -35,7 +37,7 @@ fn push_entry<A: Allocator + Copy>(
 pub(crate) fn flush<A: Allocator, K: Sink>(
     buffer: &mut Vec<u8, A>,
     sink: &mut K,
-) -> Result<(), RunFault>
+) -> Result<(), CommandFault>
     requires { K.failures sink.old < 2 ^ 64 - 1 }
     ensures sent { IfOk result (λ _. (all : List ℕ) (start : Option (List ℕ)) (rest : List ℕ)
         → SoFar all start (K.held sink.old) buffer.old.items rest
@@ -51,7 +53,7 @@ pub(crate) fn flush<A: Allocator, K: Sink>(
             buffer.clear();
             Ok(())
         }
-        Err(_) => Err(RunFault::Write),
+        Err(_) => Err(CommandFault::Write),
     }
 }
 
@@ -64,7 +66,7 @@ pub(crate) fn write_entry<A: Allocator + Copy, K: Sink>(
     k: u64,
     buffer: &mut Vec<u8, A>,
     sink: &mut K,
-) -> Result<(), RunFault>
+) -> Result<(), CommandFault>
     requires { K.failures sink.old < 2 ^ 64 - 1 }
     ensures taken { IfOk result (λ _. (all : List ℕ) (start : Option (List ℕ)) (rest : List ℕ)
         → SoFar all start (K.held sink.old) buffer.old.items (entry_of form harts told.now k ++ rest)
@@ -77,7 +79,7 @@ pub(crate) fn write_entry<A: Allocator + Copy, K: Sink>(
 {
     match push_entry(alloc, buffer, form, harts, told, k) {
         Ok(()) => {}
-        Err(AllocError) => return Err(RunFault::Memory),
+        Err(AllocError) => return Err(CommandFault::Memory),
     }
     if buffer.len() < PIECE {
         return Ok(());

@@ -5,7 +5,8 @@ ghost use Rattle.machine.specs.Start.{IsStartable};
 ghost use Rattle.machine.specs.State.{state};
 ghost use Rattle.machine.specs.declared.choice.Choice.{Choice};
 ghost use Rattle.choice_texts.specs.Reading.{choices_of};
-ghost use Rattle.trace_engine.specs.Output.{Begins, IfHalts};
+ghost use Rattle.programs.specs.Answers.{Begins};
+ghost use Rattle.programs.specs.CommandFaults.{IfHalts};
 ghost use Rattle.trace_engine.specs.Trace.{head_of, trace_text};
 
 use crate::entries::write_entries;
@@ -14,7 +15,7 @@ use crate::output::flush;
 use crate::plan::{TraceForm, TracePlan, span_of};
 use crate::teller::Teller;
 use devices::Sink;
-use programs::RunFault;
+use programs::CommandFault;
 use std::alloc::{AllocError, Allocator};
 use trace_tables::push_head_rows;
 use trace_texts::{Span, push_head};
@@ -57,7 +58,7 @@ pub(crate) fn write_trace<A: Allocator + Copy, K: Sink>(
     run: &OpenTrace<A>,
     count: u64,
     sink: &mut K,
-) -> Result<(), RunFault>
+) -> Result<(), CommandFault>
     requires takes { IsStartable inputs.now }
     requires sink_counts { K.failures sink.old < 2 ^ 64 - 1 }
     ensures told { IfOk result (λ _. (choices : List Choice) → choices_of (length inputs.now) run.now.text.items ≡ Ok choices
@@ -71,7 +72,7 @@ pub(crate) fn write_trace<A: Allocator + Copy, K: Sink>(
 {
     let mut teller = match Teller::new(alloc, &run.program.image, inputs, &run.text) {
         Ok(teller) => teller,
-        Err(AllocError) => return Err(RunFault::Memory),
+        Err(AllocError) => return Err(CommandFault::Memory),
     };
     let span = span_of(plan, count);
     teller.skip(span.from - 1);
@@ -86,7 +87,7 @@ pub(crate) fn write_trace<A: Allocator + Copy, K: Sink>(
         &mut buffer,
     ) {
         Ok(()) => {}
-        Err(AllocError) => return Err(RunFault::Memory),
+        Err(AllocError) => return Err(CommandFault::Memory),
     }
     match write_entries(
         alloc,

@@ -1,7 +1,7 @@
 //! Whole outputs of `trace`, worked by hand; which choices are told; long outputs; what is refused; failing devices.
 use crate::worked::EXITS;
 use devices::{Failing, FullSink, MemorySink, MemorySource, Status};
-use programs::{Input, ProgramForm, RunFault};
+use programs::{CommandFault, Input, ProgramForm};
 use std::alloc::Global;
 use trace_engine::{TraceForm, TracePlan, trace_engine};
 
@@ -57,7 +57,7 @@ fn traced(
     alloc: Global,
     plan: TracePlan,
     run: &Run,
-) -> (Result<Status, RunFault>, MemorySink<Global>) {
+) -> (Result<Status, CommandFault>, MemorySink<Global>) {
     let mut program = MemorySource::new(run.words.as_bytes());
     let mut choices = MemorySource::new(run.choices.as_bytes());
     let mut sink = MemorySink::new(alloc);
@@ -228,7 +228,7 @@ fn long_output_is_whole(rt: HostRuntime) {
 // A run that is refused, and how.
 struct Refused {
     run: Run,
-    fault: RunFault,
+    fault: CommandFault,
 }
 
 const REFUSED: [Refused; 6] = [
@@ -238,7 +238,7 @@ const REFUSED: [Refused; 6] = [
             words: "05d0089",
             choices: "x",
         },
-        fault: RunFault::BadWord(0),
+        fault: CommandFault::BadWord(0),
     },
     Refused {
         run: Run {
@@ -246,7 +246,7 @@ const REFUSED: [Refused; 6] = [
             words: EXITS,
             choices: "x",
         },
-        fault: RunFault::NoHarts,
+        fault: CommandFault::NoHarts,
     },
     Refused {
         run: Run {
@@ -254,7 +254,7 @@ const REFUSED: [Refused; 6] = [
             words: EXITS,
             choices: "x",
         },
-        fault: RunFault::TooManyHarts,
+        fault: CommandFault::TooManyHarts,
     },
     Refused {
         run: Run {
@@ -262,7 +262,7 @@ const REFUSED: [Refused; 6] = [
             words: EXITS,
             choices: "0 x",
         },
-        fault: RunFault::BadChoice(2),
+        fault: CommandFault::BadChoice(2),
     },
     Refused {
         run: Run {
@@ -270,7 +270,7 @@ const REFUSED: [Refused; 6] = [
             words: EXITS,
             choices: "0*9 1",
         },
-        fault: RunFault::NoHart(4),
+        fault: CommandFault::NoHart(4),
     },
     Refused {
         run: Run {
@@ -278,7 +278,7 @@ const REFUSED: [Refused; 6] = [
             words: EXITS,
             choices: "0*0",
         },
-        fault: RunFault::BadChoice(0),
+        fault: CommandFault::BadChoice(0),
     },
 ];
 
@@ -310,11 +310,11 @@ fn is_read_told(alloc: Global) -> bool {
         &mut choices,
         &mut sink,
     );
-    answer == Err(RunFault::Read(Input::Choices)) && sink.bytes().is_empty()
+    answer == Err(CommandFault::Read(Input::Choices)) && sink.bytes().is_empty()
 }
 
 // What the trace of a run answers where the output is full.
-fn traced_to_full(alloc: Global) -> Result<Status, RunFault> {
+fn traced_to_full(alloc: Global) -> Result<Status, CommandFault> {
     let mut program = MemorySource::new(EXITS.as_bytes());
     let mut choices = MemorySource::new(b"0 0");
     let mut full = FullSink::new();
@@ -332,5 +332,5 @@ fn traced_to_full(alloc: Global) -> Result<Status, RunFault> {
 #[test]
 fn failing_devices_are_told(rt: HostRuntime) {
     let answer = traced_to_full(rt.alloc());
-    assert!(rt; is_read_told(rt.alloc()) && answer == Err(RunFault::Write));
+    assert!(rt; is_read_told(rt.alloc()) && answer == Err(CommandFault::Write));
 }

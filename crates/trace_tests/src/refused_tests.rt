@@ -1,7 +1,7 @@
 //! Each request of a trace refused in turn, once and for good.
 use crate::worked::{EACH_ACCESS, file_of};
 use devices::{MemorySink, MemorySource, Status};
-use programs::{ProgramForm, RunFault};
+use programs::{CommandFault, ProgramForm};
 use refusing::{Call, tried};
 use std::alloc::{AllocError, Allocator, Global};
 use trace_engine::{TraceForm, TracePlan, trace_engine};
@@ -19,7 +19,7 @@ fn traced<A: Allocator + Copy>(
     alloc: A,
     host: Global,
     tracing: &Tracing,
-) -> (Result<Status, RunFault>, MemorySink<Global>) {
+) -> (Result<Status, CommandFault>, MemorySink<Global>) {
     let plan = TracePlan {
         form: tracing.form,
         from: 2,
@@ -46,7 +46,7 @@ impl<'a> Call for Tracing<'a> {
         let lines = sink.bytes().iter().filter(|byte| **byte == b'\n').count();
         match answer {
             Ok(status) => Ok(status == Status::Done && lines == self.lines),
-            Err(RunFault::Memory) if lines == 0 => Err(AllocError),
+            Err(CommandFault::Memory) if lines == 0 => Err(AllocError),
             Err(_) => Ok(false),
         }
     }

@@ -1,4 +1,5 @@
-use Rattle.engines.specs.Run.{BeginsToPrint}
+use Rattle.std.proofs.Common.{◌<◌}
+use Rattle.programs.specs.Answers.{BeginsToPrint}
 use Rattle.cmd_campaign.proofs.AnswerLemmas.{done_known, first_known, halted_known, image_known, refused_known, unread_known, unread_still}
 use Rattle.cmd_campaign.proofs.KeptLemmas.{certified_known}
 use Rattle.cmd_campaign.proofs.engine.campaign_engine.Goals as goal
@@ -20,7 +21,10 @@ returns-clause-refused g c =
     refused_known c.args.campaign c.args.inputs.now _ _ c.in-Ok.ensures.ok _ c.write_campaign.ensures.refused
 
 pub returns-clause-read : goal.returns-clause-read
-returns-clause-read g c = unread_still _ _ _ c.write_campaign.ensures.read
+returns-clause-read g c =
+    unread_still c.before.before.write_campaign.result
+    (g.P.Source.failures c.args.program.now < g.P.Source.failures c.read_image.new.program)
+    (g.K.Sink.failures c.args.sink.now < g.K.Sink.failures c.write_campaign.new.sink) c.write_campaign.ensures.read
 
 pub returns-clause-begun : goal.returns-clause-begun
 returns-clause-begun g c = λ e.

@@ -1,5 +1,5 @@
-use Rattle.std.proofs.Common.{Err, inr, ap, sym, subst, ◌∙◌}
-use Rattle.programs.specs.RunFaults.{IfReads}
+use Rattle.std.proofs.Common.{◌<◌, Err, inr, ap, sym, subst, ◌∙◌}
+use Rattle.programs.specs.CommandFaults.{IfNames}
 use Rattle.cmd_campaign.proofs.AnswerLemmas.{answer_of_refused, answer_of_runs, begins_answer, done_answer, halted_unread, start_unread}
 use Rattle.cmd_campaign.proofs.engine.write_campaign.Goals as goal
 
@@ -9,10 +9,14 @@ returns-in-Err-clause-refused g c = λ refusal.
     ∙ ap Err (sym c.from.ensures)
 
 pub returns-in-Err-clause-read : goal.returns-in-Err-clause-read
-returns-in-Err-clause-read g c = subst (λ why. IfReads why ⊥ ⊥) (sym c.from.ensures) (start_unread c.in-Err.fault ⊥ ⊥)
+returns-in-Err-clause-read g c =
+    let risen = g.K.Sink.failures c.args.sink.now < g.K.Sink.failures c.args.sink.now in
+    subst (λ why. IfNames why ⊥ ⊥ ⊥ risen) (sym c.from.ensures) (start_unread c.in-Err.fault ⊥ ⊥ ⊥ risen)
 
 pub returns-clause-read : goal.returns-clause-read
-returns-clause-read g c = halted_unread _ _ c.write_report.ensures.fault
+returns-clause-read g c =
+    halted_unread c.before.write_report.result
+    (g.K.Sink.failures c.args.sink.now < g.K.Sink.failures c.write_report.new.sink) c.write_report.ensures.fault
 
 pub returns-clause-done : goal.returns-clause-done
 returns-clause-done g c =

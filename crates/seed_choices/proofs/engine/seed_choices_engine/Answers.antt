@@ -1,5 +1,5 @@
 use Rattle.std.proofs.Common.{◌≡◌, Err}
-use Rattle.engines.specs.Run.{BeginsToPrint}
+use Rattle.programs.specs.Answers.{BeginsToPrint}
 use Rattle.seed_choices.proofs.AnswerLemmas.{begun, image_known, printed_known, unread_known}
 use Rattle.seed_choices.proofs.engine.seed_choices_engine.Goals as goal
 
