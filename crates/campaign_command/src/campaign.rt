@@ -3,23 +3,21 @@
 ghost use Rattle.std.specs.Prelude.{◌+◌, ◌-◌, ◌<◌, ◌≤◌, ◌^◌, IfOk};
 
 use crate::watching::Watching;
+use cli_values::{read_draw, read_report, read_seed_numbers};
 use cmd_campaign::{Campaign, Finished, campaign_engine};
+use cmd_schedule::{SeedPlan, seed_engine};
 use command_line::read_inputs;
 use command_orders::CampaignOrder;
-use devices::{MemorySink, MemorySource, ReaderSource, Source, Status, WriterSink};
+use devices::{MemorySource, ReaderSource, Source, Status, WriterSink};
 use fault_advice::run_advice;
-use kind_plans::{read_kind, why_no_kind};
 use object_names::read_rule;
-use order_plans::{read_report, read_seed_numbers};
 use outcome::{Exit, Expect};
-use programs::{CommandFault, ProgramForm};
+use programs::ProgramForm;
 use progress::Progress;
 use reports::{
-    Audience, RunFiles, WIPE, bad_line, cannot_open, cannot_read, explain_run, read_again, refuse,
-    say, show, wipe_line,
+    Audience, RunFiles, WIPE, bad_line, cannot_open, read_again, refuse, say_why, show, wipe_line,
 };
-use schedule_kinds::HartOrder;
-use seed_choices::{SeedPlan, seed_choices_engine};
+use sched_draw::Order;
 use std::rt::Files;
 use std::thread::Threads;
 use std::{fs, io};
@@ -86,14 +84,15 @@ fn read_campaign<R: Print + Eprint>(rt: &R, order: &CampaignOrder) -> Result<Cam
             "--outcomes goes with --summary, which doesn't go with --failures",
         ));
     };
-    let Some(schedule) = read_kind(order.draw, order.refusals) else {
-        return Err(bad_line(rt, why_no_kind(order.refusals)));
+    let draw = match read_draw(order.draw, order.refusals) {
+        Ok(draw) => draw,
+        Err(fault) => return Err(bad_line(rt, fault.text())),
     };
     Ok(Campaign {
         first: numbers.first,
         count: numbers.count,
         steps: numbers.steps,
-        schedule,
+        draw,
         expect,
         report,
     })
@@ -181,30 +180,16 @@ fn report_campaign<R: Files + AllocGlobal + Print + Eprint + Threads + Sync, P: 
             }
             status
         }
-        Err(fault) => tell(rt, audience, order, inputs.len(), fault),
+        Err(fault) => {
+            let files = RunFiles {
+                program: order.file,
+                form: ProgramForm::Elf,
+                choices: "",
+                harts: inputs.len(),
+            };
+            say_why(rt, audience, files, fault)
+        }
     }
-}
-
-// Says why a campaign gives no answer, or ends early.
-fn tell<R: Files + AllocGlobal + Eprint>(
-    rt: &R,
-    audience: Audience,
-    order: &CampaignOrder,
-    harts: usize,
-    fault: CommandFault,
-) -> Status {
-    if let CommandFault::Read(_) = fault {
-        return cannot_read(rt, order.file);
-    }
-    let status = say(rt, fault);
-    let files = RunFiles {
-        program: order.file,
-        form: ProgramForm::Elf,
-        choices: "",
-        harts,
-    };
-    explain_run(rt, audience, files, fault);
-    status
 }
 
 // Tells the commands by which the run of a seed is looked into.
@@ -227,7 +212,7 @@ fn show_commands<R: Eprint>(
     if let Some(refusals) = order.refusals {
         eprint!(rt; " --refusals {refusals}").ok()?;
     }
-    if let HartOrder::Priorities(_) = campaign.schedule.order {
+    if let Order::Priorities(_) = campaign.draw.order {
         eprint!(rt; " --inputs {texts} {file}").ok()?;
     }
     eprintln!(rt;
@@ -248,26 +233,19 @@ fn explain_seed<R: Files + AllocGlobal + Eprint>(
     let seed = seed?;
     show_commands(rt, order, inputs.len(), campaign, seed)?;
     let plan = SeedPlan {
-        kind: campaign.schedule,
+        draw: campaign.draw,
         steps: campaign.steps,
         seed,
     };
     let program = read_again(rt, order.file)?;
-    let mut choices = MemorySink::new(rt.alloc());
-    seed_choices_engine(
-        rt.alloc(),
-        inputs,
-        plan,
-        &mut MemorySource::new(&program),
-        &mut choices,
-    )
-    .ok()?;
+    let mut source = MemorySource::new(&program);
+    let (choices, _) = seed_engine(rt.alloc(), inputs, plan, &mut source).ok()?;
     let text = run_advice(
         rt.alloc(),
         ProgramForm::Elf,
         &program,
         inputs,
-        choices.bytes(),
+        choices.as_bytes(),
     )?;
     show(rt, &text);
     Some(())

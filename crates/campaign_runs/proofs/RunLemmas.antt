@@ -13,7 +13,7 @@ use Rattle.machine.specs.Chosen.{is_chosen}
 use Rattle.machine.specs.declared.choice.Choice.{Choice}
 use Rattle.machine.proofs.RunLaws.{length-started}
 use Rattle.choice_runs.specs.Harts.{Harts}
-use Rattle.schedule_kinds.specs.Kinds.{kind_choices, RanOver}
+use Rattle.sched_draw.specs.Schedules.{drawn_choices, RanOver}
 use Rattle.outcome.specs.Expect.{judged}
 use Rattle.outcome.specs.declared.run_outcome.Outcome.{Outcome}
 use Rattle.campaign_runs.specs.Ending.{EndingValue, ending_with}
@@ -28,13 +28,13 @@ harts-started w image inputs begun = ap (λ (v : World). length v.harts) begun �
 -- the ending of a copy's run
 pub ending-copied : (campaign : Campaign) (inputs : List ℕ) (seed : ℕ) (start v w : World) (chosen : Harts) (outcome : Outcome)
     (harts left : List HartValue) (ending : EndingValue)
-    → v ≡ start → RanOver (kind_choices campaign.schedule v (length inputs) campaign.steps seed) v w chosen → harts ≡ w.harts → left ≡ w.harts
+    → v ≡ start → RanOver (drawn_choices campaign.draw v (length inputs) campaign.steps seed) v w chosen → harts ≡ w.harts → left ≡ w.harts
     → ((choices : List Choice) → ((k : ℕ) → chosen k ≡ is_chosen choices k) → outcome ≡ judged campaign.expect.rule inputs choices harts)
     → ending ≡ ending_with campaign.report outcome left
     → record { seed = seed; ending = ending } ≡ ending_from start campaign inputs seed
 unfolding ending_from
 ending-copied campaign inputs seed start v w chosen outcome harts left ending copied ran ends rest judges is =
-    let choices = kind_choices campaign.schedule v (length inputs) campaign.steps seed in
+    let choices = drawn_choices campaign.draw v (length inputs) campaign.steps seed in
     let after : w.harts ≡ (run v choices).harts = ap (λ (x : World). x.harts) ran.0 in
     let says : outcome ≡ judged campaign.expect.rule inputs choices (run v choices).harts
     = judges choices ran.1 ∙ ap (judged campaign.expect.rule inputs choices) (ends ∙ after) in

@@ -5,7 +5,7 @@ use Rattle.program_images.specs.Image.{ImageValue}
 use Rattle.machine.specs.World.{World, run}
 use Rattle.machine.specs.Start.{started}
 use Rattle.machine.specs.declared.choice.Choice.{Choice}
-use Rattle.schedule_kinds.specs.Kinds.{kind_choices}
+use Rattle.sched_draw.specs.Schedules.{drawn_choices}
 use Rattle.outcome.specs.Expect.{judged}
 use Rattle.campaign_runs.specs.Ending.{EndingValue, ending_of, ending_with}
 use Rattle.campaign_runs.specs.declared.campaign.Campaign.{Campaign}
@@ -29,7 +29,7 @@ ending_after world campaign inputs choices =
 unfoldable pub ending_from : World → Campaign → List ℕ → ℕ → SeedEnding
 ending_from world campaign inputs seed = record {
   seed = seed;
-  ending = ending_after world campaign inputs (kind_choices campaign.schedule world (length inputs) campaign.steps seed);
+  ending = ending_after world campaign inputs (drawn_choices campaign.draw world (length inputs) campaign.steps seed);
 }
 
 -- seeds with the endings of their runs from the start, in their order

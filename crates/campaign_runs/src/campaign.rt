@@ -1,7 +1,7 @@
 //! Which runs a campaign does, and what it reports of them.
 
 use outcome::Expect;
-use schedule_kinds::ScheduleKind;
+use sched_draw::Draw;
 
 /// What a campaign reports of its runs.
 #[derive(Clone, Copy, PartialEq, Eq)]
@@ -25,8 +25,8 @@ pub struct Campaign {
     pub count: u64,
     /// Number of steps of each run.
     pub steps: u64,
-    /// How a seed makes the choices of its run.
-    pub schedule: ScheduleKind,
+    /// How a seed draws the choices of its run.
+    pub draw: Draw,
     /// What is expected of each run.
     pub expect: Expect,
     /// What is reported of the runs.

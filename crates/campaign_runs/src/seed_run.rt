@@ -12,7 +12,7 @@ use flat_memory::FlatStore;
 use machine::Machine;
 use memory::FromImage;
 use program_images::Image;
-use schedule_kinds::run_kind;
+use sched_draw::{Schedule, run_schedule};
 use std::alloc::{AllocError, Allocator};
 
 /// A seed, and how its run ended.
@@ -55,14 +55,12 @@ pub fn run_seed<S: FromImage<A>, A: Allocator + Copy>(
         ≡ ending_from (world S.memory start.now) campaign inputs.now seed) }
 {
     let mut machine = start.copy(alloc)?;
-    let chosen = run_kind(
-        alloc,
-        &mut machine,
-        campaign.schedule,
-        inputs.len() as u32,
-        campaign.steps,
+    let schedule = Schedule::Seeded {
         seed,
-    )?;
+        draw: campaign.draw,
+    };
+    let harts = inputs.len() as u32;
+    let chosen = run_schedule(alloc, &mut machine, schedule, harts, campaign.steps)?;
     let outcome = campaign
         .expect
         .judge(alloc, inputs, &chosen, machine.ends())?;

@@ -1,17 +1,14 @@
 //! The runs of plain machines over the lists of seeds.
 ghost use Rattle.std.specs.Prelude.{◌<◌};
 
-use crate::plans::{MEAN, Order};
-use burst_schedules::in_bursts;
+use crate::plans::{Order, draw_of};
 use campaign_runs::{Ending, HartResult};
 use flat_memory::FlatStore;
 use hart_step::{Hart, HartState};
 use machine::{Choice, Machine};
 use outcome::Outcome;
 use program_images::Image;
-use refusals::evenly;
-use schedule_kinds::{Mean, Refusals};
-use scheduler::seeded;
+use sched_draw::{Schedule, list_schedule};
 use std::alloc::{AllocError, Global};
 
 // The list of a seed's choices; none by priorities, since these depend on the run.
@@ -19,20 +16,19 @@ fn choices_of(
     alloc: Global,
     order: Order,
     harts: u32,
-    steps: usize,
+    steps: u32,
     seed: u64,
 ) -> Option<Vec<Choice, Global>>
     requires { 0 < harts }
 {
-    match order {
-        Order::Usual => seeded(alloc, harts, steps, seed).ok(),
-        Order::Never => evenly(alloc, harts, steps, seed, Refusals::Never).ok(),
-        Order::Bursts => {
-            let mean = Mean::new(MEAN)?;
-            in_bursts(alloc, harts, mean.choices(), Refusals::Never, steps, seed).ok()
-        }
-        Order::Priorities => None,
+    let schedule = Schedule::Seeded {
+        seed,
+        draw: draw_of(order)?,
+    };
+    if schedule.follows_run() {
+        return None;
     }
+    list_schedule(alloc, schedule, harts, u64::from(steps)).ok()
 }
 
 // Takes the steps of choices, and tells whether each was taken.
@@ -90,7 +86,7 @@ pub(crate) fn plain_ending(
     if inputs.is_empty() || inputs.len() > 32 {
         return None;
     }
-    let choices = choices_of(alloc, order, inputs.len() as u32, steps as usize, seed)?;
+    let choices = choices_of(alloc, order, inputs.len() as u32, steps, seed)?;
     let mut machine: Machine<FlatStore<Global>, Global> = Machine::start(
         alloc, image, inputs,
     ).ok()?;

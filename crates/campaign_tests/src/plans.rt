@@ -8,7 +8,7 @@ use outcome::{Exit, Expect};
 use programs::CommandFault;
 use progress::Unheard;
 use protocol_library::Kind;
-use schedule_kinds::{Depth, HartOrder, Mean, Refusals, ScheduleKind};
+use sched_draw::{Depth, Draw, Mean, Order as HartOrder, Refusals};
 use std::alloc::Global;
 use std::thread::Threads;
 
@@ -29,13 +29,10 @@ pub(crate) enum Order {
     Priorities,
 }
 
-/// The schedules of an order.
-pub(crate) fn schedule_of(order: Order) -> Option<ScheduleKind> {
+/// How seeds draw by an order.
+pub(crate) fn draw_of(order: Order) -> Option<Draw> {
     match order {
-        Order::Usual => Some(ScheduleKind {
-            order: HartOrder::Even,
-            refusals: Refusals::usual(),
-        }),
+        Order::Usual => Some(Draw::usual()),
         Order::Never => Some(never(HartOrder::Even)),
         Order::Bursts => {
             let mean = Mean::new(MEAN)?;
@@ -48,9 +45,9 @@ pub(crate) fn schedule_of(order: Order) -> Option<ScheduleKind> {
     }
 }
 
-// Schedules of which no choice refuses.
-fn never(order: HartOrder) -> ScheduleKind {
-    ScheduleKind {
+// A draw of which no choice refuses.
+fn never(order: HartOrder) -> Draw {
+    Draw {
         order,
         refusals: Refusals::Never,
     }
@@ -71,7 +68,7 @@ pub(crate) struct Plan {
 pub(crate) fn campaign_of(plan: Plan, report: Report) -> Option<Campaign>
     ensures { IfSome result (λ campaign. campaign.first + campaign.count ≤ 2 ^ 64) }
 {
-    let schedule = schedule_of(plan.order)?;
+    let draw = draw_of(plan.order)?;
     if plan.count > 0 && plan.first > u64::MAX - (plan.count - 1) {
         return None;
     }
@@ -79,7 +76,7 @@ pub(crate) fn campaign_of(plan: Plan, report: Report) -> Option<Campaign>
         first: plan.first,
         count: plan.count,
         steps: plan.steps as u64,
-        schedule,
+        draw,
         expect: Expect {
             rule: plan.rule,
             exit: plan.exit,

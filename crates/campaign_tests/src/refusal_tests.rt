@@ -12,7 +12,7 @@ use outcome::{Exit, Expect, Outcome};
 use programs::CommandFault;
 use protocol_library::{Kind, Verdict};
 use refusing::{Call, tried};
-use schedule_kinds::{HartOrder, Refusals, ScheduleKind};
+use sched_draw::Draw;
 use std::alloc::{AllocError, Allocator, Global};
 
 // No rule, and harts may run on.
@@ -33,10 +33,7 @@ fn campaign_with(expect: Expect, report: Report) -> Campaign {
         first: 5,
         count: 2,
         steps: 0,
-        schedule: ScheduleKind {
-            order: HartOrder::Even,
-            refusals: Refusals::usual(),
-        },
+        draw: Draw::usual(),
         expect,
         report,
     }

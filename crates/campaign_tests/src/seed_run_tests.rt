@@ -1,21 +1,21 @@
 //! What no clause says of the first machine of a campaign and of one seed's run: that they are had
 //! where memory is left, with each request refused in turn.
-use crate::plans::{Order, schedule_of};
+use crate::plans::{Order, draw_of};
 use campaign_runs::{Campaign, Report, first_machine, run_seed};
 use outcome::{Exit, Expect};
 use protocol_library::Kind;
 use refusing::{Call, tried};
-use schedule_kinds::ScheduleKind;
+use sched_draw::Draw;
 use std::alloc::{AllocError, Allocator, Global};
 use test_images::{CONDITIONAL, writable_program};
 
 // A judged run of 8 steps, whose harts' results are told.
-fn campaign_with(schedule: ScheduleKind) -> Campaign {
+fn campaign_with(draw: Draw) -> Campaign {
     Campaign {
         first: 5,
         count: 1,
         steps: 8,
-        schedule,
+        draw,
         expect: Expect {
             rule: Some(Kind::LrSc),
             exit: Exit::Must,
@@ -31,12 +31,12 @@ struct OneSeed {
 
 impl Call for OneSeed {
     fn answer<A: Allocator + Copy>(&self, alloc: A, host: Global) -> Result<bool, AllocError> {
-        let Some(schedule) = schedule_of(self.order) else {
+        let Some(draw) = draw_of(self.order) else {
             return Ok(false);
         };
         let image = writable_program(host, &CONDITIONAL)?;
         let start = first_machine(alloc, &image, &[7, 9])?;
-        let end = run_seed(alloc, &start, &[7, 9], campaign_with(schedule), 5)?;
+        let end = run_seed(alloc, &start, &[7, 9], campaign_with(draw), 5)?;
         Ok(end.seed == 5 && end.ending.results.len() == 2)
     }
 }

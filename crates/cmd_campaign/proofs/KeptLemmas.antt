@@ -8,8 +8,8 @@ use Rattle.program_images.specs.Image.{ImageValue}
 use Rattle.reservations.specs.Limit.{most_harts}
 use Rattle.machine.specs.Start.{IsStartable, started}
 use Rattle.machine.specs.World.{run}
-use Rattle.schedule_kinds.specs.Kinds.{kind_choices}
-use Rattle.schedule_kinds.proofs.ChoiceLemmas.{kind-within}
+use Rattle.sched_draw.specs.Schedules.{drawn_choices}
+use Rattle.sched_draw.proofs.ChoiceLemmas.{drawn_choices-within}
 use Rattle.ends.specs.Ends.{verdict_on}
 use Rattle.protocol_library.specs.declared.kind.Kind.{Kind}
 use Rattle.protocol_library.specs.declared.verdict.Verdict.TheVariants.{Kept}
@@ -43,10 +43,10 @@ module _ (kind : Kind) (image : ImageValue) (campaign : Campaign) (inputs : List
   kept : (seed : ℕ) → (end seed).ending.outcome.verdict ≡ Some Kept
   unfolding end ending_from
   kept seed =
-      let choices = kind_choices campaign.schedule (started image inputs) (length inputs) campaign.steps seed in
+      let choices = drawn_choices campaign.draw (started image inputs) (length inputs) campaign.steps seed in
       ap (λ r. verdict_on r inputs choices (run (started image inputs) choices).harts) ruled
       ∙ object_is_kept kind image inputs choices same meant words
-      (kind-within campaign.schedule (started image inputs) (length inputs) campaign.steps seed some)
+      (drawn_choices-within campaign.draw (started image inputs) (length inputs) campaign.steps seed some)
 
   -- each verdict is kept
   all_kept : (seeds : List ℕ) → AllKept (endings_of campaign image inputs seeds)

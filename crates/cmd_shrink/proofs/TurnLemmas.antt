@@ -7,7 +7,7 @@ use Rattle.machine.proofs.WorldLemmas.{run_append}
 use Rattle.machine.specs.World.{World, run, step}
 use Rattle.machine.specs.Start.{started}
 use Rattle.machine.specs.declared.choice.Choice.{Choice}
-use Rattle.scheduler.specs.Schedules.{alone, plain_choice, turns}
+use Rattle.sched_draw.specs.Turns.{alone, plain_choice, turns}
 use Rattle.outcome.specs.Outcome.{some_run}
 use Rattle.cmd_shrink.specs.Hanging.{alone_first, runs_on}
 

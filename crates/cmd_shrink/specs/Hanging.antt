@@ -6,7 +6,7 @@ use Rattle.hart_step.specs.Hart.{HartValue}
 use Rattle.machine.specs.Start.{started}
 use Rattle.machine.specs.World.{run}
 use Rattle.machine.specs.declared.choice.Choice.{Choice}
-use Rattle.scheduler.specs.Schedules.{alone, turns}
+use Rattle.sched_draw.specs.Turns.{alone, turns}
 use Rattle.outcome.specs.Outcome.{some_run}
 
 -- the harts after choices, from an image's start

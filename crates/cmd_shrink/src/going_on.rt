@@ -2,7 +2,7 @@
 ghost use Rattle.std.specs.Prelude.{◌≡◌, ◌<◌};
 ghost use Rattle.machine.specs.State.{state};
 ghost use Rattle.machine.specs.World.{run};
-ghost use Rattle.scheduler.specs.Schedules.{alone, turns};
+ghost use Rattle.sched_draw.specs.Turns.{alone, turns};
 
 use crate::running::take_step;
 use flat_memory::FlatStore;

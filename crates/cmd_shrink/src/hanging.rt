@@ -1,7 +1,7 @@
 //! Whether the run of a list of choices hangs.
 ghost use Rattle.std.specs.Prelude.{◌≡◌, ◌<◌, IfOk, length};
 ghost use Rattle.machine.specs.Start.{IsStartable};
-ghost use Rattle.scheduler.specs.Schedules.{turns};
+ghost use Rattle.sched_draw.specs.Turns.{turns};
 ghost use Rattle.memory.specs.Memory.{all_below};
 ghost use Rattle.cmd_shrink.specs.Hanging.{alone_first, hangs_after, runs_on, steps_for};
 

@@ -4,7 +4,6 @@ pub mod DebugLine
 pub mod LibLine
 pub mod FileLine
 pub mod ReplayLine
-pub mod Refused
 pub mod ScheduleLine
 pub mod ShrinkLine
 pub mod ThreadsLine

@@ -1,13 +1,8 @@
 -- The command `schedule`.
-use Rattle.std.specs.Prelude.{◌≡◌, ℕ, List, [], ◌∷◌, drop, Option, Some, None, codes, if◌then◌else◌, option_map}
-use Rattle.std.specs.Str.{bytes_eq}
+use Rattle.std.specs.Prelude.{◌≡◌, List, [], ◌∷◌, Some, codes, option_map}
 use Rattle.clap.specs.Words.{Row, Text, first_of}
 use Rattle.clap.specs.Walk.{one_of}
-use Rattle.item_texts.specs.Numbers.{before_byte, from_byte}
 use Rattle.command_line.specs.Arguments.{IsSet}
-use Rattle.command_line.specs.Inputs.{input_of}
-use Rattle.command_orders.specs.declared.schedule_line.Draw.{Draw}
-use Rattle.command_orders.specs.declared.schedule_line.Draw.TheVariants.{Even, Bursts, Priorities}
 use Rattle.command_orders.specs.declared.schedule_line.ScheduleOrder.{ScheduleOrder}
 
 -- the names of the texts that have to stand
@@ -26,13 +21,3 @@ IsSchedule rows order =
     × (first_of (codes "refusals") rows ≡ option_map (λ s. s.now) order.refusals)
     × (first_of (codes "inputs") rows ≡ option_map (λ s. s.now) order.inputs)
     × (first_of (codes "FILE") rows ≡ option_map (λ s. s.now) order.file)
-
--- how a seed's choices are drawn, by a text: `even`, or `bursts:` or `priorities:` and one or more decimal digits of a number below 2 ^ 32
-abbrev pub draw_of : List ℕ → Option Draw
-draw_of text =
-    if bytes_eq text (codes "even") then Some Even
-    else (if bytes_eq (before_byte 58 text) (codes "bursts")
-    then option_map (λ mean. Bursts mean) (input_of (drop 1 (from_byte 58 text)))
-    else (if bytes_eq (before_byte 58 text) (codes "priorities")
-    then option_map (λ depth. Priorities depth) (input_of (drop 1 (from_byte 58 text)))
-    else None))

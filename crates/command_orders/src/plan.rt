@@ -8,8 +8,8 @@ use item_texts::split_at_byte;
 use std::alloc::{AllocError, Allocator};
 use std::collections::BTreeSet;
 
-/// What stands behind the first byte.
-pub(crate) fn behind_first(rest: &[u8]) -> &[u8]
+// What stands behind the first byte.
+fn behind_first(rest: &[u8]) -> &[u8]
     ensures { result.now ≡ drop 1 rest.now }
 {
     match rest {

@@ -1,14 +1,13 @@
-//! What no clause says of schedules: worked ones, seeds whose texts run as their campaigns do, failing sinks, each request refused.
+//! What no clause says of schedules: worked ones, seeds whose texts run as their campaigns do, each
+//! request refused.
 use crate::object_files::object_file;
 use cmd_campaign::{Finished, campaign_engine};
-use engines::{
-    Exit, Expect, FullSink, MemorySink, MemorySource, ProgramForm, Status, deliver, run_engine,
-};
+use cmd_schedule::{Plan, PlanFault, schedule_engine};
+use engines::{Exit, Expect, MemorySink, MemorySource, ProgramForm, Status, run_engine};
 use progress::Unheard;
 use protocol_library::Kind;
-use refusals::Refusals;
 use refusing::Refusing;
-use schedule_engine::{Maker, ScheduleFault, SchedulePlan, schedule_engine};
+use sched_draw::{Draw, Schedule};
 use std::alloc::{AllocError, Allocator, Global};
 use std::thread::Threads;
 use test_campaigns::plain_campaign;
@@ -26,19 +25,30 @@ enum By {
     Seed(u64),
 }
 
-fn plan(harts: u32, steps: u32, by: By) -> SchedulePlan {
-    let maker = match by {
-        By::Turns => Maker::Turns,
-        By::Only(hart) => Maker::Only(hart),
-        By::Seed(seed) => Maker::Seed {
+// The text of a list, or why there is no plan of it; nothing where memory is refused.
+fn scheduled<A: Allocator + Copy>(
+    alloc: A,
+    harts: u32,
+    steps: u32,
+    by: By,
+) -> Option<Result<String<A>, PlanFault>> {
+    let schedule = match by {
+        By::Turns => Schedule::Turns,
+        By::Only(hart) => Schedule::Only(hart),
+        By::Seed(seed) => Schedule::Seeded {
             seed,
-            refusals: Refusals::usual(),
+            draw: Draw::usual(),
         },
     };
-    SchedulePlan {
-        harts,
-        steps,
-        maker,
+    if schedule.follows_run() {
+        return None;
+    }
+    match Plan::new(harts, steps, schedule) {
+        Ok(plan) => {
+            let (text, _) = schedule_engine(alloc, plan).ok()?;
+            Some(Ok(text))
+        }
+        Err(fault) => Some(Err(fault)),
     }
 }
 
@@ -47,7 +57,7 @@ struct Worked {
     harts: u32,
     steps: u32,
     by: By,
-    answer: Result<&'static str, ScheduleFault>,
+    answer: Result<&'static str, PlanFault>,
 }
 
 // The words of the seeds were drawn by a generator that was written apart from this one, from PCG's paper and `rand_core`'s rule.
@@ -60,30 +70,19 @@ const WORKED: [Worked; 12] = [
     Worked { harts: 2, steps: 20, by: By::Seed(2), answer: Ok("0 1! 1 0 0 1 1 1 0 0 1 0 1 0 0 1! 1 0 0 0\n") },
     Worked { harts: 2, steps: 12, by: By::Seed(1), answer: Ok("0 0 1 0 1 0 0 0 0 0 1 0\n") },
     Worked { harts: 3, steps: 12, by: By::Seed(u64::MAX), answer: Ok("1 1 1 1 2 2 2 1 2 0 2 2!\n") },
-    Worked { harts: 0, steps: 3, by: By::Turns, answer: Err(ScheduleFault::BadHarts) },
-    Worked { harts: 33, steps: 3, by: By::Seed(1), answer: Err(ScheduleFault::BadHarts) },
-    Worked { harts: 0, steps: 3, by: By::Only(0), answer: Err(ScheduleFault::BadHarts) },
-    Worked { harts: 2, steps: 3, by: By::Only(2), answer: Err(ScheduleFault::NoHart) },
-    Worked { harts: 32, steps: 0, by: By::Only(u32::MAX), answer: Err(ScheduleFault::NoHart) },
+    Worked { harts: 0, steps: 3, by: By::Turns, answer: Err(PlanFault::BadHarts) },
+    Worked { harts: 33, steps: 3, by: By::Seed(1), answer: Err(PlanFault::BadHarts) },
+    Worked { harts: 0, steps: 3, by: By::Only(0), answer: Err(PlanFault::BadHarts) },
+    Worked { harts: 2, steps: 3, by: By::Only(2), answer: Err(PlanFault::NoHart) },
+    Worked { harts: 32, steps: 0, by: By::Only(u32::MAX), answer: Err(PlanFault::NoHart) },
 ];
 
-// How a plan's list ends, and what is printed of it.
-fn scheduled<A: Allocator + Copy>(
-    alloc: A,
-    host: Global,
-    plan: SchedulePlan,
-) -> (Result<Status, ScheduleFault>, MemorySink<Global>) {
-    let mut sink = MemorySink::new(host);
-    let ending = schedule_engine(alloc, plan, &mut sink);
-    (ending, sink)
-}
-
-// Whether a plan's list is printed, or refused, as wanted.
+// Whether a list is printed, or its plan is refused, as wanted.
 fn is_worked(alloc: Global, row: &Worked) -> bool {
-    let (ending, sink) = scheduled(alloc, alloc, plan(row.harts, row.steps, row.by));
-    match row.answer {
-        Ok(text) => ending == Ok(Status::Done) && sink.bytes() == text.as_bytes(),
-        Err(fault) => ending == Err(fault) && sink.bytes().is_empty(),
+    match (scheduled(alloc, row.harts, row.steps, row.by), row.answer) {
+        (Some(Ok(text)), Ok(wanted)) => text.as_str() == wanted,
+        (Some(Err(fault)), Err(wanted)) => fault == wanted,
+        _ => false,
     }
 }
 
@@ -120,10 +119,9 @@ fn lines_of_campaign(
 }
 
 // The ends of a run of a file under a text of choices; nothing where it isn't done.
-fn ends_under(alloc: Global, file: &[u8], text: &[u8]) -> Option<MemorySink<Global>> {
+fn ends_under(alloc: Global, file: &[u8], text: &[u8]) -> Option<String<Global>> {
     let mut program = MemorySource::new(file);
     let mut choices = MemorySource::new(text);
-    let mut ends = MemorySink::new(alloc);
     let answer = run_engine(
         alloc,
         ProgramForm::Elf,
@@ -135,8 +133,8 @@ fn ends_under(alloc: Global, file: &[u8], text: &[u8]) -> Option<MemorySink<Glob
         &mut program,
         &mut choices,
     );
-    let run = deliver(&mut ends, answer);
-    if run == Ok(Status::Done) {
+    let (ends, status) = answer.ok()?;
+    if status == Status::Done {
         Some(ends)
     } else {
         None
@@ -156,12 +154,9 @@ fn exited_in(ends: &[u8]) -> u32 {
 
 // How many harts have exited in a run of a file under the text of a seed; nothing where one of both isn't done.
 fn exited_under(alloc: Global, file: &[u8], seed: u64) -> Option<u32> {
-    let (made, text) = scheduled(alloc, alloc, plan(2, STEPS, By::Seed(seed)));
-    if made != Ok(Status::Done) {
-        return None;
-    }
-    let ends = ends_under(alloc, file, text.bytes())?;
-    Some(exited_in(ends.bytes()))
+    let text = scheduled(alloc, 2, STEPS, By::Seed(seed))?.ok()?;
+    let ends = ends_under(alloc, file, text.as_bytes())?;
+    Some(exited_in(ends.as_bytes()))
 }
 
 // Pushes the line of a seed after whose run so many harts have exited.
@@ -197,26 +192,15 @@ fn texts_of_seeds_run_as_their_campaigns_do(rt: HostRuntime) {
     assert!(rt; is_same(&rt, rt.alloc()) == Some(true));
 }
 
-// How a list ends that a full sink should take.
-fn scheduled_in_vain(alloc: Global) -> Result<Status, ScheduleFault> {
-    schedule_engine(alloc, plan(2, 3, By::Turns), &mut FullSink::new())
-}
-
-#[test]
-fn failing_sinks_are_told(rt: HostRuntime) {
-    assert!(rt; scheduled_in_vain(rt.alloc()) == Err(ScheduleFault::Write));
-}
-
-// Whether the request behind so many was refused where a list of 30 steps is made; nothing where its answer is wrong.
+// Whether the request behind so many was refused where a list of 30 steps is made; nothing where its
+// answer is wrong.
 fn is_refused(host: Global, by: By, passed: u64) -> Option<bool> {
     let heap = Refusing::new(host, passed);
-    let (ending, sink) = scheduled(&heap, host, plan(2, 30, by));
-    let is_want = ending == Err(ScheduleFault::Memory) && heap.refused() && sink.bytes().is_empty();
-    if ending == Ok(Status::Done) || is_want {
-        Some(heap.refused())
-    } else {
-        None
+    let is_made = matches!(scheduled(&heap, 2, 30, by), Some(Ok(_)));
+    if is_made == heap.refused() {
+        return None;
     }
+    Some(heap.refused())
 }
 
 // How many requests are made for a list; nothing where an answer is wrong, or where memory is asked for without end.

@@ -2,6 +2,7 @@
 //! at its first call, then at its second, and so on, until it is not called so often.
 use asm_engine::{AssemblyFault, assembled_file, listing_engine, write_file};
 use cmd_campaign::campaign_engine;
+use cmd_schedule::{Plan, schedule_engine};
 use debug_engine::{DebugEngineFault, debug_engine};
 use devices::{Failing, FullSink, MemorySink, MemorySource, Status};
 use engines::{Exit, Expect, FileView, file_engine, run_engine};
@@ -9,7 +10,7 @@ use programs::{CommandFault, Input, ProgramForm, deliver, write_text};
 use progress::Unheard;
 use protocol_library::{Kind, source};
 use replay_engine::replay_engine;
-use schedule_engine::{Maker, ScheduleFault, SchedulePlan, schedule_engine};
+use sched_draw::Schedule;
 use std::alloc::Global;
 use std::thread::Threads;
 use test_campaigns::plain_campaign;
@@ -245,18 +246,12 @@ fn library(alloc: Global, failure: Failure) -> Outcome {
 }
 
 fn schedule(alloc: Global, failure: Failure) -> Outcome {
-    let plan = SchedulePlan {
-        harts: 2,
-        steps: 5,
-        maker: Maker::Turns,
+    let Ok(plan) = Plan::new(2, 5, Schedule::Turns) else {
+        return Outcome::Other;
     };
     let mut sink = Failing::new(MemorySink::new(alloc), failure.calls(Device::Output));
-    let outcome = match schedule_engine(alloc, plan, &mut sink) {
-        Ok(Status::Done) => Outcome::Full,
-        Err(ScheduleFault::Write) => Outcome::Failed(Device::Output),
-        _ => Outcome::Other,
-    };
-    checked(outcome, sink.device().bytes(), b"0 1 0 1 0\n")
+    let result = deliver(&mut sink, schedule_engine(alloc, plan));
+    checked(told(result), sink.device().bytes(), b"0 1 0 1 0\n")
 }
 
 fn debug(alloc: Global, failure: Failure) -> Outcome {

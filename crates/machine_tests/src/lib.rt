@@ -1,4 +1,4 @@
-//! Tests of runs: `choice_texts`, `choice_runs`, `scheduler`, `histories`, `debugger` and
+//! Tests of runs: `choice_texts`, `choice_runs`, `sched_draw`, `histories`, `debugger` and
 //! `local_steps`.
 #![tactic(auto)]
 

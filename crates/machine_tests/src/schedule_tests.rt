@@ -4,7 +4,7 @@ use machine::Choice;
 use rand_core::utils::NextWord;
 use rand_pcg::Lcg64Xsh32;
 use refusing::{Call, Refusing, tried};
-use scheduler::{round_robin, seeded, seeded_generator, solo};
+use sched_draw::{Draw, Schedule, list_schedule, seeded_generator};
 use std::alloc::{AllocError, Allocator, Global};
 
 macro_rules! plain {
@@ -85,9 +85,22 @@ fn runs_are_printed(rt: HostRuntime) {
     }
 }
 
+/// The choices of a schedule of so many harts, where it is one that has them in each run.
+fn listed<A: Allocator>(
+    alloc: A,
+    schedule: Schedule,
+    harts: u32,
+    steps: u64,
+) -> Result<Vec<Choice, A>, AllocError> {
+    if schedule.follows_run() || !schedule.is_of_harts(harts) {
+        return Err(AllocError);
+    }
+    list_schedule(alloc, schedule, harts, steps)
+}
+
 /// Whether a run that is too long for one item has two.
 fn is_run_cut(alloc: Global) -> Result<bool, AllocError> {
-    let choices = solo(alloc, 0, 16_777_217)?;
+    let choices = listed(alloc, Schedule::Only(0), 1, 16_777_217)?;
     let text = print_runs(alloc, choices.as_slice())?;
     Ok(text.as_str() == "0*16777216 0\n")
 }
@@ -142,12 +155,12 @@ const TURNS: [Choice; 5] = [plain!(0), plain!(1), plain!(2), plain!(0), plain!(1
 const ALONE: [Choice; 3] = [plain!(2), plain!(2), plain!(2)];
 
 fn are_turns(alloc: Global) -> Result<bool, AllocError> {
-    Ok(round_robin(alloc, 3, 5)?.as_slice() == TURNS.as_slice())
+    Ok(listed(alloc, Schedule::Turns, 3, 5)?.as_slice() == TURNS.as_slice())
 }
 
 /// Whether a hart alone for so many steps is these choices.
-fn is_alone(alloc: Global, steps: usize, wanted: &[Choice]) -> Result<bool, AllocError> {
-    Ok(solo(alloc, 2, steps)?.as_slice() == wanted)
+fn is_alone(alloc: Global, steps: u64, wanted: &[Choice]) -> Result<bool, AllocError> {
+    Ok(listed(alloc, Schedule::Only(2), 3, steps)?.as_slice() == wanted)
 }
 
 #[test]
@@ -194,9 +207,17 @@ fn are_of_words(choices: &[Choice], seed: u64) -> bool {
     true
 }
 
+// What a seed draws where nothing else is said.
+fn seeded(seed: u64) -> Schedule {
+    Schedule::Seeded {
+        seed,
+        draw: Draw::usual(),
+    }
+}
+
 /// Whether the 200 choices of a seed follow the words.
 fn is_seeded(alloc: Global, seed: u64) -> Result<bool, AllocError> {
-    let choices = seeded(alloc, 3, 200, seed)?;
+    let choices = listed(alloc, seeded(seed), 3, 200)?;
     Ok(choices.len() == 200 && are_of_words(choices.as_slice(), seed))
 }
 
@@ -212,33 +233,16 @@ fn each_refused_request_is_told(rt: HostRuntime) {
     assert!(rt; tried(rt.alloc(), &FIVE_CHOICES).is_ok());
 }
 
-/// Schedules of nine steps of two harts.
-#[derive(Clone, Copy)]
-enum Schedule {
-    Turns,
-    Solo,
-    Seeded,
-}
-
-/// Whether a schedule is made.
-fn is_made(heap: &Refusing<Global>, schedule: Schedule) -> bool {
-    match schedule {
-        Schedule::Turns => round_robin(heap, 2, 9).is_ok(),
-        Schedule::Solo => solo(heap, 2, 9).is_ok(),
-        Schedule::Seeded => seeded(heap, 2, 9, 1).is_ok(),
-    }
-}
-
-/// Whether a schedule is refused with its first request.
+/// Whether nine steps of two harts of a schedule are refused with their first request.
 fn is_refused(alloc: Global, schedule: Schedule) -> bool {
     let heap = Refusing::new(alloc, 0);
-    !is_made(&heap, schedule) && heap.refused()
+    listed(&heap, schedule, 2, 9).is_err() && heap.refused()
 }
 
 #[test]
 fn a_refused_schedule_is_told(rt: HostRuntime) {
-    for schedule in [Schedule::Turns, Schedule::Solo, Schedule::Seeded] {
+    for schedule in [Schedule::Turns, Schedule::Only(1), seeded(1)] {
         assert!(rt; is_refused(rt.alloc(), schedule));
     }
-    assert!(rt; solo(rt.alloc(), 0, usize::MAX).is_err());
+    assert!(rt; listed(rt.alloc(), Schedule::Only(0), 1, u64::MAX).is_err());
 }

@@ -1,5 +1,6 @@
 //! Engines, and the calls on which they and the program stand. Sinks have ample memory.
 use asm_engine::{AssemblyFault, assembled_file, listing_engine};
+use cmd_schedule::{Plan, schedule_engine};
 use command_line::{LineFault, read_inputs};
 use command_orders::read_plan;
 use debug_engine::{DebugEngineFault, debug_engine};
@@ -9,10 +10,9 @@ use hart_step::{Hart, HartState};
 use programs::{CommandFault, HexFault, ProgramForm, deliver, hex_image, read_hex};
 use progress::Unheard;
 use protocol_library::{Kind, source};
-use refusals::Refusals;
 use refusing::{Call, tried};
 use replay_engine::replay_engine;
-use schedule_engine::{Maker, ScheduleFault, SchedulePlan, schedule_engine};
+use sched_draw::Schedule;
 use std::alloc::{AllocError, Allocator, Global};
 
 // A call.
@@ -60,7 +60,7 @@ impl Call for EngineCall {
             EngineCall::Info => is_shown(alloc, host, FileView::Facts, FACTS),
             EngineCall::Replay => is_replayed(alloc, host),
             EngineCall::Debug => is_debugged(alloc, host),
-            EngineCall::Schedule => is_scheduled(alloc, host),
+            EngineCall::Schedule => is_scheduled(alloc),
             EngineCall::AssembledFile => is_assembled(alloc),
             EngineCall::AssembledListing => is_listed(alloc, host),
             EngineCall::EndsText => has_ends(alloc),
@@ -195,30 +195,15 @@ fn is_debugged<A: Allocator + Copy>(alloc: A, host: Global) -> Result<bool, Allo
     answer_of_session(ending, sink.bytes())
 }
 
-fn end_of_schedule(ending: Result<Status, ScheduleFault>) -> End {
-    match ending {
-        Ok(Status::Done) => End::Done,
-        Err(ScheduleFault::Memory) => End::Want,
-        _ => End::Other,
-    }
-}
-
-fn is_scheduled<A: Allocator + Copy>(alloc: A, host: Global) -> Result<bool, AllocError> {
-    let plan = SchedulePlan {
-        harts: 2,
-        steps: 12,
-        maker: Maker::Seed {
-            seed: 1,
-            refusals: Refusals::usual(),
-        },
+fn is_scheduled<A: Allocator + Copy>(alloc: A) -> Result<bool, AllocError> {
+    let Ok(plan) = Plan::new(2, 12, Schedule::Only(1)) else {
+        return Ok(false);
     };
-    let mut sink = MemorySink::new(host);
-    let ending = schedule_engine(alloc, plan, &mut sink);
-    answer_of(
-        end_of_schedule(ending),
-        sink.bytes(),
-        "0 0 1 0 1 0 0 0 0 0 1 0\n",
-    )
+    match schedule_engine(alloc, plan) {
+        Ok((text, _)) => Ok(text.as_str() == "1 1 1 1 1 1 1 1 1 1 1 1\n"),
+        Err(CommandFault::Memory) => Err(AllocError),
+        Err(_) => Ok(false),
+    }
 }
 
 fn is_assembled<A: Allocator + Copy>(alloc: A) -> Result<bool, AllocError> {

@@ -8,7 +8,7 @@ use machine::{Choice, Machine};
 use memory::FromImage;
 use pages::PageStore;
 use refusing::{Call, tried};
-use scheduler::{round_robin, seeded, solo};
+use sched_draw::{Schedule, list_schedule};
 use std::alloc::{AllocError, Allocator, Global};
 use test_images::{STORES_INPUT, writable_program};
 
@@ -18,9 +18,7 @@ enum MachineCall {
     Start,
     CopyMachine,
     Step,
-    RoundRobin,
-    Solo,
-    Seeded,
+    ListSchedule,
     ReadChoices,
     PrintChoices,
     PrintRuns,
@@ -30,13 +28,11 @@ enum MachineCall {
 }
 
 // All of them.
-const CALLS: [(&str, MachineCall); 12] = [
+const CALLS: [(&str, MachineCall); 10] = [
     ("start", MachineCall::Start),
     ("copy of a machine", MachineCall::CopyMachine),
     ("step", MachineCall::Step),
-    ("round_robin", MachineCall::RoundRobin),
-    ("solo", MachineCall::Solo),
-    ("seeded", MachineCall::Seeded),
+    ("list_schedule", MachineCall::ListSchedule),
     ("read_choices", MachineCall::ReadChoices),
     ("print_choices", MachineCall::PrintChoices),
     ("print_runs", MachineCall::PrintRuns),
@@ -51,9 +47,7 @@ impl Call for MachineCall {
             MachineCall::Start => is_started(alloc),
             MachineCall::CopyMachine => is_copied(alloc),
             MachineCall::Step => is_stepped(alloc),
-            MachineCall::RoundRobin => has_turns(alloc),
-            MachineCall::Solo => has_one_hart(alloc),
-            MachineCall::Seeded => has_seeds(alloc),
+            MachineCall::ListSchedule => has_turns(alloc),
             MachineCall::ReadChoices => is_read(alloc),
             MachineCall::PrintChoices => are_choices_printed(alloc),
             MachineCall::PrintRuns => are_runs_printed(alloc),
@@ -65,17 +59,7 @@ impl Call for MachineCall {
 }
 
 fn has_turns<A: Allocator + Copy>(alloc: A) -> Result<bool, AllocError> {
-    let choices = round_robin(alloc, 2, 9)?;
-    Ok(choices.len() == 9)
-}
-
-fn has_one_hart<A: Allocator + Copy>(alloc: A) -> Result<bool, AllocError> {
-    let choices = solo(alloc, 1, 9)?;
-    Ok(choices.len() == 9)
-}
-
-fn has_seeds<A: Allocator + Copy>(alloc: A) -> Result<bool, AllocError> {
-    let choices = seeded(alloc, 2, 9, 1)?;
+    let choices = list_schedule(alloc, Schedule::Turns, 2, 9)?;
     Ok(choices.len() == 9)
 }
 

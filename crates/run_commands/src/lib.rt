@@ -7,7 +7,6 @@ pub use shrink::shrink_schedule;
 pub use threads::run_on_threads;
 pub use trace::trace_run;
 
-mod faults;
 mod replay;
 mod schedule;
 mod shrink;

@@ -1,16 +1,18 @@
 //! Doing `schedule`.
 
-use crate::faults::tell_schedule;
+ghost use Rattle.std.specs.Prelude.{◌≡◌};
+
+use cli_values::{
+    DRAWS, OrderFault, REFUSALS, read_draw, read_order, read_refusals, read_schedule,
+    read_seed_plan,
+};
+use cmd_schedule::{Plan, PlanFault, schedule_engine, seed_engine};
 use command_line::{read_inputs, read_word};
-use command_orders::{Draw, ScheduleOrder, read_draw};
+use command_orders::ScheduleOrder;
 use devices::{ReaderSource, Status, WriterSink};
-use kind_plans::{DRAWS, REFUSALS, read_kind, read_refusals, read_seed_plan, why_no_kind};
-use order_plans::read_schedule_plan;
-use programs::{CommandFault, ProgramForm};
-use reports::{Audience, RunFiles, bad_line, cannot_open, cannot_read, explain_run, refuse, say};
-use schedule_engine::schedule_engine;
-use schedule_kinds::ScheduleKind;
-use seed_choices::seed_choices_engine;
+use programs::{ProgramForm, deliver};
+use reports::{Audience, RunFiles, bad_line, cannot_open, refuse, say, say_why};
+use sched_draw::{Draw, Order};
 use std::rt::Files;
 use std::{fs, io};
 
@@ -22,23 +24,78 @@ const OF_A_RUN: &str =
     "--schedule priorities:DEPTH takes --seed, and --inputs and a program, whose run the choices are of, \
                         as --seed 5 --schedule priorities:3 --inputs 7,9 swap.elf";
 
-// Why there is no plan.
-fn why_no_plan(order: &ScheduleOrder) -> &'static str {
-    match (order.draw, order.refusals) {
-        (Some(text), _) if read_draw(text).is_none() => DRAWS,
-        (_, refusals) if read_refusals(refusals).is_none() => REFUSALS,
-        (Some(_), _) if order.seed.is_none() =>
+const MEAN: &str =
+    "--schedule bursts:MEAN takes a decimal number from 1 to 2147483648, as bursts:100";
+
+// What is said of a line that says how a seed draws, and names no seed.
+fn why_no_seed(order: &ScheduleOrder) -> Option<&'static str> {
+    match (order.seed, order.draw, order.refusals) {
+        (None, Some(_), _) => Some(
             "--schedule says how the choices of a seed are drawn, as --seed 5 --schedule bursts:100",
-        (None, Some(_)) if order.seed.is_none() =>
+        ),
+        (None, None, Some(_)) => Some(
             "--refusals says how often the choices of a seed refuse a store-conditional, as --seed 5 --refusals one-in:4",
-        _ => NUMBERS,
+        ),
+        _ => None,
     }
+}
+
+// How a seed draws, where the order of the harts is to be looked at last: even where it is none.
+fn read_most_of_draw<R: Eprint>(rt: &R, order: &ScheduleOrder) -> Result<Draw, Status> {
+    let said = read_order(order.draw);
+    if matches!(said, Err(OrderFault::Unknown | OrderFault::BadDepth)) {
+        return Err(bad_line(rt, DRAWS));
+    }
+    let Some(refusals) = read_refusals(order.refusals) else {
+        return Err(bad_line(rt, REFUSALS));
+    };
+    Ok(Draw {
+        order: said.unwrap_or(Order::Even),
+        refusals,
+    })
+}
+
+// The plan of a schedule that is the same in each run, or the status of a line that asks for none.
+fn read_plan<R: Eprint>(rt: &R, order: &ScheduleOrder) -> Result<Plan, Status> {
+    let draw = read_most_of_draw(rt, order)?;
+    if let Some(why) = why_no_seed(order) {
+        return Err(bad_line(rt, why));
+    }
+    let is_drawn = order.draw.is_some() || order.refusals.is_some();
+    let schedule = read_schedule(order.seed, order.turns, order.only, is_drawn, draw);
+    let (Some(schedule), Some(harts), Some(steps)) = (
+        schedule,
+        read_word(order.harts),
+        read_word(order.steps),
+    ) else {
+        return Err(bad_line(rt, NUMBERS));
+    };
+    if schedule.follows_run() {
+        return Err(bad_line(rt, OF_A_RUN));
+    }
+    let plan = match Plan::new(harts, steps, schedule) {
+        Ok(plan) => plan,
+        Err(fault) => return Err(tell_plan(rt, fault)),
+    };
+    if read_order(order.draw).is_err() {
+        return Err(bad_line(rt, MEAN));
+    }
+    Ok(plan)
+}
+
+// Says why there is no plan.
+fn tell_plan(rt: &impl Eprint, fault: PlanFault) -> Status
+    ensures { result ≡ Status.BadLine }
+{
+    // Where standard error is closed, the status alone tells.
+    let _ = eprintln!(rt; "rvcons: {fault}");
+    Status::BadLine
 }
 
 // A run that choices are of.
 #[derive(Clone, Copy, Drop)]
 struct RunOrder<'a> {
-    kind: ScheduleKind,
+    draw: Draw,
     seed: &'a str,
     inputs: &'a str,
     file: &'a str,
@@ -46,22 +103,30 @@ struct RunOrder<'a> {
 
 // Whether choices that are drawn so are those of a run.
 fn is_of_a_run(draw: Option<&str>) -> bool {
-    match draw {
-        Some(text) => matches!(read_draw(text), Some(Draw::Priorities(_))),
-        None => false,
-    }
+    matches!(
+        read_order(draw),
+        Ok(Order::Priorities(_)) | Err(OrderFault::BadDepth)
+    )
 }
 
-// The run that the choices of an order are of: there is one just by priorities, of a seed alone, with inputs and a program.
-fn run_of<'a>(order: &ScheduleOrder<'a>) -> Result<Option<RunOrder<'a>>, &'static str> {
+// The run that the choices of an order are of: there is one just by priorities, of a seed alone, with
+// inputs and a program.
+fn run_of<'a, R: Eprint>(
+    rt: &R,
+    order: &ScheduleOrder<'a>,
+) -> Result<Option<RunOrder<'a>>, Status> {
     if !is_of_a_run(order.draw) {
         return match (order.inputs, order.file) {
             (None, None) => Ok(None),
-            _ => Err("--inputs and a program go with --schedule priorities:DEPTH"),
+            _ => Err(bad_line(
+                rt,
+                "--inputs and a program go with --schedule priorities:DEPTH",
+            )),
         };
     }
-    let Some(kind) = read_kind(order.draw, order.refusals) else {
-        return Err(why_no_kind(order.refusals));
+    let draw = match read_draw(order.draw, order.refusals) {
+        Ok(draw) => draw,
+        Err(fault) => return Err(bad_line(rt, fault.text())),
     };
     match (
         order.seed,
@@ -71,12 +136,12 @@ fn run_of<'a>(order: &ScheduleOrder<'a>) -> Result<Option<RunOrder<'a>>, &'stati
         order.file,
     ) {
         (Some(seed), false, None, Some(inputs), Some(file)) => Ok(Some(RunOrder {
-            kind,
+            draw,
             seed,
             inputs,
             file,
         })),
-        _ => Err(OF_A_RUN),
+        _ => Err(bad_line(rt, OF_A_RUN)),
     }
 }
 
@@ -86,26 +151,23 @@ pub fn print_schedule<R: Files + AllocGlobal + Print + Eprint>(
     audience: Audience,
     order: &ScheduleOrder,
 ) -> Status {
-    match run_of(order) {
-        Ok(Some(run)) => return print_run_choices(rt, audience, order, run),
-        Ok(None) => {}
-        Err(why) => return bad_line(rt, why),
+    match run_of(rt, order) {
+        Ok(Some(run)) => print_run_choices(rt, audience, order, run),
+        Ok(None) => print_plan(rt, order),
+        Err(status) => status,
     }
-    let Some(plan) = read_schedule_plan(
-        order.harts,
-        order.steps,
-        order.seed,
-        order.turns,
-        order.only,
-        order.draw,
-        order.refusals,
-    ) else {
-        return bad_line(rt, why_no_plan(order));
+}
+
+// Prints the choice text of a schedule that is the same in each run.
+fn print_plan<R: AllocGlobal + Print + Eprint>(rt: &R, order: &ScheduleOrder) -> Status {
+    let plan = match read_plan(rt, order) {
+        Ok(plan) => plan,
+        Err(status) => return status,
     };
     let mut sink = WriterSink::new(io::writer(rt));
-    match schedule_engine(rt.alloc(), plan, &mut sink) {
+    match deliver(&mut sink, schedule_engine(rt.alloc(), plan)) {
         Ok(status) => status,
-        Err(fault) => tell_schedule(rt, fault),
+        Err(fault) => say(rt, fault),
     }
 }
 
@@ -126,7 +188,7 @@ fn print_run_choices<R: Files + AllocGlobal + Print + Eprint>(
     if harts as usize != inputs.len() {
         return bad_line(rt, "--inputs has an input for each of --harts");
     }
-    let Some(plan) = read_seed_plan(run.kind, order.steps, run.seed) else {
+    let Some(plan) = read_seed_plan(run.draw, order.steps, run.seed) else {
         return bad_line(rt, NUMBERS);
     };
     let program = match fs::open(rt, run.file) {
@@ -135,19 +197,15 @@ fn print_run_choices<R: Files + AllocGlobal + Print + Eprint>(
     };
     let mut program = ReaderSource::new(program);
     let mut sink = WriterSink::new(io::writer(rt));
-    match seed_choices_engine(rt.alloc(), inputs.as_slice(), plan, &mut program, &mut sink) {
+    let answer = seed_engine(rt.alloc(), inputs.as_slice(), plan, &mut program);
+    let files = RunFiles {
+        program: run.file,
+        form: ProgramForm::Elf,
+        choices: "",
+        harts: inputs.len(),
+    };
+    match deliver(&mut sink, answer) {
         Ok(status) => status,
-        Err(CommandFault::Read(_)) => cannot_read(rt, run.file),
-        Err(fault) => {
-            let status = say(rt, fault);
-            let files = RunFiles {
-                program: run.file,
-                form: ProgramForm::Elf,
-                choices: "",
-                harts: inputs.len(),
-            };
-            explain_run(rt, audience, files, fault);
-            status
-        }
+        Err(fault) => say_why(rt, audience, files, fault),
     }
 }

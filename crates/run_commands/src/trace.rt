@@ -1,9 +1,9 @@
 //! Doing `trace`.
 
+use cli_values::read_trace_plan;
 use command_line::read_inputs;
 use command_orders::TraceOrder;
 use devices::{Status, WriterSink};
-use order_plans::read_trace_plan;
 use programs::ProgramForm;
 use reports::{Audience, RunFiles, bad_line, open_both, refuse, say_why};
 use std::io;

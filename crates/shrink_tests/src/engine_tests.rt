@@ -7,7 +7,7 @@ use devices::{Failing, FullSink, MemorySink, MemorySource, Status};
 use outcome::{Exit, Expect};
 use programs::{CommandFault, Input, deliver};
 use protocol_library::Kind;
-use scheduler::seeded;
+use sched_draw::{Draw, Schedule, list_schedule};
 use std::alloc::Global;
 
 // A program, its inputs, what is expected of its runs, a choice text, and the text that is left of it.
@@ -227,8 +227,12 @@ fn a_full_sink_is_told(rt: HostRuntime) {
 
 // The choices of a seed, as a text.
 fn seeded_text(alloc: Global, seed: u64) -> Option<String<Global>> {
-    let schedule = seeded(alloc, 2, 300, seed).ok()?;
-    print_choices(alloc, &schedule).ok()
+    let schedule = Schedule::Seeded {
+        seed,
+        draw: Draw::usual(),
+    };
+    let choices = list_schedule(alloc, schedule, 2, 300).ok()?;
+    print_choices(alloc, &choices).ok()
 }
 
 // How many choices are left of a seed's, where updates are lost under it.

@@ -4,7 +4,7 @@ ghost use Rattle.std.specs.Prelude.{◌≡◌};
 use cmd_campaign::{Campaign, Report};
 use outcome::{Exit, Expect};
 use protocol_library::Kind;
-use schedule_kinds::{HartOrder, Refusals, ScheduleKind};
+use sched_draw::Draw;
 
 /// A campaign with a line for each seed. Its harts may still run at the end.
 pub fn plain_campaign(first: u64, count: u64, steps: u64, rule: Option<Kind>) -> Campaign
@@ -15,10 +15,7 @@ pub fn plain_campaign(first: u64, count: u64, steps: u64, rule: Option<Kind>) ->
         first,
         count,
         steps,
-        schedule: ScheduleKind {
-            order: HartOrder::Even,
-            refusals: Refusals::usual(),
-        },
+        draw: Draw::usual(),
         expect: Expect {
             rule,
             exit: Exit::May,

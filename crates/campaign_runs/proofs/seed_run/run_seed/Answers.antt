@@ -3,8 +3,8 @@ use Rattle.machine.specs.World.{World}
 use Rattle.campaign_runs.proofs.RunLemmas.{ending-copied}
 use Rattle.campaign_runs.proofs.seed_run.run_seed.Goals as goal
 
-pub run_kind-requires-clause-there : goal.run_kind-requires-clause-there
-run_kind-requires-clause-there g c = ap (λ (w : World). length w.harts) c.in_ok-machine.ensures ∙ c.requires.there
+pub run_schedule-requires-clause-there : goal.run_schedule-requires-clause-there
+run_schedule-requires-clause-there g c = ap (λ (w : World). length w.harts) c.in_ok-machine.ensures ∙ c.requires.there
 
 pub returns : goal.returns
 returns g c =

@@ -1,7 +1,7 @@
 use Rattle.std.proofs.Common.{◌≡◌}
 use Rattle.machine.specs.State.{state}
 use Rattle.machine.specs.World.{run}
-use Rattle.scheduler.specs.Schedules.{turns}
+use Rattle.sched_draw.specs.Turns.{turns}
 use Rattle.cmd_shrink.proofs.going_on.go_on_by_turns.Given as goal
 
 -- so many steps were taken

@@ -1,0 +1,5 @@
+pub mod Draws
+pub mod Schedules
+pub mod CampaignPlans
+pub mod Reports
+pub mod TracePlans

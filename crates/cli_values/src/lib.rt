@@ -1,0 +1,12 @@
+//! The texts of orders, read to what the engines take.
+#![tactic(auto)]
+
+pub use campaign::{SeedNumbers, read_report, read_seed_numbers};
+pub use draw::{DRAWS, DrawFault, OrderFault, REFUSALS, read_draw, read_order, read_refusals};
+pub use schedule::{read_schedule, read_seed_plan};
+pub use trace::read_trace_plan;
+
+mod campaign;
+mod draw;
+mod schedule;
+mod trace;

@@ -1,0 +1,62 @@
+//! The plan of a trace.
+
+ghost use Rattle.std.specs.Prelude.{◌≡◌};
+ghost use Rattle.cli_values.specs.TracePlans.{first_of, form_of, last_of, place_of, trace_plan_of};
+
+use command_line::read_number;
+use trace_engine::{TraceForm, TracePlan};
+
+// The place of a choice: a number from 1 to 2^64 - 1.
+fn place_of(text: &str) -> Option<u64>
+    ensures { result ≡ place_of text.now }
+{
+    match read_number(text, u64::MAX) {
+        Ok(0) | Err(_) => None,
+        Ok(place) => Some(place),
+    }
+}
+
+// The first choice that is told.
+fn first_of(from: Option<&str>) -> Option<u64>
+    ensures { result ≡ first_of from.entry }
+{
+    match from {
+        None => Some(1),
+        Some(text) => place_of(text),
+    }
+}
+
+// The last choice that is told, if one is given.
+fn last_of(to: Option<&str>) -> Option<Option<u64>>
+    ensures { result ≡ last_of to.entry }
+{
+    match to {
+        None => Some(None),
+        Some(text) => Some(Some(place_of(text)?)),
+    }
+}
+
+// How the trace is written.
+fn form_of(table: bool) -> TraceForm
+    ensures { result ≡ form_of table }
+{
+    if table {
+        TraceForm::Table
+    } else {
+        TraceForm::Lines
+    }
+}
+
+/// The plan that an order's options write: a table or lines, from a choice to a choice. `None` just where a place is no decimal number from 1 to
+/// 2^64 - 1.
+pub fn read_trace_plan(table: bool, from: Option<&str>, to: Option<&str>) -> Option<TracePlan>
+    ensures { result ≡ trace_plan_of table from.entry to.entry }
+{
+    let from = first_of(from)?;
+    let to = last_of(to)?;
+    Some(TracePlan {
+        form: form_of(table),
+        from,
+        to,
+    })
+}

@@ -1,0 +1,31 @@
+-- Plans of schedules that are the same in each run, and the texts of their choices.
+use Rattle.std.specs.Prelude.{◌≡◌, ℕ, ◌<◌, ◌≤◌, ◌⊎◌, false, List}
+use Rattle.std.specs.declared.result.Result.TheVariants.{Ok}
+use Rattle.reservations.specs.Limit.{most_harts}
+use Rattle.machine.specs.World.{World}
+use Rattle.machine.specs.declared.choice.Choice.{Choice}
+use Rattle.choice_texts.specs.Printing.{choices_text}
+use Rattle.choice_texts.specs.Reading as texts
+use Rattle.sched_draw.specs.Schedules.{choices_of, is_of_harts}
+use Rattle.sched_draw.specs.declared.schedule.Schedule.{Schedule}
+use Rattle.cmd_schedule.specs.declared.plan.Plan.{Plan}
+use Rattle.cmd_schedule.specs.declared.plan.PlanFault.{PlanFault}
+use Rattle.cmd_schedule.specs.declared.plan.PlanFault.TheVariants.{BadHarts, NoHart}
+
+-- a plan is that of so many harts and steps of a schedule
+abbrev pub IsPlanOf : ℕ → ℕ → Schedule → Plan → Type 0
+IsPlanOf harts steps schedule plan =
+    (plan.harts ≡ harts) × (plan.steps ≡ steps) × (plan.schedule ≡ schedule)
+
+-- when there is no plan of so many harts of a schedule: the number of harts is looked at first
+abbrev pub Refuses : ℕ → Schedule → PlanFault → Type 0
+Refuses harts schedule BadHarts = (harts ≡ 0) ⊎ (most_harts < harts)
+Refuses harts schedule NoHart = (0 < harts) × (harts ≤ most_harts) × (is_of_harts schedule harts ≡ false)
+
+-- a text is the choice text of a plan's choices, which are the same in each run, and who reads it for
+-- as many harts gets them
+pub record IsScheduleText (plan : Plan) (text : List ℕ) : Type 0 where
+  pub choices : List Choice
+  pub made : (w : World) → choices ≡ choices_of plan.schedule w plan.harts plan.steps
+  pub printed : text ≡ choices_text choices
+  pub read : texts.choices_of plan.harts text ≡ Ok choices

@@ -1,0 +1,99 @@
+//! `schedule`: a plan in; the choice text of its choices out.
+
+ghost use Rattle.std.specs.Prelude.{◌≡◌, ◌≢◌, ◌-◌, ◌^◌, ◌<◌, Ok, Err, IfOk, IfErr, IfSome, string_bytes};
+ghost use Rattle.machine.specs.Start.{IsStartable};
+ghost use Rattle.choice_texts.specs.Printing.{choices_text};
+ghost use Rattle.programs.specs.CommandFaults.{IfNames, IsRefusal};
+ghost use Rattle.cmd_schedule.specs.Plans.{IsScheduleText};
+ghost use Rattle.cmd_schedule.specs.Seeds.{choices_answer, seed_list};
+
+use crate::plan::{Plan, SeedPlan};
+use campaign_runs::first_machine;
+use choice_texts::print_choices;
+use devices::{Source, Status};
+use machine::check_inputs;
+use program_images::Image;
+use programs::{CommandFault, ProgramForm, read_image};
+use sched_draw::{Schedule, list_run, list_schedule};
+use std::alloc::{AllocError, Allocator};
+
+/// `schedule` without a program: the choice text of a plan's choices, an item a choice. Refused for
+/// want of memory alone.
+pub fn schedule_engine<A: Allocator + Copy>(
+    alloc: A,
+    plan: Plan,
+) -> Result<(String<A>, Status), CommandFault>
+    ensures status { IfOk result (λ answer. answer.1 ≡ Status.Done) }
+    ensures text { IfOk result (λ answer. IsScheduleText plan (string_bytes answer.0)) }
+    ensures fault { IfErr result (λ fault. fault ≡ CommandFault.Memory) }
+{
+    match plan_text(alloc, plan) {
+        Ok(text) => Ok((text, Status::Done)),
+        Err(AllocError) => Err(CommandFault::Memory),
+    }
+}
+
+// The choice text of a plan's choices.
+fn plan_text<A: Allocator + Copy>(alloc: A, plan: Plan) -> Result<String<A>, AllocError>
+    ensures { IfOk result (λ text. IsScheduleText plan (string_bytes text)) }
+{
+    let choices = list_schedule(alloc, plan.schedule, plan.harts, u64::from(plan.steps))?;
+    let text = print_choices(alloc, &choices)?;
+    Ok(text)
+}
+
+// The choice text of a seed's choices in a run of an image.
+fn seed_text<A: Allocator + Copy>(
+    alloc: A,
+    inputs: &[u32],
+    plan: SeedPlan,
+    image: &Image<A>,
+) -> Result<String<A>, AllocError>
+    requires { IsStartable inputs.now }
+    ensures { IfOk result (λ text.
+        string_bytes text ≡ choices_text (seed_list plan inputs.now image.now)) }
+{
+    let mut machine = first_machine(alloc, image, inputs)?;
+    let schedule = Schedule::Seeded {
+        seed: plan.seed,
+        draw: plan.draw,
+    };
+    let harts = inputs.len() as u32;
+    let choices = list_run(alloc, &mut machine, schedule, harts, plan.steps)?;
+    let text = print_choices(alloc, &choices)?;
+    Ok(text)
+}
+
+/// `schedule` for the choices of a run: reads an ELF file to its end, runs it under the choices that a
+/// seed draws, and answers their text, an item a choice.
+#[tactic(auto, unfolding(crate::specs::Seeds::choices_answer))]
+pub fn seed_engine<A: Allocator + Copy, P: Source>(
+    alloc: A,
+    inputs: &[u32],
+    plan: SeedPlan,
+    program: &mut P,
+) -> Result<(String<A>, Status), CommandFault>
+    requires { P.failures program.old < 2 ^ 64 - 1 }
+    // The text of the plan's choices.
+    ensures done { IfOk result (λ answer. IfSome (P.left program.old) (λ p.
+        choices_answer plan inputs.now p ≡ Ok (string_bytes answer.0, answer.1))) }
+    // What was read is refused.
+    ensures refused { IfErr result (λ fault. IsRefusal fault
+        → IfSome (P.left program.old) (λ p. choices_answer plan inputs.now p ≡ Err fault)) }
+    // The program's device is named only where it failed, and no other is.
+    ensures read { IfErr result (λ fault. IfNames fault
+        (P.failures program.old < P.failures program.new) ⊥ ⊥ ⊥) }
+{
+    let image = match read_image(alloc, ProgramForm::Elf, program) {
+        Ok(image) => image,
+        Err(fault) => return Err(fault),
+    };
+    match check_inputs(inputs) {
+        Ok(()) => {}
+        Err(fault) => return Err(CommandFault::from(fault)),
+    }
+    match seed_text(alloc, inputs, plan, &image) {
+        Ok(text) => Ok((text, Status::Done)),
+        Err(AllocError) => Err(CommandFault::Memory),
+    }
+}

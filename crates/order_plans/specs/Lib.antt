@@ -1,4 +1,0 @@
-pub mod CampaignPlans
-pub mod SchedulePlans
-pub mod Reports
-pub mod TracePlans

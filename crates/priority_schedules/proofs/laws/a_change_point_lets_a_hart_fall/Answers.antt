@@ -1,5 +1,0 @@
-use Rattle.priority_schedules.proofs.PriorityLemmas.{falls}
-use Rattle.priority_schedules.proofs.laws.a_change_point_lets_a_hart_fall.Goals as goal
-
-pub returns : goal.returns
-returns c = λ refusals place other harts later d there has differs going. falls refusals place other harts later d there has differs going

@@ -1,5 +1,0 @@
-use Rattle.priority_schedules.proofs.PriorityLemmas.{never_waits}
-use Rattle.priority_schedules.proofs.laws.a_stopped_hart_waits.Goals as goal
-
-pub returns : goal.returns
-returns c = λ world refusals depth steps seed. never_waits world refusals depth steps seed

@@ -1,9 +1,0 @@
-use Rattle.priority_schedules.proofs.PriorityLemmas.{order-length, order-each, order-there}
-use Rattle.priority_schedules.proofs.laws.each_hart_has_a_place.Goals as goal
-
-pub returns : goal.returns
-returns c = record {
-  count = λ harts depth steps seed. order-length harts depth steps seed;
-  each = λ harts depth steps seed hart below. order-each harts depth steps seed hart below;
-  there = λ harts depth steps seed. order-there harts depth steps seed;
-}

@@ -1,2 +1,0 @@
-pub mod Priorities
-pub mod Drawn

@@ -1,8 +1,0 @@
-use Rattle.refusals.proofs.RefusalLemmas.{never-word, never-choices}
-use Rattle.refusals.proofs.laws.never_refuses.Goals as goal
-
-pub returns : goal.returns
-returns c = record {
-  words = λ word. never-word word;
-  choices = λ harts steps seed. never-choices harts steps seed;
-}

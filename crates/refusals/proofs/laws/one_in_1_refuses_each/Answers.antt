@@ -1,8 +1,0 @@
-use Rattle.refusals.proofs.RefusalLemmas.{each-word, each-choices}
-use Rattle.refusals.proofs.laws.one_in_1_refuses_each.Goals as goal
-
-pub returns : goal.returns
-returns c = record {
-  words = λ refusals word each. each-word refusals word each;
-  choices = λ refusals harts steps seed each. each-choices refusals harts steps seed each;
-}

@@ -1,2 +1,0 @@
-pub mod Limit
-pub mod Refusing

@@ -1,0 +1,58 @@
+-- Choices that are made one by one: the run over them, and their list.
+use Rattle.std.proofs.Common.{◌≡◌, ℕ, ◌+◌, false, List, [], ◌∷◌, ◌++◌, append-nil, append_assoc, refl, ap, sym, ◌∙◌}
+use Rattle.machine.specs.World.{World, step, run}
+use Rattle.machine.specs.Chosen.{is_chosen}
+use Rattle.machine.specs.declared.choice.Choice.{Choice}
+use Rattle.machine.proofs.WorldLemmas.{run_append, run_none}
+use Rattle.choice_runs.specs.Harts.{Harts, with_hart}
+use Rattle.choice_runs.proofs.ChosenLemmas.{choice_chosen}
+use Rattle.sched_draw.specs.Schedules.{RanOver}
+
+-- of all choices those that were taken, whose run has led from a world to another, come before those that are left
+pub record SoFar (all left : List Choice) (old now : World) (chosen : Harts) : Type 0 where
+  pub done : List Choice
+  pub order : all ≡ done ++ left
+  pub led : now ≡ run old done
+  pub told : (k : ℕ) → chosen k ≡ is_chosen done k
+
+-- no choice was taken
+pub begun : (all left : List Choice) (world : World) (chosen : Harts) → left ≡ all → chosen ≡ (λ _. false) → SoFar all left world world chosen
+begun all left world chosen whole none = record {
+  done = [];
+  order = sym whole;
+  led = sym (run_none world);
+  told = λ k. ap (λ (harts : Harts). harts k) none;
+}
+
+run_one : (w : World) (c : Choice) → run w (c ∷ []) ≡ step w c
+unfolding run
+run_one w c = refl
+
+-- one choice more was taken
+pub one_more : (all left next : List Choice) (old before after : World) (chosen more : Harts) (c : Choice)
+    → left ≡ c ∷ next → after ≡ step before c → more ≡ with_hart chosen c.hart
+    → SoFar all left old before chosen → SoFar all next old after more
+one_more all left next old before after chosen more c is stepped added s = record {
+  done = s.done ++ c ∷ [];
+  order = s.order ∙ ap (λ cs. s.done ++ cs) is ∙ sym (append_assoc s.done (c ∷ []) next);
+  led = stepped ∙ ap (λ w. step w c) s.led ∙ sym (run_one (run old s.done) c) ∙ sym (run_append old s.done (c ∷ []));
+  told = λ k. ap (λ (harts : Harts). harts k) added ∙ choice_chosen s.done c chosen k (s.told k);
+}
+
+-- all were taken
+pub all_done : (all left : List Choice) (old now : World) (chosen : Harts) → left ≡ []
+    → SoFar all left old now chosen → RanOver all old now chosen
+all_done all left old now chosen none s =
+    let whole : s.done ≡ all = sym (s.order ∙ ap (λ cs. s.done ++ cs) none ∙ append-nil s.done) in
+    (s.led ∙ ap (run old) whole, λ k. s.told k ∙ ap (λ cs. is_chosen cs k) whole)
+
+-- the choices so far, and then those that are left
+module _ (old left whole : List Choice) (so_far : old ++ left ≡ whole) where
+  -- one more is listed
+  pub one_listed : (next new : List Choice) (c : Choice) → left ≡ c ∷ next → new ≡ old ++ c ∷ [] → new ++ next ≡ whole
+  one_listed next new c is pushed =
+      ap (λ cs. cs ++ next) pushed ∙ append_assoc old (c ∷ []) next ∙ ap (λ cs. old ++ cs) (sym is) ∙ so_far
+
+  -- all are listed
+  pub all_listed : left ≡ [] → old ≡ whole
+  all_listed none = sym (ap (λ cs. old ++ cs) none ∙ append-nil old) ∙ so_far

@@ -1,0 +1,6 @@
+pub mod SeedLemmas
+pub mod RefusalLemmas
+pub mod BurstLemmas
+pub mod PriorityLemmas
+pub mod ChoiceLemmas
+pub mod ChooserLemmas

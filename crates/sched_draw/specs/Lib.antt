@@ -1,0 +1,9 @@
+pub mod Limits
+pub mod Turns
+pub mod Seeds
+pub mod Refusing
+pub mod Bursts
+pub mod Priorities
+pub mod Drawn
+pub mod NoSteps
+pub mod Schedules

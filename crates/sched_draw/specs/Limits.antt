@@ -1,0 +1,14 @@
+-- The limits of what a drawn schedule is drawn by.
+use Rattle.std.specs.Prelude.{ℕ}
+
+-- the least chance is one in 2^16: the upper half of a word has as many values
+abbrev pub most_one_in : ℕ
+most_one_in = 65_536
+
+-- the greatest mean of the bursts' lengths, 2^31: the longest burst is then one choice less than 2^32
+abbrev pub most_mean : ℕ
+most_mean = 2_147_483_648
+
+-- the greatest depth of priorities
+abbrev pub most_depth : ℕ
+most_depth = 1_000

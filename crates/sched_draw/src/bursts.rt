@@ -1,0 +1,103 @@
+//! Choices in bursts, drawn one at a time.
+
+ghost use Rattle.std.specs.Prelude.{◌≡◌, ℕ, ◌+◌, ◌-◌, ◌*◌, ◌%◌, ◌<◌, ◌≤◌};
+ghost use Rattle.sched_draw.specs.Limits.{most_mean};
+ghost use Rattle.sched_draw.specs.Bursts.{Drawing, drawing_of, burst_drawn, in_burst, next_choice, after_choice, choices_drawn};
+ghost use Rattle.sched_draw.specs.NoSteps.{no_bursts};
+
+use crate::chooser::Drawer;
+use crate::even::seeded_generator;
+use crate::order::Mean;
+use crate::refusals::Refusals;
+use machine::Choice;
+use rand_core::utils::NextWord;
+use rand_pcg::Lcg64Xsh32;
+use std::marker::Model;
+
+/// Choices in bursts that are drawn from a seed. A contract sees where the drawing stands.
+#[derive(Drop)]
+pub(crate) struct Bursts {
+    harts: u32,
+    mean: u32,
+    refusals: Refusals,
+    hart: u32,
+    left: u32,
+    generator: Lcg64Xsh32,
+}
+
+impl Model for Bursts {
+    ghost Value = { Drawing };
+
+    ghost view = { λ b. record {
+      harts = b.harts;
+      mean = b.mean;
+      refusals = b.refusals;
+      hart = b.hart;
+      left = b.left;
+      generator = b.generator;
+    } };
+
+    ghost invariant = { λ b. (b.hart < b.harts) × (0 < b.mean) × (b.mean ≤ most_mean) };
+}
+
+impl Bursts {
+    /// The drawing that a seed starts, of bursts of so many harts and of this mean length, whose
+    /// choices refuse so.
+    #[tactic(auto, unfolding(crate::specs::Bursts::drawing_of))]
+    pub(crate) fn new(harts: u32, mean: Mean, refusals: Refusals, seed: u64) -> Bursts
+        requires { 0 < harts }
+        ensures begun { result ≡ drawing_of harts mean.choices refusals seed }
+        ensures harts { result.harts ≡ harts }
+    {
+        Bursts {
+            harts,
+            mean: mean.choices(),
+            refusals,
+            hart: 0,
+            left: 0,
+            generator: seeded_generator(seed),
+        }
+    }
+
+    // Draws a burst where none is left: its hart by one word, its length by the next.
+    #[tactic(auto, unfolding(crate::specs::Bursts::burst_drawn))]
+    fn begin_burst(&mut self)
+        ensures state { self.new ≡ in_burst self.old }
+        ensures some { 0 < self.new.left }
+    {
+        if self.left == 0 {
+            let hart = self.generator.next_word() % self.harts;
+            let others = self.generator.next_word() % (self.mean - 1 + self.mean);
+            self.hart = hart;
+            self.left = others + 1;
+        }
+    }
+
+    // Draws the next choice: one word says whether its store-conditional is refused, and where a burst
+    // begins two words before it name the hart and the length.
+    fn next_choice(&mut self) -> Choice
+        ensures choice { result ≡ next_choice self.old }
+        ensures state { self.new ≡ after_choice self.old }
+        ensures within { result.hart < self.old.harts }
+    {
+        self.begin_burst();
+        let word = self.generator.next_word();
+        self.left -= 1;
+        Choice {
+            hart: self.hart,
+            refuse: self.refusals.refuses(word),
+        }
+    }
+}
+
+impl Drawer for Bursts {
+    ghost drawn = { λ b _ n. choices_drawn n b };
+
+    ghost harts = { λ b. b.harts };
+
+    ghost none = { λ b _. no_bursts b };
+
+    fn draw(&mut self, _step: u64) -> Choice {
+        self.next_choice()
+    }
+}

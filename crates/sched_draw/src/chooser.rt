@@ -1,0 +1,65 @@
+//! Where the choices of a run come from, one at a time.
+
+ghost use Rattle.std.specs.Prelude.{◌≡◌, ◌+◌, ◌<◌, ℕ, List, [], ◌∷◌, IfOk, length, map};
+ghost use Rattle.hart_step.specs.Hart.{hart_of};
+ghost use Rattle.machine.specs.World.{World, step as stepped};
+ghost use Rattle.machine.specs.declared.choice.Choice.{Choice};
+
+use hart_step::Hart;
+use machine::Choice;
+use std::alloc::AllocError;
+
+/// Where the choices of a run come from. Each is asked for when its step comes.
+pub trait Chooser: Drop {
+    /// So many choices of a run that goes on from a world, the first of them at a step.
+    ghost choices: { Self → ℕ → ℕ → World → List Choice };
+
+    /// Whether it chooses from so many harts.
+    ghost IsFor: { Self → ℕ → Type 0 };
+
+    /// The choice at a step, where the harts stand so. Refused for want of memory alone.
+    fn next(&mut self, step: u64, harts: &[Hart]) -> Result<Choice, AllocError>
+        requires { IsFor self.old (length harts.now) }
+        ensures chooses { IfOk result (λ choice. (n : ℕ) (w : World) → w.harts ≡ map hart_of harts.now
+            → choices self.old step (n + 1) w ≡ choice ∷ choices self.new (step + 1) n (stepped w choice)) }
+        ensures within { IfOk result (λ choice. choice.hart < length harts.now) }
+        ensures stays { IfOk result (λ _. IsFor self.new (length harts.now)) };
+
+    /// No choice of no steps.
+    ghost none: { (c : Self) (step : ℕ) (w : World) → choices c step 0 w ≡ [] };
+}
+
+/// Where choices come from that are the same in each run.
+pub trait Drawer: Drop {
+    /// So many choices, the first of them at a step.
+    ghost drawn: { Self → ℕ → ℕ → List Choice };
+
+    /// From how many harts it draws.
+    ghost harts: { Self → ℕ };
+
+    /// The choice at a step.
+    fn draw(&mut self, step: u64) -> Choice
+        ensures draws { (n : ℕ) → drawn self.old step (n + 1) ≡ result ∷ drawn self.new (step + 1) n }
+        ensures within { result.hart < harts self.old }
+        ensures stays { harts self.new ≡ harts self.old };
+
+    /// No choice of no steps.
+    ghost none: { (d : Self) (step : ℕ) → drawn d step 0 ≡ [] };
+}
+
+/// A chooser of choices that are the same in each run.
+#[derive(Drop)]
+pub(crate) struct Same<D>(pub(crate) D);
+
+impl<D: Drawer> Chooser for Same<D> {
+    ghost choices = { λ c step n _. D.drawn c.0 step n };
+
+    ghost IsFor = { λ c n. D.harts c.0 ≡ n };
+
+    ghost none = { λ c step _. D.none c.0 step };
+
+    #[inline(always)]
+    fn next(&mut self, step: u64, _harts: &[Hart]) -> Result<Choice, AllocError> {
+        Ok(self.0.draw(step))
+    }
+}

@@ -1,0 +1,126 @@
+//! The choices of a schedule, as a list.
+
+ghost use Rattle.std.specs.Prelude.{◌≡◌, ◌<◌, true, false, IfOk, length};
+ghost use Rattle.machine.specs.Machine.{world};
+ghost use Rattle.machine.specs.World.{World};
+ghost use Rattle.sched_draw.specs.Schedules.{choices_of, drawn_choices, follows, follows_run, is_of_harts};
+
+use crate::bursts::Bursts;
+use crate::chooser::{Chooser, Drawer};
+use crate::even::Even;
+use crate::order::Order;
+use crate::priorities::ByPriorities;
+use crate::schedule::{Draw, Schedule};
+use crate::turns::{Alone, Turns};
+use machine::{Choice, Machine};
+use memory::Store;
+use std::alloc::{AllocError, Allocator};
+
+/// So many choices of a schedule that is the same in each run, of so many harts. Refused for want of
+/// memory alone.
+pub fn list_schedule<A: Allocator>(
+    alloc: A,
+    schedule: Schedule,
+    harts: u32,
+    steps: u64,
+) -> Result<Vec<Choice, A>, AllocError>
+    requires of { is_of_harts schedule harts ≡ true }
+    requires same { follows_run schedule ≡ false }
+    ensures { IfOk result (λ choices. (w : World) → choices.items ≡ choices_of schedule w harts steps) }
+{
+    match schedule {
+        Schedule::Turns => list_drawn(alloc, Turns::new(harts), steps),
+        Schedule::Only(hart) => list_drawn(alloc, Alone::new(hart, harts), steps),
+        Schedule::Seeded { seed, draw } => list_of_seed(alloc, draw, harts, steps, seed),
+    }
+}
+
+// The same of choices that a seed draws.
+#[tactic(auto, unfolding(crate::specs::Schedules::drawn_choices))]
+fn list_of_seed<A: Allocator>(
+    alloc: A,
+    draw: Draw,
+    harts: u32,
+    steps: u64,
+    seed: u64,
+) -> Result<Vec<Choice, A>, AllocError>
+    requires some { 0 < harts }
+    requires same { follows draw.order ≡ false }
+    ensures { IfOk result (λ choices. (w : World) → choices.items ≡ drawn_choices draw w harts steps seed) }
+{
+    let refusals = draw.refusals;
+    match draw.order {
+        Order::Even => list_drawn(alloc, Even::new(harts, refusals, seed), steps),
+        Order::Bursts(mean) => {
+            list_drawn(alloc, Bursts::new(harts, mean, refusals, seed), steps)
+        }
+        // These are not the same in each run.
+        Order::Priorities(_) => unreachable!(),
+    }
+}
+
+// So many choices of a drawer.
+fn list_drawn<D: Drawer, A: Allocator>(
+    alloc: A,
+    drawer: D,
+    steps: u64,
+) -> Result<Vec<Choice, A>, AllocError>
+    ensures { IfOk result (λ choices. choices.items ≡ D.drawn drawer 0 steps) }
+{
+    let mut drawer = drawer;
+    let mut choices = Vec::with_capacity(alloc, steps as usize)?;
+    'steps: for step in 0..steps {
+        choices.push(drawer.draw(step))?;
+    }
+    Ok(choices)
+}
+
+/// So many choices of a schedule in the run of a machine of so many harts. Where they depend on the
+/// run, the machine has done it. Refused for want of memory alone.
+#[tactic(auto, unfolding(crate::specs::Schedules::drawn_choices))]
+pub fn list_run<S: Store, A: Allocator + Copy>(
+    alloc: A,
+    machine: &mut Machine<S, A>,
+    schedule: Schedule,
+    harts: u32,
+    steps: u64,
+) -> Result<Vec<Choice, A>, AllocError>
+    requires of { is_of_harts schedule harts ≡ true }
+    requires there { length (world S.memory machine.old).harts ≡ harts }
+    ensures { IfOk result (λ choices.
+        choices.items ≡ choices_of schedule (world S.memory machine.old) harts steps) }
+{
+    let Schedule::Seeded {
+        seed,
+        draw: Draw {
+            order: Order::Priorities(depth),
+            refusals,
+        },
+    } = schedule
+    else {
+        return list_schedule(alloc, schedule, harts, steps);
+    };
+    let chooser = ByPriorities::new(alloc, harts, depth, refusals, steps, seed)?;
+    list_by(alloc, machine, chooser, steps)
+}
+
+// So many choices of a machine's run, each made when its step comes.
+fn list_by<S: Store, A: Allocator, C: Chooser>(
+    alloc: A,
+    machine: &mut Machine<S, A>,
+    chooser: C,
+    steps: u64,
+) -> Result<Vec<Choice, A>, AllocError>
+    requires { C.IsFor chooser (length (world S.memory machine.old).harts) }
+    ensures { IfOk result (λ choices.
+        choices.items ≡ C.choices chooser 0 steps (world S.memory machine.old)) }
+{
+    let mut chooser = chooser;
+    let mut choices = Vec::with_capacity(alloc, steps as usize)?;
+    'steps: for step in 0..steps {
+        let choice = chooser.next(step, machine.ends())?;
+        machine.step(choice)?;
+        choices.push(choice)?;
+    }
+    Ok(choices)
+}

@@ -1,0 +1,92 @@
+//! In which order the harts of a drawn schedule go.
+
+ghost use Rattle.std.specs.Prelude.{◌≡◌, ◌<◌, ◌≤◌, ◌⊎◌, MatchOption};
+ghost use Rattle.sched_draw.specs.Limits.{most_depth, most_mean};
+
+/// The greatest mean of the bursts' lengths: the longest burst is then one choice less than 2^32.
+pub const MOST_MEAN: u32 = 2_147_483_648;
+
+/// The greatest depth: a schedule has fewer change points.
+pub const MOST_DEPTH: u32 = 1_000;
+
+/// How many choices a burst has in the mean: 1 to `MOST_MEAN`.
+#[derive(Clone, Copy, Drop)]
+pub struct Mean {
+    choices: u32,
+    ghost within: { (0 < choices) × (choices ≤ most_mean) },
+}
+
+impl Mean {
+    /// A mean of so many choices: `None` just where it would be 0 or greater than `MOST_MEAN`.
+    pub fn new(choices: u32) -> Option<Mean>
+        ensures { MatchOption result ((choices ≡ 0) ⊎ (most_mean < choices)) (λ mean. mean.choices ≡ choices) }
+    {
+        if choices == 0 || choices > MOST_MEAN {
+            return None;
+        }
+        Some(Mean { choices })
+    }
+
+    /// How many choices.
+    pub fn choices(self) -> u32
+        ensures is { result ≡ self.choices }
+        ensures some { 0 < result }
+        ensures most { result ≤ most_mean }
+    {
+        self.choices
+    }
+}
+
+/// How deep a schedule by priorities looks, 1 to `MOST_DEPTH`: it has one change point less.
+#[derive(Clone, Copy, Drop)]
+pub struct Depth {
+    number: u32,
+    ghost within: { (0 < number) × (number ≤ most_depth) },
+}
+
+impl Depth {
+    /// A depth: `None` just where it would be 0 or greater than `MOST_DEPTH`.
+    pub fn new(number: u32) -> Option<Depth>
+        ensures { MatchOption result ((number ≡ 0) ⊎ (most_depth < number)) (λ depth. depth.number ≡ number) }
+    {
+        if number == 0 || number > MOST_DEPTH {
+            return None;
+        }
+        Some(Depth { number })
+    }
+
+    /// The depth as a number.
+    pub fn number(self) -> u32
+        ensures is { result ≡ self.number }
+        ensures some { 0 < result }
+        ensures most { result ≤ most_depth }
+    {
+        self.number
+    }
+}
+
+/// Which hart a seed draws for each choice.
+#[derive(Clone, Copy, Drop)]
+pub enum Order {
+    /// Each is drawn from all harts.
+    Even,
+    /// In bursts of one hart, of this mean length.
+    Bursts(Mean),
+    /// By priorities, of this depth: they depend on which harts have stopped, so they are those of a
+    /// run.
+    Priorities(Depth),
+}
+
+impl Order {
+    ghost use Rattle.sched_draw.specs.Schedules.{follows};
+
+    /// Whether it depends on how the harts of a run stand.
+    pub fn follows(self) -> bool
+        ensures { result ≡ follows self }
+    {
+        match self {
+            Order::Even | Order::Bursts(_) => false,
+            Order::Priorities(_) => true,
+        }
+    }
+}

@@ -1,0 +1,208 @@
+//! Choices by priorities, drawn one at a time.
+
+ghost use Rattle.std.specs.Prelude.{◌≡◌, ◌-◌, ◌<◌, IfOk, map};
+ghost use Rattle.hart_step.specs.Hart.{hart_of};
+ghost use Rattle.sched_draw.specs.Priorities.{runs, first_running, with_hart, with_harts, with_point, with_points};
+ghost use Rattle.sched_draw.specs.Priorities.{drawing_of, fallen, order_after, next_choice, after_choice};
+ghost use Rattle.std.specs.List.{All};
+ghost use Rattle.machine.specs.World.{World};
+ghost use Rattle.sched_draw.specs.Priorities.{choices_drawn, priority_choices};
+ghost use Rattle.sched_draw.specs.Drawn.{drawing};
+ghost use Rattle.sched_draw.specs.NoSteps.{no_priorities};
+
+use crate::chooser::Chooser;
+use crate::even::seeded_generator;
+use crate::order::Depth;
+use crate::refusals::Refusals;
+use hart_step::{Hart, HartState};
+use machine::Choice;
+use rand_core::utils::NextWord;
+use rand_pcg::Lcg64Xsh32;
+use std::alloc::{AllocError, Allocator};
+
+/// The harts by priorities that are drawn from a seed. A contract sees where the drawing stands.
+#[derive(Drop)]
+pub(crate) struct Priorities<A: Allocator> {
+    // The harts, the one that goes first at the head.
+    order: Vec<u32, A>,
+    // The places at which the hart that was chosen falls to the bottom.
+    points: Vec<u64, A>,
+    generator: Lcg64Xsh32,
+}
+
+// Whether a hart is there and runs.
+fn runs(harts: &[Hart], number: u32) -> bool
+    ensures { result ≡ runs (map hart_of harts.now) number }
+{
+    match harts.get(number as usize) {
+        Some(hart) => matches!(hart.state, HartState::Running),
+        None => false,
+    }
+}
+
+// The first hart of an order that runs; hart 0 where none does.
+fn first_running(order: &[u32], harts: &[Hart]) -> u32
+    ensures { result ≡ first_running (map hart_of harts.now) order.now }
+{
+    'order: for hart in order {
+        if runs(harts, *hart) {
+            return *hart;
+        }
+    }
+    0
+}
+
+// A hart falls to the bottom of an order.
+fn let_fall<A: Allocator>(order: &mut Vec<u32, A>, hart: u32) -> Result<(), AllocError>
+    ensures { IfOk result (λ _. order.new.items ≡ fallen hart order.old.items) }
+{
+    order.retain(|other| *other != hart);
+    order.push(hart)?;
+    Ok(())
+}
+
+impl<A: Allocator + Copy> Priorities<A> {
+    /// The drawing that a seed starts: the order of so many harts, and one change point less than the
+    /// depth, each at one of so many places.
+    pub(crate) fn new(
+        alloc: A,
+        harts: u32,
+        depth: Depth,
+        steps: u64,
+        seed: u64,
+    ) -> Result<Priorities<A>, AllocError>
+        requires { 0 < steps }
+        ensures { IfOk result (λ priorities. drawing priorities ≡ drawing_of harts depth.number steps seed) }
+    {
+        let depth = depth.number();
+        let mut priorities = Priorities {
+            order: Vec::with_capacity(alloc, harts as usize)?,
+            points: Vec::with_capacity(alloc, depth as usize)?,
+            generator: seeded_generator(seed),
+        };
+        priorities.draw_order(harts)?;
+        priorities.draw_points(depth - 1, steps)?;
+        Ok(priorities)
+    }
+}
+
+impl<A: Allocator> Priorities<A> {
+    // Gives a hart its place among those that have one.
+    fn draw_place(&mut self, hart: u32) -> Result<(), AllocError>
+        ensures { IfOk result (λ _. drawing self.new ≡ with_hart hart (drawing self.old)) }
+    {
+        let word = self.generator.next_word();
+        let place = word as usize % (self.order.len() + 1);
+        self.order.insert(place, hart)?;
+        Ok(())
+    }
+
+    // Gives each of so many harts its place.
+    fn draw_order(&mut self, harts: u32) -> Result<(), AllocError>
+        ensures { IfOk result (λ _. drawing self.new ≡ with_harts harts (drawing self.old)) }
+    {
+        'harts: for hart in 0..harts {
+            self.draw_place(hart)?;
+        }
+        Ok(())
+    }
+
+    // Draws a change point.
+    fn draw_point(&mut self, steps: u64) -> Result<(), AllocError>
+        requires { 0 < steps }
+        ensures { IfOk result (λ _. drawing self.new ≡ with_point steps (drawing self.old)) }
+    {
+        let word = self.generator.next_word();
+        self.points.push(u64::from(word) % steps)?;
+        Ok(())
+    }
+
+    // Draws so many change points.
+    fn draw_points(&mut self, points: u32, steps: u64) -> Result<(), AllocError>
+        requires { 0 < steps }
+        ensures { IfOk result (λ _. drawing self.new ≡ with_points steps points (drawing self.old)) }
+    {
+        'points: for _ in 0..points {
+            self.draw_point(steps)?;
+        }
+        Ok(())
+    }
+
+    // At a change point lets a hart fall to the bottom.
+    fn pass(&mut self, place: u64, hart: u32) -> Result<(), AllocError>
+        ensures { IfOk result (λ _. drawing self.new
+            ≡ record (drawing self.old) { order = order_after place hart (drawing self.old) }) }
+    {
+        if self.points.contains(&place) {
+            let_fall(&mut self.order, hart)?;
+        }
+        Ok(())
+    }
+
+    // Draws the choice at a place, where the harts stand so: the first in the order that runs. One word
+    // says whether its store-conditional is refused; at a change point the hart then falls to the bottom.
+    fn next_choice(
+        &mut self,
+        place: u64,
+        harts: &[Hart],
+        refusals: Refusals,
+    ) -> Result<Choice, AllocError>
+        ensures choice { IfOk result (λ choice.
+            choice ≡ next_choice refusals (map hart_of harts.now) (drawing self.old)) }
+        ensures state { IfOk result (λ _.
+            drawing self.new ≡ after_choice place (map hart_of harts.now) (drawing self.old)) }
+    {
+        let hart = first_running(&self.order, harts);
+        let word = self.generator.next_word();
+        self.pass(place, hart)?;
+        Ok(Choice {
+            hart,
+            refuse: refusals.refuses(word),
+        })
+    }
+}
+
+/// Choices by priorities, of which these refuse their store-conditional.
+#[derive(Drop)]
+pub(crate) struct ByPriorities<A: Allocator> {
+    // Boxed, since its order is handed on by address: beside it the refusals would be read from memory
+    // at each step, which takes 7 instructions of the host more.
+    priorities: Box<Priorities<A>, A>,
+    refusals: Refusals,
+}
+
+impl<A: Allocator + Copy> ByPriorities<A> {
+    /// What a seed draws for a run of so many steps of so many harts, of this depth.
+    pub(crate) fn new(
+        alloc: A,
+        harts: u32,
+        depth: Depth,
+        refusals: Refusals,
+        steps: u64,
+        seed: u64,
+    ) -> Result<ByPriorities<A>, AllocError>
+        ensures choices { IfOk result (λ p. (w : World) → choices_drawn p.refusals 0 steps (drawing p.priorities.value) w
+            ≡ priority_choices w harts depth.number refusals steps seed) }
+        ensures there { IfOk result (λ p. All (λ h. h < harts) p.priorities.value.order.items) }
+    {
+        // A change point is at one of the steps: where there are none, it is as for one.
+        let priorities = Priorities::new(alloc, harts, depth, steps.max(1), seed)?;
+        Ok(ByPriorities {
+            priorities: Box::new(alloc, priorities)?,
+            refusals,
+        })
+    }
+}
+
+impl<A: Allocator> Chooser for ByPriorities<A> {
+    ghost choices = { λ p step n w. choices_drawn p.refusals step n (drawing p.priorities.value) w };
+
+    ghost IsFor = { λ p n. (0 < n) × All (λ h. h < n) p.priorities.value.order.items };
+
+    ghost none = { λ p step w. no_priorities p.refusals step (drawing p.priorities.value) w };
+
+    fn next(&mut self, step: u64, harts: &[Hart]) -> Result<Choice, AllocError> {
+        let choice = self.priorities.next_choice(step, harts, self.refusals)?;
+        Ok(choice)
+    }
+}

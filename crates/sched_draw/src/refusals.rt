@@ -1,0 +1,57 @@
+//! Which drawn words refuse a store-conditional.
+
+ghost use Rattle.std.specs.Prelude.{◌≡◌, ◌%◌, ◌==◌, ◌↔◌, true};
+ghost use Rattle.sched_draw.specs.Refusing.{is_refused, IsOneIn};
+
+use crate::chance::Chance;
+
+/// Which choices of a drawn schedule refuse a store-conditional.
+#[derive(Clone, Copy, Drop)]
+pub enum Refusals {
+    /// None.
+    Never,
+    /// Each with this chance.
+    OneIn(Chance),
+}
+
+impl Refusals {
+    /// One in 16, as where nothing else is asked for.
+    pub fn usual() -> Refusals
+        ensures { IsOneIn 16 result }
+    {
+        Refusals::OneIn(Chance::one_in_16())
+    }
+
+    /// Whether these are the usual ones.
+    pub fn is_usual(self) -> bool
+        ensures { (result ≡ true) ↔ IsOneIn 16 self }
+    {
+        if let Refusals::OneIn(chance) = self {
+            chance.one_in() == 16
+        } else {
+            false
+        }
+    }
+
+    /// Whether a drawn word refuses a store-conditional: where its upper half is a multiple of the number that the chance is one in.
+    #[tactic(auto, unfolding(crate::specs::Refusing::is_refused))]
+    pub fn refuses(self, word: u32) -> bool
+        ensures { result ≡ is_refused self word }
+    {
+        match self {
+            Refusals::Never => false,
+            Refusals::OneIn(chance) => is_multiple(word / 65536, chance),
+        }
+    }
+}
+
+// Whether a number is a multiple of the one that a chance is one in. By the usual 16 that is a mask: a division by a number that the
+// compiler doesn't know takes ten times as long.
+fn is_multiple(number: u32, chance: Chance) -> bool
+    ensures { result ≡ (number % chance.one_in == 0) }
+{
+    match chance.one_in() {
+        16 => number % 16 == 0,
+        one_in => number % one_in == 0,
+    }
+}

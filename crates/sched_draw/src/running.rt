@@ -1,0 +1,101 @@
+//! A machine's run over the choices of a schedule.
+
+ghost use Rattle.std.specs.Prelude.{◌≡◌, ◌<◌, ◌≤◌, true, IfOk, length};
+ghost use Rattle.choice_runs.specs.Chosen.{harts_of};
+ghost use Rattle.machine.specs.Machine.{world};
+ghost use Rattle.reservations.specs.Limit.{most_harts};
+ghost use Rattle.sched_draw.specs.Schedules.{choices_of, drawn_choices, is_of_harts, RanOver};
+
+use crate::bursts::Bursts;
+use crate::chooser::{Chooser, Same};
+use crate::even::{Even, Usual};
+use crate::order::Order;
+use crate::priorities::ByPriorities;
+use crate::schedule::{Draw, Schedule};
+use crate::turns::{Alone, Turns};
+use choice_runs::Chosen;
+use machine::Machine;
+use memory::Store;
+use std::alloc::{AllocError, Allocator};
+
+/// Runs a machine of so many harts over so many choices of a schedule, and answers which harts were
+/// chosen. Each choice is made when its step comes, so the list is never held. Refused for want of
+/// memory alone; the machine has then done a part of the run.
+pub fn run_schedule<S: Store, A: Allocator + Copy>(
+    alloc: A,
+    machine: &mut Machine<S, A>,
+    schedule: Schedule,
+    harts: u32,
+    steps: u64,
+) -> Result<Chosen, AllocError>
+    requires of { is_of_harts schedule harts ≡ true }
+    requires few { harts ≤ most_harts }
+    requires there { length (world S.memory machine.old).harts ≡ harts }
+    ensures { IfOk result (λ chosen. RanOver (choices_of schedule (world S.memory machine.old) harts steps)
+        (world S.memory machine.old) (world S.memory machine.new) (harts_of chosen)) }
+{
+    match schedule {
+        Schedule::Turns => run_by(machine, Same(Turns::new(harts)), steps),
+        Schedule::Only(hart) => run_by(machine, Same(Alone::new(hart, harts)), steps),
+        Schedule::Seeded { seed, draw } => run_drawn(alloc, machine, draw, harts, steps, seed),
+    }
+}
+
+// The same over choices that a seed draws. With the usual refusals even choices have a drawer of their
+// own, since a step of theirs takes 13 instructions of the host less than one for any refusals.
+#[tactic(auto, unfolding(crate::specs::Schedules::drawn_choices))]
+fn run_drawn<S: Store, A: Allocator + Copy>(
+    alloc: A,
+    machine: &mut Machine<S, A>,
+    draw: Draw,
+    harts: u32,
+    steps: u64,
+    seed: u64,
+) -> Result<Chosen, AllocError>
+    requires some { 0 < harts }
+    requires few { harts ≤ most_harts }
+    requires there { length (world S.memory machine.old).harts ≡ harts }
+    ensures { IfOk result (λ chosen. RanOver (drawn_choices draw (world S.memory machine.old) harts steps seed)
+        (world S.memory machine.old) (world S.memory machine.new) (harts_of chosen)) }
+{
+    let refusals = draw.refusals;
+    match draw.order {
+        Order::Even => {
+            if refusals.is_usual() {
+                run_by(machine, Same(Usual::new(harts, seed)), steps)
+            } else {
+                run_by(machine, Same(Even::new(harts, refusals, seed)), steps)
+            }
+        }
+        Order::Bursts(mean) => run_by(
+            machine,
+            Same(Bursts::new(harts, mean, refusals, seed)),
+            steps,
+        ),
+        Order::Priorities(depth) => {
+            let chooser = ByPriorities::new(alloc, harts, depth, refusals, steps, seed)?;
+            run_by(machine, chooser, steps)
+        }
+    }
+}
+
+// Runs a machine over so many choices, each made when its step comes.
+fn run_by<S: Store, A: Allocator, C: Chooser>(
+    machine: &mut Machine<S, A>,
+    chooser: C,
+    steps: u64,
+) -> Result<Chosen, AllocError>
+    requires few { length (world S.memory machine.old).harts ≤ most_harts }
+    requires chooses { C.IsFor chooser (length (world S.memory machine.old).harts) }
+    ensures { IfOk result (λ chosen. RanOver (C.choices chooser 0 steps (world S.memory machine.old))
+        (world S.memory machine.old) (world S.memory machine.new) (harts_of chosen)) }
+{
+    let mut chooser = chooser;
+    let mut chosen = Chosen::new();
+    'steps: for step in 0..steps {
+        let choice = chooser.next(step, machine.ends())?;
+        chosen.add(choice.hart as usize);
+        machine.step(choice)?;
+    }
+    Ok(chosen)
+}

@@ -1,5 +1,0 @@
-use Rattle.seed_choices.proofs.ListLemmas.{ends_as_told}
-use Rattle.seed_choices.proofs.laws.written_seeds_end_as_told.Goals as goal
-
-pub returns : goal.returns
-returns c = λ campaign image inputs seed startable. ends_as_told campaign image inputs seed startable
