@@ -2,8 +2,8 @@
 use Rattle.std.proofs.Common.{◌≡◌, true, List, [], ◌∷◌, Option, Some, None, eq-eqb, refl, ap, sym, ◌∙◌, true≢false}
 use Rattle.std.proofs.lemmas.Bool.{and_from, and_parts, eqb-true}
 use Rattle.outcome.specs.declared.run_outcome.Outcome.{Outcome}
-use Rattle.protocol_library.specs.declared.verdict.Verdict.{Verdict}
-use Rattle.protocol_library.specs.declared.verdict.Verdict.TheVariants.{Kept, Broken}
+use Rattle.object_library.specs.declared.verdict.Verdict.{Verdict}
+use Rattle.object_library.specs.declared.verdict.Verdict.TheVariants.{Kept, Broken}
 use Rattle.campaign_runs.specs.Ending.{EndingValue, same_ending, same_outcome, same_results, same_verdict}
 use Rattle.campaign_runs.specs.declared.ending.HartResult.{HartResult}
 

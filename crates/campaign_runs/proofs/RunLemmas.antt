@@ -5,14 +5,14 @@ use Rattle.std.specs.List.{AllZip, Contains, range_with_len}
 use Rattle.std.specs.declared.result.Result.{Result}
 use Rattle.std.specs.declared.vec.Vec.{Vec}
 use Rattle.std.specs.declared.alloc.AllocError.{AllocError}
-use Rattle.program_images.specs.Image.{ImageValue}
+use Rattle.image.specs.Image.{ImageValue}
 use Rattle.hart_step.specs.Hart.{HartValue}
 use Rattle.machine.specs.World.{World, run}
 use Rattle.machine.specs.Start.{started}
 use Rattle.machine.specs.Chosen.{is_chosen}
 use Rattle.machine.specs.declared.choice.Choice.{Choice}
 use Rattle.machine.proofs.RunLaws.{length-started}
-use Rattle.choice_runs.specs.Harts.{Harts}
+use Rattle.sched_run.specs.Harts.{Harts}
 use Rattle.sched_draw.specs.Schedules.{drawn_choices, RanOver}
 use Rattle.outcome.specs.Expect.{judged}
 use Rattle.outcome.specs.declared.run_outcome.Outcome.{Outcome}

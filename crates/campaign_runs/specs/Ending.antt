@@ -3,8 +3,8 @@ use Rattle.std.specs.Prelude.{ℕ, Bool, true, false, ◌==◌, ◌&&◌, List, 
 use Rattle.hart_step.specs.Hart.{HartValue}
 use Rattle.ends.specs.Ends.{a0_of, a1_of}
 use Rattle.outcome.specs.declared.run_outcome.Outcome.{Outcome}
-use Rattle.protocol_library.specs.declared.verdict.Verdict.{Verdict}
-use Rattle.protocol_library.specs.declared.verdict.Verdict.TheVariants.{Kept, Broken}
+use Rattle.object_library.specs.declared.verdict.Verdict.{Verdict}
+use Rattle.object_library.specs.declared.verdict.Verdict.TheVariants.{Kept, Broken}
 use Rattle.campaign_runs.specs.declared.campaign.Report.{Report}
 use Rattle.campaign_runs.specs.declared.campaign.Report.TheVariants.{Lines, Failures, Summary, Outcomes}
 use Rattle.campaign_runs.specs.declared.ending.Ending.{Ending}

@@ -8,10 +8,10 @@ ghost use Rattle.campaign_runs.specs.Runs.{end_of, ending_from};
 
 use crate::campaign::Campaign;
 use crate::ending::Ending;
-use flat_memory::FlatStore;
+use image::Image;
 use machine::Machine;
-use memory::FromImage;
-use program_images::Image;
+use mem_flat::FlatStore;
+use mem_store::FromImage;
 use sched_draw::{Schedule, run_schedule};
 use std::alloc::{AllocError, Allocator};
 

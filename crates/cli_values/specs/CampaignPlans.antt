@@ -1,7 +1,7 @@
 -- The numbers of campaigns.
 use Rattle.std.specs.Prelude.{ℕ, ◌+◌, ◌^◌, nat_le, List, Option, Some, None, if◌then◌else◌}
 use Rattle.cli_values.specs.declared.campaign.SeedNumbers.{SeedNumbers}
-use Rattle.command_line.specs.Numbers.{number_below}
+use Rattle.cli_args.specs.Numbers.{number_below}
 
 -- these numbers, if the seeds end by 2 ^ 64
 abbrev pub numbers_within : Option ℕ → Option ℕ → Option ℕ → Option SeedNumbers

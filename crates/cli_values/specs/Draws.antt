@@ -4,8 +4,8 @@ use Rattle.std.specs.Borrow.{Bor}
 use Rattle.std.specs.Str.{bytes_eq}
 use Rattle.std.specs.declared.result.Result.{Result}
 use Rattle.std.specs.declared.result.Result.TheVariants.{Ok, Err}
-use Rattle.item_texts.specs.Numbers.{before_byte, from_byte}
-use Rattle.command_line.specs.Inputs.{input_of}
+use Rattle.text_items.specs.Numbers.{before_byte, from_byte}
+use Rattle.cli_args.specs.Inputs.{input_of}
 use Rattle.sched_draw.specs.Limits.{most_depth, most_mean, most_one_in}
 use Rattle.sched_draw.specs.Refusing.{IsOneIn}
 use Rattle.sched_draw.specs.declared.order.Order.{Order}

@@ -1,7 +1,7 @@
 -- The schedule that an order asks for.
 use Rattle.std.specs.Prelude.{ℕ, ◌^◌, Bool, true, false, List, Option, Some, None, option_map}
 use Rattle.std.specs.Borrow.{Bor}
-use Rattle.command_line.specs.Numbers.{number_below}
+use Rattle.cli_args.specs.Numbers.{number_below}
 use Rattle.cmd_schedule.specs.declared.plan.SeedPlan.{SeedPlan}
 use Rattle.sched_draw.specs.declared.schedule.Draw.{Draw}
 use Rattle.sched_draw.specs.declared.schedule.Schedule.{Schedule}

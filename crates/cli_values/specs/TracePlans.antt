@@ -1,10 +1,10 @@
 -- Plans of traces.
 use Rattle.std.specs.Prelude.{ℕ, ◌^◌, ◌==◌, Bool, true, false, List, Option, Some, None, if◌then◌else◌, option_and_then, option_map}
 use Rattle.std.specs.Borrow.{Bor}
-use Rattle.command_line.specs.Numbers.{number_below}
-use Rattle.trace_engine.specs.declared.plan.TraceForm.{TraceForm}
-use Rattle.trace_engine.specs.declared.plan.TraceForm.TheVariants as form
-use Rattle.trace_engine.specs.declared.plan.TracePlan.{TracePlan}
+use Rattle.cli_args.specs.Numbers.{number_below}
+use Rattle.cmd_trace.specs.declared.plan.TraceForm.{TraceForm}
+use Rattle.cmd_trace.specs.declared.plan.TraceForm.TheVariants as form
+use Rattle.cmd_trace.specs.declared.plan.TracePlan.{TracePlan}
 
 -- a choice's place, which is not 0
 abbrev pub unless_zero : ℕ → Option ℕ

@@ -5,7 +5,7 @@ ghost use Rattle.cli_values.specs.CampaignPlans.{numbers_of};
 ghost use Rattle.cli_values.specs.Reports.{report_of};
 
 use campaign_runs::Report;
-use command_line::read_number;
+use cli_args::read_number;
 
 /// The numbers of a campaign.
 #[derive(Clone, Copy, PartialEq, Eq)]

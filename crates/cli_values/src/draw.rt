@@ -3,9 +3,9 @@
 ghost use Rattle.std.specs.Prelude.{◌≡◌, Ok, Some, MatchResult};
 ghost use Rattle.cli_values.specs.Draws.{named_in, IsNoDraw, MeansOrder, MeansRefusals, OrderSaid};
 
-use command_line::read_input;
-use item_texts::split_at_byte;
+use cli_args::read_input;
 use sched_draw::{Chance, Depth, Draw, Mean, Order, Refusals};
+use text_items::split_at_byte;
 
 /// What `--schedule` takes.
 pub const DRAWS: &str =

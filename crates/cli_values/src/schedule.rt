@@ -1,11 +1,11 @@
 //! The schedule that an order asks for.
 
 ghost use Rattle.std.specs.Prelude.{◌≡◌, ◌^◌};
-ghost use Rattle.command_line.specs.Numbers.{number_below};
+ghost use Rattle.cli_args.specs.Numbers.{number_below};
 ghost use Rattle.cli_values.specs.Schedules.{schedule_said, seed_plan_of};
 
+use cli_args::{read_number, read_word};
 use cmd_schedule::SeedPlan;
-use command_line::{read_number, read_word};
 use sched_draw::{Draw, Schedule};
 
 /// The schedule that texts say: exactly one of a seed, a decimal number below 2^64, of turns, and of a

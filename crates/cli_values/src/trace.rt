@@ -3,8 +3,8 @@
 ghost use Rattle.std.specs.Prelude.{◌≡◌};
 ghost use Rattle.cli_values.specs.TracePlans.{first_of, form_of, last_of, place_of, trace_plan_of};
 
-use command_line::read_number;
-use trace_engine::{TraceForm, TracePlan};
+use cli_args::read_number;
+use cmd_trace::{TraceForm, TracePlan};
 
 // The place of a choice: a number from 1 to 2^64 - 1.
 fn place_of(text: &str) -> Option<u64>

@@ -2,21 +2,21 @@
 use Rattle.std.proofs.Common.{◌≡◌, ◌≢◌, ℕ, ◌<◌, ◌≤◌, true, false, cond, eqb, ltb, List, ◌⊎◌, length, Option, Some, None, Result, Ok, Err, IfOk, IfErr, arith, ne_eqb, le-ltb, lt-ltb, refl, ap, sym, subst, ◌∙◌}
 use Rattle.std.specs.Io.KnownBytes.{Appends}
 use Rattle.std.specs.Option.{IfSome}
-use Rattle.program_images.specs.Image.{ImageValue}
-use Rattle.reservations.specs.Limit.{most_harts}
+use Rattle.image.specs.Image.{ImageValue}
+use Rattle.hart_reservations.specs.Limit.{most_harts}
 use Rattle.machine.specs.Start.{IsStartable, Refuses}
 use Rattle.machine.specs.declared.start.StartFault.{StartFault}
 use Rattle.machine.specs.declared.start.StartFault.TheVariants as start
-use Rattle.programs.specs.CommandFaults.{fault_of_start, IfHalts, IfNames, IsRefusal}
-use Rattle.programs.specs.Program.{program_of}
-use Rattle.programs.specs.declared.program.ProgramForm.TheVariants as form
-use Rattle.programs.specs.declared.command_fault.CommandFault.{CommandFault}
-use Rattle.programs.specs.declared.command_fault.CommandFault.TheVariants as fault
-use Rattle.programs.specs.Answers.{Answer, BeginsToPrint, Begins, Prints}
-use Rattle.programs.proofs.FaultLemmas.{names_so}
+use Rattle.program_open.specs.CommandFaults.{fault_of_start, IfHalts, IfNames, IsRefusal}
+use Rattle.program_open.specs.Program.{program_of}
+use Rattle.program_open.specs.declared.program.ProgramForm.TheVariants as form
+use Rattle.program_open.specs.declared.command_fault.CommandFault.{CommandFault}
+use Rattle.program_open.specs.declared.command_fault.CommandFault.TheVariants as fault
+use Rattle.program_open.specs.Answers.{Answer, BeginsToPrint, Begins, Prints}
+use Rattle.program_open.proofs.FaultLemmas.{names_so}
 use Rattle.campaign_runs.specs.Runs.{all_endings}
 use Rattle.campaign_runs.specs.declared.campaign.Campaign.{Campaign}
-use Rattle.devices.specs.declared.status.Status.{Status}
+use Rattle.byte_io.specs.declared.status.Status.{Status}
 use Rattle.cmd_campaign.specs.Answers.{after_image, campaign_answer, campaign_failure, failure_after, reported}
 use Rattle.cmd_campaign.specs.Status.{finished_of}
 use Rattle.cmd_campaign.specs.declared.engine.Finished.{Finished}

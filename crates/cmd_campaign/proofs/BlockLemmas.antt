@@ -8,9 +8,9 @@ use Rattle.std.proofs.lemmas.List.FromFn.{length-range_with_len}
 use Rattle.std.proofs.lemmas.List.Folds.{list_any-append}
 use Rattle.std.specs.Io.KnownBytes.{Appends}
 use Rattle.std.specs.List.{range_with_len}
-use Rattle.program_images.specs.Image.{ImageValue}
+use Rattle.image.specs.Image.{ImageValue}
 use Rattle.machine.specs.Start.{started}
-use Rattle.programs.specs.Answers.{Begins}
+use Rattle.program_open.specs.Answers.{Begins}
 use Rattle.outcome.specs.Expect.{breaks, status_by}
 use Rattle.outcome.specs.declared.expect.Exit.{Exit}
 use Rattle.campaign_runs.specs.Runs.{SeedEnding, all_endings, end_of, ending_from, endings_of}

@@ -4,29 +4,29 @@ use Rattle.std.specs.Prelude.{is_some}
 use Rattle.std.specs.List.{All, range_with_len}
 use Rattle.std.specs.Option.{IfSome}
 use Rattle.std.proofs.lemmas.List.Elements.{All-nil, All-cons}
-use Rattle.program_images.specs.Image.{ImageValue}
-use Rattle.reservations.specs.Limit.{most_harts}
+use Rattle.image.specs.Image.{ImageValue}
+use Rattle.hart_reservations.specs.Limit.{most_harts}
 use Rattle.machine.specs.Start.{IsStartable, started}
 use Rattle.machine.specs.World.{run}
 use Rattle.sched_draw.specs.Schedules.{drawn_choices}
 use Rattle.sched_draw.proofs.ChoiceLemmas.{drawn_choices-within}
 use Rattle.ends.specs.Ends.{verdict_on}
-use Rattle.protocol_library.specs.declared.kind.Kind.{Kind}
-use Rattle.protocol_library.specs.declared.verdict.Verdict.TheVariants.{Kept}
-use Rattle.protocol_library.specs.Images.{image_of, IsSame}
-use Rattle.engines.specs.Certified.{IsCertified, IsMeantFor, IsUnbroken}
-use Rattle.engines.proofs.CertifiedLemmas.{object_is_kept}
+use Rattle.object_library.specs.declared.kind.Kind.{Kind}
+use Rattle.object_library.specs.declared.verdict.Verdict.TheVariants.{Kept}
+use Rattle.object_library.specs.Images.{image_of, IsSame}
+use Rattle.cmd_run.specs.Certified.{IsCertified, IsMeantFor, IsUnbroken}
+use Rattle.cmd_run.proofs.CertifiedLemmas.{object_is_kept}
 use Rattle.outcome.specs.Expect.{breaks, faults, status_by}
 use Rattle.outcome.specs.declared.expect.Exit.{Exit}
 use Rattle.outcome.specs.declared.expect.Exit.TheVariants.{May, Must}
-use Rattle.programs.specs.Program.{program_of}
-use Rattle.programs.specs.declared.program.ProgramForm.TheVariants as form
-use Rattle.programs.specs.declared.command_fault.CommandFault.{CommandFault}
+use Rattle.program_open.specs.Program.{program_of}
+use Rattle.program_open.specs.declared.program.ProgramForm.TheVariants as form
+use Rattle.program_open.specs.declared.command_fault.CommandFault.{CommandFault}
 use Rattle.campaign_runs.specs.Runs.{SeedEnding, all_endings, ending_from, endings_of}
 use Rattle.campaign_runs.specs.declared.campaign.Campaign.{Campaign}
 use Rattle.campaign_runs.specs.declared.campaign.Report.{Report}
 use Rattle.campaign_runs.specs.declared.campaign.Report.TheVariants.{Failures}
-use Rattle.devices.specs.declared.status.Status.TheVariants as status
+use Rattle.byte_io.specs.declared.status.Status.TheVariants as status
 use Rattle.cmd_campaign.specs.Answers.{after_image, campaign_answer}
 use Rattle.cmd_campaign.specs.Kept.{AllKept, AnswersNothing}
 use Rattle.cmd_campaign.specs.Lines.{end_entry, entries_of, has_failed}

@@ -3,7 +3,7 @@ use Rattle.std.proofs.Common.{◌≡◌, ℕ, ◌+◌, ◌<◌, ◌≤◌, List,
 use Rattle.std.proofs.lemmas.List.{drop_more, length-map}
 use Rattle.std.proofs.lemmas.List.FromFn.{length-range_with_len}
 use Rattle.std.specs.List.{range_with_len}
-use Rattle.program_images.specs.Image.{ImageValue}
+use Rattle.image.specs.Image.{ImageValue}
 use Rattle.machine.specs.Start.{started}
 use Rattle.campaign_runs.specs.Ending.{EndingValue, ending_of}
 use Rattle.campaign_runs.specs.Runs.{SeedEnding, all_endings, end_of, ending_from, endings_of}

@@ -2,13 +2,13 @@
 use Rattle.std.specs.Prelude.{ℕ, List, length, Option, None}
 use Rattle.std.specs.declared.result.Result.{Result}
 use Rattle.std.specs.declared.result.Result.TheVariants.{Ok, Err}
-use Rattle.program_images.specs.Image.{ImageValue}
-use Rattle.devices.specs.declared.status.Status.{Status}
-use Rattle.programs.specs.Answers.{Answer}
-use Rattle.programs.specs.Opening.{after_program}
-use Rattle.programs.specs.Program.{program_of}
-use Rattle.programs.specs.declared.program.ProgramForm.TheVariants as form
-use Rattle.programs.specs.declared.command_fault.CommandFault.{CommandFault}
+use Rattle.image.specs.Image.{ImageValue}
+use Rattle.byte_io.specs.declared.status.Status.{Status}
+use Rattle.program_open.specs.Answers.{Answer}
+use Rattle.program_open.specs.Opening.{after_program}
+use Rattle.program_open.specs.Program.{program_of}
+use Rattle.program_open.specs.declared.program.ProgramForm.TheVariants as form
+use Rattle.program_open.specs.declared.command_fault.CommandFault.{CommandFault}
 use Rattle.campaign_runs.specs.Runs.{SeedEnding, all_endings}
 use Rattle.campaign_runs.specs.declared.campaign.Campaign.{Campaign}
 use Rattle.cmd_campaign.specs.Status.{first_failure, status_of}

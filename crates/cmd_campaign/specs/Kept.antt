@@ -2,9 +2,9 @@
 use Rattle.std.specs.Prelude.{◌≡◌, List, [], Some}
 use Rattle.std.specs.List.{All}
 use Rattle.std.specs.declared.result.Result.TheVariants.{Ok, Err}
-use Rattle.devices.specs.declared.status.Status.TheVariants as status
-use Rattle.programs.specs.Answers.{Answer}
-use Rattle.protocol_library.specs.declared.verdict.Verdict.TheVariants.{Kept}
+use Rattle.byte_io.specs.declared.status.Status.TheVariants as status
+use Rattle.program_open.specs.Answers.{Answer}
+use Rattle.object_library.specs.declared.verdict.Verdict.TheVariants.{Kept}
 use Rattle.campaign_runs.specs.Runs.{SeedEnding}
 
 -- the verdict on each run is `kept`

@@ -2,8 +2,8 @@
 use Rattle.std.specs.Prelude.{ℕ, Bool, List, [], ◌∷◌, ◌++◌, codes, Option, Some, None, if◌then◌else◌}
 use Rattle.std.specs.Fmt.{decimal}
 use Rattle.std.specs.List.{flat_map}
-use Rattle.protocol_library.specs.declared.verdict.Verdict.{Verdict}
-use Rattle.protocol_library.specs.Names.{verdict_name}
+use Rattle.object_library.specs.declared.verdict.Verdict.{Verdict}
+use Rattle.object_library.specs.Names.{verdict_name}
 use Rattle.outcome.specs.Expect.{fails}
 use Rattle.outcome.specs.declared.expect.Exit.{Exit}
 use Rattle.campaign_runs.specs.Runs.{SeedEnding}

@@ -1,7 +1,7 @@
 -- The status of a campaign, and the first of its runs that has failed.
 use Rattle.std.specs.Prelude.{ℕ, Bool, List, [], ◌∷◌, Option, Some, None, is_some, if◌then◌else◌}
 use Rattle.std.specs.List.{list_any}
-use Rattle.devices.specs.declared.status.Status.{Status}
+use Rattle.byte_io.specs.declared.status.Status.{Status}
 use Rattle.outcome.specs.Expect.{breaks, status_by}
 use Rattle.outcome.specs.declared.expect.Exit.{Exit}
 use Rattle.campaign_runs.specs.Runs.{SeedEnding}

@@ -2,7 +2,7 @@
 use Rattle.std.specs.Prelude.{ℕ, ◌+◌, List, [], ◌∷◌, ◌++◌, codes}
 use Rattle.std.specs.Fmt.{decimal}
 use Rattle.std.specs.List.{flat_map}
-use Rattle.names_and_digits.specs.Digits.{word_text}
+use Rattle.isa_names.specs.Digits.{word_text}
 use Rattle.outcome.specs.declared.expect.Exit.{Exit}
 use Rattle.campaign_runs.specs.Runs.{SeedEnding}
 use Rattle.campaign_runs.specs.Tally.{Row, tally_of}

@@ -2,12 +2,12 @@
 
 ghost use Rattle.std.specs.Prelude.{◌≡◌, ◌^◌, ◌<◌, ℕ, List, [], ◌∷◌};
 ghost use Rattle.std.specs.List.{All};
-ghost use Rattle.program_images.specs.Image.{ImageValue};
-ghost use Rattle.engines.specs.Certified.{IsCertified};
+ghost use Rattle.image.specs.Image.{ImageValue};
+ghost use Rattle.cmd_run.specs.Certified.{IsCertified};
 ghost use Rattle.outcome.specs.Expect as run;
 ghost use Rattle.outcome.specs.declared.expect.Exit.{Exit};
 ghost use Rattle.outcome.specs.declared.expect.Exit.TheVariants.{May};
-ghost use Rattle.programs.specs.declared.program.ProgramForm.TheVariants.{Elf};
+ghost use Rattle.program_open.specs.declared.program.ProgramForm.TheVariants.{Elf};
 ghost use Rattle.campaign_runs.specs.Runs.{SeedEnding, all_endings};
 ghost use Rattle.campaign_runs.specs.Tally.{seeds_in, tally_of};
 ghost use Rattle.campaign_runs.specs.declared.campaign.Campaign.{Campaign};

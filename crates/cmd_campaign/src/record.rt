@@ -2,8 +2,8 @@
 
 ghost use Rattle.std.specs.Prelude.{◌≡◌, ◌+◌, ◌-◌, ◌<◌, ◌^◌, IfOk, IfErr, length, map};
 ghost use Rattle.std.specs.Io.KnownBytes.{Appends};
-ghost use Rattle.programs.specs.Answers.{Begins};
-ghost use Rattle.programs.specs.CommandFaults.{IfHalts};
+ghost use Rattle.program_open.specs.Answers.{Begins};
+ghost use Rattle.program_open.specs.CommandFaults.{IfHalts};
 ghost use Rattle.campaign_runs.specs.Ending.{ending_of};
 ghost use Rattle.campaign_runs.specs.Runs.{end_of};
 ghost use Rattle.campaign_runs.specs.Tally.{rows_of, seeds_in, tally_onto};
@@ -11,9 +11,9 @@ ghost use Rattle.cmd_campaign.specs.Lines.{entries_of};
 ghost use Rattle.cmd_campaign.specs.Summary.{counted_of};
 
 use crate::lines::push_lines;
+use byte_io::{Sink, write_all};
 use campaign_runs::{Campaign, Ending, Report, SeedEnd, Tally};
-use devices::{Sink, write_all};
-use programs::CommandFault;
+use program_open::CommandFault;
 use std::alloc::{AllocError, Allocator};
 
 // An ending once more.

@@ -6,7 +6,7 @@ ghost use Rattle.campaign_runs.specs.Tally.{rows_of};
 ghost use Rattle.cmd_campaign.specs.Summary.{result_words, row_entry, row_line, rows_text};
 
 use campaign_runs::{Ending, HartResult, SeedCount, Tally};
-use names_and_digits::Word;
+use isa_names::Word;
 use std::alloc::{AllocError, Allocator};
 use std::fmt;
 

@@ -1,14 +1,14 @@
 -- Texts of a schedule's choices, read back.
 use Rattle.std.proofs.Common.{◌≡◌, ℕ, ◌^◌, ◌<◌, List, [], Ok, arith, ap, length, refl, subst, sym, ◌∙◌}
 use Rattle.std.specs.List.{All}
-use Rattle.program_images.specs.Image.{ImageValue}
+use Rattle.image.specs.Image.{ImageValue}
 use Rattle.machine.specs.Start.{IsStartable, started}
 use Rattle.machine.specs.World.{World}
 use Rattle.machine.specs.declared.choice.Choice.{Choice}
-use Rattle.choice_texts.specs.Printing.{choices_text}
-use Rattle.choice_texts.specs.Reading.{choices_of}
-use Rattle.choice_texts.proofs.Agreement.{choices_of-spelled}
-use Rattle.choice_texts.proofs.PrintLemmas.{text_spells}
+use Rattle.sched_text.specs.Printing.{choices_text}
+use Rattle.sched_text.specs.Reading.{choices_of}
+use Rattle.sched_text.proofs.Agreement.{choices_of-spelled}
+use Rattle.sched_text.proofs.PrintLemmas.{text_spells}
 use Rattle.sched_draw.specs.Schedules.{choices_of as made_of, drawn_choices}
 use Rattle.sched_draw.proofs.ChoiceLemmas.{drawn_choices-within, schedule-within}
 use Rattle.campaign_runs.specs.Runs.{ending_from}

@@ -1,11 +1,11 @@
 -- Plans of schedules that are the same in each run, and the texts of their choices.
 use Rattle.std.specs.Prelude.{◌≡◌, ℕ, ◌<◌, ◌≤◌, ◌⊎◌, false, List}
 use Rattle.std.specs.declared.result.Result.TheVariants.{Ok}
-use Rattle.reservations.specs.Limit.{most_harts}
+use Rattle.hart_reservations.specs.Limit.{most_harts}
 use Rattle.machine.specs.World.{World}
 use Rattle.machine.specs.declared.choice.Choice.{Choice}
-use Rattle.choice_texts.specs.Printing.{choices_text}
-use Rattle.choice_texts.specs.Reading as texts
+use Rattle.sched_text.specs.Printing.{choices_text}
+use Rattle.sched_text.specs.Reading as texts
 use Rattle.sched_draw.specs.Schedules.{choices_of, is_of_harts}
 use Rattle.sched_draw.specs.declared.schedule.Schedule.{Schedule}
 use Rattle.cmd_schedule.specs.declared.plan.Plan.{Plan}

@@ -1,19 +1,19 @@
 -- The choices that a seed draws in a run of a program, as they are written.
 use Rattle.std.specs.Prelude.{◌≡◌, ℕ, List, length}
 use Rattle.std.specs.declared.result.Result.TheVariants.{Ok}
-use Rattle.program_images.specs.Image.{ImageValue}
+use Rattle.image.specs.Image.{ImageValue}
 use Rattle.machine.specs.Start.{started}
 use Rattle.machine.specs.declared.choice.Choice.{Choice}
-use Rattle.choice_texts.specs.Printing.{choices_text}
-use Rattle.choice_texts.specs.Reading.{choices_of}
-use Rattle.devices.specs.declared.status.Status.TheVariants as status
+use Rattle.sched_text.specs.Printing.{choices_text}
+use Rattle.sched_text.specs.Reading.{choices_of}
+use Rattle.byte_io.specs.declared.status.Status.TheVariants as status
 use Rattle.sched_draw.specs.Schedules.{drawn_choices}
 use Rattle.campaign_runs.specs.Runs.{ending_after, ending_from}
 use Rattle.campaign_runs.specs.declared.campaign.Campaign.{Campaign}
-use Rattle.programs.specs.Answers.{Answer}
-use Rattle.programs.specs.Opening.{after_program}
-use Rattle.programs.specs.Program.{program_of}
-use Rattle.programs.specs.declared.program.ProgramForm.TheVariants as form
+use Rattle.program_open.specs.Answers.{Answer}
+use Rattle.program_open.specs.Opening.{after_program}
+use Rattle.program_open.specs.Program.{program_of}
+use Rattle.program_open.specs.declared.program.ProgramForm.TheVariants as form
 use Rattle.cmd_schedule.specs.declared.plan.SeedPlan.{SeedPlan}
 
 -- the choices of a plan in a run of an image

@@ -2,19 +2,19 @@
 
 ghost use Rattle.std.specs.Prelude.{◌≡◌, ◌≢◌, ◌-◌, ◌^◌, ◌<◌, Ok, Err, IfOk, IfErr, IfSome, string_bytes};
 ghost use Rattle.machine.specs.Start.{IsStartable};
-ghost use Rattle.choice_texts.specs.Printing.{choices_text};
-ghost use Rattle.programs.specs.CommandFaults.{IfNames, IsRefusal};
+ghost use Rattle.sched_text.specs.Printing.{choices_text};
+ghost use Rattle.program_open.specs.CommandFaults.{IfNames, IsRefusal};
 ghost use Rattle.cmd_schedule.specs.Plans.{IsScheduleText};
 ghost use Rattle.cmd_schedule.specs.Seeds.{choices_answer, seed_list};
 
 use crate::plan::{Plan, SeedPlan};
+use byte_io::{Source, Status};
 use campaign_runs::first_machine;
-use choice_texts::print_choices;
-use devices::{Source, Status};
+use image::Image;
 use machine::check_inputs;
-use program_images::Image;
-use programs::{CommandFault, ProgramForm, read_image};
+use program_open::{CommandFault, ProgramForm, read_image};
 use sched_draw::{Schedule, list_run, list_schedule};
+use sched_text::print_choices;
 use std::alloc::{AllocError, Allocator};
 
 /// `schedule` without a program: the choice text of a plan's choices, an item a choice. Refused for

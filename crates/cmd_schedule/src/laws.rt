@@ -1,9 +1,9 @@
 //! Laws of written seeds.
 
 ghost use Rattle.std.specs.Prelude.{ℕ, List, length};
-ghost use Rattle.program_images.specs.Image.{ImageValue};
+ghost use Rattle.image.specs.Image.{ImageValue};
 ghost use Rattle.machine.specs.Start.{IsStartable, started};
-ghost use Rattle.choice_texts.specs.Printing.{choices_text};
+ghost use Rattle.sched_text.specs.Printing.{choices_text};
 ghost use Rattle.sched_draw.specs.Schedules.{drawn_choices};
 ghost use Rattle.campaign_runs.specs.declared.campaign.Campaign.{Campaign};
 ghost use Rattle.cmd_schedule.specs.Seeds.{EndsAsTold};

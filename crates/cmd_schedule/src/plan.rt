@@ -1,10 +1,10 @@
 //! Which choices are asked for.
 
 ghost use Rattle.std.specs.Prelude.{◌≡◌, ◌≤◌, true, false, MatchResult};
-ghost use Rattle.reservations.specs.Limit.{most_harts};
+ghost use Rattle.hart_reservations.specs.Limit.{most_harts};
 ghost use Rattle.sched_draw.specs.Schedules.{follows_run, is_of_harts};
 
-use reservations::MAX_HARTS;
+use hart_reservations::MAX_HARTS;
 use sched_draw::{Draw, Schedule};
 use thiserror::Error;
 

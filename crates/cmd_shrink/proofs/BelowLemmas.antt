@@ -1,6 +1,6 @@
 -- Tests of each number below a number.
 use Rattle.std.proofs.Common.{◌≡◌, ℕ, suc, ◌+◌, Bool, true, ◌&&◌, refl, ap, ap₂, ◌∙◌, arith}
-use Rattle.memory.specs.Memory.{all_below}
+use Rattle.mem_store.specs.Memory.{all_below}
 
 -- of no number
 pub all_none : (test : ℕ → Bool) → all_below 0 test ≡ true

@@ -2,16 +2,16 @@
 use Rattle.std.proofs.Common.{◌≡◌, ℕ, suc, ◌+◌, Bool, true, false, cond, List, [], ◌∷◌, length}
 use Rattle.std.proofs.Common.{Option, Some, None, refl, sym, subst, ◌∙◌, arith}
 use Rattle.std.specs.List.{slice_get}
-use Rattle.program_images.specs.Image.{ImageValue}
+use Rattle.image.specs.Image.{ImageValue}
 use Rattle.hart_step.specs.Hart.{HartValue}
 use Rattle.hart_step.specs.declared.hart.Cause.{Cause}
 use Rattle.hart_step.specs.declared.hart.HartState.{HartState}
 use Rattle.hart_step.specs.declared.hart.HartState.TheVariants.{Running, Exited, Faulted}
 use Rattle.machine.specs.declared.choice.Choice.{Choice}
-use Rattle.protocol_library.specs.declared.kind.Kind.{Kind}
-use Rattle.protocol_library.specs.declared.verdict.Verdict.{Verdict}
-use Rattle.protocol_library.specs.declared.verdict.Verdict.TheVariants as verdict
-use Rattle.protocol_library.specs.Judging.{verdict_of}
+use Rattle.object_library.specs.declared.kind.Kind.{Kind}
+use Rattle.object_library.specs.declared.verdict.Verdict.{Verdict}
+use Rattle.object_library.specs.declared.verdict.Verdict.TheVariants as verdict
+use Rattle.object_library.specs.Judging.{verdict_of}
 use Rattle.outcome.specs.Expect.{hangs}
 use Rattle.outcome.specs.declared.expect.Exit.{Exit}
 use Rattle.outcome.specs.declared.expect.Exit.TheVariants.{May, Must}

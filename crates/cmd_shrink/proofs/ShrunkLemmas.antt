@@ -2,14 +2,14 @@
 use Rattle.std.proofs.Common.{◌≡◌, ℕ, suc, ◌^◌, ◌<◌, List, [], ◌∷◌, length, Some, sym, subst, ap, ◌∙◌, arith, inl, inr}
 use Rattle.std.specs.List.{All}
 use Rattle.std.proofs.lemmas.List.Elements.{All-nil, All-cons}
-use Rattle.program_images.specs.Image.{ImageValue}
+use Rattle.image.specs.Image.{ImageValue}
 use Rattle.machine.specs.declared.choice.Choice.{Choice}
-use Rattle.choice_texts.specs.Printing.{runs_text}
-use Rattle.choice_texts.specs.Reading.{choices_of}
-use Rattle.choice_texts.proofs.Agreement.{choices_of-spelled}
-use Rattle.choice_texts.proofs.PrintLemmas.{runs_spell}
-use Rattle.choice_shrinking.specs.Less.{IsLess}
-use Rattle.choice_shrinking.specs.Minimal.{IsMinimal}
+use Rattle.sched_text.specs.Printing.{runs_text}
+use Rattle.sched_text.specs.Reading.{choices_of}
+use Rattle.sched_text.proofs.Agreement.{choices_of-spelled}
+use Rattle.sched_text.proofs.PrintLemmas.{runs_spell}
+use Rattle.shrink_list.specs.Less.{IsLess}
+use Rattle.shrink_list.specs.Minimal.{IsMinimal}
 use Rattle.outcome.specs.declared.expect.Expect.{Expect}
 use Rattle.cmd_shrink.specs.Failure.{failure_after, RunFailsSo}
 use Rattle.cmd_shrink.specs.declared.failure.Failure.{Failure}

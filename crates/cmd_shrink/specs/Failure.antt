@@ -1,16 +1,16 @@
 -- How a run fails, and when a run fails in the same way as another.
 use Rattle.std.specs.Prelude.{◌≡◌, ℕ, ◌+◌, Bool, IsTrue, if◌then◌else◌}
 use Rattle.std.specs.Prelude.{List, [], ◌∷◌, length, slice_get, Option, Some, None}
-use Rattle.program_images.specs.Image.{ImageValue}
+use Rattle.image.specs.Image.{ImageValue}
 use Rattle.hart_step.specs.Hart.{HartValue}
 use Rattle.hart_step.specs.declared.hart.Cause.{Cause}
 use Rattle.hart_step.specs.declared.hart.HartState.{HartState}
 use Rattle.hart_step.specs.declared.hart.HartState.TheVariants.{Running, Exited, Faulted}
 use Rattle.machine.specs.declared.choice.Choice.{Choice}
-use Rattle.protocol_library.specs.declared.kind.Kind.{Kind}
-use Rattle.protocol_library.specs.declared.verdict.Verdict.{Verdict}
-use Rattle.protocol_library.specs.declared.verdict.Verdict.TheVariants as verdict
-use Rattle.protocol_library.specs.Judging.{verdict_of}
+use Rattle.object_library.specs.declared.kind.Kind.{Kind}
+use Rattle.object_library.specs.declared.verdict.Verdict.{Verdict}
+use Rattle.object_library.specs.declared.verdict.Verdict.TheVariants as verdict
+use Rattle.object_library.specs.Judging.{verdict_of}
 use Rattle.outcome.specs.Expect.{hangs}
 use Rattle.outcome.specs.declared.expect.Exit.{Exit}
 use Rattle.outcome.specs.declared.expect.Expect.{Expect}

@@ -1,7 +1,7 @@
 -- When the run of a list of choices hangs.
 use Rattle.std.specs.Prelude.{ℕ, max, Bool, ◌&&◌, List, ◌++◌, length}
-use Rattle.program_images.specs.Image.{ImageValue}
-use Rattle.memory.specs.Memory.{all_below}
+use Rattle.image.specs.Image.{ImageValue}
+use Rattle.mem_store.specs.Memory.{all_below}
 use Rattle.hart_step.specs.Hart.{HartValue}
 use Rattle.machine.specs.Start.{started}
 use Rattle.machine.specs.World.{run}

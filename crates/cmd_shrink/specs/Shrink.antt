@@ -1,15 +1,15 @@
 -- What `shrink` answers: the text of a minimal list of choices that fails as the given one does.
 use Rattle.std.specs.Prelude.{◌≡◌, ℕ, List, length, Option, Some, None}
 use Rattle.std.specs.declared.result.Result.TheVariants.{Ok, Err}
-use Rattle.program_images.specs.Image.{ImageValue}
+use Rattle.image.specs.Image.{ImageValue}
 use Rattle.machine.specs.declared.choice.Choice.{Choice}
-use Rattle.choice_texts.specs.Printing.{runs_text}
-use Rattle.choice_texts.specs.Reading.{choices_of}
-use Rattle.choice_shrinking.specs.Less.{IsLess}
-use Rattle.choice_shrinking.specs.Minimal.{IsMinimal}
-use Rattle.programs.specs.Opening.{Opened}
-use Rattle.programs.specs.declared.command_fault.CommandFault.{CommandFault}
-use Rattle.programs.specs.declared.command_fault.CommandFault.TheVariants as fault
+use Rattle.sched_text.specs.Printing.{runs_text}
+use Rattle.sched_text.specs.Reading.{choices_of}
+use Rattle.shrink_list.specs.Less.{IsLess}
+use Rattle.shrink_list.specs.Minimal.{IsMinimal}
+use Rattle.program_open.specs.Opening.{Opened}
+use Rattle.program_open.specs.declared.command_fault.CommandFault.{CommandFault}
+use Rattle.program_open.specs.declared.command_fault.CommandFault.TheVariants as fault
 use Rattle.outcome.specs.declared.expect.Expect.{Expect}
 use Rattle.cmd_shrink.specs.Failure.{failure_after, RunFailsSo}
 use Rattle.cmd_shrink.specs.declared.failure.Failure.{Failure}

@@ -11,7 +11,7 @@ ghost use Rattle.hart_step.specs.Hart.{hart_of};
 
 use hart_step::{Cause, Hart, HartState};
 use machine::Choice;
-use protocol_library::{Kind, Verdict, judge};
+use object_library::{Kind, Verdict, judge};
 
 /// How a run fails.
 #[derive(Clone, Copy, PartialEq, Eq)]

@@ -5,8 +5,8 @@ ghost use Rattle.machine.specs.World.{run};
 ghost use Rattle.sched_draw.specs.Turns.{alone, turns};
 
 use crate::running::take_step;
-use flat_memory::FlatStore;
 use machine::{Choice, Machine};
+use mem_flat::FlatStore;
 use std::alloc::Allocator;
 
 /// So many steps of one hart.

@@ -2,14 +2,14 @@
 ghost use Rattle.std.specs.Prelude.{◌≡◌, ◌<◌, IfOk, length};
 ghost use Rattle.machine.specs.Start.{IsStartable};
 ghost use Rattle.sched_draw.specs.Turns.{turns};
-ghost use Rattle.memory.specs.Memory.{all_below};
+ghost use Rattle.mem_store.specs.Memory.{all_below};
 ghost use Rattle.cmd_shrink.specs.Hanging.{alone_first, hangs_after, runs_on, steps_for};
 
 use crate::going_on::{go_on_alone, go_on_by_turns};
 use crate::running::machine_after;
+use image::Image;
 use machine::{Choice, check_inputs};
 use outcome::some_run;
-use program_images::Image;
 use std::alloc::{AllocError, Allocator};
 
 /// How many further steps are taken at least, where it is asked whether a run hangs.

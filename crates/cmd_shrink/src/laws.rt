@@ -4,7 +4,7 @@ ghost use Rattle.cmd_shrink.specs.Failure.{failure_after, RunFailsSo};
 ghost use Rattle.cmd_shrink.specs.declared.failure.Failure.{Failure};
 ghost use Rattle.machine.specs.declared.choice.Choice.{Choice};
 ghost use Rattle.outcome.specs.declared.expect.Expect.{Expect};
-ghost use Rattle.program_images.specs.Image.{ImageValue};
+ghost use Rattle.image.specs.Image.{ImageValue};
 
 /// A run that fails, fails so: in the way that it is said to fail.
 pub fn failing_run_fails_so()

@@ -7,10 +7,10 @@ ghost use Rattle.machine.specs.Start.{IsStartable};
 use crate::failure::{Failure, failure_of};
 use crate::hanging::{hangs_after, steps_for};
 use crate::running::machine_after;
+use image::Image;
 use machine::Choice;
+use object_library::Kind;
 use outcome::{Exit, Expect};
-use program_images::Image;
-use protocol_library::Kind;
 use std::alloc::{AllocError, Allocator};
 
 // How the run of a list of choices fails at its end.

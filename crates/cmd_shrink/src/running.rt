@@ -4,9 +4,9 @@ ghost use Rattle.machine.specs.Start.{started, IsStartable};
 ghost use Rattle.machine.specs.State.{state};
 ghost use Rattle.machine.specs.World.{step, run};
 
-use flat_memory::FlatStore;
+use image::Image;
 use machine::{Choice, Machine};
-use program_images::Image;
+use mem_flat::FlatStore;
 use std::alloc::{AllocError, Allocator};
 
 /// One event. The choice of a hart that isn't there changes nothing.

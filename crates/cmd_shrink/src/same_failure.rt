@@ -4,9 +4,9 @@ ghost use Rattle.cmd_shrink.specs.Failure.{RunFailsSo};
 use crate::failure::{Failure, breaks_rule, has_faulted_at};
 use crate::hanging::hangs_after;
 use crate::running::machine_after;
-use choice_shrinking::Failing;
+use image::Image;
 use machine::Choice;
-use program_images::Image;
+use shrink_list::Failing;
 use std::alloc::{AllocError, Allocator};
 
 /// The test of lists of choices whether their runs, from an image's start, fail in one way.

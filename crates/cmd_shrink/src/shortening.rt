@@ -8,11 +8,11 @@ ghost use Rattle.cmd_shrink.specs.Shrink.{IsShrunk};
 
 use crate::run_failure::failure_after;
 use crate::same_failure::SameFailure;
-use choice_shrinking::{ChoicesLeft, shrink_choices};
-use choice_texts::print_runs;
+use image::Image;
 use machine::Choice;
 use outcome::Expect;
-use program_images::Image;
+use sched_text::print_runs;
+use shrink_list::{ChoicesLeft, shrink_choices};
 use std::alloc::{AllocError, Allocator};
 
 /// The text of a minimal list of choices that fails as the given one does; none where that doesn't

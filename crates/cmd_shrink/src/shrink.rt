@@ -3,18 +3,18 @@
 
 ghost use Rattle.std.specs.Prelude.{◌≡◌, ◌^◌, ◌-◌, ◌<◌, length, string_bytes};
 ghost use Rattle.std.specs.Prelude.{Err, IfErr, IfOk, IfSome, Ok, Some};
-ghost use Rattle.program_images.specs.Image.{ImageValue};
+ghost use Rattle.image.specs.Image.{ImageValue};
 ghost use Rattle.machine.specs.Start.{IsStartable};
-ghost use Rattle.programs.specs.CommandFaults.{IfNames, IsRefusal};
-ghost use Rattle.programs.specs.Opening.{opening};
-ghost use Rattle.programs.specs.Program.{program_of};
+ghost use Rattle.program_open.specs.CommandFaults.{IfNames, IsRefusal};
+ghost use Rattle.program_open.specs.Opening.{opening};
+ghost use Rattle.program_open.specs.Program.{program_of};
 ghost use Rattle.cmd_shrink.specs.Shrink.{Shrinks, refusal};
 
 use crate::shortening::shortened;
-use choice_shrinking::ChoicesLeft;
-use devices::{Source, Status};
+use byte_io::{Source, Status};
 use outcome::Expect;
-use programs::{CommandFault, Input, ProgramForm, open_run};
+use program_open::{CommandFault, Input, ProgramForm, open_run};
+use shrink_list::ChoicesLeft;
 use std::alloc::{AllocError, Allocator};
 
 /// `shrink`: reads the program to its end, and where it is one and the inputs are not too many, the

@@ -6,12 +6,12 @@ use Rattle.hart_step.specs.declared.hart.Cause.TheVariants.{FetchAccess, Illegal
 use Rattle.hart_step.specs.declared.hart.HartState.{HartState}
 use Rattle.hart_step.specs.declared.hart.HartState.TheVariants.{Running, Exited, Faulted}
 use Rattle.hart_step.specs.Hart.{HartValue}
-use Rattle.names_and_digits.specs.Digits.{word_text}
+use Rattle.isa_names.specs.Digits.{word_text}
 use Rattle.machine.specs.declared.choice.Choice.{Choice}
-use Rattle.protocol_library.specs.declared.kind.Kind.{Kind}
-use Rattle.protocol_library.specs.declared.verdict.Verdict.{Verdict}
-use Rattle.protocol_library.specs.Judging.{verdict_of}
-use Rattle.protocol_library.specs.Names.{verdict_name}
+use Rattle.object_library.specs.declared.kind.Kind.{Kind}
+use Rattle.object_library.specs.declared.verdict.Verdict.{Verdict}
+use Rattle.object_library.specs.Judging.{verdict_of}
+use Rattle.object_library.specs.Names.{verdict_name}
 
 -- a cause's name
 abbrev pub cause_name : Cause → List ℕ

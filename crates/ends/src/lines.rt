@@ -5,9 +5,9 @@ ghost use Rattle.hart_step.specs.Hart.{hart_of};
 ghost use Rattle.ends.specs.Ends.{cause_name, end_line, verdict_on, text_of};
 
 use hart_step::{Cause, Hart, HartState};
+use isa_names::Word;
 use machine::Choice;
-use names_and_digits::Word;
-use protocol_library::{Kind, Verdict, judge};
+use object_library::{Kind, Verdict, judge};
 use std::alloc::{AllocError, Allocator};
 use std::fmt;
 

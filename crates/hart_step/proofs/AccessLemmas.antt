@@ -1,7 +1,7 @@
 -- No access crosses a word, since a misaligned one is a fault.
 use Rattle.std.proofs.Common.{◌≡◌, ℕ, ◌+◌, ◌%◌, ◌≤◌, Bool, true, false, cond, eqb, Option, Some, None, refl, arith}
 use Rattle.std.proofs.lemmas.Bool.Decides.{nat_tests}
-use Rattle.memory.specs.Memory.{Memory}
+use Rattle.mem_store.specs.Memory.{Memory}
 use Rattle.isa_table.specs.declared.instr.Instr.{Instr}
 use Rattle.isa_table.specs.declared.instr.Instr.TheVariants.{Load, Store, LoadReserved, StoreConditional, Amo}
 use Rattle.isa_table.specs.declared.mnemonic.LoadOp.{LoadOp}

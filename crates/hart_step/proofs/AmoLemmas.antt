@@ -4,10 +4,10 @@ use Rattle.std.proofs.lemmas.Grind.{common_steps}
 use Rattle.std.proofs.lemmas.Bool.{cases_Bool, false≢true}
 use Rattle.std.proofs.lemmas.Nat.Bits.{and_pow}
 use Rattle.std.proofs.lemmas.Nat.{and_mask}
-use Rattle.memory.specs.Memory.{Memory, all_below, grants, granted, number_at}
-use Rattle.memory.specs.Access.{loaded}
-use Rattle.memory.specs.declared.store.AccessFault.{AccessFault}
-use Rattle.memory.specs.declared.store.AccessFault.TheVariants as access
+use Rattle.mem_store.specs.Memory.{Memory, all_below, grants, granted, number_at}
+use Rattle.mem_store.specs.Access.{loaded}
+use Rattle.mem_store.specs.declared.store.AccessFault.{AccessFault}
+use Rattle.mem_store.specs.declared.store.AccessFault.TheVariants as access
 use Rattle.hart_step.specs.Fault.{store_fault, store_cause_of}
 use Rattle.hart_step.specs.declared.hart.Cause.TheVariants.{StoreAccess, StoreMisaligned}
 

@@ -2,9 +2,9 @@
 use Rattle.std.proofs.Common.{◌≡◌, ℕ, zero, suc, ◌+◌, ◌-◌, ◌%◌, ◌<◌, Bool, true, false, not, ◌&&◌, cond, eqb, leb, ltb, Option, Some, None, refl, sym, ap, ◌∙◌, ◌⊎◌, inl, inr, arith}
 use Rattle.std.proofs.lemmas.Bool.{cases_Bool, false≢true}
 use Rattle.std.proofs.lemmas.Bool.Decides.{nat_tests}
-use Rattle.memory.specs.Memory.{Memory, to_write, grants, all_below, granted, stored, number_at}
-use Rattle.memory.specs.Access.{written, fetched}
-use Rattle.reservations.specs.Marks.{names}
+use Rattle.mem_store.specs.Memory.{Memory, to_write, grants, all_below, granted, stored, number_at}
+use Rattle.mem_store.specs.Access.{written, fetched}
+use Rattle.hart_reservations.specs.Marks.{names}
 use Rattle.isa_table.specs.Decoded.{decoded}
 use Rattle.isa_table.specs.declared.instr.Instr.{Instr}
 use Rattle.isa_table.specs.declared.instr.Instr.TheVariants.{Store, StoreConditional, Amo}

@@ -1,9 +1,9 @@
 -- What a step depends on: two sites that agree on it step alike.
 use Rattle.std.proofs.Common.{◌≡◌, ℕ, zero, suc, ◌+◌, ◌*◌, ◌^◌, ◌<◌, Bool, true, false, not, ◌&&◌, cond, eqb, leb, ltb, Option, Some, None, refl, ap, ap₂, subst, arith}
 use Rattle.std.proofs.lemmas.Bool.Decides.{nat_tests}
-use Rattle.memory.specs.Memory.{number_of, number_at, granted, to_execute, stored}
-use Rattle.memory.specs.Access.{fetched}
-use Rattle.reservations.specs.Marks.{Marks, names, word_of}
+use Rattle.mem_store.specs.Memory.{number_of, number_at, granted, to_execute, stored}
+use Rattle.mem_store.specs.Access.{fetched}
+use Rattle.hart_reservations.specs.Marks.{Marks, names, word_of}
 use Rattle.isa_table.specs.Decoded.{decoded}
 use Rattle.isa_table.specs.declared.instr.Instr.{Instr}
 use Rattle.isa_table.specs.declared.instr.Instr.TheVariants.{Load, Store, LoadReserved, StoreConditional, Amo}

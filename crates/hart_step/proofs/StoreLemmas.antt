@@ -3,9 +3,9 @@ use Rattle.std.proofs.Common.{◌≡◌, ℕ, zero, suc, ◌+◌, ◌-◌, ◌/�
 use Rattle.std.proofs.lemmas.Nat.{and_mask}
 use Rattle.std.proofs.lemmas.Bool.{cases_Bool}
 use Rattle.std.proofs.lemmas.Bool.Decides.{nat_tests}
-use Rattle.memory.specs.Memory.{Memory, stored}
-use Rattle.memory.specs.Access.{Stores}
-use Rattle.memory.specs.declared.store.StoreFault.{StoreFault}
+use Rattle.mem_store.specs.Memory.{Memory, stored}
+use Rattle.mem_store.specs.Access.{Stores}
+use Rattle.mem_store.specs.declared.store.StoreFault.{StoreFault}
 
 -- values with the same low n digits are stored alike
 same_digits : (n address u v : ℕ) (bytes : ℕ → ℕ) → ((k : ℕ) → k < n → u / 256 ^ k % 256 ≡ v / 256 ^ k % 256)

@@ -1,9 +1,9 @@
 -- The step of a hart by what stands at its pc.
 use Rattle.std.proofs.Common.{◌≡◌, ℕ, Bool, Option, Some, None, Result, Ok, Err, OnOk, OnErr, refl, ap, sym, ◌∙◌, rules}
-use Rattle.memory.specs.Access.{fetched}
-use Rattle.memory.specs.Instruction.{or_illegal, instruction_in, instruction_at}
-use Rattle.memory.specs.declared.store.FetchFault.{FetchFault}
-use Rattle.memory.specs.declared.store.FetchFault.TheVariants as fetch
+use Rattle.mem_store.specs.Access.{fetched}
+use Rattle.mem_store.specs.Instruction.{or_illegal, instruction_in, instruction_at}
+use Rattle.mem_store.specs.declared.store.FetchFault.{FetchFault}
+use Rattle.mem_store.specs.declared.store.FetchFault.TheVariants as fetch
 use Rattle.isa_table.specs.Decoded.{decoded}
 use Rattle.isa_table.specs.declared.instr.Instr.{Instr}
 use Rattle.hart_step.specs.Fault.{fetch_cause_of}

@@ -1,12 +1,12 @@
 -- What an instruction without a fault does.
 use Rattle.std.specs.Prelude.{ℕ, ◌+◌, ◌*◌, ◌^◌, Bool, true, false, not, ◌&&◌, if◌then◌else◌}
-use Rattle.memory.specs.Memory.{Memory, number_at}
-use Rattle.memory.specs.Access.{written}
-use Rattle.reservations.specs.Marks.{Marks, with_mark, without_mark, names, ended, word_of}
+use Rattle.mem_store.specs.Memory.{Memory, number_at}
+use Rattle.mem_store.specs.Access.{written}
+use Rattle.hart_reservations.specs.Marks.{Marks, with_mark, without_mark, names, ended, word_of}
 use Rattle.isa_table.specs.declared.instr.Instr.{Instr}
 use Rattle.isa_table.specs.declared.instr.Instr.TheVariants.{Lui, Auipc, Jal, Jalr, Branch, Load, Store, Immediate, Shift, Register, Fence, Ecall, Ebreak, LoadReserved, StoreConditional, Amo}
-use Rattle.reservations.specs.Reserve.{marks}
-use Rattle.reservations.specs.declared.reserve.Reserve.{Reserve}
+use Rattle.hart_reservations.specs.Reserve.{marks}
+use Rattle.hart_reservations.specs.declared.reserve.Reserve.{Reserve}
 use Rattle.hart_step.specs.Hart.{HartValue, Registers, put, hart_of}
 use Rattle.hart_step.specs.declared.hart.Hart.{Hart}
 use Rattle.hart_step.specs.Values.{wrap, register_result, immediate_form, shift_form, is_taken, load_size, extended, store_size, amo_result}

@@ -3,7 +3,7 @@
 use Rattle.std.specs.Prelude.{ℕ, ◌+◌, ◌==◌, nat_lt, false, List, [], ◌∷◌, Some, None, if◌then◌else◌}
 -- for examples of runs, in crates that do not use the table themselves
 unfoldable pub use Rattle.isa_table.specs.Decoded.{decoded}
-use Rattle.memory.specs.Memory.{Memory, stored, number_at}
+use Rattle.mem_store.specs.Memory.{Memory, stored, number_at}
 use Rattle.hart_step.specs.Effect.{Site, site}
 use Rattle.hart_step.specs.Step.{stepped}
 use Rattle.hart_step.specs.declared.hart.HartState.TheVariants.{Running}

@@ -1,10 +1,10 @@
 -- Which fault an instruction has. Faults look at registers and rights, never at bytes.
 use Rattle.std.specs.Prelude.{ℕ, ◌+◌, ◌-◌, ◌%◌, ◌==◌, Option, Some, None, if◌then◌else◌}
-use Rattle.memory.specs.Memory.{Memory, to_load, to_write, granted}
-use Rattle.memory.specs.declared.store.AccessFault.{AccessFault}
-use Rattle.memory.specs.declared.store.AccessFault.TheVariants as access
-use Rattle.memory.specs.declared.store.FetchFault.{FetchFault}
-use Rattle.memory.specs.declared.store.FetchFault.TheVariants as fetch
+use Rattle.mem_store.specs.Memory.{Memory, to_load, to_write, granted}
+use Rattle.mem_store.specs.declared.store.AccessFault.{AccessFault}
+use Rattle.mem_store.specs.declared.store.AccessFault.TheVariants as access
+use Rattle.mem_store.specs.declared.store.FetchFault.{FetchFault}
+use Rattle.mem_store.specs.declared.store.FetchFault.TheVariants as fetch
 use Rattle.isa_table.specs.declared.instr.Instr.{Instr}
 use Rattle.isa_table.specs.declared.instr.Instr.TheVariants.{Jal, Jalr, Branch, Load, Store, Ecall, Ebreak, LoadReserved, StoreConditional, Amo, Lui, Auipc, Immediate, Shift, Register, Fence}
 use Rattle.hart_step.specs.Hart.{Registers}

@@ -1,6 +1,6 @@
 -- What each step keeps.
 use Rattle.std.specs.Prelude.{◌≡◌, ℕ, ◌%◌, false}
-use Rattle.memory.specs.Memory.{Memory, grants, to_write}
+use Rattle.mem_store.specs.Memory.{Memory, grants, to_write}
 use Rattle.hart_step.specs.Hart.{HartValue}
 
 -- all rights are the same, and so is each byte that may not be written

@@ -1,6 +1,6 @@
 -- One step of one hart: the instruction's fault, or else its effect.
 use Rattle.std.specs.Prelude.{ℕ, Bool, Option, Some, None}
-use Rattle.memory.specs.Access.{fetched}
+use Rattle.mem_store.specs.Access.{fetched}
 use Rattle.isa_table.specs.Decoded.{decoded}
 use Rattle.isa_table.specs.declared.instr.Instr.{Instr}
 use Rattle.hart_step.specs.Hart.{Registers}

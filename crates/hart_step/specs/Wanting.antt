@@ -1,7 +1,7 @@
 -- Which steps store: only they may want memory of the host.
 use Rattle.std.specs.Prelude.{◌≡◌, ℕ, ◌+◌, Bool, true, not, ◌&&◌, Some, None}
-use Rattle.memory.specs.Access.{fetched}
-use Rattle.reservations.specs.Marks.{names}
+use Rattle.mem_store.specs.Access.{fetched}
+use Rattle.hart_reservations.specs.Marks.{names}
 use Rattle.isa_table.specs.Decoded.{decoded}
 use Rattle.isa_table.specs.declared.instr.Instr.{Instr}
 use Rattle.isa_table.specs.declared.instr.Instr.TheVariants.{Store, StoreConditional, Amo}

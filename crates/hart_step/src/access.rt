@@ -1,16 +1,16 @@
 //! The instructions' accesses of memory, with their faults.
 ghost use Rattle.std.specs.Prelude.{◌≡◌, ◌+◌, ◌<◌, ◌%◌, ◌^◌, ℕ, None, Some, IfOk, IfErr, OnOk, OnErr, IsTrue};
-ghost use Rattle.memory.specs.Memory.{number_at};
-ghost use Rattle.memory.specs.Access.{written, Stores};
-ghost use Rattle.reservations.specs.Marks.{ended, word_of};
-ghost use Rattle.reservations.specs.Reserve.{marks};
+ghost use Rattle.mem_store.specs.Memory.{number_at};
+ghost use Rattle.mem_store.specs.Access.{written, Stores};
+ghost use Rattle.hart_reservations.specs.Marks.{ended, word_of};
+ghost use Rattle.hart_reservations.specs.Reserve.{marks};
 ghost use Rattle.hart_step.specs.Values.{extended, load_size, store_size};
 ghost use Rattle.hart_step.specs.Fault.{load_fault, store_fault, load_cause_of, store_cause_of};
 
 use crate::hart::Cause;
+use hart_reservations::Reserve;
 use isa_table::mnemonic::{LoadOp, StoreOp};
-use memory::{AccessFault, Store, StoreFault};
-use reservations::Reserve;
+use mem_store::{AccessFault, Store, StoreFault};
 use std::alloc::AllocError;
 
 /// The word of a byte that is extended by its sign.

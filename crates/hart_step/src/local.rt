@@ -1,7 +1,7 @@
 //! What an instruction does to its hart alone.
 ghost use Rattle.std.specs.Prelude.{◌≡◌, ◌%◌, ℕ, Bool, None, Some, IsTrue, if◌then◌else◌};
-ghost use Rattle.memory.specs.Memory.{Memory};
-ghost use Rattle.reservations.specs.Marks.{Marks};
+ghost use Rattle.mem_store.specs.Memory.{Memory};
+ghost use Rattle.hart_reservations.specs.Marks.{Marks};
 ghost use Rattle.hart_step.specs.Hart.{hart_of, registers_of, put};
 ghost use Rattle.hart_step.specs.Fault.{jump_fault};
 ghost use Rattle.hart_step.specs.Effect.{site, goes_on, next};

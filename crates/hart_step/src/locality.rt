@@ -1,6 +1,6 @@
 //! What a step depends on.
 ghost use Rattle.std.specs.Prelude.{◌≡◌, ℕ, Bool, true, None};
-ghost use Rattle.memory.specs.Memory.{Memory};
+ghost use Rattle.mem_store.specs.Memory.{Memory};
 ghost use Rattle.isa_table.specs.declared.instr.Instr.{Instr};
 ghost use Rattle.hart_step.specs.Hart.{Registers};
 ghost use Rattle.hart_step.specs.Fault.{fault};

@@ -1,23 +1,23 @@
 //! The instructions that touch memory, each with its fault.
 ghost use Rattle.std.specs.Prelude.{◌≡◌, ◌+◌, ◌<◌, ◌%◌, ◌^◌, ◌&&◌, not, true, ℕ, None, Some, Option, OnOk, OnErr, IsTrue};
-ghost use Rattle.memory.specs.Memory.{number_at};
-ghost use Rattle.reservations.specs.Marks.{Marks, with_mark, names, ended};
-ghost use Rattle.reservations.specs.Reserve.{marks};
+ghost use Rattle.mem_store.specs.Memory.{number_at};
+ghost use Rattle.hart_reservations.specs.Marks.{Marks, with_mark, names, ended};
+ghost use Rattle.hart_reservations.specs.Reserve.{marks};
 ghost use Rattle.hart_step.specs.Hart.{hart_of, registers_of, put};
 ghost use Rattle.hart_step.specs.Values.{wrap, extended, load_size, store_size, amo_result};
 ghost use Rattle.hart_step.specs.Fault.{load_fault, store_fault, store_cause_of};
 ghost use Rattle.hart_step.specs.Effect.{site, site_of, goes_on, next, stores, conditional, amo};
 ghost use Rattle.hart_step.specs.Step.{unless};
-ghost use Rattle.reservations.specs.Limit.{most_harts};
+ghost use Rattle.hart_reservations.specs.Limit.{most_harts};
 
 use crate::access::{load, store_value};
 use crate::hart::{Cause, Hart};
 use crate::registers::{advance, fault, get, give};
 use crate::values::amo_result;
+use hart_reservations::Reserve;
 use isa_table::fields::Reg;
 use isa_table::mnemonic::{AmoOp, LoadOp, StoreOp};
-use memory::{AccessFault, Store};
-use reservations::Reserve;
+use mem_store::{AccessFault, Store};
 use std::alloc::AllocError;
 
 /// The registers that an instruction with three of them names.

@@ -1,14 +1,14 @@
 //! One instruction, and one step.
 ghost use Rattle.std.specs.Prelude.{◌≡◌, ◌+◌, ◌*◌, ◌<◌, ◌%◌, ◌^◌, ℕ, None, Some, Option, OnOk, OnErr, IsTrue, if◌then◌else◌};
-ghost use Rattle.memory.specs.Memory.{Memory};
-ghost use Rattle.reservations.specs.Marks.{Marks};
-ghost use Rattle.reservations.specs.Reserve.{marks};
+ghost use Rattle.mem_store.specs.Memory.{Memory};
+ghost use Rattle.hart_reservations.specs.Marks.{Marks};
+ghost use Rattle.hart_reservations.specs.Reserve.{marks};
 ghost use Rattle.hart_step.specs.Hart.{hart_of, registers_of, put};
 ghost use Rattle.hart_step.specs.Fault.{jump_fault, call_fault, fetch_cause_of};
 ghost use Rattle.hart_step.specs.Effect.{site, site_of, goes_on, next, exits};
 ghost use Rattle.hart_step.specs.Step.{unless, executed, stepped};
 ghost use Rattle.hart_step.specs.Wanting.{Stores, StepStores};
-ghost use Rattle.reservations.specs.Limit.{most_harts};
+ghost use Rattle.hart_reservations.specs.Limit.{most_harts};
 ghost use Rattle.hart_step.specs.declared.hart.HartState.TheVariants.{Running};
 
 use crate::data_access::effective_address;
@@ -18,9 +18,9 @@ use crate::memory_instructions::{
     Operands, execute_amo, execute_load, execute_store, load_reserved, store_conditional,
 };
 use crate::registers::{fault, get};
+use hart_reservations::Reserve;
 use isa_table::instr::Instr;
-use memory::{FetchFault, Store};
-use reservations::Reserve;
+use mem_store::{FetchFault, Store};
 use std::alloc::AllocError;
 
 /// The register that the exit call's number is in, `a7`.

@@ -4,8 +4,8 @@ use Rattle.std.specs.List.{All, slice_get}
 use Rattle.std.proofs.lemmas.List.{length-set}
 use Rattle.std.proofs.lemmas.List.Elements.{All-set, All-nil, All-cons}
 use Rattle.std.proofs.lemmas.Option.{slice_get_within, get_or_from_slice_get}
-use Rattle.program_images.specs.Image.{ImageValue}
-use Rattle.memory.specs.Memory.{Memory, grants, to_write}
+use Rattle.image.specs.Image.{ImageValue}
+use Rattle.mem_store.specs.Memory.{Memory, grants, to_write}
 use Rattle.hart_step.specs.Hart.{HartValue, hart_of}
 use Rattle.hart_step.specs.declared.hart.Hart.{Hart}
 use Rattle.hart_step.specs.Effect.{Site, site}

@@ -5,8 +5,8 @@ use Rattle.std.proofs.Math.Seq.{map-set_same}
 use Rattle.std.proofs.lemmas.Option.{slice_get-map, slice_get_read}
 use Rattle.std.specs.List.{slice_get}
 use Rattle.std.specs.Option.{option_map}
-use Rattle.memory.specs.Memory.{Memory}
-use Rattle.reservations.specs.Marks.{Marks}
+use Rattle.mem_store.specs.Memory.{Memory}
+use Rattle.hart_reservations.specs.Marks.{Marks}
 use Rattle.hart_step.specs.Hart.{HartValue, hart_of}
 use Rattle.hart_step.specs.Effect.{Site, site}
 use Rattle.hart_step.specs.Step.{stepped}

@@ -1,6 +1,6 @@
 -- A small program, for an example of a run.
 use Rattle.std.specs.Prelude.{ℕ, ◌/◌, ◌%◌, ◌^◌, List, [], ◌∷◌, map, false}
-use Rattle.program_images.specs.Image.{ImageValue}
+use Rattle.image.specs.Image.{ImageValue}
 use Rattle.machine.specs.World.{World, run}
 use Rattle.machine.specs.Start.{started}
 use Rattle.machine.specs.declared.choice.Choice.{Choice}

@@ -1,7 +1,7 @@
 -- The world that a machine is in.
 use Rattle.std.specs.Prelude.{map}
-use Rattle.memory.specs.Memory.{Memory}
-use Rattle.reservations.specs.Reserve.{marks}
+use Rattle.mem_store.specs.Memory.{Memory}
+use Rattle.hart_reservations.specs.Reserve.{marks}
 use Rattle.hart_step.specs.Hart.{hart_of}
 use Rattle.machine.specs.World.{World}
 use Rattle.machine.specs.declared.machine.Machine.{Machine}

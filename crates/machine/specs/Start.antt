@@ -1,8 +1,8 @@
 -- How a machine starts.
 use Rattle.std.specs.Prelude.{◌≡◌, ℕ, ◌+◌, ◌<◌, ◌≤◌, ◌==◌, List, [], ◌∷◌, None, length, if◌then◌else◌}
-use Rattle.program_images.specs.Image.{ImageValue}
-use Rattle.memory.specs.Image.{image_memory}
-use Rattle.reservations.specs.Limit.{most_harts}
+use Rattle.image.specs.Image.{ImageValue}
+use Rattle.mem_store.specs.Image.{image_memory}
+use Rattle.hart_reservations.specs.Limit.{most_harts}
 use Rattle.hart_step.specs.Hart.{HartValue, Registers}
 use Rattle.hart_step.specs.declared.hart.HartState.TheVariants.{Running}
 use Rattle.machine.specs.World.{World}

@@ -1,8 +1,8 @@
 -- The world of a machine over a flat store, and the worlds of a run.
 use Rattle.std.specs.Prelude.{ℕ, List, take}
-use Rattle.program_images.specs.Image.{ImageValue}
-use Rattle.program_images.specs.Segment.{SegmentValue}
-use Rattle.memory.specs.Image.{segments_memory}
+use Rattle.image.specs.Image.{ImageValue}
+use Rattle.image.specs.Segment.{SegmentValue}
+use Rattle.mem_store.specs.Image.{segments_memory}
 use Rattle.machine.specs.Machine.{world}
 use Rattle.machine.specs.World.{World, run}
 use Rattle.machine.specs.Start.{started}

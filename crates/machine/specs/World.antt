@@ -1,7 +1,7 @@
 -- The state of a machine, its steps and its runs.
 use Rattle.std.specs.Prelude.{ℕ, List, [], ◌∷◌, Option, Some, None, slice_get, slice_set}
-use Rattle.memory.specs.Memory.{Memory}
-use Rattle.reservations.specs.Marks.{Marks}
+use Rattle.mem_store.specs.Memory.{Memory}
+use Rattle.hart_reservations.specs.Marks.{Marks}
 use Rattle.hart_step.specs.Hart.{HartValue}
 use Rattle.hart_step.specs.Effect.{Site, site}
 use Rattle.hart_step.specs.Step.{stepped}

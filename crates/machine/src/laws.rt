@@ -1,7 +1,7 @@
 //! What holds in every run.
 ghost use Rattle.std.specs.Prelude.{◌≡◌, ℕ, ◌%◌, List, ◌++◌, length};
 ghost use Rattle.std.specs.List.{All};
-ghost use Rattle.program_images.specs.Image.{ImageValue};
+ghost use Rattle.image.specs.Image.{ImageValue};
 ghost use Rattle.hart_step.specs.Laws.{Keeps, IsAligned, HasZero};
 ghost use Rattle.machine.specs.World.{World, run};
 ghost use Rattle.machine.specs.Start.{started};
@@ -9,7 +9,7 @@ ghost use Rattle.machine.specs.Machine.{world};
 ghost use Rattle.machine.specs.declared.choice.Choice.{Choice};
 
 use crate::machine::Machine;
-use memory::Store;
+use mem_store::Store;
 use std::alloc::Allocator;
 
 /// Choices after choices: the run of both together is the run of the later ones from where the earlier ones lead.

@@ -1,9 +1,9 @@
 //! What a machine consists of.
 ghost use Rattle.std.specs.Prelude.{◌≤◌, vec_len};
-ghost use Rattle.reservations.specs.Limit.{most_harts};
+ghost use Rattle.hart_reservations.specs.Limit.{most_harts};
 
+use hart_reservations::Reserve;
 use hart_step::Hart;
-use reservations::Reserve;
 use std::alloc::Allocator;
 
 /// Harts that share a memory and its reservations. Each event is one step of one hart, and all harts see its effect

@@ -1,16 +1,16 @@
 //! Steps and runs.
 ghost use Rattle.std.specs.Prelude.{◌≡◌, ℕ, ◌<◌, ◌≤◌, OnOk, OnErr, IfErr, IsTrue, All, map, take, length, vec_len, slice_get, slice_set, Some};
 ghost use Rattle.hart_step.specs.Hart.{hart_of};
-ghost use Rattle.reservations.specs.Reserve.{marks};
+ghost use Rattle.hart_reservations.specs.Reserve.{marks};
 ghost use Rattle.machine.specs.World.{step, run};
 ghost use Rattle.machine.specs.Machine.{world};
 ghost use Rattle.machine.specs.Wanting.{ChoiceStores, NextStores};
 
 use crate::choice::Choice;
 use crate::machine::Machine;
+use hart_reservations::Reserve;
 use hart_step::{Hart, step_hart};
-use memory::Store;
-use reservations::Reserve;
+use mem_store::Store;
 use std::alloc::{AllocError, Allocator};
 
 /// The host refused memory in a run.

@@ -3,13 +3,13 @@ ghost use Rattle.std.specs.Prelude.{◌≡◌, ◌≢◌, ℕ, ◌<◌, ◌≤�
 ghost use Rattle.hart_step.specs.Hart.{hart_of};
 ghost use Rattle.machine.specs.Machine.{world};
 ghost use Rattle.machine.specs.Start.{first_hart, first_harts, started, IsStartable, Refuses};
-ghost use Rattle.reservations.specs.Limit.{most_harts as most};
+ghost use Rattle.hart_reservations.specs.Limit.{most_harts as most};
 
 use crate::machine::Machine;
+use hart_reservations::{MAX_HARTS, Reserve};
 use hart_step::{Hart, HartState};
-use memory::FromImage;
-use program_images::Image;
-use reservations::{MAX_HARTS, Reserve};
+use image::Image;
+use mem_store::FromImage;
 use std::alloc::{AllocError, Allocator};
 use thiserror::Error;
 

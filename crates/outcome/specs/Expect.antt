@@ -2,11 +2,11 @@
 use Rattle.std.specs.Prelude.{ℕ, nat_lt, Bool, true, false, ◌||◌, List, Option, Some, None, if◌then◌else◌}
 use Rattle.hart_step.specs.Hart.{HartValue}
 use Rattle.machine.specs.declared.choice.Choice.{Choice}
-use Rattle.protocol_library.specs.declared.kind.Kind.{Kind}
-use Rattle.protocol_library.specs.declared.verdict.Verdict.{Verdict}
-use Rattle.protocol_library.specs.declared.verdict.Verdict.TheVariants.{Kept, Broken}
-use Rattle.devices.specs.declared.status.Status.{Status}
-use Rattle.devices.specs.declared.status.Status.TheVariants as status
+use Rattle.object_library.specs.declared.kind.Kind.{Kind}
+use Rattle.object_library.specs.declared.verdict.Verdict.{Verdict}
+use Rattle.object_library.specs.declared.verdict.Verdict.TheVariants.{Kept, Broken}
+use Rattle.byte_io.specs.declared.status.Status.{Status}
+use Rattle.byte_io.specs.declared.status.Status.TheVariants as status
 use Rattle.ends.specs.Ends.{verdict_on}
 use Rattle.outcome.specs.Outcome.{outcome_of}
 use Rattle.outcome.specs.declared.expect.Exit.{Exit}

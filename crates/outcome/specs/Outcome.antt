@@ -3,7 +3,7 @@ use Rattle.std.specs.Prelude.{ℕ, ◌+◌, nat_lt, Bool, List, [], ◌∷◌, O
 use Rattle.hart_step.specs.Hart.{HartValue}
 use Rattle.hart_step.specs.declared.hart.HartState.{HartState}
 use Rattle.hart_step.specs.declared.hart.HartState.TheVariants.{Running, Exited, Faulted}
-use Rattle.protocol_library.specs.declared.verdict.Verdict.{Verdict}
+use Rattle.object_library.specs.declared.verdict.Verdict.{Verdict}
 use Rattle.outcome.specs.declared.run_outcome.End.{End}
 use Rattle.outcome.specs.declared.run_outcome.End.TheVariants as end
 use Rattle.outcome.specs.declared.run_outcome.Outcome.{Outcome}

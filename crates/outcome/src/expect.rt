@@ -1,7 +1,7 @@
 //! What is expected of a run.
 
 ghost use Rattle.std.specs.Prelude.{◌≡◌, ℕ, IfOk, List, map};
-ghost use Rattle.choice_runs.specs.Chosen.{harts_of};
+ghost use Rattle.sched_run.specs.Chosen.{harts_of};
 ghost use Rattle.ends.specs.Ends.{verdict_on};
 ghost use Rattle.hart_step.specs.Hart.{hart_of};
 ghost use Rattle.machine.specs.Chosen.{is_chosen};
@@ -9,10 +9,10 @@ ghost use Rattle.machine.specs.declared.choice.Choice.{Choice};
 ghost use Rattle.outcome.specs.Expect.{breaks, fails, faults, hangs, status_by};
 
 use crate::run_outcome::Outcome;
-use choice_runs::Chosen;
-use devices::Status;
+use byte_io::Status;
 use hart_step::Hart;
-use protocol_library::{Kind, Verdict, judge};
+use object_library::{Kind, Verdict, judge};
+use sched_run::Chosen;
 use std::alloc::{AllocError, Allocator};
 
 /// Whether a run may leave a hart that runs.

@@ -5,7 +5,7 @@ ghost use Rattle.hart_step.specs.Hart.{hart_of};
 ghost use Rattle.outcome.specs.Outcome.{counted, counts, outcome_of, some_run};
 
 use hart_step::{Hart, HartState};
-use protocol_library::Verdict;
+use object_library::Verdict;
 
 /// A way in which a run may leave a hart.
 #[derive(Clone, Copy, PartialEq, Eq)]

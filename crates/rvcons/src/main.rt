@@ -1,16 +1,16 @@
 //! The simulator's program.
 #![tactic(auto)]
 
-use campaign_command::run_campaign;
-use command_orders::{Order, read_line};
-use debug_talk::converse;
-use devices::Status;
-use engines::FileView;
-use file_commands::{assemble, print_source, show_file};
-use protocol_library::KIND_NAMES;
-use reports::{Audience, explain_line, out_of_memory, read_arguments, refuse};
-use run_commands::{print_schedule, replay_history, run_on_threads, shrink_schedule, trace_run};
-use scheduled_run::run_schedule;
+use byte_io::Status;
+use cli_campaign::run_campaign;
+use cli_debug::converse;
+use cli_files::{assemble, print_source, show_file};
+use cli_orders::{Order, read_line};
+use cli_report::{Audience, explain_line, out_of_memory, read_arguments, refuse};
+use cli_run::run_schedule;
+use cli_runs::{print_schedule, replay_history, run_on_threads, shrink_schedule, trace_run};
+use cmd_run::FileView;
+use object_library::KIND_NAMES;
 use std::io::{Input, IsTerminal};
 use std::process::ExitCode;
 use std::rt::{Env, Files};

@@ -1,11 +1,11 @@
 //! The program of the command `run` alone. It stands on fewer crates than the whole program, so it is proved and built sooner.
 #![tactic(auto)]
 
-use command_line::read_run;
-use devices::Status;
-use protocol_library::KIND_NAMES;
-use reports::{Audience, bad_line, explain_line, out_of_memory, read_arguments, refuse};
-use scheduled_run::run_schedule;
+use byte_io::Status;
+use cli_args::read_run;
+use cli_report::{Audience, bad_line, explain_line, out_of_memory, read_arguments, refuse};
+use cli_run::run_schedule;
+use object_library::KIND_NAMES;
 use std::io::IsTerminal;
 use std::process::ExitCode;
 use std::rt::{Env, Files};

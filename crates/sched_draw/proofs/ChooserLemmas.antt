@@ -4,8 +4,8 @@ use Rattle.machine.specs.World.{World, step, run}
 use Rattle.machine.specs.Chosen.{is_chosen}
 use Rattle.machine.specs.declared.choice.Choice.{Choice}
 use Rattle.machine.proofs.WorldLemmas.{run_append, run_none}
-use Rattle.choice_runs.specs.Harts.{Harts, with_hart}
-use Rattle.choice_runs.proofs.ChosenLemmas.{choice_chosen}
+use Rattle.sched_run.specs.Harts.{Harts, with_hart}
+use Rattle.sched_run.proofs.ChosenLemmas.{choice_chosen}
 use Rattle.sched_draw.specs.Schedules.{RanOver}
 
 -- of all choices those that were taken, whose run has led from a world to another, come before those that are left

@@ -3,7 +3,7 @@ use Rattle.std.specs.Prelude.{◌≡◌, ℕ, nat_lt, Bool, true, false, List}
 use Rattle.machine.specs.Chosen.{is_chosen}
 use Rattle.machine.specs.World.{World, run}
 use Rattle.machine.specs.declared.choice.Choice.{Choice}
-use Rattle.choice_runs.specs.Harts.{Harts}
+use Rattle.sched_run.specs.Harts.{Harts}
 use Rattle.sched_draw.specs.Bursts.{burst_choices}
 use Rattle.sched_draw.specs.Priorities.{priority_choices}
 use Rattle.sched_draw.specs.Refusing.{even_choices}

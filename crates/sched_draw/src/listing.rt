@@ -13,7 +13,7 @@ use crate::priorities::ByPriorities;
 use crate::schedule::{Draw, Schedule};
 use crate::turns::{Alone, Turns};
 use machine::{Choice, Machine};
-use memory::Store;
+use mem_store::Store;
 use std::alloc::{AllocError, Allocator};
 
 /// So many choices of a schedule that is the same in each run, of so many harts. Refused for want of

@@ -1,9 +1,9 @@
 //! A machine's run over the choices of a schedule.
 
 ghost use Rattle.std.specs.Prelude.{◌≡◌, ◌<◌, ◌≤◌, true, IfOk, length};
-ghost use Rattle.choice_runs.specs.Chosen.{harts_of};
+ghost use Rattle.sched_run.specs.Chosen.{harts_of};
 ghost use Rattle.machine.specs.Machine.{world};
-ghost use Rattle.reservations.specs.Limit.{most_harts};
+ghost use Rattle.hart_reservations.specs.Limit.{most_harts};
 ghost use Rattle.sched_draw.specs.Schedules.{choices_of, drawn_choices, is_of_harts, RanOver};
 
 use crate::bursts::Bursts;
@@ -13,9 +13,9 @@ use crate::order::Order;
 use crate::priorities::ByPriorities;
 use crate::schedule::{Draw, Schedule};
 use crate::turns::{Alone, Turns};
-use choice_runs::Chosen;
 use machine::Machine;
-use memory::Store;
+use mem_store::Store;
+use sched_run::Chosen;
 use std::alloc::{AllocError, Allocator};
 
 /// Runs a machine of so many harts over so many choices of a schedule, and answers which harts were

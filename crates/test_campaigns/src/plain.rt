@@ -2,8 +2,8 @@
 ghost use Rattle.std.specs.Prelude.{◌≡◌};
 
 use cmd_campaign::{Campaign, Report};
+use object_library::Kind;
 use outcome::{Exit, Expect};
-use protocol_library::Kind;
 use sched_draw::Draw;
 
 /// A campaign with a line for each seed. Its harts may still run at the end.

@@ -1,7 +1,7 @@
 //! Images for tests, from rows of tables.
 #![tactic(auto)]
 
-use program_images::{ElfFault, Image, Rights, Segment};
+use image::{ElfFault, Image, Rights, Segment};
 use std::alloc::{AllocError, Allocator};
 
 /// A segment as a row of a table.

@@ -1,8 +1,8 @@
 //! Programs and plans for tests of harts on threads.
 #![tactic(auto)]
 
-use program_images::{Image, Rights, Segment};
-use protocol_library::{Kind, make_image};
+use image::{Image, Rights, Segment};
+use object_library::{Kind, make_image};
 use std::alloc::{AllocError, Allocator};
 use std::collections::BTreeSet;
 use test_images::{PROGRAM_START, bytes_of, writable_program};

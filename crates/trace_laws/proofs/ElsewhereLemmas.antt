@@ -4,8 +4,8 @@ use Rattle.std.specs.List.{All, slice_get}
 use Rattle.std.specs.Option.{option_map, option_and_then}
 use Rattle.std.proofs.lemmas.List.Elements.{All-head, All-tail}
 use Rattle.std.proofs.lemmas.Option.{get_or_from_slice_get}
-use Rattle.memory.specs.Memory.{Memory}
-use Rattle.memory.specs.Access.{fetched}
+use Rattle.mem_store.specs.Memory.{Memory}
+use Rattle.mem_store.specs.Access.{fetched}
 use Rattle.hart_step.specs.Hart.{HartValue, Registers}
 use Rattle.hart_step.specs.Effect.{Site, site}
 use Rattle.hart_step.specs.declared.hart.HartState.{HartState}
@@ -16,9 +16,9 @@ use Rattle.hart_step.proofs.LocalityLemmas.{steps_alike}
 use Rattle.isa_table.specs.Decoded.{decoded}
 use Rattle.machine.specs.World.{World, step_of, step, run}
 use Rattle.machine.specs.declared.choice.Choice.{Choice}
-use Rattle.choice_traces.specs.Told.{nobody, hart_at, word_met, told_access, told}
-use Rattle.choice_traces.specs.Tells.{tells}
-use Rattle.choice_traces.specs.declared.told.Told.{Told}
+use Rattle.trace_steps.specs.Told.{nobody, hart_at, word_met, told_access, told}
+use Rattle.trace_steps.specs.Tells.{tells}
+use Rattle.trace_steps.specs.declared.told.Told.{Told}
 use Rattle.trace_laws.specs.Covers.{covers, IsElsewhere}
 
 covers_inside : (before after : Memory) (o : Option Access) (a : ℕ) → covers a (option_map (told_access before after) o) ≡ is_inside o a

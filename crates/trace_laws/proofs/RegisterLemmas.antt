@@ -5,9 +5,9 @@ use Rattle.std.specs.Option.{option_map, option_and_then}
 use Rattle.std.proofs.lemmas.Bool.Decides.{nat_tests}
 use Rattle.std.proofs.lemmas.List.{get_or-set_same}
 use Rattle.std.proofs.lemmas.Option.{get_or_from_slice_get, slice_get_within}
-use Rattle.memory.specs.Memory.{Memory}
-use Rattle.memory.specs.Access.{fetched}
-use Rattle.reservations.specs.Marks.{Marks, names}
+use Rattle.mem_store.specs.Memory.{Memory}
+use Rattle.mem_store.specs.Access.{fetched}
+use Rattle.hart_reservations.specs.Marks.{Marks, names}
 use Rattle.isa_table.specs.Decoded.{decoded}
 use Rattle.isa_table.specs.declared.instr.Instr.{Instr}
 use Rattle.isa_table.specs.declared.instr.Instr.TheVariants.{Lui, Auipc, Jal, Jalr, Branch, Load, Store, Immediate, Shift, Register, Fence, Ecall, Ebreak, LoadReserved, StoreConditional, Amo}
@@ -20,8 +20,8 @@ use Rattle.hart_step.specs.declared.hart.HartState.{HartState}
 use Rattle.hart_step.specs.declared.hart.HartState.TheVariants.{Running, Exited, Faulted}
 use Rattle.machine.specs.World.{World, step_of, step}
 use Rattle.machine.specs.declared.choice.Choice.{Choice}
-use Rattle.choice_traces.specs.Destination.{destination, unless_zero}
-use Rattle.choice_traces.specs.Told.{nobody, hart_at, word_met, written_in, written_of, told}
+use Rattle.trace_steps.specs.Destination.{destination, unless_zero}
+use Rattle.trace_steps.specs.Told.{nobody, hart_at, word_met, written_in, written_of, told}
 use Rattle.trace_laws.specs.Covers.{IsNotWritten}
 
 -- a register that isn't the destination of an instruction, if it has one

@@ -8,9 +8,9 @@ use Rattle.hart_step.specs.Effect.{site}
 use Rattle.hart_step.specs.Step.{stepped}
 use Rattle.machine.specs.World.{World, step_of, step, run}
 use Rattle.machine.specs.declared.choice.Choice.{Choice}
-use Rattle.choice_traces.specs.Told.{nobody, hart_at, told}
-use Rattle.choice_traces.specs.Tells.{tells}
-use Rattle.choice_traces.specs.declared.told.Told.{Told}
+use Rattle.trace_steps.specs.Told.{nobody, hart_at, told}
+use Rattle.trace_steps.specs.Tells.{tells}
+use Rattle.trace_steps.specs.declared.told.Told.{Told}
 use Rattle.trace_laws.specs.Covers.{IsOfAnother}
 
 pub tells_append : (w : World) (choices more : List Choice) → tells w (choices ++ more) ≡ tells w choices ++ tells (run w choices) more

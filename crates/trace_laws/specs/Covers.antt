@@ -1,8 +1,8 @@
 -- What was told of a register, of a byte of memory, and of a hart.
 use Rattle.std.specs.Prelude.{◌≡◌, ◌≢◌, ℕ, ◌+◌, ◌&&◌, Bool, false, nat_le, nat_lt, Option, Some, None}
-use Rattle.choice_traces.specs.declared.told.Told.{Told}
-use Rattle.choice_traces.specs.declared.told.ToldAccess.{ToldAccess}
-use Rattle.choice_traces.specs.declared.told.Written.{Written}
+use Rattle.trace_steps.specs.declared.told.Told.{Told}
+use Rattle.trace_steps.specs.declared.told.ToldAccess.{ToldAccess}
+use Rattle.trace_steps.specs.declared.told.Written.{Written}
 
 -- no register, or another, was written
 abbrev pub IsNotWritten : ℕ → Option Written → Type 0

@@ -3,8 +3,8 @@ ghost use Rattle.std.specs.Prelude.{◌≡◌, ℕ, ◌<◌, List, ◌++◌, Som
 ghost use Rattle.std.specs.List.{All};
 ghost use Rattle.machine.specs.World.{World, step, run};
 ghost use Rattle.machine.specs.declared.choice.Choice.{Choice};
-ghost use Rattle.choice_traces.specs.Told.{hart_at, told};
-ghost use Rattle.choice_traces.specs.Tells.{tells};
+ghost use Rattle.trace_steps.specs.Told.{hart_at, told};
+ghost use Rattle.trace_steps.specs.Tells.{tells};
 ghost use Rattle.trace_laws.specs.Covers.{IsNotWritten, IsElsewhere, IsOfAnother};
 
 /// What is told of choices after choices is what is told of the earlier ones, and then of the later ones from where those lead.

@@ -1,7 +1,7 @@
 use Rattle.std.proofs.Common.{◌≡◌, ℕ, ◌+◌, ◌-◌, ◌<◌, ◌≤◌, suc, List, [], ◌∷◌, ◌++◌, codes, decimal, refl, ap, sym, ◌∙◌, rules, arith}
 use Rattle.std.specs.Prelude.{◌==◌, if◌then◌else◌}
 use Rattle.std.proofs.lemmas.Grind.{common_steps}
-use Rattle.choice_traces.specs.declared.told.Told.{Told}
+use Rattle.trace_steps.specs.declared.told.Told.{Told}
 use Rattle.trace_tables.specs.Table.{cell_text, columns_from, names_from, rules_of}
 
 -- what stands in the column of a hart, and its bar

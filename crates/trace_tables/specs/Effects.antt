@@ -6,9 +6,9 @@ use Rattle.hart_step.specs.declared.hart.HartState.{HartState}
 use Rattle.hart_step.specs.declared.hart.HartState.TheVariants.{Running, Exited, Faulted}
 use Rattle.hart_step.specs.declared.data_access.AccessKind.{AccessKind}
 use Rattle.hart_step.specs.declared.data_access.AccessKind.TheVariants.{Load, Store, LoadReserved, StoreConditional, Amo}
-use Rattle.choice_traces.specs.declared.told.Told.{Told}
-use Rattle.choice_traces.specs.declared.told.ToldAccess.{ToldAccess}
-use Rattle.choice_traces.specs.declared.told.Written.{Written}
+use Rattle.trace_steps.specs.declared.told.Told.{Told}
+use Rattle.trace_steps.specs.declared.told.ToldAccess.{ToldAccess}
+use Rattle.trace_steps.specs.declared.told.Written.{Written}
 use Rattle.trace_tables.specs.declared.effect.Effect.{Effect}
 use Rattle.trace_tables.specs.declared.effect.Effect.TheVariants as effect
 

@@ -1,12 +1,12 @@
 -- The rows of a table in Markdown: a column for the choice's number and one for each hart.
 use Rattle.std.specs.Prelude.{ℕ, zero, suc, ◌+◌, ◌==◌, Bool, true, false, List, [], ◌∷◌, ◌++◌, codes, decimal, flat_map, Option, Some, None, if◌then◌else◌}
 use Rattle.isa_table.specs.declared.instr.Instr.{Instr}
-use Rattle.names_and_digits.specs.Names.{abi}
-use Rattle.names_and_digits.specs.Digits.{word_text}
-use Rattle.listing.specs.Lines.{line_text}
-use Rattle.trace_texts.specs.Values.{cause_text}
-use Rattle.choice_traces.specs.declared.told.Told.{Told}
-use Rattle.choice_traces.specs.declared.told.Written.{Written}
+use Rattle.isa_names.specs.Names.{abi}
+use Rattle.isa_names.specs.Digits.{word_text}
+use Rattle.isa_disasm.specs.Lines.{line_text}
+use Rattle.trace_text.specs.Values.{cause_text}
+use Rattle.trace_steps.specs.declared.told.Told.{Told}
+use Rattle.trace_steps.specs.declared.told.Written.{Written}
 use Rattle.trace_tables.specs.declared.effect.Effect.{Effect}
 use Rattle.trace_tables.specs.declared.effect.Effect.TheVariants.{Succeeds, Fails, Sets, Stores, Exits, Faults, Rests}
 use Rattle.trace_tables.specs.Effects.{effects_of}

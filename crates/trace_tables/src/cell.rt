@@ -1,19 +1,19 @@
 //! The cell of a choice.
 
 ghost use Rattle.std.specs.Prelude.{◌≡◌, ◌++◌, ◌∷◌, [], flat_map, OnOk};
-ghost use Rattle.names_and_digits.specs.Digits.{word_text};
+ghost use Rattle.isa_names.specs.Digits.{word_text};
 ghost use Rattle.trace_tables.specs.declared.effect.Effect.TheVariants.{Sets, Stores};
 ghost use Rattle.trace_tables.specs.Effects.{effects_of};
 ghost use Rattle.trace_tables.specs.Table.{cell_byte, cell_text, effect_text, effects_text, hex, instr_text, mark_text, more_effects};
 
 use crate::effect::Effect;
 use crate::effects::effects_of;
-use choice_traces::{Told, Written};
+use isa_disasm::line_of;
+use isa_names::{Word, abi_name};
 use isa_table::Instr;
-use listing::line_of;
-use names_and_digits::{Word, abi_name};
 use std::alloc::{AllocError, Allocator};
-use trace_texts::cause_name;
+use trace_steps::{Told, Written};
+use trace_text::cause_name;
 
 // Appends a number as eight digits.
 fn push_hex<A: Allocator>(alloc: A, out: &mut Vec<u8, A>, number: u32) -> Result<(), AllocError>

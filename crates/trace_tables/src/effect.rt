@@ -1,7 +1,7 @@
 //! A thing that a choice did.
 
-use choice_traces::Written;
 use hart_step::Cause;
+use trace_steps::Written;
 
 /// A thing that a choice did, which its row tells.
 #[derive(Clone, Copy, PartialEq, Eq)]

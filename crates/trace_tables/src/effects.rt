@@ -4,9 +4,9 @@ ghost use Rattle.std.specs.Prelude.{◌≡◌, ◌++◌, IfOk, OnOk};
 ghost use Rattle.trace_tables.specs.Effects.{bytes_set, bytes_stored, effects_of, exit_of, listed, outcome, register_set, result_of, step_effects, without_word};
 
 use crate::effect::Effect;
-use choice_traces::{Told, ToldAccess, Written};
 use hart_step::{AccessKind, Cause, HartState};
 use std::alloc::{AllocError, Allocator};
+use trace_steps::{Told, ToldAccess, Written};
 
 // Whether a store-conditional stored, by what it wrote into its register.
 fn result_of(value: u32) -> Effect

@@ -4,9 +4,9 @@ ghost use Rattle.std.specs.Prelude.{◌≡◌, ◌++◌, ◌∷◌, [], codes, O
 ghost use Rattle.trace_tables.specs.Table.{cell_text, columns_from, head_rows, names_from, row_of, rules_of};
 
 use crate::cell::push_cell;
-use choice_traces::Told;
-use json_texts::push_number;
 use std::alloc::{AllocError, Allocator};
+use trace_json::push_number;
+use trace_steps::Told;
 
 // Appends the names of the columns of so many harts.
 #[tactic(auto, using(crate::proofs::TableLemmas::names_done))]

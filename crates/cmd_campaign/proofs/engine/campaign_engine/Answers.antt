@@ -1,5 +1,5 @@
 use Rattle.std.proofs.Common.{◌<◌}
-use Rattle.programs.specs.Answers.{BeginsToPrint}
+use Rattle.program_open.specs.Answers.{BeginsToPrint}
 use Rattle.cmd_campaign.proofs.AnswerLemmas.{done_known, first_known, halted_known, image_known, refused_known, unread_known, unread_still}
 use Rattle.cmd_campaign.proofs.KeptLemmas.{certified_known}
 use Rattle.cmd_campaign.proofs.engine.campaign_engine.Goals as goal

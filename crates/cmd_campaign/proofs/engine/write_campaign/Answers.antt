@@ -1,5 +1,5 @@
 use Rattle.std.proofs.Common.{◌<◌, Err, inr, ap, sym, subst, ◌∙◌}
-use Rattle.programs.specs.CommandFaults.{IfNames}
+use Rattle.program_open.specs.CommandFaults.{IfNames}
 use Rattle.cmd_campaign.proofs.AnswerLemmas.{answer_of_refused, answer_of_runs, begins_answer, done_answer, halted_unread, start_unread}
 use Rattle.cmd_campaign.proofs.engine.write_campaign.Goals as goal
 

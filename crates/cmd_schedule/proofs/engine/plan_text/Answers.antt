@@ -1,5 +1,5 @@
 use Rattle.std.proofs.Common.{ap, string_bytes, ◌∙◌}
-use Rattle.choice_texts.specs.Printing.{choices_text}
+use Rattle.sched_text.specs.Printing.{choices_text}
 use Rattle.sched_draw.specs.Schedules.{choices_of}
 use Rattle.cmd_schedule.proofs.TextLemmas.{made_text}
 use Rattle.cmd_schedule.proofs.engine.plan_text.Goals as goal

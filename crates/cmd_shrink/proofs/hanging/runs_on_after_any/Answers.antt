@@ -1,6 +1,6 @@
 use Rattle.std.proofs.Common.{length, sym, ◌∙◌}
 use Rattle.cmd_shrink.specs.Hanging.{alone_first, runs_on}
-use Rattle.flat_memory.proofs.ReadLemmas.{all_below_fails}
+use Rattle.mem_flat.proofs.ReadLemmas.{all_below_fails}
 use Rattle.cmd_shrink.proofs.hanging.runs_on_after_any.Goals as goal
 
 pub returns-then-not-branch : goal.returns-then-not-branch

@@ -1,5 +1,5 @@
 use Rattle.std.proofs.Common.{◌≡◌, true, length}
-use Rattle.memory.specs.Memory.{all_below}
+use Rattle.mem_store.specs.Memory.{all_below}
 use Rattle.cmd_shrink.specs.Hanging.{alone_first, runs_on}
 use Rattle.cmd_shrink.proofs.hanging.runs_on_after_any.Given as goal
 

@@ -1,5 +1,5 @@
 use Rattle.std.proofs.Common.{refl}
-use Rattle.reservations.specs.Reserve.{marks}
+use Rattle.hart_reservations.specs.Reserve.{marks}
 use Rattle.hart_step.proofs.step.execute.Goals as goal
 
 pub returns-in-Ebreak-clause-ok : goal.returns-in-Ebreak-clause-ok

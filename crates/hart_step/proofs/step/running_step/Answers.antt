@@ -1,5 +1,5 @@
 use Rattle.std.proofs.Common.{◌∙◌, ap}
-use Rattle.reservations.specs.Reserve.{marks}
+use Rattle.hart_reservations.specs.Reserve.{marks}
 use Rattle.hart_step.specs.Hart.{HartValue, hart_of}
 use Rattle.hart_step.specs.Effect.{site, site_of}
 use Rattle.hart_step.proofs.WantingLemmas.{by_fault, step_taken, step_stores}

@@ -1,6 +1,6 @@
 use Rattle.std.proofs.Common.{refl}
 use Rattle.hart_step.specs.Examples.{decoded}
-use Rattle.memory.specs.Image.{segments_memory}
+use Rattle.mem_store.specs.Image.{segments_memory}
 use Rattle.hart_step.specs.Step.{stepped}
 use Rattle.machine.specs.World.{step, run}
 use Rattle.machine.specs.Start.{started}

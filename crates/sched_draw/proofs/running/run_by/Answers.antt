@@ -2,8 +2,8 @@ use Rattle.std.proofs.Common.{◌≡◌, ◌-◌, ◌+◌, ◌≤◌, arith, ap,
 use Rattle.std.proofs.lemmas.List.{length-map}
 use Rattle.hart_step.specs.Hart.{hart_of}
 use Rattle.machine.specs.Machine.{world}
-use Rattle.reservations.specs.Limit.{most_harts}
-use Rattle.choice_runs.specs.Chosen.{harts_of}
+use Rattle.hart_reservations.specs.Limit.{most_harts}
+use Rattle.sched_run.specs.Chosen.{harts_of}
 use Rattle.sched_draw.proofs.ChooserLemmas.{begun, one_more, all_done}
 use Rattle.sched_draw.proofs.running.run_by.Goals as goal
 

@@ -1,7 +1,7 @@
 use Rattle.std.proofs.Common.{◌≡◌, ◌-◌, ◌≤◌, length}
 use Rattle.machine.specs.Machine.{world}
-use Rattle.reservations.specs.Limit.{most_harts}
-use Rattle.choice_runs.specs.Chosen.{harts_of}
+use Rattle.hart_reservations.specs.Limit.{most_harts}
+use Rattle.sched_run.specs.Chosen.{harts_of}
 use Rattle.sched_draw.proofs.ChooserLemmas.{SoFar}
 use Rattle.sched_draw.proofs.running.run_by.Given as goal
 

@@ -1,6 +1,6 @@
 use Rattle.std.proofs.Common.{IfOk, ap₂, subst, ◌∙◌}
 use Rattle.machine.specs.Machine.{world}
-use Rattle.choice_runs.specs.Chosen.{harts_of}
+use Rattle.sched_run.specs.Chosen.{harts_of}
 use Rattle.sched_draw.specs.Schedules.{RanOver}
 use Rattle.sched_draw.specs.Seeds.{choices_drawn}
 use Rattle.sched_draw.proofs.ChoiceLemmas.{usual_draw}

@@ -1,7 +1,7 @@
 use Rattle.std.proofs.Common.{ap}
 use Rattle.std.proofs.lemmas.List.{map-set}
 use Rattle.hart_step.specs.Hart.{hart_of}
-use Rattle.reservations.specs.Reserve.{marks}
+use Rattle.hart_reservations.specs.Reserve.{marks}
 use Rattle.machine.proofs.machine.Machine.put_hart.Goals as goal
 
 pub returns : goal.returns

@@ -1,6 +1,6 @@
 use Rattle.std.proofs.Common.{◌<◌, length}
 use Rattle.std.proofs.lemmas.List.{length-map}
-use Rattle.reservations.specs.Reserve.{marks}
+use Rattle.hart_reservations.specs.Reserve.{marks}
 use Rattle.machine.proofs.StepLemmas.{step-placed, step-stores, world-unchanged, on-ok, on-err}
 use Rattle.machine.proofs.machine.Machine.step.Goals as goal
 

@@ -1,0 +1,95 @@
+-- The instructions of a statement, from its operands' values.
+use Rattle.std.specs.Prelude.{ℕ, ◌==◌, ◌^◌, Option, Some, None, Result, Ok, Err, Bool, true, pos, if◌then◌else◌}
+use Rattle.asm_parse.specs.Answer.{◌>>=◌}
+use Rattle.asm_parse.specs.declared.fault.FaultKind.{FaultKind}
+use Rattle.asm_parse.specs.declared.fault.FaultKind.TheVariants as kinds
+use Rattle.asm_parse.specs.declared.operand.Target.{Target}
+use Rattle.asm_parse.specs.declared.statement.Instruction.{Instruction}
+use Rattle.asm_parse.specs.declared.statement.Instruction.TheVariants as read
+use Rattle.asm_parse.specs.declared.statement.Pseudo.{Pseudo}
+use Rattle.asm_parse.specs.declared.statement.Pseudo.TheVariants as pseudo
+use Rattle.isa_table.specs.declared.instr.Instr.{Instr}
+use Rattle.isa_table.specs.declared.instr.Instr.TheVariants as instr
+use Rattle.isa_table.specs.declared.mnemonic.ImmediateOp.TheVariants.{Addi}
+use Rattle.asm_assemble.specs.declared.instruction.Pair.{Pair}
+use Rattle.asm_assemble.specs.Program.{SymbolList}
+use Rattle.asm_assemble.specs.Numbers.{as_word, is_between, is_signed_word, amount_of, offset_of, distance, hi, lo}
+use Rattle.asm_assemble.specs.Operands.{symbol_value, immediate_of, upper_of, target_of}
+
+-- the offset of so many bits from an address to a target
+unfoldable pub offset_to : ℕ → SymbolList → Option ℕ → ℕ → Target → Result ℕ FaultKind
+offset_to width symbols local at target =
+    target_of symbols local target >>= λ to. offset_of width (distance at to)
+
+-- the instruction that a statement at an address is
+unfoldable pub instr_of : SymbolList → Option ℕ → ℕ → Instruction → Result Instr FaultKind
+instr_of symbols local at (read.Fixed i) = Ok i
+instr_of symbols local at (read.Lui rd imm) = upper_of symbols imm >>= λ high. Ok (instr.Lui rd high)
+instr_of symbols local at (read.Auipc rd imm) =
+    upper_of symbols imm >>= λ high. Ok (instr.Auipc rd high)
+instr_of symbols local at (read.Jal rd target) =
+    offset_to 21 symbols local at target >>= λ offset.
+    Ok (instr.Jal rd offset)
+instr_of symbols local at (read.Jalr rd rs1 imm) =
+    immediate_of symbols imm >>= λ word. Ok (instr.Jalr rd rs1 word)
+instr_of symbols local at (read.Branch op rs1 rs2 target) =
+    offset_to 13 symbols local at target >>= λ offset.
+    Ok (instr.Branch op rs1 rs2 offset)
+instr_of symbols local at (read.Load op rd rs1 imm) =
+    immediate_of symbols imm >>= λ word. Ok (instr.Load op rd rs1 word)
+instr_of symbols local at (read.Store op rs1 rs2 imm) =
+    immediate_of symbols imm >>= λ word. Ok (instr.Store op rs1 rs2 word)
+instr_of symbols local at (read.Immediate op rd rs1 imm) =
+    immediate_of symbols imm >>= λ word. Ok (instr.Immediate op rd rs1 word)
+instr_of symbols local at (read.Shift op rd rs1 amount) =
+    amount_of amount >>= λ count. Ok (instr.Shift op rd rs1 count)
+
+-- `addi rd, rs1, imm`
+abbrev pub addi : ℕ → ℕ → ℕ → Instr
+addi rd rs1 imm = instr.Immediate Addi rd rs1 imm
+
+-- whether `li` of a word is one instruction
+unfoldable pub is_short : ℕ → Bool
+is_short word = if is_signed_word 12 word then true else (lo word == 0)
+
+-- `li` of a word: an ADDI of 12 signed bits, else a LUI, and an ADDI where the low part isn't 0
+unfoldable pub li_pair : ℕ → ℕ → Pair
+li_pair rd word =
+    if is_signed_word 12 word
+    then record { first = addi rd 0 word; second = None }
+    else record {
+      first = instr.Lui rd (hi word);
+      second = if lo word == 0 then None else Some (addi rd rd (lo word));
+    }
+
+-- the two instructions that bring a distance from the first of them to a register
+unfoldable pub la_pair : ℕ → ℕ → Pair
+la_pair rd d = record {
+  first = instr.Auipc rd (hi d);
+  second = Some (addi rd rd (lo d));
+}
+
+-- the two instructions that jump by a distance from the first of them, by way of a register
+unfoldable pub jump_pair : ℕ → ℕ → ℕ → Pair
+jump_pair by rd d = record {
+  first = instr.Auipc by (hi d);
+  second = Some (instr.Jalr rd by (lo d));
+}
+
+-- the instructions that a pseudo-instruction at an address is
+unfoldable pub pair_of : SymbolList → ℕ → Pseudo → Result Pair FaultKind
+pair_of symbols at (pseudo.Li rd number) =
+    if is_between (2 ^ 31) (2 ^ 64) number then Ok (li_pair rd (as_word number)) else Err kinds.Range
+pair_of symbols at (pseudo.La rd name offset) =
+    symbol_value symbols name offset >>= λ to. Ok (la_pair rd (distance at to))
+pair_of symbols at (pseudo.Call name) =
+    symbol_value symbols name (pos 0) >>= λ to. Ok (jump_pair 1 1 (distance at to))
+pair_of symbols at (pseudo.Tail name) =
+    symbol_value symbols name (pos 0) >>= λ to. Ok (jump_pair 6 0 (distance at to))
+
+-- the size of a pseudo-instruction
+unfoldable pub pseudo_size : Pseudo → ℕ
+pseudo_size (pseudo.Li rd number) = if is_short (as_word number) then 4 else 8
+pseudo_size (pseudo.La rd name offset) = 8
+pseudo_size (pseudo.Call name) = 8
+pseudo_size (pseudo.Tail name) = 8

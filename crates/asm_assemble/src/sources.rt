@@ -1,0 +1,29 @@
+//! Sources as a program.
+ghost use Rattle.std.specs.Prelude.{◌≡◌, IfOk, IfErr};
+ghost use Rattle.asm_parse.specs.Answer.{Gives};
+ghost use Rattle.asm_parse.specs.Statements.{texts_of};
+ghost use Rattle.asm_assemble.specs.Program.{ProgramValue};
+ghost use Rattle.asm_assemble.specs.Sources.{assembled_texts, HasNoProgram};
+ghost use Rattle.asm_assemble.specs.Placed.{IsProgramOf};
+
+use crate::phases::assemble_statements;
+use crate::program::Program;
+use asm_parse::{AsmFault, statements};
+use std::alloc::Allocator;
+
+/// The program of sources, or the fault that decides.
+///
+/// All sources are read, then all statements are placed, then all operands are valued: the first of these phases with a
+/// fault decides, in it the earliest statement, in a statement the lowest number. `Memory` is answered where the
+/// allocator refuses. After a refusal nothing is kept.
+#[tactic(auto, using(crate::proofs::PlacedSources::is_program, crate::proofs::PlacedSources::no_program, crate::proofs::PlacedSources::unread_has_no_program), unfolding(crate::specs::Sources::assembled_texts))]
+pub fn assemble<A: Allocator + Copy>(alloc: A, sources: &[&str]) -> Result<Program<A>, AsmFault>
+    ensures value { Gives (λ program. program) result (assembled_texts (texts_of sources.now)) }
+    ensures placed { IfOk result (λ program. IsProgramOf (texts_of sources.now) program) }
+    ensures only { IfOk result (λ program. (other : ProgramValue)
+        → IsProgramOf (texts_of sources.now) other → other ≡ program) }
+    ensures none { IfErr result (HasNoProgram (texts_of sources.now)) }
+{
+    let statements = statements(alloc, sources)?;
+    assemble_statements(alloc, statements.as_slice())
+}

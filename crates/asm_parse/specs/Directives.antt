@@ -1,0 +1,121 @@
+-- Directives with their operands, over lexemes.
+use Rattle.std.specs.Prelude.{ℕ, ◌==◌, ◌&&◌, List, [], ◌∷◌, ◌++◌, length, take, drop, map, Bool, true, false, if◌then◌else◌, codes, Option, Some, None, Result, Ok, Err}
+use Rattle.std.specs.Borrow.{Bor}
+use Rattle.std.specs.Str.{bytes_eq}
+use Rattle.asm_lex.specs.declared.lexeme.Lexeme as program
+use Rattle.asm_lex.specs.Lexemes.{Lexeme, Word, Number, Text, Comma, seen}
+use Rattle.asm_parse.specs.declared.fault.FaultKind.{FaultKind}
+use Rattle.asm_parse.specs.declared.fault.FaultKind.TheVariants as faults
+use Rattle.asm_parse.specs.declared.statement.Section.{Section}
+use Rattle.asm_parse.specs.declared.statement.Section.TheVariants as sections
+use Rattle.asm_parse.specs.declared.statement.Directive.TheVariants as directives
+use Rattle.asm_parse.specs.declared.heads.Head.{Head}
+use Rattle.asm_parse.specs.declared.heads.Head.TheVariants as heads
+use Rattle.asm_parse.specs.Statement.{DirectiveValue}
+use Rattle.asm_parse.specs.Shapes.{number, value}
+use Rattle.asm_parse.specs.Operations.{◌>>-◌, shaped}
+use Rattle.asm_parse.specs.Texts.{said}
+
+abbrev pub is_comma : Lexeme → Bool
+is_comma Comma = true
+is_comma _ = false
+
+-- parts of the lexemes, by what they say
+abbrev pub parts_seen : List (Bor (List program.Lexeme)) → List (List Lexeme)
+parts_seen parts = map (λ part. map seen part.now) parts
+
+-- the parts between commas behind those done, of which the last has begun
+unfoldable pub parts_from : List (List Lexeme) → List Lexeme → List Lexeme → List (List Lexeme)
+parts_from done part [] = done ++ part ∷ []
+parts_from done part (l ∷ ls) = if is_comma l then parts_from (done ++ part ∷ []) [] ls else parts_from done (part ++ l ∷ []) ls
+
+-- the parts between commas; there is one at least
+abbrev pub parts : List Lexeme → List (List Lexeme)
+parts ls = parts_from [] [] ls
+
+-- what each part gives, behind those done
+unfoldable pub each : {X : Type 0} → (List Lexeme → Option X) → List X → List (List Lexeme) → Result (List X) FaultKind
+each read done [] = Ok done
+each read done (part ∷ parts) = shaped (read part) (λ x. each read (done ++ x ∷ []) parts)
+
+-- a list between commas, of one part at least
+abbrev pub listed : {X : Type 0} → (List Lexeme → Option X) → List Lexeme → Result (List X) FaultKind
+listed read ls = each read [] (parts ls)
+
+-- a name and nothing more
+unfoldable pub name : List Lexeme → Option (List ℕ)
+name (Word w ∷ []) = Some w
+name _ = None
+
+-- the bytes of a string and nothing more, behind those done
+unfoldable pub text : List ℕ → List Lexeme → Result (List ℕ) FaultKind
+text done (Text quoted ∷ []) = said done quoted
+text done _ = Err faults.Operands
+
+-- bytes with a zero byte after them where they are ended
+abbrev pub with_end : Bool → List ℕ → List ℕ
+with_end true bytes = bytes ++ 0 ∷ []
+with_end false bytes = bytes
+
+-- the bytes of texts behind those done, with a zero byte after each where it is ended
+unfoldable pub texts_from : Bool → List ℕ → List (List Lexeme) → Result (List ℕ) FaultKind
+texts_from ended done [] = Ok done
+texts_from ended done (part ∷ parts) = text done part >>- λ bytes. texts_from ended (with_end ended bytes) parts
+
+-- the bytes of texts between commas
+abbrev pub texts : Bool → List Lexeme → Result (List ℕ) FaultKind
+texts ended ls = texts_from ended [] (parts ls)
+
+-- a number without a sign and nothing more
+unfoldable pub count : List Lexeme → Option ℕ
+count (Number n w ∷ []) = Some n
+count _ = None
+
+-- what follows a section's name: nothing, or a dot and more
+abbrev pub is_rest : List ℕ → Bool
+is_rest [] = true
+is_rest (b ∷ []) = false
+is_rest (b ∷ c ∷ bs) = b == 46
+
+-- whether a name is that of a section, alone or followed by a dot and more
+abbrev pub is_section : List ℕ → List ℕ → Bool
+is_section word section = bytes_eq (take (length section) word) section && is_rest (drop (length section) word)
+
+-- the section of a name behind `.section`
+unfoldable pub named_section : List ℕ → Option Section
+named_section word =
+    if is_section word (codes ".text") then Some sections.Text else
+    (if is_section word (codes ".data") then Some sections.Data else
+    (if is_section word (codes ".rodata") then Some sections.Data else
+    (if is_section word (codes ".bss") then Some sections.Zeros else None)))
+
+-- the section that a directive names, which may be followed by more
+unfoldable pub section : List Lexeme → Option Section
+section (Word w ∷ rest) = named_section w
+section _ = None
+
+-- a section, where no operands follow
+unfoldable pub alone : Section → List Lexeme → Option Section
+alone s [] = Some s
+alone s (l ∷ ls) = None
+
+abbrev pub given : {X : Type 0} → (X → DirectiveValue) → Result X FaultKind → Result (Option DirectiveValue) FaultKind
+given make (Ok x) = Ok (Some (make x))
+given make (Err fault) = Err fault
+
+abbrev pub required : {X : Type 0} → (X → DirectiveValue) → Option X → Result (Option DirectiveValue) FaultKind
+required make (Some x) = Ok (Some (make x))
+required make None = Err faults.Operands
+
+-- the directive of a name at the front of a statement, with the operands behind it; a skipped one says nothing
+unfoldable pub directive : Head → List Lexeme → Result (Option DirectiveValue) FaultKind
+directive (heads.Section s) ls = required directives.Section (alone s ls)
+directive heads.NamedSection ls = required directives.Section (section ls)
+directive heads.Words ls = given directives.Words (listed value ls)
+directive heads.Halves ls = given directives.Halves (listed number ls)
+directive heads.Bytes ls = given directives.Bytes (listed number ls)
+directive (heads.Ascii ended) ls = given directives.Ascii (texts ended ls)
+directive heads.Zero ls = required directives.Zero (count ls)
+directive heads.Align ls = required directives.Align (count ls)
+directive heads.Global ls = given directives.Global (listed name ls)
+directive _ ls = Ok None

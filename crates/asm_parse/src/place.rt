@@ -1,0 +1,39 @@
+//! Where a statement stands.
+ghost use Rattle.std.specs.Prelude.{◌≡◌, ◌≢◌};
+ghost use Rattle.asm_parse.specs.Answer.{Fails};
+ghost use Rattle.asm_parse.specs.Statements as statements;
+
+use crate::fault::{AsmFault, Fault, FaultKind};
+use crate::statement::Section;
+
+/// Where a statement stands: its source, its line, and the section that it is in.
+#[derive(Clone, Copy, PartialEq, Eq)]
+pub struct Place {
+    /// The source's index, from 0.
+    pub source: usize,
+    /// The line, from 1.
+    pub line: usize,
+    pub section: Section,
+}
+
+/// Where a source begins: on line 1, in `.text`.
+pub fn first_place(source: usize) -> Place
+    ensures { result ≡ statements.first_place source }
+{
+    Place {
+        source,
+        line: 1,
+        section: Section::Text,
+    }
+}
+
+/// A fault of the statement that stands here.
+pub fn fault_at(place: Place, kind: FaultKind) -> AsmFault
+    ensures { result ≡ AsmFault.At (statements.fault_at place kind) }
+{
+    AsmFault::At(Fault {
+        kind,
+        source: place.source,
+        line: place.line,
+    })
+}

@@ -1,0 +1,247 @@
+//! The shapes of operands. A reader of a front part answers what stands there and the lexemes behind it.
+ghost use Rattle.std.specs.Prelude.{◌≡◌, map, option_map};
+ghost use Rattle.asm_lex.specs.Lexemes.{seen};
+ghost use Rattle.asm_parse.specs.Shapes as shapes;
+
+use crate::fault::FaultKind;
+use crate::name::Name;
+use crate::names::register_of;
+use crate::operand::{Immediate, Target, Upper, Value};
+use asm_lex::Lexeme;
+use isa_table::Reg;
+
+// The number at the front, with its sign.
+#[tactic(auto, unfolding(crate::specs::Shapes::number_in_front))]
+fn number_in_front<'t, 'a>(lexemes: &'t [Lexeme<'a>]) -> Option<(i64, &'t [Lexeme<'a>])>
+    ensures { option_map shapes.with_rest result ≡ shapes.number_in_front (map seen lexemes.now) }
+{
+    match lexemes {
+        [Lexeme::Minus, Lexeme::Number(n, _), rest @ ..] => Some((-i64::from(*n), rest)),
+        [Lexeme::Number(n, _), rest @ ..] => Some((i64::from(*n), rest)),
+        _ => None,
+    }
+}
+
+// The number at the front, with its sign turned.
+#[tactic(auto, unfolding(crate::specs::Shapes::turned_number_in_front))]
+fn turned_number_in_front<'t, 'a>(lexemes: &'t [Lexeme<'a>]) -> Option<(i64, &'t [Lexeme<'a>])>
+    ensures { option_map shapes.with_rest result ≡ shapes.turned_number_in_front (map seen lexemes.now) }
+{
+    match lexemes {
+        [Lexeme::Minus, Lexeme::Number(n, _), rest @ ..] => Some((i64::from(*n), rest)),
+        [Lexeme::Number(n, _), rest @ ..] => Some((-i64::from(*n), rest)),
+        _ => None,
+    }
+}
+
+// What is added to a symbol's address: plus or minus a number, or nothing.
+#[tactic(auto, unfolding(crate::specs::Shapes::offset_in_front))]
+fn offset_in_front<'t, 'a>(lexemes: &'t [Lexeme<'a>]) -> Option<(i64, &'t [Lexeme<'a>])>
+    ensures { option_map shapes.with_rest result ≡ shapes.offset_in_front (map seen lexemes.now) }
+{
+    match lexemes {
+        [Lexeme::Plus, rest @ ..] => number_in_front(rest),
+        [Lexeme::Minus, rest @ ..] => turned_number_in_front(rest),
+        _ => Some((0, lexemes)),
+    }
+}
+
+// A symbol's address and what stands behind its name.
+fn symbol_and<'t, 'a>(
+    name: &'a str,
+    behind: Option<(i64, &'t [Lexeme<'a>])>,
+) -> Option<(Value<'a>, &'t [Lexeme<'a>])>
+    ensures { option_map shapes.with_rest result ≡ shapes.symbol_and name.now (option_map shapes.with_rest behind.entry) }
+{
+    match behind {
+        Some((offset, rest)) => {
+            let name = Name::new(name);
+            Some((Value::Symbol { name, offset }, rest))
+        }
+        None => None,
+    }
+}
+
+// The number or the symbol plus or minus a number at the front.
+#[tactic(auto, unfolding(crate::specs::Shapes::value_in_front))]
+fn value_in_front<'t, 'a>(lexemes: &'t [Lexeme<'a>]) -> Option<(Value<'a>, &'t [Lexeme<'a>])>
+    ensures { option_map shapes.with_rest result ≡ shapes.value_in_front (map seen lexemes.now) }
+{
+    match lexemes {
+        [Lexeme::Name(name), rest @ ..] => symbol_and(name, offset_in_front(rest)),
+        _ => match number_in_front(lexemes) {
+            Some((number, rest)) => Some((Value::Number(number), rest)),
+            None => None,
+        },
+    }
+}
+
+// The value between parentheses behind `%` and this name, at the front.
+#[tactic(auto, unfolding(crate::specs::Shapes::part_in_front))]
+fn part_in_front<'t, 'a>(
+    part: &str,
+    lexemes: &'t [Lexeme<'a>],
+) -> Option<(Value<'a>, &'t [Lexeme<'a>])>
+    ensures { option_map shapes.with_rest result ≡ shapes.part_in_front part.now (map seen lexemes.now) }
+{
+    match lexemes {
+        [
+            Lexeme::Percent,
+            Lexeme::Name(name),
+            Lexeme::Open,
+            value @ ..,
+        ] if *name == part => {
+            match value_in_front(value) {
+                Some((value, [Lexeme::Close, rest @ ..])) => Some((value, rest)),
+                _ => None,
+            }
+        }
+        _ => None,
+    }
+}
+
+// The immediate of 12 bits at the front.
+#[tactic(auto, unfolding(crate::specs::Shapes::immediate_in_front))]
+fn immediate_in_front<'t, 'a>(
+    lexemes: &'t [Lexeme<'a>],
+) -> Option<(Immediate<'a>, &'t [Lexeme<'a>])>
+    ensures { option_map shapes.with_rest result ≡ shapes.immediate_in_front (map seen lexemes.now) }
+{
+    match lexemes {
+        [Lexeme::Percent, ..] => match part_in_front("lo", lexemes) {
+            Some((value, rest)) => Some((Immediate::Low(value), rest)),
+            None => None,
+        },
+        _ => match number_in_front(lexemes) {
+            Some((number, rest)) => Some((Immediate::Number(number), rest)),
+            None => None,
+        },
+    }
+}
+
+/// A number and nothing more.
+#[tactic(auto, unfolding(crate::specs::Shapes::number))]
+pub fn number(lexemes: &[Lexeme]) -> Option<i64>
+    ensures { result ≡ shapes.number (map seen lexemes.now) }
+{
+    match number_in_front(lexemes) {
+        Some((number, [])) => Some(number),
+        _ => None,
+    }
+}
+
+/// A value and nothing more.
+#[tactic(auto, unfolding(crate::specs::Shapes::value))]
+pub fn value<'a>(lexemes: &[Lexeme<'a>]) -> Option<Value<'a>>
+    ensures { result ≡ shapes.value (map seen lexemes.now) }
+{
+    match value_in_front(lexemes) {
+        Some((value, [])) => Some(value),
+        _ => None,
+    }
+}
+
+/// An immediate of 12 bits and nothing more.
+#[tactic(auto, unfolding(crate::specs::Shapes::immediate))]
+pub fn immediate<'a>(lexemes: &[Lexeme<'a>]) -> Option<Immediate<'a>>
+    ensures { result ≡ shapes.immediate (map seen lexemes.now) }
+{
+    match immediate_in_front(lexemes) {
+        Some((immediate, [])) => Some(immediate),
+        _ => None,
+    }
+}
+
+/// An immediate of 20 bits and nothing more.
+#[tactic(auto, unfolding(crate::specs::Shapes::upper))]
+pub fn upper<'a>(lexemes: &[Lexeme<'a>]) -> Option<Upper<'a>>
+    ensures { result ≡ shapes.upper (map seen lexemes.now) }
+{
+    match lexemes {
+        [Lexeme::Percent, ..] => match part_in_front("hi", lexemes) {
+            Some((value, [])) => Some(Upper::High(value)),
+            _ => None,
+        },
+        _ => match number(lexemes) {
+            Some(number) => Some(Upper::Number(number)),
+            None => None,
+        },
+    }
+}
+
+/// Where a branch or a jump goes, and nothing more.
+#[tactic(auto, unfolding(crate::specs::Shapes::target))]
+pub fn target<'a>(lexemes: &[Lexeme<'a>]) -> Option<Target<'a>>
+    ensures { result ≡ shapes.target (map seen lexemes.now) }
+{
+    match lexemes {
+        [Lexeme::Name(name)] => Some(Target::Symbol(Name::new(name))),
+        [Lexeme::Back(digits)] => Some(Target::Back(Name::new(digits))),
+        [Lexeme::Ahead(digits)] => Some(Target::Ahead(Name::new(digits))),
+        _ => match number(lexemes) {
+            Some(address) => Some(Target::Address(address)),
+            None => None,
+        },
+    }
+}
+
+// `(rs)` and nothing more: the register's name.
+#[tactic(auto, unfolding(crate::specs::Shapes::base))]
+fn base<'a>(lexemes: &[Lexeme<'a>]) -> Option<&'a str>
+    ensures { option_map (λ name. name.now) result ≡ shapes.base (map seen lexemes.now) }
+{
+    match lexemes {
+        [Lexeme::Open, Lexeme::Name(base), Lexeme::Close] => Some(base),
+        _ => None,
+    }
+}
+
+// An immediate and the name of the register in parentheses behind it.
+#[tactic(auto, unfolding(crate::specs::Shapes::with_base))]
+fn with_base<'a>(
+    immediate: Immediate<'a>,
+    lexemes: &[Lexeme<'a>],
+) -> Option<(Immediate<'a>, &'a str)>
+    ensures { option_map shapes.with_name result ≡ shapes.with_base immediate.entry (map seen lexemes.now) }
+{
+    match base(lexemes) {
+        Some(base) => Some((immediate, base)),
+        None => None,
+    }
+}
+
+/// `imm(rs)` or `(rs)` and nothing more: the immediate and the register's name.
+#[tactic(auto, unfolding(crate::specs::Shapes::memory))]
+pub fn memory<'a>(lexemes: &[Lexeme<'a>]) -> Option<(Immediate<'a>, &'a str)>
+    ensures { option_map shapes.with_name result ≡ shapes.memory (map seen lexemes.now) }
+{
+    match lexemes {
+        [Lexeme::Open, ..] => with_base(Immediate::Number(0), lexemes),
+        _ => match immediate_in_front(lexemes) {
+            Some((immediate, rest)) => with_base(immediate, rest),
+            None => None,
+        },
+    }
+}
+
+/// `(rs)`, for which `0(rs)` may stand, and nothing more: the register's name.
+#[tactic(auto, unfolding(crate::specs::Shapes::address))]
+pub fn address<'a>(lexemes: &[Lexeme<'a>]) -> Option<&'a str>
+    ensures { option_map (λ name. name.now) result ≡ shapes.address (map seen lexemes.now) }
+{
+    match memory(lexemes) {
+        Some((Immediate::Number(0), base)) => Some(base),
+        _ => None,
+    }
+}
+
+/// A register in a register's place.
+#[tactic(auto, unfolding(crate::specs::Shapes::register))]
+pub fn register(name: &str) -> Result<Reg, FaultKind>
+    ensures { result ≡ shapes.register name.now }
+{
+    match register_of(name) {
+        Some(register) => Ok(register),
+        None => Err(FaultKind::Register),
+    }
+}

@@ -1,7 +1,0 @@
-use Rattle.std.proofs.Common.{◌≡◌, drop, map}
-use Rattle.asm_text.specs.Lexemes.{seen}
-use Rattle.asm_read.specs.Directives.{each, listed, parts_seen, name}
-use Rattle.asm_read.proofs.directives.names.Given as goal
-
-abbrev pub invariant-parts : goal.invariant-parts
-invariant-parts g l = each name l.names.items (parts_seen (drop l.part-index l.part-items)) ≡ listed name (map seen l.lexemes)

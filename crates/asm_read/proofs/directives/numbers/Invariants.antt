@@ -1,8 +1,0 @@
-use Rattle.std.proofs.Common.{◌≡◌, drop, map}
-use Rattle.asm_text.specs.Lexemes.{seen}
-use Rattle.asm_read.specs.Shapes.{number}
-use Rattle.asm_read.specs.Directives.{each, listed, parts_seen}
-use Rattle.asm_read.proofs.directives.numbers.Given as goal
-
-abbrev pub invariant-parts : goal.invariant-parts
-invariant-parts g l = each number l.numbers.items (parts_seen (drop l.part-index l.part-items)) ≡ listed number (map seen l.lexemes)

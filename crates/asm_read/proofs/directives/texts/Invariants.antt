@@ -1,7 +1,0 @@
-use Rattle.std.proofs.Common.{◌≡◌, drop, map}
-use Rattle.asm_text.specs.Lexemes.{seen}
-use Rattle.asm_read.specs.Directives.{texts, texts_from, parts_seen}
-use Rattle.asm_read.proofs.directives.texts.Given as goal
-
-abbrev pub invariant-parts : goal.invariant-parts
-invariant-parts g l = texts_from l.ended l.bytes.items (parts_seen (drop l.part-index l.part-items)) ≡ texts l.ended (map seen l.lexemes)

@@ -1,8 +1,0 @@
-use Rattle.std.proofs.Common.{◌≡◌, drop, map}
-use Rattle.asm_text.specs.Lexemes.{seen}
-use Rattle.asm_read.specs.Shapes.{value}
-use Rattle.asm_read.specs.Directives.{each, listed, parts_seen}
-use Rattle.asm_read.proofs.directives.values.Given as goal
-
-abbrev pub invariant-parts : goal.invariant-parts
-invariant-parts g l = each value l.values.items (parts_seen (drop l.part-index l.part-items)) ≡ listed value (map seen l.lexemes)

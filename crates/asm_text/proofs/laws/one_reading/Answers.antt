@@ -1,5 +1,0 @@
-use Rattle.asm_text.proofs.Unique.{one_list}
-use Rattle.asm_text.proofs.laws.one_reading.Goals as goal
-
-pub returns : goal.returns
-returns c = one_list

@@ -1,5 +1,0 @@
-use Rattle.asm_text.proofs.Spans.{spans_from}
-use Rattle.asm_text.proofs.laws.spans_do_not_matter.Goals as goal
-
-pub returns : goal.returns
-returns c = spans_from

@@ -1,5 +1,0 @@
-use Rattle.assembler.proofs.PlacedOneProgram.{faulty_is_unplaced}
-use Rattle.assembler.proofs.laws.faulty_is_unplaced.Goals as goal
-
-pub returns : goal.returns
-returns c = faulty_is_unplaced

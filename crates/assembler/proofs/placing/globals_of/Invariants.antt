@@ -1,8 +1,0 @@
-use Rattle.std.proofs.Common.{◌≡◌, drop, []}
-use Rattle.assembler.specs.Program.{symbol_list}
-use Rattle.assembler.specs.Placing.{globals_from}
-use Rattle.assembler.proofs.placing.globals_of.Given as goal
-
-abbrev pub invariant-statements : goal.invariant-statements
-invariant-statements g l =
-    globals_from (symbol_list l.names.entries) (drop l.statement-index l.statements) ≡ globals_from [] l.statements

@@ -1,0 +1,78 @@
+//! The choices of the one run that logs of harts are.
+#![tactic(auto)]
+
+ghost use Rattle.std.specs.Prelude.{◌≡◌, ℕ, ◌++◌, OnOk, IfOk};
+ghost use Rattle.std.specs.List.{AllByRecursion};
+ghost use Rattle.bank_laws.specs.Order.{Rises, Earlier};
+ghost use Rattle.bank_runs.specs.Merged.{choices_of};
+ghost use Rattle.bank_order.specs.Weaving.{log_of};
+ghost use Rattle.bank_order.specs.Logs.{logs_of, seen};
+ghost use Rattle.bank_choices.specs.Merged.{plain, choices_of_one, IsMergeOf, LeadsTo};
+
+use bank_order::{LogSegment, in_order};
+use machine::Choice;
+use std::alloc::{AllocError, Allocator};
+
+/// The choices of the segments of all harts, log h being that of hart h, in the order of their stamps. In each log stamps rise.
+///
+/// Where the same accesses stand in logs of a program's banks, the run of these choices ends as the logs do.
+pub fn choices_in_order<A: Allocator + Copy>(
+    alloc: A,
+    logs: &[&[LogSegment]],
+) -> Result<Vec<Choice, A>, AllocError>
+    requires own { (h : ℕ) → AllByRecursion (λ e. e.hart ≡ h) (log_of (logs_of logs.now) h) }
+    requires rising { (h : ℕ) → Rises Earlier (log_of (logs_of logs.now) h) }
+    ensures merged { IfOk result (λ choices. IsMergeOf (logs_of logs.now) choices.items) }
+    ensures leads { IfOk result (λ choices. LeadsTo (logs_of logs.now) choices.items) }
+{
+    let segments = in_order(alloc, logs)?;
+    let choices = choices_of(alloc, &segments)?;
+    Ok(choices)
+}
+
+/// The choices of segments, one after another.
+fn choices_of<A: Allocator>(
+    alloc: A,
+    segments: &[&LogSegment],
+) -> Result<Vec<Choice, A>, AllocError>
+    ensures { IfOk result (λ choices. choices.items ≡ choices_of (seen segments.now)) }
+{
+    let mut choices = Vec::new(alloc);
+    'segments: for segment in segments {
+        push_choices(&mut choices, segment)?;
+    }
+    Ok(choices)
+}
+
+/// Puts the choices of a segment behind others.
+fn push_choices<A: Allocator>(
+    choices: &mut Vec<Choice, A>,
+    segment: &LogSegment,
+) -> Result<(), AllocError>
+    ensures { OnOk result (choices.new.items ≡ choices.old.items ++ choices_of_one segment.now) }
+{
+    push_plain(choices, segment.hart, segment.local)?;
+    choices.push(Choice {
+        hart: segment.hart,
+        refuse: segment.refuse,
+    })?;
+    Ok(())
+}
+
+/// Puts so many plain choices of a hart behind others.
+#[tactic(auto, using(crate::proofs::MergedLemmas::push_more))]
+fn push_plain<A: Allocator>(
+    choices: &mut Vec<Choice, A>,
+    hart: u32,
+    count: u32,
+) -> Result<(), AllocError>
+    ensures { OnOk result (choices.new.items ≡ choices.old.items ++ plain hart count) }
+{
+    'choices: for _ in 0..count {
+        choices.push(Choice {
+            hart,
+            refuse: false,
+        })?;
+    }
+    Ok(())
+}

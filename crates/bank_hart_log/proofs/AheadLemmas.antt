@@ -1,0 +1,211 @@
+-- A local step of an image's code touches nothing, and leads where the image's table says.
+use Rattle.std.proofs.Common.{◌≡◌, ℕ, zero, suc, ◌+◌, ◌*◌, ◌^◌, Bool, true, false, not, ◌&&◌, List, [], Option, Some, None, refl, ap, ap₂, sym, subst, ◌∙◌, rules}
+use Rattle.std.specs.Prelude.{if◌then◌else◌}
+use Rattle.std.specs.Option.{is_some}
+use Rattle.std.proofs.lemmas.Bool.{and_parts}
+use Rattle.image.specs.Image.{ImageValue}
+use Rattle.mem_store.specs.Memory.{Memory, grants, granted, all_below, number_at, to_execute, to_write}
+use Rattle.mem_store.specs.Image.{image_memory}
+use Rattle.mem_store.specs.Access.{fetched}
+use Rattle.isa_table.specs.Decoded.{decoded}
+use Rattle.isa_table.specs.declared.instr.Instr.{Instr}
+use Rattle.isa_table.specs.declared.instr.Instr.TheVariants.{Load, Store, LoadReserved, StoreConditional, Amo}
+use Rattle.hart_step.specs.Hart.{HartValue, Registers, hart_of}
+use Rattle.hart_step.specs.Fault.{fault}
+use Rattle.hart_step.specs.Effect.{Site, site}
+use Rattle.hart_step.specs.Step.{stepped}
+use Rattle.hart_step.specs.Local.{is_local}
+use Rattle.hart_step.specs.Locality.{access_by}
+use Rattle.hart_step.specs.declared.hart.Cause.{Cause}
+use Rattle.hart_step.specs.declared.hart.Hart.{Hart}
+use Rattle.hart_step.specs.declared.hart.HartState.{HartState}
+use Rattle.hart_step.specs.declared.hart.HartState.TheVariants.{Running, Exited, Faulted}
+use Rattle.hart_local.specs.CodeMemory.{is_code, code_in}
+use Rattle.hart_local.specs.LocalStep.{local_of, local_word, local_at, local_in, is_local_next, step_alone, walk}
+use Rattle.hart_local.proofs.StepLemmas.{step_is_alone}
+use Rattle.bank_laws.specs.Segments.{LoggedSegment, HartSlot}
+use Rattle.bank_laws.specs.HartLogs.{AreLocal, local_hart}
+use Rattle.bank_table.specs.Words.{with_four_if}
+use Rattle.bank_table.specs.Carried.{unless_fault, carried_by, carried_at, carried_in, touch_of}
+use Rattle.bank_table.specs.Table.{table, needed, planned, memory_of, is_unwritable, told, word_in}
+use Rattle.bank_hart_log.specs.HartLog.{image_table, slot_in, HoldsIn, IsAhead}
+
+-- ---- the rights and the bytes of code
+code_shut : (o : Option ℕ) → grants to_execute (if is_code o then o else None) ≡ true → not (grants to_write o) ≡ true
+code_shut o e = go (is_code o) refl e
+  where
+    go : (b : Bool) → is_code o ≡ b → grants to_execute (if b then o else None) ≡ true → not (grants to_write o) ≡ true
+    go true p q = (and_parts (grants to_execute o) (not (grants to_write o)) p).1
+    go false p q = cc q
+
+code_byte : (o : Option ℕ) (b : ℕ) → grants to_execute (if is_code o then o else None) ≡ true
+    → (grants to_execute o ≡ true) × ((if is_code o then b else 0) ≡ b)
+code_byte o b e = go (is_code o) refl e
+  where
+    go : (t : Bool) → is_code o ≡ t → grants to_execute (if t then o else None) ≡ true → (grants to_execute o ≡ true) × ((if t then b else 0) ≡ b)
+    go true p q = (q, refl)
+    go false p q = cc q
+
+shut : (m : Memory) (n pc : ℕ) → granted to_execute (code_in m) n pc ≡ true → all_below n (λ k. not (grants to_write (m.rights (pc + k)))) ≡ true
+unfolding code_in
+shut m zero pc e = refl
+shut m (suc n) pc e =
+    let both = and_parts (granted to_execute (code_in m) n pc) (grants to_execute ((code_in m).rights (pc + n))) e in
+    ap₂ (λ (a b : Bool). a && b) (shut m n pc both.0) (code_shut (m.rights (pc + n)) both.1)
+
+same_word : (m : Memory) (n pc : ℕ) → granted to_execute (code_in m) n pc ≡ true
+    → (granted to_execute m n pc ≡ true) × (number_at (code_in m).bytes n pc ≡ number_at m.bytes n pc)
+unfolding code_in
+same_word m zero pc e = (refl, refl)
+same_word m (suc n) pc e =
+    let both = and_parts (granted to_execute (code_in m) n pc) (grants to_execute ((code_in m).rights (pc + n))) e in
+    let rest = same_word m n pc both.0 in
+    let last = code_byte (m.rights (pc + n)) (m.bytes (pc + n)) both.1 in (
+      ap₂ (λ (a b : Bool). a && b) rest.0 last.0,
+      ap₂ (λ (a b : ℕ). a + b * 256 ^ n) rest.1 last.1,
+    )
+
+-- ---- a word of code that spells a local instruction
+record IsLocalWord (m : Memory) (pc word : ℕ) (i : Instr) : Type 0 where
+  there : granted to_execute (code_in m) 4 pc ≡ true
+  word_is : fetched m pc ≡ Some word
+  spelled : decoded word ≡ Some i
+  local : is_local i ≡ true
+
+instr_of : (o : Option Instr) → is_some (local_of o) ≡ true → (i : Instr) × (o ≡ Some i) × (is_local i ≡ true)
+instr_of None e = cc e
+instr_of (Some i) e = go (is_local i) refl e
+  where
+    go : (b : Bool) → is_local i ≡ b → is_some (if b then Some i else None) ≡ true → (j : Instr) × (Some i ≡ Some j) × (is_local j ≡ true)
+    go true p q = (i, refl, p)
+    go false p q = cc q
+
+word_of_code : (m : Memory) (pc : ℕ) → is_some (local_at (code_in m) pc) ≡ true → (word : ℕ) × (i : Instr) × IsLocalWord m pc word i
+unfolding local_at
+word_of_code m pc e = go (granted to_execute (code_in m) 4 pc) refl e
+  where
+    go : (b : Bool) → granted to_execute (code_in m) 4 pc ≡ b → is_some (local_word (if b then Some (number_at (code_in m).bytes 4 pc) else None)) ≡ true
+        → (word : ℕ) × (i : Instr) × IsLocalWord m pc word i
+    go true p q =
+        let same = same_word m 4 pc p in
+        let is = instr_of (decoded (number_at (code_in m).bytes 4 pc)) q in (
+          number_at (code_in m).bytes 4 pc,
+          is.0,
+          record {
+            there = p;
+            word_is = ap (λ (g : Bool). if g then Some (number_at m.bytes 4 pc) else None) same.0 ∙ ap Some (sym same.1);
+            spelled = is.1;
+            local = is.2;
+          },
+        )
+    go false p q = cc q
+
+-- ---- it touches nothing
+none_by : (o : Option Cause) → touch_of (unless_fault o None) ≡ None
+none_by None = refl
+none_by (Some cause) = refl
+
+local_touch : (i : Instr) (m : Memory) (x : Registers) (pc : ℕ) → is_local i ≡ true → touch_of (unless_fault (fault i m x pc) (access_by i x)) ≡ None
+local_touch (Load op rd rs1 imm) m x pc e = cc e
+local_touch (Store op rs1 rs2 imm) m x pc e = cc e
+local_touch (LoadReserved aq rl rd rs1) m x pc e = cc e
+local_touch (StoreConditional aq rl rd rs1 rs2) m x pc e = cc e
+local_touch (Amo op aq rl rd rs1 rs2) m x pc e = cc e
+local_touch i m x pc e = none_by (fault i m x pc)
+
+needs_none : (m : Memory) (pc word : ℕ) (i : Instr) → IsLocalWord m pc word i → (if granted to_execute m 4 pc && not (is_unwritable m pc) then Some pc else None) ≡ None
+needs_none m pc word i is =
+    ap (λ (u : Bool). if granted to_execute m 4 pc && not u then Some pc else None) (shut m 4 pc is.there) ∙ never (granted to_execute m 4 pc)
+  where
+    never : (g : Bool) → (if g && false then Some pc else None) ≡ None
+    never true = refl
+    never false = refl
+
+touches_none : (m : Memory) (v : HartValue) (word : ℕ) (i : Instr) → IsLocalWord m v.pc word i → touch_of (carried_at (fetched m v.pc) m v.registers v.pc) ≡ None
+touches_none m v word i is =
+    ap (λ (o : Option ℕ). touch_of (carried_at o m v.registers v.pc)) is.word_is
+    ∙ ap (λ (o : Option Instr). touch_of (carried_by o m v.registers v.pc)) is.spelled
+    ∙ local_touch i m v.registers v.pc is.local
+
+-- what the table says of a local step
+record LeadsAlone (m : Memory) (v : HartValue) : Type 0 where
+  need : needed v.state m v.pc ≡ None
+  plan : planned m v [] ≡ None
+  after : step_alone (code_in m) v ≡ (stepped 0 false (told m v [] [] false)).hart
+
+with_none : (m : Memory) (v : HartValue) (need : Option ℕ) → need ≡ None → memory_of m (with_four_if m.bytes need []) ≡ m
+with_none m v need e = ap (λ (o : Option ℕ). memory_of m (with_four_if m.bytes o [])) e
+
+by_state : (s : HartState) (m : Memory) (v : HartValue) → is_some (local_in s (code_in m) v.pc) ≡ true
+    → (needed s m v.pc ≡ None) × (touch_of (carried_in s m v) ≡ None)
+by_state Running m v e =
+    let is = word_of_code m v.pc e in
+    (needs_none m v.pc is.0 is.1 is.2, touches_none m v is.0 is.1 is.2)
+by_state (Exited status) m v e = cc e
+by_state (Faulted cause) m v e = cc e
+
+leads_alone : (m : Memory) (v : HartValue) → is_local_next (code_in m) v ≡ true → LeadsAlone m v
+leads_alone m v e =
+    let here = by_state v.state m v e in
+    let bytes : memory_of m (with_four_if m.bytes (needed v.state m v.pc) []) ≡ m = with_none m v (needed v.state m v.pc) here.0 in
+    let plan : planned m v [] ≡ None = ap (λ (n : Memory). touch_of (carried_in v.state n v)) bytes ∙ here.1 in
+    let site_is : told m v [] [] false ≡ site v m (λ k. None) =
+    ap (λ (o : Option ℕ). site v (memory_of m (with_four_if (with_four_if m.bytes (needed v.state m v.pc) []) o [])) (λ k. None)) (ap word_in plan)
+    ∙ ap (λ (n : Memory). site v n (λ k. None)) bytes in
+    record {
+      need = here.0;
+      plan = plan;
+      after = sym (ap (λ (s : Site). (stepped 0 false s).hart) site_is ∙ ap (λ (s : Site). s.hart) (step_is_alone v m (λ k. None) 0 false (search rules)));
+    }
+
+same_hart : {a b : HartValue} → ◌≡◌ {A = Option HartValue} (Some a) (Some b) → a ≡ b
+same_hart e = cc e
+
+-- so many of them
+walk_is_local : (m : Memory) (n : ℕ) (v u : HartValue) → walk (code_in m) n v ≡ Some u → AreLocal (table m) n v × (u ≡ local_hart (table m) n v)
+unfolding walk
+walk_is_local m zero v u e = (tt, sym (same_hart e))
+walk_is_local m (suc n) v u e = go (walk_is_local m n (step_alone (code_in m) v) u) (is_local_next (code_in m) v) refl e
+  where
+    go : (walk (code_in m) n (step_alone (code_in m) v) ≡ Some u → AreLocal (table m) n (step_alone (code_in m) v) × (u ≡ local_hart (table m) n (step_alone (code_in m) v)))
+        → (b : Bool) → is_local_next (code_in m) v ≡ b → (if b then walk (code_in m) n (step_alone (code_in m) v) else None) ≡ Some u
+        → AreLocal (table m) (suc n) v × (u ≡ local_hart (table m) (suc n) v)
+    go more true p q =
+        let here = leads_alone m v p in
+        let rest = more q in (
+          (here.need, here.plan, subst (λ (w : HartValue). AreLocal (table m) n w) here.after rest.0),
+          rest.1 ∙ ap (local_hart (table m) n) here.after,
+        )
+    go more false p q = cc q
+
+-- ---- ahead of a log
+pub record WalkedTo (image : ImageValue) (inputs : List ℕ) (h : ℕ) (log : List LoggedSegment) (count : ℕ) (reached : Hart) : Type 0 where
+  pub local : AreLocal (image_table image) count (slot_in image inputs h log).hart
+  pub reached_is : hart_of reached ≡ local_hart (image_table image) count (slot_in image inputs h log).hart
+
+pub walked_to : (image : ImageValue) (inputs : List ℕ) (h : ℕ) (log : List LoggedSegment) (hart : Hart) (named : Option ℕ) (walked : ℕ) (before reached : Hart) (code : Memory) (count : ℕ)
+    → HoldsIn image inputs h log hart named walked before → code ≡ code_in (image_memory image) → walk code count (hart_of hart) ≡ Some (hart_of reached)
+    → WalkedTo image inputs h log count reached
+walked_to image inputs h log hart named walked before reached code count holds code_is goes =
+    let from : hart_of hart ≡ (slot_in image inputs h log).hart = ap (λ (s : HartSlot HartValue). s.hart) holds.slot in
+    let is = walk_is_local (image_memory image) count (hart_of hart) (hart_of reached) (subst (λ (c : Memory). walk c count (hart_of hart) ≡ Some (hart_of reached)) code_is goes) in
+    record {
+      local = subst (λ (v : HartValue). AreLocal (image_table image) count v) from is.0;
+      reached_is = is.1 ∙ ap (local_hart (image_table image) count) from;
+    }
+
+pub holds_ahead : (image : ImageValue) (inputs : List ℕ) (h : ℕ) (log : List LoggedSegment) (hart : Hart) (named : Option ℕ) (walked : ℕ) (before reached : Hart) (count : ℕ)
+    → HoldsIn image inputs h log hart named walked before → WalkedTo image inputs h log count reached → HoldsIn image inputs h log hart named count reached
+holds_ahead image inputs h log hart named walked before reached count holds to = record {
+  harts = holds.harts;
+  there = holds.there;
+  own = holds.own;
+  steps = holds.steps;
+  slot = holds.slot;
+  local = to.local;
+  reached_is = to.reached_is;
+}
+
+pub is_ahead : (image : ImageValue) (inputs : List ℕ) (h : ℕ) (log : List LoggedSegment) (count : ℕ) (reached : Hart) → WalkedTo image inputs h log count reached
+    → IsAhead (record { image = image; inputs = inputs; hart = h; log = log }) (record { local = count; hart = reached })
+is_ahead image inputs h log count reached to = record { local = to.local; hart = to.reached_is }

@@ -1,0 +1,281 @@
+//! A hart's log.
+ghost use Rattle.std.specs.Prelude.{◌≡◌, ◌<◌, ◌≤◌, length, [], MatchOption, IfOk, IfErr, OnErr, OnOk};
+ghost use Rattle.hart_reservations.specs.Limit.{most_harts};
+ghost use Rattle.hart_step.specs.Hart.{hart_of};
+ghost use Rattle.mem_store.specs.Image.{image_memory, segments_memory};
+ghost use Rattle.hart_local.specs.CodeMemory.{code_in};
+ghost use Rattle.hart_local.specs.LocalStep.{class_of};
+ghost use Rattle.hart_local.specs.declared.stepping.Class.TheVariants.{Shared};
+ghost use Rattle.bank_laws.specs.HartLogs.{AreLocal, local_hart, segment_slot};
+ghost use Rattle.bank_hart_log.specs.HartLog.{image_table, last_stamp, slot_of, taken, with_access, Fits, IsAhead, IsOfHart, Refuses, TouchesNext};
+ghost use Rattle.bank_hart_log.specs.declared.log.AddFault.{AddFault};
+ghost use Rattle.bank_step.specs.Told.{as_touch};
+ghost use Rattle.bank_hart_log.specs.LastStep.{SlotIf};
+
+use crate::first::first_hart;
+use crate::step::{Found, Slot, TouchedWord, last_step, touch_word, walked};
+use bank_laws::LoggedAccess;
+use bank_order::LogSegment;
+use bank_step::PlannedTouch;
+use hart_local::{Code, local_steps};
+use hart_step::Hart;
+use image::Image;
+use std::alloc::Allocator;
+use std::marker::Model;
+
+/// Why a segment is not taken; then nothing has changed.
+#[derive(Clone, Copy, Drop, PartialEq, Eq)]
+pub enum AddFault {
+    /// The segment is of another hart, or its local steps touch something, or its accesses are not those of its last step.
+    Mismatch,
+    /// The host refused memory.
+    Memory,
+}
+
+/// A hart some local steps ahead of its log.
+#[derive(Clone, Copy)]
+pub struct Ahead {
+    /// How many steps.
+    pub local: u32,
+    /// The hart after them.
+    pub hart: Hart,
+}
+
+/// What one hart of a program did, segment by segment, and where that has led it. Nothing is said of its stamps.
+#[derive(Drop)]
+pub struct HartLog<'a, A: Allocator> {
+    image: &'a Image<A>,
+    inputs: &'a [u32],
+    number: u32,
+    hart: Hart,
+    named: Option<u32>,
+    segments: Vec<LogSegment, A>,
+    // Local steps that have been walked ahead, and the hart after them.
+    walked: u32,
+    reached: Hart,
+}
+
+impl<'a, A: Allocator> Model for HartLog<'a, A> {
+    ghost use Rattle.bank_hart_log.specs.HartLog.{HartLogValue, HoldsIn};
+
+    ghost Value = { HartLogValue };
+
+    ghost view = { λ l. record {
+      image = l.image.now;
+      inputs = l.inputs.now;
+      hart = l.number;
+      log = l.segments.items;
+    } };
+
+    ghost invariant = { λ l. HoldsIn l.image.now l.inputs.now l.number l.segments.items l.hart l.named l.walked l.reached };
+}
+
+impl<'a, A: Allocator> HartLog<'a, A> {
+    /// The log of a hart as its program begins. There is a hart for each input.
+    pub fn new(alloc: A, image: &'a Image<A>, inputs: &'a [u32], number: u32) -> HartLog<'a, A>
+        requires harts { length inputs.now ≤ most_harts }
+        requires there { number < length inputs.now }
+        ensures { result ≡ record {
+          image = image.now;
+          inputs = inputs.now;
+          hart = number;
+          log = [];
+        } }
+    {
+        let input = inputs[number as usize];
+        let hart = first_hart(image.entry(), number, input, inputs.len() as u32);
+        HartLog {
+            image,
+            inputs,
+            number,
+            hart,
+            named: None,
+            segments: Vec::new(alloc),
+            walked: 0,
+            reached: hart,
+        }
+    }
+
+    /// The hart after so many steps, if they touch nothing.
+    fn after_local(&self, count: u32) -> Option<Hart>
+        ensures { let t = image_table self.now.image in let h = (slot_of self.now).hart in
+            MatchOption result (AreLocal t count h → ⊥)
+            (λ reached. AreLocal t count h × (hart_of reached ≡ local_hart t count h)) }
+    {
+        if count == self.walked {
+            return Some(self.reached);
+        }
+        walked(self.image, &self.hart, count)
+    }
+
+    /// Does local steps ahead of the log, over the image's code, until the next one isn't local or `limit` have been done. A
+    /// segment of so many local steps that comes next is taken without doing them again.
+    pub fn walk_ahead(&mut self, code: &Code<A>, limit: u32) -> Ahead
+        requires { segments_memory code.now ≡ code_in (image_memory self.old.image) }
+        ensures same { self.new ≡ self.old }
+        ensures ahead { IsAhead self.old result }
+        ensures limit { result.local ≤ limit }
+        ensures stops { result.local < limit
+            → class_of (segments_memory code.now) (hart_of result.hart) ≡ Shared }
+    {
+        let mut reached = self.hart;
+        let local = local_steps(&mut reached, code, limit);
+        self.walked = local;
+        self.reached = reached;
+        Ahead {
+            local,
+            hart: reached,
+        }
+    }
+
+    /// The slot after a segment, if it may come next.
+    fn slot_after(&self, segment: &LogSegment) -> Option<Slot>
+        ensures { SlotIf (Fits self.now segment.now)
+            (segment_slot (image_table self.now.image) segment.now (slot_of self.now)) result }
+    {
+        if segment.hart != self.number {
+            return None;
+        }
+        let hart = match self.after_local(segment.local) {
+            None => return None,
+            Some(hart) => hart,
+        };
+        let slot = Slot {
+            hart,
+            named: self.named,
+        };
+        last_step(self.image, &slot, segment)
+    }
+
+    /// Takes a segment into the log: the hart goes on by its steps.
+    pub fn add(&mut self, segment: LogSegment) -> Result<(), AddFault>
+        ensures ok { OnOk result (Fits self.old segment × (self.new ≡ taken self.old segment)) }
+        ensures fault { IfErr result (λ fault. Refuses self.old segment fault) }
+        ensures err { OnErr result (self.new ≡ self.old) }
+    {
+        let slot = match self.slot_after(&segment) {
+            None => return Err(AddFault::Mismatch),
+            Some(slot) => slot,
+        };
+        let Ok(_) = self.segments.push(segment) else {
+            return Err(AddFault::Memory);
+        };
+        self.hart = slot.hart;
+        self.named = slot.named;
+        self.walked = 0;
+        self.reached = slot.hart;
+        Ok(())
+    }
+
+    /// Takes a segment in whose last step is of code and touches a word, and tells the access, where the word has these bytes
+    /// and this mark. The segment comes without accesses. What is known before isn't looked at again.
+    pub fn add_touch(
+        &mut self,
+        segment: LogSegment,
+        touch: PlannedTouch,
+        found: Found,
+    ) -> Result<LoggedAccess, AddFault>
+        requires { TouchesNext self.old segment (as_touch touch) }
+        ensures ok { IfOk result (λ access. Fits self.old (with_access segment access)
+            × (self.new ≡ taken self.old (with_access segment access))) }
+        ensures touches { IfOk result (λ access. (access.hart ≡ segment.hart) × (access.word ≡ touch.word)) }
+        ensures finds { IfOk result (λ access. (access.before ≡ found.bytes) × (access.mark ≡ found.mark)) }
+        ensures fault { IfErr result (λ fault. fault ≡ AddFault.Memory) }
+        ensures err { OnErr result (self.new ≡ self.old) }
+    {
+        let Some(hart) = self.after_local(segment.local) else {
+            unreachable!();
+        };
+        let slot = Slot {
+            hart,
+            named: self.named,
+        };
+        let TouchedWord {
+            access,
+            slot: after,
+        } = touch_word(self.image, &slot, &segment, None, touch, found);
+        let Ok(_) = self.segments.push(with_access(segment, access)) else {
+            return Err(AddFault::Memory);
+        };
+        self.hart = after.hart;
+        self.named = after.named;
+        self.walked = 0;
+        self.reached = after.hart;
+        Ok(access)
+    }
+
+    /// The hart's number, from 0.
+    pub fn number(&self) -> u32
+        ensures { result ≡ self.now.hart }
+    {
+        self.number
+    }
+
+    /// The program.
+    pub fn image(&self) -> &Image<A>
+        ensures { result.now ≡ self.now.image }
+    {
+        self.image
+    }
+
+    /// The harts' inputs.
+    pub fn inputs(&self) -> &[u32]
+        ensures { result.now ≡ self.now.inputs }
+    {
+        self.inputs
+    }
+
+    /// The hart to which the log has led.
+    pub fn slot(&self) -> &Hart
+        ensures { hart_of result.now ≡ (slot_of self.now).hart }
+    {
+        &self.hart
+    }
+
+    /// The word that the hart's last LR without a fault named, if no store-conditional without a fault came after it.
+    pub fn named(&self) -> Option<u32>
+        ensures { result ≡ (slot_of self.now).named }
+    {
+        self.named
+    }
+
+    /// What the hart did.
+    pub fn segments(&self) -> &[LogSegment]
+        ensures { result.now ≡ self.now.log }
+    {
+        &self.segments
+    }
+
+    /// The stamp of the last segment, and 0 before the first.
+    pub fn last_stamp(&self) -> u64
+        ensures { result ≡ last_stamp self.now.log }
+    {
+        match self.segments.last() {
+            Some(segment) => segment.stamp,
+            None => 0,
+        }
+    }
+}
+
+/// A segment with an access to its data, and no other.
+fn with_access(segment: LogSegment, access: LoggedAccess) -> LogSegment
+    ensures { result ≡ with_access segment access }
+{
+    LogSegment {
+        stamp: segment.stamp,
+        hart: segment.hart,
+        local: segment.local,
+        refuse: segment.refuse,
+        code_read: None,
+        data_access: Some(access),
+    }
+}
+
+/// In every log of a hart that can be made the segments are that hart's alone, and are a walk from where the program begins to
+/// the hart and the word that the log tells.
+pub fn each_hart_log_is_walked<A: Allocator>(log: &HartLog<A>)
+    ensures { IsOfHart log.now }
+{
+    // Reading a field tells the proof what the log keeps.
+    let _ = &log.segments;
+}

@@ -1,0 +1,43 @@
+-- What merging answers.
+use Rattle.std.specs.Prelude.{ℕ, List}
+use Rattle.image.specs.Image.{ImageValue}
+use Rattle.hart_step.specs.Hart.{HartValue}
+use Rattle.machine.specs.World.{run}
+use Rattle.machine.specs.Start.{started}
+use Rattle.machine.specs.declared.choice.Choice.{Choice}
+use Rattle.bank_laws.specs.Banks.{after_log}
+use Rattle.bank_laws.specs.Segments.{HartSlot}
+use Rattle.bank_laws.specs.Order.{IsMatched}
+use Rattle.bank_runs.specs.Merged.{bank_of, first_bank, EndsIn}
+use Rattle.bank_choices.specs.Merged.{IsMergeOf}
+use Rattle.bank_memory.specs.BankLog.{BankLog}
+use Rattle.bank_hart_log.specs.HartLog.{HartLogValue, slot_in}
+use Rattle.bank_merge.specs.Logs.{bank_log, hart_log, segments_of_all, AreOf, StampsRise}
+use Rattle.bank_merge.specs.declared.merging.MergeFault.{MergeFault}
+use Rattle.bank_merge.specs.declared.merging.MergeFault.TheVariants.{Unmatched, OutOfOrder, Memory}
+
+-- an access stands in a hart's log exactly where it stands in its word's bank
+abbrev pub AreMatched : List HartLogValue → List BankLog → Type 0
+AreMatched logs banks = IsMatched bank_of (hart_log logs) (bank_log banks)
+
+-- the slots to which the logs of a program's harts lead
+abbrev pub slots : ImageValue → List ℕ → List HartLogValue → ℕ → HartSlot HartValue
+slots image inputs logs h = slot_in image inputs h (hart_log logs h)
+
+-- the run of choices from the program's start has the logs' slots, the banks' bytes, and as reservation of each hart the word that
+-- its slot names, where that word's bank has its mark
+abbrev pub EndsAsLogged : List HartLogValue → List BankLog → List Choice → Type 0
+EndsAsLogged logs banks choices = (image : ImageValue) (inputs : List ℕ) → AreOf image inputs logs banks
+    → EndsIn image inputs (run (started image inputs) choices) (slots image inputs logs) (λ b. after_log (first_bank image) (bank_log banks b))
+
+-- there are choices of all segments, whose run ends as the logs do
+pub record AreOneRun (logs : List HartLogValue) (banks : List BankLog) : Type 0 where
+  pub choices : List Choice
+  pub merged : IsMergeOf (segments_of_all logs) choices
+  pub ends : EndsAsLogged logs banks choices
+
+-- why logs are not merged
+abbrev pub Refuses : List HartLogValue → List BankLog → MergeFault → Type 0
+Refuses logs banks Unmatched = AreMatched logs banks → ⊥
+Refuses logs banks OutOfOrder = AreMatched logs banks × (StampsRise logs → ⊥)
+Refuses logs banks Memory = Unit {0}

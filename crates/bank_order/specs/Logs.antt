@@ -1,0 +1,12 @@
+-- The logs of harts, one after another, and segments that are referred to.
+use Rattle.std.specs.Prelude.{List, map}
+use Rattle.std.specs.Borrow.{Bor}
+use Rattle.bank_laws.specs.Segments.{LoggedSegment}
+
+-- the segments of each log
+abbrev pub logs_of : List (Bor (List LoggedSegment)) → List (List LoggedSegment)
+logs_of logs = map (λ log. log.now) logs
+
+-- the segments that are referred to
+abbrev pub seen : List (Bor LoggedSegment) → List LoggedSegment
+seen segments = map (λ e. e.now) segments

@@ -1,0 +1,101 @@
+//! Logs woven to one list.
+ghost use Rattle.std.specs.Prelude.{◌≡◌, ℕ, ◌++◌, [], drop, IfOk, OnOk};
+ghost use Rattle.std.specs.List.{AllByRecursion};
+ghost use Rattle.bank_laws.specs.Order.{Rises, Earlier, IsMerged};
+ghost use Rattle.bank_order.specs.Weaving.{comes_first, log_of, woven, woven_with};
+ghost use Rattle.bank_order.specs.Logs.{logs_of, seen};
+
+use crate::segment::LogSegment;
+use std::alloc::{AllocError, Allocator};
+
+/// Whether a segment comes before another: by the stamp, and by the hart's number where stamps are equal.
+fn comes_first(first: &LogSegment, second: &LogSegment) -> bool
+    ensures { result ≡ comes_first first.now second.now }
+{
+    first.stamp < second.stamp || (first.stamp == second.stamp && first.hart < second.hart)
+}
+
+/// Puts what a list has from a place on behind another.
+fn push_from<'s, A: Allocator>(
+    out: &mut Vec<&'s LogSegment, A>,
+    segments: &[&'s LogSegment],
+    from: usize,
+) -> Result<(), AllocError>
+    ensures { OnOk result (out.new.items ≡ out.old.items ++ drop from segments.now) }
+{
+    let mut i = from;
+    'segments: while i < segments.len() {
+        out.push(segments[i])?;
+        i += 1;
+    }
+    Ok(())
+}
+
+/// Two lists in order as one: again and again the first of both heads.
+fn weave<'s, A: Allocator>(
+    alloc: A,
+    first: &[&'s LogSegment],
+    second: &[&'s LogSegment],
+) -> Result<Vec<&'s LogSegment, A>, AllocError>
+    ensures { IfOk result (λ out. seen out.items ≡ woven (seen first.now) (seen second.now)) }
+{
+    let mut out = Vec::new(alloc);
+    let mut i = 0;
+    let mut j = 0;
+    'segments: while i < first.len() && j < second.len() {
+        if comes_first(first[i], second[j]) {
+            out.push(first[i])?;
+            i += 1;
+        } else {
+            out.push(second[j])?;
+            j += 1;
+        }
+    }
+    push_from(&mut out, first, i)?;
+    push_from(&mut out, second, j)?;
+    Ok(out)
+}
+
+/// The segments of all logs, log h being that of hart h, in the order of their stamps, and of the harts' numbers where stamps
+/// are equal. In each log stamps rise.
+pub fn in_order<'s, A: Allocator + Copy>(
+    alloc: A,
+    logs: &[&'s [LogSegment]],
+) -> Result<Vec<&'s LogSegment, A>, AllocError>
+    requires own { (h : ℕ) → AllByRecursion (λ e. e.hart ≡ h) (log_of (logs_of logs.now) h) }
+    requires rising { (h : ℕ) → Rises Earlier (log_of (logs_of logs.now) h) }
+    ensures { IfOk result (λ out. IsMerged (log_of (logs_of logs.now)) (seen out.items)) }
+{
+    let out = all_woven(alloc, logs)?;
+    Ok(out)
+}
+
+/// All logs woven, one after another.
+#[tactic(auto, unfolding(crate::specs::Weaving::woven_with))]
+fn all_woven<'s, A: Allocator + Copy>(
+    alloc: A,
+    logs: &[&'s [LogSegment]],
+) -> Result<Vec<&'s LogSegment, A>, AllocError>
+    ensures { IfOk result (λ out. seen out.items ≡ woven_with [] (logs_of logs.now)) }
+{
+    let mut out = Vec::new(alloc);
+    'logs: for log in logs {
+        let more = references(alloc, *log)?;
+        out = weave(alloc, &out, &more)?;
+    }
+    Ok(out)
+}
+
+/// References to the segments of a log.
+fn references<'s, A: Allocator>(
+    alloc: A,
+    log: &'s [LogSegment],
+) -> Result<Vec<&'s LogSegment, A>, AllocError>
+    ensures { IfOk result (λ out. seen out.items ≡ log.now) }
+{
+    let mut out = Vec::new(alloc);
+    'segments: for segment in log {
+        out.push(segment)?;
+    }
+    Ok(out)
+}

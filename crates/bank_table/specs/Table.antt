@@ -1,0 +1,61 @@
+-- The table of the harts of an image: its steps are those of harts that know the image's memory, and are told the word at
+-- pc, where it isn't code, and the one word that their instruction touches.
+use Rattle.std.specs.Prelude.{ℕ, ◌+◌, Bool, true, false, not, ◌&&◌, if◌then◌else◌, [], Option, Some, None}
+use Rattle.mem_store.specs.Memory.{Memory, to_execute, to_write, grants, all_below, granted}
+use Rattle.hart_step.specs.Hart.{HartValue}
+use Rattle.hart_step.specs.Effect.{Site, site}
+use Rattle.hart_step.specs.Step.{stepped}
+use Rattle.hart_step.specs.declared.hart.HartState.{HartState}
+use Rattle.hart_step.specs.declared.hart.HartState.TheVariants.{Running, Exited, Faulted}
+use Rattle.bank_laws.specs.Banks.{WordBytes}
+use Rattle.bank_laws.specs.Runs.{StepTable, Touch}
+use Rattle.bank_table.specs.Words.{bytes_at, with_four_if}
+use Rattle.bank_table.specs.Carried.{carried_in, touch_of}
+
+-- whether none of the four bytes from an address on may be written
+abbrev pub is_unwritable : Memory → ℕ → Bool
+is_unwritable m address = all_below 4 (λ k. not (grants to_write (m.rights (address + k))))
+
+-- the word that a hart must read to know its instruction: none where it has stopped or may not execute the word, and none
+-- where the word is code, since that is the image's for good
+abbrev pub needed : HartState → Memory → ℕ → Option ℕ
+needed Running m pc = if granted to_execute m 4 pc && not (is_unwritable m pc) then Some pc else None
+needed (Exited status) m pc = None
+needed (Faulted cause) m pc = None
+
+-- the image's bytes, with the word that is needed
+abbrev pub code_bytes : Memory → HartValue → WordBytes → ℕ → ℕ
+code_bytes m h c = with_four_if m.bytes (needed h.state m h.pc) c
+
+-- a memory of the image's rights
+abbrev pub memory_of : Memory → (ℕ → ℕ) → Memory
+memory_of m bytes = record { rights = m.rights; bytes = bytes }
+
+-- the word that the hart's next step touches, if it touches one
+abbrev pub planned : Memory → HartValue → WordBytes → Option Touch
+planned m h c = touch_of (carried_in h.state (memory_of m (code_bytes m h c)) h)
+
+-- the word of a touch
+abbrev pub word_in : Option Touch → Option ℕ
+word_in None = None
+word_in (Some t) = Some t.word
+
+-- what a hart is told: the word that it needs, the word that it touches, and whether it has that word reserved
+abbrev pub told : Memory → HartValue → WordBytes → WordBytes → Bool → Site
+told m h c v ok =
+    let word = word_in (planned m h c) in
+    site h (memory_of m (with_four_if (code_bytes m h c) word v)) (λ k. if ok then word else None)
+
+-- the bytes of the touched word at a site
+abbrev pub bytes_left : Option Touch → Site → WordBytes
+bytes_left None s = []
+bytes_left (Some t) s = bytes_at s.memory.bytes t.word
+
+-- the table of an image's harts, by its memory. A store-conditional stores only where the hart has its word reserved
+abbrev pub table : Memory → StepTable HartValue
+table m = record {
+  need = λ h. needed h.state m h.pc;
+  plan = λ h c. planned m h c;
+  after = λ h c v ok. (stepped 0 false (told m h c v ok)).hart;
+  stored = λ h c v. bytes_left (planned m h c) (stepped 0 false (told m h c v true));
+}

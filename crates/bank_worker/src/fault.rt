@@ -1,0 +1,32 @@
+//! Why a hart's thread leaves no log.
+
+/// Why a hart's thread leaves no log.
+#[derive(Clone, Copy, PartialEq, Eq)]
+pub enum StepFault {
+    /// The host refused a thread.
+    StartRefused,
+    /// A step would have needed a stamp of `u64::MAX` or above.
+    StampsExhausted,
+    /// A bank or a log hasn't taken what a step did. Nothing is known to lead here.
+    Stale,
+    /// The host refused memory.
+    Memory,
+}
+
+impl From<bank_memory::AddFault> for StepFault {
+    fn from(fault: bank_memory::AddFault) -> StepFault {
+        match fault {
+            bank_memory::AddFault::Mismatch => StepFault::Stale,
+            bank_memory::AddFault::Memory => StepFault::Memory,
+        }
+    }
+}
+
+impl From<bank_hart_log::AddFault> for StepFault {
+    fn from(fault: bank_hart_log::AddFault) -> StepFault {
+        match fault {
+            bank_hart_log::AddFault::Mismatch => StepFault::Stale,
+            bank_hart_log::AddFault::Memory => StepFault::Memory,
+        }
+    }
+}

@@ -1,0 +1,172 @@
+//! One step of a hart under the locks of the banks that it touches.
+ghost use Rattle.std.specs.Prelude.{◌≡◌, ◌<◌, ◌%◌, None, IfOk, OnOk, length, vec_len};
+ghost use Rattle.hart_reservations.specs.Marks.{names};
+ghost use Rattle.hart_step.specs.Hart.{hart_of};
+ghost use Rattle.bank_memory.specs.BankLog.{state_of};
+ghost use Rattle.bank_hart_log.specs.HartLog.{image_table};
+ghost use Rattle.bank_worker.specs.Walked.{IsWalked, Stays};
+
+use crate::fault::StepFault;
+use crate::job::Job;
+use bank_hart_log::{Found, HartLog, Slot, code_access, data_access};
+use bank_memory::{BANKS, Bank, next_stamp};
+use bank_order::LogSegment;
+use bank_step::{PlannedTouch, Word, needed_word, planned_touch};
+use std::alloc::Allocator;
+use std::sync::Wait;
+use thread_gate::Gate;
+
+/// A segment of a hart without its stamp and its accesses, and the slot that its last step begins from.
+#[derive(Clone, Copy)]
+pub struct Walked {
+    pub hart: u32,
+    pub local: u32,
+    pub refuse: bool,
+    pub slot: Slot,
+    /// The stamp of the hart's last segment.
+    pub last_stamp: u64,
+}
+
+impl Walked {
+    /// The segment with a stamp, and no accesses yet.
+    fn stamped(&self, banks: &[u64]) -> Result<LogSegment, StepFault>
+        ensures { IfOk result (λ e. (e.hart ≡ self.now.hart) × (e.local ≡ self.now.local)) }
+    {
+        match next_stamp(self.last_stamp, banks) {
+            Some(stamp) => Ok(LogSegment {
+                stamp,
+                hart: self.hart,
+                local: self.local,
+                refuse: self.refuse,
+                code_read: None,
+                data_access: None,
+            }),
+            None => Err(StepFault::StampsExhausted),
+        }
+    }
+}
+
+/// The place of the bank of a word.
+fn place_of(word: u32) -> usize
+    ensures { result < 16 }
+{
+    (word / 4 % BANKS) as usize
+}
+
+/// The place of the bank of the word that is touched, or another one where none is.
+fn place_or(touch: Option<PlannedTouch>, other: usize) -> usize
+    requires { other < 16 }
+    ensures { result < 16 }
+{
+    match touch {
+        Some(touch) => place_of(touch.word),
+        None => other,
+    }
+}
+
+/// What a bank has at a word.
+fn found_in<A: Allocator>(bank: &Bank<A>, hart: u32, word: u32) -> Found
+    requires { hart < 32 }
+    ensures bytes { result.bytes ≡ (state_of bank.now).values word }
+    ensures mark { result.mark ≡ names ((state_of bank.now).marks hart) word }
+{
+    Found {
+        bytes: bank.bytes(word),
+        mark: bank.holds(hart as usize, word),
+    }
+}
+
+/// Takes a segment whose last step is of code into its hart's log, and what that touches into its bank, whose lock it holds.
+fn step_in_code<A: Allocator + Copy, G: Gate, R: Wait>(
+    rt: &R,
+    job: &Job<A>,
+    gate: &G,
+    log: &mut HartLog<A>,
+    walked: &Walked,
+) -> Result<(), StepFault>
+    requires few { walked.now.hart < 32 }
+    requires next { IsWalked job.now.image.now log.old walked.now }
+    requires code { (image_table job.now.image.now).need (hart_of walked.now.slot.hart) ≡ None }
+    ensures { OnOk result (Stays log.old log.new) }
+{
+    let Some(touch) = planned_touch(&walked.slot.hart, job.image, None) else {
+        log.add(walked.stamped(&[])?)?;
+        return Ok(());
+    };
+    let place = place_of(touch.word);
+    let mut bank = job.banks()[place].lock(rt);
+    let segment = walked.stamped(&[bank.last_stamp()])?;
+    let found = found_in(&bank, walked.hart, touch.word);
+    gate.held(walked.hart, place as u32);
+    let access = log.add_touch(segment, touch, found)?;
+    bank.add_found(access)?;
+    Ok(())
+}
+
+/// The last step of a segment whose instruction stands in a word that may be written, under the locks of all banks, in ascending
+/// order: which word it touches isn't known before it is read.
+fn step_outside_code<A: Allocator + Copy, G: Gate, R: Wait>(
+    rt: &R,
+    alloc: A,
+    job: &Job<A>,
+    gate: &G,
+    walked: &Walked,
+    word: u32,
+) -> Result<LogSegment, StepFault>
+    requires { walked.now.hart < 32 }
+{
+    let mut held = Vec::new(alloc);
+    'banks: for bank in job.banks() {
+        if held.push(bank.lock(rt)).is_err() {
+            return Err(StepFault::Memory);
+        }
+    }
+    if word % 4 != 0 || held.len() != BANKS as usize {
+        return Err(StepFault::Stale);
+    }
+    let at = place_of(word);
+    let read = found_in(&held[at], walked.hart, word);
+    let bytes = read.bytes;
+    let code = Word {
+        address: word,
+        bytes,
+    };
+    let touch = planned_touch(&walked.slot.hart, job.image, Some(code));
+    let place = place_or(touch, at);
+    let mut segment = walked.stamped(&[held[at].last_stamp(), held[place].last_stamp()])?;
+    let code_read = code_access(&segment, word, read);
+    held[at].add(code_read)?;
+    segment.code_read = Some(code_read);
+    let Some(touch) = touch else {
+        return Ok(segment);
+    };
+    let found = found_in(&held[place], walked.hart, touch.word);
+    let access = data_access(job.image, &walked.slot, &segment, Some(code), touch, found);
+    gate.held(walked.hart, place as u32);
+    held[place].add(access)?;
+    segment.data_access = Some(access);
+    Ok(segment)
+}
+
+/// Takes a segment into its hart's log, and what its last step touches into the banks, under whose locks it is done.
+pub fn step<A: Allocator + Copy, G: Gate, R: Wait>(
+    rt: &R,
+    alloc: A,
+    job: &Job<A>,
+    gate: &G,
+    log: &mut HartLog<A>,
+    walked: &Walked,
+) -> Result<(), StepFault>
+    requires few { walked.now.hart < 32 }
+    requires next { IsWalked job.now.image.now log.old walked.now }
+    ensures { OnOk result (Stays log.old log.new) }
+{
+    match needed_word(&walked.slot.hart, job.image) {
+        None => step_in_code(rt, job, gate, log, walked),
+        Some(word) => {
+            let segment = step_outside_code(rt, alloc, job, gate, walked, word)?;
+            log.add(segment)?;
+            Ok(())
+        }
+    }
+}

@@ -1,6 +1,0 @@
-use Rattle.banked_threads.specs.Banked.{IsBankOf}
-use Rattle.banked_threads.proofs.ListLemmas.{Below}
-use Rattle.banked_threads.proofs.compare.are_of_banks.Given as goal
-
-abbrev pub invariant-banks : goal.invariant-banks
-invariant-banks g l = Below (IsBankOf l.image l.inputs) l.banks l.b

@@ -1,6 +1,0 @@
-use Rattle.banked_threads.specs.Banked.{IsHartOf}
-use Rattle.banked_threads.proofs.ListLemmas.{Below}
-use Rattle.banked_threads.proofs.compare.are_of_harts.Given as goal
-
-abbrev pub invariant-logs : goal.invariant-logs
-invariant-logs g l = Below (IsHartOf l.image l.inputs l.budget l.plan.keys) l.logs l.h

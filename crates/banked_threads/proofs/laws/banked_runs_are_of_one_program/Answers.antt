@@ -1,5 +1,0 @@
-use Rattle.banked_threads.proofs.RunLemmas.{are_of_one}
-use Rattle.banked_threads.proofs.laws.banked_runs_are_of_one_program.Goals as goal
-
-pub returns : goal.returns
-returns c = are_of_one

@@ -1,5 +1,0 @@
-use Rattle.banks_laws.proofs.MergeLemmas.{stamps_share_no_bank}
-use Rattle.banks_laws.proofs.laws.equal_stamps_share_no_bank.Goals as goal
-
-pub returns : goal.returns
-returns g c = λ bank_of T. stamps_share_no_bank bank_of T

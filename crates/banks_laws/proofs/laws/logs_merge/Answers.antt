@@ -1,5 +1,0 @@
-use Rattle.banks_laws.proofs.MergeLemmas.{logs_merge}
-use Rattle.banks_laws.proofs.laws.logs_merge.Goals as goal
-
-pub returns : goal.returns
-returns g c = λ bank_of T. logs_merge bank_of T

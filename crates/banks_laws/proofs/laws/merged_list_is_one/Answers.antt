@@ -1,5 +1,0 @@
-use Rattle.banks_laws.proofs.MergeLemmas.{merged_once}
-use Rattle.banks_laws.proofs.laws.merged_list_is_one.Goals as goal
-
-pub returns : goal.returns
-returns c = merged_once

@@ -1,5 +1,0 @@
-use Rattle.banks_laws.proofs.HartLogLemmas.{stepwise_walks}
-use Rattle.banks_laws.proofs.laws.stepwise_log_walks.Goals as goal
-
-pub returns : goal.returns
-returns g c = λ T. stepwise_walks T

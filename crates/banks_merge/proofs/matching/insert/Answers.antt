@@ -1,5 +1,0 @@
-use Rattle.banks_merge.proofs.SetLemmas.{one_in}
-use Rattle.banks_merge.proofs.matching.insert.Goals as goal
-
-pub returns : goal.returns
-returns g c = λ a. one_in _ _ c.args.access.now a (c.in-Ok.ensures.updates.0 a)

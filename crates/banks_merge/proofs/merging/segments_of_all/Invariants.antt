@@ -1,8 +1,0 @@
-use Rattle.std.proofs.Common.{◌≡◌, ◌++◌, drop}
-use Rattle.segment_order.specs.Logs.{logs_of}
-use Rattle.banks_merge.specs.Logs.{segments_of_all}
-use Rattle.banks_merge.proofs.merging.segments_of_all.Given as goal
-
--- those so far, and the logs that are left
-abbrev pub invariant-logs : goal.invariant-logs
-invariant-logs g l = logs_of l.all.items ++ segments_of_all (drop l.log-index l.logs) ≡ segments_of_all l.logs

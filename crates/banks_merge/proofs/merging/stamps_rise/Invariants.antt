@@ -1,8 +1,0 @@
-use Rattle.std.proofs.Common.{ℕ, ◌<◌}
-use Rattle.banks_laws.specs.Order.{Rises, Earlier}
-use Rattle.banks_merge.specs.Logs.{hart_log}
-use Rattle.banks_merge.proofs.merging.stamps_rise.Given as goal
-
--- the stamps of the harts so far rise
-abbrev pub invariant-logs : goal.invariant-logs
-invariant-logs g l = (h : ℕ) → h < l.log-index → Rises Earlier (hart_log l.logs h)

@@ -1,5 +1,0 @@
-use Rattle.std.proofs.Common.{◌≡◌, take}
-use Rattle.book.proofs.sameness.is_same_code.Given as goal
-
-abbrev pub invariant-each : goal.invariant-each
-invariant-each g l = take l.k l.ones ≡ take l.k l.others

@@ -1,8 +1,0 @@
--- The entry of one choice.
-use Rattle.machine.specs.declared.choice.Choice.{Choice}
-use Rattle.histories.specs.declared.entry.Entry.{Entry}
-use Rattle.histories.specs.History.{entry}
-
--- that of its hart, with no local steps, and its mark
-abbrev pub plain_entry : Choice → Entry
-plain_entry c = entry c.hart 0 c.refuse

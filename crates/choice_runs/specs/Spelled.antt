@@ -1,8 +1,0 @@
--- Texts that spell choices.
-use Rattle.std.specs.Prelude.{◌≡◌, ℕ, List, Ok}
-use Rattle.machine.specs.declared.choice.Choice.{Choice}
-use Rattle.choice_texts.specs.Reading.{choices_of}
-
--- a text spells choices for so many harts
-abbrev pub IsSpelled : ℕ → List ℕ → Type 0
-IsSpelled harts text = (choices : List Choice) × (choices_of harts text ≡ Ok choices)

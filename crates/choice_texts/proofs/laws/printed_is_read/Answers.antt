@@ -1,8 +1,0 @@
-use Rattle.choice_texts.proofs.Agreement.{choices_of-spelled}
-use Rattle.choice_texts.proofs.PrintLemmas.{text_spells}
-use Rattle.choice_texts.specs.Printing.{choices_text}
-use Rattle.choice_texts.proofs.laws.printed_is_read.Goals as goal
-
-pub returns : goal.returns
-returns c = λ harts choices few within.
-    choices_of-spelled harts (choices_text choices) choices few (text_spells harts choices few within)

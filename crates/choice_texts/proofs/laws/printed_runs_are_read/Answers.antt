@@ -1,8 +1,0 @@
-use Rattle.choice_texts.proofs.Agreement.{choices_of-spelled}
-use Rattle.choice_texts.proofs.PrintLemmas.{runs_spell}
-use Rattle.choice_texts.specs.Printing.{runs_text}
-use Rattle.choice_texts.proofs.laws.printed_runs_are_read.Goals as goal
-
-pub returns : goal.returns
-returns c = λ harts choices few within.
-    choices_of-spelled harts (runs_text choices) choices few (runs_spell harts choices few within)

@@ -1,6 +1,0 @@
-use Rattle.choice_texts.proofs.Agreement.{spells_of, choices_of-spelled}
-use Rattle.choice_texts.proofs.laws.read_as_spelled.Goals as goal
-
-pub returns : goal.returns
-returns c = λ harts text choices few.
-    (λ read. spells_of harts text choices few read, λ spelled. choices_of-spelled harts text choices few spelled)

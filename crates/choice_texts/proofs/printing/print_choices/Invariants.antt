@@ -1,8 +1,0 @@
-use Rattle.std.proofs.Common.{◌≡◌, ◌++◌, string_bytes, drop}
-use Rattle.item_texts.specs.Printing.{after_item}
-use Rattle.choice_texts.specs.Printing.{item_text, choices_text}
-use Rattle.choice_texts.proofs.printing.print_choices.Given as goal
-
--- the text so far, and then what stands behind its last item
-abbrev pub invariant-items : goal.invariant-items
-invariant-items g l = string_bytes l.text ++ after_item item_text (drop l.choice-index l.rest) ≡ choices_text l.choices

@@ -1,9 +1,0 @@
-use Rattle.std.proofs.Common.{◌≡◌, ◌++◌, string_bytes, drop}
-use Rattle.choice_texts.specs.Printing.{runs_text}
-use Rattle.choice_texts.proofs.PrintLemmas.{text_from}
-use Rattle.choice_texts.proofs.printing.print_runs.Given as goal
-
--- the text so far, and then the run that goes on and what stands behind it
-abbrev pub invariant-choices : goal.invariant-choices
-invariant-choices g l =
-    string_bytes l.text ++ text_from l.run.choice l.run.count (drop l.choice-index l.rest) ≡ runs_text l.choices

@@ -1,0 +1,42 @@
+//! The command `run`.
+
+ghost use Rattle.std.specs.Prelude.{◌≡◌, false, None, IfSome};
+ghost use Rattle.clap.specs.Words.{rows_of, found_of};
+ghost use Rattle.cli_args.specs.Arguments.{holds_all};
+ghost use Rattle.cli_args.specs.RunLine.{run_names, IsRun};
+
+use crate::arguments::{is_set, text_of};
+use clap::ArgMatches;
+
+/// `run [--hex] FILE --inputs L --choices C [--rule K] [--must-exit]`: runs a program under a schedule, and prints each hart's end and,
+/// with a rule, its verdict.
+#[derive(Drop)]
+pub struct RunOrder<'a> {
+    /// Whether the file has words in hexadecimal.
+    pub hex: bool,
+    /// The program's path.
+    pub file: &'a str,
+    /// The harts' inputs.
+    pub inputs: &'a str,
+    /// The choice text's path.
+    pub choices: &'a str,
+    /// The name of the object whose rule is judged.
+    pub rule: Option<&'a str>,
+    /// Whether a run that leaves a hart running has failed.
+    pub must_exit: bool,
+}
+
+/// The order that clap's matches hold.
+pub fn run_order<'a>(matches: &ArgMatches<'a>) -> Option<RunOrder<'a>>
+    ensures some { IfSome result (λ order. IsRun (rows_of (found_of matches.now)) order) }
+    ensures none { result ≡ None → holds_all run_names (rows_of (found_of matches.now)) ≡ false }
+{
+    Some(RunOrder {
+        hex: is_set(matches, "hex"),
+        file: text_of(matches, "FILE")?,
+        inputs: text_of(matches, "inputs")?,
+        choices: text_of(matches, "choices")?,
+        rule: text_of(matches, "rule"),
+        must_exit: is_set(matches, "must-exit"),
+    })
+}

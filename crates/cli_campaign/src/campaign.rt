@@ -1,0 +1,252 @@
+//! Doing `campaign`.
+
+ghost use Rattle.std.specs.Prelude.{◌+◌, ◌-◌, ◌<◌, ◌≤◌, ◌^◌, IfOk};
+
+use crate::watching::Watching;
+use byte_io::{MemorySource, ReaderSource, Source, Status, WriterSink};
+use cli_args::read_inputs;
+use cli_objects::read_rule;
+use cli_orders::CampaignOrder;
+use cli_report::{
+    Audience, RunFiles, WIPE, bad_line, cannot_open, read_again, refuse, say_why, show, wipe_line,
+};
+use cli_values::{read_draw, read_report, read_seed_numbers};
+use cmd_campaign::{Campaign, Finished, campaign_engine};
+use cmd_schedule::{SeedPlan, seed_engine};
+use hint_fault::run_advice;
+use outcome::{Exit, Expect};
+use program_open::ProgramForm;
+use progress::Progress;
+use sched_draw::Order;
+use std::rt::Files;
+use std::thread::Threads;
+use std::{fs, io};
+
+// Tells a person how far a campaign is.
+#[derive(Drop)]
+struct Line<'a, R> {
+    rt: &'a R,
+    audience: Audience,
+    // How many seeds there are.
+    count: u64,
+    // What a bad seed is.
+    bad: &'a str,
+    // Whether it was told anything.
+    is_shown: bool,
+}
+
+impl<'a, R: Eprint> Progress for Line<'a, R> {
+    fn seeds_done(&mut self, done: u64, bad: u64) {
+        if self.audience == Audience::Person {
+            self.is_shown = true;
+            // Where standard error is closed there is nobody to tell.
+            let (count, what) = (self.count, self.bad);
+            let _ = eprint!(self.rt; "{WIPE}{done} of {count} seeds done, {bad} {what}");
+        }
+    }
+}
+
+// What a bad seed is, for a person.
+fn what_is_bad(expect: Expect) -> &'static str {
+    match (expect.rule, expect.exit) {
+        (None, Exit::May) => "with a fault",
+        (Some(_), Exit::May) => "with a broken rule",
+        (_, Exit::Must) => "that failed",
+    }
+}
+
+// What an order expects of each run, or the status of a line that can't be read.
+fn read_expect<R: Print + Eprint>(rt: &R, order: &CampaignOrder) -> Result<Expect, Status> {
+    match read_rule(order.rule) {
+        Ok(rule) => Ok(Expect {
+            rule,
+            exit: exit_of(order),
+        }),
+        Err(fault) => Err(refuse(rt, &fault)),
+    }
+}
+
+// The campaign that an order asks for, or the status of a line that can't be read.
+fn read_campaign<R: Print + Eprint>(rt: &R, order: &CampaignOrder) -> Result<Campaign, Status>
+    ensures { IfOk result (λ campaign. campaign.first + campaign.count ≤ 2 ^ 64) }
+{
+    let expect = read_expect(rt, order)?;
+    let Some(numbers) = read_seed_numbers(order.first, order.count, order.steps) else {
+        return Err(bad_line(
+            rt,
+            "--first, --count and --steps take decimal numbers, first and count together at most 2^64, steps below 2^32, \
+             as --first 0 --count 1000 --steps 40",
+        ));
+    };
+    let Some(report) = read_report(order.failures, order.summary, order.outcomes) else {
+        return Err(bad_line(
+            rt,
+            "--outcomes goes with --summary, which doesn't go with --failures",
+        ));
+    };
+    let draw = match read_draw(order.draw, order.refusals) {
+        Ok(draw) => draw,
+        Err(fault) => return Err(bad_line(rt, fault.text())),
+    };
+    Ok(Campaign {
+        first: numbers.first,
+        count: numbers.count,
+        steps: numbers.steps,
+        draw,
+        expect,
+        report,
+    })
+}
+
+// Whether harts may still run at the end.
+fn exit_of(order: &CampaignOrder) -> Exit {
+    if order.must_exit {
+        Exit::Must
+    } else {
+        Exit::May
+    }
+}
+
+/// Runs a program under the schedule of each seed. Progress is told to a person.
+pub fn run_campaign<R: Files + AllocGlobal + Print + Eprint + Threads + Sync>(
+    rt: &R,
+    audience: Audience,
+    order: &CampaignOrder,
+) -> Status {
+    let inputs = match read_inputs(rt.alloc(), order.inputs) {
+        Ok(inputs) => inputs,
+        Err(fault) => return refuse(rt, &fault),
+    };
+    let campaign = match read_campaign(rt, order) {
+        Ok(campaign) => campaign,
+        Err(status) => return status,
+    };
+    let program = match fs::open(rt, order.file) {
+        Ok(program) => program,
+        Err(error) => return cannot_open(rt, audience, order.file, &error),
+    };
+    let mut program = ReaderSource::new(program);
+    report_campaign(
+        rt,
+        audience,
+        order,
+        inputs.as_slice(),
+        campaign,
+        &mut program,
+    )
+}
+
+// Runs a program under the schedule of each seed and reports it, with words for a person where one looks on.
+fn report_campaign<R: Files + AllocGlobal + Print + Eprint + Threads + Sync, P: Source>(
+    rt: &R,
+    audience: Audience,
+    order: &CampaignOrder,
+    inputs: &[u32],
+    campaign: Campaign,
+    program: &mut P,
+) -> Status
+    requires fits { campaign.first + campaign.count ≤ 2 ^ 64 }
+    requires program_counts { P.failures program.old < 2 ^ 64 - 1 }
+{
+    let mut sink = Watching::new(rt, audience, WriterSink::new(io::writer(rt)));
+    let mut line = Line {
+        rt,
+        audience,
+        count: campaign.count,
+        bad: what_is_bad(campaign.expect),
+        is_shown: false,
+    };
+    let answer = campaign_engine(
+        rt,
+        rt.alloc(),
+        inputs,
+        campaign,
+        program,
+        &mut sink,
+        &mut line,
+    );
+    if line.is_shown {
+        wipe_line(rt, audience);
+    }
+    match answer {
+        Ok(
+            Finished {
+                status,
+                first_failure,
+            },
+        ) => {
+            if audience == Audience::Person {
+                let _ = explain_seed(rt, order, inputs, campaign, first_failure);
+            }
+            status
+        }
+        Err(fault) => {
+            let files = RunFiles {
+                program: order.file,
+                form: ProgramForm::Elf,
+                choices: "",
+                harts: inputs.len(),
+            };
+            say_why(rt, audience, files, fault)
+        }
+    }
+}
+
+// Tells the commands by which the run of a seed is looked into.
+fn show_commands<R: Eprint>(
+    rt: &R,
+    order: &CampaignOrder,
+    harts: usize,
+    campaign: Campaign,
+    seed: u64,
+) -> Option<()> {
+    let (file, texts, steps) = (order.file, order.inputs, campaign.steps);
+    eprint!(rt;
+        "seed {seed} is the first such one. To look into it:\n    \
+         rvcons schedule --harts {harts} --steps {steps} --seed {seed}"
+    )
+    .ok()?;
+    if let Some(draw) = order.draw {
+        eprint!(rt; " --schedule {draw}").ok()?;
+    }
+    if let Some(refusals) = order.refusals {
+        eprint!(rt; " --refusals {refusals}").ok()?;
+    }
+    if let Order::Priorities(_) = campaign.draw.order {
+        eprint!(rt; " --inputs {texts} {file}").ok()?;
+    }
+    eprintln!(rt;
+        " >seed_{seed}.choices\n    \
+         rvcons debug {file} --inputs {texts} --choices seed_{seed}.choices"
+    )
+    .ok()
+}
+
+// Tells how the first seed whose run has failed is looked into, and what its faults mean.
+fn explain_seed<R: Files + AllocGlobal + Eprint>(
+    rt: &R,
+    order: &CampaignOrder,
+    inputs: &[u32],
+    campaign: Campaign,
+    seed: Option<u64>,
+) -> Option<()> {
+    let seed = seed?;
+    show_commands(rt, order, inputs.len(), campaign, seed)?;
+    let plan = SeedPlan {
+        draw: campaign.draw,
+        steps: campaign.steps,
+        seed,
+    };
+    let program = read_again(rt, order.file)?;
+    let mut source = MemorySource::new(&program);
+    let (choices, _) = seed_engine(rt.alloc(), inputs, plan, &mut source).ok()?;
+    let text = run_advice(
+        rt.alloc(),
+        ProgramForm::Elf,
+        &program,
+        inputs,
+        choices.as_bytes(),
+    )?;
+    show(rt, &text);
+    Some(())
+}

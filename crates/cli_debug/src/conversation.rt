@@ -1,0 +1,228 @@
+//! The debugger at a terminal: a prompt, and beside each answer what a person looks for next.
+
+ghost use Rattle.std.specs.Prelude.{◌-◌, ◌^◌, ◌<◌};
+
+use byte_io::{MemorySource, ReadFault, Source, Status, read_all};
+use cmd_debug::{DebugEngineFault, open_session};
+use debug_session::Debugger;
+use debug_text::{Answer, Command, DebugFault, obey, read_command};
+use elf_read::Symbol;
+use hint_debug::{GREETING, Prompt, line_advice, next_text, watched_word, word_before};
+use hint_fault::symbols_or_none;
+use image::Image;
+use program_open::{CommandFault, Input as InputFile, ProgramForm, open_run, read_program};
+use progress::Progress;
+use std::alloc::{AllocError, Global};
+use std::io::{self, Input};
+
+// What a session's program has, to name places in it.
+#[derive(Drop)]
+struct Names {
+    image: Image<Global>,
+    symbols: Vec<Symbol<Global>>,
+}
+
+// Whether more lines are read.
+#[derive(Clone, Copy, PartialEq, Eq)]
+enum Turn {
+    Next,
+    Last,
+}
+
+// Shows a text.
+fn show(rt: &impl Print, text: &str) -> Result<(), DebugEngineFault> {
+    match print!(rt; "{text}") {
+        Ok(()) => Ok(()),
+        Err(_) => Err(DebugEngineFault::Answers),
+    }
+}
+
+/// Holds a session with a person: opens the run as for a program, and answers each line as it comes.
+pub(crate) fn talk_to_person<R: AllocGlobal + Print + Input, P: Source, C: Source>(
+    rt: &R,
+    inputs: &[u32],
+    program: &mut P,
+    choices: &mut C,
+    progress: &mut impl Progress,
+) -> Result<Status, DebugEngineFault>
+    requires program_counts { P.failures program.old < 2 ^ 64 - 1 }
+    requires choices_count { C.failures choices.old < 2 ^ 64 - 1 }
+{
+    let bytes = match read_all(rt.alloc(), program) {
+        Ok(bytes) => bytes,
+        Err(ReadFault::Device) => {
+            return Err(DebugEngineFault::Refused(CommandFault::Read(InputFile::File)));
+        }
+        Err(ReadFault::Memory) => return Err(DebugEngineFault::Memory),
+    };
+    let mut source = MemorySource::new(&bytes);
+    let run = match open_run(rt.alloc(), ProgramForm::Elf, inputs, &mut source, choices) {
+        Ok(run) => run,
+        Err(fault) => return Err(DebugEngineFault::Refused(fault)),
+    };
+    let mut debugger = match open_session(rt.alloc(), run, inputs, progress) {
+        Ok(debugger) => debugger,
+        Err(AllocError) => return Err(DebugEngineFault::Refused(CommandFault::Memory)),
+    };
+    let image = match read_program(rt.alloc(), ProgramForm::Elf, &bytes) {
+        Ok(image) => image,
+        Err(fault) => return Err(DebugEngineFault::Refused(fault)),
+    };
+    let symbols = symbols_or_none(rt.alloc(), &bytes);
+    let names = Names { image, symbols };
+    show(rt, GREETING)?;
+    show_next(rt, &debugger, &names)?;
+    answer_lines(rt, &mut debugger, &names)
+}
+
+// Answers lines until one ends the session or none is left.
+fn answer_lines<R: AllocGlobal + Print + Input>(
+    rt: &R,
+    debugger: &mut Debugger<Global>,
+    names: &Names,
+) -> Result<Status, DebugEngineFault> {
+    'lines: for _ in 0..u64::MAX {
+        let (position, length) = (debugger.position(), debugger.choices().len());
+        let prompt = Prompt { position, length };
+        match print!(rt; "{prompt}") {
+            Ok(()) => {}
+            Err(_) => return Err(DebugEngineFault::Answers),
+        }
+        let mut line = String::new(rt.alloc());
+        match rt.read_line(&mut line) {
+            // The shell's prompt stands on a line of its own.
+            Ok(0) => {
+                show(rt, "\n")?;
+                return Ok(Status::Done);
+            }
+            Ok(_) => {}
+            Err(error) if error.kind() == io::ErrorKind::InvalidData => {}
+            Err(_) => return Err(DebugEngineFault::Commands),
+        }
+        if answer_line(rt, debugger, names, line.trim_end())? == Turn::Last {
+            return Ok(Status::Done);
+        }
+    }
+    Ok(Status::Done)
+}
+
+// Answers a line as for a program, and shows what a person looks for next.
+fn answer_line<R: AllocGlobal + Print>(
+    rt: &R,
+    debugger: &mut Debugger<Global>,
+    names: &Names,
+    line: &str,
+) -> Result<Turn, DebugEngineFault> {
+    let Some(command) = read_command(line.as_bytes()) else {
+        show(rt, "bad command\n")?;
+        show_advice(rt, names, line)?;
+        return Ok(Turn::Next);
+    };
+    match obey(rt.alloc(), debugger, command) {
+        Ok(Answer::Quit) => Ok(Turn::Last),
+        Ok(Answer::Text(text)) => {
+            show(rt, &text)?;
+            show_advice(rt, names, line)?;
+            show_behind(rt, debugger, names, command, &text)?;
+            Ok(Turn::Next)
+        }
+        Err(DebugFault::Memory) => Err(DebugEngineFault::Memory),
+        Err(DebugFault::BadCommand) => {
+            show(rt, "bad command\n")?;
+            let harts = debugger.machine().harts();
+            tell(rt, Limit::Command { harts })?;
+            Ok(Turn::Next)
+        }
+        Err(DebugFault::PastEnd) => {
+            show(rt, "past end\n")?;
+            let length = debugger.choices().len();
+            tell(rt, Limit::Choices { length })?;
+            Ok(Turn::Next)
+        }
+    }
+}
+
+// A limit that a command has passed.
+#[derive(Clone, Copy)]
+enum Limit {
+    Command { harts: usize },
+    Choices { length: usize },
+}
+
+// Tells of a limit.
+fn tell(rt: &impl Print, limit: Limit) -> Result<(), DebugEngineFault> {
+    let told = match limit {
+        Limit::Command { harts } => println!(rt;
+            "there are {harts} harts, numbered from 0, and mem shows 1 to 64 words"
+        ),
+        Limit::Choices { length } => println!(rt;
+            "the schedule has {length} choices, so positions go from 0 to {length}"
+        ),
+    };
+    match told {
+        Ok(()) => Ok(()),
+        Err(_) => Err(DebugEngineFault::Answers),
+    }
+}
+
+// Shows what is told of a line.
+fn show_advice<R: AllocGlobal + Print>(
+    rt: &R,
+    names: &Names,
+    line: &str,
+) -> Result<(), DebugEngineFault> {
+    match line_advice(rt.alloc(), names.image.segments(), line) {
+        Ok(text) => show(rt, &text),
+        Err(AllocError) => Err(DebugEngineFault::Memory),
+    }
+}
+
+// Shows which hart comes next, and where.
+fn show_next<R: AllocGlobal + Print>(
+    rt: &R,
+    debugger: &Debugger<Global>,
+    names: &Names,
+) -> Result<(), DebugEngineFault> {
+    match next_text(rt.alloc(), debugger, &names.symbols) {
+        Ok(text) => show(rt, &text),
+        Err(AllocError) => Err(DebugEngineFault::Memory),
+    }
+}
+
+// Shows what a person looks for behind an answer: who changed a watched word, and what comes next.
+fn show_behind<R: AllocGlobal + Print>(
+    rt: &R,
+    debugger: &mut Debugger<Global>,
+    names: &Names,
+    command: Command,
+    answer: &str,
+) -> Result<(), DebugEngineFault> {
+    match command {
+        Command::Go | Command::Rgo => {
+            if let Some(address) = watched_word(answer) {
+                show_stored(rt, debugger, address)?;
+            }
+            show_next(rt, debugger, names)
+        }
+        Command::Where | Command::Goto(_) | Command::Forward(_) | Command::Back(_) => {
+            show_next(rt, debugger, names)
+        }
+        _ => Ok(()),
+    }
+}
+
+// Shows who changed a watched word.
+fn show_stored<R: AllocGlobal + Print>(
+    rt: &R,
+    debugger: &mut Debugger<Global>,
+    address: u32,
+) -> Result<(), DebugEngineFault> {
+    match word_before(rt.alloc(), debugger, address) {
+        Ok(Some(stored)) => match println!(rt; "{stored}") {
+            Ok(()) => Ok(()),
+            Err(_) => Err(DebugEngineFault::Answers),
+        },
+        Ok(None) => Ok(()),
+        Err(_) => Err(DebugEngineFault::Memory),
+    }
+}

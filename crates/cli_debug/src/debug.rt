@@ -1,0 +1,96 @@
+//! Doing `debug`.
+
+use crate::conversation::talk_to_person;
+use byte_io::{ReaderSource, Status, WriterSink};
+use cli_args::read_inputs;
+use cli_orders::DebugOrder;
+use cli_report::{Audience, RunFiles, WIPE, open_both, out_of_memory, refuse, say_why, wipe_line};
+use cmd_debug::{DebugEngineFault, debug_engine};
+use program_open::ProgramForm;
+use progress::Progress;
+use std::io::{self, BufReader, Input};
+use std::rt::Files;
+
+// Tells a person how far the start of a session is.
+#[derive(Drop)]
+struct Line<'a, R> {
+    rt: &'a R,
+    audience: Audience,
+}
+
+impl<'a, R: Eprint> Progress for Line<'a, R> {
+    fn choices_done(&mut self, done: u64, all: u64) {
+        if self.audience == Audience::Program {
+            return;
+        }
+        // Where standard error is closed there is nobody to tell.
+        let _ = eprint!(self.rt; "{WIPE}{done} of {all} choices done");
+        if done == all {
+            wipe_line(self.rt, self.audience);
+        }
+    }
+}
+
+/// Answers the commands of standard input, each as it comes. Both files are opened before either is read. How far a long
+/// start is, is told to a person, and the conversation with one has more than the answers.
+pub fn converse<R: Files + AllocGlobal + Print + Eprint + Input>(
+    rt: &R,
+    audience: Audience,
+    talk: Audience,
+    order: &DebugOrder,
+) -> Status {
+    let inputs = match read_inputs(rt.alloc(), order.inputs) {
+        Ok(inputs) => inputs,
+        Err(fault) => return refuse(rt, &fault),
+    };
+    let (mut program, mut choices) = match open_both(rt, audience, order.file, order.choices) {
+        Ok(files) => files,
+        Err(status) => return status,
+    };
+    let mut line = Line { rt, audience };
+    if talk == Audience::Person {
+        return match talk_to_person(rt, inputs.as_slice(), &mut program, &mut choices, &mut line) {
+            Ok(status) => status,
+            Err(fault) => tell(rt, audience, order, fault, inputs.len()),
+        };
+    }
+    let Ok(reader) = BufReader::new(rt.alloc(), rt.reader()) else {
+        return out_of_memory(rt);
+    };
+    let mut commands = ReaderSource::new(reader);
+    let mut sink = WriterSink::new(io::writer(rt));
+    match debug_engine(
+        rt.alloc(),
+        inputs.as_slice(),
+        &mut program,
+        &mut choices,
+        &mut commands,
+        &mut sink,
+        &mut line,
+    ) {
+        Ok(status) => status,
+        Err(fault) => tell(rt, audience, order, fault, inputs.len()),
+    }
+}
+
+// Says why the conversation wasn't held, or ended early.
+fn tell<R: Files + AllocGlobal + Eprint>(
+    rt: &R,
+    audience: Audience,
+    order: &DebugOrder,
+    fault: DebugEngineFault,
+    harts: usize,
+) -> Status {
+    let DebugEngineFault::Refused(why) = fault else {
+        // Where standard error is closed, the status alone tells.
+        let _ = eprintln!(rt; "rvcons: {fault}");
+        return fault.status();
+    };
+    let files = RunFiles {
+        program: order.file,
+        form: ProgramForm::Elf,
+        choices: order.choices,
+        harts,
+    };
+    say_why(rt, audience, files, why)
+}

@@ -1,0 +1,107 @@
+//! Doing `asm`.
+
+ghost use Rattle.std.specs.Prelude.{◌≡◌, ◌≢◌, ◌-◌, ◌^◌, ◌<◌, All, IfErr, IfOk, length, map};
+
+use crate::program_file::{OpenFault, ProgramFile};
+use crate::sources::{explain_no_text, explain_sources};
+use byte_io::{ReaderSource, Source, Status, WriterSink};
+use cli_orders::AsmOrder;
+use cli_report::{Audience, cannot_open, cannot_read, cannot_write, out_of_memory};
+use cmd_asm::{AssemblyFault, file_engine, listing_engine};
+use std::rt::Files;
+use std::{fs, io};
+
+// Opens the sources, in order.
+fn open_sources<R: Files + AllocGlobal + Print + Eprint>(
+    rt: &R,
+    audience: Audience,
+    paths: &[&str],
+) -> Result<Vec<ReaderSource<R::File>>, Status>
+    ensures unfailed { IfOk result (λ sources. All (λ n. n < 2 ^ 64 - 1)
+        (map ⟦<ReaderSource<R::File> as Source>⟧.failures sources.items)) }
+    ensures count { IfOk result (λ sources. length sources.items ≡ length paths.now) }
+    ensures err { IfErr result (λ status. status ≢ Status.Done) }
+{
+    let mut sources = Vec::new(rt.alloc());
+    'paths: for path in paths {
+        let file = match fs::open(rt, *path) {
+            Ok(file) => file,
+            Err(error) => return Err(cannot_open(rt, audience, path, &error)),
+        };
+        let Ok(()) = sources.push(ReaderSource::new(file)) else {
+            return Err(out_of_memory(rt));
+        };
+    }
+    Ok(sources)
+}
+
+/// Assembles sources, all of which are opened before any is read. An output file is opened once its bytes are made.
+pub fn assemble<R: Files + AllocGlobal + Print + Eprint>(
+    rt: &R,
+    audience: Audience,
+    order: &AsmOrder,
+) -> Status {
+    let mut sources = match open_sources(rt, audience, order.sources.as_slice()) {
+        Ok(sources) => sources,
+        Err(status) => return status,
+    };
+    match order.out {
+        None => {
+            let mut sink = WriterSink::new(io::writer(rt));
+            match listing_engine(rt.alloc(), &mut sources, &mut sink) {
+                Ok(status) => status,
+                Err(fault) => tell(rt, audience, order, fault),
+            }
+        }
+        Some(out) => {
+            let mut file = ProgramFile::new(rt, out);
+            match file_engine(rt.alloc(), &mut sources, &mut file) {
+                Ok(status) => status,
+                Err(AssemblyFault::Write) => tell_unwritten(rt, out, file.open_fault()),
+                Err(fault) => tell(rt, audience, order, fault),
+            }
+        }
+    }
+}
+
+// Says that the output file can't be written, or that memory was refused for opening it.
+fn tell_unwritten<R: Eprint>(rt: &R, path: &str, fault: Option<OpenFault>) -> Status {
+    match fault {
+        Some(OpenFault::Memory) => out_of_memory(rt),
+        Some(OpenFault::Refused) | None => cannot_write(rt, path),
+    }
+}
+
+// The path of the source at a place.
+fn path_at<'a>(order: &AsmOrder<'a>, place: usize) -> &'a str {
+    match order.sources.get(place) {
+        Some(path) => *path,
+        None => "-",
+    }
+}
+
+// Says why sources give nothing.
+fn tell<R: Files + AllocGlobal + Eprint>(
+    rt: &R,
+    audience: Audience,
+    order: &AsmOrder,
+    fault: AssemblyFault,
+) -> Status {
+    match fault {
+        AssemblyFault::Read(place) => cannot_read(rt, path_at(order, place)),
+        AssemblyFault::NotText(place) => {
+            let path = path_at(order, place);
+            let status = cannot_read(rt, path);
+            explain_no_text(rt, audience, path);
+            status
+        }
+        fault => {
+            // Where standard error is closed, the status alone tells.
+            let _ = eprintln!(rt; "rvcons: {fault}");
+            if let AssemblyFault::Wrong(wrong) = fault {
+                explain_sources(rt, audience, order.sources.as_slice(), wrong);
+            }
+            fault.status()
+        }
+    }
+}

@@ -1,0 +1,58 @@
+//! What a person at a terminal is told beside a fault of sources. They are read once more for it. Where that fails, or memory is refused, nothing is added.
+
+use asm_parse::Fault;
+use cli_report::{Audience, read_again, show};
+use hint_asm::{SourceText, asm_advice};
+use std::rt::Files;
+
+// The sources that can be read once more, as texts.
+fn texts_of<R: Files + AllocGlobal>(rt: &R, paths: &[&str]) -> Option<Vec<String>> {
+    let mut texts = Vec::new(rt.alloc());
+    'paths: for path in paths {
+        let bytes = read_again(rt, path)?;
+        let text = String::from_utf8(bytes).ok()?;
+        texts.push(text).ok()?;
+    }
+    Some(texts)
+}
+
+/// Explains a fault of sources.
+pub(crate) fn explain_sources<R: Files + AllocGlobal + Eprint>(
+    rt: &R,
+    audience: Audience,
+    paths: &[&str],
+    fault: Fault,
+) {
+    if audience == Audience::Person {
+        let _ = told_of_sources(rt, paths, fault);
+    }
+}
+
+/// Explains that a source is no text.
+pub(crate) fn explain_no_text(rt: &impl Eprint, audience: Audience, path: &str) {
+    if audience == Audience::Person {
+        let _ = eprintln!(rt;
+            "{path}: this is no text in UTF-8: is it a program? rvcons list shows one"
+        );
+    }
+}
+
+// Tells of a fault of sources, where they can be read once more.
+fn told_of_sources<R: Files + AllocGlobal + Eprint>(
+    rt: &R,
+    paths: &[&str],
+    fault: Fault,
+) -> Option<()> {
+    let texts = texts_of(rt, paths)?;
+    let mut sources = Vec::new(rt.alloc());
+    'paths: for (path, text) in paths.iter().zip(texts.iter()) {
+        let source = SourceText {
+            path: *path,
+            text: text.as_str(),
+        };
+        sources.push(source).ok()?;
+    }
+    let text = asm_advice(rt.alloc(), &sources, fault).ok()?;
+    show(rt, &text);
+    Some(())
+}

@@ -1,0 +1,62 @@
+//! The command `campaign`.
+
+ghost use Rattle.std.specs.Prelude.{◌≡◌, false, None, IfSome};
+ghost use Rattle.clap.specs.Words.{rows_of, found_of};
+ghost use Rattle.cli_args.specs.Arguments.{holds_all};
+ghost use Rattle.cli_orders.specs.CampaignLine.{campaign_names, IsCampaign};
+
+use clap::ArgMatches;
+use cli_args::{is_set, text_of};
+
+/// `campaign FILE --inputs L --first S --count C --steps N [--rule K] [--failures] [--summary] [--outcomes] [--schedule KIND]
+/// [--refusals never|one-in:N] [--must-exit]`: runs a program under a random schedule for each of C seeds from S on, and prints a line for each,
+/// with a rule also its verdict; or the lines of bad seeds alone, or how many seeds end in which way.
+#[derive(Drop)]
+pub struct CampaignOrder<'a> {
+    /// The program's path.
+    pub file: &'a str,
+    /// The harts' inputs.
+    pub inputs: &'a str,
+    /// The first seed.
+    pub first: &'a str,
+    /// How many seeds.
+    pub count: &'a str,
+    /// How many steps for each seed.
+    pub steps: &'a str,
+    /// The name of the object whose rule is judged.
+    pub rule: Option<&'a str>,
+    /// Whether the lines of bad seeds alone are printed.
+    pub failures: bool,
+    /// Whether it is printed how many seeds end in which way.
+    pub summary: bool,
+    /// Whether ways of ending differ by the harts' results too.
+    pub outcomes: bool,
+    /// How the choices of a seed are drawn.
+    pub draw: Option<&'a str>,
+    /// How often they refuse a store-conditional.
+    pub refusals: Option<&'a str>,
+    /// Whether a run that leaves a hart running has failed.
+    pub must_exit: bool,
+}
+
+/// The order that clap's matches hold.
+pub(crate) fn campaign_order<'a>(matches: &ArgMatches<'a>) -> Option<CampaignOrder<'a>>
+    ensures some { IfSome result (λ order. IsCampaign (rows_of (found_of matches.now)) order) }
+    ensures none { result ≡ None
+        → holds_all campaign_names (rows_of (found_of matches.now)) ≡ false }
+{
+    Some(CampaignOrder {
+        file: text_of(matches, "FILE")?,
+        inputs: text_of(matches, "inputs")?,
+        first: text_of(matches, "first")?,
+        count: text_of(matches, "count")?,
+        steps: text_of(matches, "steps")?,
+        rule: text_of(matches, "rule"),
+        failures: is_set(matches, "failures"),
+        summary: is_set(matches, "summary"),
+        outcomes: is_set(matches, "outcomes"),
+        draw: text_of(matches, "schedule"),
+        refusals: text_of(matches, "refusals"),
+        must_exit: is_set(matches, "must-exit"),
+    })
+}

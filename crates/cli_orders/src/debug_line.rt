@@ -1,0 +1,32 @@
+//! The command `debug`.
+
+ghost use Rattle.std.specs.Prelude.{◌≡◌, false, None, IfSome};
+ghost use Rattle.clap.specs.Words.{rows_of, found_of};
+ghost use Rattle.cli_args.specs.Arguments.{holds_all};
+ghost use Rattle.cli_orders.specs.DebugLine.{debug_names, IsDebug};
+
+use clap::ArgMatches;
+use cli_args::text_of;
+
+/// `debug FILE --inputs L --choices C`: obeys commands of standard input, which go forward and back in a run.
+#[derive(Drop)]
+pub struct DebugOrder<'a> {
+    /// The program's path.
+    pub file: &'a str,
+    /// The harts' inputs.
+    pub inputs: &'a str,
+    /// The choice text's path.
+    pub choices: &'a str,
+}
+
+/// The order that clap's matches hold.
+pub(crate) fn debug_order<'a>(matches: &ArgMatches<'a>) -> Option<DebugOrder<'a>>
+    ensures some { IfSome result (λ order. IsDebug (rows_of (found_of matches.now)) order) }
+    ensures none { result ≡ None → holds_all debug_names (rows_of (found_of matches.now)) ≡ false }
+{
+    Some(DebugOrder {
+        file: text_of(matches, "FILE")?,
+        inputs: text_of(matches, "inputs")?,
+        choices: text_of(matches, "choices")?,
+    })
+}

@@ -1,0 +1,111 @@
+//! The command line as an order.
+
+ghost use Rattle.std.specs.Prelude.{◌≡◌, Some, None, map, IfOk, IfErr, IfSome};
+ghost use Rattle.clap.specs.Words.{subcommand_of, subcommand_rows_of, rows_of, found_of, takes};
+ghost use Rattle.cli_args.specs.Line.{program_app, IfNoCommand, IsTold};
+ghost use Rattle.cli_orders.specs.Line.{HasNoOrder, IsNoPlain, IsOrder};
+
+use crate::asm_line::{AsmOrder, asm_order};
+use crate::campaign_line::{CampaignOrder, campaign_order};
+use crate::debug_line::{DebugOrder, debug_order};
+use crate::file_line::{FileOrder, file_order};
+use crate::lib_line::{LibOrder, lib_order};
+use crate::replay_line::{ReplayOrder, replay_order};
+use crate::schedule_line::{ScheduleOrder, schedule_order};
+use crate::shrink_line::{ShrinkOrder, shrink_order};
+use crate::threads_line::{ThreadsOrder, threads_order};
+use crate::trace_line::{TraceOrder, trace_order};
+use clap::ArgMatches;
+use cli_args::{LineFault, RunOrder, match_line, run_order};
+use std::alloc::{AllocError, Global};
+
+/// A command with the texts of its arguments.
+#[derive(Drop)]
+pub enum Order<'a> {
+    /// `asm`
+    Asm(AsmOrder<'a>),
+    /// `list`
+    List(FileOrder<'a>),
+    /// `info`
+    Info(FileOrder<'a>),
+    /// `run`
+    Run(RunOrder<'a>),
+    /// `debug`
+    Debug(DebugOrder<'a>),
+    /// `threads`
+    Threads(ThreadsOrder<'a>),
+    /// `replay`
+    Replay(ReplayOrder<'a>),
+    /// `lib`
+    Lib(LibOrder<'a>),
+    /// `campaign`
+    Campaign(CampaignOrder<'a>),
+    /// `schedule`
+    Schedule(ScheduleOrder<'a>),
+    /// `shrink`
+    Shrink(ShrinkOrder<'a>),
+    /// `trace`
+    Trace(TraceOrder<'a>),
+}
+
+// The order of a command of plain texts, by its name and its matches.
+fn plain_order<'a>(name: &str, found: &ArgMatches<'a>) -> Option<Order<'a>>
+    ensures some { IfSome result (λ order.
+        IsOrder (Some (name.now, rows_of (found_of found.now))) order) }
+    ensures none { result ≡ None → IsNoPlain name.now (rows_of (found_of found.now)) }
+{
+    match name {
+        "list" => Some(Order::List(file_order(found)?)),
+        "info" => Some(Order::Info(file_order(found)?)),
+        "run" => Some(Order::Run(run_order(found)?)),
+        "debug" => Some(Order::Debug(debug_order(found)?)),
+        "threads" => Some(Order::Threads(threads_order(found)?)),
+        "replay" => Some(Order::Replay(replay_order(found)?)),
+        "lib" => Some(Order::Lib(lib_order(found)?)),
+        "campaign" => Some(Order::Campaign(campaign_order(found)?)),
+        "schedule" => Some(Order::Schedule(schedule_order(found)?)),
+        "shrink" => Some(Order::Shrink(shrink_order(found)?)),
+        "trace" => Some(Order::Trace(trace_order(found)?)),
+        _ => None,
+    }
+}
+
+// The order that clap's matches hold.
+fn order_of<'a>(alloc: Global, matches: &ArgMatches<'a>) -> Result<Option<Order<'a>>, AllocError>
+    ensures some { IfOk result (λ found.
+        IfSome found (λ order. IsOrder (subcommand_rows_of matches.now) order)) }
+    ensures none { IfOk result (λ found.
+        found ≡ None → HasNoOrder (subcommand_rows_of matches.now)) }
+{
+    let Some((name, found)) = matches.subcommand() else {
+        return Ok(None);
+    };
+    if name == "asm" {
+        return match asm_order(alloc, found)? {
+            Some(order) => Ok(Some(Order::Asm(order))),
+            None => Ok(None),
+        };
+    }
+    Ok(plain_order(name, found))
+}
+
+/// The order that the words give, of which the first is the program's name. Each text of it is the one that clap holds
+/// for these words, and clap refuses no line that it takes. Help lists the library's objects by `objects`, their names.
+pub fn read_line<'a>(
+    alloc: Global,
+    words: &'a [&'a str],
+    objects: &'a str,
+) -> Result<Order<'a>, LineFault>
+    ensures order { IfOk result (λ order.
+        IsOrder (subcommand_of program_app (map (λ s. s.now) words.entry.now)) order) }
+    ensures no_command { IfErr result (IfNoCommand
+        (HasNoOrder (subcommand_of program_app (map (λ s. s.now) words.entry.now)))) }
+    ensures told { IfErr result (IsTold (takes program_app (map (λ s. s.now) words.entry.now))) }
+{
+    let matches = match_line(alloc, words, objects)?;
+    match order_of(alloc, &matches) {
+        Ok(Some(order)) => Ok(order),
+        Ok(None) => Err(LineFault::NoCommand),
+        Err(AllocError) => Err(LineFault::Memory),
+    }
+}

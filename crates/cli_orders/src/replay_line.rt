@@ -1,0 +1,36 @@
+//! The command `replay`.
+
+ghost use Rattle.std.specs.Prelude.{◌≡◌, false, None, IfSome};
+ghost use Rattle.clap.specs.Words.{rows_of, found_of};
+ghost use Rattle.cli_args.specs.Arguments.{holds_all};
+ghost use Rattle.cli_orders.specs.ReplayLine.{replay_names, IsReplay};
+
+use clap::ArgMatches;
+use cli_args::text_of;
+
+/// `replay FILE --inputs L --history H [--rule K]`: runs a program under a history, and prints what the run that left it printed.
+#[derive(Drop)]
+pub struct ReplayOrder<'a> {
+    /// The program's path.
+    pub file: &'a str,
+    /// The harts' inputs.
+    pub inputs: &'a str,
+    /// The history text's path.
+    pub history: &'a str,
+    /// The name of the object whose rule is judged.
+    pub rule: Option<&'a str>,
+}
+
+/// The order that clap's matches hold.
+pub(crate) fn replay_order<'a>(matches: &ArgMatches<'a>) -> Option<ReplayOrder<'a>>
+    ensures some { IfSome result (λ order. IsReplay (rows_of (found_of matches.now)) order) }
+    ensures none { result ≡ None
+        → holds_all replay_names (rows_of (found_of matches.now)) ≡ false }
+{
+    Some(ReplayOrder {
+        file: text_of(matches, "FILE")?,
+        inputs: text_of(matches, "inputs")?,
+        history: text_of(matches, "history")?,
+        rule: text_of(matches, "rule"),
+    })
+}

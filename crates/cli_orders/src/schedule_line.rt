@@ -1,0 +1,52 @@
+//! The command `schedule`.
+
+ghost use Rattle.std.specs.Prelude.{◌≡◌, false, None, IfSome};
+ghost use Rattle.clap.specs.Words.{rows_of, found_of};
+ghost use Rattle.cli_args.specs.Arguments.{holds_all};
+ghost use Rattle.cli_orders.specs.ScheduleLine.{schedule_names, IsSchedule};
+
+use clap::ArgMatches;
+use cli_args::{is_set, text_of};
+
+/// `schedule --harts N --steps M [--seed S] [--turns] [--only H] [--schedule KIND] [--refusals never|one-in:N] [--inputs L] [FILE]`: prints
+/// the choice text of a seed, of turns, or of one hart alone.
+#[derive(Drop)]
+pub struct ScheduleOrder<'a> {
+    /// How many harts there are.
+    pub harts: &'a str,
+    /// How many choices are printed.
+    pub steps: &'a str,
+    /// The seed that the choices are drawn from.
+    pub seed: Option<&'a str>,
+    /// Whether the harts take turns.
+    pub turns: bool,
+    /// The hart that takes all steps.
+    pub only: Option<&'a str>,
+    /// How the choices of the seed are drawn.
+    pub draw: Option<&'a str>,
+    /// How often they refuse a store-conditional.
+    pub refusals: Option<&'a str>,
+    /// The harts' inputs, where the choices are those of a run.
+    pub inputs: Option<&'a str>,
+    /// The path of that run's program.
+    pub file: Option<&'a str>,
+}
+
+/// The order that clap's matches hold.
+pub(crate) fn schedule_order<'a>(matches: &ArgMatches<'a>) -> Option<ScheduleOrder<'a>>
+    ensures some { IfSome result (λ order. IsSchedule (rows_of (found_of matches.now)) order) }
+    ensures none { result ≡ None
+        → holds_all schedule_names (rows_of (found_of matches.now)) ≡ false }
+{
+    Some(ScheduleOrder {
+        harts: text_of(matches, "harts")?,
+        steps: text_of(matches, "steps")?,
+        seed: text_of(matches, "seed"),
+        turns: is_set(matches, "turns"),
+        only: text_of(matches, "only"),
+        draw: text_of(matches, "schedule"),
+        refusals: text_of(matches, "refusals"),
+        inputs: text_of(matches, "inputs"),
+        file: text_of(matches, "FILE"),
+    })
+}

@@ -1,0 +1,40 @@
+//! The command `shrink`.
+
+ghost use Rattle.std.specs.Prelude.{◌≡◌, false, None, IfSome};
+ghost use Rattle.clap.specs.Words.{rows_of, found_of};
+ghost use Rattle.cli_args.specs.Arguments.{holds_all};
+ghost use Rattle.cli_orders.specs.ShrinkLine.{shrink_names, IsShrink};
+
+use clap::ArgMatches;
+use cli_args::{is_set, text_of};
+
+/// `shrink FILE --inputs L --choices C [--rule K] [--must-exit]`: prints a minimal choice text under which a program fails as it does
+/// under the given one.
+#[derive(Drop)]
+pub struct ShrinkOrder<'a> {
+    /// The program's path.
+    pub file: &'a str,
+    /// The harts' inputs.
+    pub inputs: &'a str,
+    /// The choice text's path.
+    pub choices: &'a str,
+    /// The name of the object whose rule is judged.
+    pub rule: Option<&'a str>,
+    /// Whether a run that hangs has failed.
+    pub must_exit: bool,
+}
+
+/// The order that clap's matches hold.
+pub(crate) fn shrink_order<'a>(matches: &ArgMatches<'a>) -> Option<ShrinkOrder<'a>>
+    ensures some { IfSome result (λ order. IsShrink (rows_of (found_of matches.now)) order) }
+    ensures none { result ≡ None
+        → holds_all shrink_names (rows_of (found_of matches.now)) ≡ false }
+{
+    Some(ShrinkOrder {
+        file: text_of(matches, "FILE")?,
+        inputs: text_of(matches, "inputs")?,
+        choices: text_of(matches, "choices")?,
+        rule: text_of(matches, "rule"),
+        must_exit: is_set(matches, "must-exit"),
+    })
+}

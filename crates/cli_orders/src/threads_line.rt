@@ -1,0 +1,67 @@
+//! The command `threads`.
+
+ghost use Rattle.std.specs.Prelude.{◌≡◌, false, None, IfSome, codes};
+ghost use Rattle.clap.specs.Walk.{one_of};
+ghost use Rattle.clap.specs.Words.{rows_of, found_of};
+ghost use Rattle.cli_args.specs.Arguments.{holds_all, IsSet};
+ghost use Rattle.cli_orders.specs.ThreadsLine.{are_banks, threads_names, IsThreads};
+
+use clap::ArgMatches;
+use cli_args::{is_set, text_of};
+
+/// What harts lock for a step on what they share.
+#[derive(Clone, Copy, PartialEq, Eq)]
+pub enum Locks {
+    /// One lock for all memory.
+    One,
+    /// A lock for each bank of memory.
+    Banks,
+}
+
+/// `threads FILE --inputs L --budget N [--refuse P] [--history OUT] [--rule K] [--banked]`: runs each hart in a thread of its own,
+/// writes the history of what they did, and prints each hart's end and, with a rule, its verdict.
+#[derive(Drop)]
+pub struct ThreadsOrder<'a> {
+    /// The program's path.
+    pub file: &'a str,
+    /// The harts' inputs.
+    pub inputs: &'a str,
+    /// How often each hart is chosen at most.
+    pub budget: &'a str,
+    /// The pairs of harts and their choices whose store-conditionals are refused.
+    pub refuse: Option<&'a str>,
+    /// The path of the history that is written.
+    pub history: Option<&'a str>,
+    /// The name of the object whose rule is judged.
+    pub rule: Option<&'a str>,
+    /// What harts lock.
+    pub locks: Locks,
+}
+
+// What harts lock, by clap's matches.
+fn locks_of<'a>(matches: &ArgMatches<'a>) -> Locks
+    ensures { IsSet (one_of (codes "banked") (rows_of (found_of matches.now))) (are_banks result) }
+{
+    if is_set(matches, "banked") {
+        Locks::Banks
+    } else {
+        Locks::One
+    }
+}
+
+/// The order that clap's matches hold.
+pub(crate) fn threads_order<'a>(matches: &ArgMatches<'a>) -> Option<ThreadsOrder<'a>>
+    ensures some { IfSome result (λ order. IsThreads (rows_of (found_of matches.now)) order) }
+    ensures none { result ≡ None
+        → holds_all threads_names (rows_of (found_of matches.now)) ≡ false }
+{
+    Some(ThreadsOrder {
+        file: text_of(matches, "FILE")?,
+        inputs: text_of(matches, "inputs")?,
+        budget: text_of(matches, "budget")?,
+        refuse: text_of(matches, "refuse"),
+        history: text_of(matches, "history"),
+        rule: text_of(matches, "rule"),
+        locks: locks_of(matches),
+    })
+}

@@ -1,0 +1,44 @@
+//! The command `trace`.
+
+ghost use Rattle.std.specs.Prelude.{◌≡◌, false, None, IfSome};
+ghost use Rattle.clap.specs.Words.{rows_of, found_of};
+ghost use Rattle.cli_args.specs.Arguments.{holds_all};
+ghost use Rattle.cli_orders.specs.TraceLine.{trace_names, IsTrace};
+
+use clap::ArgMatches;
+use cli_args::{is_set, text_of};
+
+/// `trace [--hex] FILE --inputs L --choices C [--from A] [--to B] [--table]`: prints what each choice of a run did.
+#[derive(Drop)]
+pub struct TraceOrder<'a> {
+    /// Whether the file has words in hexadecimal.
+    pub hex: bool,
+    /// The program's path.
+    pub file: &'a str,
+    /// The harts' inputs.
+    pub inputs: &'a str,
+    /// The choice text's path.
+    pub choices: &'a str,
+    /// The place of the first choice that is told, counted from 1.
+    pub from: Option<&'a str>,
+    /// The place of the last choice that is told.
+    pub to: Option<&'a str>,
+    /// Whether a table is printed, and not lines of JSON.
+    pub table: bool,
+}
+
+/// The order that clap's matches hold.
+pub(crate) fn trace_order<'a>(matches: &ArgMatches<'a>) -> Option<TraceOrder<'a>>
+    ensures some { IfSome result (λ order. IsTrace (rows_of (found_of matches.now)) order) }
+    ensures none { result ≡ None → holds_all trace_names (rows_of (found_of matches.now)) ≡ false }
+{
+    Some(TraceOrder {
+        hex: is_set(matches, "hex"),
+        file: text_of(matches, "FILE")?,
+        inputs: text_of(matches, "inputs")?,
+        choices: text_of(matches, "choices")?,
+        from: text_of(matches, "from"),
+        to: text_of(matches, "to"),
+        table: is_set(matches, "table"),
+    })
+}

@@ -1,0 +1,57 @@
+//! The files of a run: how they are opened, and why a command that reads them gives no answer.
+
+ghost use Rattle.std.specs.Prelude.{◌≡◌, ◌≢◌, IfErr, IfOk};
+ghost use Rattle.program_open.specs.CommandFaults.{status_of_fault};
+
+use crate::audience::Audience;
+use crate::explain::{RunFiles, explain_run};
+use crate::report::{cannot_open, cannot_read, say};
+use byte_io::{ReaderSource, Source, Status};
+use program_open::{CommandFault, Input};
+use std::fs;
+use std::rt::Files;
+
+/// Opens a program and the text beside it, or says which can't be opened. Neither is read before
+/// both are open.
+pub fn open_both<R: Files + AllocGlobal + Eprint>(
+    rt: &R,
+    audience: Audience,
+    program: &str,
+    text: &str,
+) -> Result<(ReaderSource<R::File>, ReaderSource<R::File>), Status>
+    ensures program { IfOk result (λ files.
+        ⟦<ReaderSource<R::File> as Source>⟧.failures files.0 ≡ 0) }
+    ensures text { IfOk result (λ files.
+        ⟦<ReaderSource<R::File> as Source>⟧.failures files.1 ≡ 0) }
+    ensures err { IfErr result (λ status. status ≢ Status.Done) }
+{
+    let first = match fs::open(rt, program) {
+        Ok(file) => file,
+        Err(error) => return Err(cannot_open(rt, audience, program, &error)),
+    };
+    let second = match fs::open(rt, text) {
+        Ok(file) => file,
+        Err(error) => return Err(cannot_open(rt, audience, text, &error)),
+    };
+    Ok((ReaderSource::new(first), ReaderSource::new(second)))
+}
+
+/// Says why a command gives no answer, and explains it to a person.
+pub fn say_why<R: Files + AllocGlobal + Eprint>(
+    rt: &R,
+    audience: Audience,
+    files: RunFiles<'_>,
+    fault: CommandFault,
+) -> Status
+    ensures { result ≡ status_of_fault fault }
+{
+    match fault {
+        CommandFault::Read(Input::File) => cannot_read(rt, files.program),
+        CommandFault::Read(Input::Choices | Input::History) => cannot_read(rt, files.choices),
+        fault => {
+            let status = say(rt, fault);
+            explain_run(rt, audience, files, fault);
+            status
+        }
+    }
+}

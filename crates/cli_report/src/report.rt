@@ -1,0 +1,107 @@
+//! What the program says on standard error.
+
+ghost use Rattle.std.specs.Prelude.{◌≡◌, ◌≢◌};
+ghost use Rattle.program_open.specs.CommandFaults.{status_of_fault};
+
+use crate::audience::Audience;
+use crate::explain::explain_path;
+use byte_io::Status;
+use cli_args::LineFault;
+use object_library::KIND_NAMES;
+use program_open::CommandFault;
+use std::io;
+
+/// Memory was refused.
+pub fn out_of_memory(rt: &impl Eprint) -> Status
+    ensures { result ≡ Status.NoMemory }
+{
+    say(rt, CommandFault::Memory)
+}
+
+/// Says why a command gives no answer.
+pub fn say(rt: &impl Eprint, fault: CommandFault) -> Status
+    ensures { result ≡ status_of_fault fault }
+{
+    // Where standard error is closed, the status alone tells.
+    let _ = eprintln!(rt; "rvcons: {fault}");
+    fault.status()
+}
+
+/// A file can't be opened or read.
+pub fn cannot_read(rt: &impl Eprint, path: &str) -> Status
+    ensures { result ≡ Status.Refused }
+{
+    let _ = eprintln!(rt; "rvcons: cannot read {path}");
+    Status::Refused
+}
+
+/// A file can't be written.
+pub fn cannot_write(rt: &impl Eprint, path: &str) -> Status
+    ensures { result ≡ Status.Refused }
+{
+    let _ = eprintln!(rt; "rvcons: cannot write {path}");
+    Status::Refused
+}
+
+/// A file can't be opened, for want of memory or for another reason, which a person is told.
+pub fn cannot_open(rt: &impl Eprint, audience: Audience, path: &str, error: &io::Error) -> Status
+    ensures { result ≢ Status.Done }
+{
+    if error.kind() == io::ErrorKind::OutOfMemory {
+        return out_of_memory(rt);
+    }
+    let status = cannot_read(rt, path);
+    explain_path(rt, audience, path, error);
+    status
+}
+
+/// Says why a command line gives no order, or prints the help or the version that it asks for.
+pub fn refuse(rt: &(impl Print + Eprint), fault: &LineFault) -> Status {
+    match fault {
+        LineFault::Told(error) => {
+            let printed = error.print(rt);
+            if error.use_stderr() {
+                Status::BadLine
+            } else if printed.is_err() {
+                say(rt, CommandFault::Write)
+            } else {
+                Status::Done
+            }
+        }
+        LineFault::NoCommand => bad_line(
+            rt,
+            "no command is given; write one, as rvcons run, or see --help",
+        ),
+        LineFault::BadInputs => bad_line(
+            rt,
+            "--inputs takes a decimal number below 2^32 for each hart, with commas between, as 7,9",
+        ),
+        LineFault::BadPlan => bad_line(
+            rt,
+            "--refuse takes pairs of a hart and the number of its step, two decimal numbers below 2^32 each, as 0:7,1:3",
+        ),
+        LineFault::BadNumber => bad_line(
+            rt,
+            "a number is not written in decimal digits, or is too large",
+        ),
+        LineFault::BadObject => bad_object(rt),
+        LineFault::Memory => out_of_memory(rt),
+    }
+}
+
+/// The command line is wrong.
+pub fn bad_line(rt: &impl Eprint, why: &str) -> Status
+    ensures { result ≡ Status.BadLine }
+{
+    let _ = eprintln!(rt; "rvcons: {why}");
+    Status::BadLine
+}
+
+/// An object that the command line names is none of the library's.
+fn bad_object(rt: &impl Eprint) -> Status
+    ensures { result ≡ Status.BadLine }
+{
+    let names = KIND_NAMES;
+    let _ = eprintln!(rt; "rvcons: there is no such object; write {names}");
+    Status::BadLine
+}

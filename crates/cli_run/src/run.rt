@@ -1,0 +1,89 @@
+//! Doing `run`.
+
+use byte_io::{Status, WriterSink};
+use cli_args::{RunOrder, read_inputs};
+use cli_objects::read_rule;
+use cli_report::{Audience, RunFiles, open_both, read_again, refuse, say_why, show};
+use cmd_run::{Exit, Expect, run_engine};
+use hint_fault::run_advice;
+use program_open::{ProgramForm, deliver};
+use std::io;
+use std::rt::Files;
+
+/// Runs a program under a schedule. Both files are opened before either is read.
+pub fn run_schedule<R: Files + AllocGlobal + Print + Eprint>(
+    rt: &R,
+    audience: Audience,
+    order: &RunOrder,
+) -> Status {
+    let inputs = match read_inputs(rt.alloc(), order.inputs) {
+        Ok(inputs) => inputs,
+        Err(fault) => return refuse(rt, &fault),
+    };
+    let rule = match read_rule(order.rule) {
+        Ok(rule) => rule,
+        Err(fault) => return refuse(rt, &fault),
+    };
+    let (mut program, mut choices) = match open_both(rt, audience, order.file, order.choices) {
+        Ok(files) => files,
+        Err(status) => return status,
+    };
+    let expect = Expect {
+        rule,
+        exit: exit_of(order),
+    };
+    let answer = run_engine(
+        rt.alloc(),
+        form_of(order),
+        inputs.as_slice(),
+        expect,
+        &mut program,
+        &mut choices,
+    );
+    let files = RunFiles {
+        program: order.file,
+        form: form_of(order),
+        choices: order.choices,
+        harts: inputs.len(),
+    };
+    match deliver(&mut WriterSink::new(io::writer(rt)), answer) {
+        Ok(status) => {
+            if status == Status::Faulted && audience == Audience::Person {
+                let _ = explain_faults(rt, order, inputs.as_slice());
+            }
+            status
+        }
+        Err(fault) => say_why(rt, audience, files, fault),
+    }
+}
+
+// The form of the program.
+fn form_of(order: &RunOrder) -> ProgramForm {
+    if order.hex {
+        ProgramForm::Hex
+    } else {
+        ProgramForm::Elf
+    }
+}
+
+// Whether a hart may still run at the end.
+fn exit_of(order: &RunOrder) -> Exit {
+    if order.must_exit {
+        Exit::Must
+    } else {
+        Exit::May
+    }
+}
+
+// Tells what the faults mean with which the run ended, where its files can be read once more.
+fn explain_faults<R: Files + AllocGlobal + Eprint>(
+    rt: &R,
+    order: &RunOrder,
+    inputs: &[u32],
+) -> Option<()> {
+    let program = read_again(rt, order.file)?;
+    let choices = read_again(rt, order.choices)?;
+    let text = run_advice(rt.alloc(), form_of(order), &program, inputs, &choices)?;
+    show(rt, &text);
+    Some(())
+}

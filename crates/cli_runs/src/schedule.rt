@@ -1,0 +1,211 @@
+//! Doing `schedule`.
+
+ghost use Rattle.std.specs.Prelude.{◌≡◌};
+
+use byte_io::{ReaderSource, Status, WriterSink};
+use cli_args::{read_inputs, read_word};
+use cli_orders::ScheduleOrder;
+use cli_report::{Audience, RunFiles, bad_line, cannot_open, refuse, say, say_why};
+use cli_values::{
+    DRAWS, OrderFault, REFUSALS, read_draw, read_order, read_refusals, read_schedule,
+    read_seed_plan,
+};
+use cmd_schedule::{Plan, PlanFault, schedule_engine, seed_engine};
+use program_open::{ProgramForm, deliver};
+use sched_draw::{Draw, Order};
+use std::rt::Files;
+use std::{fs, io};
+
+const NUMBERS: &str =
+    "--harts and --steps take decimal numbers, and one of --seed S, --turns and --only H says how the choices are made, \
+                       as --harts 2 --steps 40 --seed 5";
+
+const OF_A_RUN: &str =
+    "--schedule priorities:DEPTH takes --seed, and --inputs and a program, whose run the choices are of, \
+                        as --seed 5 --schedule priorities:3 --inputs 7,9 swap.elf";
+
+const MEAN: &str =
+    "--schedule bursts:MEAN takes a decimal number from 1 to 2147483648, as bursts:100";
+
+// What is said of a line that says how a seed draws, and names no seed.
+fn why_no_seed(order: &ScheduleOrder) -> Option<&'static str> {
+    match (order.seed, order.draw, order.refusals) {
+        (None, Some(_), _) => Some(
+            "--schedule says how the choices of a seed are drawn, as --seed 5 --schedule bursts:100",
+        ),
+        (None, None, Some(_)) => Some(
+            "--refusals says how often the choices of a seed refuse a store-conditional, as --seed 5 --refusals one-in:4",
+        ),
+        _ => None,
+    }
+}
+
+// How a seed draws, where the order of the harts is to be looked at last: even where it is none.
+fn read_most_of_draw<R: Eprint>(rt: &R, order: &ScheduleOrder) -> Result<Draw, Status> {
+    let said = read_order(order.draw);
+    if matches!(said, Err(OrderFault::Unknown | OrderFault::BadDepth)) {
+        return Err(bad_line(rt, DRAWS));
+    }
+    let Some(refusals) = read_refusals(order.refusals) else {
+        return Err(bad_line(rt, REFUSALS));
+    };
+    Ok(Draw {
+        order: said.unwrap_or(Order::Even),
+        refusals,
+    })
+}
+
+// The plan of a schedule that is the same in each run, or the status of a line that asks for none.
+fn read_plan<R: Eprint>(rt: &R, order: &ScheduleOrder) -> Result<Plan, Status> {
+    let draw = read_most_of_draw(rt, order)?;
+    if let Some(why) = why_no_seed(order) {
+        return Err(bad_line(rt, why));
+    }
+    let is_drawn = order.draw.is_some() || order.refusals.is_some();
+    let schedule = read_schedule(order.seed, order.turns, order.only, is_drawn, draw);
+    let (Some(schedule), Some(harts), Some(steps)) = (
+        schedule,
+        read_word(order.harts),
+        read_word(order.steps),
+    ) else {
+        return Err(bad_line(rt, NUMBERS));
+    };
+    if schedule.follows_run() {
+        return Err(bad_line(rt, OF_A_RUN));
+    }
+    let plan = match Plan::new(harts, steps, schedule) {
+        Ok(plan) => plan,
+        Err(fault) => return Err(tell_plan(rt, fault)),
+    };
+    if read_order(order.draw).is_err() {
+        return Err(bad_line(rt, MEAN));
+    }
+    Ok(plan)
+}
+
+// Says why there is no plan.
+fn tell_plan(rt: &impl Eprint, fault: PlanFault) -> Status
+    ensures { result ≡ Status.BadLine }
+{
+    // Where standard error is closed, the status alone tells.
+    let _ = eprintln!(rt; "rvcons: {fault}");
+    Status::BadLine
+}
+
+// A run that choices are of.
+#[derive(Clone, Copy, Drop)]
+struct RunOrder<'a> {
+    draw: Draw,
+    seed: &'a str,
+    inputs: &'a str,
+    file: &'a str,
+}
+
+// Whether choices that are drawn so are those of a run.
+fn is_of_a_run(draw: Option<&str>) -> bool {
+    matches!(
+        read_order(draw),
+        Ok(Order::Priorities(_)) | Err(OrderFault::BadDepth)
+    )
+}
+
+// The run that the choices of an order are of: there is one just by priorities, of a seed alone, with
+// inputs and a program.
+fn run_of<'a, R: Eprint>(
+    rt: &R,
+    order: &ScheduleOrder<'a>,
+) -> Result<Option<RunOrder<'a>>, Status> {
+    if !is_of_a_run(order.draw) {
+        return match (order.inputs, order.file) {
+            (None, None) => Ok(None),
+            _ => Err(bad_line(
+                rt,
+                "--inputs and a program go with --schedule priorities:DEPTH",
+            )),
+        };
+    }
+    let draw = match read_draw(order.draw, order.refusals) {
+        Ok(draw) => draw,
+        Err(fault) => return Err(bad_line(rt, fault.text())),
+    };
+    match (
+        order.seed,
+        order.turns,
+        order.only,
+        order.inputs,
+        order.file,
+    ) {
+        (Some(seed), false, None, Some(inputs), Some(file)) => Ok(Some(RunOrder {
+            draw,
+            seed,
+            inputs,
+            file,
+        })),
+        _ => Err(bad_line(rt, OF_A_RUN)),
+    }
+}
+
+/// Prints the choice text of a schedule.
+pub fn print_schedule<R: Files + AllocGlobal + Print + Eprint>(
+    rt: &R,
+    audience: Audience,
+    order: &ScheduleOrder,
+) -> Status {
+    match run_of(rt, order) {
+        Ok(Some(run)) => print_run_choices(rt, audience, order, run),
+        Ok(None) => print_plan(rt, order),
+        Err(status) => status,
+    }
+}
+
+// Prints the choice text of a schedule that is the same in each run.
+fn print_plan<R: AllocGlobal + Print + Eprint>(rt: &R, order: &ScheduleOrder) -> Status {
+    let plan = match read_plan(rt, order) {
+        Ok(plan) => plan,
+        Err(status) => return status,
+    };
+    let mut sink = WriterSink::new(io::writer(rt));
+    match deliver(&mut sink, schedule_engine(rt.alloc(), plan)) {
+        Ok(status) => status,
+        Err(fault) => say(rt, fault),
+    }
+}
+
+// Prints the choice text of a seed's choices in a run.
+fn print_run_choices<R: Files + AllocGlobal + Print + Eprint>(
+    rt: &R,
+    audience: Audience,
+    order: &ScheduleOrder,
+    run: RunOrder,
+) -> Status {
+    let inputs = match read_inputs(rt.alloc(), run.inputs) {
+        Ok(inputs) => inputs,
+        Err(fault) => return refuse(rt, &fault),
+    };
+    let Some(harts) = read_word(order.harts) else {
+        return bad_line(rt, NUMBERS);
+    };
+    if harts as usize != inputs.len() {
+        return bad_line(rt, "--inputs has an input for each of --harts");
+    }
+    let Some(plan) = read_seed_plan(run.draw, order.steps, run.seed) else {
+        return bad_line(rt, NUMBERS);
+    };
+    let program = match fs::open(rt, run.file) {
+        Ok(program) => program,
+        Err(error) => return cannot_open(rt, audience, run.file, &error),
+    };
+    let mut program = ReaderSource::new(program);
+    let mut sink = WriterSink::new(io::writer(rt));
+    let answer = seed_engine(rt.alloc(), inputs.as_slice(), plan, &mut program);
+    let files = RunFiles {
+        program: run.file,
+        form: ProgramForm::Elf,
+        choices: "",
+        harts: inputs.len(),
+    };
+    match deliver(&mut sink, answer) {
+        Ok(status) => status,
+        Err(fault) => say_why(rt, audience, files, fault),
+    }
+}

@@ -1,0 +1,104 @@
+//! Doing `shrink`.
+
+use byte_io::{Status, WriterSink};
+use cli_args::read_inputs;
+use cli_objects::read_rule;
+use cli_orders::ShrinkOrder;
+use cli_report::{Audience, RunFiles, WIPE, open_both, refuse, say_why, show};
+use cmd_shrink::shrink_engine;
+use outcome::{Exit, Expect};
+use program_open::{CommandFault, ProgramForm, deliver};
+use shrink_list::ChoicesLeft;
+use std::io;
+use std::rt::Files;
+
+// Tells a person how many choices are left.
+#[derive(Drop)]
+struct Line<'a, R> {
+    rt: &'a R,
+    audience: Audience,
+}
+
+impl<'a, R: Eprint> ChoicesLeft for Line<'a, R> {
+    fn choices_left(&mut self, left: usize) {
+        if self.audience == Audience::Person {
+            // Where standard error is closed there is nobody to tell.
+            let _ = eprint!(self.rt; "{WIPE}{left} choices left");
+        }
+    }
+
+    fn choices_needed(&mut self, needed: usize) {
+        if self.audience == Audience::Person {
+            // The choice text stands on a line of its own.
+            let _ = eprintln!(self.rt; "{WIPE}{needed} choices needed");
+        }
+    }
+}
+
+/// Prints a minimal choice text under which a program fails as it does under the given one. Both files are opened before either is
+/// read. How many choices are left is told to a person.
+pub fn shrink_schedule<R: Files + AllocGlobal + Print + Eprint>(
+    rt: &R,
+    audience: Audience,
+    order: &ShrinkOrder,
+) -> Status {
+    let inputs = match read_inputs(rt.alloc(), order.inputs) {
+        Ok(inputs) => inputs,
+        Err(fault) => return refuse(rt, &fault),
+    };
+    let rule = match read_rule(order.rule) {
+        Ok(rule) => rule,
+        Err(fault) => return refuse(rt, &fault),
+    };
+    let (mut program, mut choices) = match open_both(rt, audience, order.file, order.choices) {
+        Ok(files) => files,
+        Err(status) => return status,
+    };
+    let exit = if order.must_exit {
+        Exit::Must
+    } else {
+        Exit::May
+    };
+    let answer = shrink_engine(
+        rt.alloc(),
+        inputs.as_slice(),
+        Expect { rule, exit },
+        &mut program,
+        &mut choices,
+        &mut Line { rt, audience },
+    );
+    match deliver(&mut WriterSink::new(io::writer(rt)), answer) {
+        Ok(status) => status,
+        Err(fault) => tell(rt, audience, order, inputs.len(), fault),
+    }
+}
+
+// What would have been a failure, for a person.
+fn what_would_fail(must_exit: bool) -> &'static str {
+    if must_exit {
+        "no hart faults under these choices, or with --rule the rule is kept, and given as many steps more all harts stop: run shows how they end\n"
+    } else {
+        "no hart faults under these choices, or with --rule the rule is kept: run shows how the harts end\n"
+    }
+}
+
+// Says why nothing is shrunk.
+fn tell<R: Files + AllocGlobal + Eprint>(
+    rt: &R,
+    audience: Audience,
+    order: &ShrinkOrder,
+    harts: usize,
+    fault: CommandFault,
+) -> Status {
+    let files = RunFiles {
+        program: order.file,
+        form: ProgramForm::Elf,
+        choices: order.choices,
+        harts,
+    };
+    let status = say_why(rt, audience, files, fault);
+    if fault == CommandFault::NothingFails && audience == Audience::Person {
+        show(rt, what_would_fail(order.must_exit));
+    }
+    status
+}

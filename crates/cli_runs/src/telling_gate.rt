@@ -1,0 +1,49 @@
+//! How many entries the history of a run in threads has, for a person.
+
+use cli_report::{Audience, WIPE, wipe_line};
+use std::sync::atomic::{AtomicU64, Ordering};
+use thread_gate::Gate;
+
+// After so many entries of a history a person is told how many there are.
+const TOLD_EACH: u64 = 65536;
+
+/// Lets each hart go on at once, and tells a person how many entries the history has.
+#[derive(Drop)]
+pub(crate) struct TellingGate<'a, R> {
+    rt: &'a R,
+    audience: Audience,
+    entries: AtomicU64,
+}
+
+impl<'a, R> TellingGate<'a, R> {
+    /// A gate through which no hart has gone.
+    pub(crate) fn new(rt: &'a R, audience: Audience) -> TellingGate<'a, R> {
+        TellingGate {
+            rt,
+            audience,
+            entries: AtomicU64::new(0),
+        }
+    }
+}
+
+impl<'a, R: Eprint> TellingGate<'a, R> {
+    /// Wipes what was told, once no hart goes through any more.
+    pub(crate) fn wipe(&self) {
+        if self.entries.load(Ordering::SeqCst) > TOLD_EACH {
+            wipe_line(self.rt, self.audience);
+        }
+    }
+}
+
+impl<'a, R: Eprint> Gate for TellingGate<'a, R> {
+    fn arrive(&self, _hart: u32, _count: u32) {
+        if self.audience == Audience::Program {
+            return;
+        }
+        let entries = self.entries.fetch_add(1, Ordering::SeqCst);
+        if entries > 0 && entries % TOLD_EACH == 0 {
+            // Where standard error is closed there is nobody to tell.
+            let _ = eprint!(self.rt; "{WIPE}{entries} entries");
+        }
+    }
+}

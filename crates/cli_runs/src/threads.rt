@@ -1,0 +1,168 @@
+//! Doing `threads`.
+
+ghost use Rattle.std.specs.Prelude.{◌^◌, ◌-◌, ◌<◌};
+
+use crate::telling_gate::TellingGate;
+use byte_io::{ReaderSource, Source, Status, WriterSink};
+use cli_args::{LineFault, read_inputs, read_number};
+use cli_objects::read_rule;
+use cli_orders::{Locks, ThreadsOrder, read_plan};
+use cli_report::{
+    Audience, RunFiles, cannot_open, cannot_write, out_of_memory, read_again, refuse, say, say_why,
+    show,
+};
+use cmd_threads::{ThreadsAnswer, ThreadsTask, threads_engine};
+use cmd_threads_banked::{HistoryUse, banked_engine};
+use hint_history::history_advice;
+use program_open::{CommandFault, ProgramForm, write_text};
+use std::alloc::Global;
+use std::collections::BTreeSet;
+use std::rt::Files;
+use std::sync::Wait;
+use std::thread::Threads;
+use std::{fs, io};
+use thread_gate::Gate;
+
+// What the order's texts say.
+fn read_task(alloc: Global, order: &ThreadsOrder) -> Result<ThreadsTask<Global>, LineFault> {
+    let inputs = read_inputs(alloc, order.inputs)?;
+    let budget = read_number(order.budget, u64::from(u32::MAX))? as u32;
+    let plan = match order.refuse {
+        Some(text) => read_plan(alloc, text)?,
+        None => BTreeSet::new(alloc),
+    };
+    let rule = read_rule(order.rule)?;
+    Ok(ThreadsTask {
+        inputs,
+        budget,
+        plan,
+        rule,
+    })
+}
+
+// What becomes of the history: it is written where that is ordered, and a person is told by it why harts were stopped.
+fn use_of_history(audience: Audience, order: &ThreadsOrder) -> HistoryUse {
+    if order.history.is_some() || audience == Audience::Person {
+        HistoryUse::Read
+    } else {
+        HistoryUse::Unread
+    }
+}
+
+// Runs a task under the locks that are ordered.
+fn run_task<P: Source, G: Gate + Sync, R: AllocGlobal + Threads + Wait + Sync>(
+    rt: &R,
+    locks: Locks,
+    task: ThreadsTask<Global>,
+    history: HistoryUse,
+    program: &mut P,
+    gate: &G,
+) -> Result<ThreadsAnswer<Global>, CommandFault>
+    requires { P.failures program.old < 2 ^ 64 - 1 }
+{
+    match locks {
+        Locks::One => threads_engine(rt, rt.alloc(), task, program, gate),
+        Locks::Banks => banked_engine(rt, rt.alloc(), task, history, program, gate),
+    }
+}
+
+/// Runs each hart in a thread of its own. The history is written before anything is printed. Progress is told to a person.
+pub fn run_on_threads<R: Files + AllocGlobal + Print + Eprint + Threads + Wait + Sync>(
+    rt: &R,
+    audience: Audience,
+    order: &ThreadsOrder,
+) -> Status {
+    let task = match read_task(rt.alloc(), order) {
+        Ok(task) => task,
+        Err(fault) => return refuse(rt, &fault),
+    };
+    let program = match fs::open(rt, order.file) {
+        Ok(program) => program,
+        Err(error) => return cannot_open(rt, audience, order.file, &error),
+    };
+    let mut program = ReaderSource::new(program);
+    let gate = TellingGate::new(rt, audience);
+    let history = use_of_history(audience, order);
+    let answer = run_task(rt, order.locks, task, history, &mut program, &gate);
+    gate.wipe();
+    match answer {
+        Ok(answer) => write_answer(rt, audience, order, &answer),
+        Err(fault) => tell_fault(rt, audience, order, fault),
+    }
+}
+
+// Writes the history where it is asked for, and prints how the harts ended.
+fn write_answer<R: Files + AllocGlobal + Print + Eprint>(
+    rt: &R,
+    audience: Audience,
+    order: &ThreadsOrder,
+    answer: &ThreadsAnswer<Global>,
+) -> Status {
+    if let Some(path) = order.history {
+        if let Err(status) = write_history(rt, path, answer.history.as_bytes()) {
+            return status;
+        }
+    }
+    match write_text(
+        &mut WriterSink::new(io::writer(rt)),
+        answer.lines.as_bytes(),
+    ) {
+        Ok(()) => {
+            if answer.status == Status::Faulted && audience == Audience::Person {
+                let _ = explain_faults(rt, order, answer.history.as_bytes());
+            }
+            answer.status
+        }
+        Err(fault) => say(rt, fault),
+    }
+}
+
+// Writes the history into a file of its own, which is opened now.
+fn write_history<R: Files + AllocGlobal + Print + Eprint>(
+    rt: &R,
+    path: &str,
+    text: &[u8],
+) -> Result<(), Status> {
+    let file = match fs::create(rt, path) {
+        Ok(file) => file,
+        Err(error) if error.kind() == io::ErrorKind::OutOfMemory => return Err(out_of_memory(rt)),
+        Err(_) => return Err(cannot_write(rt, path)),
+    };
+    match write_text(&mut WriterSink::new(file), text) {
+        Ok(()) => Ok(()),
+        Err(_) => Err(cannot_write(rt, path)),
+    }
+}
+
+// Tells why a run of threads gives no answer, and a person what is wrong with what was read.
+fn tell_fault<R: Files + AllocGlobal + Eprint>(
+    rt: &R,
+    audience: Audience,
+    order: &ThreadsOrder,
+    fault: CommandFault,
+) -> Status {
+    let harts = match read_inputs(rt.alloc(), order.inputs) {
+        Ok(inputs) => inputs.len(),
+        Err(_) => 0,
+    };
+    let files = RunFiles {
+        program: order.file,
+        form: ProgramForm::Elf,
+        choices: "",
+        harts,
+    };
+    say_why(rt, audience, files, fault)
+}
+
+// Tells what the faults mean with which the run ended, by its history, where its program can be read once more.
+fn explain_faults<R: Files + AllocGlobal + Eprint>(
+    rt: &R,
+    order: &ThreadsOrder,
+    history: &[u8],
+) -> Option<()> {
+    let inputs = read_inputs(rt.alloc(), order.inputs).ok()?;
+    let program = read_again(rt, order.file)?;
+    let text = history_advice(rt.alloc(), &program, inputs.as_slice(), history)?;
+    show(rt, &text);
+    Some(())
+}

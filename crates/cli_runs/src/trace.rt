@@ -1,0 +1,56 @@
+//! Doing `trace`.
+
+use byte_io::{Status, WriterSink};
+use cli_args::read_inputs;
+use cli_orders::TraceOrder;
+use cli_report::{Audience, RunFiles, bad_line, open_both, refuse, say_why};
+use cli_values::read_trace_plan;
+use cmd_trace::trace_engine;
+use program_open::ProgramForm;
+use std::io;
+use std::rt::Files;
+
+/// Prints what each choice of a run did. Both files are opened before either is read.
+pub fn trace_run<R: Files + AllocGlobal + Print + Eprint>(
+    rt: &R,
+    audience: Audience,
+    order: &TraceOrder,
+) -> Status {
+    let inputs = match read_inputs(rt.alloc(), order.inputs) {
+        Ok(inputs) => inputs,
+        Err(fault) => return refuse(rt, &fault),
+    };
+    let Some(plan) = read_trace_plan(order.table, order.from, order.to) else {
+        return bad_line(
+            rt,
+            "--from and --to take the places of choices, decimal numbers from 1 to 2^64 - 1, as --from 3 --to 37",
+        );
+    };
+    let form = if order.hex {
+        ProgramForm::Hex
+    } else {
+        ProgramForm::Elf
+    };
+    let (mut program, mut choices) = match open_both(rt, audience, order.file, order.choices) {
+        Ok(files) => files,
+        Err(status) => return status,
+    };
+    let files = RunFiles {
+        program: order.file,
+        form,
+        choices: order.choices,
+        harts: inputs.len(),
+    };
+    match trace_engine(
+        rt.alloc(),
+        form,
+        plan,
+        inputs.as_slice(),
+        &mut program,
+        &mut choices,
+        &mut WriterSink::new(io::writer(rt)),
+    ) {
+        Ok(status) => status,
+        Err(fault) => say_why(rt, audience, files, fault),
+    }
+}

@@ -1,0 +1,88 @@
+-- What sources give: their program, its listing and its file, or the first fault.
+use Rattle.std.specs.Prelude.{◌≡◌, ℕ, ◌%◌, List, [], ◌∷◌, take, Option, Some, None}
+use Rattle.std.specs.Io.KnownBytes.{Appends}
+use Rattle.std.specs.declared.result.Result.{Result}
+use Rattle.std.specs.declared.result.Result.TheVariants.{Ok, Err}
+use Rattle.asm_parse.specs.declared.fault.Fault.{Fault}
+use Rattle.asm_assemble.specs.Program.{ProgramValue}
+use Rattle.asm_assemble.specs.Sources.{assembled_texts}
+use Rattle.asm_assemble.specs.Program.{text_start}
+use Rattle.elf_write.specs.File.{file}
+use Rattle.isa_disasm.specs.Listing.{listing}
+use Rattle.asm_own.specs.Own.{ListsOwn, LoadsOwn}
+use Rattle.asm_round_trip.specs.TextAlone.{text_alone}
+use Rattle.cmd_asm.specs.Sources.{first_other}
+use Rattle.cmd_asm.specs.declared.fault.AssemblyFault.{AssemblyFault}
+use Rattle.cmd_asm.specs.declared.fault.AssemblyFault.TheVariants as faults
+
+-- the program, or the statement that is wrong
+abbrev pub from_statements : Result ProgramValue Fault → Result ProgramValue AssemblyFault
+from_statements (Ok program) = Ok program
+from_statements (Err why) = Err (faults.Wrong why)
+
+-- the program of sources, of which the first that is no text is at this place
+abbrev pub program_unless : List (List ℕ) → Option ℕ → Result ProgramValue AssemblyFault
+program_unless sources None = from_statements (assembled_texts sources)
+program_unless sources (Some place) = Err (faults.NotText place)
+
+-- the program of sources, or why there is none
+abbrev pub program_of : List (List ℕ) → Result ProgramValue AssemblyFault
+program_of sources = program_unless sources (first_other 0 sources)
+
+-- the bytes that a program gives
+abbrev pub bytes_by : (ProgramValue → List ℕ) → Result ProgramValue AssemblyFault → Result (List ℕ) AssemblyFault
+bytes_by bytes (Ok program) = Ok (bytes program)
+bytes_by bytes (Err why) = Err why
+
+-- the listing of sources' program
+abbrev pub listing_of : List (List ℕ) → Result (List ℕ) AssemblyFault
+listing_of sources = bytes_by (λ program. listing text_start program.text) (program_of sources)
+
+-- the listing of a program, as the one source, gives a program of the same text and nothing else
+abbrev pub ComesBack : Result ProgramValue AssemblyFault → Type 0
+ComesBack (Ok program) = assembled_texts (listing text_start program.text ∷ []) ≡ Ok (text_alone program.text)
+ComesBack (Err why) = Unit {0}
+
+-- the ELF file of sources' program
+abbrev pub file_of : List (List ℕ) → Result (List ℕ) AssemblyFault
+file_of sources = bytes_by file (program_of sources)
+
+-- a fault of what was read, and of no device or memory
+abbrev pub IsRefusal : AssemblyFault → Type 0
+IsRefusal (faults.Wrong why) = Unit {0}
+IsRefusal (faults.Read place) = ⊥
+IsRefusal (faults.NotText place) = Unit {0}
+IsRefusal faults.Write = ⊥
+IsRefusal faults.Memory = ⊥
+
+-- the bytes were appended
+abbrev pub Writes : Result (List ℕ) AssemblyFault → Option (List ℕ) → Option (List ℕ) → Type 0
+Writes (Ok bytes) old new = Appends old new bytes
+Writes (Err why) old new = ⊥
+
+-- a beginning of these bytes was appended
+abbrev pub Begins : Option (List ℕ) → Option (List ℕ) → List ℕ → Type 0
+Begins old new bytes = (n : ℕ) × Appends old new (take n bytes)
+
+-- a beginning of the bytes was appended
+abbrev pub BeginsToWrite : Result (List ℕ) AssemblyFault → Option (List ℕ) → Option (List ℕ) → Type 0
+BeginsToWrite (Ok bytes) old new = Begins old new bytes
+BeginsToWrite (Err why) old new = ⊥
+
+-- the file of sources' program, where its entry is a multiple of 4, loads as the sources' own instructions
+abbrev pub FileIsOwn : List (List ℕ) → List ℕ → Result ProgramValue AssemblyFault → Type 0
+FileIsOwn sources bytes (Ok program) = program.entry % 4 ≡ 0 → LoadsOwn sources program bytes
+FileIsOwn sources bytes (Err why) = ⊥
+
+-- such a file was appended
+abbrev pub WritesOwnFile : List (List ℕ) → Option (List ℕ) → Option (List ℕ) → Type 0
+WritesOwnFile sources old new = (bytes : List ℕ) × Appends old new bytes × FileIsOwn sources bytes (program_of sources)
+
+-- the lines have the sources' own instructions
+abbrev pub LinesAreOwn : List (List ℕ) → List ℕ → Result ProgramValue AssemblyFault → Type 0
+LinesAreOwn sources lines (Ok program) = ListsOwn sources program lines
+LinesAreOwn sources lines (Err why) = ⊥
+
+-- such lines were appended
+abbrev pub WritesOwnLines : List (List ℕ) → Option (List ℕ) → Option (List ℕ) → Type 0
+WritesOwnLines sources old new = (lines : List ℕ) × Appends old new lines × LinesAreOwn sources lines (program_of sources)

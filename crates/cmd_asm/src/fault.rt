@@ -1,0 +1,55 @@
+//! Why sources give no file and no listing.
+
+ghost use Rattle.std.specs.Prelude.{◌≡◌};
+ghost use Rattle.cmd_asm.specs.Faults.{fault_of_assembler, status_of_fault};
+
+use asm_parse::{AsmFault, Fault};
+use byte_io::Status;
+use thiserror::Error;
+
+/// Why sources give no file and no listing. The text of each is what stands after `rvcons: ` on standard error, but that the
+/// program puts the path of a source that can't be read.
+#[derive(Clone, Copy, Debug, PartialEq, Eq, Error)]
+pub enum AssemblyFault {
+    /// A statement is wrong.
+    #[error("asm fault {} {} at {}:{}", .0.kind.number(), .0.kind, .0.source, .0.line)]
+    Wrong(Fault),
+    /// The source at this place, from 0, can't be read to its end.
+    #[error("cannot read")]
+    Read(usize),
+    /// The source at this place, from 0, is no text in UTF-8.
+    #[error("cannot read")]
+    NotText(usize),
+    /// The output can't be written.
+    #[error("cannot write -")]
+    Write,
+    /// Memory was refused.
+    #[error("out of memory")]
+    Memory,
+}
+
+impl AssemblyFault {
+    /// The status that the command ends with.
+    pub fn status(self) -> Status
+        ensures { result ≡ status_of_fault self }
+    {
+        match self {
+            AssemblyFault::Wrong(_)
+            | AssemblyFault::Read(_)
+            | AssemblyFault::NotText(_)
+            | AssemblyFault::Write => Status::Refused,
+            AssemblyFault::Memory => Status::NoMemory,
+        }
+    }
+}
+
+impl From<AsmFault> for AssemblyFault {
+    ghost from_gives = { λ fault answer. answer ≡ fault_of_assembler fault };
+
+    fn from(fault: AsmFault) -> AssemblyFault {
+        match fault {
+            AsmFault::At(fault) => AssemblyFault::Wrong(fault),
+            AsmFault::Memory => AssemblyFault::Memory,
+        }
+    }
+}

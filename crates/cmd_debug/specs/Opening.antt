@@ -1,0 +1,63 @@
+-- The session that a file, inputs and a choice text begin, or the first fault of what was read, and what it leaves in a sink.
+use Rattle.std.specs.Prelude.{ℕ, List, [], length, Option}
+use Rattle.std.specs.Io.KnownBytes.{Appends}
+use Rattle.std.specs.Str.Lines.{lines}
+use Rattle.std.specs.declared.result.Result.{Result}
+use Rattle.std.specs.declared.result.Result.TheVariants.{Ok, Err}
+use Rattle.image.specs.Image.{ImageValue}
+use Rattle.machine.specs.declared.choice.Choice.{Choice}
+use Rattle.debug_session.specs.Session.{Session}
+use Rattle.program_open.specs.Opening.{Opened, opening}
+use Rattle.program_open.specs.CommandFaults.{status_of_fault}
+use Rattle.program_open.specs.declared.program.ProgramForm.TheVariants as form
+use Rattle.program_open.specs.declared.command_fault.CommandFault.{CommandFault}
+use Rattle.byte_io.specs.declared.status.Status.{Status}
+use Rattle.byte_io.specs.declared.status.Status.TheVariants as status
+use Rattle.cmd_debug.specs.Talk.{answers, Begins}
+use Rattle.cmd_debug.specs.declared.fault.DebugEngineFault.{DebugEngineFault}
+use Rattle.cmd_debug.specs.declared.fault.DebugEngineFault.TheVariants as engine
+
+-- a session, or why there is none
+abbrev pub Opening : Type 0
+Opening = Result Session CommandFault
+
+-- a session at the start, without breakpoints and watches
+abbrev pub first_session : ImageValue → List ℕ → List Choice → Session
+first_session image inputs choices =
+    record { image = image; inputs = inputs; choices = choices; position = 0; breaks = []; watches = [] }
+
+-- the session once it is known what its run begins with
+abbrev pub after_opening : List ℕ → Opened → Opening
+after_opening inputs (Ok run) = Ok (first_session run.0 inputs run.1)
+after_opening inputs (Err why) = Err why
+
+-- the session of inputs, a file's bytes and a choice text
+unfoldable pub opened : List ℕ → List ℕ → List ℕ → Opening
+opened inputs program text = after_opening inputs (opening form.Elf (length inputs) program text)
+
+-- the answers to the lines of the commands were appended
+abbrev pub Answers : Opening → List ℕ → Option (List ℕ) → Option (List ℕ) → Type 0
+Answers (Ok s) commands old new = Appends old new (answers s (lines commands))
+Answers (Err why) commands old new = ⊥
+
+-- a beginning of them was appended
+abbrev pub BeginsToAnswer : Opening → List ℕ → Option (List ℕ) → Option (List ℕ) → Type 0
+BeginsToAnswer (Ok s) commands old new = Begins old new (answers s (lines commands))
+BeginsToAnswer (Err why) commands old new = ⊥
+
+-- a fact that holds where no session was begun
+abbrev pub IfUnopened : DebugEngineFault → (CommandFault → Type 0) → Type 0
+IfUnopened (engine.Refused why) P = P why
+IfUnopened why P = Unit {0}
+
+-- a fact that holds where a session was begun and did not end
+abbrev pub IfCut : DebugEngineFault → Type 0 → Type 0
+IfCut (engine.Refused why) P = Unit {0}
+IfCut why P = P
+
+-- the status of a fault
+abbrev pub status_of : DebugEngineFault → Status
+status_of (engine.Refused why) = status_of_fault why
+status_of engine.Commands = status.Refused
+status_of engine.Answers = status.Refused
+status_of engine.Memory = status.NoMemory

@@ -1,0 +1,48 @@
+-- What a replay answers: the printed world after a history with the verdict on it, or the first fault of what was read.
+use Rattle.std.specs.Prelude.{ℕ, List, length, Option}
+use Rattle.std.specs.declared.result.Result.{Result}
+use Rattle.std.specs.declared.result.Result.TheVariants.{Ok, Err}
+use Rattle.image.specs.Image.{ImageValue}
+use Rattle.object_library.specs.declared.kind.Kind.{Kind}
+use Rattle.history.specs.declared.entry.Entry.{Entry}
+use Rattle.history.specs.declared.history_text.HistoryFault.{HistoryFault}
+use Rattle.history.specs.declared.history_text.HistoryFault.TheVariants as history
+use Rattle.history.specs.History.{expanded}
+use Rattle.history.specs.Reading.{entries_of}
+use Rattle.program_open.specs.Answers.{Answer}
+use Rattle.program_open.specs.Opening.{after_program}
+use Rattle.program_open.specs.Program.{program_of}
+use Rattle.program_open.specs.declared.program.ProgramForm.TheVariants as form
+use Rattle.program_open.specs.declared.command_fault.CommandFault.{CommandFault}
+use Rattle.program_open.specs.declared.command_fault.CommandFault.TheVariants as fault
+use Rattle.cmd_run.specs.Run.{may_run, shown, world_after}
+
+-- a fault of the history text
+abbrev pub fault_of_history : HistoryFault → CommandFault
+fault_of_history (history.BadEntry offset) = fault.BadEntry offset
+fault_of_history (history.NoHart offset) = fault.NoHartOfEntry offset
+fault_of_history history.Memory = fault.Memory
+
+-- an image with its history, or why there is no replay
+abbrev pub Opened : Type 0
+Opened = Result (ImageValue × List Entry) CommandFault
+
+-- an image with the history that is read
+abbrev pub with_history : ImageValue → Result (List Entry) HistoryFault → Opened
+with_history image (Ok entries) = Ok (image, entries)
+with_history image (Err why) = Err (fault_of_history why)
+
+-- what a replay of a program and a history text begins with, for so many inputs
+unfoldable pub replay_opening : ℕ → List ℕ → List ℕ → Opened
+replay_opening harts program text = after_program harts
+    (λ image. with_history image (entries_of harts text)) (program_of form.Elf program)
+
+-- what is answered once it is known what the replay begins with
+abbrev pub after_opening : Option Kind → List ℕ → Opened → Answer
+after_opening rule inputs (Ok opened) =
+    Ok (shown (may_run rule) inputs (expanded opened.1) (world_after opened.0 inputs (expanded opened.1)))
+after_opening rule inputs (Err why) = Err why
+
+-- what a replay of a program and a history text answers, under a rule if there is one
+unfoldable pub replay_answer : List ℕ → Option Kind → List ℕ → List ℕ → Answer
+replay_answer inputs rule program text = after_opening rule inputs (replay_opening (length inputs) program text)

@@ -1,0 +1,45 @@
+-- What a run answers: the printed world after the choices with the verdict on it, or the first fault of what was read.
+use Rattle.std.specs.Prelude.{ℕ, List, length, Option}
+use Rattle.std.specs.declared.result.Result.TheVariants.{Ok, Err}
+use Rattle.image.specs.Image.{ImageValue}
+use Rattle.machine.specs.World.{World, run}
+use Rattle.machine.specs.Start.{started}
+use Rattle.machine.specs.declared.choice.Choice.{Choice}
+use Rattle.hart_step.specs.Hart.{HartValue}
+use Rattle.object_library.specs.declared.kind.Kind.{Kind}
+use Rattle.object_library.specs.declared.verdict.Verdict.{Verdict}
+use Rattle.ends.specs.Ends.{text_of, verdict_on}
+use Rattle.outcome.specs.Expect.{status_of}
+use Rattle.outcome.specs.Outcome.{outcome_of}
+use Rattle.outcome.specs.declared.expect.Exit.{Exit}
+use Rattle.outcome.specs.declared.expect.Exit.TheVariants.{May}
+use Rattle.outcome.specs.declared.expect.Expect.{Expect}
+use Rattle.program_open.specs.Answers.{Answer}
+use Rattle.program_open.specs.Opening.{Opened, opening}
+use Rattle.program_open.specs.declared.program.ProgramForm.{ProgramForm}
+use Rattle.byte_io.specs.declared.status.Status.{Status}
+
+-- under a rule, if there is one, and where harts may run at the end
+abbrev pub may_run : Option Kind → Expect
+may_run rule = record { rule = rule; exit = May }
+
+-- harts as they are printed with a verdict, and the status of the run that left them
+abbrev pub shown_with : Exit → Option Verdict → List HartValue → List ℕ × Status
+shown_with exit verdict harts = (text_of verdict harts, status_of exit (outcome_of verdict harts))
+
+-- the world that a list of choices leads to, as it is printed with the verdict on it
+abbrev pub shown : Expect → List ℕ → List Choice → World → List ℕ × Status
+shown expect inputs choices w = shown_with expect.exit (verdict_on expect.rule inputs choices w.harts) w.harts
+
+-- the world after a list of choices, from an image's start
+abbrev pub world_after : ImageValue → List ℕ → List Choice → World
+world_after image inputs choices = run (started image inputs) choices
+
+-- what is answered once it is known what the run begins with
+abbrev pub after_opening : Expect → List ℕ → Opened → Answer
+after_opening expect inputs (Ok opened) = Ok (shown expect inputs opened.1 (world_after opened.0 inputs opened.1))
+after_opening expect inputs (Err why) = Err why
+
+-- what a run of a program and a choice text answers, by what is expected of it
+unfoldable pub run_answer : ProgramForm → List ℕ → Expect → List ℕ → List ℕ → Answer
+run_answer form inputs expect program text = after_opening expect inputs (opening form (length inputs) program text)

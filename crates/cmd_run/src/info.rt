@@ -1,0 +1,222 @@
+//! What `info` shows of a file.
+
+ghost use Rattle.std.specs.Prelude.{◌≡◌, ◌++◌, IfOk, string_bytes, Result};
+ghost use Rattle.std.specs.List.{flat_map};
+ghost use Rattle.elf_read.specs.SymbolTable.{symbols_of};
+ghost use Rattle.cmd_run.specs.Info.{info_of, library_name, rights_text, segment_entry, segment_line, symbol_entry, symbol_line, symbols_text, NamesLibrary, ShowsFacts};
+
+use elf_read::{SymFault, Symbol, symbols};
+use image::{Image, Rights, Segment};
+use isa_names::Word;
+use object_library::{Kind, certify};
+use std::alloc::{AllocError, Allocator};
+use std::fmt;
+
+// Rights, shown as `rwx` with a dash for each that isn't given.
+#[derive(Clone, Copy)]
+struct RightsText(Rights);
+
+impl fmt::Display for RightsText {
+    ghost use Rattle.std.specs.Prelude.{Some};
+
+    ghost output = { λ r. Some (rights_text r.0.0) };
+
+    fn fmt<W: fmt::Write>(&self, f: &mut fmt::Formatter<W>) -> fmt::Result {
+        let read = if self.0.grants(Rights::READ) {
+            "r"
+        } else {
+            "-"
+        };
+        let write = if self.0.grants(Rights::WRITE) {
+            "w"
+        } else {
+            "-"
+        };
+        let execute = if self.0.grants(Rights::EXECUTE) {
+            "x"
+        } else {
+            "-"
+        };
+        write!(f, "{read}{write}{execute}")
+    }
+}
+
+// A segment, shown as a line without its end.
+#[derive(Clone, Copy)]
+struct SegmentLine {
+    base: u32,
+    size: u32,
+    rights: Rights,
+}
+
+impl fmt::Display for SegmentLine {
+    ghost use Rattle.std.specs.Prelude.{Some};
+
+    ghost output = { λ l. Some (segment_line l.base l.size l.rights.0) };
+
+    fn fmt<W: fmt::Write>(&self, f: &mut fmt::Formatter<W>) -> fmt::Result {
+        let base = Word(self.base);
+        let size = self.size;
+        let rights = RightsText(self.rights);
+        write!(f, "segment {base} {size} {rights}")
+    }
+}
+
+// A symbol, shown as a line without its end.
+#[derive(Clone, Copy)]
+struct SymbolLine<'a> {
+    address: u32,
+    name: &'a str,
+}
+
+impl<'a> fmt::Display for SymbolLine<'a> {
+    ghost use Rattle.std.specs.Prelude.{Some};
+
+    ghost output = { λ l. Some (symbol_line l.address l.name.now) };
+
+    fn fmt<W: fmt::Write>(&self, f: &mut fmt::Formatter<W>) -> fmt::Result {
+        let address = Word(self.address);
+        let name = self.name;
+        write!(f, "symbol {address} {name}")
+    }
+}
+
+// Appends the line of a segment: base, size in bytes and rights.
+fn push_segment<A: Allocator>(text: &mut String<A>, segment: &Segment<A>) -> Result<(), AllocError>
+    ensures { IfOk result (λ _.
+        string_bytes text.new ≡ string_bytes text.old ++ segment_entry segment.now) }
+{
+    let line = SegmentLine {
+        base: segment.base,
+        size: segment.size,
+        rights: segment.rights,
+    };
+    writeln!(text, "{line}")?;
+    Ok(())
+}
+
+// Appends the lines of segments.
+fn push_segments<A: Allocator>(
+    text: &mut String<A>,
+    segments: &[Segment<A>],
+) -> Result<(), AllocError>
+    ensures { IfOk result (λ _.
+        string_bytes text.new ≡ string_bytes text.old ++ flat_map segment_entry segments.now) }
+{
+    'segments: for segment in segments {
+        push_segment(text, segment)?;
+    }
+    Ok(())
+}
+
+// Appends the line of a symbol: address and name.
+fn push_symbol<A: Allocator>(text: &mut String<A>, symbol: &Symbol<A>) -> Result<(), AllocError>
+    ensures { IfOk result (λ _.
+        string_bytes text.new ≡ string_bytes text.old ++ symbol_entry symbol.now) }
+{
+    let line = SymbolLine {
+        address: symbol.address,
+        name: symbol.name.as_str(),
+    };
+    writeln!(text, "{line}")?;
+    Ok(())
+}
+
+// Appends the lines of symbols.
+fn push_symbols<A: Allocator>(text: &mut String<A>, symbols: &[Symbol<A>]) -> Result<(), AllocError>
+    ensures { IfOk result (λ _.
+        string_bytes text.new ≡ string_bytes text.old ++ flat_map symbol_entry symbols.now) }
+{
+    'symbols: for symbol in symbols {
+        push_symbol(text, symbol)?;
+    }
+    Ok(())
+}
+
+// Appends the symbols of a file, or why there are none.
+fn push_symbols_of<A: Allocator + Copy>(
+    alloc: A,
+    text: &mut String<A>,
+    bytes: &[u8],
+) -> Result<(), AllocError>
+    ensures { IfOk result (λ _.
+        string_bytes text.new ≡ string_bytes text.old ++ symbols_text (symbols_of bytes.now)) }
+{
+    match symbols(alloc, bytes) {
+        Ok(symbols) if symbols.is_empty() => writeln!(text, "symbols none")?,
+        Ok(symbols) => push_symbols(text, &symbols)?,
+        Err(SymFault::NoTable) => writeln!(text, "symbols none")?,
+        Err(SymFault::BadTable) => writeln!(text, "symbols bad")?,
+        Err(SymFault::Memory) => return Err(AllocError),
+    }
+    Ok(())
+}
+
+// The kind of the object that an image is, or none.
+#[tactic(auto, using(crate::proofs::InfoLemmas::names_none))]
+fn library_of<A: Allocator>(image: &Image<A>) -> Option<Kind>
+    ensures { NamesLibrary image.now result }
+{
+    if certify(Kind::Swap, image) {
+        return Some(Kind::Swap);
+    }
+    if certify(Kind::Add, image) {
+        return Some(Kind::Add);
+    }
+    if certify(Kind::LrSc, image) {
+        return Some(Kind::LrSc);
+    }
+    if certify(Kind::AdoptCommit, image) {
+        return Some(Kind::AdoptCommit);
+    }
+    if certify(Kind::Rounds, image) {
+        return Some(Kind::Rounds);
+    }
+    None
+}
+
+// The name of a kind, or `none`.
+fn library_name(library: Option<Kind>) -> &'static str
+    ensures { result.now ≡ library_name library }
+{
+    match library {
+        Some(kind) => kind.name(),
+        None => "none",
+    }
+}
+
+// The facts of an image that is the object of a kind, or of none.
+#[tactic(auto, unfolding(crate::specs::Info::info_of))]
+fn facts_text<A: Allocator + Copy>(
+    alloc: A,
+    image: &Image<A>,
+    bytes: &[u8],
+    library: Option<Kind>,
+) -> Result<String<A>, AllocError>
+    ensures { IfOk result (λ text.
+        string_bytes text ≡ info_of image.now (symbols_of bytes.now) library) }
+{
+    let mut text = String::new(alloc);
+    let entry = Word(image.entry());
+    writeln!(text, "entry {entry}")?;
+    push_segments(&mut text, image.segments())?;
+    push_symbols_of(alloc, &mut text, bytes)?;
+    let name = library_name(library);
+    writeln!(text, "library {name}")?;
+    Ok(text)
+}
+
+/// The facts of a file's image: its entry, its segments in the file's order with their sizes in bytes and their rights, the
+/// symbols of the file's bytes, and the kind of the object that it is.
+pub fn info_text<A: Allocator + Copy>(
+    alloc: A,
+    image: &Image<A>,
+    bytes: &[u8],
+) -> Result<String<A>, AllocError>
+    ensures { IfOk result (λ text.
+        ShowsFacts image.now (symbols_of bytes.now) (string_bytes text)) }
+{
+    let library = library_of(image);
+    let text = facts_text(alloc, image, bytes, library)?;
+    Ok(text)
+}

@@ -1,0 +1,56 @@
+-- What a run of threads answers: a history, and what a replay of it prints.
+use Rattle.std.specs.Prelude.{◌≡◌, ℕ, ◌<◌, List, Option, Ok, Err, string_bytes}
+use Rattle.hart_reservations.specs.Limit.{most_harts}
+use Rattle.image.specs.Image.{ImageValue}
+use Rattle.object_library.specs.declared.kind.Kind.{Kind}
+use Rattle.history.specs.declared.entry.Entry.{Entry}
+use Rattle.history.specs.History.{expanded}
+use Rattle.history.specs.Printing.{history_text}
+use Rattle.program_open.specs.CommandFaults.{IfNames}
+use Rattle.program_open.specs.Program.{program_of}
+use Rattle.program_open.specs.declared.program.ProgramForm.TheVariants as form
+use Rattle.program_open.specs.declared.command_fault.CommandFault.{CommandFault}
+use Rattle.program_open.specs.declared.command_fault.CommandFault.TheVariants as fault
+use Rattle.cmd_run.specs.Run.{may_run, shown, world_after}
+use Rattle.cmd_run.specs.Certified.{EndsKept}
+use Rattle.outcome.specs.declared.expect.Exit.TheVariants.{May}
+use Rattle.thread_run.specs.Outcome.{IsOutcome}
+use Rattle.thread_run.specs.declared.fault.RunFault.{RunFault}
+use Rattle.thread_run.specs.declared.fault.RunFault.TheVariants as threads
+use Rattle.cmd_threads.specs.declared.threads.ThreadsAnswer.{ThreadsAnswer}
+
+-- a history of the file's program, which no plan, budget or print contradicts
+pub record IsAnswer {A : Type 0} (inputs : List ℕ) (budget : ℕ) (plan : List (ℕ × ℕ)) (rule : Option Kind) (program : List ℕ) (answer : ThreadsAnswer A) : Type 0 where
+  pub image : ImageValue
+  pub entries : List Entry
+  pub reads : program_of form.Elf program ≡ Ok image
+  pub outcome : IsOutcome image inputs budget plan (record { image = image; inputs = inputs; history = entries })
+  pub text : string_bytes answer.history ≡ history_text entries
+  pub prints : shown (may_run rule) inputs (expanded entries) (world_after image inputs (expanded entries))
+      ≡ (string_bytes answer.lines, answer.status)
+
+-- the lines end with `verdict kept`, and the status is 0
+abbrev pub IsKept : {A : Type 0} → ThreadsAnswer A → Type 0
+IsKept {A} answer = EndsKept May (string_bytes answer.lines) answer.status
+
+-- a fault of the threads
+abbrev pub fault_of_run : RunFault → CommandFault
+fault_of_run threads.NoHarts = fault.NoHarts
+fault_of_run threads.TooManyHarts = fault.TooManyHarts
+fault_of_run threads.StartRefused = fault.ThreadRefused
+fault_of_run threads.Stale = fault.Stale
+fault_of_run threads.Memory = fault.Memory
+
+-- when so many inputs and a program are refused so: the program is looked at first
+abbrev pub Refuses : ℕ → List ℕ → CommandFault → Type 0
+Refuses harts program fault.NoHarts = harts ≡ 0
+Refuses harts program fault.TooManyHarts = most_harts < harts
+Refuses harts program fault.ThreadRefused = Unit {0}
+Refuses harts program fault.Stale = Unit {0}
+Refuses harts program why = program_of form.Elf program ≡ Err why
+
+-- a fact of the program's file where a fault names it; or the host refused a thread, or a hart is stale
+abbrev pub IfReads : CommandFault → Type 0 → Type 0
+IfReads fault.ThreadRefused file = Unit {0}
+IfReads fault.Stale file = Unit {0}
+IfReads why file = IfNames why file ⊥ ⊥ ⊥

@@ -1,0 +1,158 @@
+//! `threads --banked`: a program, inputs, a budget and a plan in; the history that the harts' logs are, their ends and the verdict
+//! on them out.
+
+ghost use Rattle.std.specs.Prelude.{◌≡◌, ◌≢◌, ◌^◌, ◌-◌, ◌<◌, length};
+ghost use Rattle.std.specs.Prelude.{Err, IfErr, IfOk, IfSome, None};
+ghost use Rattle.cmd_run.specs.Certified.{IsCertified};
+ghost use Rattle.machine.specs.Start.{IsStartable};
+ghost use Rattle.program_open.specs.declared.program.ProgramForm.{ProgramForm};
+ghost use Rattle.bank_threads.specs.Banked.{IsBanked};
+ghost use Rattle.cmd_threads.specs.Threads.{IsKept};
+ghost use Rattle.cmd_threads_banked.specs.declared.history.HistoryUse.{HistoryUse};
+ghost use Rattle.cmd_threads_banked.specs.BankedAnswer.{fault_of_run, IfReads, IsAnswer, IsOfRun, Refuses};
+ghost use Rattle.program_open.specs.CommandFaults.{IsRefusal};
+
+use crate::answer::{answer_of, harts_of};
+use crate::history::HistoryUse;
+use crate::unread::answer_of_ends;
+use bank_hart_log::HartLog;
+use bank_memory::Bank;
+use bank_merge::{logs_are_one_run, merge_matched};
+use bank_threads::{RunFault, run_banked};
+use byte_io::Source;
+use cmd_run::see_words;
+use cmd_threads::{ThreadsAnswer, ThreadsTask};
+use image::Image;
+use program_open::{CommandFault, ProgramForm, read_image};
+use std::alloc::{AllocError, Allocator};
+use std::sync::Wait;
+use std::thread::Threads;
+use thread_gate::Gate;
+
+/// `threads --banked`: reads the program to its end, and runs it with a thread for each hart and a lock for each bank of memory.
+/// What is answered is what a replay of the run's history prints, which is answered where it is read.
+pub fn banked_engine<
+    A: Allocator + Copy + Send + Sync,
+    P: Source,
+    G: Gate + Sync,
+    R: Threads + Wait + Sync,
+>(
+    rt: &R,
+    alloc: A,
+    task: ThreadsTask<A>,
+    history: HistoryUse,
+    program: &mut P,
+    gate: &G,
+) -> Result<ThreadsAnswer<A>, CommandFault>
+    requires { P.failures program.old < 2 ^ 64 - 1 }
+    ensures answer { IfOk result (λ answer. IfSome (P.left program.old) (λ p.
+        IsAnswer task.inputs.items task.budget task.plan.keys task.rule history p answer)) }
+    ensures startable { IfOk result (λ _. IsStartable task.inputs.items) }
+    // A file that is an object, run by as many harts as it is for, never has a broken verdict of its kind's rule.
+    ensures certified { IfOk result (λ answer. IfSome (P.left program.old) (λ p.
+        IsCertified ProgramForm.Elf p task.inputs.items task.rule → IsKept answer)) }
+    // What was read is refused, and no thread was started.
+    ensures refused { IfErr result (λ fault. IsRefusal fault → IfSome (P.left program.old) (λ p.
+        Refuses (length task.inputs.items) p fault)) }
+    // Logs that threads have left match, and are in order.
+    ensures matched { result ≢ Err CommandFault.Unmatched }
+    ensures in_order { result ≢ Err CommandFault.OutOfOrder }
+    // The program's device is named only where it failed, and no other is.
+    ensures read { IfErr result (λ fault. IfReads fault
+        (P.failures program.old < P.failures program.new)) }
+{
+    see_words(&task.inputs);
+    let image = match read_image(alloc, ProgramForm::Elf, program) {
+        Ok(image) => image,
+        Err(fault) => return Err(fault),
+    };
+    let banked = match run_banked(
+        rt,
+        alloc,
+        &image,
+        &task.inputs,
+        task.budget,
+        &task.plan,
+        gate,
+    ) {
+        Ok(banked) => banked,
+        Err(fault) => return Err(fault_of_banked(fault)),
+    };
+    match answer_of_logs(alloc, &image, &task, history, &banked.logs, &banked.banks) {
+        Ok(answer) => Ok(answer),
+        Err(AllocError) => Err(CommandFault::Memory),
+    }
+}
+
+// The logs of a run as the one run that they are. Its choices are made only where a history or a verdict wants them.
+fn answer_of_logs<A: Allocator + Copy>(
+    alloc: A,
+    image: &Image<A>,
+    task: &ThreadsTask<A>,
+    history: HistoryUse,
+    logs: &[HartLog<A>],
+    banks: &[Bank<A>],
+) -> Result<ThreadsAnswer<A>, AllocError>
+    requires { IsBanked image.now task.now.inputs.items task.now.budget task.now.plan.keys logs.now banks.now }
+    ensures { IfOk result (λ answer.
+        IsOfRun image.now task.now.inputs.items task.now.budget task.now.plan.keys task.now.rule history answer) }
+{
+    match history {
+        HistoryUse::Read => merged_answer(alloc, image, task, history, logs, banks),
+        HistoryUse::Unread => match task.rule {
+            Some(_) => merged_answer(alloc, image, task, history, logs, banks),
+            None => unmerged_answer(alloc, image, task, logs, banks),
+        },
+    }
+}
+
+// The same, by the choices of the run.
+fn merged_answer<A: Allocator + Copy>(
+    alloc: A,
+    image: &Image<A>,
+    task: &ThreadsTask<A>,
+    history: HistoryUse,
+    logs: &[HartLog<A>],
+    banks: &[Bank<A>],
+) -> Result<ThreadsAnswer<A>, AllocError>
+    requires { IsBanked image.now task.now.inputs.items task.now.budget task.now.plan.keys logs.now banks.now }
+    ensures { IfOk result (λ answer.
+        IsOfRun image.now task.now.inputs.items task.now.budget task.now.plan.keys task.now.rule history answer) }
+{
+    let choices = merge_matched(alloc, logs, banks)?;
+    let harts = harts_of(alloc, logs)?;
+    let answer = answer_of(alloc, &task.inputs, task.rule, history, &choices, &harts)?;
+    Ok(answer)
+}
+
+// The same under no rule and without a history, so that nobody needs the choices.
+fn unmerged_answer<A: Allocator + Copy>(
+    alloc: A,
+    image: &Image<A>,
+    task: &ThreadsTask<A>,
+    logs: &[HartLog<A>],
+    banks: &[Bank<A>],
+) -> Result<ThreadsAnswer<A>, AllocError>
+    requires { IsBanked image.now task.now.inputs.items task.now.budget task.now.plan.keys logs.now banks.now }
+    ensures { IfOk result (λ answer.
+        IsOfRun image.now task.now.inputs.items task.now.budget task.now.plan.keys None HistoryUse.Unread answer) }
+{
+    logs_are_one_run(logs, banks);
+    let harts = harts_of(alloc, logs)?;
+    let answer = answer_of_ends(alloc, &task.inputs, &harts)?;
+    Ok(answer)
+}
+
+// A fault of the threads, as one of the command.
+fn fault_of_banked(fault: RunFault) -> CommandFault
+    ensures { result ≡ fault_of_run fault }
+{
+    match fault {
+        RunFault::NoHarts => CommandFault::NoHarts,
+        RunFault::TooManyHarts => CommandFault::TooManyHarts,
+        RunFault::StartRefused => CommandFault::ThreadRefused,
+        RunFault::StampsExhausted => CommandFault::StampsExhausted,
+        RunFault::Stale => CommandFault::Stale,
+        RunFault::Memory => CommandFault::Memory,
+    }
+}

@@ -1,0 +1,79 @@
+-- What is written of choices, one more at a time.
+use Rattle.std.proofs.Common.{◌≡◌, ℕ, suc, ◌+◌, ◌-◌, ◌<◌, ◌≤◌, List, [], ◌∷◌, ◌++◌, length, take, drop, map, get_or, Option, Some, refl, ap, ap₂, sym, subst, ◌∙◌, arith}
+use Rattle.std.proofs.lemmas.List.{take_all, drop_more, drop_all, map-append, append-nil, append_assoc, length-map}
+use Rattle.std.specs.List.{slice_get}
+use Rattle.std.specs.Option.{option_map}
+use Rattle.std.proofs.lemmas.Option.{slice_get-map, slice_get_read, get_or_from_slice_get}
+use Rattle.hart_reservations.specs.Marks.{Marks}
+use Rattle.hart_step.specs.Hart.{HartValue, hart_of}
+use Rattle.hart_step.specs.declared.hart.Hart.{Hart}
+use Rattle.machine.specs.World.{World, step}
+use Rattle.machine.specs.declared.choice.Choice.{Choice}
+use Rattle.trace_steps.specs.Told.{told}
+use Rattle.trace_steps.specs.Tells.{tells}
+use Rattle.trace_steps.specs.declared.told.Told.{Told}
+use Rattle.trace_text.specs.Head.{then_of}
+use Rattle.trace_text.specs.declared.head.HartThen.{HartThen}
+use Rattle.cmd_trace.specs.Trace.{entry_of, entries, harts_from}
+use Rattle.cmd_trace.specs.declared.plan.TraceForm.{TraceForm}
+
+entries_nothing : (form : TraceForm) (harts k : ℕ) (w : World) → entries form harts k (tells w []) ≡ []
+unfolding entries tells
+entries_nothing form harts k w = refl
+
+entries_one : (form : TraceForm) (harts k : ℕ) (w : World) (c : Choice) (more : List Choice)
+    → entries form harts k (tells w (c ∷ more)) ≡ entry_of form harts (told w c) k ++ entries form harts (k + 1) (tells (step w c) more)
+unfolding entries tells
+entries_one form harts k w c more = refl
+
+-- one choice more is told
+pub entries_more : (form : TraceForm) (harts from i n : ℕ) (now new : World) (left more : List Choice) (c : Choice) (t : Told) → i < n
+    → left ≡ c ∷ more → t ≡ told now c → new ≡ step now c
+    → entries form harts (from + i) (tells now (take (n - i) left))
+    ≡ entry_of form harts t (from + i) ++ entries form harts (from + (i + 1)) (tells new (take (n - (i + 1)) more))
+entries_more form harts from i n now new left more c t below is tells_it stepping =
+    let rest : n - i ≡ suc (n - (i + 1)) = omega (arith, below) in
+    let place : from + i + 1 ≡ from + (i + 1) = omega arith in
+    ap₂ (λ (m : ℕ) (l : List Choice). entries form harts (from + i) (tells now (take m l))) rest is
+    ∙ entries_one form harts (from + i) now c (take (n - (i + 1)) more)
+    ∙ ap₂ (λ (u : Told) (k : ℕ). entry_of form harts u (from + i) ++ entries form harts k (tells (step now c) (take (n - (i + 1)) more))) (sym tells_it) place
+    ∙ ap (λ (w : World). entry_of form harts t (from + i) ++ entries form harts (from + (i + 1)) (tells w (take (n - (i + 1)) more))) (sym stepping)
+
+-- no choice is left
+pub entries_none : (form : TraceForm) (harts k m : ℕ) (w : World) (left : List Choice) → left ≡ [] → entries form harts k (tells w (take m left)) ≡ []
+entries_none form harts k m w left none =
+    ap (λ (l : List Choice). entries form harts k (tells w (take m l))) none
+    ∙ ap (λ (l : List Choice). entries form harts k (tells w l)) (take_all m [] (omega arith)) ∙ entries_nothing form harts k w
+
+-- all choices that are to be told were told
+pub entries_end : (form : TraceForm) (harts k i n : ℕ) (w : World) (left : List Choice) → n ≤ i → entries form harts k (tells w (take (n - i) left)) ≡ []
+entries_end form harts k i n w left past =
+    let none : n - i ≡ 0 = omega (arith, past) in
+    ap (λ (m : ℕ). entries form harts k (tells w (take m left))) none ∙ entries_nothing form harts k w
+
+-- ---- harts, each with the word that it has reserved
+pub hart_more : (r : Marks) (i : ℕ) (harts : List HartValue) (all : List (HartValue × Option ℕ)) (old new : List HartThen) (t : HartThen) (h : HartValue)
+    → i < length harts → (get_or harts i h ≡ h) → then_of t ≡ (h, r i) → new ≡ old ++ t ∷ []
+    → map then_of old ++ harts_from r i (drop i harts) ≡ all → map then_of new ++ harts_from r (i + 1) (drop (i + 1) harts) ≡ all
+hart_more r i harts all old new t h inside read is pushed left =
+    ap (λ (l : List HartThen). map then_of l ++ harts_from r (i + 1) (drop (i + 1) harts)) pushed
+    ∙ ap (λ (l : List (HartValue × Option ℕ)). l ++ harts_from r (i + 1) (drop (i + 1) harts)) (map-append then_of old (t ∷ []))
+    ∙ append_assoc (map then_of old) (then_of t ∷ []) (harts_from r (i + 1) (drop (i + 1) harts))
+    ∙ ap (λ (x : HartValue × Option ℕ). map then_of old ++ (x ∷ harts_from r (i + 1) (drop (i + 1) harts))) is
+    ∙ ap (λ (l : List HartValue). map then_of old ++ harts_from r i l) (sym (drop_more harts i h inside ∙ ap (λ (x : HartValue). x ∷ drop (i + 1) harts) read))
+    ∙ left
+
+pub harts_end : (r : Marks) (i : ℕ) (harts : List HartValue) (all : List (HartValue × Option ℕ)) (shown : List HartThen) → length harts ≤ i
+    → map then_of shown ++ harts_from r i (drop i harts) ≡ all → map then_of shown ≡ all
+harts_end r i harts all shown past left =
+    sym (ap (λ (l : List HartValue). map then_of shown ++ harts_from r i l) (drop_all i harts past) ∙ append-nil (map then_of shown)) ∙ left
+
+pub read_hart : (ends : List Hart) (harts : List HartValue) (i : ℕ) (x : Hart) → map hart_of ends ≡ harts → i < length ends → x ≡ get_or ends i x
+    → get_or harts i (hart_of x) ≡ hart_of x
+read_hart ends harts i x shown inside is =
+    get_or_from_slice_get harts i (hart_of x) (hart_of x)
+    (subst (λ (hs : List HartValue). slice_get hs i ≡ Some (hart_of x)) shown
+    (slice_get-map hart_of ends i ∙ ap (λ o. option_map hart_of o) (slice_get_read ends (length ends) i x refl inside is)))
+
+pub within_harts : (ends : List Hart) (harts : List HartValue) (i : ℕ) → map hart_of ends ≡ harts → i < length ends → i < length harts
+within_harts ends harts i shown inside = subst (λ n. i < n) (sym (length-map ends hart_of) ∙ ap length shown) inside

@@ -1,0 +1,43 @@
+-- The whole text of a trace, by its parts.
+use Rattle.std.proofs.Common.{◌≡◌, ℕ, ◌-◌, List, ◌++◌, length, take, drop, Option, refl, ap, sym, ◌∙◌}
+use Rattle.std.proofs.KnownBytes.{Appends-nil}
+use Rattle.image.specs.Image.{ImageValue}
+use Rattle.elf_read.specs.Symbol.{SymbolValue}
+use Rattle.machine.specs.World.{World, run}
+use Rattle.machine.specs.Start.{started}
+use Rattle.machine.specs.declared.choice.Choice.{Choice}
+use Rattle.trace_text.specs.declared.head.Span.{Span}
+use Rattle.program_open.specs.Answers.{Begins}
+use Rattle.cmd_trace.specs.Output.{SoFar}
+use Rattle.cmd_trace.specs.Trace.{head_of, span_of, told_entries, trace_text}
+use Rattle.cmd_trace.specs.declared.plan.TracePlan.{TracePlan}
+use Rattle.cmd_trace.proofs.OutputLemmas.{begun_with}
+
+trace_of : (plan : TracePlan) (image : ImageValue) (symbols : List SymbolValue) (inputs : List ℕ) (choices : List Choice)
+    → let span = span_of plan (length choices) in
+    let before = run (started image inputs) (take (span.from - 1) choices) in
+    trace_text plan image symbols inputs choices
+    ≡ head_of plan.form image.entry inputs span symbols before ++ told_entries plan.form (length inputs) span before (drop (span.from - 1) choices)
+unfolding trace_text
+trace_of plan image symbols inputs choices = refl
+
+-- what stands before the choices waits, and they are to come
+pub head_waits : (plan : TracePlan) (image : ImageValue) (symbols : List SymbolValue) (inputs : List ℕ) (choices : List Choice) (count : ℕ)
+    (span : Span) (start_world w : World) (buffer : List ℕ) (start : Option (List ℕ)) → span ≡ span_of plan count → count ≡ length choices
+    → start_world ≡ started image inputs → w ≡ run start_world (take (span.from - 1) choices)
+    → buffer ≡ head_of plan.form image.entry inputs span symbols w
+    → SoFar (trace_text plan image symbols inputs choices) start start buffer
+    (told_entries plan.form (length inputs) span w (drop (span.from - 1) choices))
+head_waits plan image symbols inputs choices count span start_world w buffer start is counted begins reached head =
+    begun_with (trace_text plan image symbols inputs choices) buffer (told_entries plan.form (length inputs) span w (drop (span.from - 1) choices)) start
+    (sym (ap (λ (l : List ℕ). l ++ told_entries plan.form (length inputs) span w (drop (span.from - 1) choices)) head
+    ∙ ap (λ (v : World). head_of plan.form image.entry inputs span symbols v ++ told_entries plan.form (length inputs) span v (drop (span.from - 1) choices))
+    (reached ∙ ap (λ (v : World). run v (take (span.from - 1) choices)) begins)
+    ∙ ap (λ (s : Span). let before = run (started image inputs) (take (s.from - 1) choices) in
+    head_of plan.form image.entry inputs s symbols before ++ told_entries plan.form (length inputs) s before (drop (s.from - 1) choices))
+    (is ∙ ap (span_of plan) counted)
+    ∙ sym (trace_of plan image symbols inputs choices)))
+
+-- nothing was written
+pub begins_nothing : (all : List ℕ) (start : Option (List ℕ)) → Begins all start start
+begins_nothing all start = (0, Appends-nil start)

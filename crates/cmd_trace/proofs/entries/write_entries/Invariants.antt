@@ -1,0 +1,18 @@
+use Rattle.std.proofs.Common.{◌≡◌, ℕ, ◌+◌, ◌-◌, List, Option, take}
+use Rattle.machine.specs.State.{state}
+use Rattle.machine.specs.declared.choice.Choice.{Choice}
+use Rattle.trace_steps.specs.Tells.{tells}
+use Rattle.cmd_trace.specs.Cursor.{Has}
+use Rattle.cmd_trace.specs.Output.{SoFar}
+use Rattle.cmd_trace.specs.Trace.{entries, told_count, told_entries}
+use Rattle.cmd_trace.proofs.entries.write_entries.Given as goal
+
+abbrev pub invariant-choices : goal.invariant-choices
+invariant-choices g l = record {
+  counted : g.K.Sink.failures l.sink ≡ g.K.Sink.failures l.fn.sink;
+  so_far : (left : List Choice) (all : List ℕ) (start : Option (List ℕ)) → Has l.fn.teller.cursor left
+      → SoFar all start (g.K.Sink.held l.fn.sink) l.fn.buffer.items (told_entries l.form l.harts l.span (state l.fn.teller.machine) left)
+      → (more : List Choice) × Has l.teller.cursor more
+      × SoFar all start (g.K.Sink.held l.sink) l.buffer.items
+      (entries l.form l.harts (l.span.from + l.i) (tells (state l.teller.machine) (take (told_count l.span - l.i) more)));
+}

@@ -1,0 +1,10 @@
+use Rattle.std.proofs.Common.{sym, ◌∙◌}
+use Rattle.machine.specs.State.{state}
+use Rattle.cmd_trace.proofs.TellerLemmas.{none_reserved, so_many_harts}
+use Rattle.cmd_trace.proofs.teller.Teller.new.Goals as goal
+
+pub invariant_of-result : goal.invariant_of-result
+invariant_of-result g c = record {
+  known = c.new.ensures _ (none_reserved c.args.image.now c.args.inputs.now (state c.in-Ok.machine) c.in-Ok.ensures.2);
+  there = so_many_harts c.args.image.now c.args.inputs.now (state c.in-Ok.machine) c.in-Ok.ensures.2 ∙ sym c.new-2.ensures.harts;
+}

@@ -1,0 +1,53 @@
+//! What is written of the choices that are told.
+ghost use Rattle.std.specs.Prelude.{◌≡◌, ℕ, ◌-◌, ◌+◌, ◌^◌, ◌<◌, ◌≤◌, [], List, Option, IfOk, IfErr};
+ghost use Rattle.machine.specs.State.{state};
+ghost use Rattle.machine.specs.declared.choice.Choice.{Choice};
+ghost use Rattle.cmd_trace.specs.Cursor.{Has};
+ghost use Rattle.program_open.specs.Answers.{Begins};
+ghost use Rattle.program_open.specs.CommandFaults.{IfHalts};
+ghost use Rattle.cmd_trace.specs.Output.{SoFar};
+ghost use Rattle.cmd_trace.specs.Trace.{told_entries};
+
+use crate::output::write_entry;
+use crate::plan::{TraceForm, told_count};
+use crate::teller::Teller;
+use byte_io::Sink;
+use program_open::CommandFault;
+use std::alloc::Allocator;
+use trace_text::Span;
+
+/// Takes in what is written of the choices that are told, where the first of them is the next of a teller.
+pub(crate) fn write_entries<A: Allocator + Copy, K: Sink>(
+    alloc: A,
+    form: TraceForm,
+    harts: u32,
+    span: Span,
+    teller: &mut Teller<'_, A>,
+    buffer: &mut Vec<u8, A>,
+    sink: &mut K,
+) -> Result<(), CommandFault>
+    requires some { 1 ≤ span.from }
+    requires order { span.from ≤ span.to + 1 }
+    requires sink_counts { K.failures sink.old < 2 ^ 64 - 1 }
+    ensures taken { IfOk result (λ _. (left : List Choice) (all : List ℕ) (start : Option (List ℕ))
+        → Has teller.old.cursor left → SoFar all start (K.held sink.old) buffer.old.items
+        (told_entries form harts span (state teller.old.machine) left)
+        → SoFar all start (K.held sink.new) buffer.new.items []) }
+    ensures count { IfOk result (λ _. K.failures sink.new ≡ K.failures sink.old) }
+    ensures begun { IfErr result (λ _. (left : List Choice) (all : List ℕ) (start : Option (List ℕ))
+        → Has teller.old.cursor left → SoFar all start (K.held sink.old) buffer.old.items
+        (told_entries form harts span (state teller.old.machine) left)
+        → Begins all start (K.held sink.new)) }
+    ensures fault { IfErr result (λ fault. IfHalts fault (K.failures sink.old < K.failures sink.new)) }
+{
+    'choices: for i in 0..told_count(span) {
+        let Some(told) = teller.next() else {
+            return Ok(());
+        };
+        match write_entry(alloc, form, harts, &told, span.from + i, buffer, sink) {
+            Ok(()) => {}
+            Err(fault) => return Err(fault),
+        }
+    }
+    Ok(())
+}

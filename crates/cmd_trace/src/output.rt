@@ -1,0 +1,91 @@
+//! The output, a piece a write.
+ghost use Rattle.std.specs.Prelude.{◌≡◌, ◌-◌, ◌^◌, ◌<◌, ◌++◌, ℕ, List, [], Option, OnOk, IfOk, IfErr};
+ghost use Rattle.program_open.specs.Answers.{Begins};
+ghost use Rattle.program_open.specs.CommandFaults.{IfHalts};
+ghost use Rattle.cmd_trace.specs.Output.{SoFar};
+ghost use Rattle.cmd_trace.specs.Trace.{entry_of};
+
+use crate::plan::TraceForm;
+use byte_io::{Sink, write_all};
+use program_open::CommandFault;
+use std::alloc::{AllocError, Allocator};
+use trace_steps::Told;
+use trace_tables::push_row;
+use trace_text::push_line;
+
+/// How many bytes wait at least before they are written.
+const PIECE: usize = 0x1_0000;
+
+// Appends what is written of choice `k`.
+fn push_entry<A: Allocator + Copy>(
+    alloc: A,
+    buffer: &mut Vec<u8, A>,
+    form: TraceForm,
+    harts: u32,
+    told: &Told,
+    k: u64,
+) -> Result<(), AllocError>
+    ensures { OnOk result (buffer.new.items ≡ buffer.old.items ++ entry_of form harts told.now k) }
+{
+    match form {
+        TraceForm::Lines => push_line(alloc, buffer, told, k),
+        TraceForm::Table => push_row(alloc, buffer, told, k, harts),
+    }
+}
+
+/// Writes what waits.
+pub(crate) fn flush<A: Allocator, K: Sink>(
+    buffer: &mut Vec<u8, A>,
+    sink: &mut K,
+) -> Result<(), CommandFault>
+    requires { K.failures sink.old < 2 ^ 64 - 1 }
+    ensures sent { IfOk result (λ _. (all : List ℕ) (start : Option (List ℕ)) (rest : List ℕ)
+        → SoFar all start (K.held sink.old) buffer.old.items rest
+        → SoFar all start (K.held sink.new) buffer.new.items rest) }
+    ensures empty { IfOk result (λ _. buffer.new.items ≡ []) }
+    ensures count { IfOk result (λ _. K.failures sink.new ≡ K.failures sink.old) }
+    ensures begun { IfErr result (λ _. (all : List ℕ) (start : Option (List ℕ)) (rest : List ℕ)
+        → SoFar all start (K.held sink.old) buffer.old.items rest → Begins all start (K.held sink.new)) }
+    ensures fault { IfErr result (λ fault. IfHalts fault (K.failures sink.old < K.failures sink.new)) }
+{
+    match write_all(sink, buffer) {
+        Ok(()) => {
+            buffer.clear();
+            Ok(())
+        }
+        Err(_) => Err(CommandFault::Write),
+    }
+}
+
+/// Takes in what is written of choice `k`, and writes what waits where that is a piece.
+pub(crate) fn write_entry<A: Allocator + Copy, K: Sink>(
+    alloc: A,
+    form: TraceForm,
+    harts: u32,
+    told: &Told,
+    k: u64,
+    buffer: &mut Vec<u8, A>,
+    sink: &mut K,
+) -> Result<(), CommandFault>
+    requires { K.failures sink.old < 2 ^ 64 - 1 }
+    ensures taken { IfOk result (λ _. (all : List ℕ) (start : Option (List ℕ)) (rest : List ℕ)
+        → SoFar all start (K.held sink.old) buffer.old.items (entry_of form harts told.now k ++ rest)
+        → SoFar all start (K.held sink.new) buffer.new.items rest) }
+    ensures count { IfOk result (λ _. K.failures sink.new ≡ K.failures sink.old) }
+    ensures begun { IfErr result (λ _. (all : List ℕ) (start : Option (List ℕ)) (rest : List ℕ)
+        → SoFar all start (K.held sink.old) buffer.old.items (entry_of form harts told.now k ++ rest)
+        → Begins all start (K.held sink.new)) }
+    ensures fault { IfErr result (λ fault. IfHalts fault (K.failures sink.old < K.failures sink.new)) }
+{
+    match push_entry(alloc, buffer, form, harts, told, k) {
+        Ok(()) => {}
+        Err(AllocError) => return Err(CommandFault::Memory),
+    }
+    if buffer.len() < PIECE {
+        return Ok(());
+    }
+    match flush(buffer, sink) {
+        Ok(()) => Ok(()),
+        Err(fault) => Err(fault),
+    }
+}

@@ -1,0 +1,51 @@
+//! What is to be told.
+ghost use Rattle.std.specs.Prelude.{◌≡◌, ◌≤◌, ◌-◌, ◌+◌};
+ghost use Rattle.cmd_trace.specs.Trace.{span_of, told_count};
+
+use trace_text::Span;
+
+/// How a trace is written.
+#[derive(Clone, Copy, PartialEq, Eq)]
+pub enum TraceForm {
+    /// A head and a line for each choice, each an object of JSON.
+    Lines,
+    /// A table in Markdown, with a row for each choice and a column for each hart.
+    Table,
+}
+
+/// Which choices of a run are told, and how. Choices are numbered from 1, by their places in the list.
+#[derive(Clone, Copy, PartialEq, Eq)]
+pub struct TracePlan {
+    /// How the trace is written.
+    pub form: TraceForm,
+    /// The first choice that is told. There is no choice 0, so 0 is as 1.
+    pub from: u64,
+    /// The last choice that is told, where there are so many; none for the last of the list.
+    pub to: Option<u64>,
+}
+
+/// The first and the last choice that are told, of so many.
+pub(crate) fn span_of(plan: TracePlan, count: u64) -> Span
+    ensures value { result ≡ span_of plan count }
+    ensures some { 1 ≤ result.from }
+    ensures order { result.from ≤ result.to + 1 }
+{
+    let from = plan.from.max(1);
+    let end = match plan.to {
+        None => count,
+        Some(to) => to.min(count),
+    };
+    Span {
+        from,
+        to: end.max(from - 1),
+    }
+}
+
+/// How many choices are told.
+pub(crate) fn told_count(span: Span) -> u64
+    requires some { 1 ≤ span.from }
+    requires order { span.from ≤ span.to + 1 }
+    ensures { result ≡ told_count span }
+{
+    span.to - (span.from - 1)
+}

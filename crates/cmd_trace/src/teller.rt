@@ -1,0 +1,107 @@
+//! The choices of a text, done and told one after the other.
+ghost use Rattle.std.specs.Prelude.{◌≡◌, length};
+ghost use Rattle.machine.specs.State.{state};
+ghost use Rattle.trace_steps.specs.Known.{Knows};
+ghost use Rattle.trace_steps.specs.Latest.{words_of};
+
+use crate::cursor::Cursor;
+use image::Image;
+use machine::{Choice, Machine};
+use mem_flat::FlatStore;
+use std::alloc::{AllocError, Allocator};
+use trace_steps::{Latest, Told, tell_step};
+use trace_text::HartThen;
+
+/// A machine, and the choices of a text that are before it.
+#[derive(Drop)]
+pub struct Teller<'a, A: Allocator> {
+    machine: Machine<FlatStore<A>, A>,
+    latest: Latest,
+    cursor: Cursor<'a>,
+    ghost known: { Knows (words_of latest) (state machine).reserved },
+    ghost there: { length (state machine).harts ≡ cursor.harts },
+}
+
+impl<'a, A: Allocator> Teller<'a, A> {
+    ghost use Rattle.std.specs.Prelude.{◌≡◌, List};
+    ghost use Rattle.machine.specs.State.{state};
+    ghost use Rattle.machine.specs.declared.choice.Choice.{Choice};
+    ghost use Rattle.cmd_trace.specs.Cursor.{Has};
+    ghost use Rattle.cmd_trace.specs.Teller.{TellsNext, Skips};
+
+    /// Does the next choice and tells it; none where no choice is left.
+    pub fn next(&mut self) -> Option<Told>
+        ensures { (left : List Choice) → Has self.old.cursor left
+            → TellsNext (state self.old.machine) (state self.new.machine) self.new.cursor left result }
+    {
+        let Some(choice) = self.cursor.next() else {
+            return None;
+        };
+        // Over a flat store a step wants no memory.
+        let Ok(told) = tell_step(&mut self.machine, &mut self.latest, choice) else {
+            unreachable!();
+        };
+        Some(told)
+    }
+
+    /// Does the next choices, so many, or all that are left where those are fewer.
+    pub fn skip(&mut self, count: u64)
+        ensures { (left : List Choice) → Has self.old.cursor left
+            → Skips count (state self.old.machine) (state self.new.machine) self.new.cursor left }
+    {
+        'choices: for _ in 0..count {
+            let Some(_told) = self.next() else {
+                return;
+            };
+        }
+    }
+}
+
+impl<'a, A: Allocator + Copy> Teller<'a, A> {
+    ghost use Rattle.std.specs.Prelude.{◌≡◌, List, Ok, IfOk, length, map};
+    ghost use Rattle.machine.specs.State.{state};
+    ghost use Rattle.machine.specs.Start.{started, IsStartable};
+    ghost use Rattle.machine.specs.declared.choice.Choice.{Choice};
+    ghost use Rattle.sched_text.specs.Reading.{choices_of};
+    ghost use Rattle.trace_text.specs.Head.{then_of};
+    ghost use Rattle.cmd_trace.specs.Cursor.{Has};
+    ghost use Rattle.cmd_trace.specs.Trace.{harts_from};
+
+    /// The harts as they are now, each with the word that it has reserved.
+    pub fn harts(&self, alloc: A) -> Result<Vec<HartThen, A>, AllocError>
+        ensures { IfOk result (λ harts. map then_of harts.items
+            ≡ harts_from (state self.now.machine).reserved 0 (state self.now.machine).harts) }
+    {
+        let mut harts = Vec::new(alloc);
+        'harts: for (number, hart) in self.machine.ends().iter().enumerate() {
+            harts.push(HartThen {
+                hart: *hart,
+                reserved: self.latest.reserved(self.machine.reserve(), number),
+            })?;
+        }
+        Ok(harts)
+    }
+
+    /// Before all choices of a text, at an image's start.
+    pub fn new(
+        alloc: A,
+        image: &Image<A>,
+        inputs: &[u32],
+        text: &'a [u8],
+    ) -> Result<Teller<'a, A>, AllocError>
+        requires { IsStartable inputs.now }
+        ensures world { IfOk result (λ t. state t.machine ≡ started image.now inputs.now) }
+        ensures has { IfOk result (λ t. (left : List Choice)
+            → choices_of (length inputs.now) text.now ≡ Ok left → Has t.cursor left) }
+    {
+        let machine: Machine<FlatStore<A>, A> = match Machine::start(alloc, image, inputs) {
+            Ok(machine) => machine,
+            Err(_) => return Err(AllocError),
+        };
+        Ok(Teller {
+            machine,
+            latest: Latest::new(),
+            cursor: Cursor::new(text, inputs.len() as u32),
+        })
+    }
+}

@@ -1,0 +1,114 @@
+//! `trace`: a program, inputs and a list of choices in; what each choice did out.
+
+ghost use Rattle.std.specs.Prelude.{◌≡◌, ◌≢◌, ◌^◌, ◌-◌, ◌<◌, ◌⊎◌, Ok, Err, IfOk, IfErr, IfSome, length};
+ghost use Rattle.std.specs.Io.KnownBytes.{Keeps};
+ghost use Rattle.image.specs.Image.{ImageValue};
+ghost use Rattle.machine.specs.Start.{IsStartable};
+ghost use Rattle.sched_text.specs.Reading.{choices_of};
+ghost use Rattle.program_open.specs.Opening.{with_choices};
+ghost use Rattle.program_open.specs.Program.{program_of};
+ghost use Rattle.program_open.specs.CommandFaults.{IfNames, IsRefusal};
+ghost use Rattle.program_open.specs.Answers.{BeginsToPrint, Prints};
+ghost use Rattle.cmd_trace.specs.Answer.{after_opening, trace_answer};
+
+use crate::counting::count_choices;
+use crate::opening::{OpenTrace, open_trace};
+use crate::plan::TracePlan;
+use crate::writing::write_trace;
+use byte_io::{Sink, Source, Status};
+use program_open::{CommandFault, Input, ProgramForm};
+use std::alloc::Allocator;
+
+// Counts the choices of a run, and writes what is told of it. Nothing is written where a choice is bad; after another fault a beginning
+// may have been written.
+fn trace_run<A: Allocator + Copy, K: Sink>(
+    alloc: A,
+    plan: TracePlan,
+    inputs: &[u32],
+    run: &OpenTrace<A>,
+    sink: &mut K,
+) -> Result<Status, CommandFault>
+    requires takes { IsStartable inputs.now }
+    requires sink_counts { K.failures sink.old < 2 ^ 64 - 1 }
+    ensures done { IfOk result (λ status.
+        Prints (after_opening plan run.now.program.symbols.items inputs.now
+        (with_choices run.now.program.image (choices_of (length inputs.now) run.now.text.items)))
+        status (K.held sink.old) (K.held sink.new)) }
+    ensures refused { IfErr result (λ fault. IsRefusal fault
+        → after_opening plan run.now.program.symbols.items inputs.now
+        (with_choices run.now.program.image (choices_of (length inputs.now) run.now.text.items)) ≡ Err fault) }
+    ensures unwritten { IfErr result (λ fault. fault ≢ CommandFault.Write → fault ≢ CommandFault.Memory
+        → Keeps (K.held sink.old) (K.held sink.new)) }
+    ensures read { IfErr result (λ fault.
+        IfNames fault ⊥ ⊥ ⊥ (K.failures sink.old < K.failures sink.new)) }
+    ensures begun { result ≡ Err CommandFault.Write
+        → BeginsToPrint (after_opening plan run.now.program.symbols.items inputs.now
+        (with_choices run.now.program.image (choices_of (length inputs.now) run.now.text.items)))
+        (K.held sink.old) (K.held sink.new) }
+    ensures halted { result ≡ Err CommandFault.Memory → Keeps (K.held sink.old) (K.held sink.new)
+        ⊎ BeginsToPrint (after_opening plan run.now.program.symbols.items inputs.now
+        (with_choices run.now.program.image (choices_of (length inputs.now) run.now.text.items)))
+        (K.held sink.old) (K.held sink.new) }
+{
+    let count = match count_choices(&run.text, inputs.len() as u32) {
+        Ok(count) => count,
+        Err(fault) => return Err(CommandFault::from(fault)),
+    };
+    match write_trace(alloc, plan, inputs, run, count, sink) {
+        Ok(()) => Ok(Status::Done),
+        Err(fault) => Err(fault),
+    }
+}
+
+/// `trace`: reads the program in this form to its end, and where it is one and the inputs are not too many, the choice text to its end;
+/// writes what the plan asks for of what the choices did, a piece a write. Nothing is written where what was read is refused; after
+/// another fault a beginning may stand there. The choices are taken as they stand in the text, and never held as a list.
+pub fn trace_engine<A: Allocator + Copy, P: Source, C: Source, K: Sink>(
+    alloc: A,
+    form: ProgramForm,
+    plan: TracePlan,
+    inputs: &[u32],
+    program: &mut P,
+    choices: &mut C,
+    sink: &mut K,
+) -> Result<Status, CommandFault>
+    requires program_counts { P.failures program.old < 2 ^ 64 - 1 }
+    requires choices_count { C.failures choices.old < 2 ^ 64 - 1 }
+    requires sink_counts { K.failures sink.old < 2 ^ 64 - 1 }
+    // All that is told was appended, and the status is 0.
+    ensures done { IfOk result (λ status.
+        IfSome (P.left program.old) (λ p. IfSome (C.left choices.old) (λ c.
+        Prints (trace_answer form plan inputs.now p c) status (K.held sink.old) (K.held sink.new)))) }
+    // What was read is refused, and nothing is written.
+    ensures refused { IfErr result (λ fault. IsRefusal fault
+        → IfSome (P.left program.old) (λ p. IfSome (C.left choices.old) (λ c.
+        trace_answer form plan inputs.now p c ≡ Err fault))) }
+    ensures unwritten { IfErr result (λ fault. fault ≢ CommandFault.Write → fault ≢ CommandFault.Memory
+        → Keeps (K.held sink.old) (K.held sink.new)) }
+    // A device is named only where it failed.
+    ensures read { IfErr result (λ fault. IfNames fault
+        (P.failures program.old < P.failures program.new)
+        (C.failures choices.old < C.failures choices.new) ⊥
+        (K.failures sink.old < K.failures sink.new)) }
+    // A fault of the program, and that of the number of inputs, come before one of the device that the choices are read from.
+    ensures program_first { result ≡ Err (CommandFault.Read Input.Choices)
+        → IfSome (P.left program.old) (λ p. (image : ImageValue) × (program_of form p ≡ Ok image)) }
+    ensures inputs_first { result ≡ Err (CommandFault.Read Input.Choices) → IsStartable inputs.now }
+    // After a failed write, and where memory is refused to a later line, a beginning of the text stands there.
+    ensures begun { result ≡ Err CommandFault.Write
+        → IfSome (P.left program.old) (λ p. IfSome (C.left choices.old) (λ c.
+        BeginsToPrint (trace_answer form plan inputs.now p c) (K.held sink.old) (K.held sink.new))) }
+    ensures halted { result ≡ Err CommandFault.Memory
+        → IfSome (P.left program.old) (λ p. IfSome (C.left choices.old) (λ c.
+        Keeps (K.held sink.old) (K.held sink.new)
+        ⊎ BeginsToPrint (trace_answer form plan inputs.now p c) (K.held sink.old) (K.held sink.new))) }
+{
+    let run = match open_trace(alloc, form, inputs, program, choices) {
+        Ok(run) => run,
+        Err(fault) => return Err(fault),
+    };
+    match trace_run(alloc, plan, inputs, &run, sink) {
+        Ok(status) => Ok(status),
+        Err(fault) => Err(fault),
+    }
+}

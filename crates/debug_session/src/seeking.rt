@@ -1,0 +1,220 @@
+//! Going on and back to where one has to stop.
+ghost use Rattle.std.specs.Prelude.{◌≡◌, ◌<◌, ◌≤◌, ◌+◌, ◌-◌, ◌*◌, OnOk, OnErr, IfOk, IfSome};
+ghost use Rattle.debug_session.specs.Paged.{paged_world};
+ghost use Rattle.debug_session.specs.Searches.{IsLeastStop, IsGreatestStop};
+ghost use Rattle.debug_session.specs.Session.{session, moved, length_of, world_at, stop_behind, found_or, last_stop, next_found, earlier_found, steps_on, steps_of_search, steps_back};
+
+use crate::debugger::Debugger;
+use crate::paged_machine::PagedMachine;
+use crate::stepping::step_to_stop;
+use crate::stop::Stop;
+use crate::track::BLOCK;
+use std::alloc::{AllocError, Allocator};
+
+/// What a search has found: a position, why to stop there, and the machine there.
+#[derive(Drop)]
+pub struct Target<A: Allocator + Copy> {
+    pub(crate) machine: PagedMachine<A>,
+    pub(crate) position: usize,
+    pub(crate) stop: Option<Stop>,
+    // How many steps it took to come there.
+    pub(crate) cost: u64,
+}
+
+impl<A: Allocator + Copy> Target<A> {
+    /// How many choices were done there.
+    pub fn position(&self) -> usize
+        ensures { result ≡ self.now.position }
+    {
+        self.position
+    }
+
+    /// Why to stop there; `None` at the end or the start.
+    pub fn stop(&self) -> Option<Stop>
+        ensures { result ≡ self.now.stop }
+    {
+        self.stop
+    }
+}
+
+// A place on a way back.
+#[derive(Clone, Copy)]
+struct Place {
+    // How many choices were done there.
+    position: usize,
+    // Why to stop there; none at the start.
+    stop: Option<Stop>,
+    // How many steps the search took.
+    cost: u64,
+}
+
+impl<A: Allocator + Copy> Debugger<A> {
+    /// The least later position at which one has to stop, or the end. Nothing moves.
+    pub fn next_stop(&self, alloc: A) -> Result<Target<A>, AllocError>
+        ensures found { IfOk result (λ t.
+            (t.position, t.stop) ≡ next_found (session self.now)) }
+        ensures world { IfOk result (λ t.
+            paged_world t.machine ≡ world_at (session self.now) t.position) }
+        ensures inside { IfOk result (λ t. t.position ≤ length_of (session self.now)) }
+        ensures cost { IfOk result (λ t. t.cost ≡ steps_on (session self.now) t.position) }
+    {
+        let mut machine = self.machine.copy(alloc)?;
+        let mut cost = 0;
+        let length = self.track.choices.len();
+        'steps: for position in self.position..length {
+            let choice = self.track.choices[position];
+            let stop = step_to_stop(&mut machine, &mut cost, choice, &self.breaks, &self.watches)?;
+            if stop.is_some() {
+                return Ok(Target {
+                    machine,
+                    position: position + 1,
+                    stop,
+                    cost,
+                });
+            }
+        }
+        Ok(Target {
+            machine,
+            position: length,
+            stop: None,
+            cost,
+        })
+    }
+
+    // The greatest position above 256 times `block` and not above `end` at which one has to stop, if there is one.
+    fn place_in_block(&self, alloc: A, block: usize, end: usize) -> Result<Place, AllocError>
+        requires from { block * 256 ≤ end }
+        requires to { end ≤ length_of (session self.now) }
+        ensures found { IfOk result (λ place. found_or place.position place.stop
+            (last_stop (stop_behind (session self.now)) (block * 256))
+            ≡ last_stop (stop_behind (session self.now)) end) }
+        ensures above { IfOk result (λ place.
+            IfSome place.stop (λ _. block * 256 < place.position)) }
+        ensures inside { IfOk result (λ place. place.position ≤ end) }
+        ensures cost { IfOk result (λ place. place.cost + block * 256 ≡ end) }
+    {
+        let mut machine = self.track.checkpoint(block).copy(alloc)?;
+        let mut place = Place {
+            position: 0,
+            stop: None,
+            cost: 0,
+        };
+        'steps: for position in block * BLOCK..end {
+            let choice = self.track.choices[position];
+            let mut cost = place.cost;
+            let stop = step_to_stop(&mut machine, &mut cost, choice, &self.breaks, &self.watches)?;
+            place.cost = cost;
+            if stop.is_none() {
+                continue;
+            }
+            place = Place {
+                position: position + 1,
+                stop,
+                cost,
+            };
+        }
+        Ok(place)
+    }
+
+    // The greatest earlier position above 0 at which one has to stop, or 0. It looks at one block of choices after the
+    // other, at the last one first.
+    fn earlier_place(&self, alloc: A) -> Result<Place, AllocError>
+        ensures found { IfOk result (λ place.
+            (place.position, place.stop) ≡ earlier_found (session self.now)) }
+        ensures inside { IfOk result (λ place. place.position ≤ length_of (session self.now)) }
+        ensures cost { IfOk result (λ place.
+            place.cost ≡ steps_of_search (session self.now) place.position) }
+    {
+        let mut end = self.position.saturating_sub(1);
+        let mut cost = 0;
+        'pieces: while end > 0 {
+            let block = (end - 1) / BLOCK;
+            let place = self.place_in_block(alloc, block, end)?;
+            cost += place.cost;
+            if place.stop.is_some() {
+                return Ok(Place {
+                    position: place.position,
+                    stop: place.stop,
+                    cost,
+                });
+            }
+            end = block * BLOCK;
+        }
+        Ok(Place {
+            position: 0,
+            stop: None,
+            cost,
+        })
+    }
+
+    /// The greatest earlier position above 0 at which one has to stop, or the start. Nothing moves.
+    pub fn earlier_stop(&self, alloc: A) -> Result<Target<A>, AllocError>
+        ensures found { IfOk result (λ t.
+            (t.position, t.stop) ≡ earlier_found (session self.now)) }
+        ensures world { IfOk result (λ t.
+            paged_world t.machine ≡ world_at (session self.now) t.position) }
+        ensures inside { IfOk result (λ t. t.position ≤ length_of (session self.now)) }
+        ensures cost { IfOk result (λ t. t.cost ≡ steps_back (session self.now) t.position) }
+    {
+        let place = self.earlier_place(alloc)?;
+        let (machine, cost) = self.track.machine_at(alloc, place.position)?;
+        Ok(Target {
+            machine,
+            position: place.position,
+            stop: place.stop,
+            cost: place.cost + cost,
+        })
+    }
+
+    /// Moves to what a search of this debugger at this position has found. It cannot be refused.
+    pub fn settle(&mut self, target: Target<A>)
+        requires inside { target.position ≤ length_of (session self.old) }
+        requires world { paged_world target.machine ≡ world_at (session self.old) target.position }
+        ensures moved { session self.new ≡ moved (session self.old) target.position }
+        ensures cost { self.new.cost ≡ target.cost }
+    {
+        self.machine = target.machine;
+        self.position = target.position;
+        self.cost = target.cost;
+    }
+
+    /// Goes on to the least later position at which one has to stop, or to the end; tells why it stopped, `None` at the
+    /// end. One has to stop where the hart that stepped last stands on a breakpoint, or where a watched word differs from
+    /// the position before.
+    pub fn go_on(&mut self, alloc: A) -> Result<Option<Stop>, AllocError>
+        ensures ok { IfOk result (λ stop.
+            (session self.new ≡ moved (session self.old) (next_found (session self.old)).0)
+            × (stop ≡ (next_found (session self.old)).1)) }
+        ensures least { IfOk result (λ stop. IsLeastStop (stop_behind (session self.old))
+            (session self.old).position (length_of (session self.old))
+            (session self.new).position stop) }
+        ensures cost { OnOk result (self.new.cost
+            ≡ steps_on (session self.old) (session self.new).position) }
+        ensures err { OnErr result ((session self.new ≡ session self.old)
+            × (self.new.cost ≡ self.old.cost)) }
+    {
+        let target = self.next_stop(alloc)?;
+        let stop = target.stop;
+        self.settle(target);
+        Ok(stop)
+    }
+
+    /// Goes back to the greatest earlier position above 0 at which one has to stop, or to the start; tells why it
+    /// stopped, `None` at the start.
+    pub fn go_back(&mut self, alloc: A) -> Result<Option<Stop>, AllocError>
+        ensures ok { IfOk result (λ stop.
+            (session self.new ≡ moved (session self.old) (earlier_found (session self.old)).0)
+            × (stop ≡ (earlier_found (session self.old)).1)) }
+        ensures greatest { IfOk result (λ stop. IsGreatestStop (stop_behind (session self.old))
+            ((session self.old).position - 1) (session self.new).position stop) }
+        ensures cost { OnOk result (self.new.cost
+            ≡ steps_back (session self.old) (session self.new).position) }
+        ensures err { OnErr result ((session self.new ≡ session self.old)
+            × (self.new.cost ≡ self.old.cost)) }
+    {
+        let target = self.earlier_stop(alloc)?;
+        let stop = target.stop;
+        self.settle(target);
+        Ok(stop)
+    }
+}

@@ -1,0 +1,77 @@
+-- What a command answers, and the session after it.
+use Rattle.std.specs.Prelude.{ℕ, ◌+◌, ◌-◌, ◌*◌, ◌==◌, ◌||◌, nat_le, nat_lt, max, Bool, true, false, List, [], length, slice_get, Option, Some, None, Result, Ok, Err, string_bytes, codes, if◌then◌else◌}
+use Rattle.hart_reservations.specs.Marks.{word_of}
+use Rattle.hart_step.specs.Hart.{HartValue}
+use Rattle.debug_session.specs.Points.{with_address}
+use Rattle.debug_session.specs.Session.{Session, length_of, moved, world_at, Found, next_found, earlier_found}
+use Rattle.debug_session.specs.Steps.{shown_steps}
+use Rattle.debug_text.specs.Commands.{command_of}
+use Rattle.debug_text.specs.Texts.{position_text, break_text, watch_text, found_text, steps_text, hart_text, cells_text}
+use Rattle.debug_text.specs.declared.answer.Answer.{Answer}
+use Rattle.debug_text.specs.declared.answer.Answer.TheVariants as answer
+use Rattle.debug_text.specs.declared.commands.Command.{Command}
+use Rattle.debug_text.specs.declared.commands.Command.TheVariants.{Nothing, Where, Goto, Forward, Back, Break, Watch, Go, Rgo, Steps, Regs, Mem, Quit}
+use Rattle.debug_text.specs.declared.fault.DebugFault.{DebugFault}
+use Rattle.debug_text.specs.declared.fault.DebugFault.TheVariants.{BadCommand, PastEnd}
+
+-- the text that is shown, the session after it, and whether it has ended
+pub record Outcome : Type 0 where
+  pub text : List ℕ
+  pub after : Session
+  pub ended : Bool
+
+-- an outcome, or why there is none
+abbrev pub Reply : Type 0
+Reply = Result Outcome DebugFault
+
+-- a text is shown, and the session goes on
+abbrev pub shows : List ℕ → Session → Reply
+shows text after = Ok (record { text = text; after = after; ended = false })
+
+-- the session has moved to a position, which is shown
+abbrev pub shows_move : Session → ℕ → Reply
+shows_move s k = shows (position_text k (length_of s)) (moved s k)
+
+-- the session has moved to where one has to stop, and why is shown, or what stands in its place
+abbrev pub shows_found : Session → List ℕ → Found → Reply
+shows_found s none found = shows (found_text none found.1 found.0 (length_of s)) (moved s found.0)
+
+-- the registers of a hart, if it is there
+abbrev pub shows_hart : Session → ℕ → Option HartValue → Reply
+shows_hart s h None = Err BadCommand
+shows_hart s h (Some hart) = shows (hart_text h hart) s
+
+-- what a command answers in a session
+unfoldable pub reply : Session → Command → Reply
+reply s Nothing = shows [] s
+reply s Where = shows_move s s.position
+reply s (Goto k) = if nat_le k (length_of s) then shows_move s k else Err PastEnd
+reply s (Forward n) =
+    if nat_le n (length_of s - s.position) then shows_move s (s.position + n) else Err PastEnd
+reply s (Back n) = if nat_le n s.position then shows_move s (s.position - n) else Err PastEnd
+reply s (Break a) = shows (break_text a) (record s { breaks = with_address s.breaks a })
+reply s (Watch a) =
+    shows (watch_text (word_of a)) (record s { watches = with_address s.watches (word_of a) })
+reply s Go = shows_found s (codes "end") (next_found s)
+reply s Rgo = shows_found s (codes "start") (earlier_found s)
+reply s (Steps a b) =
+    if nat_le (max a b) (length_of s) then shows (steps_text (shown_steps s a b)) s else Err PastEnd
+reply s (Regs h) = shows_hart s h (slice_get (world_at s s.position).harts h)
+reply s (Mem a n) =
+    if n == 0 || nat_lt 64 n then Err BadCommand
+    else shows (cells_text (world_at s s.position).memory (word_of a) n) s
+reply s Quit = Ok (record { text = []; after = s; ended = true })
+
+-- what a line answers whose command this is
+abbrev pub reply_if : Session → Option Command → Reply
+reply_if s None = Err BadCommand
+reply_if s (Some command) = reply s command
+
+-- what a line, without its end, answers in a session
+unfoldable pub reply_to : Session → List ℕ → Reply
+reply_to s line = reply_if s (command_of line)
+
+-- an answer as an outcome
+abbrev pub outcome_of : {Z : Type 0} → Answer Z → Session → Outcome
+outcome_of (answer.Text text) after = record { text = string_bytes text; after = after; ended = false }
+outcome_of answer.Quit after = record { text = []; after = after; ended = true }

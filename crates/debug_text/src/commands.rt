@@ -1,0 +1,137 @@
+//! What a line asks for.
+ghost use Rattle.std.specs.Prelude.{◌≡◌};
+ghost use Rattle.std.specs.Str.{bytes_eq};
+ghost use Rattle.debug_text.specs.Commands.{bare_command, single_command, double_command, command_by};
+
+use crate::number::{address_of, decimal_of};
+
+/// What a line asks for. A number of choices above 2^64 - 1 is held as that: it is past every end.
+#[derive(Clone, Copy, PartialEq, Eq)]
+pub enum Command {
+    /// A blank line.
+    Nothing,
+    /// `where`: tells the position.
+    Where,
+    /// `goto K`: moves to position K.
+    Goto(u64),
+    /// `forward [N]`: moves N choices on, 1 where N is left out.
+    Forward(u64),
+    /// `back [N]`: moves N choices back, 1 where N is left out.
+    Back(u64),
+    /// `break A`: adds a breakpoint at an address.
+    Break(u32),
+    /// `watch A`: watches the aligned word that holds an address.
+    Watch(u32),
+    /// `go`: goes on to where one has to stop.
+    Go,
+    /// `rgo`: goes back to where one has to stop.
+    Rgo,
+    /// `steps A B`: shows the steps of the choices from A to B - 1.
+    Steps {
+        /// The first choice, from 0.
+        from: u64,
+        /// The choice behind the last.
+        to: u64,
+    },
+    /// `regs H`: shows a hart's end and its registers.
+    Regs(u64),
+    /// `mem A N`: shows N words from the aligned word on that holds an address.
+    Mem {
+        /// The address.
+        address: u32,
+        /// How many words, which are 1 to 64 where the command is not refused.
+        count: u64,
+    },
+    /// `quit`: ends the session.
+    Quit,
+}
+
+// Whether a word is this one.
+fn is_word(name: &[u8], word: &str) -> bool
+    ensures { result ≡ bytes_eq name.now word.now }
+{
+    name == word.as_bytes()
+}
+
+// The command that a word alone is.
+fn bare_command(name: &[u8]) -> Option<Command>
+    ensures { result ≡ bare_command name.now }
+{
+    if is_word(name, "where") {
+        return Some(Command::Where);
+    }
+    if is_word(name, "forward") {
+        return Some(Command::Forward(1));
+    }
+    if is_word(name, "back") {
+        return Some(Command::Back(1));
+    }
+    if is_word(name, "go") {
+        return Some(Command::Go);
+    }
+    if is_word(name, "rgo") {
+        return Some(Command::Rgo);
+    }
+    if is_word(name, "quit") {
+        return Some(Command::Quit);
+    }
+    None
+}
+
+// The command that a word and one operand are.
+fn single_command(name: &[u8], operand: &[u8]) -> Option<Command>
+    ensures { result ≡ single_command name.now operand.now }
+{
+    if is_word(name, "goto") {
+        return Some(Command::Goto(decimal_of(operand)?));
+    }
+    if is_word(name, "forward") {
+        return Some(Command::Forward(decimal_of(operand)?));
+    }
+    if is_word(name, "back") {
+        return Some(Command::Back(decimal_of(operand)?));
+    }
+    if is_word(name, "break") {
+        return Some(Command::Break(address_of(operand)?));
+    }
+    if is_word(name, "watch") {
+        return Some(Command::Watch(address_of(operand)?));
+    }
+    if is_word(name, "regs") {
+        return Some(Command::Regs(decimal_of(operand)?));
+    }
+    None
+}
+
+// The command that a word and two operands are.
+fn double_command(name: &[u8], first: &[u8], second: &[u8]) -> Option<Command>
+    ensures { result ≡ double_command name.now first.now second.now }
+{
+    if is_word(name, "steps") {
+        let from = decimal_of(first)?;
+        let to = decimal_of(second)?;
+        return Some(Command::Steps { from, to });
+    }
+    if is_word(name, "mem") {
+        let address = address_of(first)?;
+        let count = decimal_of(second)?;
+        return Some(Command::Mem { address, count });
+    }
+    None
+}
+
+/// The command that a word and at most two operands are, of which empty ones are left out.
+pub fn command_by(name: &[u8], first: &[u8], second: &[u8]) -> Option<Command>
+    ensures { result ≡ command_by name.now first.now second.now }
+{
+    if name.is_empty() {
+        return Some(Command::Nothing);
+    }
+    if first.is_empty() {
+        return bare_command(name);
+    }
+    if second.is_empty() {
+        return single_command(name, first);
+    }
+    double_command(name, first, second)
+}

@@ -1,0 +1,73 @@
+//! Lines as commands.
+ghost use Rattle.std.specs.Prelude.{◌≡◌, ◌≢◌, ◌≤◌, Ok, Err, IfOk, IfErr, OnErr, length};
+ghost use Rattle.std.specs.List.{prefix_len, position_or_len};
+ghost use Rattle.debug_session.specs.Session.{session};
+ghost use Rattle.debug_text.specs.Words.{is_space, next_word, behind_word};
+ghost use Rattle.debug_text.specs.Commands.{command_of};
+ghost use Rattle.debug_text.specs.Reply.{reply_to, outcome_of};
+
+use crate::answer::Answer;
+use crate::commands::{Command, command_by};
+use crate::fault::DebugFault;
+use crate::replies::obey;
+use debug_session::Debugger;
+use std::alloc::Allocator;
+
+// How many spaces stand at the front.
+fn space_len(line: &[u8]) -> usize
+    ensures count { result ≡ prefix_len is_space line.now }
+    ensures within { result ≤ length line.now }
+{
+    line.iter().take_while(|byte| **byte == b' ').count()
+}
+
+// How many bytes stand before the first space.
+fn word_len(line: &[u8]) -> usize
+    ensures count { result ≡ position_or_len is_space line.now }
+    ensures within { result ≤ length line.now }
+{
+    line.iter().take_while(|byte| **byte != b' ').count()
+}
+
+// The first word of a line, empty where there is none, and what stands behind it.
+fn next_word(line: &[u8]) -> (&[u8], &[u8])
+    ensures word { result.0.now ≡ next_word line.now }
+    ensures behind { result.1.now ≡ behind_word line.now }
+{
+    let (_, rest) = line.split_at(space_len(line));
+    rest.split_at(word_len(rest))
+}
+
+/// The command of a line, without its end; `None` where it is no command. Words stand between spaces.
+#[tactic(auto, unfolding(crate::specs::Commands::command_of))]
+pub fn read_command(line: &[u8]) -> Option<Command>
+    ensures { result ≡ command_of line.now }
+{
+    let (name, rest) = next_word(line);
+    let (first, rest) = next_word(rest);
+    let (second, rest) = next_word(rest);
+    let (more, _) = next_word(rest);
+    if !more.is_empty() {
+        return None;
+    }
+    command_by(name, first, second)
+}
+
+/// Obeys a line, without its end, and answers its text. After a fault nothing has changed.
+#[tactic(auto, unfolding(crate::specs::Reply::reply_to))]
+pub fn command<A: Allocator + Copy>(
+    alloc: A,
+    debugger: &mut Debugger<A>,
+    line: &str,
+) -> Result<Answer<A>, DebugFault>
+    ensures ok { IfOk result (λ answer. reply_to (session debugger.old) line.now
+        ≡ Ok (outcome_of answer (session debugger.new))) }
+    ensures unchanged { OnErr result (session debugger.new ≡ session debugger.old) }
+    ensures fault { IfErr result (λ fault. fault ≢ DebugFault.Memory
+        → reply_to (session debugger.old) line.now ≡ Err fault) }
+{
+    let Some(command) = read_command(line.as_bytes()) else {
+        return Err(DebugFault::BadCommand);
+    };
+    obey(alloc, debugger, command)
+}

@@ -1,0 +1,291 @@
+//! What commands do.
+ghost use Rattle.std.specs.Prelude.{◌≡◌, ◌≢◌, ◌≤◌, Ok, Err, IfOk, IfErr, OnErr, codes, string_bytes};
+ghost use Rattle.debug_session.specs.Session.{session, length_of};
+ghost use Rattle.debug_text.specs.Reply.{reply, shows_move, outcome_of};
+ghost use Rattle.debug_text.specs.declared.commands.Command.TheVariants as commands;
+
+use crate::answer::Answer;
+use crate::commands::Command;
+use crate::fault::DebugFault;
+use crate::memory_text::cells_text;
+use crate::registers_text::hart_text;
+use crate::steps_text::steps_text;
+use crate::texts::{break_text, found_text, position_text, watch_text};
+use debug_session::{Debugger, MoveFault};
+use std::alloc::Allocator;
+
+// The most words that `mem` shows.
+const MOST_WORDS: u64 = 64;
+
+// Moves to a position that is there, and shows it. The text is made before the move.
+fn go_to<A: Allocator + Copy>(
+    alloc: A,
+    debugger: &mut Debugger<A>,
+    target: usize,
+) -> Result<Answer<A>, DebugFault>
+    requires { target ≤ length_of (session debugger.old) }
+    ensures ok { IfOk result (λ answer. shows_move (session debugger.old) target
+        ≡ Ok (outcome_of answer (session debugger.new))) }
+    ensures unchanged { OnErr result (session debugger.new ≡ session debugger.old) }
+    ensures fault { IfErr result (λ fault. fault ≡ DebugFault.Memory) }
+{
+    let Ok(text) = position_text(alloc, target, debugger.choices().len()) else {
+        return Err(DebugFault::Memory);
+    };
+    match debugger.goto(alloc, target) {
+        Ok(()) => Ok(Answer::Text(text)),
+        Err(_) => Err(DebugFault::Memory),
+    }
+}
+
+// `goto K`.
+#[tactic(auto, unfolding(crate::specs::Reply::reply))]
+fn obey_goto<A: Allocator + Copy>(
+    alloc: A,
+    debugger: &mut Debugger<A>,
+    k: u64,
+) -> Result<Answer<A>, DebugFault>
+    ensures ok { IfOk result (λ answer. reply (session debugger.old) (commands.Goto k)
+        ≡ Ok (outcome_of answer (session debugger.new))) }
+    ensures unchanged { OnErr result (session debugger.new ≡ session debugger.old) }
+    ensures fault { IfErr result (λ fault. fault ≢ DebugFault.Memory
+        → reply (session debugger.old) (commands.Goto k) ≡ Err fault) }
+{
+    if k > debugger.choices().len() as u64 {
+        return Err(DebugFault::PastEnd);
+    }
+    go_to(alloc, debugger, k as usize)
+}
+
+// `forward N`.
+#[tactic(auto, unfolding(crate::specs::Reply::reply))]
+fn obey_forward<A: Allocator + Copy>(
+    alloc: A,
+    debugger: &mut Debugger<A>,
+    n: u64,
+) -> Result<Answer<A>, DebugFault>
+    ensures ok { IfOk result (λ answer. reply (session debugger.old) (commands.Forward n)
+        ≡ Ok (outcome_of answer (session debugger.new))) }
+    ensures unchanged { OnErr result (session debugger.new ≡ session debugger.old) }
+    ensures fault { IfErr result (λ fault. fault ≢ DebugFault.Memory
+        → reply (session debugger.old) (commands.Forward n) ≡ Err fault) }
+{
+    let position = debugger.position();
+    if n > (debugger.choices().len() - position) as u64 {
+        return Err(DebugFault::PastEnd);
+    }
+    go_to(alloc, debugger, position + n as usize)
+}
+
+// `back N`.
+#[tactic(auto, unfolding(crate::specs::Reply::reply))]
+fn obey_back<A: Allocator + Copy>(
+    alloc: A,
+    debugger: &mut Debugger<A>,
+    n: u64,
+) -> Result<Answer<A>, DebugFault>
+    ensures ok { IfOk result (λ answer. reply (session debugger.old) (commands.Back n)
+        ≡ Ok (outcome_of answer (session debugger.new))) }
+    ensures unchanged { OnErr result (session debugger.new ≡ session debugger.old) }
+    ensures fault { IfErr result (λ fault. fault ≢ DebugFault.Memory
+        → reply (session debugger.old) (commands.Back n) ≡ Err fault) }
+{
+    let position = debugger.position();
+    if n > position as u64 {
+        return Err(DebugFault::PastEnd);
+    }
+    go_to(alloc, debugger, position - n as usize)
+}
+
+// `break A`.
+#[tactic(auto, unfolding(crate::specs::Reply::reply))]
+fn obey_break<A: Allocator + Copy>(
+    alloc: A,
+    debugger: &mut Debugger<A>,
+    address: u32,
+) -> Result<Answer<A>, DebugFault>
+    ensures ok { IfOk result (λ answer. reply (session debugger.old) (commands.Break address)
+        ≡ Ok (outcome_of answer (session debugger.new))) }
+    ensures unchanged { OnErr result (session debugger.new ≡ session debugger.old) }
+    ensures fault { IfErr result (λ fault. fault ≡ DebugFault.Memory) }
+{
+    let Ok(text) = break_text(alloc, address) else {
+        return Err(DebugFault::Memory);
+    };
+    match debugger.add_break(address) {
+        Ok(()) => Ok(Answer::Text(text)),
+        Err(_) => Err(DebugFault::Memory),
+    }
+}
+
+// `watch A`.
+#[tactic(auto, unfolding(crate::specs::Reply::reply))]
+fn obey_watch<A: Allocator + Copy>(
+    alloc: A,
+    debugger: &mut Debugger<A>,
+    address: u32,
+) -> Result<Answer<A>, DebugFault>
+    ensures ok { IfOk result (λ answer. reply (session debugger.old) (commands.Watch address)
+        ≡ Ok (outcome_of answer (session debugger.new))) }
+    ensures unchanged { OnErr result (session debugger.new ≡ session debugger.old) }
+    ensures fault { IfErr result (λ fault. fault ≡ DebugFault.Memory) }
+{
+    let Ok(text) = watch_text(alloc, address - address % 4) else {
+        return Err(DebugFault::Memory);
+    };
+    match debugger.add_watch(address) {
+        Ok(()) => Ok(Answer::Text(text)),
+        Err(_) => Err(DebugFault::Memory),
+    }
+}
+
+// `go`. The text is made between the search and the move, which cannot be refused.
+#[tactic(auto, unfolding(crate::specs::Reply::reply))]
+fn obey_go<A: Allocator + Copy>(
+    alloc: A,
+    debugger: &mut Debugger<A>,
+) -> Result<Answer<A>, DebugFault>
+    ensures ok { IfOk result (λ answer. reply (session debugger.old) commands.Go
+        ≡ Ok (outcome_of answer (session debugger.new))) }
+    ensures unchanged { OnErr result (session debugger.new ≡ session debugger.old) }
+    ensures fault { IfErr result (λ fault. fault ≡ DebugFault.Memory) }
+{
+    let Ok(target) = debugger.next_stop(alloc) else {
+        return Err(DebugFault::Memory);
+    };
+    let length = debugger.choices().len();
+    let Ok(text) = found_text(alloc, "end", target.stop(), target.position(), length) else {
+        return Err(DebugFault::Memory);
+    };
+    debugger.settle(target);
+    Ok(Answer::Text(text))
+}
+
+// `rgo`. As `go`.
+#[tactic(auto, unfolding(crate::specs::Reply::reply))]
+fn obey_rgo<A: Allocator + Copy>(
+    alloc: A,
+    debugger: &mut Debugger<A>,
+) -> Result<Answer<A>, DebugFault>
+    ensures ok { IfOk result (λ answer. reply (session debugger.old) commands.Rgo
+        ≡ Ok (outcome_of answer (session debugger.new))) }
+    ensures unchanged { OnErr result (session debugger.new ≡ session debugger.old) }
+    ensures fault { IfErr result (λ fault. fault ≡ DebugFault.Memory) }
+{
+    let Ok(target) = debugger.earlier_stop(alloc) else {
+        return Err(DebugFault::Memory);
+    };
+    let length = debugger.choices().len();
+    let Ok(text) = found_text(alloc, "start", target.stop(), target.position(), length) else {
+        return Err(DebugFault::Memory);
+    };
+    debugger.settle(target);
+    Ok(Answer::Text(text))
+}
+
+// `steps A B`.
+#[tactic(auto, unfolding(crate::specs::Reply::reply))]
+fn obey_steps<A: Allocator + Copy>(
+    alloc: A,
+    debugger: &Debugger<A>,
+    from: u64,
+    to: u64,
+) -> Result<Answer<A>, DebugFault>
+    ensures ok { IfOk result (λ answer. reply (session debugger.now) (commands.Steps from to)
+        ≡ Ok (outcome_of answer (session debugger.now))) }
+    ensures fault { IfErr result (λ fault. fault ≢ DebugFault.Memory
+        → reply (session debugger.now) (commands.Steps from to) ≡ Err fault) }
+{
+    let length = debugger.choices().len() as u64;
+    if from > length || to > length {
+        return Err(DebugFault::PastEnd);
+    }
+    let Ok(views) = debugger.steps(alloc, from as usize, to as usize) else {
+        return Err(DebugFault::Memory);
+    };
+    match steps_text(alloc, &views) {
+        Ok(text) => Ok(Answer::Text(text)),
+        Err(_) => Err(DebugFault::Memory),
+    }
+}
+
+// `regs H`.
+#[tactic(auto, unfolding(crate::specs::Reply::reply))]
+fn obey_regs<A: Allocator + Copy>(
+    alloc: A,
+    debugger: &Debugger<A>,
+    number: u64,
+) -> Result<Answer<A>, DebugFault>
+    ensures ok { IfOk result (λ answer. reply (session debugger.now) (commands.Regs number)
+        ≡ Ok (outcome_of answer (session debugger.now))) }
+    ensures fault { IfErr result (λ fault. fault ≢ DebugFault.Memory
+        → reply (session debugger.now) (commands.Regs number) ≡ Err fault) }
+{
+    let machine = debugger.machine();
+    if number >= machine.harts() as u64 {
+        return Err(DebugFault::BadCommand);
+    }
+    match hart_text(alloc, number as usize, machine.hart(number as usize)) {
+        Ok(text) => Ok(Answer::Text(text)),
+        Err(_) => Err(DebugFault::Memory),
+    }
+}
+
+// `mem A N`.
+#[tactic(auto, unfolding(crate::specs::Reply::reply))]
+fn obey_mem<A: Allocator + Copy>(
+    alloc: A,
+    debugger: &Debugger<A>,
+    address: u32,
+    count: u64,
+) -> Result<Answer<A>, DebugFault>
+    ensures ok { IfOk result (λ answer. reply (session debugger.now) (commands.Mem address count)
+        ≡ Ok (outcome_of answer (session debugger.now))) }
+    ensures fault { IfErr result (λ fault. fault ≢ DebugFault.Memory
+        → reply (session debugger.now) (commands.Mem address count) ≡ Err fault) }
+{
+    if count == 0 || count > MOST_WORDS {
+        return Err(DebugFault::BadCommand);
+    }
+    let store = debugger.machine().store();
+    match cells_text(alloc, store, address - address % 4, count) {
+        Ok(text) => Ok(Answer::Text(text)),
+        Err(_) => Err(DebugFault::Memory),
+    }
+}
+
+/// Obeys a command, and answers its text. After a fault nothing has changed.
+#[tactic(auto, unfolding(crate::specs::Reply::reply))]
+pub fn obey<A: Allocator + Copy>(
+    alloc: A,
+    debugger: &mut Debugger<A>,
+    command: Command,
+) -> Result<Answer<A>, DebugFault>
+    ensures ok { IfOk result (λ answer. reply (session debugger.old) command
+        ≡ Ok (outcome_of answer (session debugger.new))) }
+    ensures unchanged { OnErr result (session debugger.new ≡ session debugger.old) }
+    ensures fault { IfErr result (λ fault. fault ≢ DebugFault.Memory
+        → reply (session debugger.old) command ≡ Err fault) }
+{
+    match command {
+        Command::Nothing => Ok(Answer::Text(String::new(alloc))),
+        Command::Where => {
+            let position = debugger.position();
+            match position_text(alloc, position, debugger.choices().len()) {
+                Ok(text) => Ok(Answer::Text(text)),
+                Err(_) => Err(DebugFault::Memory),
+            }
+        }
+        Command::Goto(k) => obey_goto(alloc, debugger, k),
+        Command::Forward(n) => obey_forward(alloc, debugger, n),
+        Command::Back(n) => obey_back(alloc, debugger, n),
+        Command::Break(address) => obey_break(alloc, debugger, address),
+        Command::Watch(address) => obey_watch(alloc, debugger, address),
+        Command::Go => obey_go(alloc, debugger),
+        Command::Rgo => obey_rgo(alloc, debugger),
+        Command::Steps { from, to } => obey_steps(alloc, debugger, from, to),
+        Command::Regs(number) => obey_regs(alloc, debugger, number),
+        Command::Mem { address, count } => obey_mem(alloc, debugger, address, count),
+        Command::Quit => Ok(Answer::Quit),
+    }
+}

@@ -1,0 +1,20 @@
+-- Numbers as bytes of a file.
+use Rattle.std.specs.Prelude.{ℕ, List, [], ◌∷◌, ◌++◌, replicate}
+use Rattle.byteorder.specs.Endian.{little_bytes}
+use Rattle.elf_write.specs.declared.field.Field.{Field}
+use Rattle.elf_write.specs.declared.field.Field.TheVariants as fields
+
+-- the bytes of a number, little-endian
+abbrev pub bytes_of : Field → List ℕ
+bytes_of (fields.Byte n) = n ∷ []
+bytes_of (fields.Half n) = little_bytes 2 n
+bytes_of (fields.Word n) = little_bytes 4 n
+
+-- the bytes of numbers, one after the other
+abbrev pub bytes_of_all : List Field → List ℕ
+bytes_of_all [] = []
+bytes_of_all (f ∷ fs) = bytes_of f ++ bytes_of_all fs
+
+-- so many zero bytes
+unfoldable pub zero_bytes : ℕ → List ℕ
+zero_bytes n = replicate n 0

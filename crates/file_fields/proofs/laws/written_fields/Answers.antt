@@ -1,5 +1,0 @@
-use Rattle.file_fields.proofs.Whole.{written}
-use Rattle.file_fields.proofs.laws.written_fields.Goals as goal
-
-pub returns : goal.returns
-returns c = written

@@ -1,5 +1,0 @@
-use Rattle.std.proofs.Common.{◌≡◌, take}
-use Rattle.flat_memory.proofs.building.copies_of.Given as goal
-
-abbrev pub invariant-each : goal.invariant-each
-invariant-each g l = l.copies.items ≡ take l.block-index l.blocks

@@ -1,6 +1,0 @@
-use Rattle.std.proofs.Common.{◌≡◌, take, map}
-use Rattle.flat_memory.specs.Blocks.{filled}
-use Rattle.flat_memory.proofs.building.filled_blocks.Given as goal
-
-abbrev pub invariant-each : goal.invariant-each
-invariant-each g l = l.blocks.items ≡ map filled (take l.segment-index l.segments)

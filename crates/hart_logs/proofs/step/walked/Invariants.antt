@@ -1,8 +1,0 @@
-use Rattle.std.proofs.Common.{◌-◌}
-use Rattle.hart_step.specs.Hart.{hart_of}
-use Rattle.hart_logs.specs.HartLog.{image_table}
-use Rattle.hart_logs.proofs.StepLemmas.{LeadsOn}
-use Rattle.hart_logs.proofs.step.walked.Given as goal
-
-abbrev pub invariant-steps : goal.invariant-steps
-invariant-steps g l = LeadsOn (image_table l.image) l.count (hart_of l.hart) (l.count - l.counter) (hart_of l.reached)

@@ -1,8 +1,0 @@
-use Rattle.hart_threads.proofs.shared.Shared.seat.Goals as goal
-
-pub returns : goal.returns
-returns g c = record {
-  book = c.deref.result.now;
-  there = c.in_ok-seat.ensures.there;
-  fresh = c.in_ok-seat.ensures.fresh;
-}

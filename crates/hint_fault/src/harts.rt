@@ -1,0 +1,231 @@
+//! What the faults of harts mean.
+
+use crate::places::{push_instruction, push_standing, rwx, segment_at};
+use crate::sentences::{
+    ACROSS, AT_ZERO, BREAK, CALL, COMPRESSED, MISALIGNED, NO_INSTRUCTION, NO_STACK, NOT_EXECUTABLE,
+    NOT_READABLE, NOT_WRITABLE, NOWHERE_TO_FETCH, ODD_JUMP, PAST_LAST, UNMAPPED, ZEROS,
+};
+use elf_read::Symbol;
+use hart_step::{Access, Cause, Hart, HartState, access_by};
+use hint_text::{Form, Sentence, Value, push_sentence};
+use image::{Image, Rights, Segment};
+use isa_decode::decode;
+use isa_names::Word;
+use machine::Machine;
+use mem_flat::FlatStore;
+use mem_store::Store;
+use std::alloc::{AllocError, Allocator};
+
+// So many harts are told of at most: the others mostly met the same.
+const MOST_HARTS: usize = 4;
+
+// sp of a hart is x2, a7 is x17.
+const SP: usize = 2;
+
+const A7: usize = 17;
+
+// What a hart met.
+#[derive(Clone, Copy)]
+struct Met<'a> {
+    hart: &'a Hart,
+    cause: Cause,
+    // The word at pc, where it may be executed.
+    word: Option<u32>,
+    // The access of data of the instruction, where it has one.
+    access: Option<Access>,
+}
+
+/// What the faults of the harts of a machine mean, as whole lines: where the hart stands, what it was to do, which address it used and where
+/// that is, and a sentence on it. Of more than four such harts the first four are told of. Nothing where none has a fault.
+pub fn harts_advice<A: Allocator + Copy>(
+    alloc: A,
+    image: &Image<A>,
+    symbols: &[Symbol<A>],
+    machine: &Machine<FlatStore<A>, A>,
+) -> Result<String<A>, AllocError> {
+    let mut text = String::new(alloc);
+    let mut told = 0usize;
+    'harts: for (number, hart) in machine.ends().iter().enumerate() {
+        if let Some(cause) = cause_of(hart) {
+            if told < MOST_HARTS {
+                told += 1;
+                let met = met_by(hart, cause, machine.store().fetch(hart.pc));
+                push_hart(&mut text, number, image.segments(), symbols, &met)?;
+            }
+        }
+    }
+    Ok(text)
+}
+
+// Why a hart has faulted, where it has.
+fn cause_of(hart: &Hart) -> Option<Cause> {
+    match hart.state {
+        HartState::Faulted(cause) => Some(cause),
+        _ => None,
+    }
+}
+
+// What a hart met at this word.
+fn met_by(hart: &Hart, cause: Cause, word: Option<u32>) -> Met<'_> {
+    let access = access_of(hart, word);
+    Met {
+        hart,
+        cause,
+        word,
+        access,
+    }
+}
+
+// The access of data of a word's instruction, where there is one.
+fn access_of(hart: &Hart, word: Option<u32>) -> Option<Access> {
+    let instr = decode(word?)?;
+    access_by(hart, instr)
+}
+
+// Adds the lines of a hart.
+fn push_hart<A: Allocator>(
+    text: &mut String<A>,
+    number: usize,
+    segments: &[Segment<A>],
+    symbols: &[Symbol<A>],
+    met: &Met<'_>,
+) -> Result<(), AllocError> {
+    push_standing(text, symbols, number, met.hart.pc)?;
+    if let Some(word) = met.word {
+        push_instruction(text, met.hart.pc, word)?;
+    }
+    push_access(text, segments, met.access)?;
+    text.push_str("\n    ")?;
+    push_sentence(text, &meaning_of(segments, met))?;
+    text.push('\n')
+}
+
+// Adds the address that an access uses, and the segment that it is in.
+fn push_access<A: Allocator>(
+    text: &mut String<A>,
+    segments: &[Segment<A>],
+    access: Option<Access>,
+) -> Result<(), AllocError> {
+    let Some(access) = access else {
+        return Ok(());
+    };
+    let shown = Word(access.address);
+    match segment_at(segments, access.address) {
+        Some(segment) => {
+            let (base, rights) = (Word(segment.base), rwx(segment.rights));
+            write!(text, ", which uses {shown}, in the segment {base} {rights}")
+        }
+        None => write!(text, ", which uses {shown}, in no segment"),
+    }
+}
+
+// A sentence with a number.
+fn numbered(form: Form, number: u32) -> Sentence<'static> {
+    Sentence {
+        form,
+        values: [
+            Value::Number(i64::from(number)),
+            Value::Text(""),
+            Value::Text(""),
+        ],
+    }
+}
+
+// What a fault means.
+fn meaning_of<A: Allocator>(segments: &[Segment<A>], met: &Met<'_>) -> Sentence<'static> {
+    let form = match met.cause {
+        Cause::FetchAccess => fetch_form(segments, met.hart.pc),
+        Cause::Illegal => word_form(met.word),
+        Cause::LoadMisaligned | Cause::StoreMisaligned => {
+            return numbered(MISALIGNED, size_of_access(met.access));
+        }
+        Cause::LoadAccess => access_form(segments, met, Rights::READ),
+        Cause::StoreAccess => access_form(segments, met, Rights::WRITE),
+        Cause::JumpMisaligned => ODD_JUMP,
+        Cause::BadCall => return numbered(CALL, met.hart.registers[A7]),
+        Cause::Break => BREAK,
+    };
+    Sentence::of(form, "")
+}
+
+// The bytes of an access, where there is one, else those of a word.
+fn size_of_access(access: Option<Access>) -> u32 {
+    match access {
+        Some(access) => access.size,
+        None => 4,
+    }
+}
+
+// Whether an address may be executed.
+fn is_code<A: Allocator>(segments: &[Segment<A>], address: u32) -> bool {
+    match segment_at(segments, address) {
+        Some(segment) => segment.rights.grants(Rights::EXECUTE),
+        None => false,
+    }
+}
+
+// Why no instruction can be taken from an address.
+fn fetch_form<A: Allocator>(segments: &[Segment<A>], pc: u32) -> Form {
+    if pc > 0 && is_code(segments, pc - 1) {
+        PAST_LAST
+    } else if segment_at(segments, pc).is_some() {
+        NOT_EXECUTABLE
+    } else if pc == 0 {
+        AT_ZERO
+    } else {
+        NOWHERE_TO_FETCH
+    }
+}
+
+// What a word is that is no instruction.
+fn word_form(word: Option<u32>) -> Form {
+    match word {
+        Some(0) => ZEROS,
+        Some(word) if word % 4 != 3 => COMPRESSED,
+        _ => NO_INSTRUCTION,
+    }
+}
+
+// Whether an address is what sp gives where no stack was set: up to 64 KiB below 0, or above.
+fn is_near_zero(address: u32) -> bool {
+    address >= 0xffff_0000 || address < 0x0000_1000
+}
+
+// Why an access of data is refused.
+fn access_form<A: Allocator>(segments: &[Segment<A>], met: &Met<'_>, wanted: Rights) -> Form {
+    let Some(access) = met.access else {
+        return UNMAPPED;
+    };
+    match segment_at(segments, access.address) {
+        Some(segment) => rights_form(segment.rights, wanted),
+        None => nowhere_form(met, access.address),
+    }
+}
+
+// Why an access to a segment with these rights is refused.
+fn rights_form(rights: Rights, wanted: Rights) -> Form {
+    if rights.grants(wanted) {
+        ACROSS
+    } else if wanted == Rights::WRITE {
+        NOT_WRITABLE
+    } else {
+        NOT_READABLE
+    }
+}
+
+// What is said of an access to an address in no segment.
+fn nowhere_form(met: &Met<'_>, address: u32) -> Form {
+    if is_near_zero(address) && is_near_zero(met.hart.registers[SP]) && uses_sp(met.word) {
+        NO_STACK
+    } else {
+        UNMAPPED
+    }
+}
+
+// Whether an instruction's address is by sp.
+fn uses_sp(word: Option<u32>) -> bool {
+    match word {
+        Some(word) => word / 0x8000 % 32 == SP as u32,
+        None => false,
+    }
+}

@@ -1,0 +1,102 @@
+//! Places in a program: by the label before, and by the segment.
+
+ghost use Rattle.std.specs.Prelude.{◌≡◌, None, option_map};
+ghost use Rattle.hint_fault.specs.Places.{is_nearer, label_before, segment_at};
+
+use elf_read::Symbol;
+use image::{Rights, Segment};
+use isa_disasm::Line;
+use isa_names::Word;
+use std::alloc::{AllocError, Allocator};
+
+// Whether a symbol is at or below an address, and above the one that was the nearest so far.
+fn is_nearer<A: Allocator>(best: Option<&Symbol<A>>, symbol: &Symbol<A>, address: u32) -> bool
+    ensures { result ≡ is_nearer (option_map (λ s. s.now) best.entry) symbol.now address }
+{
+    if symbol.address > address {
+        return false;
+    }
+    match best {
+        None => true,
+        Some(best) => best.address < symbol.address,
+    }
+}
+
+/// The symbol with the greatest address that is not above an address, of several the first; none where each is above.
+pub fn label_before<A: Allocator>(symbols: &[Symbol<A>], address: u32) -> Option<&Symbol<A>>
+    ensures { option_map (λ s. s.now) result ≡ label_before None symbols.now address }
+{
+    let mut best = None;
+    'symbols: for symbol in symbols {
+        if is_nearer(best, symbol, address) {
+            best = Some(symbol);
+        }
+    }
+    best
+}
+
+/// The segment that has an address.
+pub fn segment_at<A: Allocator>(segments: &[Segment<A>], address: u32) -> Option<&Segment<A>>
+    ensures { option_map (λ s. s.now) result ≡ segment_at segments.now address }
+{
+    'segments: for segment in segments {
+        if segment.base <= address && address - segment.base < segment.size {
+            return Some(segment);
+        }
+    }
+    None
+}
+
+// Adds an address, by the label before it and how many bytes it is behind that, as `wait+8`; by its digits where there is no label.
+fn push_place<A: Allocator>(
+    text: &mut String<A>,
+    symbols: &[Symbol<A>],
+    address: u32,
+) -> Result<(), AllocError> {
+    let Some(symbol) = label_before(symbols, address) else {
+        let shown = Word(address);
+        return write!(text, "{shown}");
+    };
+    text.push_str(symbol.name.as_str())?;
+    match address.saturating_sub(symbol.address) {
+        0 => Ok(()),
+        distance => write!(text, "+{distance}"),
+    }
+}
+
+/// Adds where a hart stands, as `hart 0 at 00010004, wait+8`: by the label before too, where there is one.
+pub fn push_standing<A: Allocator>(
+    text: &mut String<A>,
+    symbols: &[Symbol<A>],
+    number: usize,
+    pc: u32,
+) -> Result<(), AllocError> {
+    let shown = Word(pc);
+    write!(text, "hart {number} at {shown}, ")?;
+    push_place(text, symbols, pc)
+}
+
+/// Adds an instruction at an address behind what stands there.
+pub fn push_instruction<A: Allocator>(
+    text: &mut String<A>,
+    address: u32,
+    word: u32,
+) -> Result<(), AllocError> {
+    let line = Line { address, word };
+    write!(text, ": {line}")
+}
+
+/// Rights as `rwx`, with a dash for each that isn't given.
+pub(crate) fn rwx(rights: Rights) -> &'static str {
+    let (read, write) = (rights.grants(Rights::READ), rights.grants(Rights::WRITE));
+    match (read, write, rights.grants(Rights::EXECUTE)) {
+        (false, false, false) => "---",
+        (false, false, true) => "--x",
+        (false, true, false) => "-w-",
+        (false, true, true) => "-wx",
+        (true, false, false) => "r--",
+        (true, false, true) => "r-x",
+        (true, true, false) => "rw-",
+        (true, true, true) => "rwx",
+    }
+}

@@ -1,8 +1,0 @@
-use Rattle.std.proofs.Common.{◌≡◌, ◌++◌, string_bytes, drop}
-use Rattle.item_texts.specs.Printing.{after_item}
-use Rattle.histories.specs.Printing.{item_text, history_text}
-use Rattle.histories.proofs.printing.print_history.Given as goal
-
--- the text so far, and then what stands behind its last item
-abbrev pub invariant-items : goal.invariant-items
-invariant-items g l = string_bytes l.text ++ after_item item_text (drop l.entry-index l.rest) ≡ history_text l.entries

@@ -1,0 +1,29 @@
+-- History texts as a reader knows them: which texts spell a history, and which item spoils one. `Reading`
+-- computes the same; `proofs/Agreement.antt` ties the two.
+use Rattle.std.specs.Prelude.{◌≡◌, ℕ, ◌<◌, ◌^◌, List, ◌∷◌, ◌++◌}
+use Rattle.std.specs.Str.Parse.{digits_value}
+use Rattle.text_items.specs.Numbers.{IsNumber, mark_of}
+use Rattle.text_items.specs.Spelling as texts
+use Rattle.history.specs.declared.entry.Entry.{Entry}
+use Rattle.history.specs.declared.history_text.HistoryFault.{HistoryFault}
+use Rattle.history.specs.declared.history_text.HistoryFault.TheVariants.{BadEntry, NoHart}
+
+-- the item is a hart's number, `+`, a number of 32 bits, and the mark, if there is one
+pub record NamesEntry (item : List ℕ) (e : Entry) : Type 0 where
+  pub hart_digits : List ℕ
+  pub local_digits : List ℕ
+  pub text : item ≡ hart_digits ++ 43 ∷ (local_digits ++ mark_of e.refuse)
+  pub hart_number : IsNumber hart_digits
+  pub local_number : IsNumber local_digits
+  pub hart : digits_value 10 hart_digits ≡ e.hart
+  pub local : digits_value 10 local_digits ≡ e.local
+  pub small : e.local < 2 ^ 32
+
+-- the text is items with blanks between and around them, which name these entries of so many harts
+abbrev pub Spells : ℕ → List ℕ → List Entry → Type 0
+Spells harts text entries = texts.Spells NamesEntry (λ e. e.hart < harts) text entries
+
+-- the text, which begins at an offset, has a bad item after good ones only: one that names no entry,
+-- or an entry of a hart that isn't there
+abbrev pub Spoils : ℕ → ℕ → List ℕ → HistoryFault → Type 0
+Spoils harts at text fault = texts.Spoils NamesEntry (λ e. e.hart < harts) BadEntry NoHart at text fault

@@ -1,0 +1,21 @@
+-- The choices that a history stands for.
+use Rattle.std.specs.Prelude.{ℕ, Bool, false, List, [], ◌∷◌, ◌++◌, replicate}
+use Rattle.machine.specs.declared.choice.Choice.{Choice}
+use Rattle.history.specs.declared.entry.Entry.{Entry}
+
+-- the choice of a hart
+abbrev pub choice : ℕ → Bool → Choice
+choice hart refuse = record { hart = hart; refuse = refuse }
+
+-- the entry of a hart, with so many local steps
+abbrev pub entry : ℕ → ℕ → Bool → Entry
+entry hart local refuse = record { hart = hart; local = local; refuse = refuse }
+
+-- an entry is as many plain choices of its hart as it has local steps, and then one with its mark
+abbrev pub choices_of : Entry → List Choice
+choices_of e = replicate e.local (choice e.hart false) ++ choice e.hart e.refuse ∷ []
+
+-- one entry after another
+unfoldable pub expanded : List Entry → List Choice
+expanded [] = []
+expanded (e ∷ entries) = choices_of e ++ expanded entries

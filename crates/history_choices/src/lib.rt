@@ -1,0 +1,37 @@
+//! Lists of choices as histories.
+#![tactic(auto)]
+
+ghost use Rattle.std.specs.Prelude.{◌≡◌, IfOk, map};
+ghost use Rattle.history.specs.History.{expanded};
+ghost use Rattle.history_choices.specs.Plain.{plain_entry};
+
+use history::Entry;
+use machine::Choice;
+use std::alloc::{AllocError, Allocator};
+pub use text::choices_text;
+
+mod text;
+
+/// Choices as a history: an entry without local steps for each, which therefore stands for these choices.
+pub fn history_of<A: Allocator>(alloc: A, choices: &[Choice]) -> Result<Vec<Entry, A>, AllocError>
+    ensures entries { IfOk result (λ history. history.items ≡ map plain_entry choices.now) }
+    ensures choices { IfOk result (λ history. expanded history.items ≡ choices.now) }
+{
+    let history = entries_of(alloc, choices)?;
+    Ok(history)
+}
+
+/// An entry for each choice.
+fn entries_of<A: Allocator>(alloc: A, choices: &[Choice]) -> Result<Vec<Entry, A>, AllocError>
+    ensures { IfOk result (λ history. history.items ≡ map plain_entry choices.now) }
+{
+    let mut history = Vec::new(alloc);
+    'choices: for choice in choices {
+        history.push(Entry {
+            hart: choice.hart,
+            local: 0,
+            refuse: choice.refuse,
+        })?;
+    }
+    Ok(history)
+}

@@ -1,0 +1,88 @@
+//! Why a file or an image is refused.
+ghost use Rattle.std.specs.Prelude.{◌≡◌};
+ghost use Rattle.image.specs.Fault.{number_of};
+
+use thiserror::Error;
+
+/// The first check that refuses a file or an image, in the order of the checks; or want of memory.
+#[derive(Clone, Copy, Debug, PartialEq, Eq, Error)]
+pub enum ElfFault {
+    /// The file has less than 52 bytes.
+    #[error("elf fault 1 Short")]
+    Short,
+    /// The file does not begin with 7F 45 4C 46.
+    #[error("elf fault 2 Magic")]
+    Magic,
+    /// The file's addresses do not have 32 bits.
+    #[error("elf fault 3 Class")]
+    Class,
+    /// The file's numbers are not little-endian.
+    #[error("elf fault 4 Encoding")]
+    Encoding,
+    /// One of the two versions is not 1.
+    #[error("elf fault 5 Version")]
+    Version,
+    /// The file is no executable: e_type is not 2.
+    #[error("elf fault 6 FileType")]
+    FileType,
+    /// The file is not for RISC-V.
+    #[error("elf fault 7 Machine")]
+    Machine,
+    /// The file has compressed instructions, by e_flags.
+    #[error("elf fault 8 Compressed")]
+    Compressed,
+    /// e_ehsize is not 52, or there are program headers and e_phentsize is not 32, or e_phnum is 65535.
+    #[error("elf fault 9 HeaderSize")]
+    HeaderSize,
+    /// The program headers, or bytes of a segment, pass the file's end.
+    #[error("elf fault 10 OutsideFile")]
+    OutsideFile,
+    /// A segment has more file bytes than its size.
+    #[error("elf fault 11 FileOverMem")]
+    FileOverMem,
+    /// A segment ends above the last address.
+    #[error("elf fault 12 PastEnd")]
+    PastEnd,
+    /// Two segments share an address.
+    #[error("elf fault 13 Overlap")]
+    Overlap,
+    /// The sizes of all segments add up to more than `IMAGE_LIMIT`.
+    #[error("elf fault 14 TooLarge")]
+    TooLarge,
+    /// The file asks for a dynamic linker, by a header PT_DYNAMIC or PT_INTERP.
+    #[error("elf fault 15 Dynamic")]
+    Dynamic,
+    /// The entry is no multiple of 4.
+    #[error("elf fault 16 EntryAlign")]
+    EntryAlign,
+    /// The host refused memory.
+    #[error("out of memory")]
+    Memory,
+}
+
+impl ElfFault {
+    /// The number of the check that refused, from 1 on; want of memory has none.
+    pub fn number(&self) -> Option<u8>
+        ensures { result ≡ number_of self.now }
+    {
+        match self {
+            ElfFault::Short => Some(1),
+            ElfFault::Magic => Some(2),
+            ElfFault::Class => Some(3),
+            ElfFault::Encoding => Some(4),
+            ElfFault::Version => Some(5),
+            ElfFault::FileType => Some(6),
+            ElfFault::Machine => Some(7),
+            ElfFault::Compressed => Some(8),
+            ElfFault::HeaderSize => Some(9),
+            ElfFault::OutsideFile => Some(10),
+            ElfFault::FileOverMem => Some(11),
+            ElfFault::PastEnd => Some(12),
+            ElfFault::Overlap => Some(13),
+            ElfFault::TooLarge => Some(14),
+            ElfFault::Dynamic => Some(15),
+            ElfFault::EntryAlign => Some(16),
+            ElfFault::Memory => None,
+        }
+    }
+}

@@ -1,5 +1,0 @@
-use Rattle.loader.proofs.FileLemmas.{file_bytes}
-use Rattle.loader.proofs.file.a_segments_bytes_are_the_files.Goals as goal
-
-pub returns : goal.returns
-returns c = file_bytes

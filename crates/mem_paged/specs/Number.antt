@@ -1,0 +1,16 @@
+-- Numbers as they are stored.
+use Rattle.std.specs.Prelude.{ℕ}
+use Rattle.mem_paged.specs.declared.number.Number.{Number}
+use Rattle.mem_paged.specs.declared.number.Number.TheVariants.{Byte, Half, Word}
+
+-- how many bytes a number has
+abbrev pub width_of : Number → ℕ
+width_of (Byte value) = 1
+width_of (Half value) = 2
+width_of (Word value) = 4
+
+-- which number it is
+abbrev pub value_of : Number → ℕ
+value_of (Byte value) = value
+value_of (Half value) = value
+value_of (Word value) = value

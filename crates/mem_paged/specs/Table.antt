@@ -1,0 +1,18 @@
+-- Tables of pages, by chunks of 64.
+use Rattle.std.specs.Prelude.{List, map}
+use Rattle.std.specs.List.{flat_map}
+use Rattle.std.specs.declared.rc.Rc.{Rc}
+use Rattle.mem_paged.specs.declared.page.Page.{Page}
+use Rattle.mem_paged.specs.declared.chunk.Chunk.{Chunk}
+
+-- the values behind shared pointers
+abbrev pub values_of : {X Z : Type 0} → List (Rc X Z) → List X
+values_of {X} {Z} items = map (λ (p : Rc X Z). p.value) items
+
+-- the pages of a chunk
+abbrev pub pages_in : {Z : Type 0} → Chunk Z → List Page
+pages_in c = values_of c.pages.items
+
+-- the pages of chunks, one chunk after the other
+unfoldable pub pages_of : {Z : Type 0} → List (Rc (Chunk Z) Z) → List Page
+pages_of {Z} chunks = flat_map (λ (c : Chunk Z). pages_in c) (values_of chunks)

@@ -1,9 +1,0 @@
-use Rattle.std.proofs.Common.{◌<◌, ◌^◌, rules}
-use Rattle.std.proofs.Output.{has_written_of_eq}
-use Rattle.names_and_digits.proofs.WordLemmas.{padded_byte}
-use Rattle.names_and_digits.proofs.word.ByteDisplay.fmt.Goals as goal
-
-pub returns-clause-writes : goal.returns-clause-writes
-returns-clause-writes g c = λ plain done.
-    let small : c.args.self.now.0 < 2 ^ 8 = search rules in
-    has_written_of_eq _ _ _ _ _ (padded_byte c.args.self.now.0 small) (search rules)

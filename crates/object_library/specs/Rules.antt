@@ -1,0 +1,90 @@
+-- What the objects promise of the harts of a run, by their inputs and the choices of the run.
+use Rattle.std.specs.Prelude.{◌≡◌, ◌⊎◌, ℕ, ◌^◌, ◌<◌, ◌≤◌, Bool, true, false, List, length, Some, slice_get, slice_index_or}
+use Rattle.std.specs.List.{All, Contains}
+use Rattle.image.specs.Image.{ImageValue}
+use Rattle.hart_step.specs.Hart.{HartValue}
+use Rattle.hart_step.specs.declared.hart.HartState.{HartState}
+use Rattle.hart_step.specs.declared.hart.HartState.TheVariants.{Running, Exited, Faulted}
+use Rattle.machine.specs.World.{run}
+use Rattle.machine.specs.Start.{started}
+use Rattle.machine.specs.declared.choice.Choice.{Choice}
+use Rattle.object_library.specs.declared.kind.Kind.{Kind}
+use Rattle.object_library.specs.declared.kind.Kind.TheVariants.{Swap, Add, LrSc, AdoptCommit, Rounds}
+use Rattle.object_library.specs.Counts.{chosen, own, refusals}
+
+-- whether a hart in this state has exited
+abbrev pub is_exited : HartState → Bool
+is_exited Running = false
+is_exited (Exited status) = true
+is_exited (Faulted cause) = false
+
+-- whether a hart in this state has faulted
+abbrev pub is_faulted : HartState → Bool
+is_faulted Running = false
+is_faulted (Exited status) = false
+is_faulted (Faulted cause) = true
+
+-- the hart has exited
+abbrev pub HasExited : HartValue → Type 0
+HasExited h = is_exited h.state ≡ true
+
+-- the value that a hart exits with: register 10, a0
+abbrev pub value_of : HartValue → ℕ
+value_of h = h.registers 10
+
+-- 1 where a hart has decided on its value or commits to it: register 11, a1
+abbrev pub flag_of : HartValue → ℕ
+flag_of h = h.registers 11
+
+-- a value is the input of a hart that was chosen
+abbrev pub IsProposed : List ℕ → List Choice → ℕ → Type 0
+IsProposed inputs choices value = (k : ℕ) × Contains (chosen choices) k × (slice_get inputs k ≡ Some value)
+
+-- the harts that were chosen have the same input
+abbrev pub AreAlike : List ℕ → List Choice → Type 0
+AreAlike inputs choices =
+    (j k : ℕ) → Contains (chosen choices) j → Contains (chosen choices) k → slice_get inputs j ≡ slice_get inputs k
+
+-- consensus (Herlihy, "Wait-Free Synchronization", 1991)
+pub record KeepsConsensus (inputs : List ℕ) (choices : List Choice) (harts : List HartValue) : Type 0 where
+  -- a hart exits with the input of a hart that was chosen
+  pub valid : All (λ h. HasExited h → IsProposed inputs choices (value_of h)) harts
+  -- two harts that have exited have the same value
+  pub agreed : All (λ h. All (λ k. HasExited h → HasExited k → value_of h ≡ value_of k) harts) harts
+  -- a hart that has exited has decided
+  pub decided : All (λ h. HasExited h → flag_of h ≡ 1) harts
+  -- no hart has faulted
+  pub sound : All (λ h. is_faulted h.state ≡ false) harts
+
+-- adopt-commit (Gafni, "Round-by-Round Fault Detectors", 1998)
+pub record KeepsAdoptCommit (inputs : List ℕ) (choices : List Choice) (harts : List HartValue) : Type 0 where
+  -- a hart exits with the input of a hart that was chosen
+  pub valid : All (λ h. HasExited h → IsProposed inputs choices (value_of h)) harts
+  -- a hart that has exited adopts, 0, or commits, 1
+  pub answered : All (λ h. HasExited h → (flag_of h ≡ 0) ⊎ (flag_of h ≡ 1)) harts
+  -- where one hart commits, all harts that have exited have its value
+  pub committed : All (λ h. All (λ k. HasExited h → HasExited k → flag_of h ≡ 1 → value_of h ≡ value_of k) harts) harts
+  -- where the harts that were chosen have the same input, each hart that has exited commits
+  pub convergent : AreAlike inputs choices → All (λ h. HasExited h → flag_of h ≡ 1) harts
+  -- no hart has faulted
+  pub sound : All (λ h. is_faulted h.state ≡ false) harts
+
+-- every run of an image by a number of harts that is meant for it, with words for inputs, meets a rule
+abbrev pub EveryRun : (ℕ → Type 0) → ImageValue → (List ℕ → List Choice → List HartValue → Type 0) → Type 0
+EveryRun IsMeant image Rule =
+    (inputs : List ℕ) (choices : List Choice) → IsMeant (length inputs) → All (λ x. x < 2 ^ 32) inputs
+    → All (λ c. c.hart < length inputs) choices → Rule inputs choices (run (started image inputs) choices).harts
+
+-- each hart has exited that was chosen often enough: the bound is of the number of harts and of the hart's own refusals
+abbrev pub EndsAfter : (ℕ → ℕ → ℕ) → List ℕ → List Choice → List HartValue → Type 0
+EndsAfter bound inputs choices harts =
+    (h : ℕ) (d : HartValue) → h < length inputs → bound (length inputs) (refusals choices h) ≤ own choices h
+    → HasExited (slice_index_or harts h d)
+
+-- the rule of each kind
+abbrev pub Keeps : Kind → List ℕ → List Choice → List HartValue → Type 0
+Keeps Swap inputs choices harts = KeepsConsensus inputs choices harts
+Keeps Add inputs choices harts = KeepsConsensus inputs choices harts
+Keeps LrSc inputs choices harts = KeepsConsensus inputs choices harts
+Keeps AdoptCommit inputs choices harts = KeepsAdoptCommit inputs choices harts
+Keeps Rounds inputs choices harts = KeepsAdoptCommit inputs choices harts

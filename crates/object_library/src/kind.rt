@@ -1,0 +1,56 @@
+//! The kinds of objects.
+
+ghost use Rattle.std.specs.Prelude.{◌≡◌, ◌↔◌, Some};
+ghost use Rattle.object_library.specs.Names.{name_of};
+
+use crate::entry::entry_of;
+
+/// A consensus object: harts that run its program come out with one value of those that they went in with.
+#[derive(Clone, Copy, PartialEq, Eq)]
+pub enum Kind {
+    /// Consensus of two harts by `amoswap.w`.
+    Swap,
+    /// Consensus of two harts by `amoadd.w`.
+    Add,
+    /// Consensus of all harts by `lr.w` and `sc.w`.
+    LrSc,
+    /// Adopt-commit of all harts by loads and stores.
+    AdoptCommit,
+    /// Adopt-commit four times over, by loads and stores.
+    Rounds,
+}
+
+/// The names of all kinds, as a text of help or an error lists them.
+pub const KIND_NAMES: &str = "swap, add, lrsc, adopt or rounds";
+
+impl Kind {
+    /// All kinds, in order.
+    pub const ALL: [Kind; 5] = [
+        Kind::Swap,
+        Kind::Add,
+        Kind::LrSc,
+        Kind::AdoptCommit,
+        Kind::Rounds,
+    ];
+
+    /// The name that a command line has for the kind.
+    pub fn name(self) -> &'static str
+        ensures { result.now ≡ name_of self }
+    {
+        entry_of(self).name
+    }
+
+    /// The kind of such a name, or `None` where no kind has it.
+    pub fn of_name(name: &str) -> Option<Kind>
+        ensures { (kind : Kind) → (result ≡ Some kind) ↔ (name.now ≡ name_of kind) }
+    {
+        match name {
+            "swap" => Some(Kind::Swap),
+            "add" => Some(Kind::Add),
+            "lrsc" => Some(Kind::LrSc),
+            "adopt" => Some(Kind::AdoptCommit),
+            "rounds" => Some(Kind::Rounds),
+            _ => None,
+        }
+    }
+}

@@ -1,6 +1,0 @@
-use Rattle.pages.proofs.TableLemmas.{page_read}
-use Rattle.pages.proofs.table.Table.page.Goals as goal
-
-pub returns : goal.returns
-returns g c =
-    page_read c.args.self.now.chunks.items _ c.args.place _ _ _ c.args.self.now.chunks.ok.0 c.requires c.index.ensures c.deref.ensures c.index-2.ensures

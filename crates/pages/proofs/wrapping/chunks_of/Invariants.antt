@@ -1,9 +1,0 @@
-use Rattle.std.proofs.Common.{◌≡◌, ◌*◌, take, vec_len}
-use Rattle.pages.specs.Table.{pages_of, values_of}
-use Rattle.pages.proofs.wrapping.chunks_of.Given as goal
-
-abbrev pub invariant-parts : goal.invariant-parts
-invariant-parts g l = record {
-  pages : pages_of l.chunks.items ≡ values_of (take (l.i * 64) l.pages);
-  count : vec_len l.chunks ≡ l.i;
-}

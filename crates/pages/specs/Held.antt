@@ -1,8 +1,0 @@
--- The memory of a page store, for those who need not know of pages.
-use Rattle.memory.specs.Memory.{Memory}
-use Rattle.pages.specs.Store.{memory_of}
-use Rattle.pages.specs.declared.page_store.PageStore.{PageStore}
-
--- the memory that a page store holds, as a name that doesn't open in proofs above
-unfoldable pub held_memory : {Z : Type 0} → PageStore Z → Memory
-held_memory s = memory_of s

@@ -1,7 +1,0 @@
-use Rattle.std.proofs.Common.{rules}
-use Rattle.std.proofs.lemmas.List.Elements.{filter_from_retain}
-use Rattle.program_images.specs.Image.{is_mapped}
-use Rattle.program_images.proofs.image.mapped_segments.Goals as goal
-
-pub returns : goal.returns
-returns g c = filter_from_retain _ is_mapped (λ p x b q r. search rules) _ _ _ c.retain.ensures.filtered

@@ -1,6 +1,0 @@
-use Rattle.std.proofs.Common.{◌≡◌, take, map}
-use Rattle.program_images.specs.Image.{span_of}
-use Rattle.program_images.proofs.image.spans_of.Given as goal
-
-abbrev pub invariant-segments : goal.invariant-segments
-invariant-segments g l = l.spans.items ≡ map span_of (take l.segment-index l.segments)

@@ -1,5 +1,0 @@
-use Rattle.program_images.proofs.Overlap.{shared_decides}
-use Rattle.program_images.proofs.space.overlap_is_a_shared_address.Goals as goal
-
-pub returns : goal.returns
-returns c = shared_decides

@@ -1,0 +1,14 @@
+-- What a fault says of the devices.
+use Rattle.program_open.specs.CommandFaults.{IfNames}
+use Rattle.program_open.specs.declared.command_fault.Input.TheVariants as input
+use Rattle.program_open.specs.declared.command_fault.CommandFault.{CommandFault}
+use Rattle.program_open.specs.declared.command_fault.CommandFault.TheVariants as fault
+
+-- a fact of each device follows, for the one that a fault names
+pub names_so : (why : CommandFault) {a b c d e f g h : Type 0}
+    → (a → e) → (b → f) → (c → g) → (d → h) → IfNames why a b c d → IfNames why e f g h
+names_so (fault.Read input.File) file choices history sink known = file known
+names_so (fault.Read input.Choices) file choices history sink known = choices known
+names_so (fault.Read input.History) file choices history sink known = history known
+names_so fault.Write file choices history sink known = sink known
+names_so why file choices history sink known = known

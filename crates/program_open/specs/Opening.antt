@@ -1,0 +1,36 @@
+-- What a run begins with: the image of a program and the choices that a text spells, or the first fault of what was read.
+use Rattle.std.specs.Prelude.{ℕ, ◌==◌, nat_lt, List, if◌then◌else◌}
+use Rattle.std.specs.declared.result.Result.{Result}
+use Rattle.std.specs.declared.result.Result.TheVariants.{Ok, Err}
+use Rattle.hart_reservations.specs.Limit.{most_harts}
+use Rattle.image.specs.Image.{ImageValue}
+use Rattle.machine.specs.declared.choice.Choice.{Choice}
+use Rattle.sched_text.specs.Reading.{choices_of}
+use Rattle.sched_text.specs.declared.choice_text.ChoiceFault.{ChoiceFault}
+use Rattle.program_open.specs.Program.{program_of}
+use Rattle.program_open.specs.CommandFaults.{fault_of_choices}
+use Rattle.program_open.specs.declared.program.ProgramForm.{ProgramForm}
+use Rattle.program_open.specs.declared.command_fault.CommandFault.{CommandFault}
+use Rattle.program_open.specs.declared.command_fault.CommandFault.TheVariants as fault
+
+-- an image with its choices, or why there is no run
+abbrev pub Opened : Type 0
+Opened = Result (ImageValue × List Choice) CommandFault
+
+-- an image with the choices that are read
+abbrev pub with_choices : ImageValue → Result (List Choice) ChoiceFault → Opened
+with_choices image (Ok choices) = Ok (image, choices)
+with_choices image (Err why) = Err (fault_of_choices why)
+
+-- once the program is read, the inputs are counted, and only then what follows decides
+abbrev pub after_program : {T : Type 0} → ℕ → (ImageValue → Result T CommandFault)
+    → Result ImageValue CommandFault → Result T CommandFault
+after_program harts next (Ok image) =
+    if harts == 0 then Err fault.NoHarts
+    else (if nat_lt most_harts harts then Err fault.TooManyHarts else next image)
+after_program harts next (Err why) = Err why
+
+-- what a run of a program and a choice text begins with, for so many inputs
+unfoldable pub opening : ProgramForm → ℕ → List ℕ → List ℕ → Opened
+opening form harts program text = after_program harts
+    (λ image. with_choices image (choices_of harts text)) (program_of form program)

@@ -1,0 +1,160 @@
+//! Why a command that runs or shows a program gives no answer.
+
+ghost use Rattle.std.specs.Prelude.{◌≡◌};
+ghost use Rattle.program_open.specs.CommandFaults.{status_of_fault, fault_of_choices, fault_of_elf};
+ghost use Rattle.program_open.specs.CommandFaults.{fault_of_hex, fault_of_start};
+
+use crate::hex::HexFault;
+use byte_io::Status;
+use image::ElfFault;
+use machine::StartFault;
+use sched_text::ChoiceFault;
+use thiserror::Error;
+
+/// An input of a command.
+#[derive(Clone, Copy, Debug, PartialEq, Eq)]
+pub enum Input {
+    /// The program.
+    File,
+    /// The choice text.
+    Choices,
+    /// The history text.
+    History,
+}
+
+/// Why a command gives no answer. The text of each is what stands after `rvcons: ` on standard
+/// error, but that the program puts the path of an input that can't be read.
+#[derive(Clone, Copy, Debug, PartialEq, Eq, Error)]
+pub enum CommandFault {
+    /// This item of the hexadecimal program, from 0, isn't a word.
+    #[error("hex fault BadWord at {0}")]
+    BadWord(usize),
+    /// The hexadecimal program has more items than words are taken.
+    #[error("hex fault TooMany at {0}")]
+    TooMany(usize),
+    /// The file is refused by this check of the loader's.
+    #[error("{0}")]
+    Elf(ElfFault),
+    /// No input is given, so there would be no hart.
+    #[error("start fault 1 NoHarts")]
+    NoHarts,
+    /// More inputs are given than there may be harts.
+    #[error("start fault 2 TooManyHarts")]
+    TooManyHarts,
+    /// The item at this offset of the choice text isn't a choice.
+    #[error("choice fault BadChoice at {0}")]
+    BadChoice(usize),
+    /// The item at this offset of the choice text names a hart that isn't there.
+    #[error("choice fault NoHart at {0}")]
+    NoHart(usize),
+    /// The item at this offset of the history text isn't an entry.
+    #[error("history fault BadEntry at {0}")]
+    BadEntry(usize),
+    /// The item at this offset of the history text names a hart that isn't there.
+    #[error("history fault NoHart at {0}")]
+    NoHartOfEntry(usize),
+    /// The run that is to be shrunk doesn't fail: under a rule it is kept, and without one no hart
+    /// has faulted; and where each hart must exit, it doesn't hang.
+    #[error("shrink fault NothingFails")]
+    NothingFails,
+    /// The host refused a thread.
+    #[error("thread refused")]
+    ThreadRefused,
+    /// A hart was not where its own thread had left it.
+    #[error("stale")]
+    Stale,
+    /// A step of a thread would have needed a stamp of `u64::MAX` or above.
+    #[error("stamps exhausted")]
+    StampsExhausted,
+    /// An access stands in a hart's log and not in its bank's, or the other way round. No run leads
+    /// here.
+    #[error("merge fault Unmatched")]
+    Unmatched,
+    /// The stamps of a hart's log don't rise. No run leads here.
+    #[error("merge fault OutOfOrder")]
+    OutOfOrder,
+    /// This input can't be read to its end.
+    #[error("cannot read")]
+    Read(Input),
+    /// The output can't be written.
+    #[error("cannot write -")]
+    Write,
+    /// Memory was refused.
+    #[error("out of memory")]
+    Memory,
+}
+
+impl CommandFault {
+    /// The status that a command ends with.
+    pub fn status(self) -> Status
+        ensures { result ≡ status_of_fault self }
+    {
+        match self {
+            CommandFault::BadWord(_)
+            | CommandFault::TooMany(_)
+            | CommandFault::Elf(_)
+            | CommandFault::NoHarts
+            | CommandFault::TooManyHarts
+            | CommandFault::BadChoice(_)
+            | CommandFault::NoHart(_)
+            | CommandFault::BadEntry(_)
+            | CommandFault::NoHartOfEntry(_)
+            | CommandFault::NothingFails
+            | CommandFault::ThreadRefused
+            | CommandFault::Stale
+            | CommandFault::StampsExhausted
+            | CommandFault::Unmatched
+            | CommandFault::OutOfOrder
+            | CommandFault::Read(_)
+            | CommandFault::Write => Status::Refused,
+            CommandFault::Memory => Status::NoMemory,
+        }
+    }
+}
+
+impl From<HexFault> for CommandFault {
+    ghost from_gives = { λ fault answer. answer ≡ fault_of_hex fault };
+
+    fn from(fault: HexFault) -> CommandFault {
+        match fault {
+            HexFault::BadWord(item) => CommandFault::BadWord(item),
+            HexFault::TooMany(item) => CommandFault::TooMany(item),
+            HexFault::Memory => CommandFault::Memory,
+        }
+    }
+}
+
+impl From<ElfFault> for CommandFault {
+    ghost from_gives = { λ fault answer. answer ≡ fault_of_elf fault };
+
+    fn from(fault: ElfFault) -> CommandFault {
+        match fault {
+            ElfFault::Memory => CommandFault::Memory,
+            fault => CommandFault::Elf(fault),
+        }
+    }
+}
+
+impl From<StartFault> for CommandFault {
+    ghost from_gives = { λ fault answer. answer ≡ fault_of_start fault };
+
+    fn from(fault: StartFault) -> CommandFault {
+        match fault {
+            StartFault::NoHarts => CommandFault::NoHarts,
+            StartFault::TooManyHarts => CommandFault::TooManyHarts,
+            StartFault::Memory => CommandFault::Memory,
+        }
+    }
+}
+
+impl From<ChoiceFault> for CommandFault {
+    ghost from_gives = { λ fault answer. answer ≡ fault_of_choices fault };
+
+    fn from(fault: ChoiceFault) -> CommandFault {
+        match fault {
+            ChoiceFault::BadChoice(offset) => CommandFault::BadChoice(offset),
+            ChoiceFault::NoHart(offset) => CommandFault::NoHart(offset),
+            ChoiceFault::Memory => CommandFault::Memory,
+        }
+    }
+}

@@ -1,0 +1,125 @@
+//! How a run begins: the program, the number of inputs and the choice text, checked once, in this order.
+
+ghost use Rattle.std.specs.Prelude.{◌≡◌, ◌≢◌, ◌^◌, ◌-◌, ◌<◌, ℕ, List, Ok, Err, IfOk, IfErr, IfSome, length};
+ghost use Rattle.std.specs.List.{All};
+ghost use Rattle.image.specs.Image.{ImageValue};
+ghost use Rattle.machine.specs.Start.{IsStartable};
+ghost use Rattle.sched_text.specs.Reading.{choices_of};
+ghost use Rattle.program_open.specs.Opening.{opening, with_choices};
+ghost use Rattle.program_open.specs.Program.{program_of};
+ghost use Rattle.program_open.specs.CommandFaults.{IfNames, IsRefusal};
+
+use crate::command_fault::{CommandFault, Input};
+use crate::program::{ProgramForm, read_image};
+use byte_io::{ReadFault, Source, read_all};
+use image::Image;
+use machine::{Choice, check_inputs};
+use sched_text::read_choices;
+use std::alloc::Allocator;
+
+/// What a run begins with, its choices unread.
+#[derive(Drop)]
+pub struct OpenText<A: Allocator> {
+    /// The program's image.
+    pub image: Image<A>,
+    /// The bytes of the choice text, whatever they say.
+    pub text: Vec<u8, A>,
+}
+
+/// Reads a program in this form to its end, counts the inputs, and takes in the choice text to its end, which may say anything. The
+/// first that is refused decides, and what comes after it is not read.
+#[tactic(auto, unfolding(crate::specs::Opening::opening))]
+pub fn open_text<A: Allocator + Copy, P: Source, C: Source>(
+    alloc: A,
+    form: ProgramForm,
+    inputs: &[u32],
+    program: &mut P,
+    choices: &mut C,
+) -> Result<OpenText<A>, CommandFault>
+    requires program_counts { P.failures program.old < 2 ^ 64 - 1 }
+    requires choices_count { C.failures choices.old < 2 ^ 64 - 1 }
+    ensures takes { IfOk result (λ _. IsStartable inputs.now) }
+    ensures image { IfOk result (λ run.
+        IfSome (P.left program.old) (λ p. program_of form p ≡ Ok run.image)) }
+    ensures opened { IfOk result (λ run.
+        IfSome (P.left program.old) (λ p. IfSome (C.left choices.old) (λ c.
+        opening form (length inputs.now) p c
+        ≡ with_choices run.image (choices_of (length inputs.now) run.text.items)))) }
+    ensures refused { IfErr result (λ fault. IsRefusal fault
+        → IfSome (P.left program.old) (λ p. IfSome (C.left choices.old) (λ c.
+        opening form (length inputs.now) p c ≡ Err fault))) }
+    // A device is named only where it failed.
+    ensures read { IfErr result (λ fault. IfNames fault
+        (P.failures program.old < P.failures program.new)
+        (C.failures choices.old < C.failures choices.new) ⊥ ⊥) }
+    // A fault of the program, and that of the number of inputs, come before one of the device that the choices are read from.
+    ensures program_first { result ≡ Err (CommandFault.Read Input.Choices)
+        → IfSome (P.left program.old) (λ p. (image : ImageValue) × (program_of form p ≡ Ok image)) }
+    ensures inputs_first { result ≡ Err (CommandFault.Read Input.Choices) → IsStartable inputs.now }
+{
+    let image = match read_image(alloc, form, program) {
+        Ok(image) => image,
+        Err(fault) => return Err(fault),
+    };
+    match check_inputs(inputs) {
+        Ok(()) => {}
+        Err(fault) => return Err(CommandFault::from(fault)),
+    }
+    match read_all(alloc, choices) {
+        Ok(text) => Ok(OpenText { image, text }),
+        Err(ReadFault::Device) => Err(CommandFault::Read(Input::Choices)),
+        Err(ReadFault::Memory) => Err(CommandFault::Memory),
+    }
+}
+
+/// What a run begins with.
+#[derive(Drop)]
+pub struct OpenRun<A: Allocator> {
+    /// The program's image.
+    pub image: Image<A>,
+    /// The choices, each of a hart that is there.
+    pub choices: Vec<Choice, A>,
+}
+
+/// Reads a program in this form to its end, counts the inputs, and reads the choice text to its end. The first that is refused
+/// decides, and what comes after it is not read. For who needs the list of the choices.
+pub fn open_run<A: Allocator + Copy, P: Source, C: Source>(
+    alloc: A,
+    form: ProgramForm,
+    inputs: &[u32],
+    program: &mut P,
+    choices: &mut C,
+) -> Result<OpenRun<A>, CommandFault>
+    requires program_counts { P.failures program.old < 2 ^ 64 - 1 }
+    requires choices_count { C.failures choices.old < 2 ^ 64 - 1 }
+    ensures takes { IfOk result (λ _. IsStartable inputs.now) }
+    ensures within { IfOk result (λ run. All (λ c. c.hart < length inputs.now) run.choices.items) }
+    ensures image { IfOk result (λ run.
+        IfSome (P.left program.old) (λ p. program_of form p ≡ Ok run.image)) }
+    ensures opened { IfOk result (λ run.
+        IfSome (P.left program.old) (λ p. IfSome (C.left choices.old) (λ c.
+        opening form (length inputs.now) p c ≡ Ok (run.image, run.choices.items)))) }
+    ensures refused { IfErr result (λ fault. IsRefusal fault
+        → IfSome (P.left program.old) (λ p. IfSome (C.left choices.old) (λ c.
+        opening form (length inputs.now) p c ≡ Err fault))) }
+    // A device is named only where it failed.
+    ensures read { IfErr result (λ fault. IfNames fault
+        (P.failures program.old < P.failures program.new)
+        (C.failures choices.old < C.failures choices.new) ⊥ ⊥) }
+    // A fault of the program, and that of the number of inputs, come before one of the device that the choices are read from.
+    ensures program_first { result ≡ Err (CommandFault.Read Input.Choices)
+        → IfSome (P.left program.old) (λ p. (image : ImageValue) × (program_of form p ≡ Ok image)) }
+    ensures inputs_first { result ≡ Err (CommandFault.Read Input.Choices) → IsStartable inputs.now }
+{
+    let run = match open_text(alloc, form, inputs, program, choices) {
+        Ok(run) => run,
+        Err(fault) => return Err(fault),
+    };
+    match read_choices(alloc, &run.text, inputs.len() as u32) {
+        Ok(choices) => Ok(OpenRun {
+            image: run.image,
+            choices,
+        }),
+        Err(fault) => Err(CommandFault::from(fault)),
+    }
+}

@@ -1,7 +1,0 @@
--- The map that the array of reservations keeps.
-use Rattle.reservations.specs.Marks.{Marks, mark_at}
-use Rattle.reservations.specs.declared.reserve.Reserve.{Reserve}
-
--- the word that each hart has reserved
-abbrev pub marks : Reserve → Marks
-marks r = mark_at r.words

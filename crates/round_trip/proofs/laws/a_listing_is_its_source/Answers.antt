@@ -1,5 +1,0 @@
-use Rattle.round_trip.proofs.Whole.{comes_back}
-use Rattle.round_trip.proofs.laws.a_listing_is_its_source.Goals as goal
-
-pub returns : goal.returns
-returns c = comes_back

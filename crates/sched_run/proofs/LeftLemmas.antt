@@ -1,0 +1,177 @@
+-- What is left of a choice text, one choice less and one item less, and the items that are one digit or two.
+use Rattle.std.proofs.Common.{◌≡◌, ℕ, suc, ◌+◌, ◌*◌, ◌<◌, ◌^◌, ◌==◌, true, false, List, [], ◌∷◌, length, drop, get_or, Ok, Err, refl, arith, ap, sym, ◌∙◌, ne_eqb}
+use Rattle.std.specs.Prelude.{replicate}
+use Rattle.std.specs.declared.result.Result.{Result}
+use Rattle.std.specs.List.{slice_split, onto_first}
+use Rattle.std.proofs.lemmas.List.{drop_more}
+use Rattle.std.proofs.lemmas.List.Splits.{slice_split-cons_yes, slice_split-cons_no}
+use Rattle.machine.specs.declared.choice.Choice.{Choice}
+use Rattle.text_items.specs.Items.{is_blank, items_of_parts, items_from, span_of, IsFirstItem}
+use Rattle.text_items.specs.Reading.{values_named, value_then, followed_by}
+use Rattle.sched_text.specs.declared.run.Run.{Run}
+use Rattle.sched_text.specs.declared.choice_text.ChoiceFault.{ChoiceFault}
+use Rattle.sched_text.specs.Runs.{run, equal_choices, expanded}
+use Rattle.sched_text.specs.Reading.{run_of, expanded_after}
+use Rattle.std.specs.Char.{digit_value}
+use Rattle.std.proofs.lemmas.Str.{digit_value_digit}
+use Rattle.sched_text.specs.Grammar.{NamesRun}
+use Rattle.sched_text.proofs.ItemLemmas.{digit_run, run_named}
+use Rattle.sched_run.specs.declared.reading.Reading.{Reading}
+use Rattle.sched_run.specs.Left.{plain, runs_after, left_of}
+
+-- ---- one choice less
+one_less : (c : Choice) (n : ℕ) (more : Result (List Run) ChoiceFault)
+    → expanded_after (replicate (suc n) c) more ≡ followed_by (c ∷ []) (expanded_after (replicate n c) more)
+one_less c n (Ok runs) = refl
+one_less c n (Err fault) = refl
+
+once_less : (c : Choice) (n m : ℕ) (more : Result (List Run) ChoiceFault) → m + 1 ≡ n
+    → expanded_after (replicate n c) more ≡ followed_by (c ∷ []) (expanded_after (replicate m c) more)
+once_less c n m more e =
+    let is : n ≡ suc m = omega (arith, e) in
+    ap (λ k. expanded_after (replicate k c) more) is ∙ one_less c m more
+
+-- the choice of the item before, once more
+pub taken_again : (harts : ℕ) (text : List ℕ) (old new : Reading) → new.choice ≡ old.choice → new.from ≡ old.from → new.more + 1 ≡ old.more
+    → left_of harts text old ≡ followed_by (old.choice ∷ []) (left_of harts text new)
+taken_again harts text old new choice from more =
+    once_less old.choice old.more new.more (runs_after harts text old.from) more
+    ∙ ap (λ c. followed_by (old.choice ∷ []) (expanded_after (replicate new.more c) (runs_after harts text old.from))) (sym choice)
+    ∙ ap (λ k. followed_by (old.choice ∷ []) (expanded_after (replicate new.more new.choice) (runs_after harts text k))) (sym from)
+
+-- ---- one item less
+run_then : (r : Run) (more : Result (List Run) ChoiceFault) → expanded_after [] (value_then (Ok r) more) ≡ expanded_after (equal_choices r) more
+unfolding expanded
+run_then r (Ok runs) = refl
+run_then r (Err fault) = refl
+
+-- an item is read, whose choices are then left
+pub item_left : (harts : ℕ) (text : List ℕ) (old new : Reading) (named : Run) → old.more ≡ 0
+    → runs_after harts text old.from ≡ value_then (Ok named) (runs_after harts text new.from)
+    → new.choice ≡ named.choice → new.more ≡ named.count → left_of harts text old ≡ left_of harts text new
+item_left harts text old new named none first choice count =
+    ap (λ n. expanded_after (replicate n old.choice) (runs_after harts text old.from)) none
+    ∙ ap (expanded_after []) first ∙ run_then named (runs_after harts text new.from)
+    ∙ ap (λ c. expanded_after (replicate named.count c) (runs_after harts text new.from)) (sym choice)
+    ∙ ap (λ n. expanded_after (replicate n new.choice) (runs_after harts text new.from)) (sym count)
+
+-- an item of one choice is read, and its choice
+pub digit_left : (harts hart : ℕ) (text : List ℕ) (old new : Reading) → old.more ≡ 0 → new.more ≡ 0
+    → runs_after harts text old.from ≡ value_then (Ok (run (plain hart) 1)) (runs_after harts text new.from)
+    → left_of harts text old ≡ followed_by (plain hart ∷ []) (left_of harts text new)
+digit_left harts hart text old new none still first =
+    ap (λ n. expanded_after (replicate n old.choice) (runs_after harts text old.from)) none
+    ∙ ap (expanded_after []) first ∙ run_then (run (plain hart) 1) (runs_after harts text new.from)
+    ∙ once_less (plain hart) 1 0 (runs_after harts text new.from) (omega arith)
+    ∙ ap (λ n. followed_by (plain hart ∷ []) (expanded_after (replicate n new.choice) (runs_after harts text new.from))) (sym still)
+
+-- the first item from an offset on is read, and the items behind it
+pub first_read : (harts from begin end behind : ℕ) (text : List ℕ) (r : Result Run ChoiceFault) → IsFirstItem from text begin end
+    → run_of harts begin (span_of begin end text) ≡ r → items_from end text ≡ items_from behind text
+    → runs_after harts text from ≡ value_then r (runs_after harts text behind)
+first_read harts from begin end behind text r first read same =
+    ap (values_named (run_of harts)) first.first
+    ∙ ap (λ r. value_then r (runs_after harts text end)) read
+    ∙ ap (λ items. value_then r (values_named (run_of harts) items)) same
+
+-- nothing is left, or a bad item
+pub nothing_left : (harts : ℕ) (text : List ℕ) (r : Reading) → r.more ≡ 0 → items_from r.from text ≡ [] → left_of harts text r ≡ Ok []
+unfolding expanded
+nothing_left harts text r none end =
+    ap (λ n. expanded_after (replicate n r.choice) (runs_after harts text r.from)) none
+    ∙ ap (λ items. expanded_after [] (values_named (run_of harts) items)) end
+
+pub fault_left : (harts begin end : ℕ) (text : List ℕ) (r : Reading) (fault : ChoiceFault) → r.more ≡ 0 → IsFirstItem r.from text begin end
+    → run_of harts begin (span_of begin end text) ≡ Err fault → left_of harts text r ≡ Err fault
+fault_left harts begin end text r fault none first bad =
+    ap (λ n. expanded_after (replicate n r.choice) (runs_after harts text r.from)) none
+    ∙ ap (expanded_after []) (first_read harts r.from begin end end text (Err fault) first bad refl)
+
+-- ---- the bytes
+-- a blank belongs to no item
+pub blank_passed : (at : ℕ) (text : List ℕ) → at < length text → is_blank (get_or text at 0) ≡ true → items_from at text ≡ items_from (at + 1) text
+blank_passed at text inside blank =
+    ap (λ xs. items_of_parts at (slice_split is_blank xs)) (drop_more text at 0 inside)
+    ∙ ap (items_of_parts at) (slice_split-cons_yes is_blank (get_or text at 0) (drop (at + 1) text) blank)
+
+digit_plain : (hart : ℕ) → hart < 10 → is_blank (hart + 48) ≡ false
+digit_plain hart few =
+    let space : ((hart + 48) == 32) ≡ false = ne_eqb (hart + 48) 32 (λ e. omega (arith, e, few)) in
+    let tab : ((hart + 48) == 9) ≡ false = ne_eqb (hart + 48) 9 (λ e. omega (arith, e, few)) in
+    let feed : ((hart + 48) == 10) ≡ false = ne_eqb (hart + 48) 10 (λ e. omega (arith, e, few)) in
+    let return : ((hart + 48) == 13) ≡ false = ne_eqb (hart + 48) 13 (λ e. omega (arith, e, few)) in
+    rw (space, tab, feed, return) refl
+
+-- a byte that is no blank, and a blank behind it
+byte_item : (from byte : ℕ) (text : List ℕ) → from + 1 < length text → get_or text from 0 ≡ byte → is_blank byte ≡ false
+    → is_blank (get_or text (from + 1) 0) ≡ true
+    → items_from from text ≡ record { at = from; text = byte ∷ [] } ∷ items_from (from + 2) text
+byte_item from byte text inside is plain blank =
+    let behind = drop (from + 1 + 1) text in
+    let far : from + (length (byte ∷ []) + 1) ≡ from + 2 = omega arith in
+    let two : from + 1 + 1 ≡ from + 2 = omega arith in
+    let first : drop from text ≡ byte ∷ drop (from + 1) text = drop_more text from 0 (omega (arith, inside)) ∙ ap (λ b. b ∷ drop (from + 1) text) is in
+    ap (λ xs. items_of_parts from (slice_split is_blank xs)) first
+    ∙ ap (items_of_parts from) (slice_split-cons_no is_blank byte (drop (from + 1) text) plain)
+    ∙ ap (λ xs. items_of_parts from (onto_first byte (slice_split is_blank xs))) (drop_more text (from + 1) 0 inside)
+    ∙ ap (λ parts. items_of_parts from (onto_first byte parts)) (slice_split-cons_yes is_blank (get_or text (from + 1) 0) behind blank)
+    ∙ ap (λ k. record { at = from; text = byte ∷ [] } ∷ items_of_parts k (slice_split is_blank behind)) far
+    ∙ ap (λ k. record { at = from; text = byte ∷ [] } ∷ items_of_parts (from + 2) (slice_split is_blank (drop k text))) two
+
+-- a digit of a hart that is there, and a blank behind it
+pub digit_first : (harts from hart : ℕ) (text : List ℕ) → harts < 2 ^ 32 → from + 1 < length text → get_or text from 0 ≡ hart + 48 → hart < 10
+    → hart < harts → is_blank (get_or text (from + 1) 0) ≡ true
+    → runs_after harts text from ≡ value_then (Ok (run (plain hart) 1)) (runs_after harts text (from + 2))
+digit_first harts from hart text few inside is low there blank =
+    ap (values_named (run_of harts)) (byte_item from (hart + 48) text inside is (digit_plain hart low) blank)
+    ∙ ap (λ r. value_then r (runs_after harts text (from + 2))) (digit_run harts from hart ((hart + 48) ∷ []) refl low there few)
+
+-- ---- two digits
+two_digits_named : (tens ones : ℕ) → 0 < tens → tens < 10 → ones < 10
+    → NamesRun ((tens + 48) ∷ (ones + 48) ∷ []) (run (plain (10 * tens + ones)) 1)
+two_digits_named tens ones some low high =
+    let first : digit_value (tens + 48) + 48 ≡ tens + 48 = digit_value_digit (tens + 48) (omega (arith, low)) in
+    let second : digit_value (ones + 48) + 48 ≡ ones + 48 = digit_value_digit (ones + 48) (omega (arith, high)) in
+    record {
+      digits = (tens + 48) ∷ (ones + 48) ∷ [];
+      counted = [];
+      text = refl;
+      number = record {
+        numeral = (omega arith, (omega (arith, first, low), (omega (arith, second, high), tt)));
+        no_leading_zero = λ zero. absurd (omega (arith, zero, some));
+      };
+      value = omega (arith, first, second);
+      count = refl;
+    }
+
+-- two bytes that are no blanks, and a blank behind them
+two_byte_item : (from a b : ℕ) (text : List ℕ) → from + 2 < length text → get_or text from 0 ≡ a → get_or text (from + 1) 0 ≡ b
+    → is_blank a ≡ false → is_blank b ≡ false → is_blank (get_or text (from + 2) 0) ≡ true
+    → items_from from text ≡ record { at = from; text = a ∷ b ∷ [] } ∷ items_from (from + 3) text
+two_byte_item from a b text inside is_a is_b plain_a plain_b blank =
+    let behind = drop (from + 2 + 1) text in
+    let far : from + (length (a ∷ b ∷ []) + 1) ≡ from + 3 = omega arith in
+    let next : from + 1 + 1 ≡ from + 2 = omega arith in
+    let three : from + 2 + 1 ≡ from + 3 = omega arith in
+    let first : drop from text ≡ a ∷ drop (from + 1) text = drop_more text from 0 (omega (arith, inside)) ∙ ap (λ c. c ∷ drop (from + 1) text) is_a in
+    let second : drop (from + 1) text ≡ b ∷ drop (from + 2) text =
+    drop_more text (from + 1) 0 (omega (arith, inside)) ∙ ap (λ c. c ∷ drop (from + 1 + 1) text) is_b ∙ ap (λ k. b ∷ drop k text) next in
+    ap (λ xs. items_of_parts from (slice_split is_blank xs)) first
+    ∙ ap (items_of_parts from) (slice_split-cons_no is_blank a (drop (from + 1) text) plain_a)
+    ∙ ap (λ xs. items_of_parts from (onto_first a (slice_split is_blank xs))) second
+    ∙ ap (λ parts. items_of_parts from (onto_first a parts)) (slice_split-cons_no is_blank b (drop (from + 2) text) plain_b)
+    ∙ ap (λ xs. items_of_parts from (onto_first a (onto_first b (slice_split is_blank xs)))) (drop_more text (from + 2) 0 inside)
+    ∙ ap (λ parts. items_of_parts from (onto_first a (onto_first b parts))) (slice_split-cons_yes is_blank (get_or text (from + 2) 0) behind blank)
+    ∙ ap (λ k. record { at = from; text = a ∷ b ∷ [] } ∷ items_of_parts k (slice_split is_blank behind)) far
+    ∙ ap (λ k. record { at = from; text = a ∷ b ∷ [] } ∷ items_of_parts (from + 3) (slice_split is_blank (drop k text))) three
+
+-- two digits of a hart that is there, and a blank behind them
+pub two_digits_first : (harts from tens ones : ℕ) (text : List ℕ) → harts < 2 ^ 32 → from + 2 < length text
+    → get_or text from 0 ≡ tens + 48 → get_or text (from + 1) 0 ≡ ones + 48 → 0 < tens → tens < 10 → ones < 10
+    → 10 * tens + ones < harts → is_blank (get_or text (from + 2) 0) ≡ true
+    → runs_after harts text from ≡ value_then (Ok (run (plain (10 * tens + ones)) 1)) (runs_after harts text (from + 3))
+two_digits_first harts from tens ones text few inside is_tens is_ones some low high there blank =
+    ap (values_named (run_of harts))
+    (two_byte_item from (tens + 48) (ones + 48) text inside is_tens is_ones (digit_plain tens low) (digit_plain ones high) blank)
+    ∙ ap (λ r. value_then r (runs_after harts text (from + 3)))
+    (run_named ((tens + 48) ∷ (ones + 48) ∷ []) _ (two_digits_named tens ones some low high) harts from few there)

@@ -1,0 +1,38 @@
+//! The first fault of a choice text that may take long to run.
+ghost use Rattle.std.specs.Prelude.{◌≡◌, ◌<◌, ℕ, Err, IfNone, IfSome, length, slice_index};
+ghost use Rattle.sched_text.specs.Reading.{choices_of};
+ghost use Rattle.sched_run.specs.Spelled.{IsSpelled};
+
+use memchr::memchr;
+use sched_text::{ChoiceFault, read_run};
+use text_items::next_item;
+
+/// The first fault of a text that has counts, if there is one: a few bytes of it may stand for minutes of steps, so it is looked through
+/// before it is run. Of a text without counts, which is about as fast run as looked through, no fault is told.
+pub fn early_fault(text: &[u8], harts: u32) -> Option<ChoiceFault>
+    ensures fault { IfSome result (λ fault. choices_of harts text.now ≡ Err fault) }
+    // Where a `*` stands in the text, none is told only where it spells choices.
+    ensures looked { IfNone result ((k : ℕ) → k < length text.now → slice_index text.now k ≡ 42
+        → IsSpelled harts text.now) }
+{
+    if memchr(b'*', text).is_none() {
+        return None;
+    }
+    first_fault(text, harts)
+}
+
+// The fault of the first bad item, if there is one.
+fn first_fault(text: &[u8], harts: u32) -> Option<ChoiceFault>
+    ensures fault { IfSome result (λ fault. choices_of harts text.now ≡ Err fault) }
+    ensures none { IfNone result (IsSpelled harts text.now) }
+{
+    let mut from = 0;
+    'items: while let Some((begin, end)) = next_item(text, from) {
+        let _named = match read_run(&text[begin..end], begin, harts) {
+            Ok(named) => named,
+            Err(fault) => return Some(fault),
+        };
+        from = end;
+    }
+    None
+}

@@ -1,0 +1,34 @@
+use Rattle.std.proofs.Common.{ap, sym, ◌∙◌}
+use Rattle.text_items.specs.Items.{items_from}
+use Rattle.text_items.specs.Reading.{values_named}
+use Rattle.sched_text.specs.Reading.{run_of, expanded_after}
+use Rattle.sched_text.proofs.Agreement.{spells_of, spoils_of, hart_within, goes_on, stops, read_whole}
+use Rattle.sched_text.proofs.choice_text.read_choices.Goals as goal
+
+pub items-preserved : goal.items-preserved
+items-preserved g c =
+    let first = c.in-Some.ensures.some in (
+      first.within,
+      goes_on c.args.harts c.items.from c.in-Some.begin c.in-Some.end c.args.text.now c.items.choices.items first c.items.invariant.1 c.in-Ok.named (sym c.in-Ok.ensures)
+          ∙ ap (λ choices. expanded_after choices (values_named (run_of c.args.harts) (items_from c.in-Some.end c.args.text.now))) (sym c.in-Ok-push_run.ensures),
+    )
+
+pub returns-in-Err-clause-spoiled : goal.returns-in-Err-clause-spoiled
+returns-in-Err-clause-spoiled g c = λ no_memory.
+    spoils_of c.args.harts c.args.text.now c.in-Err.fault c.ranges.harts.fits
+    (stops c.args.harts c.items.from c.in-Some.begin c.in-Some.end c.args.text.now c.items.choices.items c.in-Some.ensures.some c.items.invariant.1 c.in-Err.fault (sym c.in-Err.ensures))
+
+pub returns-clause-spelled : goal.returns-clause-spelled
+returns-clause-spelled g c =
+    spells_of c.args.harts c.args.text.now c.items.choices.items c.ranges.harts.fits
+    (read_whole c.args.harts c.items.from c.args.text.now c.items.choices.items c.in_default.ensures.none c.items.invariant.1)
+
+pub returns-clause-within : goal.returns-clause-within
+returns-clause-within g c =
+    hart_within c.args.harts c.args.text.now c.items.choices.items
+    (spells_of c.args.harts c.args.text.now c.items.choices.items c.ranges.harts.fits
+    (read_whole c.args.harts c.items.from c.args.text.now c.items.choices.items c.in_default.ensures.none c.items.invariant.1))
+
+pub returns-clause-ok : goal.returns-clause-ok
+returns-clause-ok g c =
+    read_whole c.args.harts c.items.from c.args.text.now c.items.choices.items c.in_default.ensures.none c.items.invariant.1

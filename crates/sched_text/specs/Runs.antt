@@ -1,0 +1,36 @@
+-- Equal choices, one after another.
+use Rattle.std.specs.Prelude.{ℕ, ◌+◌, ◌==◌, ◌&&◌, nat_lt, Bool, true, false, not, List, [], ◌∷◌, ◌++◌, replicate, if◌then◌else◌}
+use Rattle.machine.specs.declared.choice.Choice.{Choice}
+use Rattle.sched_text.specs.declared.run.Run.{Run}
+
+-- a choice, so many times
+abbrev pub run : Choice → ℕ → Run
+run choice count = record { choice = choice; count = count }
+
+-- the choices of a run
+abbrev pub equal_choices : Run → List Choice
+equal_choices r = replicate r.count r.choice
+
+-- the choices of one run after another
+unfoldable pub expanded : List Run → List Choice
+expanded [] = []
+expanded (r ∷ runs) = equal_choices r ++ expanded runs
+
+-- whether two choices are equal
+abbrev pub same_mark : Bool → Bool → Bool
+same_mark true b = b
+same_mark false b = not b
+
+abbrev pub same_choice : Choice → Choice → Bool
+same_choice c d = c.hart == d.hart && same_mark c.refuse d.refuse
+
+-- so many of a choice, and then the longest runs of a list, of at most 16777216 choices each
+unfoldable pub runs_from : Choice → ℕ → List Choice → List Run
+runs_from c n [] = run c n ∷ []
+runs_from c n (d ∷ choices) =
+    if same_choice c d && nat_lt n 16777216 then runs_from c (n + 1) choices else run c n ∷ runs_from d 1 choices
+
+-- from the front, the longest runs of a list, of at most 16777216 choices each
+abbrev pub longest_runs : List Choice → List Run
+longest_runs [] = []
+longest_runs (c ∷ choices) = runs_from c 1 choices

@@ -1,0 +1,140 @@
+//! Choice texts: `0 1*3 0!` lets hart 0, then three times hart 1, then hart 0 again take a step, the last with its
+//! store-conditional refused.
+
+ghost use Rattle.std.specs.Prelude.{◌≡◌, ◌+◌, ◌++◌, ◌∷◌, [], ◌<◌, ◌≢◌, IfOk, IfErr, IfSome, OnOk};
+ghost use Rattle.std.specs.List.{All};
+ghost use Rattle.sched_text.specs.Grammar.{Spells, Spoils};
+ghost use Rattle.sched_text.specs.Runs.{equal_choices};
+ghost use Rattle.sched_text.specs.Reading.{count_of, run_of, choices_of};
+
+use crate::run::{MOST_EQUAL, Run};
+use machine::Choice;
+use std::alloc::{AllocError, Allocator};
+use text_items::{next_item, number, split_at_byte, split_mark};
+use thiserror::Error;
+
+/// Why a text gives no choices: the first bad item's byte offset, or want of memory.
+#[derive(Clone, Copy, Debug, PartialEq, Eq, Error)]
+pub enum ChoiceFault {
+    /// The item that begins at this offset isn't a number without leading zeros, with or without `!`, and with or without
+    /// `*` and a count behind it.
+    #[error("choice fault BadChoice at {0}")]
+    BadChoice(usize),
+    /// The item that begins at this offset names a hart that isn't there.
+    #[error("choice fault NoHart at {0}")]
+    NoHart(usize),
+    /// Memory for the list was refused.
+    #[error("out of memory")]
+    Memory,
+}
+
+// How often an item's choice stands, by what begins at its `*`: once, where nothing is there.
+fn read_count(counted: &[u8]) -> Option<u32>
+    ensures { result ≡ count_of counted.now }
+{
+    let [_, digits @ ..] = counted else {
+        return Some(1);
+    };
+    match number(digits) {
+        Some(count) if count > 0 && count <= u64::from(MOST_EQUAL) => Some(count as u32),
+        _ => None,
+    }
+}
+
+// The hart, of so many, that a single digit names.
+#[inline]
+fn read_digit(item: &[u8], harts: u32) -> Option<u32>
+    ensures digit { IfSome result (λ hart. (item.now ≡ (hart + 48) ∷ []) × (hart < 10)) }
+    ensures there { IfSome result (λ hart. hart < harts) }
+{
+    let [byte] = item else {
+        return None;
+    };
+    let hart = u32::from(byte.wrapping_sub(b'0'));
+    if hart > 9 || hart >= harts {
+        return None;
+    }
+    Some(hart)
+}
+
+/// The run that an item at an offset names, for so many harts. For who goes through a text item by item, and holds no list.
+#[inline]
+pub fn read_run(item: &[u8], at: usize, harts: u32) -> Result<Run, ChoiceFault>
+    ensures { result ≡ run_of harts at item.now }
+{
+    // Most items of most texts are so, and need no loop.
+    if let Some(hart) = read_digit(item, harts) {
+        let choice = Choice {
+            hart,
+            refuse: false,
+        };
+        return Ok(Run { choice, count: 1 });
+    }
+    read_any_run(item, at, harts)
+}
+
+// The same, of any shape.
+#[inline(never)]
+#[cold]
+fn read_any_run(item: &[u8], at: usize, harts: u32) -> Result<Run, ChoiceFault>
+    ensures { result ≡ run_of harts at item.now }
+{
+    let (front, counted) = split_at_byte(item, b'*');
+    let (digits, refuse) = split_mark(front);
+    let Some(hart) = number(digits) else {
+        return Err(ChoiceFault::BadChoice(at));
+    };
+    let Some(count) = read_count(counted) else {
+        return Err(ChoiceFault::BadChoice(at));
+    };
+    if hart >= u64::from(harts) {
+        return Err(ChoiceFault::NoHart(at));
+    }
+    let choice = Choice {
+        hart: hart as u32,
+        refuse,
+    };
+    Ok(Run { choice, count })
+}
+
+// Appends a run's choices to a list. After a refusal the list has some of them.
+fn push_run<A: Allocator>(choices: &mut Vec<Choice, A>, run: Run) -> Result<(), AllocError>
+    ensures { OnOk result (choices.new.items ≡ choices.old.items ++ equal_choices run) }
+{
+    'choices: for _ in 0..run.count {
+        choices.push(run.choice)?;
+    }
+    Ok(())
+}
+
+/// Reads a choice text for so many harts: items between blanks (space, tab, LF, CR), each a hart's number in decimal
+/// without leading zeros, with `!` after it where the step's store-conditional is refused, and with `*` and a count from 1 to
+/// `MOST_EQUAL` after that where the choice stands more than once. The empty text gives no choices. The first bad item decides
+/// the fault; a count that is none is BadChoice, whatever the hart.
+pub fn read_choices<A: Allocator + Copy>(
+    alloc: A,
+    text: &[u8],
+    harts: u32,
+) -> Result<Vec<Choice, A>, ChoiceFault>
+    ensures spelled { IfOk result (λ choices. Spells harts text.now choices.items) }
+    ensures spoiled { IfErr result (λ fault. fault ≢ ChoiceFault.Memory
+        → Spoils harts 0 text.now fault) }
+    ensures within { IfOk result (λ choices. All (λ c. c.hart < harts) choices.items) }
+    ensures ok { IfOk result (λ choices. choices_of harts text.now ≡ Ok choices.items) }
+    ensures err { IfErr result (λ fault. fault ≢ ChoiceFault.Memory
+        → choices_of harts text.now ≡ Err fault) }
+{
+    let mut choices = Vec::new(alloc);
+    let mut from = 0;
+    'items: while let Some((begin, end)) = next_item(text, from) {
+        let named = match read_run(&text[begin..end], begin, harts) {
+            Ok(named) => named,
+            Err(fault) => return Err(fault),
+        };
+        let Ok(()) = push_run(&mut choices, named) else {
+            return Err(ChoiceFault::Memory);
+        };
+        from = end;
+    }
+    Ok(choices)
+}

@@ -1,7 +1,0 @@
-use Rattle.std.proofs.Common.{◌≡◌, ◌++◌, drop}
-use Rattle.segment_order.specs.Logs.{seen}
-use Rattle.segment_order.proofs.weaving.references.Given as goal
-
--- those so far, and the segments that are left
-abbrev pub invariant-segments : goal.invariant-segments
-invariant-segments g l = seen l.out.items ++ drop l.segment-index l.log ≡ l.log

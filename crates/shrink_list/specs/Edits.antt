@@ -1,0 +1,23 @@
+-- A list of choices after an edit of a part: from one number up to another, the first choice being number 0.
+use Rattle.std.specs.Prelude.{ℕ, ◌-◌, false, List, ◌++◌, map, take, drop}
+use Rattle.machine.specs.declared.choice.Choice.{Choice}
+use Rattle.shrink_list.specs.declared.edits.Edit.{Edit}
+use Rattle.shrink_list.specs.declared.edits.Edit.TheVariants.{LeaveOut, TakeMarks}
+
+-- a choice without its mark
+abbrev pub without_mark : Choice → Choice
+without_mark c = record { hart = c.hart; refuse = false }
+
+-- the list without the part
+abbrev pub left_out : ℕ → ℕ → List Choice → List Choice
+left_out from to choices = take from choices ++ drop to choices
+
+-- the list with the part's marks taken away
+abbrev pub marks_taken : ℕ → ℕ → List Choice → List Choice
+marks_taken from to choices =
+    take from choices ++ (map without_mark (take (to - from) (drop from choices)) ++ drop to choices)
+
+-- the list after an edit of the part
+abbrev pub edited : Edit → ℕ → ℕ → List Choice → List Choice
+edited LeaveOut from to choices = left_out from to choices
+edited TakeMarks from to choices = marks_taken from to choices

@@ -1,5 +1,0 @@
-use Rattle.source_statements.proofs.Whole.{decided}
-use Rattle.source_statements.proofs.laws.texts_are_decided.Goals as goal
-
-pub returns : goal.returns
-returns c = decided

@@ -1,0 +1,74 @@
+//! The library's objects on threads over banks, under plans of any kind: each run is merged, and ends as its logs, with its rule kept.
+use crate::checked::checked;
+use crate::merging::Lack;
+use hart_step::HartState;
+use object_library::{Kind, Verdict, judge};
+use std::alloc::Allocator;
+use std::sync::Wait;
+use std::thread::Threads;
+use test_programs::Program;
+use thread_gate::OpenGate;
+
+// An object, and its harts' inputs.
+const OBJECTS: [(Kind, &[u32]); 5] = [
+    (Kind::Swap, &[7, 9]),
+    (Kind::Add, &[4, 6]),
+    (Kind::LrSc, &[3, 5, 7, 9]),
+    (Kind::AdoptCommit, &[2, 2, 5]),
+    (Kind::Rounds, &[2, 2, 5]),
+];
+
+// How many runs each object has.
+const RUNS: u32 = 1000;
+
+// More choices than a hart of any object needs.
+const BUDGET: u32 = 500;
+
+// Pairs that follow from a number, of harts that may not be there, and of low numbers.
+fn pairs_of(number: u32) -> [(u32, u32); 4] {
+    let mut pairs = [(0, 0); 4];
+    let mut drawn = number;
+    for pair in &mut pairs {
+        drawn = drawn.wrapping_mul(1_664_525).wrapping_add(1_013_904_223);
+        *pair = ((drawn >> 26) % 5, (drawn >> 20) % 32);
+    }
+    pairs
+}
+
+// Runs an object; its verdict, if all its harts have stopped.
+fn verdict_of<A: Allocator + Copy + Send + Sync, R: Threads + Wait + Sync>(
+    rt: &R,
+    alloc: A,
+    kind: Kind,
+    inputs: &[u32],
+    number: u32,
+) -> Result<Option<Verdict>, Lack> {
+    let program = Program::Object(kind);
+    let done = checked(
+        rt,
+        alloc,
+        program,
+        inputs,
+        BUDGET,
+        &pairs_of(number),
+        &OpenGate,
+    )?;
+    if done
+        .harts
+        .iter()
+        .any(|hart| hart.state == HartState::Running)
+    {
+        return Ok(None);
+    }
+    Ok(Some(judge(kind, inputs, &done.choices, &done.harts)))
+}
+
+#[test]
+fn objects_keep_their_rule(rt: HostRuntime) {
+    for (kind, inputs) in &OBJECTS {
+        for number in 0..RUNS {
+            let found = verdict_of(&rt, rt.alloc(), *kind, inputs, number);
+            assert!(rt; found == Ok(Some(Verdict::Kept)), "run {number}");
+        }
+    }
+}

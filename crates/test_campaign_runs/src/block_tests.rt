@@ -1,0 +1,213 @@
+//! What no clause says: that memory is found, and that the runs of threads are those of plain machines.
+ghost use Rattle.std.specs.Prelude.{◌≤◌};
+
+use crate::object_files::object_file;
+use crate::plain_runs::plain_ending;
+use crate::plans::{Order, Plan, answered, campaign_of, program_of};
+use campaign_runs::{Block, HartResult, Report, SeedEnd, Seeds, run_block};
+use image::Image;
+use machine::{StartFault, check_inputs};
+use object_library::Kind;
+use outcome::Exit;
+use program_open::CommandFault;
+use std::alloc::Global;
+use std::thread::Threads;
+use test_images::{CONDITIONAL, writable_program};
+
+// The program.
+fn program(alloc: Global) -> Result<Image<Global>, StartFault> {
+    writable_program(alloc, &CONDITIONAL).map_err(|_| StartFault::Memory)
+}
+
+// Runs of so many steps, told apart by what harts left.
+fn plan_of(first: u64, count: u64, steps: u32) -> Plan {
+    Plan {
+        first,
+        count,
+        steps,
+        order: Order::Usual,
+        rule: None,
+        exit: Exit::May,
+    }
+}
+
+// How the runs of a plan end, as one block.
+fn ends_of<R: Threads + Sync>(
+    rt: &R,
+    alloc: Global,
+    inputs: &[u32],
+    plan: Plan,
+) -> Result<Vec<SeedEnd<Global>, Global>, StartFault> {
+    let image = program(alloc)?;
+    check_inputs(inputs)?;
+    let Some(campaign) = campaign_of(plan, Report::Outcomes) else {
+        return Err(StartFault::Memory);
+    };
+    let block = Block {
+        first: campaign.first,
+        count: campaign.count,
+    };
+    run_block(rt, alloc, &image, inputs, campaign, block).map_err(|_| StartFault::Memory)
+}
+
+// The inputs of four harts.
+const FOUR: [u32; 4] = [7, 9, 11, 13];
+
+// The first of the last 3000 seeds there are.
+const FIRST: u64 = u64::MAX - 2999;
+
+// Whether a run of 30 steps is that of a seed by a plain machine.
+fn is_plain(alloc: Global, image: &Image<Global>, seed: u64, end: &SeedEnd<Global>) -> bool {
+    match plain_ending(alloc, image, &FOUR, Order::Usual, 30, seed) {
+        Some(ending) => end.seed == seed && end.ending == ending,
+        None => false,
+    }
+}
+
+// How many runs are those of the seeds from the first on by plain machines, up to the first that is
+// not.
+fn count_plain(alloc: Global, image: &Image<Global>, ends: &[SeedEnd<Global>]) -> u64 {
+    let mut plain = 0u64;
+    for end in ends {
+        if !is_plain(alloc, image, FIRST.wrapping_add(plain), end) {
+            return plain;
+        }
+        plain = plain.wrapping_add(1);
+    }
+    plain
+}
+
+// How many runs of threads there are of the last seeds, and how many of them are those of plain
+// machines.
+fn count_runs<R: Threads + Sync>(rt: &R, alloc: Global) -> Result<(usize, u64), StartFault> {
+    let ends = ends_of(rt, alloc, &FOUR, plan_of(FIRST, 3000, 30))?;
+    let image = program(alloc)?;
+    Ok((ends.len(), count_plain(alloc, &image, ends.as_slice())))
+}
+
+#[test]
+fn threads_run_what_plain_machines_run(rt: HostRuntime) -> Result<(), StartFault> {
+    let (runs, plain) = count_runs(&rt, rt.alloc())?;
+    assert!(rt; runs == 3000);
+    assert!(rt; plain == 3000, "run {plain}");
+    Ok(())
+}
+
+// What two harts hold at the start: their numbers and their inputs.
+const STARTS: [HartResult; 2] = [HartResult { a0: 0, a1: 7 }, HartResult { a0: 1, a1: 9 }];
+
+// Whether a run has left two harts at the start.
+fn is_at_start(end: &SeedEnd<Global>) -> bool {
+    end.ending.outcome.running == 2 && end.ending.results.as_slice() == STARTS.as_slice()
+}
+
+// Whether the runs of two seeds without a step are at the start.
+fn are_at_start<R: Threads + Sync>(rt: &R, alloc: Global) -> Result<bool, StartFault> {
+    let ends = ends_of(rt, alloc, &[7, 9], plan_of(5, 2, 0))?;
+    match ends.as_slice() {
+        [one, other] => Ok(is_at_start(one) && is_at_start(other)),
+        _ => Ok(false),
+    }
+}
+
+#[test]
+fn no_step_leaves_the_start(rt: HostRuntime) {
+    assert!(rt; are_at_start(&rt, rt.alloc()) == Ok(true));
+}
+
+// How many lines a campaign with some inputs writes; none where there is no memory for its file.
+fn count_of<R: Threads + Sync>(
+    rt: &R,
+    alloc: Global,
+    inputs: &[u32],
+    count: u64,
+) -> Option<Result<usize, CommandFault>> {
+    let file = object_file(alloc, Kind::LrSc).ok()?;
+    let program = program_of(&file, inputs);
+    let (ending, sink) = answered(rt, alloc, program, plan_of(0, count, 9), Report::Lines)?;
+    let lines = sink.bytes().split_inclusive(|byte: &u8| *byte == b'\n');
+    Some(ending.map(|_| lines.count()))
+}
+
+// Inputs, how many seeds are run, and how many runs there are.
+struct Inputs {
+    inputs: &'static [u32],
+    count: u64,
+    runs: Result<usize, CommandFault>,
+}
+
+// The inputs are checked also where no seed is run.
+#[rattlefmt::skip]
+const INPUTS: [Inputs; 6] = [
+    Inputs { inputs: &[], count: 0, runs: Err(CommandFault::NoHarts) },
+    Inputs { inputs: &[0; 100], count: 0, runs: Err(CommandFault::TooManyHarts) },
+    Inputs { inputs: &[7], count: 0, runs: Ok(0) },
+    Inputs { inputs: &[], count: 3, runs: Err(CommandFault::NoHarts) },
+    Inputs { inputs: &[0; 100], count: 3, runs: Err(CommandFault::TooManyHarts) },
+    Inputs { inputs: &[7], count: 3, runs: Ok(3) },
+];
+
+#[test]
+fn inputs_are_checked_first(rt: HostRuntime) {
+    for row in &INPUTS {
+        assert!(rt;
+            count_of(&rt, rt.alloc(), row.inputs, row.count) == Some(row.runs),
+            "{} inputs",
+            row.inputs.len()
+        );
+    }
+}
+
+// Whether two runs are of the same seed and end in the same way.
+fn is_same_run(one: &SeedEnd<Global>, other: &SeedEnd<Global>) -> bool {
+    one.seed == other.seed && one.ending == other.ending
+}
+
+// What is left of runs behind those of a block; none where the block has others.
+fn left_behind<'a>(
+    runs: &'a [SeedEnd<Global>],
+    block: &[SeedEnd<Global>],
+) -> Option<&'a [SeedEnd<Global>]> {
+    let mut left = runs;
+    for run in block {
+        let (wanted, rest) = left.split_first()?;
+        if !is_same_run(run, wanted) {
+            return None;
+        }
+        left = rest;
+    }
+    Some(left)
+}
+
+// Whether the blocks of a campaign of so many seeds are the campaign as a whole; none where memory is
+// refused.
+fn are_blocks_whole<R: Threads + Sync>(rt: &R, alloc: Global, count: u64) -> Option<bool>
+    requires { count ≤ 5000 }
+{
+    let image = program(alloc).ok()?;
+    let inputs = [7, 9];
+    check_inputs(&inputs).ok()?;
+    let plan = plan_of(5, count, 8);
+    let campaign = campaign_of(plan, Report::Outcomes)?;
+    let whole = ends_of(rt, alloc, &inputs, plan).ok()?;
+    let mut left = whole.as_slice();
+    let mut seeds = Seeds::new(5, count);
+    for _ in 0..10 {
+        let Some(block) = seeds.next_block(8) else {
+            break;
+        };
+        let ends = run_block(rt, alloc, &image, &inputs, campaign, block).ok()?;
+        left = left_behind(left, ends.as_slice())?;
+    }
+    Some(left.is_empty())
+}
+
+#[test]
+fn blocks_are_the_whole(rt: HostRuntime) {
+    for count in [0, 1, 63, 64, 65, 5000] {
+        assert!(rt;
+            are_blocks_whole(&rt, rt.alloc(), count) == Some(true),
+            "{count} seeds"
+        );
+    }
+}

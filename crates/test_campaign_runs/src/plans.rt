@@ -1,0 +1,137 @@
+//! Campaigns as rows of tables, and what the engine answers and writes.
+ghost use Rattle.std.specs.Prelude.{◌+◌, ◌≤◌, ◌^◌, IfSome};
+
+use byte_io::{Failing, MemorySink, MemorySource};
+use campaign_runs::{Campaign, Report};
+use cmd_campaign::{Finished, campaign_engine};
+use object_library::Kind;
+use outcome::{Exit, Expect};
+use program_open::CommandFault;
+use progress::Unheard;
+use sched_draw::{Depth, Draw, Mean, Order as HartOrder, Refusals};
+use std::alloc::Global;
+use std::thread::Threads;
+
+/// How many choices a burst has in the mean.
+pub(crate) const MEAN: u32 = 4;
+
+/// How a seed makes its choices.
+#[derive(Clone, Copy)]
+pub(crate) enum Order {
+    /// As where nothing else is asked for.
+    Usual,
+    /// Evenly, and none refuses.
+    Never,
+    /// In bursts of `MEAN` choices, and none refuses.
+    Bursts,
+    /// By priorities with no change point, so that a hart runs to its end before the next one, and
+    /// none refuses.
+    Priorities,
+}
+
+/// How seeds draw by an order.
+pub(crate) fn draw_of(order: Order) -> Option<Draw> {
+    match order {
+        Order::Usual => Some(Draw::usual()),
+        Order::Never => Some(never(HartOrder::Even)),
+        Order::Bursts => {
+            let mean = Mean::new(MEAN)?;
+            Some(never(HartOrder::Bursts(mean)))
+        }
+        Order::Priorities => {
+            let depth = Depth::new(1)?;
+            Some(never(HartOrder::Priorities(depth)))
+        }
+    }
+}
+
+// A draw of which no choice refuses.
+fn never(order: HartOrder) -> Draw {
+    Draw {
+        order,
+        refusals: Refusals::Never,
+    }
+}
+
+/// A campaign, but for what it reports.
+#[derive(Clone, Copy)]
+pub(crate) struct Plan {
+    pub(crate) first: u64,
+    pub(crate) count: u64,
+    pub(crate) steps: u32,
+    pub(crate) order: Order,
+    pub(crate) rule: Option<Kind>,
+    pub(crate) exit: Exit,
+}
+
+/// The campaign of a plan, where its seeds are below 2^64.
+pub(crate) fn campaign_of(plan: Plan, report: Report) -> Option<Campaign>
+    ensures { IfSome result (λ campaign. campaign.first + campaign.count ≤ 2 ^ 64) }
+{
+    let draw = draw_of(plan.order)?;
+    if plan.count > 0 && plan.first > u64::MAX - (plan.count - 1) {
+        return None;
+    }
+    Some(Campaign {
+        first: plan.first,
+        count: plan.count,
+        steps: plan.steps as u64,
+        draw,
+        expect: Expect {
+            rule: plan.rule,
+            exit: plan.exit,
+        },
+        report,
+    })
+}
+
+/// Each of the reports.
+pub(crate) const REPORTS: [Report; 4] = [
+    Report::Lines,
+    Report::Failures,
+    Report::Summary,
+    Report::Outcomes,
+];
+
+/// A file, how many reads of it pass, and the inputs of its harts.
+#[derive(Clone, Copy)]
+pub(crate) struct Program<'f, 'i> {
+    pub(crate) file: &'f [u8],
+    pub(crate) passed: u64,
+    pub(crate) inputs: &'i [u32],
+}
+
+/// A program of a file that is read.
+pub(crate) fn program_of<'f, 'i>(file: &'f [u8], inputs: &'i [u32]) -> Program<'f, 'i> {
+    Program {
+        file,
+        passed: u64::MAX,
+        inputs,
+    }
+}
+
+/// What a campaign answers, and what it writes.
+pub(crate) type Answer = (Result<Finished, CommandFault>, MemorySink<Global>);
+
+/// What the campaign of a plan answers and writes; none where the plan has none.
+pub(crate) fn answered(
+    rt: &(impl Threads + Sync),
+    alloc: Global,
+    program: Program,
+    plan: Plan,
+    report: Report,
+) -> Option<Answer> {
+    let campaign = campaign_of(plan, report)?;
+    let mut source = Failing::new(MemorySource::new(program.file), program.passed);
+    let mut sink = MemorySink::new(alloc);
+    let ending = campaign_engine(
+        rt,
+        alloc,
+        program.inputs,
+        campaign,
+        &mut source,
+        &mut sink,
+        &mut Unheard,
+    );
+    Some((ending, sink))
+}

@@ -1,0 +1,200 @@
+//! Each request for memory of a tally, of the counting of a block's runs, of a summary's text and of
+//! a block's failures refused in turn. The runs themselves ask in threads, which can't be handed such
+//! an allocator.
+ghost use Rattle.std.specs.Prelude.{◌≡◌, IfOk, length};
+
+use byte_io::MemorySink;
+use campaign_runs::{Campaign, Ending, HartResult, Report, SeedCount, SeedEnd, Tally};
+use cmd_campaign::{count_ends_of, push_lines, record_block, summary_text};
+use hart_step::{Cause, Hart, HartState};
+use object_library::{Kind, Verdict};
+use outcome::{Exit, Expect, Outcome};
+use program_open::CommandFault;
+use sched_draw::Draw;
+use sched_run::Chosen;
+use std::alloc::{AllocError, Allocator, Global};
+use test_refusing::{Call, tried};
+
+// No rule, and harts may run on.
+const PLAIN: Expect = Expect {
+    rule: None,
+    exit: Exit::May,
+};
+
+// The rule of Swap.
+const RULED: Expect = Expect {
+    rule: Some(Kind::Swap),
+    exit: Exit::May,
+};
+
+// A campaign of the two runs below.
+fn campaign_with(expect: Expect, report: Report) -> Campaign {
+    Campaign {
+        first: 5,
+        count: 2,
+        steps: 0,
+        draw: Draw::usual(),
+        expect,
+        report,
+    }
+}
+
+// A hart that ended so, with a number in a0.
+fn hart(state: HartState, a0: u32) -> Hart {
+    let mut registers = [0; 32];
+    registers[10] = a0;
+    Hart {
+        registers,
+        pc: 0x0001_0000,
+        state,
+    }
+}
+
+// How a run of two harts ended that took no step, so that none was chosen.
+fn end<A: Allocator + Copy>(
+    alloc: A,
+    seed: u64,
+    campaign: Campaign,
+    harts: &[Hart],
+) -> Result<SeedEnd<A>, AllocError> {
+    let outcome = campaign
+        .expect
+        .judge(alloc, &[7, 9], &Chosen::new(), harts)?;
+    let ending = Ending::of(alloc, campaign.report, outcome, harts)?;
+    Ok(SeedEnd { seed, ending })
+}
+
+// Two such runs: in the second one the first hart stands as if it had faulted.
+fn ends<A: Allocator + Copy>(alloc: A, campaign: Campaign) -> Result<Vec<SeedEnd<A>, A>, AllocError>
+    ensures { IfOk result (λ ends. length ends.items ≡ 2) }
+{
+    let running = hart(HartState::Running, 9);
+    let faulted = hart(HartState::Faulted(Cause::Break), 7);
+    let first = end(alloc, 5, campaign, &[hart(HartState::Running, 7), running])?;
+    let second = end(alloc, 6, campaign, &[faulted, running])?;
+    let mut ends = Vec::new(alloc);
+    ends.push(first)?;
+    ends.push(second)?;
+    Ok(ends)
+}
+
+// An ending of one hart.
+fn ending<A: Allocator + Copy>(alloc: A) -> Result<Ending<A>, AllocError> {
+    let mut results = Vec::new(alloc);
+    results.push(HartResult { a0: 7, a1: 1 })?;
+    Ok(Ending {
+        outcome: Outcome {
+            exited: 1,
+            faulted: 0,
+            running: 0,
+            verdict: Some(Verdict::Kept),
+        },
+        results,
+    })
+}
+
+// The tally of two seeds of one ending.
+#[derive(Clone, Copy)]
+struct Counting;
+
+impl Call for Counting {
+    fn answer<A: Allocator + Copy>(&self, alloc: A, _host: Global) -> Result<bool, AllocError> {
+        let mut tally = Tally::new(alloc);
+        tally.add(ending(alloc)?, 3)?;
+        tally.add(ending(alloc)?, 8)?;
+        if tally.len() != 1 || tally.is_empty() {
+            return Ok(false);
+        }
+        let (ending, count) = tally.row(0);
+        Ok(ending.outcome.exited == 1 && count == SeedCount { seeds: 2, first: 3 })
+    }
+}
+
+// The summary of two such runs.
+const SUMMARY: &str =
+    "seeds 1 first 5 exited 0 faulted 0 running 2 0:a0=00000007 0:a1=00000000 1:a0=00000009 1:a1=00000000\n\
+     seeds 1 first 6 exited 0 faulted 1 running 1 0:a0=00000007 0:a1=00000000 1:a0=00000009 1:a1=00000000\n";
+
+// The summary of a block.
+#[derive(Clone, Copy)]
+struct Summing;
+
+impl Call for Summing {
+    fn answer<A: Allocator + Copy>(&self, alloc: A, _host: Global) -> Result<bool, AllocError> {
+        let ends = ends(alloc, campaign_with(PLAIN, Report::Outcomes))?;
+        let mut tally = Tally::new(alloc);
+        count_ends_of(alloc, &mut tally, &ends)?;
+        let text = summary_text(alloc, &tally)?;
+        Ok(text.as_str() == SUMMARY)
+    }
+}
+
+// Refused memory, or another fault.
+fn refused(fault: CommandFault) -> Result<bool, AllocError> {
+    match fault {
+        CommandFault::Memory => Err(AllocError),
+        _ => Ok(false),
+    }
+}
+
+// What is recorded of a block: the lines that are written, and the seeds that are counted.
+#[derive(Clone, Copy)]
+struct Recording {
+    report: Report,
+    lines: &'static str,
+    text: &'static str,
+}
+
+impl Call for Recording {
+    fn answer<A: Allocator + Copy>(&self, alloc: A, host: Global) -> Result<bool, AllocError> {
+        let campaign = campaign_with(PLAIN, self.report);
+        let ends = ends(alloc, campaign)?;
+        let mut tally = Tally::new(alloc);
+        let mut sink = MemorySink::new(host);
+        match record_block(alloc, campaign, &ends, &mut tally, &mut sink) {
+            Ok(()) => {}
+            Err(fault) => return refused(fault),
+        }
+        let text = summary_text(alloc, &tally)?;
+        Ok(sink.bytes() == self.lines.as_bytes() && text.as_str() == self.text)
+    }
+}
+
+#[rattlefmt::skip]
+const RECORDINGS: [Recording; 3] = [
+    Recording { report: Report::Lines, text: "",
+        lines: "seed 5 exited 0 faulted 0 running 2\nseed 6 exited 0 faulted 1 running 1\n" },
+    Recording { report: Report::Failures, text: "", lines: "seed 6 exited 0 faulted 1 running 1\n" },
+    Recording { report: Report::Outcomes, text: SUMMARY, lines: "" },
+];
+
+// The failures of a block, without a rule and with one.
+#[derive(Clone, Copy)]
+struct Failures;
+
+impl Call for Failures {
+    fn answer<A: Allocator + Copy>(&self, alloc: A, _host: Global) -> Result<bool, AllocError> {
+        let plain = ends(alloc, campaign_with(PLAIN, Report::Failures))?;
+        let ruled = ends(alloc, campaign_with(RULED, Report::Failures))?;
+        let mut text = String::new(alloc);
+        push_lines(&mut text, Report::Failures, PLAIN, &plain)?;
+        push_lines(&mut text, Report::Failures, RULED, &ruled)?;
+        let wanted =
+            "seed 6 exited 0 faulted 1 running 1\nseed 6 exited 0 faulted 1 running 1 broken\n";
+        Ok(text.as_str() == wanted)
+    }
+}
+
+#[test]
+fn each_refused_request_is_told(rt: HostRuntime) {
+    assert!(rt; tried(rt.alloc(), &Counting) == Ok(()));
+    assert!(rt; tried(rt.alloc(), &Summing) == Ok(()));
+    assert!(rt; tried(rt.alloc(), &Failures) == Ok(()));
+}
+
+#[test]
+fn each_refused_request_of_a_record_is_told(rt: HostRuntime) {
+    for row in &RECORDINGS {
+        assert!(rt; tried(rt.alloc(), row) == Ok(()), "{}", row.lines);
+    }
+}

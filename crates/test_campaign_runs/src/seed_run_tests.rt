@@ -1,0 +1,64 @@
+//! What no clause says of the first machine of a campaign and of one seed's run: that they are had
+//! where memory is left, with each request refused in turn.
+use crate::plans::{Order, draw_of};
+use campaign_runs::{Campaign, Report, first_machine, run_seed};
+use object_library::Kind;
+use outcome::{Exit, Expect};
+use sched_draw::Draw;
+use std::alloc::{AllocError, Allocator, Global};
+use test_images::{CONDITIONAL, writable_program};
+use test_refusing::{Call, tried};
+
+// A judged run of 8 steps, whose harts' results are told.
+fn campaign_with(draw: Draw) -> Campaign {
+    Campaign {
+        first: 5,
+        count: 1,
+        steps: 8,
+        draw,
+        expect: Expect {
+            rule: Some(Kind::LrSc),
+            exit: Exit::Must,
+        },
+        report: Report::Outcomes,
+    }
+}
+
+// The run of one seed under schedules of an order.
+struct OneSeed {
+    order: Order,
+}
+
+impl Call for OneSeed {
+    fn answer<A: Allocator + Copy>(&self, alloc: A, host: Global) -> Result<bool, AllocError> {
+        let Some(draw) = draw_of(self.order) else {
+            return Ok(false);
+        };
+        let image = writable_program(host, &CONDITIONAL)?;
+        let start = first_machine(alloc, &image, &[7, 9])?;
+        let end = run_seed(alloc, &start, &[7, 9], campaign_with(draw), 5)?;
+        Ok(end.seed == 5 && end.ending.results.len() == 2)
+    }
+}
+
+const SEEDS: [OneSeed; 4] = [
+    OneSeed {
+        order: Order::Usual,
+    },
+    OneSeed {
+        order: Order::Never,
+    },
+    OneSeed {
+        order: Order::Bursts,
+    },
+    OneSeed {
+        order: Order::Priorities,
+    },
+];
+
+#[test]
+fn each_refused_request_is_told(rt: HostRuntime) {
+    for seed in &SEEDS {
+        assert!(rt; tried(rt.alloc(), seed).is_ok());
+    }
+}

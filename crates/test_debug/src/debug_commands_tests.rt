@@ -1,0 +1,327 @@
+//! What no clause says: worked sessions, line by line, and refused memory.
+use debug_session::Debugger;
+use debug_text::{Answer, DebugFault, command};
+use hart_reservations::MAX_HARTS;
+use image::Image;
+use program_open::{hex_image, read_hex};
+use sched_text::read_choices;
+use std::alloc::{AllocError, Allocator, Global};
+use test_refusing::Refusing;
+
+// A program in hexadecimal, the inputs, the choices, and lines with what is shown for each.
+struct Session {
+    name: &'static str,
+    program: &'static str,
+    inputs: &'static [u32],
+    choices: &'static str,
+    lines: &'static [(&'static str, &'static str)],
+}
+
+// The shared object by AMOSWAP, as GNU as makes it: two harts agree on one input.
+const SWAP: &str =
+    "00011437 00251293 008282B3 00B2A223 00100313 086423AF 00038A63 00154293 00229293 008282B3 \
+    0042A583 00058513 00100593 05D00893 00000073";
+
+const ONE_THEN_ZERO: &str = "1 1 1 1 1 1 1 1 1 1 1 0 0 0 0 0 0 0 0 0 0 0 0 0 0 0";
+
+// A loop that counts: addi t0, t0, 1 and a jump back.
+const COUNT: &str = "00128293 FFDFF06F";
+
+const TEN: &str = "0 0 0 0 0 0 0 0 0 0";
+
+#[rattlefmt::skip]
+static SESSIONS: [Session; 11] = [
+    Session { name: "swap_forward_and_back", program: SWAP, inputs: &[7, 9], choices: ONE_THEN_ZERO,
+        lines: &[
+            ("where", "step 0 of 26\n"),
+            ("break 0x0001002c", "break 0001002c\n"),
+            ("go", "break h1 0001002c\nstep 7 of 26\n"),
+            ("go", "break h0 0001002c\nstep 22 of 26\n"),
+            ("go", "end\nstep 26 of 26\n"),
+            ("watch 0x00011002", "watch 00011000\n"),
+            ("rgo", "break h0 0001002c\nstep 22 of 26\n"),
+            ("rgo", "break h1 0001002c\nstep 7 of 26\n"),
+            ("rgo", "watch 00011000\nstep 6 of 26\n"),
+            ("rgo", "start\nstep 0 of 26\n"),
+            ("go", "watch 00011000\nstep 6 of 26\n"),
+            ("go", "break h1 0001002c\nstep 7 of 26\n"),
+            ("steps 5 7", "5 h1 00010014 amoswap.w t2, t1, (s0)\n6 h1 00010018 beq t2, zero, 0x0001002c\n"),
+            ("mem 0 1", "00000000 --------\n"),
+            ("goto 27", "past end\n"),
+            ("jump", "bad command\n"),
+            ("where", "step 7 of 26\n"),
+            ("quit", "quit"),
+        ] },
+    Session { name: "moves", program: COUNT, inputs: &[7], choices: TEN,
+        lines: &[
+            ("goto 9", "step 9 of 10\n"),
+            ("back 9", "step 0 of 10\n"),
+            ("goto 5", "step 5 of 10\n"),
+            ("goto 11", "past end\n"),
+            ("where", "step 5 of 10\n"),
+            ("forward", "step 6 of 10\n"),
+            ("forward 4", "step 10 of 10\n"),
+            ("forward 0", "step 10 of 10\n"),
+            ("forward", "past end\n"),
+            ("back", "step 9 of 10\n"),
+            ("back 10", "past end\n"),
+            ("back 0009", "step 0 of 10\n"),
+            ("back", "past end\n"),
+            ("goto 18446744073709551616", "past end\n"),
+            ("forward 99999999999999999999999999999999", "past end\n"),
+            ("back 18446744073709551617", "past end\n"),
+            ("where", "step 0 of 10\n"),
+        ] },
+    Session { name: "moves_through_a_thousand", program: COUNT, inputs: &[7], choices: "0*1000",
+        lines: &[
+            ("goto 999", "step 999 of 1000\n"),
+            ("back 999", "step 0 of 1000\n"),
+            ("goto 256", "step 256 of 1000\n"),
+            ("goto 1001", "past end\n"),
+            ("where", "step 256 of 1000\n"),
+            ("forward 744", "step 1000 of 1000\n"),
+            ("break 0x00010004", "break 00010004\n"),
+            ("rgo", "break h0 00010004\nstep 999 of 1000\n"),
+            ("goto 513", "step 513 of 1000\n"),
+            ("rgo", "break h0 00010004\nstep 511 of 1000\n"),
+            ("go", "break h0 00010004\nstep 513 of 1000\n"),
+        ] },
+    Session { name: "back_through_a_thousand", program: "000112B7 00B2A023 0000006F", inputs: &[7], choices: "0*1000",
+        lines: &[
+            ("watch 0x11000", "watch 00011000\n"),
+            ("goto 1000", "step 1000 of 1000\n"),
+            ("rgo", "watch 00011000\nstep 2 of 1000\n"),
+            ("mem 0x11000 1", "00011000 00000007\n"),
+            ("rgo", "start\nstep 0 of 1000\n"),
+            ("mem 0x11000 1", "00011000 00000000\n"),
+            ("goto 257", "step 257 of 1000\n"),
+            ("mem 0x11000 1", "00011000 00000007\n"),
+            ("rgo", "watch 00011000\nstep 2 of 1000\n"),
+            ("go", "end\nstep 1000 of 1000\n"),
+        ] },
+    Session { name: "break_where_the_hart_stays", program: "0000006F", inputs: &[7], choices: "0 0",
+        lines: &[
+            ("break 0x00010000", "break 00010000\n"),
+            ("go", "break h0 00010000\nstep 1 of 2\n"),
+            ("go", "break h0 00010000\nstep 2 of 2\n"),
+            ("rgo", "break h0 00010000\nstep 1 of 2\n"),
+            ("rgo", "start\nstep 0 of 2\n"),
+        ] },
+    Session { name: "break_of_a_hart_that_did_not_step", program: COUNT, inputs: &[7, 9], choices: "0 0 1 1 0",
+        lines: &[
+            ("break 65536", "break 00010000\n"),
+            ("go", "break h0 00010000\nstep 2 of 5\n"),
+            ("go", "break h1 00010000\nstep 4 of 5\n"),
+            ("go", "end\nstep 5 of 5\n"),
+            ("rgo", "break h1 00010000\nstep 4 of 5\n"),
+        ] },
+    Session { name: "lowest_watch_of_the_word", program: "000112B7 00B28323 0000006F", inputs: &[7], choices: "0 0 0",
+        lines: &[
+            ("watch 0x11008", "watch 00011008\n"),
+            ("watch 0x11005", "watch 00011004\n"),
+            ("watch 0x11000", "watch 00011000\n"),
+            ("go", "watch 00011004\nstep 2 of 3\n"),
+            ("mem 0x11004 1", "00011004 00070000\n"),
+            ("rgo", "start\nstep 0 of 3\n"),
+            ("mem 0x11004 1", "00011004 00000000\n"),
+        ] },
+    Session { name: "steps_of_their_own_worlds", program: "00000073", inputs: &[7, 9], choices: "0! 0 1",
+        lines: &[
+            ("steps 0 3", "0 h0! 00010000 ecall\n1 h0 00010000 stopped\n2 h1 00010000 ecall\n"),
+            ("steps 1 1", ""),
+            ("steps 2 1", ""),
+            ("steps 0 4", "past end\n"),
+            ("steps 4 0", "past end\n"),
+            ("steps 99 x", "bad command\n"),
+            ("goto 3", "step 3 of 3\n"),
+            ("steps 0 2", "0 h0! 00010000 ecall\n1 h0 00010000 stopped\n"),
+        ] },
+    Session { name: "step_that_cannot_be_fetched", program: "FFDFF06F", inputs: &[7], choices: "0 0 0",
+        lines: &[
+            ("steps 0 3", "0 h0 00010000 jal zero, 0x0000fffc\n1 h0 0000fffc no fetch\n2 h0 0000fffc stopped\n"),
+        ] },
+    Session { name: "lines", program: COUNT, inputs: &[7], choices: TEN,
+        lines: &[
+            ("", ""),
+            ("   ", ""),
+            ("  where  ", "step 0 of 10\n"),
+            ("where 1", "bad command\n"),
+            ("goto", "bad command\n"),
+            ("goto 1 2", "bad command\n"),
+            ("goto -1", "bad command\n"),
+            ("goto +1", "bad command\n"),
+            ("goto 0x1", "bad command\n"),
+            ("Where", "bad command\n"),
+            ("where\t", "bad command\n"),
+            ("where\n", "bad command\n"),
+            ("\n", "bad command\n"),
+            ("where\r", "bad command\n"),
+            ("break 0X10", "bad command\n"),
+            ("break 0x", "bad command\n"),
+            ("break 0xg", "bad command\n"),
+            ("break 4294967296", "bad command\n"),
+            ("break 0x100000000", "bad command\n"),
+            ("break 0x00000000000aBcDeF", "break 00abcdef\n"),
+            ("break 4294967295", "break ffffffff\n"),
+            ("regs 1", "bad command\n"),
+            ("regs 99999999999999999999", "bad command\n"),
+            ("mem 0x10000 0", "bad command\n"),
+            ("mem 0x10000 65", "bad command\n"),
+            ("mem 0x10000 99999999999999999999", "bad command\n"),
+            ("mem 0x10001 2", "00010000 00128293\n00010004 ffdff06f\n"),
+            ("mem 0xfffffffd 2", "fffffffc --------\n00000000 --------\n"),
+            ("steps 1", "bad command\n"),
+            ("steps 1 2 3", "bad command\n"),
+            ("where", "step 0 of 10\n"),
+        ] },
+    Session { name: "registers", program: COUNT, inputs: &[7, 9], choices: "0 0 0 1",
+        lines: &[
+            ("goto 4", "step 4 of 4\n"),
+            ("regs 0", "hart 0 running pc 00010004\nzero 00000000\nra 00000000\nsp 00000000\ngp 00000000\ntp 00000000\n\
+t0 00000002\nt1 00000000\nt2 00000000\ns0 00000000\ns1 00000000\na0 00000000\na1 00000007\na2 00000002\na3 00000000\n\
+a4 00000000\na5 00000000\na6 00000000\na7 00000000\ns2 00000000\ns3 00000000\ns4 00000000\ns5 00000000\ns6 00000000\n\
+s7 00000000\ns8 00000000\ns9 00000000\ns10 00000000\ns11 00000000\nt3 00000000\nt4 00000000\nt5 00000000\nt6 00000000\n"),
+        ] },
+];
+
+// The image of a program in hexadecimal.
+fn image_of<A: Allocator + Copy>(alloc: A, program: &str) -> Option<Image<A>> {
+    let words = read_hex(alloc, program.as_bytes()).ok()?;
+    hex_image(alloc, &words).ok()
+}
+
+// A debugger of a program's run, at its start.
+fn begin<A: Allocator + Copy>(
+    alloc: A,
+    program: &str,
+    inputs: &[u32],
+    choices: &str,
+) -> Option<Debugger<A>> {
+    if inputs.len() > MAX_HARTS {
+        return None;
+    }
+    let image = image_of(alloc, program)?;
+    let inputs = Vec::from_slice(alloc, inputs).ok()?;
+    let choices = read_choices(alloc, choices.as_bytes(), inputs.len() as u32).ok()?;
+    Debugger::new(alloc, image, inputs, choices).ok()
+}
+
+// What is shown for a line, or `quit`.
+fn shown<A: Allocator + Copy>(
+    alloc: A,
+    debugger: &mut Debugger<A>,
+    line: &str,
+) -> Result<String<A>, AllocError> {
+    match command(alloc, debugger, line) {
+        Ok(Answer::Text(text)) => Ok(text),
+        Ok(Answer::Quit) => String::from_str(alloc, "quit"),
+        Err(DebugFault::Memory) => Err(AllocError),
+        Err(fault) => format!(in alloc; "{fault}\n"),
+    }
+}
+
+// Whether this is shown for a line.
+fn is_shown<A: Allocator + Copy>(
+    alloc: A,
+    debugger: &mut Debugger<A>,
+    line: &str,
+    wanted: &str,
+) -> bool {
+    match shown(alloc, debugger, line) {
+        Ok(text) => text.as_str() == wanted,
+        Err(_) => false,
+    }
+}
+
+// The first line of a session for which something else is shown, or the name of a session that doesn't begin.
+fn wrong_line(alloc: Global, session: &Session) -> Option<&'static str> {
+    let Some(mut debugger) = begin(alloc, session.program, session.inputs, session.choices) else {
+        return Some(session.name);
+    };
+    for (line, wanted) in session.lines {
+        if !is_shown(alloc, &mut debugger, line, wanted) {
+            return Some(*line);
+        }
+    }
+    None
+}
+
+#[test]
+fn sessions_are_answered_line_by_line(rt: HostRuntime) {
+    for session in &SESSIONS {
+        let name = session.name;
+        if let Some(line) = wrong_line(rt.alloc(), session) {
+            assert!(rt; false, "{name}: {line}");
+        }
+    }
+}
+
+// Lines that lead to a place, each line that is tried there with each of its requests refused, and its answer.
+const BEFORE: [&str; 3] = ["break 0x0001002c", "watch 0x00011000", "goto 7"];
+
+const TRIED: [(&str, &str); 12] = [
+    ("where", "step 7 of 26\n"),
+    ("goto 3", "step 3 of 26\n"),
+    ("forward", "step 8 of 26\n"),
+    ("back 2", "step 5 of 26\n"),
+    ("break 0", "break 00000000\n"),
+    ("watch 7", "watch 00000004\n"),
+    ("go", "break h0 0001002c\nstep 22 of 26\n"),
+    ("rgo", "watch 00011000\nstep 6 of 26\n"),
+    ("steps 6 7", "6 h1 00010018 beq t2, zero, 0x0001002c\n"),
+    ("mem 0 1", "00000000 --------\n"),
+    ("goto 27", "past end\n"),
+    ("jump", "bad command\n"),
+];
+
+// A debugger of the first session's run, after the lines that lead to the place.
+fn placed<A: Allocator + Copy>(alloc: A) -> Option<Debugger<A>> {
+    let mut debugger = begin(alloc, SWAP, &[7, 9], ONE_THEN_ZERO)?;
+    for line in &BEFORE {
+        if shown(alloc, &mut debugger, line).is_err() {
+            return None;
+        }
+    }
+    Some(debugger)
+}
+
+// Whether a line is answered; or its want of memory is told where some was refused, and has changed nothing, so that the line is then
+// answered as wanted.
+fn is_tried<'a>(
+    heap: &'a Refusing<Global>,
+    debugger: &mut Debugger<&'a Refusing<Global>>,
+    line: &str,
+    wanted: &str,
+) -> bool {
+    if shown(heap, debugger, line).is_ok() {
+        return true;
+    }
+    heap.refused() && debugger.position() == 7 && is_shown(heap, debugger, line, wanted)
+}
+
+// Whether the request behind so many was refused where a line is tried; nothing where its answer is wrong.
+fn is_refused(host: Global, line: &str, wanted: &str, passed: u64) -> Option<bool> {
+    let heap = Refusing::new(host, passed);
+    let is_right = match placed(&heap) {
+        Some(mut debugger) => is_tried(&heap, &mut debugger, line, wanted),
+        None => heap.refused(),
+    };
+    if is_right { Some(heap.refused()) } else { None }
+}
+
+// How many requests are made where a line is tried; nothing where an answer is wrong, or where memory is asked for without end.
+fn requests_of(host: Global, line: &str, wanted: &str) -> Option<u64> {
+    for passed in 0..200u64 {
+        if !is_refused(host, line, wanted, passed)? {
+            return Some(passed);
+        }
+    }
+    None
+}
+
+#[test]
+fn each_refused_request_changes_nothing(rt: HostRuntime) {
+    for (line, wanted) in &TRIED {
+        assert!(rt; requests_of(rt.alloc(), line, wanted).is_some(), "{line}");
+    }
+}

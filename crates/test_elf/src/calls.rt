@@ -1,0 +1,67 @@
+//! Calls on a memory, however it is kept, each with the answer that it must give.
+
+use mem_store::{AccessFault, Store, StoreFault};
+
+/// A call: the address, what is stored there, and the answer.
+pub(crate) enum Call {
+    Load8(u32, Result<u8, AccessFault>),
+    Load16(u32, Result<u16, AccessFault>),
+    Load32(u32, Result<u32, AccessFault>),
+    Fetch(u32, Option<u32>),
+    Peek(u32, Option<u8>),
+    MayStore32(u32, Result<(), AccessFault>),
+    Store8(u32, u8, Result<(), StoreFault>),
+    Store16(u32, u16, Result<(), StoreFault>),
+    Store32(u32, u32, Result<(), StoreFault>),
+}
+
+/// Makes a call, and says whether it gives its answer.
+fn is_answered<S: Store>(store: &mut S, call: &Call) -> bool {
+    match call {
+        Call::Load8(address, wanted) => store.load8(*address) == *wanted,
+        Call::Load16(address, wanted) => store.load16(*address) == *wanted,
+        Call::Load32(address, wanted) => store.load32(*address) == *wanted,
+        Call::Fetch(address, wanted) => store.fetch(*address) == *wanted,
+        Call::Peek(address, wanted) => store.peek(*address) == *wanted,
+        Call::MayStore32(address, wanted) => store.may_store32(*address) == *wanted,
+        Call::Store8(address, value, wanted) => store.store8(*address, *value) == *wanted,
+        Call::Store16(address, value, wanted) => store.store16(*address, *value) == *wanted,
+        Call::Store32(address, value, wanted) => store.store32(*address, *value) == *wanted,
+    }
+}
+
+/// Makes calls one after the other, up to the first that does not give its answer, and tells how many do.
+pub(crate) fn count_answered<S: Store>(store: &mut S, calls: &[Call]) -> usize {
+    for (number, call) in calls.iter().enumerate() {
+        if !is_answered(store, call) {
+            return number;
+        }
+    }
+    calls.len()
+}
+
+/// Flags of a segment at 0 that begins with 5, and what they grant there.
+pub(crate) struct Grants {
+    pub(crate) flags: u32,
+    pub(crate) loads: bool,
+    pub(crate) fetches: bool,
+    pub(crate) stores: bool,
+}
+
+/// Any right grants a load; a fetch wants 1 and a store 2.
+#[rattlefmt::skip]
+pub(crate) const GRANTS: [Grants; 4] = [
+    Grants { flags: 0, loads: false, fetches: false, stores: false },
+    Grants { flags: 1, loads: true, fetches: true, stores: false },
+    Grants { flags: 2, loads: true, fetches: false, stores: true },
+    Grants { flags: 4, loads: true, fetches: false, stores: false },
+];
+
+/// Whether a store grants at 0 what a row says. What it grants to store is stored.
+pub(crate) fn has_grants<S: Store>(store: &mut S, row: &Grants) -> bool {
+    store.load32(0).is_ok() == row.loads
+        && store.fetch(0).is_some() == row.fetches
+        && store.may_store32(0).is_ok() == row.stores
+        && store.store32(0, 6).is_ok() == row.stores
+        && store.peek(0) == Some(if row.stores { 6 } else { 5 })
+}

@@ -1,0 +1,385 @@
+//! What no clause says of devices that fail: that each engine comes to its full answer where none does. Each device of each engine fails
+//! at its first call, then at its second, and so on, until it is not called so often.
+use byte_io::{Failing, FullSink, MemorySink, MemorySource, Status};
+use cmd_asm::{AssemblyFault, assembled_file, listing_engine, write_file};
+use cmd_campaign::campaign_engine;
+use cmd_debug::{DebugEngineFault, debug_engine};
+use cmd_replay::replay_engine;
+use cmd_run::{Exit, Expect, FileView, file_engine, run_engine};
+use cmd_schedule::{Plan, schedule_engine};
+use object_library::{Kind, source};
+use program_open::{CommandFault, Input, ProgramForm, deliver, write_text};
+use progress::Unheard;
+use sched_draw::Schedule;
+use std::alloc::Global;
+use std::thread::Threads;
+use test_campaigns::plain_campaign;
+
+#[derive(Clone, Copy)]
+enum Engine {
+    Run,
+    List,
+    Info,
+    Replay,
+    Campaign,
+    Assemble,
+    AssembleFile,
+    Library,
+    Schedule,
+    Debug,
+}
+
+// A device, by what it is for.
+#[derive(Clone, Copy, PartialEq, Eq)]
+enum Device {
+    Program,
+    // The choices, or the history.
+    Schedule,
+    Commands,
+    Output,
+}
+
+// An engine and each of its devices.
+struct Row {
+    name: &'static str,
+    engine: Engine,
+    devices: &'static [Device],
+}
+
+#[rattlefmt::skip]
+const ROWS: [Row; 10] = [
+    Row { name: "run", engine: Engine::Run, devices: &[Device::Program, Device::Schedule, Device::Output] },
+    Row { name: "list", engine: Engine::List, devices: &[Device::Program, Device::Output] },
+    Row { name: "info", engine: Engine::Info, devices: &[Device::Program, Device::Output] },
+    Row { name: "replay", engine: Engine::Replay, devices: &[Device::Program, Device::Schedule, Device::Output] },
+    Row { name: "campaign", engine: Engine::Campaign, devices: &[Device::Program, Device::Output] },
+    Row { name: "assemble", engine: Engine::Assemble, devices: &[Device::Program, Device::Output] },
+    Row { name: "assemble a file", engine: Engine::AssembleFile, devices: &[Device::Program, Device::Output] },
+    Row { name: "library", engine: Engine::Library, devices: &[Device::Output] },
+    Row { name: "schedule", engine: Engine::Schedule, devices: &[Device::Output] },
+    Row { name: "debug", engine: Engine::Debug, devices: &[Device::Program, Device::Schedule, Device::Commands, Device::Output] },
+];
+
+// The device that fails, and behind how many calls.
+#[derive(Clone, Copy)]
+struct Failure {
+    device: Device,
+    passed: u64,
+}
+
+impl Failure {
+    // Behind how many calls a device fails: the others never do.
+    fn calls(self, device: Device) -> u64 {
+        if device == self.device {
+            self.passed
+        } else {
+            u64::MAX
+        }
+    }
+}
+
+// What came of it.
+#[derive(Clone, Copy)]
+enum Outcome {
+    // The full answer.
+    Full,
+    // This device is named, and what was written is what may have been.
+    Failed(Device),
+    Other,
+}
+
+// The outcome that an answer tells, or another one where it may not have written what it has.
+fn checked(outcome: Outcome, written: &[u8], full: &[u8]) -> Outcome {
+    let may_be_written = match outcome {
+        Outcome::Full => written == full,
+        Outcome::Failed(Device::Program) | Outcome::Failed(Device::Schedule) => written.is_empty(),
+        Outcome::Failed(Device::Commands) | Outcome::Failed(Device::Output) => full.starts_with(
+            written,
+        ),
+        Outcome::Other => false,
+    };
+    if may_be_written {
+        outcome
+    } else {
+        Outcome::Other
+    }
+}
+
+// An ELF file of 92 bytes with one segment: `addi a7, zero, 93` and `ecall`.
+#[rattlefmt::skip]
+static EXITS: [u8; 92] = [
+    127, 69, 76, 70, 1, 1, 1, 0, 0, 0, 0, 0, 0, 0, 0, 0,
+    2, 0, 243, 0, 1, 0, 0, 0, 0, 0, 1, 0, 52, 0, 0, 0,
+    0, 0, 0, 0, 0, 0, 0, 0, 52, 0, 32, 0, 1, 0, 40, 0,
+    0, 0, 0, 0, 1, 0, 0, 0, 84, 0, 0, 0, 0, 0, 1, 0,
+    0, 0, 1, 0, 8, 0, 0, 0, 8, 0, 0, 0, 5, 0, 0, 0,
+    4, 0, 0, 0, 147, 8, 208, 5, 115, 0, 0, 0,
+];
+
+const ENDS: &str = "hart 0 running pc 00010000\nhart 1 running pc 00010000\n";
+
+const FACTS: &str = "entry 00010000\nsegment 00010000 8 r-x\nsymbols none\nlibrary none\n";
+
+const LISTING: &str =
+    "# segment 00010000 8\naddi a7, zero, 93  # 00010000 05d00893\necall  # 00010004 00000073\n";
+
+const SEEDS: &str =
+    "seed 5 exited 1 faulted 0 running 0\nseed 6 exited 1 faulted 0 running 0\nseed 7 exited 1 faulted 0 running 0\n";
+
+const COMMANDS: &[u8] = b"where\nsteps 0 1\nback\nquit\n";
+
+const ANSWERS: &str = "step 0 of 2\n0 h0 00010000 addi a7, zero, 93\npast end\n";
+
+// What the answer of a run, a campaign or a view of a file tells.
+fn told(answer: Result<Status, CommandFault>) -> Outcome {
+    match answer {
+        Ok(Status::Done) => Outcome::Full,
+        Err(CommandFault::Read(Input::File)) => Outcome::Failed(Device::Program),
+        Err(CommandFault::Read(Input::Choices | Input::History)) => {
+            Outcome::Failed(Device::Schedule)
+        }
+        Err(CommandFault::Write) => Outcome::Failed(Device::Output),
+        _ => Outcome::Other,
+    }
+}
+
+fn run(alloc: Global, failure: Failure) -> Outcome {
+    // No choice, in three pieces.
+    let blanks = [b' '; 40_000];
+    let mut program = Failing::new(MemorySource::new(&EXITS), failure.calls(Device::Program));
+    let mut choices = Failing::new(MemorySource::new(&blanks), failure.calls(Device::Schedule));
+    let mut sink = Failing::new(MemorySink::new(alloc), failure.calls(Device::Output));
+    let answer = run_engine(
+        alloc,
+        ProgramForm::Elf,
+        &[7, 9],
+        Expect {
+            rule: None,
+            exit: Exit::May,
+        },
+        &mut program,
+        &mut choices,
+    );
+    let result = deliver(&mut sink, answer);
+    checked(told(result), sink.device().bytes(), ENDS.as_bytes())
+}
+
+fn show(alloc: Global, failure: Failure, view: FileView, full: &[u8]) -> Outcome {
+    let mut file = Failing::new(MemorySource::new(&EXITS), failure.calls(Device::Program));
+    let mut sink = Failing::new(MemorySink::new(alloc), failure.calls(Device::Output));
+    let answer = file_engine(alloc, view, &mut file);
+    let result = deliver(&mut sink, answer);
+    checked(told(result), sink.device().bytes(), full)
+}
+
+fn replay(alloc: Global, failure: Failure) -> Outcome {
+    // No entry, in three pieces.
+    let blanks = [b' '; 40_000];
+    let mut program = Failing::new(MemorySource::new(&EXITS), failure.calls(Device::Program));
+    let mut history = Failing::new(MemorySource::new(&blanks), failure.calls(Device::Schedule));
+    let mut sink = Failing::new(MemorySink::new(alloc), failure.calls(Device::Output));
+    let answer = replay_engine(alloc, &[7, 9], None, &mut program, &mut history);
+    let result = deliver(&mut sink, answer);
+    checked(told(result), sink.device().bytes(), ENDS.as_bytes())
+}
+
+fn campaign<R: Threads + Sync>(rt: &R, alloc: Global, failure: Failure) -> Outcome {
+    let mut program = Failing::new(MemorySource::new(&EXITS), failure.calls(Device::Program));
+    let mut sink = Failing::new(MemorySink::new(alloc), failure.calls(Device::Output));
+    let result = campaign_engine(
+        rt,
+        alloc,
+        &[7],
+        plain_campaign(5, 3, 2, None),
+        &mut program,
+        &mut sink,
+        &mut Unheard,
+    );
+    checked(
+        told(result.map(|finished| finished.status)),
+        sink.device().bytes(),
+        SEEDS.as_bytes(),
+    )
+}
+
+fn assemble(alloc: Global, failure: Failure) -> Outcome {
+    let mut sources = [Failing::new(MemorySource::new(b"ecall"), failure.calls(Device::Program))];
+    let mut sink = Failing::new(MemorySink::new(alloc), failure.calls(Device::Output));
+    let outcome = match listing_engine(alloc, &mut sources, &mut sink) {
+        Ok(Status::Done) => Outcome::Full,
+        Err(AssemblyFault::Read(0)) => Outcome::Failed(Device::Program),
+        Err(AssemblyFault::Write) => Outcome::Failed(Device::Output),
+        _ => Outcome::Other,
+    };
+    checked(
+        outcome,
+        sink.device().bytes(),
+        b"ecall  # 00010000 00000073\n",
+    )
+}
+
+fn assemble_file(alloc: Global, failure: Failure) -> Outcome {
+    let mut sources = [Failing::new(MemorySource::new(b"ecall"), failure.calls(Device::Program))];
+    let mut sink = Failing::new(MemorySink::new(alloc), failure.calls(Device::Output));
+    let file = match assembled_file(alloc, &mut sources) {
+        Ok(file) => file,
+        Err(AssemblyFault::Read(0)) => return Outcome::Failed(Device::Program),
+        Err(_) => return Outcome::Other,
+    };
+    let outcome = match write_file(&mut sink, &file) {
+        Ok(Status::Done) => Outcome::Full,
+        Err(AssemblyFault::Write) => Outcome::Failed(Device::Output),
+        _ => Outcome::Other,
+    };
+    checked(outcome, sink.device().bytes(), &file)
+}
+
+fn library(alloc: Global, failure: Failure) -> Outcome {
+    let mut sink = Failing::new(MemorySink::new(alloc), failure.calls(Device::Output));
+    let text = source(Kind::Swap).as_bytes();
+    let result = write_text(&mut sink, text);
+    checked(
+        told(result.map(|_| Status::Done)),
+        sink.device().bytes(),
+        text,
+    )
+}
+
+fn schedule(alloc: Global, failure: Failure) -> Outcome {
+    let Ok(plan) = Plan::new(2, 5, Schedule::Turns) else {
+        return Outcome::Other;
+    };
+    let mut sink = Failing::new(MemorySink::new(alloc), failure.calls(Device::Output));
+    let result = deliver(&mut sink, schedule_engine(alloc, plan));
+    checked(told(result), sink.device().bytes(), b"0 1 0 1 0\n")
+}
+
+fn debug(alloc: Global, failure: Failure) -> Outcome {
+    let mut program = Failing::new(MemorySource::new(&EXITS), failure.calls(Device::Program));
+    let mut choices = Failing::new(MemorySource::new(b"0 1"), failure.calls(Device::Schedule));
+    let mut commands = Failing::new(MemorySource::new(COMMANDS), failure.calls(Device::Commands));
+    let mut sink = Failing::new(MemorySink::new(alloc), failure.calls(Device::Output));
+    let result = debug_engine(
+        alloc,
+        &[7, 9],
+        &mut program,
+        &mut choices,
+        &mut commands,
+        &mut sink,
+        &mut Unheard,
+    );
+    let outcome = match result {
+        Ok(status) => told(Ok(status)),
+        Err(DebugEngineFault::Refused(fault)) => told(Err(fault)),
+        Err(DebugEngineFault::Commands) => Outcome::Failed(Device::Commands),
+        Err(DebugEngineFault::Answers) => Outcome::Failed(Device::Output),
+        Err(_) => Outcome::Other,
+    };
+    checked(outcome, sink.device().bytes(), ANSWERS.as_bytes())
+}
+
+fn use_engine<R: Threads + Sync>(
+    rt: &R,
+    alloc: Global,
+    engine: Engine,
+    failure: Failure,
+) -> Outcome {
+    match engine {
+        Engine::Run => run(alloc, failure),
+        Engine::List => show(alloc, failure, FileView::Listing, LISTING.as_bytes()),
+        Engine::Info => show(alloc, failure, FileView::Facts, FACTS.as_bytes()),
+        Engine::Replay => replay(alloc, failure),
+        Engine::Campaign => campaign(rt, alloc, failure),
+        Engine::Assemble => assemble(alloc, failure),
+        Engine::AssembleFile => assemble_file(alloc, failure),
+        Engine::Library => library(alloc, failure),
+        Engine::Schedule => schedule(alloc, failure),
+        Engine::Debug => debug(alloc, failure),
+    }
+}
+
+// More calls than a device here has.
+const MOST: u64 = 100;
+
+// How often a device is called; none where it fails and something else came of it.
+fn calls_of<R: Threads + Sync>(
+    rt: &R,
+    alloc: Global,
+    engine: Engine,
+    device: Device,
+) -> Option<u64> {
+    for passed in 0..MOST {
+        match use_engine(rt, alloc, engine, Failure { device, passed }) {
+            Outcome::Full => return Some(passed),
+            Outcome::Failed(failed) if failed == device => {}
+            _ => return None,
+        }
+    }
+    None
+}
+
+// Whether a device is called, and each failure of it is told.
+fn is_told<R: Threads + Sync>(rt: &R, alloc: Global, engine: Engine, device: Device) -> bool {
+    calls_of(rt, alloc, engine, device).is_some_and(|calls| calls > 0)
+}
+
+#[test]
+fn each_call_of_each_device_fails(rt: HostRuntime) {
+    for row in &ROWS {
+        for device in row.devices {
+            assert!(rt;
+                is_told(&rt, rt.alloc(), row.engine, *device),
+                "{}",
+                row.name
+            );
+        }
+    }
+}
+
+// What a full sink is told as: by a view of a file.
+fn full_view(alloc: Global, view: FileView) -> Result<Status, CommandFault> {
+    let mut file = MemorySource::new(&EXITS);
+    let answer = file_engine(alloc, view, &mut file);
+    deliver(&mut FullSink::new(), answer)
+}
+
+// By a campaign.
+fn full_campaign<R: Threads + Sync>(rt: &R, alloc: Global) -> Result<Status, CommandFault> {
+    let mut program = MemorySource::new(&EXITS);
+    let finished = campaign_engine(
+        rt,
+        alloc,
+        &[7],
+        plain_campaign(5, 3, 2, None),
+        &mut program,
+        &mut FullSink::new(),
+        &mut Unheard,
+    );
+    finished.map(|finished| finished.status)
+}
+
+// By the debugger.
+fn full_debug(alloc: Global) -> Result<Status, DebugEngineFault> {
+    let mut program = MemorySource::new(&EXITS);
+    let mut choices = MemorySource::new(b"0 1");
+    let mut commands = MemorySource::new(COMMANDS);
+    debug_engine(
+        alloc,
+        &[7, 9],
+        &mut program,
+        &mut choices,
+        &mut commands,
+        &mut FullSink::new(),
+        &mut Unheard,
+    )
+}
+
+#[test]
+fn a_full_sink_is_told(rt: HostRuntime) {
+    for view in [FileView::Listing, FileView::Facts] {
+        assert!(rt; full_view(rt.alloc(), view) == Err(CommandFault::Write));
+    }
+    assert!(rt; write_text(&mut FullSink::new(), b"li") == Err(CommandFault::Write));
+    assert!(rt; full_campaign(&rt, rt.alloc()) == Err(CommandFault::Write));
+    assert!(rt; full_debug(rt.alloc()) == Err(DebugEngineFault::Answers));
+}

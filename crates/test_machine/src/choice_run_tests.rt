@@ -1,0 +1,56 @@
+//! What no clause says of the harts that a text chooses: that their list is had where memory is left, and each once.
+use machine::Choice;
+use sched_run::Chosen;
+use std::alloc::{AllocError, Allocator, Global};
+use test_refusing::{Call, tried};
+
+fn count_at_first(alloc: Global) -> Result<usize, AllocError> {
+    Ok(Chosen::new().choices(alloc)?.len())
+}
+
+#[test]
+fn no_hart_is_chosen_at_first(rt: HostRuntime) {
+    assert!(rt; count_at_first(rt.alloc()) == Ok(0));
+}
+
+/// Harts 0, 2 and 31.
+#[rattlefmt::skip]
+const THREE_HARTS: [Choice; 3] = [
+    Choice { hart: 0, refuse: false },
+    Choice { hart: 2, refuse: false },
+    Choice { hart: 31, refuse: false },
+];
+
+/// Whether the three are chosen, of which one was added twice.
+fn are_three_chosen(alloc: Global) -> Result<bool, AllocError> {
+    let mut chosen = Chosen::new();
+    chosen.add(31);
+    chosen.add(2);
+    chosen.add(31);
+    chosen.add(0);
+    let choices = chosen.choices(alloc)?;
+    Ok(choices.as_slice() == THREE_HARTS.as_slice())
+}
+
+#[test]
+fn each_hart_is_chosen_once(rt: HostRuntime) {
+    assert!(rt; are_three_chosen(rt.alloc()) == Ok(true));
+}
+
+/// The list of all 32 harts.
+struct AllHarts;
+
+impl Call for AllHarts {
+    fn answer<A: Allocator + Copy>(&self, alloc: A, _host: Global) -> Result<bool, AllocError> {
+        let mut chosen = Chosen::new();
+        for hart in 0..32usize {
+            chosen.add(hart);
+        }
+        Ok(chosen.choices(alloc)?.len() == 32)
+    }
+}
+
+#[test]
+fn each_refused_request_is_told(rt: HostRuntime) {
+    assert!(rt; tried(rt.alloc(), &AllHarts).is_ok());
+}

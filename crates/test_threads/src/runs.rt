@@ -1,0 +1,35 @@
+//! Runs of threads for tests.
+use std::alloc::Allocator;
+use std::sync::Wait;
+use std::thread::Threads;
+use test_programs::{Program, plan_of, program_image};
+use thread_book::Book;
+use thread_gate::Gate;
+use thread_run::{RunFault, run_threads};
+
+/// What is run: a program with a hart for each input, how often each hart is chosen at most, and the pairs of its plan.
+#[derive(Clone, Copy)]
+pub struct Order<'a> {
+    pub program: Program,
+    pub inputs: &'a [u32],
+    pub budget: u32,
+    pub pairs: &'a [(u32, u32)],
+}
+
+/// The book of a run.
+pub fn run<A: Allocator + Copy + Send + Sync, G: Gate + Sync, R: Threads + Wait + Sync>(
+    rt: &R,
+    alloc: A,
+    order: &Order,
+    gate: &G,
+) -> Result<Book<A>, RunFault> {
+    let (Ok(image), Ok(inputs), Ok(plan)) = (
+        program_image(alloc, order.program),
+        Vec::from_slice(alloc, order.inputs),
+        plan_of(alloc, order.pairs),
+    ) else {
+        return Err(RunFault::Memory);
+    };
+    let outcome = run_threads(rt, alloc, image, inputs, order.budget, plan, gate)?;
+    Ok(outcome.book)
+}

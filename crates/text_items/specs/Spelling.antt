@@ -1,0 +1,37 @@
+-- Texts of items as a reader knows them: which texts spell a list of values, and which item spoils one. What an item
+-- names, and which values are there, is for each kind of text to say.
+use Rattle.std.specs.Prelude.{◌≡◌, ℕ, ◌+◌, ◌<◌, Bool, true, false, List, [], ◌∷◌, ◌++◌, length}
+use Rattle.std.specs.List.{All}
+use Rattle.text_items.specs.Items.{is_blank}
+
+-- an item may end before this rest of a text: at its end, or at a blank
+abbrev pub is_end : List ℕ → Bool
+is_end [] = true
+is_end (b ∷ rest) = is_blank b
+
+-- the text is items with blanks between and around them, which name these values, and all of them are there
+pub data Spells {A : Type 0} (Names : List ℕ → A → Type 0) (There : A → Type 0) : List ℕ → List A → Type 0 where
+  nothing : Spells Names There [] []
+  blank : (b : ℕ) (text : List ℕ) (values : List A) → is_blank b ≡ true
+      → Spells Names There text values → Spells Names There (b ∷ text) values
+  item : (text rest : List ℕ) (value : A) (values : List A)
+      → Names text value → There value → is_end rest ≡ true
+      → Spells Names There rest values → Spells Names There (text ++ rest) (value ∷ values)
+
+-- the text, which begins at an offset, has a bad item after good ones only: one that names nothing, or one whose
+-- value isn't there
+pub data Spoils {A F : Type 0} (Names : List ℕ → A → Type 0) (There : A → Type 0) (malformed unknown : ℕ → F)
+    : ℕ → List ℕ → F → Type 0 where
+  blank : (at b : ℕ) (text : List ℕ) (fault : F) → is_blank b ≡ true
+      → Spoils Names There malformed unknown (at + 1) text fault
+      → Spoils Names There malformed unknown at (b ∷ text) fault
+  item : (at : ℕ) (text rest : List ℕ) (value : A) (fault : F)
+      → Names text value → There value → is_end rest ≡ true
+      → Spoils Names There malformed unknown (at + length text) rest fault
+      → Spoils Names There malformed unknown at (text ++ rest) fault
+  no_item : (at : ℕ) (text rest : List ℕ) → 0 < length text → All (λ b. is_blank b ≡ false) text
+      → is_end rest ≡ true → ((value : A) → Names text value → ⊥)
+      → Spoils Names There malformed unknown at (text ++ rest) (malformed at)
+  not_there : (at : ℕ) (text rest : List ℕ) (value : A)
+      → Names text value → (There value → ⊥) → is_end rest ≡ true
+      → Spoils Names There malformed unknown at (text ++ rest) (unknown at)

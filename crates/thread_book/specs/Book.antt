@@ -1,0 +1,32 @@
+-- What a book says, and the world that follows from it.
+use Rattle.std.specs.Prelude.{ℕ, List, Option, slice_get}
+use Rattle.image.specs.Image.{ImageValue}
+use Rattle.image.specs.Segment.{SegmentValue}
+use Rattle.hart_step.specs.Hart.{HartValue}
+use Rattle.hart_local.specs.CodeMemory.{code_segments}
+use Rattle.machine.specs.World.{World, run}
+use Rattle.machine.specs.Start.{started}
+use Rattle.history.specs.declared.entry.Entry.{Entry}
+use Rattle.history.specs.History.{expanded}
+
+-- the program, the harts' inputs, and what was done
+pub record BookValue : Type 0 where
+  pub image : ImageValue
+  pub inputs : List ℕ
+  pub history : List Entry
+
+-- the world after a history: the run of the choices that it stands for
+unfoldable pub replayed : ImageValue → List ℕ → List Entry → World
+replayed image inputs history = run (started image inputs) (expanded history)
+
+-- the world of a book is the replay of its history
+abbrev pub world_of : BookValue → World
+world_of b = replayed b.image b.inputs b.history
+
+-- a hart of the book's world, if it is there
+abbrev pub slot_of : BookValue → ℕ → Option HartValue
+slot_of b h = slice_get (world_of b).harts h
+
+-- the code of the book's program
+abbrev pub code_of : BookValue → List SegmentValue
+code_of b = code_segments b.image

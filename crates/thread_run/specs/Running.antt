@@ -1,0 +1,28 @@
+-- What holds under the lock while harts run.
+use Rattle.std.specs.Prelude.{◌≡◌, ℕ, zero, suc, ◌+◌, ◌<◌, ◌≤◌, ◌==◌, ◌||◌, Bool, List, [], length, slice_index, if◌then◌else◌}
+use Rattle.std.specs.List.{All}
+use Rattle.image.specs.Image.{ImageValue}
+use Rattle.thread_book.specs.Book.{BookValue, slot_of}
+use Rattle.thread_run.specs.Own.{owned}
+use Rattle.thread_run.specs.Plan.{IsFlagged}
+use Rattle.thread_run.specs.Outcome.{has_stopped, IsWithin}
+
+-- whether hart h needs no further choice
+abbrev pub is_done : ℕ → BookValue → ℕ → Bool
+is_done budget b h = has_stopped (slot_of b h) || (owned b h == budget)
+
+-- how many of the first n need further ones
+abbrev pub open_below : (ℕ → Bool) → ℕ → ℕ
+open_below done zero = 0
+open_below done (suc n) = if done n then open_below done n else open_below done n + 1
+
+-- the book, how many choices of each hart are in it, and a ticket for each hart that needs further ones
+pub record IsRunning (image : ImageValue) (inputs : List ℕ) (budget : ℕ) (plan : List (ℕ × ℕ)) (b : BookValue) (counts : List ℕ) (tickets : ℕ) : Type 0 where
+  pub same_image : b.image ≡ image
+  pub same_inputs : b.inputs ≡ inputs
+  pub long : length counts ≡ length inputs
+  pub counted : (h : ℕ) → h < length inputs → slice_index counts h ≡ owned b h
+  pub spent : (h : ℕ) → h < length inputs → slice_index counts h ≤ budget
+  pub flagged : IsFlagged plan [] b.history
+  pub within : All (IsWithin (length inputs) budget) b.history
+  pub to_do : tickets ≡ open_below (is_done budget b) (length inputs)

@@ -1,0 +1,30 @@
+//! What one run of threads is given.
+use std::marker::Brand;
+use std::sync::ledger::Ledger;
+
+/// The program, the harts' inputs, the budget and the plan of one run, and the ledger of its tickets. They exist in proofs
+/// alone, so that a lock's type can name them: each run picks its own.
+pub trait Terms: Ledger {
+    ghost use Rattle.std.specs.Prelude.{ℕ, List};
+    ghost use Rattle.image.specs.Image.{ImageValue};
+
+    ghost image: { ImageValue };
+
+    ghost inputs: { List ℕ };
+
+    ghost budget: { ℕ };
+
+    ghost plan: { List (ℕ × ℕ) };
+}
+
+impl Terms for Brand {
+    ghost use Rattle.std.specs.Prelude.{[]};
+
+    ghost image = { record { entry = 0; segments = [] } };
+
+    ghost inputs = { [] };
+
+    ghost budget = { 0 };
+
+    ghost plan = { [] };
+}

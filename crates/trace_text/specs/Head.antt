@@ -1,0 +1,55 @@
+-- The head line of a trace.
+use Rattle.std.specs.Prelude.{ℕ, zero, suc, ◌+◌, List, [], ◌∷◌, ◌++◌, codes, decimal, map, Option}
+use Rattle.json.specs.Print.{quoted}
+use Rattle.trace_json.specs.Composites.{member, object, array}
+use Rattle.trace_json.specs.Scalars.{number_or_null}
+use Rattle.elf_read.specs.Symbol.{SymbolValue}
+use Rattle.hart_step.specs.Hart.{HartValue, Registers, hart_of}
+use Rattle.trace_text.specs.Values.{end_value}
+use Rattle.trace_text.specs.declared.head.HartThen.{HartThen}
+use Rattle.trace_text.specs.declared.head.Span.{Span}
+
+-- so many registers from register r on, each behind a comma, and the closing bracket
+unfoldable pub registers_from : Registers → ℕ → ℕ → List ℕ
+registers_from x r zero = 93 ∷ []
+registers_from x r (suc count) = 44 ∷ (decimal (x r) ++ registers_from x (r + 1) count)
+
+-- the values of x0 to x31
+unfoldable pub registers_value : Registers → List ℕ
+registers_value x = 91 ∷ (decimal (x 0) ++ registers_from x 1 31)
+
+-- a hart, and the address of the word that it has reserved
+abbrev pub then_of : HartThen → HartValue × Option ℕ
+then_of h = (hart_of h.hart, h.reserved)
+
+-- a hart as it is before the first choice that is told
+unfoldable pub hart_object : HartValue × Option ℕ → List ℕ
+hart_object h = object (
+    member (codes "pc") (decimal h.0.pc)
+    ∷ member (codes "registers") (registers_value h.0.registers)
+    ∷ member (codes "reserved") (number_or_null h.1)
+    ∷ member (codes "end") (end_value h.0.state)
+    ∷ [])
+
+-- a symbol
+unfoldable pub symbol_object : SymbolValue → List ℕ
+symbol_object s = object (
+    member (codes "name") (quoted s.name)
+    ∷ member (codes "address") (decimal s.address)
+    ∷ [])
+
+-- what stands before the lines of choices: an object
+unfoldable pub head_object : ℕ → List ℕ → Span → List SymbolValue → List (HartValue × Option ℕ) → List ℕ
+head_object entry inputs span symbols harts = object (
+    member (codes "trace") (codes "1")
+    ∷ member (codes "entry") (decimal entry)
+    ∷ member (codes "inputs") (array (map decimal inputs))
+    ∷ member (codes "from") (decimal span.from)
+    ∷ member (codes "to") (decimal span.to)
+    ∷ member (codes "symbols") (array (map symbol_object symbols))
+    ∷ member (codes "harts") (array (map hart_object harts))
+    ∷ [])
+
+-- the same, with LF behind it
+unfoldable pub head_line : ℕ → List ℕ → Span → List SymbolValue → List (HartValue × Option ℕ) → List ℕ
+head_line entry inputs span symbols harts = head_object entry inputs span symbols harts ++ 10 ∷ []
