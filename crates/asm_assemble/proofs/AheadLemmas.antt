@@ -167,7 +167,7 @@ pushed_address c next ss i at s items made all below is here pushed stepped same
     ∙ (ap (λ n. items ++ address c % 2 ^ 32 ∷ addresses n (drop (i + 1) ss)) stepped
     ∙ (ap (λ xs. items ++ addresses c xs) (sym (from_item ss i s s below is)) ∙ same))))
 
--- behind all statements there is no label and no reference
+-- after all statements there is no label and no reference
 pub no_labels : (ats : List ℕ) (ss : List StatementValue) (n : ℕ) (old : List Local) → length ats ≡ length ss → n ≡ length ss → old ≡ [] → (q : List ℕ) → found old q ≡ ahead_in (drop n ats) (drop n ss) q
 unfolding found ahead_in
 no_labels ats ss n old same all none q =

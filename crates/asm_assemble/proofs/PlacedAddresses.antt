@@ -1,4 +1,4 @@
--- Where statements stand: at their section's base and the sizes before them.
+-- The places of statements: at their section's base plus the sizes before them.
 use Rattle.std.proofs.Common.{◌≡◌, ℕ, ◌+◌, List, [], ◌∷◌, ◌++◌, Option, Some, None, refl, sym, ap, ◌∙◌, append_assoc, append-nil, arith, subst, cond}
 use Rattle.std.specs.Prelude.{unwrap_or}
 use Rattle.std.proofs.lemmas.List.Sums.{sum_by_push}
@@ -12,7 +12,7 @@ use Rattle.asm_assemble.specs.Cursors.{address, address_in, size, directive_size
 use Rattle.asm_assemble.specs.Placed.{Standing, Bases, base_of, is_same, section_behind, taken_by, taken, StandsThere}
 use Rattle.asm_assemble.proofs.PlacedCuts.{laid, stood, Each}
 
--- the cursor stands behind the statements done
+-- the cursor is after the statements done
 pub record IsBehind (bases : Bases) (done : List Standing) (c : Cursor) : Type 0 where
   pub in_section : c.section ≡ section_behind sections.Text done
   pub at_end : (t : Section) → address_in t c ≡ base_of t bases + taken t done
@@ -98,12 +98,12 @@ behind_more bases done c s h = record {
   at_end = λ t. step_at c s.body t ∙ rw (sum_by_push (taken_by t) done (stood c s)) (let before = h.at_end t in omega (arith, before));
 }
 
--- where the next statement stands
+-- the place of the next statement
 stands_there : (bases : Bases) (done : List Standing) (c : Cursor) (s : StatementValue) → IsBehind bases done c → StandsThere bases done (stood c s)
 unfolding address
 stands_there bases done c s h = record { in_section = h.in_section; at_address = h.at_end c.section }
 
--- each statement stands at its section's base and the sizes before it
+-- each statement is at its section's base plus the sizes before it
 pub all_stand : (bases : Bases) (done : List Standing) (c : Cursor) (ss : List StatementValue) → IsBehind bases done c
     → Each (λ before s after. StandsThere bases before s) done (laid c ss)
 unfolding laid Each
@@ -111,7 +111,7 @@ all_stand bases done c [] h = tt
 all_stand bases done c (s ∷ ss) h =
     (stands_there bases done c s h, all_stand bases (done ++ stood c s ∷ []) (step c s.body) ss (behind_more bases done c s h))
 
--- behind all statements, each section ends at its base and the sizes of all
+-- after all statements, each section ends at its base and the sizes of all
 pub behind_all : (bases : Bases) (done : List Standing) (c : Cursor) (ss : List StatementValue) → IsBehind bases done c
     → IsBehind bases (done ++ laid c ss) (cursor_after c ss)
 unfolding laid cursor_after

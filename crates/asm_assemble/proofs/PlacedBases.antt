@@ -1,4 +1,4 @@
--- Where sections begin.
+-- The bases of sections.
 use Rattle.std.proofs.Common.{◌≡◌, ℕ, ◌+◌, ◌/◌, List, [], ◌∷◌, refl, sym, ap, ◌∙◌, arith, subst, cond}
 use Rattle.asm_parse.specs.Statement.{StatementValue, BodyValue}
 use Rattle.asm_parse.specs.declared.statement.Section.{Section}
@@ -36,7 +36,7 @@ taken_at : (t : Section) (c : Cursor) (b : BodyValue) → address_in t (step c b
 unfolding address
 taken_at t c b = step_at c b t
 
--- where a section ends doesn't depend on where the others begin
+-- the end of a section does not depend on the bases of the others
 pub same_end : (t : Section) (ss : List StatementValue) (c d : Cursor) → c.section ≡ d.section → address_in t c ≡ address_in t d
     → address_in t (cursor_after c ss) ≡ address_in t (cursor_after d ss)
 unfolding cursor_after

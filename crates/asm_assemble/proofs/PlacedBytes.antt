@@ -18,7 +18,7 @@ use Rattle.asm_assemble.proofs.PlacedAddresses.{IsBehind, behind_more}
 use Rattle.asm_assemble.proofs.Sizes.{size_is}
 use Rattle.asm_assemble.proofs.PlacedOperands.{AreLast, last_behind, body_bytes}
 
--- a statement that has its bytes, and the phase goes on
+-- a statement with its bytes, and the phase goes on
 pub record Said (r : Result (List ℕ) FaultKind) (next : List ℕ → Result Images Fault) (images : Images) : Type 0 where
   pub bytes : List ℕ
   pub was : r ≡ Ok bytes

@@ -6,16 +6,16 @@ use Rattle.asm_assemble.specs.declared.cursor.Cursor.{Cursor}
 use Rattle.asm_assemble.specs.Cursors.{address, step}
 use Rattle.asm_assemble.specs.Placed.{Standing}
 
--- a statement, where the cursor says
+-- a statement at the cursor
 abbrev pub stood : Cursor → StatementValue → Standing
 stood c s = record { statement = s; section = c.section; address = address c }
 
--- the statements, each where the cursor says
+-- the statements, each at its cursor
 unfoldable pub laid : Cursor → List StatementValue → List Standing
 laid c [] = []
 laid c (s ∷ ss) = stood c s ∷ laid (step c s.body) ss
 
--- a claim on each statement, with those before it and after it, behind those done
+-- a claim on each statement, with those before it and after it, after those done
 unfoldable pub Each : (List Standing → Standing → List Standing → Type 0) → List Standing → List Standing → Type 0
 Each P done [] = Unit {0}
 Each P done (s ∷ rest) = P done s rest × Each P (done ++ s ∷ []) rest

@@ -81,7 +81,7 @@ fit globals section seen symbols more at (body.Directive (directive.Bytes n)) e 
 fit globals section seen symbols more at (body.Directive (directive.Ascii n)) e is = tt
 fit globals section seen symbols more at (body.Directive (directive.Global n)) e is = tt
 
--- all statements are fit where they are placed
+-- placed statements are fit
 pub all_fit : (start : Cursor) (all : List StatementValue) (symbols : SymbolList) (heavy : Option ℕ) (i : ℕ) (done : List Standing) (c : Cursor) (ss : List StatementValue)
     → placing (globals_from [] all) (symbols_in (laid start all) done) heavy i c ss ≡ Ok symbols
     → Each (λ before s after. IsFit symbols (symbols_in (laid start all) before) s.address s.statement.body) done (laid c ss)

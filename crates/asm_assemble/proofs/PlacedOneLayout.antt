@@ -1,4 +1,4 @@
--- Placed statements stand where the cursors say.
+-- Placed statements are at the cursors' places.
 use Rattle.std.proofs.Common.{◌≡◌, ℕ, ◌+◌, ◌*◌, ◌≤◌, ◌<◌, List, [], ◌∷◌, ◌++◌, refl, sym, ap, ◌∙◌, arith, subst}
 use Rattle.std.specs.Prelude.{map}
 use Rattle.asm_parse.specs.Statement.{StatementValue}
@@ -14,7 +14,7 @@ use Rattle.asm_assemble.proofs.PlacedCuts.{laid, stood, Each, each_of}
 use Rattle.asm_assemble.proofs.PlacedAddresses.{IsBehind, behind_more, behind_all}
 use Rattle.asm_assemble.proofs.PlacedBases.{bases_of, same_end, next_page, next_word}
 
--- a statement that stands where the cursor says
+-- a statement at the cursor's place
 stands_so : (bases : Bases) (done : List Standing) (c : Cursor) (s : Standing) → IsBehind bases done c → StandsThere bases done s → s ≡ stood c s.statement
 unfolding address
 stands_so bases done c s h there =

@@ -133,7 +133,7 @@ placed_as symbols = Ok symbols
 abbrev valued_as : Images → Result Images Fault
 valued_as images = Ok images
 
--- the phases go well where the statements are laid
+-- the phases succeed for placed statements
 phases_go : (ss : List StatementValue) (p : ProgramValue) → ArePlaced ss p (laid (first_cursor ss) ss) (bases_of ss) → assembled ss ≡ Ok p
 unfolding assembled program_of entry_of symbols_in first_cursor start_at
 phases_go ss p h =

@@ -38,7 +38,7 @@ pub found_none : AreFound [] []
 unfolding found
 found_none digits source at h = absurd (none_is_some h.label h.front h.back h.cut)
 
--- where a statement among those done and one more stands
+-- the place of a statement among those done and one more
 pub record IsBefore (done front back : List Standing) (s label : Standing) : Type 0 where
   pub rest : List Standing
   pub cut : done ≡ front ++ label ∷ rest
@@ -116,7 +116,7 @@ pub found_behind : (locals : List Local) (done : List Standing) (c : Cursor) (s 
     → AreFound (local_at s.source (address c) s.body ++ locals) (done ++ stood c s ∷ [])
 found_behind locals done c s h = found_more locals done (stood c s) h
 
--- the next label behind
+-- the next label after
 next_found : (c : Cursor) (ss : List StatementValue) (digits : List ℕ) (source at : ℕ) (front : List Standing) (label : Standing) (back : List Standing)
     → laid c ss ≡ front ++ label ∷ back → is_local digits label.statement.body ≡ true → HasNone digits front → label.statement.source ≡ source → label.address % 2 ^ 32 ≡ at
     → ahead_of c ss digits ≡ Some (place source at)

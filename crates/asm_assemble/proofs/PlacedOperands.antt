@@ -102,7 +102,7 @@ pub none_before : AreLast [] []
 unfolding found
 none_before digits place e = absurd cc
 
--- the next label behind
+-- the next label after
 next_label : (c : Cursor) (ss : List StatementValue) (digits : List ℕ) (place : Place) → ahead_of c ss digits ≡ Some place
     → IsNextLocal digits place.source place.address (laid c ss)
 unfolding ahead_of laid

@@ -1,4 +1,5 @@
--- A program of sources has their statements where one map of labels puts them; it is the only one, and where a fault is told there is none.
+-- A program of sources has their statements where one symbol table puts them; it is the only one,
+-- and if the result is a fault there is none.
 use Rattle.std.proofs.Common.{◌≡◌, ℕ, List, Result, Ok, Err, sym, ap, ◌∙◌}
 use Rattle.std.specs.Prelude.{IfOk, IfErr}
 use Rattle.asm_parse.specs.Answer.{Gives, Fails, ◌>>=◌}

@@ -109,7 +109,7 @@ goods symbols = Ok symbols
 goods_are : (xs ys : SymbolList) → goods xs ≡ goods ys → xs ≡ ys
 goods_are xs ys e = cc
 
--- where the phase goes on, the statement has no fault
+-- if the phase goes on, the statement has no fault
 pub no_fault : (o : Option FaultKind) (s : StatementValue) (rest : Result SymbolList Fault) (symbols : SymbolList) → unless o s rest ≡ Ok symbols → (o ≡ None) × (rest ≡ Ok symbols)
 no_fault None s rest symbols e = (refl, e)
 no_fault (Some kind) s rest symbols e = absurd cc
@@ -123,7 +123,7 @@ no_own seen heavy at b e = by (own_fault seen at b) e
     by None e = refl
     by (Some kind) e = absurd cc
 
--- all symbols, behind those seen
+-- all symbols, after those seen
 unfoldable pub all_symbols : (globals : Globals) (c : Cursor) (ss : List StatementValue) → SymbolList
 all_symbols globals c [] = []
 all_symbols globals c (s ∷ ss) = symbols_at globals c.section (address c) s.body ++ all_symbols globals (step c s.body) ss

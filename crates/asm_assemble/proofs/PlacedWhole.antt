@@ -1,4 +1,4 @@
--- An assembled program has its statements where one map of labels puts them.
+-- An assembled program has its statements where one symbol table puts them.
 use Rattle.std.proofs.Common.{◌≡◌, ℕ, ◌+◌, ◌-◌, List, [], Result, Ok, refl, ◌∙◌, arith, subst}
 use Rattle.asm_parse.specs.Answer.{◌>>=◌}
 use Rattle.asm_parse.specs.Statement.{StatementValue}

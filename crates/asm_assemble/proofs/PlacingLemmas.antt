@@ -61,7 +61,7 @@ or_or : (a b c : Option ℕ) → option_or (option_or a b) c ≡ option_or a (op
 or_or None b c = refl
 or_or (Some x) b c = refl
 
--- nothing was looked at
+-- no statement was visited
 pub or_none : (a : Option ℕ) → option_or a None ≡ a
 or_none None = refl
 or_none (Some x) = refl
@@ -71,7 +71,7 @@ sized_first : (i : ℕ) (c : Cursor) (s : StatementValue) (ss : List StatementVa
 unfolding last_sized
 sized_first i c s ss last = or_or (last_sized (i + 1) (step c s.body) ss) (if_sized i (address c) s.body) last
 
--- one statement more was looked at
+-- one more statement was visited
 pub sized_on : (i : ℕ) (c next : Cursor) (s : StatementValue) (ss : List StatementValue) (last new all : Option ℕ)
     → i < length ss → s ≡ get_or ss i s → next ≡ step c s.body → new ≡ option_or (if_sized i (address c) s.body) last
     → option_or (last_sized i c (drop i ss)) last ≡ all
@@ -81,13 +81,13 @@ sized_on i c next s ss last new all below is stepped found same =
     let e = sized_first i c s (drop (i + 1) ss) last in
     cc
 
--- all statements were looked at
+-- all statements were visited
 pub sized_all : (i : ℕ) (c : Cursor) (ss : List StatementValue) (last all : Option ℕ)
     → length ss ≤ i → option_or (last_sized i c (drop i ss)) last ≡ all → last ≡ all
 unfolding last_sized
 sized_all i c ss last all past same = sym (at_drop_all (λ xs. option_or (last_sized i c xs) last) ss i past) ∙ same
 
--- ---- the answer of placing, where what is passed to it is known
+-- ---- the result of placing, for known arguments
 pub gives_placed : {X : Type 0} (view : X → SymbolList) (r : Result X AsmFault) (globals named : Globals) (heavy where_heavy : Option ℕ)
     (start : Cursor) (ss : List StatementValue) → globals ≡ named → heavy ≡ where_heavy
     → Gives view r (placing globals [] heavy 0 start ss) → Gives view r (placing named [] where_heavy 0 start ss)

@@ -27,7 +27,7 @@ one_word symbols done v vs word e = rw e (by (word_list symbols vs))
     by (Ok bytes) = ap Ok (append_assoc done (to_le_bytes w32 word) bytes)
     by (Err kind) = refl
 
--- a value that isn't there
+-- a value that is not there
 pub bad_word : (symbols : SymbolList) (done : List ℕ) (v : Value) (vs : List Value) (kind : FaultKind) → value_of symbols v ≡ Err kind
     → appended done (word_list symbols (v ∷ vs)) ≡ Err kind
 unfolding word_list appended

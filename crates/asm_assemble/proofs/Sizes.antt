@@ -1,4 +1,4 @@
--- How many bytes statements have, and that text and data segment are within the limit where all is placed.
+-- The numbers of statements' bytes; text and data segment are within the limit if all is placed.
 use Rattle.std.proofs.Common.{◌≡◌, ℕ, zero, suc, ◌+◌, ◌-◌, ◌*◌, ◌/◌, ◌%◌, ◌≤◌, ◌<◌, Bool, true, false, List, [], ◌∷◌, ◌++◌, length, Option, Some, None, Result, Ok, Err, refl, sym, ap, ◌∙◌, arith, length-append}
 use Rattle.std.specs.Prelude.{◌==◌, ◌^◌, nat_lt, if◌then◌else◌, ℤ, pos, replicate}
 use Rattle.std.specs.Option.{option_or}
@@ -130,7 +130,7 @@ length_directive symbols section at (directive.Bytes ns) bytes e =
 length_directive symbols section at (directive.Ascii text) bytes e = length_ok text bytes (length text) refl e
 length_directive symbols section at (directive.Global names) bytes e = length_ok [] bytes 0 refl e
 
--- a statement has as many bytes as its size says
+-- a statement has as many bytes as its size
 pub size_is : (symbols : SymbolList) (local : Option ℕ) (section : Section) (at : ℕ) (b : BodyValue) (bytes : List ℕ) → bytes_of symbols local section at b ≡ Ok bytes → length bytes ≡ size at b
 unfolding bytes_of size instr_bytes
 size_is symbols local section at (body.Label name) bytes e = length_ok [] bytes 0 refl e
@@ -143,7 +143,7 @@ size_is symbols local section at (body.Instruction i) bytes e = by (instr_of sym
 size_is symbols local section at (body.Pseudo p) bytes e = length_pseudo symbols at p bytes e
 size_is symbols local section at (body.Directive d) bytes e = length_directive symbols section at d bytes e
 
--- ---- the sections behind statements
+-- ---- the sections after statements
 -- what is put in a section moves its cursor
 put_moves : (symbols : SymbolList) (local : Option ℕ) (section : Section) (c : Cursor) (done : Images) (b : BodyValue) (bytes : List ℕ) → bytes_in symbols local section (address_in section c) b ≡ Ok bytes
     → (length (put section done bytes).text_bytes + c.text_at ≡ length done.text_bytes + (moved section c (size (address_in section c) b)).text_at)
@@ -201,8 +201,8 @@ valuing_sizes symbols before done c (s ∷ ss) images e =
         (omega (arith, h.0, m.0, n.0), omega (arith, h.1, m.1, n.1))
     by (Err kind) q ih e = absurd cc
 
--- ---- the statement at which TooLarge stands
--- where TooLarge stands at a statement, not all is placed
+-- ---- the statement that gets TooLarge
+-- if a statement gets TooLarge, not all is placed
 heavy_decides : (globals : Globals) (seen : SymbolList) (j i : ℕ) (c : Cursor) (ss : List StatementValue) (symbols : SymbolList) → placing globals seen (Some j) i c ss ≡ Ok symbols → i ≤ j → j < i + length ss → ⊥
 unfolding placing place_fault
 heavy_decides globals seen j i c [] symbols e low high = omega (arith, low, high)
@@ -242,7 +242,7 @@ sized_below i c (s ∷ ss) j e = by (last_sized (i + 1) (step c s.body) ss) (siz
 abbrev none : Option ℕ
 none = None
 
--- where no statement has a size, the cursor stays
+-- if no statement has a size, the cursor stays
 none_sized : (i : ℕ) (c : Cursor) (ss : List StatementValue) → last_sized i c ss ≡ None
     → ((cursor_after c ss).text_at ≡ c.text_at) × ((cursor_after c ss).data_at ≡ c.data_at) × ((cursor_after c ss).zeros_at ≡ c.zeros_at)
 unfolding last_sized cursor_after
@@ -273,7 +273,7 @@ small start end base same =
     let z : end.zeros_at - start.zeros_at ≡ 0 = omega (arith, same.2) in
     rw (t, d, z) refl
 
--- where all is placed, text and data segment aren't over the limit
+-- if all is placed, text and data segment are not over the limit
 light : (globals : Globals) (start : Cursor) (ss : List StatementValue) (symbols : SymbolList) → start.text_at ≡ text_start
     → placing globals [] (heavy_of start (cursor_after start ss) ss) 0 start ss ≡ Ok symbols → is_too_large start (cursor_after start ss) ≡ false
 unfolding heavy_of

@@ -21,7 +21,7 @@ pub list_push : {A V : Type 0} (es : List (String A × V)) (k : String A) (v : V
 unfolding symbol_list
 list_push es k v = map_push _ es (k, v)
 
--- of two tests of a name, of which one at most passes, the order doesn't matter
+-- of two tests of a name, of which one at most passes, the order does not matter
 either_first : {V : Type 0} (b c : Bool) (x y : V) (rest : Option V) → (b ≡ true → c ≡ true → x ≡ y) → cond b (Some x) (cond c (Some y) rest) ≡ cond c (Some y) (cond b (Some x) rest)
 either_first true true x y rest h = ap Some (h refl refl)
 either_first true false x y rest h = refl

@@ -24,7 +24,7 @@ pub start_within : (n data_at zeros_at : ℕ) → data_at ≤ (n + 1) * 2 ^ 64 �
 unfolding IsWithin start_at
 start_within n data_at zeros_at d z = (omega arith, d, z)
 
--- fewer than 2^61 statements don't reach the limit
+-- fewer than 2^61 statements do not reach the limit
 pub within_count : (i count : ℕ) (c : Cursor) → IsWithin (2 ^ 63 + i) c → i < count → count < 2 ^ 61 → IsWithin (2 ^ 63 + 2 ^ 61) c
 within_count i count c h below small = within_more (2 ^ 63 + i) (2 ^ 63 + 2 ^ 61) c h (omega (arith, below, small))
 

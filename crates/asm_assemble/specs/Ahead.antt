@@ -1,4 +1,4 @@
--- Where references ahead lead, found from the last statement to the first.
+-- Forward references, resolved from the last statement to the first.
 use Rattle.std.specs.Prelude.{ℕ, ◌%◌, ◌^◌, List, [], ◌∷◌, Option, Some, None, if◌then◌else◌}
 use Rattle.asm_parse.specs.Statement.{StatementValue, BodyValue}
 use Rattle.asm_parse.specs.declared.operand.Target.{Target}
@@ -15,40 +15,40 @@ unfoldable pub addresses : Cursor → List StatementValue → List ℕ
 addresses c [] = []
 addresses c (s ∷ ss) = address c % 2 ^ 32 ∷ addresses (step c s.body) ss
 
--- the next local label of these digits among statements at these addresses
+-- the next local label with these digits among statements at these addresses
 unfoldable pub ahead_in : List ℕ → List StatementValue → List ℕ → Option Place
 ahead_in [] ss digits = None
 ahead_in (at ∷ ats) [] digits = None
 ahead_in (at ∷ ats) (s ∷ ss) digits =
     if is_local digits s.body then Some (place_of s.source at) else ahead_in ats ss digits
 
--- the address of a target that is a reference ahead, by the next label of its digits
+-- the address of a target that is a forward reference, given the next label for each digits
 unfoldable pub target_ahead : (List ℕ → Option Place) → ℕ → Target → Option ℕ
 target_ahead next source (targets.Ahead digits) = in_source source (next digits)
 target_ahead next source (targets.Back digits) = None
 target_ahead next source (targets.Address n) = None
 target_ahead next source (targets.Symbol name) = None
 
--- the address of a statement's reference ahead
+-- the address of a statement's forward reference
 unfoldable pub reference : (List ℕ → Option Place) → ℕ → BodyValue → Option ℕ
 reference next source (body.Instruction (read.Jal rd target)) = target_ahead next source target
 reference next source (body.Instruction (read.Branch op rs1 rs2 target)) = target_ahead next source target
 reference next source b = None
 
--- those of all statements
+-- the addresses of all statements' forward references
 unfoldable pub references : List ℕ → List StatementValue → List (Option ℕ)
 references [] ss = []
 references (at ∷ ats) [] = []
 references (at ∷ ats) (s ∷ ss) = reference (ahead_in ats ss) s.source s.body ∷ references ats ss
 
--- the address of a target that is a local reference, where one ahead has this address
+-- the address of a target that is a local reference, given the address of a forward one
 unfoldable pub target_by : List Local → Option ℕ → ℕ → Target → Option ℕ
 target_by before ahead source (targets.Back digits) = back_of before source digits
 target_by before ahead source (targets.Ahead digits) = ahead
 target_by before ahead source (targets.Address n) = None
 target_by before ahead source (targets.Symbol name) = None
 
--- the address of a statement's local reference, where one ahead has this address
+-- the address of a statement's local reference, given the address of a forward one
 unfoldable pub local_by : List Local → Option ℕ → ℕ → BodyValue → Option ℕ
 local_by before ahead source (body.Instruction (read.Jal rd target)) =
     target_by before ahead source target

@@ -12,38 +12,38 @@ use Rattle.asm_assemble.specs.Operands.{address_of}
 use Rattle.asm_assemble.specs.Placing.{last_sized, placing, globals_from}
 use Rattle.asm_assemble.specs.Valuing.{Images, valuing, no_bytes}
 
--- the first source's beginning, where data and zeros begin at these addresses
+-- the start of the first source, given the addresses of data and zeros
 unfoldable pub start_at : ℕ → ℕ → Cursor
 start_at data_at zeros_at =
     record { section = sections.Text; text_at = text_start; data_at = data_at; zeros_at = zeros_at }
 
--- where the data begins: the first multiple of 4096 behind the text
+-- the address of the data: the first multiple of 4096 after the text
 unfoldable pub data_base : List StatementValue → ℕ
 data_base ss = round_up (cursor_after (start_at 0 0) ss).text_at 4096
 
--- where the zeros begin: the first multiple of 4 behind the data
+-- the address of the zeros: the first multiple of 4 after the data
 unfoldable pub zeros_base : ℕ → List StatementValue → ℕ
 zeros_base data_at ss = round_up (cursor_after (start_at data_at 0) ss).data_at 4
 
--- where the three sections begin
+-- the bases of the three sections
 unfoldable pub first_cursor : List StatementValue → Cursor
 first_cursor ss = let data_at = data_base ss in start_at data_at (zeros_base data_at ss)
 
--- text and data segment are together over the limit
+-- text and data segment are over the limit together
 unfoldable pub is_too_large : Cursor → Cursor → Bool
 is_too_large start end =
     nat_lt program_limit ((end.text_at - text_start)
     + segment_size (end.data_at - start.data_at) (end.zeros_at - start.zeros_at))
 
--- the statement at which TooLarge stands
+-- the index of the statement that gets the fault `TooLarge`
 unfoldable pub heavy_of : Cursor → Cursor → List StatementValue → Option ℕ
 heavy_of start end ss = if is_too_large start end then last_sized 0 start ss else None
 
--- the symbols of statements that stand from one cursor to another, or the first fault of placing them
+-- the symbols of statements between two cursors, or the first fault of placing them
 abbrev pub symbols_of : Cursor → Cursor → List StatementValue → Result SymbolList Fault
 symbols_of start end ss = placing (globals_from [] ss) [] (heavy_of start end ss) 0 start ss
 
--- the symbol `_start`, else the text's first address
+-- the symbol `_start`, else the text's base
 unfoldable pub entry_of : SymbolList → ℕ
 entry_of symbols = unwrap_or (address_of symbols (codes "_start")) text_start
 
@@ -57,7 +57,7 @@ program_of images zeros symbols = record {
   entry = entry_of symbols;
 }
 
--- the program of statements, or the fault that decides: all are placed before any is valued
+-- the program of statements, or the fault that counts: all are placed before any is evaluated
 unfoldable pub assembled : List StatementValue → Result ProgramValue Fault
 assembled ss = do
   let start = first_cursor ss

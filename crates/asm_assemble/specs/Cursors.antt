@@ -1,4 +1,4 @@
--- Where statements stand.
+-- The places of statements.
 use Rattle.std.specs.Prelude.{ℕ, ◌+◌, ◌-◌, ◌*◌, ◌^◌, ◌≤◌, nat_lt, List, [], ◌∷◌, length, Option, Some, None, if◌then◌else◌}
 use Rattle.asm_parse.specs.Statement.{StatementValue, BodyValue, DirectiveValue}
 use Rattle.asm_parse.specs.declared.statement.Section.{Section}
@@ -9,11 +9,11 @@ use Rattle.asm_assemble.specs.declared.cursor.Cursor.{Cursor}
 use Rattle.asm_assemble.specs.Program.{round_up}
 use Rattle.asm_assemble.specs.Instructions.{pseudo_size}
 
--- how many bytes lead to a multiple of 2^n; a fault stands where n is above 12
+-- the number of bytes up to a multiple of 2^n; n above 12 is a fault
 unfoldable pub align_size : ℕ → ℕ → ℕ
 align_size at n = if nat_lt 12 n then 0 else round_up at (2 ^ n) - at
 
--- how many bytes a directive takes at an address
+-- the number of bytes of a directive at an address
 unfoldable pub directive_size : ℕ → DirectiveValue → ℕ
 directive_size at (directive.Section section) = 0
 directive_size at (directive.Align n) = align_size at n
@@ -24,7 +24,7 @@ directive_size at (directive.Bytes numbers) = length numbers
 directive_size at (directive.Ascii bytes) = length bytes
 directive_size at (directive.Global names) = 0
 
--- how many bytes a statement takes at an address
+-- the number of bytes of a statement at an address
 unfoldable pub size : ℕ → BodyValue → ℕ
 size at (body.Label name) = 0
 size at (body.LocalLabel digits) = 0
@@ -42,7 +42,7 @@ address_in sections.Zeros c = c.zeros_at
 unfoldable pub address : Cursor → ℕ
 address c = address_in c.section c
 
--- the cursor behind so many bytes in a section
+-- the cursor after this many bytes in a section
 abbrev pub moved : Section → Cursor → ℕ → Cursor
 moved sections.Text c n = record c { text_at = c.text_at + n }
 moved sections.Data c n = record c { data_at = c.data_at + n }
@@ -53,21 +53,21 @@ unfoldable pub section_of : BodyValue → Option Section
 section_of (body.Directive (directive.Section section)) = Some section
 section_of b = None
 
--- the cursor in another section, or behind a statement
+-- the cursor in another section, or after a statement
 abbrev pub switched : Option Section → Cursor → BodyValue → Cursor
 switched (Some section) c b = record c { section = section }
 switched None c b = moved c.section c (size (address c) b)
 
--- the cursor behind a statement
+-- the cursor after a statement
 unfoldable pub step : Cursor → BodyValue → Cursor
 step c b = switched (section_of b) c b
 
--- the cursor behind all statements
+-- the cursor after all statements
 unfoldable pub cursor_after : Cursor → List StatementValue → Cursor
 cursor_after c [] = c
 cursor_after c (s ∷ ss) = cursor_after (step c s.body) ss
 
--- addresses that so many statements can reach
+-- addresses that this many statements can reach
 unfoldable pub IsWithin : ℕ → Cursor → Type 0
 IsWithin count c =
     (c.text_at ≤ (count + 1) * 2 ^ 64) × (c.data_at ≤ (count + 1) * 2 ^ 64) ×

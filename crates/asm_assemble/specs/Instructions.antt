@@ -16,12 +16,12 @@ use Rattle.asm_assemble.specs.Program.{SymbolList}
 use Rattle.asm_assemble.specs.Numbers.{as_word, is_between, is_signed_word, amount_of, offset_of, distance, hi, lo}
 use Rattle.asm_assemble.specs.Operands.{symbol_value, immediate_of, upper_of, target_of}
 
--- the offset of so many bits from an address to a target
+-- the offset of this many bits from an address to a target
 unfoldable pub offset_to : ℕ → SymbolList → Option ℕ → ℕ → Target → Result ℕ FaultKind
 offset_to width symbols local at target =
     target_of symbols local target >>= λ to. offset_of width (distance at to)
 
--- the instruction that a statement at an address is
+-- the instruction of a statement at an address
 unfoldable pub instr_of : SymbolList → Option ℕ → ℕ → Instruction → Result Instr FaultKind
 instr_of symbols local at (read.Fixed i) = Ok i
 instr_of symbols local at (read.Lui rd imm) = upper_of symbols imm >>= λ high. Ok (instr.Lui rd high)
@@ -52,7 +52,7 @@ addi rd rs1 imm = instr.Immediate Addi rd rs1 imm
 unfoldable pub is_short : ℕ → Bool
 is_short word = if is_signed_word 12 word then true else (lo word == 0)
 
--- `li` of a word: an ADDI of 12 signed bits, else a LUI, and an ADDI where the low part isn't 0
+-- `li` of a word: ADDI if it is a 12-bit signed number, else LUI, and ADDI if the low part is not 0
 unfoldable pub li_pair : ℕ → ℕ → Pair
 li_pair rd word =
     if is_signed_word 12 word
@@ -62,21 +62,21 @@ li_pair rd word =
       second = if lo word == 0 then None else Some (addi rd rd (lo word));
     }
 
--- the two instructions that bring a distance from the first of them to a register
+-- the two instructions that put the target at a distance from the first of them into a register
 unfoldable pub la_pair : ℕ → ℕ → Pair
 la_pair rd d = record {
   first = instr.Auipc rd (hi d);
   second = Some (addi rd rd (lo d));
 }
 
--- the two instructions that jump by a distance from the first of them, by way of a register
+-- the two instructions that jump by a distance from the first of them, through a register
 unfoldable pub jump_pair : ℕ → ℕ → ℕ → Pair
 jump_pair by rd d = record {
   first = instr.Auipc by (hi d);
   second = Some (instr.Jalr rd by (lo d));
 }
 
--- the instructions that a pseudo-instruction at an address is
+-- the instructions of a pseudo-instruction at an address
 unfoldable pub pair_of : SymbolList → ℕ → Pseudo → Result Pair FaultKind
 pair_of symbols at (pseudo.Li rd number) =
     if is_between (2 ^ 31) (2 ^ 64) number then Ok (li_pair rd (as_word number)) else Err kinds.Range
@@ -87,7 +87,7 @@ pair_of symbols at (pseudo.Call name) =
 pair_of symbols at (pseudo.Tail name) =
     symbol_value symbols name (pos 0) >>= λ to. Ok (jump_pair 6 0 (distance at to))
 
--- the size of a pseudo-instruction
+-- the size of a pseudo-instruction in bytes
 unfoldable pub pseudo_size : Pseudo → ℕ
 pseudo_size (pseudo.Li rd number) = if is_short (as_word number) then 4 else 8
 pseudo_size (pseudo.La rd name offset) = 8

@@ -1,5 +1,5 @@
--- Local labels. Sources stand one after another, so where the nearest label of some digits is another source's, there is
--- none of these digits in between.
+-- Local labels. Sources are consecutive; so if the nearest label with some digits is in another
+-- source, there is none with these digits in between.
 use Rattle.std.specs.Prelude.{ℕ, ◌==◌, ◌%◌, ◌^◌, Bool, false, List, [], ◌∷◌, Option, Some, None, if◌then◌else◌}
 use Rattle.std.specs.Str.{bytes_eq}
 use Rattle.asm_parse.specs.Statement.{StatementValue, BodyValue}
@@ -12,11 +12,11 @@ use Rattle.asm_assemble.specs.declared.locals.Place.{Place}
 use Rattle.asm_assemble.specs.Cursors.{address, step}
 use Rattle.asm_assemble.specs.Operands.{found}
 
--- the digits of a local label, and where it stands
+-- the digits of a local label, and its place
 abbrev pub Local : Type 0
 Local = List ℕ × Place
 
--- the address, where the place is in this source
+-- the address of a place, if it is in this source
 unfoldable pub in_source : ℕ → Option Place → Option ℕ
 in_source source None = None
 in_source source (Some place) = if place.source == source then Some place.address else None
@@ -30,7 +30,7 @@ unfoldable pub is_local : List ℕ → BodyValue → Bool
 is_local digits (body.LocalLabel name) = bytes_eq digits name
 is_local digits b = false
 
--- the place of the last of the labels with these digits that come before, where it is in this source
+-- the address of the last earlier label with these digits, if it is in this source
 unfoldable pub back_of : List Local → ℕ → List ℕ → Option ℕ
 back_of before source digits = in_source source (found before digits)
 
@@ -41,13 +41,13 @@ ahead_of c (s ∷ ss) digits =
     if is_local digits s.body then Some (place_of s.source (address c))
     else ahead_of (step c s.body) ss digits
 
--- the local label that a statement at an address is
+-- the local label of a statement at an address
 unfoldable pub local_at : ℕ → ℕ → BodyValue → List Local
 local_at source at (body.LocalLabel digits) = (digits, place_of source at) ∷ []
 local_at source at b = []
 
--- the address of a target that is a local reference; the labels before it come with the last first, and the cursor is
--- the one of the statements after it
+-- the address of a target that is a local reference; the labels before it are in reverse order, and
+-- the cursor is that of the statements after it
 unfoldable pub local_target : List Local → Cursor → List StatementValue → ℕ → Target → Option ℕ
 local_target before next after source (targets.Back digits) = back_of before source digits
 local_target before next after source (targets.Ahead digits) =

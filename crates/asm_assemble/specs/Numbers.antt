@@ -14,19 +14,19 @@ unfoldable pub is_between : ℕ → ℕ → ℤ → Bool
 is_between low high (pos n) = nat_lt n high
 is_between low high (negsuc n) = nat_lt n low
 
--- the immediate of 12 bits that a number is
+-- the 12-bit immediate with a number's value
 unfoldable pub number12 : ℤ → Result ℕ FaultKind
 number12 n = if is_between (2 ^ 11) (2 ^ 11) n then Ok (as_word n) else Err kinds.Range
 
--- the immediate of 20 bits that a number is
+-- the 20-bit immediate with a number's value
 unfoldable pub number20 : ℤ → Result ℕ FaultKind
 number20 n = if is_between 0 (2 ^ 20) n then Ok (as_word n) else Err kinds.Range
 
--- the shift amount that a number is
+-- the shift amount with a number's value
 unfoldable pub amount_of : ℤ → Result ℕ FaultKind
 amount_of n = if is_between 0 (2 ^ 5) n then Ok (as_word n) else Err kinds.Range
 
--- `%hi(v)`: the 20 bits that `%lo(v)` leaves
+-- `%hi(v)`: the upper 20 bits of a value minus `%lo(v)`
 unfoldable pub hi : ℕ → ℕ
 hi v = (v + 0x800) / 2 ^ 12 % 2 ^ 20
 
@@ -34,7 +34,7 @@ hi v = (v + 0x800) / 2 ^ 12 % 2 ^ 20
 unfoldable pub lo : ℕ → ℕ
 lo v = sign_extend 12 (v % 2 ^ 12)
 
--- how far a target lies behind an address, modulo 2^32
+-- the distance from an address to a target, modulo 2^32
 unfoldable pub distance : ℕ → ℕ → ℕ
 distance at target = (target + (2 ^ 32 - at % 2 ^ 32)) % 2 ^ 32
 
@@ -42,7 +42,7 @@ distance at target = (target + (2 ^ 32 - at % 2 ^ 32)) % 2 ^ 32
 abbrev pub is_signed_word : ℕ → ℕ → Bool
 is_signed_word width word = nat_lt word (2 ^ (width - 1)) || nat_le (2 ^ 32 - 2 ^ (width - 1)) word
 
--- the offset of so many bits that a word is: even, and in range
+-- the offset of this many bits of a word: even, and in range
 unfoldable pub offset_of : ℕ → ℕ → Result ℕ FaultKind
 offset_of width word =
     if is_signed_word width word && word % 2 == 0 then Ok word else Err kinds.BranchRange

@@ -1,4 +1,4 @@
--- Operands, valued by the symbols.
+-- The values of operands.
 use Rattle.std.specs.Prelude.{ℕ, ℤ, ◌+◌, ◌%◌, ◌^◌, List, Option, Some, None, Result, Ok, Err}
 use Rattle.std.specs.Map.{lookup}
 use Rattle.std.specs.Option.{option_map}
@@ -17,7 +17,7 @@ use Rattle.asm_parse.specs.declared.operand.Target.TheVariants as targets
 use Rattle.asm_assemble.specs.Program.{SymbolList}
 use Rattle.asm_assemble.specs.Numbers.{as_word, number12, number20, hi, lo}
 
--- what stands under a name
+-- the value of a name
 unfoldable pub found : {V : Type 0} → List (List ℕ × V) → List ℕ → Option V
 found entries name = lookup (bytes_eq name) entries
 
@@ -25,12 +25,12 @@ found entries name = lookup (bytes_eq name) entries
 unfoldable pub address_of : SymbolList → List ℕ → Option ℕ
 address_of symbols name = option_map (λ s. s.address) (found symbols name)
 
--- an address that is there
+-- a defined address, or the fault `Undefined`
 unfoldable pub defined : Option ℕ → Result ℕ FaultKind
 defined (Some at) = Ok at
 defined None = Err kinds.Undefined
 
--- a symbol's address and a number, modulo 2^32
+-- the sum of a symbol's address and a number, modulo 2^32
 unfoldable pub symbol_value : SymbolList → List ℕ → ℤ → Result ℕ FaultKind
 symbol_value symbols name offset =
     defined (address_of symbols name) >>= λ at. Ok ((at + as_word offset) % 2 ^ 32)
@@ -40,17 +40,17 @@ unfoldable pub value_of : SymbolList → Value → Result ℕ FaultKind
 value_of symbols (values.Number n) = Ok (as_word n)
 value_of symbols (values.Symbol name offset) = symbol_value symbols name offset
 
--- an immediate of 12 bits, as the word that it is extended to
+-- a 12-bit immediate, as the word that it is extended to
 unfoldable pub immediate_of : SymbolList → Immediate → Result ℕ FaultKind
 immediate_of symbols (immediates.Number n) = number12 n
 immediate_of symbols (immediates.Low v) = value_of symbols v >>= λ word. Ok (lo word)
 
--- an immediate of 20 bits
+-- a 20-bit immediate
 unfoldable pub upper_of : SymbolList → Upper → Result ℕ FaultKind
 upper_of symbols (uppers.Number n) = number20 n
 upper_of symbols (uppers.High v) = value_of symbols v >>= λ word. Ok (hi word)
 
--- the address of a target; a local reference has its own
+-- the address of a target; a local reference's is given
 unfoldable pub target_of : SymbolList → Option ℕ → Target → Result ℕ FaultKind
 target_of symbols local (targets.Address n) = Ok (as_word n)
 target_of symbols local (targets.Symbol name) = defined (address_of symbols name)

@@ -1,6 +1,6 @@
--- Where the statements of a program stand and which bytes they have, as one checks a listing: each statement by
--- those before it and after it. `Assembled` says how a program is computed, and which fault decides; here is what
--- such a program is, and laws/ proves that both say the same.
+-- The places and bytes of a program's statements, as one checks a listing: each statement given
+-- those before and after it. `Assembled` has how a program is computed, and which fault counts;
+-- this file has what such a program is, and laws/ proves that both agree.
 use Rattle.std.specs.Prelude.{ℕ, ◌≡◌, ◌+◌, ◌*◌, ◌%◌, ◌^◌, ◌<◌, ◌≤◌, Bool, true, false, if◌then◌else◌}
 use Rattle.std.specs.Prelude.{List, [], ◌∷◌, ◌++◌, length, map, Some, None, Ok, Err, unwrap_or, codes}
 use Rattle.std.specs.List.{sum_by, flat_map, list_any}
@@ -28,19 +28,19 @@ use Rattle.asm_assemble.specs.Locals.{is_local}
 use Rattle.asm_assemble.specs.Valuing.{instr_bytes, pair_bytes, directive_bytes}
 use Rattle.asm_assemble.specs.Assembled.{assembled}
 
--- a statement, and where it stands
+-- a statement, and its place
 pub record Standing : Type 0 where
   pub statement : StatementValue
   pub section : Section
   pub address : ℕ
 
--- where the sections begin
+-- the bases of the sections
 pub record Bases : Type 0 where
   pub text_base : ℕ
   pub data_base : ℕ
   pub zeros_base : ℕ
 
--- where a section begins
+-- the base of a section
 abbrev pub base_of : Section → Bases → ℕ
 base_of sections.Text bases = bases.text_base
 base_of sections.Data bases = bases.data_base
@@ -58,36 +58,36 @@ is_same sections.Zeros sections.Text = false
 is_same sections.Zeros sections.Data = false
 is_same sections.Zeros sections.Zeros = true
 
--- the section behind statements: that of the last section change among them, else the one in which they begin;
--- each source behind the first begins with a change to `.text`
+-- the section after statements: that of the last section change among them, else the one in which
+-- they start; each source after the first starts with a change to `.text`
 unfoldable pub section_behind : Section → List Standing → Section
 section_behind first [] = first
 section_behind first (s ∷ rest) = section_behind (unwrap_or (section_of s.statement.body) first) rest
 
--- how many bytes a statement takes in a section
+-- the number of bytes of a statement in a section
 abbrev pub taken_by : Section → Standing → ℕ
 taken_by section s = if is_same s.section section then size s.address s.statement.body else 0
 
--- how many bytes statements take in a section
+-- the number of bytes of statements in a section
 abbrev pub taken : Section → List Standing → ℕ
 taken section ss = sum_by (taken_by section) ss
 
--- the least multiple of a unit not below an address
+-- the least multiple of a unit that is at least an address
 pub record IsNextMultiple (unit address base : ℕ) : Type 0 where
   pub times : ℕ
   pub multiple : base ≡ times * unit
   pub not_below : address ≤ base
   pub least : base < address + unit
 
--- the text begins at 0x00010000, the data at the least multiple of 4096 not below the text's end, the zeros at the
--- data's end, rounded up to a multiple of 4
+-- the text begins at 0x00010000, the data at the least multiple of 4096 not below the text's end,
+-- the zeros at the data's end, rounded up to a multiple of 4
 pub record AreBases (bases : Bases) (all : List Standing) : Type 0 where
   pub text_begins : bases.text_base ≡ 0x10000
   pub data_begins : IsNextMultiple 4096 (bases.text_base + taken sections.Text all) bases.data_base
   pub zeros_begin : IsNextMultiple 4 (bases.data_base + taken sections.Data all) bases.zeros_base
 
--- the statement stands in the section of the last section change before it, `.text` where there is none, at the
--- section's base and the sizes before it there
+-- the statement is in the section of the last section change before it, or in `.text` if there is
+-- none, at the section's base plus the sizes before it there
 pub record StandsThere (bases : Bases) (before : List Standing) (s : Standing) : Type 0 where
   pub in_section : s.section ≡ section_behind sections.Text before
   pub at_address : s.address ≡ base_of s.section bases + taken s.section before
@@ -111,8 +111,8 @@ symbol_at all section at b = []
 unfoldable pub symbols_in : List Standing → List Standing → SymbolList
 symbols_in all ss = flat_map (λ s. symbol_at all s.section s.address s.statement.body) ss
 
--- an instruction stands at a multiple of 4; an alignment is of 2^12 at most; a label's name is new, and the map has
--- the address at which it stands
+-- an instruction is at a multiple of 4; an alignment is at most 2^12; a label's name is new, and
+-- the symbol table has its address
 abbrev pub IsFit : SymbolList → SymbolList → ℕ → BodyValue → Type 0
 IsFit symbols seen at (body.Label name) = (found seen name ≡ None) × (address_of symbols name ≡ Some (at % 2 ^ 32))
 IsFit symbols seen at (body.Instruction i) = at % 4 ≡ 0
@@ -120,13 +120,13 @@ IsFit symbols seen at (body.Pseudo p) = at % 4 ≡ 0
 IsFit symbols seen at (body.Directive (directive.Align n)) = n ≤ 12
 IsFit symbols seen at b = Unit {0}
 
--- ---- what operands are worth
+-- ---- the values of operands
 
--- none of the statements is a local label of these digits
+-- none of the statements is a local label with these digits
 abbrev pub HasNone : List ℕ → List Standing → Type 0
 HasNone digits ss = list_any (λ s. is_local digits s.statement.body) ss ≡ false
 
--- the last local label of these digits among statements is in this source, and at this address modulo 2^32
+-- the last local label with these digits is in this source, at this address modulo 2^32
 pub record IsLastLocal (digits : List ℕ) (source address : ℕ) (before : List Standing) : Type 0 where
   pub front : List Standing
   pub label : Standing
@@ -137,7 +137,7 @@ pub record IsLastLocal (digits : List ℕ) (source address : ℕ) (before : List
   pub in_source : label.statement.source ≡ source
   pub at_address : label.address % 2 ^ 32 ≡ address
 
--- the first one is
+-- the same of the first one
 pub record IsNextLocal (digits : List ℕ) (source address : ℕ) (after : List Standing) : Type 0 where
   pub front : List Standing
   pub label : Standing
@@ -148,16 +148,16 @@ pub record IsNextLocal (digits : List ℕ) (source address : ℕ) (after : List 
   pub in_source : label.statement.source ≡ source
   pub at_address : label.address % 2 ^ 32 ≡ address
 
--- where a target is, for a statement of a source: a number, a symbol's address in the map, the last such local label
--- before the statement, the next behind it
+-- the address of a target in a statement of a source: a number, a symbol's address, the last such
+-- local label before the statement, or the next one after it
 abbrev pub IsTarget : SymbolList → List Standing → ℕ → List Standing → Target → ℕ → Type 0
 IsTarget symbols before source after (targets.Address n) to = to ≡ as_word n
 IsTarget symbols before source after (targets.Symbol name) to = address_of symbols name ≡ Some to
 IsTarget symbols before source after (targets.Back digits) to = IsLastLocal digits source to before
 IsTarget symbols before source after (targets.Ahead digits) to = IsNextLocal digits source to after
 
--- the offset from a statement's address to its target: the difference modulo 2^32, an even number of so many bits
--- with its sign
+-- the offset from a statement's address to its target: the difference modulo 2^32, an even signed
+-- number of this many bits
 pub record IsOffset (width : ℕ) (symbols : SymbolList) (before : List Standing) (s : Standing)
     (after : List Standing) (target : Target) (offset : ℕ) : Type 0 where
   pub to : ℕ
@@ -167,7 +167,7 @@ pub record IsOffset (width : ℕ) (symbols : SymbolList) (before : List Standing
   pub signed : is_signed_word width offset ≡ true
   pub even : offset % 2 ≡ 0
 
--- the instruction that a statement is, its operands valued by the map
+-- the instruction of a statement, with the values of its operands by the symbol table
 abbrev pub IsInstr : SymbolList → List Standing → Standing → List Standing → Instruction → Instr → Type 0
 IsInstr symbols before s after (read.Fixed j) i = i ≡ j
 IsInstr symbols before s after (read.Lui rd imm) i =
@@ -201,7 +201,7 @@ HasBytes symbols before s after section (body.Pseudo p) bytes =
 HasBytes symbols before s after section (body.Directive d) bytes =
     directive_bytes symbols section s.address d ≡ Ok bytes
 
--- the bytes of a statement are as many as its size, and begin at its address in a section's bytes
+-- a statement has as many bytes as its size, and they are at its address in a section
 pub record IsHeld (section : Section) (base : ℕ) (whole : List ℕ) (symbols : SymbolList)
     (before : List Standing) (s : Standing) (after : List Standing) : Type 0 where
   pub bytes : List ℕ
@@ -212,7 +212,7 @@ pub record IsHeld (section : Section) (base : ℕ) (whole : List ℕ) (symbols :
   pub cut : whole ≡ front ++ (bytes ++ back)
   pub at_address : base + length front ≡ s.address
 
--- a statement in a section has its bytes there; those of zeros are nowhere
+-- a statement's bytes are in its section; zeros have none
 abbrev pub Holds : Section → Bases → ProgramValue → List Standing → Standing → List Standing → Type 0
 Holds sections.Text bases p before s after = IsHeld sections.Text bases.text_base p.text p.symbols before s after
 Holds sections.Data bases p before s after = IsHeld sections.Data bases.data_base p.bytes p.symbols before s after
@@ -222,32 +222,32 @@ Holds sections.Zeros bases p before s after = Unit {0}
 
 -- a program has these statements at these places
 pub record ArePlaced (ss : List StatementValue) (p : ProgramValue) (all : List Standing) (bases : Bases) : Type 0 where
-  -- the statements stand in their order, each at its section's base and the sizes before it
+  -- the statements are in order, each at its section's base plus the sizes before it
   pub statements : map (λ (s : Standing). s.statement) all ≡ ss
   pub begins : AreBases bases all
   pub stands : (before : List Standing) (s : Standing) (after : List Standing) → all ≡ before ++ s ∷ after
       → StandsThere bases before s
-  -- the map has the labels in their order and nothing else, each once and at its address; instructions are aligned
+  -- the symbols are the labels in order, each once and at its address; instructions are aligned
   pub symbols : p.symbols ≡ symbols_in all all
   pub fits : (before : List Standing) (s : Standing) (after : List Standing) → all ≡ before ++ s ∷ after
       → IsFit p.symbols (symbols_in all before) s.address s.statement.body
-  -- each statement's bytes are at its address, its operands valued by the map; the sections have no other bytes
+  -- each statement's bytes are at its address, operands by the symbols; there are no other bytes
   pub holds : (before : List Standing) (s : Standing) (after : List Standing) → all ≡ before ++ s ∷ after
       → Holds s.section bases p before s after
   pub text_size : length p.text ≡ taken sections.Text all
   pub data_size : length p.bytes ≡ taken sections.Data all
   pub zeros_size : p.zeros ≡ taken sections.Zeros all
-  -- the program is within the limit, and begins at `_start`, else at the text's first address
+  -- the program is within the limit; its entry is `_start`, else the text's base
   pub within : length p.text + segment_size (length p.bytes) p.zeros ≤ 2 ^ 24
   pub entry : p.entry ≡ unwrap_or (address_of p.symbols (codes "_start")) 0x10000
 
--- a program has its statements where one map of labels puts them
+-- a program has its statements where one symbol table puts them
 pub record Placed (ss : List StatementValue) (p : ProgramValue) : Type 0 where
   pub all : List Standing
   pub bases : Bases
   pub placed : ArePlaced ss p all bases
 
--- a program of sources: it has the statements that they say where one map of labels puts them
+-- a program of sources: it has their statements where one symbol table puts them
 pub record IsProgramOf (texts : List (List ℕ)) (p : ProgramValue) : Type 0 where
   pub statements : List StatementValue
   pub read : statements_of texts ≡ Ok statements
@@ -255,27 +255,27 @@ pub record IsProgramOf (texts : List (List ℕ)) (p : ProgramValue) : Type 0 whe
 
 -- ---- laws
 
--- an assembled program has its statements where one map of labels puts them
+-- an assembled program has its statements where one symbol table puts them
 abbrev pub AssembledIsPlaced : Type 0
 AssembledIsPlaced = (ss : List StatementValue) (p : ProgramValue) → assembled ss ≡ Ok p → Placed ss p
 
--- a program that has its statements so is the one that is assembled
+-- a program with its statements placed in this way is the one that is assembled
 abbrev pub PlacedIsAssembled : Type 0
 PlacedIsAssembled = (ss : List StatementValue) (p : ProgramValue) → Placed ss p → assembled ss ≡ Ok p
 
--- statements have one program at most
+-- statements have at most one program
 abbrev pub OneProgram : Type 0
 OneProgram = (ss : List StatementValue) (p q : ProgramValue) → Placed ss p → Placed ss q → p ≡ q
 
--- where a fault is answered, no program has its statements so
+-- if the assembler returns a fault, no program has the statements placed in this way
 abbrev pub FaultyIsUnplaced : Type 0
 FaultyIsUnplaced =
     (ss : List StatementValue) (fault : Fault) (p : ProgramValue) → assembled ss ≡ Err fault → Placed ss p → ⊥
 
--- `%hi` and `%lo` of a word make the word, where the one stands in a word's upper 20 bits and the other is added
+-- `%hi` and `%lo` of a word add up to it, with `%hi` in the upper 20 bits
 abbrev pub PartsMake : Type 0
 PartsMake = (v : ℕ) → v < 2 ^ 32 → (hi v * 2 ^ 12 + lo v) % 2 ^ 32 ≡ v
 
--- and those of the distance to a target lead there: `la`, `call` and `tail` reach their symbol
+-- those of the distance to a target lead there: `la`, `call` and `tail` reach their symbol
 abbrev pub PartsReach : Type 0
 PartsReach = (at to : ℕ) → (at + (hi (distance at to) * 2 ^ 12 + lo (distance at to))) % 2 ^ 32 ≡ to % 2 ^ 32

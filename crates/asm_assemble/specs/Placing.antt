@@ -1,4 +1,4 @@
--- The phase in which statements are placed, with its faults.
+-- Phase 1: the places of statements, and the faults of placing.
 use Rattle.std.specs.Prelude.{ℕ, ◌≡◌, ◌+◌, ◌%◌, ◌^◌, Bool, false, ◌==◌, nat_lt, List, [], ◌∷◌, ◌++◌, Option, Some, None, Result, Ok, Err, is_some, if◌then◌else◌}
 use Rattle.std.specs.Option.{option_or}
 use Rattle.asm_parse.specs.Statement.{StatementValue, BodyValue}
@@ -17,7 +17,7 @@ use Rattle.asm_assemble.specs.Operands.{found}
 abbrev pub at_statement : StatementValue → FaultKind → Fault
 at_statement s kind = record { kind = kind; source = s.source; line = s.line }
 
--- goes on behind a statement, or stops there
+-- the rest's result if a statement has no fault, else its fault
 abbrev pub unless : {X : Type 0} → Option FaultKind → StatementValue → Result X Fault → Result X Fault
 unless None s rest = rest
 unless (Some kind) s rest = Err (at_statement s kind)
@@ -32,7 +32,7 @@ last_sized i c [] = None
 last_sized i c (s ∷ ss) =
     option_or (last_sized (i + 1) (step c s.body) ss) (if_sized i (address c) s.body)
 
--- Align where an instruction stands at no multiple of 4
+-- the fault Align of an instruction whose address is not a multiple of 4
 abbrev pub misaligned : ℕ → Option FaultKind
 misaligned at = if at % 4 == 0 then None else Some kinds.Align
 
@@ -45,28 +45,28 @@ own_fault seen at (body.Directive (directive.Align n)) =
     if nat_lt 12 n then Some kinds.Align else None
 own_fault seen at b = None
 
--- the lowest fault of a statement when it is placed; `heavy` says that TooLarge stands here
+-- the lowest fault of a statement when it is placed; `heavy` says that it gets TooLarge
 unfoldable pub place_fault : SymbolList → Bool → ℕ → BodyValue → Option FaultKind
 place_fault seen heavy at b =
     option_or (own_fault seen at b) (if heavy then Some kinds.TooLarge else None)
 
--- names, each once
+-- a set of names
 abbrev pub Globals : Type 0
 Globals = List (List ℕ × Unit {0})
 
--- the names that `.globl` has, each once, behind those seen
+-- the names of a `.globl`, each once, after those seen
 unfoldable pub with_names : Globals → List (List ℕ) → Globals
 with_names seen [] = seen
 with_names seen (name ∷ names) =
     if is_some (found seen name) then with_names seen names
     else with_names (seen ++ (name, tt) ∷ []) names
 
--- the names that a statement makes global, behind those seen
+-- the names that a statement makes global, after those seen
 unfoldable pub with_globals : Globals → BodyValue → Globals
 with_globals seen (body.Directive (directive.Global names)) = with_names seen names
 with_globals seen b = seen
 
--- the names that statements make global, behind those seen
+-- the names that statements make global, after those seen
 unfoldable pub globals_from : Globals → List StatementValue → Globals
 globals_from seen [] = seen
 globals_from seen (s ∷ ss) = globals_from (with_globals seen s.body) ss
@@ -77,7 +77,7 @@ symbols_at globals section at (body.Label name) =
     (name, record { section = section; address = at % 2 ^ 32; global = is_some (found globals name) }) ∷ []
 symbols_at globals section at b = []
 
--- a symbol that a statement defines is a new one
+-- the symbol that a statement defines is new
 unfoldable pub IsNew : SymbolList → BodyValue → Type 0
 IsNew seen (body.Label name) = found seen name ≡ None
 IsNew seen b = Unit {0}
@@ -87,7 +87,7 @@ abbrev pub is_at : Option ℕ → ℕ → Bool
 is_at None i = false
 is_at (Some j) i = i == j
 
--- all symbols, behind those seen, or the first fault; the i-th statement comes next
+-- all symbols, after those seen, or the first fault; the i-th statement comes next
 unfoldable pub placing : Globals → SymbolList → Option ℕ → ℕ → Cursor → List StatementValue → Result SymbolList Fault
 placing globals seen heavy i c [] = Ok seen
 placing globals seen heavy i c (s ∷ ss) =

@@ -7,7 +7,7 @@ use Rattle.asm_assemble.specs.declared.program.Symbol.{Symbol}
 abbrev pub text_start : ℕ
 text_start = 0x0001_0000
 
--- the most bytes that text and data segment have together: 2^24
+-- the largest size of text and data segment together: 2^24 bytes
 abbrev pub program_limit : ℕ
 program_limit = 0x0100_0000
 
@@ -15,7 +15,7 @@ program_limit = 0x0100_0000
 abbrev pub SymbolList : Type 0
 SymbolList = List (List ℕ × Symbol)
 
--- the bytes of text and data, how many zeros stand after them, the symbols, and the first instruction's address
+-- the bytes of text and data, the number of zeros after them, the symbols, and the entry
 pub record ProgramValue : Type 0 where
   pub text : List ℕ
   pub bytes : List ℕ
@@ -27,7 +27,7 @@ pub record ProgramValue : Type 0 where
 unfoldable pub symbol_list : {A V : Type 0} → List (String A × V) → List (List ℕ × V)
 symbol_list entries = map (λ e. (string_bytes e.0, e.1)) entries
 
--- the least multiple of the unit not below an address
+-- the least multiple of the unit that is at least an address
 unfoldable pub round_up : ℕ → ℕ → ℕ
 round_up at unit = (at + (unit - 1)) / unit * unit
 
@@ -35,6 +35,6 @@ round_up at unit = (at + (unit - 1)) / unit * unit
 unfoldable pub segment_size : ℕ → ℕ → ℕ
 segment_size bytes zeros = if zeros == 0 then bytes else round_up bytes 4 + zeros
 
--- text and data segment are together within the limit
+-- text and data segment are within the limit together
 abbrev pub IsWithinLimit : List ℕ → List ℕ → ℕ → Type 0
 IsWithinLimit text bytes zeros = length text + segment_size (length bytes) zeros ≤ program_limit

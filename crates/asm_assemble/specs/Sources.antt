@@ -9,11 +9,11 @@ use Rattle.asm_assemble.specs.Program.{ProgramValue}
 use Rattle.asm_assemble.specs.Assembled.{assembled}
 use Rattle.asm_assemble.specs.Placed.{IsProgramOf}
 
--- the program of sources by their bytes, or the fault that decides: all are read before any statement is placed
+-- the program of sources, or the fault that counts: all are parsed before any statement is placed
 unfoldable pub assembled_texts : List (List ℕ) → Result ProgramValue Fault
 assembled_texts texts = statements_of texts >>= assembled
 
--- sources of which a fault is told have no program; want of memory says nothing of them
+-- sources with a reported fault have no program; out of memory says nothing about them
 abbrev pub HasNoProgram : List (List ℕ) → AsmFault → Type 0
 HasNoProgram texts (faults.At fault) = (p : ProgramValue) → IsProgramOf texts p → ⊥
 HasNoProgram texts faults.Memory = Unit {0}

@@ -1,4 +1,4 @@
--- The phase in which operands are valued, with its faults.
+-- Phase 2: the values of operands, and its faults.
 use Rattle.std.specs.Prelude.{ℕ, ◌≡◌, zero, suc, ◌/◌, ◌%◌, ◌^◌, Bool, true, false, List, [], ◌∷◌, ◌++◌, Option, Some, None, Result, Ok, Err, ℤ, replicate}
 use Rattle.std.specs.Int.{w16, w32, to_le_bytes}
 use Rattle.std.specs.List.{list_all}
@@ -35,12 +35,12 @@ unfoldable pub pair_bytes : Instr → Option Instr → List ℕ
 pair_bytes first None = instr_bytes first
 pair_bytes first (Some second) = instr_bytes first ++ instr_bytes second
 
--- whether a number, if it is one, fits a word
+-- whether a value fits a word, if it is a number
 unfoldable pub fits_word : Value → Bool
 fits_word (values.Number n) = is_between (2 ^ 31) (2 ^ 32) n
 fits_word (values.Symbol name offset) = true
 
--- the bytes of values
+-- the bytes of values, four each
 unfoldable pub word_list : SymbolList → List Value → Result (List ℕ) FaultKind
 word_list symbols [] = Ok []
 word_list symbols (v ∷ vs) =
@@ -56,17 +56,17 @@ unfoldable pub byte_list : List ℤ → List ℕ
 byte_list [] = []
 byte_list (n ∷ ns) = as_word n % 2 ^ 8 ∷ byte_list ns
 
--- the bytes, where all that they are made of fits
+-- the bytes, if all numbers fit
 unfoldable pub where_fits : Bool → Result (List ℕ) FaultKind → Result (List ℕ) FaultKind
 where_fits true bytes = bytes
 where_fits false bytes = Err kinds.Range
 
--- so many NOPs: `addi zero, zero, 0`
+-- this many NOPs: `addi zero, zero, 0`
 unfoldable pub nops : ℕ → List ℕ
 nops zero = []
 nops (suc n) = 0x13 ∷ 0 ∷ 0 ∷ 0 ∷ nops n
 
--- what fills so many bytes: in the text zeros up to a multiple of 4 and then NOPs, elsewhere zeros
+-- padding: in the text zeros up to a multiple of 4 and then NOPs, elsewhere zeros
 unfoldable pub padding : Section → ℕ → List ℕ
 padding sections.Text count = replicate (count % 4) 0 ++ nops (count / 4)
 padding sections.Data count = replicate count 0
@@ -97,12 +97,12 @@ bytes_of symbols local section at (body.Pseudo p) =
     pair_of symbols at p >>= λ pair. Ok (pair_bytes pair.first pair.second)
 bytes_of symbols local section at (body.Directive d) = directive_bytes symbols section at d
 
--- the bytes with more behind them
+-- the bytes with more after them
 unfoldable pub appended : List ℕ → Result (List ℕ) FaultKind → Result (List ℕ) FaultKind
 appended done (Ok bytes) = Ok (done ++ bytes)
 appended done (Err kind) = Err kind
 
--- what was pushed is what is expected, or memory was refused
+-- the pushed bytes are the expected ones, or out of memory
 unfoldable pub Pushes : {X : Type 0} → Result (Unit {0}) PushFault → X → Result X FaultKind → Type 0
 Pushes (Ok _) value expected = expected ≡ Ok value
 Pushes (Err (faults.Kind kind)) value expected = expected ≡ Err kind
@@ -113,13 +113,13 @@ pub record Images : Type 0 where
   pub text_bytes : List ℕ
   pub data_bytes : List ℕ
 
--- the bytes of the sections, with more at a section's end; those of the zeros are nowhere
+-- the bytes of the sections, with more at a section's end; zeros have none
 unfoldable pub put : Section → Images → List ℕ → Images
 put sections.Text images bytes = record images { text_bytes = images.text_bytes ++ bytes }
 put sections.Data images bytes = record images { data_bytes = images.data_bytes ++ bytes }
 put sections.Zeros images bytes = images
 
--- the bytes of a statement in its section; those of the zeros are nowhere, and nothing in them has a value
+-- the bytes of a statement in its section; zeros have none, and operands there no values
 unfoldable pub bytes_in : SymbolList → Option ℕ → Section → ℕ → BodyValue → Result (List ℕ) FaultKind
 bytes_in symbols local sections.Text at b = bytes_of symbols local sections.Text at b
 bytes_in symbols local sections.Data at b = bytes_of symbols local sections.Data at b
@@ -130,12 +130,12 @@ unfoldable pub put_all : Section → Images → Result (List ℕ) FaultKind → 
 put_all section images (Ok bytes) = Ok (put section images bytes)
 put_all section images (Err kind) = Err kind
 
--- a statement's answer, with its fault placed
+-- a statement's result; a fault gets the statement's place
 unfoldable pub said_at : {X : Type 0} → StatementValue → Result X FaultKind → Result X Fault
 said_at s (Ok value) = Ok value
 said_at s (Err kind) = Err (at_statement s kind)
 
--- the sections' bytes behind those so far, or the first fault; the local labels before come with the last first
+-- the sections' bytes after those so far, or the first fault; earlier local labels, last first
 unfoldable pub valuing : SymbolList → List Local → Images → Cursor → List StatementValue → Result Images Fault
 valuing symbols before done c [] = Ok done
 valuing symbols before done c (s ∷ ss) =

@@ -1,4 +1,4 @@
-//! References ahead, found from the last statement to the first.
+//! Forward references, resolved from the last statement to the first.
 ghost use Rattle.std.specs.Prelude.{◌≡◌, ◌^◌, ◌∷◌, IfOk, List, Option, ℕ, length, reverse};
 ghost use Rattle.asm_assemble.specs.Program.{symbol_list};
 ghost use Rattle.asm_assemble.specs.Operands.{found};
@@ -11,7 +11,7 @@ use crate::table::{empty, look_up};
 use asm_parse::{Body, Instruction, Statement, Target};
 use std::alloc::{AllocError, Allocator};
 
-/// The address of each statement, modulo 2^32.
+// The address of each statement, modulo 2^32.
 #[tactic(auto, using(crate::proofs::Within::within_count, crate::proofs::Within::within_next), unfolding(crate::specs::Ahead::addresses))]
 fn addresses_of<A: Allocator>(
     alloc: A,
@@ -21,7 +21,7 @@ fn addresses_of<A: Allocator>(
     requires { IsWithin (2 ^ 63) start }
     ensures { IfOk result (λ all. all.items ≡ addresses start statements.now) }
 {
-    // The bound on the statements bounds what the cursor reaches.
+    // The number of statements bounds the cursor.
     let _count = count_of(statements);
     let mut all = Vec::new(alloc);
     let mut cursor = start;
@@ -32,7 +32,7 @@ fn addresses_of<A: Allocator>(
     Ok(all)
 }
 
-/// The address of a target that is a reference ahead. `after` has the next label of each digits.
+// The address of a target that is a forward reference. `after` has the next label for each digits.
 #[tactic(auto, unfolding(crate::specs::Ahead::target_ahead))]
 fn target_ahead<A: Allocator>(after: &Places<A>, source: usize, target: &Target<'_>) -> Option<u32>
     ensures { result ≡ target_ahead (found (symbol_list after.now.entries)) source target.now }
@@ -43,7 +43,7 @@ fn target_ahead<A: Allocator>(after: &Places<A>, source: usize, target: &Target<
     }
 }
 
-/// The address of a statement's reference ahead.
+// The address of a statement's forward reference.
 #[tactic(auto, unfolding(crate::specs::Ahead::reference))]
 fn reference<A: Allocator>(after: &Places<A>, statement: &Statement<'_, A>) -> Option<u32>
     ensures { result ≡ reference (found (symbol_list after.now.entries)) statement.now.source
@@ -57,8 +57,8 @@ fn reference<A: Allocator>(after: &Places<A>, statement: &Statement<'_, A>) -> O
     }
 }
 
-/// The addresses of all references ahead, the last statement's first. The next label of each digits is kept in a table,
-/// so that each statement is looked at once.
+// The addresses of all forward references, the last statement's first. A table has the next label
+// for each digits, so that each statement is visited once.
 fn references_of<A: Allocator + Copy>(
     alloc: A,
     addresses: &[u32],
@@ -79,7 +79,8 @@ fn references_of<A: Allocator + Copy>(
     Ok(all)
 }
 
-/// The addresses of all references ahead, the last statement's first, where the first statement stands at a cursor.
+/// The addresses of all forward references, the last statement's first; the first statement is at
+/// the cursor. Fails when out of memory.
 #[tactic(auto, using(crate::proofs::AheadLemmas::length_addresses))]
 pub fn aheads_of<A: Allocator + Copy>(
     alloc: A,
@@ -94,7 +95,7 @@ pub fn aheads_of<A: Allocator + Copy>(
     references_of(alloc, addresses.as_slice(), statements)
 }
 
-/// Takes the last of the references, which is the next statement's.
+/// Removes the last of the references, which is the next statement's.
 pub fn take_last<A: Allocator>(references: &mut Vec<Option<u32>, A>) -> Option<u32>
     ensures { (first : Option ℕ) (rest : List (Option ℕ)) → reverse references.old.items ≡ first ∷ rest
         → (result ≡ first) × (reverse references.new.items ≡ rest) }

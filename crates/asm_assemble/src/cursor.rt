@@ -1,11 +1,11 @@
-//! Where the next statement of each section stands.
+//! The place of the next statement in each section.
 ghost use Rattle.std.specs.Prelude.{◌≡◌, ℕ, ◌+◌, ◌*◌, ◌^◌, ◌<◌, ◌≤◌, length};
 
 use crate::instruction::pseudo_size;
 use asm_parse::{Body, Directive, Section, Statement};
 use std::alloc::Allocator;
 
-/// The next address in each section, and the section in which the next statement stands.
+/// The next address in each section, and the section of the next statement.
 #[derive(Clone, Copy, PartialEq, Eq)]
 pub struct Cursor {
     pub section: Section,
@@ -18,7 +18,7 @@ ghost use Rattle.asm_assemble.specs.Program.{round_up};
 ghost use Rattle.asm_assemble.specs.Cursors.{size, align_size, directive_size, address, section_of, step, cursor_after, IsWithin};
 ghost use Rattle.asm_parse.specs.Statement.{directive_value};
 
-/// The least multiple of the unit not below an address.
+/// The least multiple of the unit that is at least an address.
 #[tactic(auto, unfolding(crate::specs::Program::round_up))]
 pub fn round_up(at: u128, unit: u128) -> u128
     requires some { 0 < unit }
@@ -30,7 +30,7 @@ pub fn round_up(at: u128, unit: u128) -> u128
     (at + (unit - 1)) / unit * unit
 }
 
-/// How many bytes lead to a multiple of 2^n; none where n is above 12.
+/// The number of bytes up to a multiple of 2^n; 0 if n is above 12.
 #[tactic(auto, unfolding(crate::specs::Cursors::align_size))]
 pub fn align_size(at: u128, n: u32) -> u128
     requires { at < 2 ^ 127 + 2 ^ 126 }
@@ -43,7 +43,7 @@ pub fn align_size(at: u128, n: u32) -> u128
     round_up(at, 1 << n) - at
 }
 
-/// How many bytes a directive takes at an address.
+/// The number of bytes of a directive at an address.
 #[tactic(auto, unfolding(crate::specs::Cursors::directive_size))]
 #[inline(always)]
 pub fn directive_size<A: Allocator>(at: u128, directive: &Directive<'_, A>) -> u128
@@ -62,7 +62,7 @@ pub fn directive_size<A: Allocator>(at: u128, directive: &Directive<'_, A>) -> u
     }
 }
 
-/// How many bytes a statement takes at an address.
+/// The number of bytes of a statement at an address.
 #[tactic(auto, unfolding(crate::specs::Cursors::size))]
 #[inline(always)]
 pub fn size<A: Allocator>(at: u128, statement: &Statement<'_, A>) -> u128
@@ -78,7 +78,7 @@ pub fn size<A: Allocator>(at: u128, statement: &Statement<'_, A>) -> u128
     }
 }
 
-/// The section to which a statement changes.
+// The section to which a statement changes.
 #[tactic(auto, unfolding(crate::specs::Cursors::section_of))]
 #[inline(always)]
 fn section_of<A: Allocator>(statement: &Statement<'_, A>) -> Option<Section>
@@ -105,7 +105,7 @@ impl Cursor {
         }
     }
 
-    /// The cursor behind a statement.
+    /// The cursor after a statement.
     #[tactic(auto, unfolding(crate::specs::Cursors::step, crate::specs::Cursors::IsWithin))]
     #[inline(always)]
     pub fn step<A: Allocator>(self, statement: &Statement<'_, A>) -> Cursor
@@ -128,7 +128,7 @@ impl Cursor {
     }
 }
 
-/// How many statements there are: fewer than 2^61, by their size.
+/// The number of statements: below 2^61, by their size.
 pub fn count_of<A: Allocator>(statements: &[Statement<'_, A>]) -> usize
     ensures value { result ≡ length statements.now }
     ensures small { length statements.now < 2 ^ 61 }
@@ -136,13 +136,13 @@ pub fn count_of<A: Allocator>(statements: &[Statement<'_, A>]) -> usize
     statements.len()
 }
 
-/// The cursor behind all statements.
+/// The cursor after all statements.
 pub fn cursor_after<A: Allocator>(start: Cursor, statements: &[Statement<'_, A>]) -> Cursor
     requires { IsWithin (2 ^ 63) start }
     ensures value { result ≡ cursor_after start statements.now }
     ensures small { (n : ℕ) → IsWithin n start → IsWithin (n + 2 ^ 61) result }
 {
-    // The bound on the statements bounds what the cursor reaches.
+    // The number of statements bounds the cursor.
     let _count = count_of(statements);
     let mut cursor = start;
     'statements: for statement in statements {

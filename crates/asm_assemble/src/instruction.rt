@@ -13,14 +13,14 @@ use asm_parse::{FaultKind, Instruction, Pseudo, Target};
 use isa_table::{BranchOffset, Immediate12, ImmediateOp, Instr, JumpOffset, Reg};
 use std::alloc::Allocator;
 
-/// One or two instructions, one after the other.
+/// One or two consecutive instructions.
 #[derive(Clone, Copy)]
 pub struct Pair {
     pub first: Instr,
     pub second: Option<Instr>,
 }
 
-/// The offset of a branch at an address to a target.
+// The offset of a branch at an address to a target.
 #[tactic(auto, unfolding(crate::specs::Instructions::offset_to))]
 fn branch_to<A: Allocator>(
     symbols: &Symbols<A>,
@@ -34,7 +34,7 @@ fn branch_to<A: Allocator>(
     branch_offset(distance(at, to))
 }
 
-/// The offset of a jump at an address to a target.
+// The offset of a jump at an address to a target.
 #[tactic(auto, unfolding(crate::specs::Instructions::offset_to))]
 fn jump_to<A: Allocator>(
     symbols: &Symbols<A>,
@@ -48,7 +48,7 @@ fn jump_to<A: Allocator>(
     jump_offset(distance(at, to))
 }
 
-/// The instruction that a statement at an address is.
+/// The instruction of a statement at an address.
 #[tactic(auto, unfolding(crate::specs::Instructions::instr_of))]
 pub fn instr_of<A: Allocator>(
     symbols: &Symbols<A>,
@@ -120,7 +120,7 @@ pub fn instr_of<A: Allocator>(
     })
 }
 
-/// `addi rd, rs1, imm`.
+// `addi rd, rs1, imm`.
 fn addi(rd: Reg, rs1: Reg, imm: Immediate12) -> Instr
     ensures { result ≡ addi rd rs1 imm }
 {
@@ -132,14 +132,15 @@ fn addi(rd: Reg, rs1: Reg, imm: Immediate12) -> Instr
     }
 }
 
-/// The immediate of 12 bits that a word is, if it is one.
+// The 12-bit immediate that is sign-extended to a word, if there is one.
 fn short_of(word: u32) -> Option<Immediate12>
     ensures { result ≡ (if is_signed_word 12 word then Some word else None) }
 {
     Immediate12::of_word(word)
 }
 
-/// `li` of a word: an ADDI of 12 signed bits, else a LUI, and an ADDI where the low part isn't 0.
+// `li` of a word: ADDI if it is a 12-bit signed number, else LUI, and ADDI if the low part is not
+// 0.
 #[tactic(auto, unfolding(crate::specs::Instructions::li_pair))]
 fn li_pair(rd: Reg, word: u32) -> Pair
     ensures { result ≡ li_pair rd word }
@@ -163,7 +164,7 @@ fn li_pair(rd: Reg, word: u32) -> Pair
     Pair { first, second }
 }
 
-/// Whether `li` of a word is one instruction.
+// Whether `li` of a word is one instruction.
 #[tactic(auto, unfolding(crate::specs::Instructions::is_short))]
 fn is_short(word: u32) -> bool
     ensures { result ≡ is_short word }
@@ -171,7 +172,7 @@ fn is_short(word: u32) -> bool
     short_of(word).is_some() || low_part(word).word() == 0
 }
 
-/// The two instructions that bring a distance from the first of them to a register.
+// The two instructions that put the target at a distance from the first of them into a register.
 #[tactic(auto, unfolding(crate::specs::Instructions::la_pair))]
 fn la_pair(rd: Reg, d: u32) -> Pair
     ensures { result ≡ la_pair rd d }
@@ -185,7 +186,7 @@ fn la_pair(rd: Reg, d: u32) -> Pair
     }
 }
 
-/// The two instructions that jump by a distance from the first of them, by way of a register.
+// The two instructions that jump by a distance from the first of them, through a register.
 #[tactic(auto, unfolding(crate::specs::Instructions::jump_pair))]
 fn jump_pair(by: Reg, rd: Reg, d: u32) -> Pair
     ensures { result ≡ jump_pair by rd d }
@@ -203,7 +204,7 @@ fn jump_pair(by: Reg, rd: Reg, d: u32) -> Pair
     }
 }
 
-/// The instructions that a pseudo-instruction at an address is.
+/// The instructions of a pseudo-instruction at an address.
 #[tactic(auto, unfolding(crate::specs::Instructions::pair_of, crate::specs::Numbers::is_between))]
 pub fn pair_of<A: Allocator>(
     symbols: &Symbols<A>,
@@ -230,7 +231,7 @@ pub fn pair_of<A: Allocator>(
     }
 }
 
-/// The size of a pseudo-instruction.
+/// The size of a pseudo-instruction in bytes.
 #[tactic(auto, unfolding(crate::specs::Instructions::pseudo_size))]
 pub fn pseudo_size(pseudo: &Pseudo<'_>) -> u128
     ensures value { result ≡ pseudo_size pseudo.now }

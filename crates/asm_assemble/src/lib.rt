@@ -1,4 +1,4 @@
-//! Places statements, values their operands, and makes a program of them.
+//! Places statements, evaluates their operands, and makes a program of them.
 #![tactic(auto)]
 
 pub use laws::{

@@ -1,4 +1,4 @@
-//! Local labels.
+//! Local (numeric) labels.
 ghost use Rattle.std.specs.Prelude.{◌≡◌, ◌++◌, OnOk, List, ℕ};
 ghost use Rattle.asm_assemble.specs.Program.{symbol_list};
 ghost use Rattle.asm_assemble.specs.Operands.{found};
@@ -9,7 +9,7 @@ use crate::table::{Table, look_up, put};
 use asm_parse::{Body, Instruction, Statement, Target};
 use std::alloc::{AllocError, Allocator};
 
-/// Where a local label stands.
+/// The place of a local label.
 #[derive(Clone, Copy, PartialEq, Eq)]
 pub struct Place {
     /// The index of its source, from 0.
@@ -18,10 +18,10 @@ pub struct Place {
     pub address: u32,
 }
 
-/// The last local label of each digits.
+/// The last local label for each digits.
 pub type Places<A> = Table<Place, A>;
 
-/// The address, where the place is in this source.
+/// The address of a place, if it is in this source.
 #[tactic(auto, unfolding(crate::specs::Locals::in_source))]
 pub fn in_source(source: usize, place: Option<Place>) -> Option<u32>
     ensures { result ≡ in_source source place }
@@ -32,7 +32,7 @@ pub fn in_source(source: usize, place: Option<Place>) -> Option<u32>
     }
 }
 
-/// The place of a statement that is a local label, at an address.
+// The place of a local label at an address.
 fn place_of<A: Allocator>(at: u128, statement: &Statement<'_, A>) -> Place
     ensures { result ≡ place_of statement.now.source at }
 {
@@ -42,7 +42,7 @@ fn place_of<A: Allocator>(at: u128, statement: &Statement<'_, A>) -> Place
     }
 }
 
-/// The address of the last local label of these digits, where it is in this source.
+// The address of the last local label with these digits, if it is in this source.
 #[tactic(auto, unfolding(crate::specs::Locals::back_of))]
 fn back_of<A: Allocator>(before: &Places<A>, source: usize, digits: &str) -> Option<u32>
     ensures { result ≡ back_of (symbol_list before.now.entries) source digits.now }
@@ -50,7 +50,7 @@ fn back_of<A: Allocator>(before: &Places<A>, source: usize, digits: &str) -> Opt
     in_source(source, look_up(before, digits))
 }
 
-/// The address of a target that is a local reference. `ahead` is that of one ahead.
+// The address of a target that is a local reference; `ahead` is the address of a forward one.
 #[tactic(auto, unfolding(crate::specs::Ahead::target_by))]
 fn local_target<A: Allocator>(
     before: &Places<A>,
@@ -67,7 +67,7 @@ fn local_target<A: Allocator>(
     }
 }
 
-/// The address of a statement's local reference. `ahead` is that of one ahead.
+/// The address of a statement's local reference; `ahead` is the address of a forward one.
 #[tactic(auto, unfolding(crate::specs::Ahead::local_by))]
 pub fn local_of<A: Allocator>(
     before: &Places<A>,
@@ -85,7 +85,7 @@ pub fn local_of<A: Allocator>(
     }
 }
 
-/// Notes the local label that a statement at an address is.
+/// Records the local label of a statement at an address. Fails when out of memory.
 #[tactic(auto, unfolding(crate::specs::Locals::local_at))]
 pub fn note<A: Allocator + Copy>(
     alloc: A,

@@ -13,7 +13,7 @@ pub fn as_word(number: i64) -> u32
     (number.cast_unsigned() % 0x1_0000_0000) as u32
 }
 
-/// The immediate of 12 bits that a number is.
+/// The 12-bit immediate with a number's value, or `Range`.
 #[tactic(auto, unfolding(crate::specs::Numbers::as_word, crate::specs::Numbers::number12, crate::specs::Numbers::is_between))]
 pub fn number12(number: i64) -> Result<Immediate12, FaultKind>
     ensures { result ≡ number12 number }
@@ -24,7 +24,7 @@ pub fn number12(number: i64) -> Result<Immediate12, FaultKind>
     Ok(Immediate12::extend(as_word(number) % 4096))
 }
 
-/// The immediate of 20 bits that a number is.
+/// The 20-bit immediate with a number's value, or `Range`.
 #[tactic(auto, unfolding(crate::specs::Numbers::as_word, crate::specs::Numbers::number20, crate::specs::Numbers::is_between))]
 pub fn number20(number: i64) -> Result<UpperImmediate, FaultKind>
     ensures { result ≡ number20 number }
@@ -35,7 +35,7 @@ pub fn number20(number: i64) -> Result<UpperImmediate, FaultKind>
     Ok(UpperImmediate::new(as_word(number)))
 }
 
-/// The shift amount that a number is.
+/// The shift amount with a number's value, or `Range`.
 #[tactic(auto, unfolding(crate::specs::Numbers::as_word, crate::specs::Numbers::amount_of, crate::specs::Numbers::is_between))]
 pub fn amount_of(number: i64) -> Result<ShiftAmount, FaultKind>
     ensures { result ≡ amount_of number }
@@ -46,7 +46,7 @@ pub fn amount_of(number: i64) -> Result<ShiftAmount, FaultKind>
     Ok(ShiftAmount::new(as_word(number) as u8))
 }
 
-/// `%hi(v)`: the 20 bits that `%lo(v)` leaves.
+/// `%hi(v)`: the upper 20 bits of a value minus `%lo(v)`.
 #[tactic(auto, unfolding(crate::specs::Numbers::hi))]
 pub fn high_part(word: u32) -> UpperImmediate
     ensures { result ≡ hi word }
@@ -63,7 +63,7 @@ pub fn low_part(word: u32) -> Immediate12
     Immediate12::extend(word % 4096)
 }
 
-/// How far a target lies behind an address, modulo 2^32.
+/// The distance from an address to a target, modulo 2^32.
 #[tactic(auto, unfolding(crate::specs::Numbers::distance))]
 pub fn distance(at: u128, target: u32) -> u32
     ensures { result ≡ distance at target }
@@ -71,7 +71,7 @@ pub fn distance(at: u128, target: u32) -> u32
     ((u128::from(target) + (0x1_0000_0000 - at % 0x1_0000_0000)) % 0x1_0000_0000) as u32
 }
 
-/// The offset of a branch that a word is.
+/// The branch offset of a word, or `BranchRange`.
 #[tactic(auto, unfolding(crate::specs::Numbers::offset_of))]
 pub fn branch_offset(word: u32) -> Result<BranchOffset, FaultKind>
     ensures { result ≡ offset_of 13 word }
@@ -82,7 +82,7 @@ pub fn branch_offset(word: u32) -> Result<BranchOffset, FaultKind>
     }
 }
 
-/// The offset of a jump that a word is.
+/// The jump offset of a word, or `BranchRange`.
 #[tactic(auto, unfolding(crate::specs::Numbers::offset_of))]
 pub fn jump_offset(word: u32) -> Result<JumpOffset, FaultKind>
     ensures { result ≡ offset_of 21 word }

@@ -1,4 +1,4 @@
-//! Operands, valued by the symbols.
+//! The values of operands.
 ghost use Rattle.std.specs.Prelude.{◌≡◌};
 ghost use Rattle.asm_assemble.specs.Program.{symbol_list};
 ghost use Rattle.asm_assemble.specs.Operands.{address_of, defined, symbol_value, value_of, immediate_of, upper_of, target_of};
@@ -18,7 +18,7 @@ pub fn address_of<A: Allocator>(symbols: &Symbols<A>, name: &str) -> Option<u32>
     look_up(symbols, name).map(|symbol| symbol.address)
 }
 
-/// An address that is there.
+// A defined address, or the fault `Undefined`.
 #[tactic(auto, unfolding(crate::specs::Operands::defined))]
 fn defined(address: Option<u32>) -> Result<u32, FaultKind>
     ensures { result ≡ defined address }
@@ -29,7 +29,7 @@ fn defined(address: Option<u32>) -> Result<u32, FaultKind>
     }
 }
 
-/// A value, modulo 2^32.
+/// The value of an operand, modulo 2^32.
 #[tactic(auto, unfolding(crate::specs::Operands::value_of))]
 pub fn value_of<A: Allocator>(symbols: &Symbols<A>, value: &Value<'_>) -> Result<u32, FaultKind>
     ensures { result ≡ value_of (symbol_list symbols.now.entries) value.now }
@@ -40,7 +40,7 @@ pub fn value_of<A: Allocator>(symbols: &Symbols<A>, value: &Value<'_>) -> Result
     }
 }
 
-/// A symbol's address and a number, modulo 2^32.
+/// The sum of a symbol's address and a number, modulo 2^32.
 #[tactic(auto, unfolding(crate::specs::Operands::symbol_value))]
 pub fn symbol_value<A: Allocator>(
     symbols: &Symbols<A>,
@@ -53,7 +53,7 @@ pub fn symbol_value<A: Allocator>(
     Ok(at.wrapping_add(as_word(offset)))
 }
 
-/// An immediate of 12 bits.
+/// The value of a 12-bit immediate.
 #[tactic(auto, unfolding(crate::specs::Operands::immediate_of))]
 pub fn immediate_of<A: Allocator>(
     symbols: &Symbols<A>,
@@ -67,7 +67,7 @@ pub fn immediate_of<A: Allocator>(
     }
 }
 
-/// An immediate of 20 bits.
+/// The value of a 20-bit immediate.
 #[tactic(auto, unfolding(crate::specs::Operands::upper_of))]
 pub fn upper_of<A: Allocator>(
     symbols: &Symbols<A>,
@@ -81,7 +81,7 @@ pub fn upper_of<A: Allocator>(
     }
 }
 
-/// The address of a target; `local` is that of the statement's local reference.
+/// The address of a target; `local` is the address of the statement's local reference.
 #[tactic(auto, unfolding(crate::specs::Operands::target_of))]
 pub fn target_of<A: Allocator>(
     symbols: &Symbols<A>,

@@ -1,4 +1,4 @@
-//! Statements as a program, phase after phase.
+//! Statements to a program, phase by phase.
 ghost use Rattle.std.specs.Prelude.{◌≡◌, ◌≤◌, ◌<◌, ◌+◌, ◌-◌, ◌*◌, ◌^◌};
 ghost use Rattle.asm_parse.specs.Answer.{Gives};
 ghost use Rattle.asm_assemble.specs.Program.{symbol_list, segment_size, IsWithinLimit};
@@ -14,7 +14,7 @@ use crate::valuing::value_all;
 use asm_parse::{AsmFault, Section, Statement};
 use std::alloc::Allocator;
 
-/// The first source's beginning, where data and zeros begin at these addresses.
+// The start of the first source, given the addresses of data and zeros.
 #[tactic(auto, unfolding(crate::specs::Assembled::start_at))]
 fn start_at(data_at: u128, zeros_at: u128) -> Cursor
     ensures { result ≡ start_at data_at zeros_at }
@@ -27,7 +27,7 @@ fn start_at(data_at: u128, zeros_at: u128) -> Cursor
     }
 }
 
-/// Where the data begins.
+// The address of the data.
 #[tactic(auto, unfolding(crate::specs::Assembled::data_base))]
 fn data_base<A: Allocator>(statements: &[Statement<'_, A>]) -> u128
     ensures value { result ≡ data_base statements.now }
@@ -36,7 +36,7 @@ fn data_base<A: Allocator>(statements: &[Statement<'_, A>]) -> u128
     round_up(text_end(statements), 4096)
 }
 
-/// Where the text ends.
+// The end of the text.
 fn text_end<A: Allocator>(statements: &[Statement<'_, A>]) -> u128
     ensures value { result ≡ (cursor_after (start_at 0 0) statements.now).text_at }
     ensures small { result ≤ (2 ^ 61 + 1) * 2 ^ 64 }
@@ -44,7 +44,7 @@ fn text_end<A: Allocator>(statements: &[Statement<'_, A>]) -> u128
     cursor_after(start_at(0, 0), statements).text_at
 }
 
-/// Where the data ends, if it begins there.
+// The end of the data, given its address.
 fn data_end<A: Allocator>(data_at: u128, statements: &[Statement<'_, A>]) -> u128
     requires { data_at ≤ (2 ^ 61 + 2) * 2 ^ 64 }
     ensures value { result ≡ (cursor_after (start_at data_at 0) statements.now).data_at }
@@ -53,7 +53,7 @@ fn data_end<A: Allocator>(data_at: u128, statements: &[Statement<'_, A>]) -> u12
     cursor_after(start_at(data_at, 0), statements).data_at
 }
 
-/// Where the zeros begin, if the data begins there.
+// The address of the zeros, given that of the data.
 #[tactic(auto, unfolding(crate::specs::Assembled::zeros_base))]
 fn zeros_base<A: Allocator>(data_at: u128, statements: &[Statement<'_, A>]) -> u128
     requires { data_at ≤ (2 ^ 61 + 2) * 2 ^ 64 }
@@ -63,7 +63,7 @@ fn zeros_base<A: Allocator>(data_at: u128, statements: &[Statement<'_, A>]) -> u
     round_up(data_end(data_at, statements), 4)
 }
 
-/// Where the three sections begin.
+// The bases of the three sections.
 #[tactic(auto, using(crate::proofs::Within::start_within), unfolding(crate::specs::Assembled::first_cursor))]
 fn first_cursor<A: Allocator>(statements: &[Statement<'_, A>]) -> Cursor
     ensures value { result ≡ first_cursor statements.now }
@@ -73,7 +73,7 @@ fn first_cursor<A: Allocator>(statements: &[Statement<'_, A>]) -> Cursor
     start_at(data_at, zeros_base(data_at, statements))
 }
 
-/// The size of the segment of so many bytes of data and zeros.
+// The size of the segment with this many bytes of data and zeros.
 #[tactic(auto, unfolding(crate::specs::Program::segment_size))]
 fn segment_size(bytes: u128, zeros: u128) -> u128
     requires bytes_small { bytes < 2 ^ 127 }
@@ -87,7 +87,7 @@ fn segment_size(bytes: u128, zeros: u128) -> u128
     }
 }
 
-/// Where a program with these symbols begins.
+// The entry of a program with these symbols.
 #[tactic(auto, unfolding(crate::specs::Assembled::entry_of))]
 fn entry_of<A: Allocator>(symbols: &Symbols<A>) -> u32
     ensures { result ≡ entry_of (symbol_list symbols.now.entries) }
@@ -95,7 +95,7 @@ fn entry_of<A: Allocator>(symbols: &Symbols<A>) -> u32
     address_of(symbols, "_start").unwrap_or(TEXT_BASE)
 }
 
-/// Whether text and data segment are together over the limit.
+// Whether text and data segment are over the limit together.
 #[tactic(auto, unfolding(crate::specs::Assembled::is_too_large, crate::specs::Cursors::IsWithin))]
 fn is_too_large(start: &Cursor, end: &Cursor) -> bool
     requires { IsWithin (2 ^ 62 + 2 ^ 61 + 3) end.now }
@@ -107,7 +107,7 @@ fn is_too_large(start: &Cursor, end: &Cursor) -> bool
     text.saturating_add(segment_size(bytes, zeros)) > u128::from(PROGRAM_LIMIT)
 }
 
-/// The index of the statement at which TooLarge stands.
+// The index of the statement that gets the fault `TooLarge`.
 #[tactic(auto, unfolding(crate::specs::Assembled::heavy_of))]
 fn heavy_of<A: Allocator>(
     start: Cursor,
@@ -125,7 +125,7 @@ fn heavy_of<A: Allocator>(
     }
 }
 
-/// The program of valued sections.
+// The program of these sections.
 #[tactic(auto, unfolding(crate::specs::Assembled::program_of))]
 fn program_of<A: Allocator>(sections: Sections<A>, zeros: u32, symbols: Symbols<A>) -> Program<A>
     requires { IsWithinLimit sections.text_bytes sections.data_bytes zeros }
@@ -141,7 +141,7 @@ fn program_of<A: Allocator>(sections: Sections<A>, zeros: u32, symbols: Symbols<
     }
 }
 
-/// The symbols of statements that stand from one cursor to another, or the first fault of placing them.
+// The symbols of statements between two cursors, or the first fault of placing them.
 fn symbols_of<A: Allocator + Copy>(
     alloc: A,
     start: Cursor,
@@ -158,8 +158,9 @@ fn symbols_of<A: Allocator + Copy>(
     place(alloc, &globals, start, heavy, statements)
 }
 
-/// The program of statements, or the fault that decides: all statements are placed before any operand is valued; in
-/// each phase the earliest statement decides, in a statement the lowest number. After a refusal nothing is kept.
+/// The program of statements, or the fault that counts. All statements are placed before any
+/// operand is evaluated; in each phase the first statement with a fault counts, and of its faults
+/// the lowest number. `Memory` when out of memory.
 #[tactic(auto, unfolding(crate::specs::Assembled::assembled))]
 pub fn assemble_statements<A: Allocator + Copy>(
     alloc: A,
@@ -171,7 +172,8 @@ pub fn assemble_statements<A: Allocator + Copy>(
     let end = cursor_after(start, statements);
     let symbols = symbols_of(alloc, start, &end, statements)?;
     let sections = value_all(alloc, &symbols, start, statements)?;
-    // Placing has seen to it that text and data segment are within the limit, so the zeros fit a word.
+    // Text and data segment were checked to be within the limit, so the number of zeros is below
+    // 2^32.
     let zeros = end.zeros_at.saturating_sub(start.zeros_at) as u32;
     Ok(program_of(sections, zeros, symbols))
 }

@@ -1,4 +1,4 @@
-//! The phase in which statements are placed.
+//! Phase 1: the places of statements.
 ghost use Rattle.std.specs.Prelude.{◌≡◌, ◌^◌, ◌<◌, ◌+◌, OnOk, IfOk, ◌++◌, ◌∷◌, [], List, ℕ, map};
 ghost use Rattle.asm_parse.specs.Answer.{Gives};
 ghost use Rattle.asm_assemble.specs.Program.{symbol_list};
@@ -11,7 +11,7 @@ use crate::table::{Table, add, empty, look_up};
 use asm_parse::{AsmFault, Body, Directive, Fault, FaultKind, Name, Statement};
 use std::alloc::{AllocError, Allocator};
 
-/// Names, each once.
+/// A set of names.
 pub type Names<A> = Table<(), A>;
 
 /// A fault of a statement.
@@ -25,7 +25,7 @@ pub fn at_statement<A: Allocator>(statement: &Statement<'_, A>, kind: FaultKind)
     }
 }
 
-/// The index of a statement, if its size at an address is above 0.
+// The index of a statement, if its size at an address is above 0.
 fn if_sized<A: Allocator>(i: usize, at: u128, statement: &Statement<'_, A>) -> Option<usize>
     requires { at < 2 ^ 127 + 2 ^ 126 }
     ensures { result ≡ if_sized i at statement.now.body }
@@ -42,7 +42,7 @@ pub fn last_sized<A: Allocator>(start: Cursor, statements: &[Statement<'_, A>]) 
     requires { IsWithin (2 ^ 63) start }
     ensures { result ≡ last_sized 0 start statements.now }
 {
-    // The bound on the statements bounds what the cursor reaches.
+    // The number of statements bounds the cursor.
     let _count = count_of(statements);
     let mut cursor = start;
     let mut last = None;
@@ -53,7 +53,7 @@ pub fn last_sized<A: Allocator>(start: Cursor, statements: &[Statement<'_, A>]) 
     last
 }
 
-/// The fault of a statement at an address, apart from the size of all.
+// The fault of a statement at an address, apart from the size of all.
 #[tactic(auto, unfolding(crate::specs::Placing::own_fault))]
 fn own_fault<A: Allocator>(
     symbols: &Symbols<A>,
@@ -70,7 +70,7 @@ fn own_fault<A: Allocator>(
     }
 }
 
-/// The lowest fault of a statement when it is placed. `heavy` says that TooLarge stands here.
+// The lowest fault of a statement when it is placed; `heavy` says that it gets `TooLarge`.
 #[tactic(auto, unfolding(crate::specs::Placing::place_fault))]
 fn place_fault<A: Allocator>(
     symbols: &Symbols<A>,
@@ -87,7 +87,7 @@ fn place_fault<A: Allocator>(
     }
 }
 
-/// Adds the names that aren't there.
+// Adds the names that are not in the set.
 #[tactic(auto, unfolding(crate::specs::Placing::with_names))]
 fn add_names<A: Allocator + Copy>(
     alloc: A,
@@ -106,7 +106,7 @@ fn add_names<A: Allocator + Copy>(
     Ok(())
 }
 
-/// Adds the names that a statement makes global.
+// Adds the names that a statement makes global.
 #[tactic(auto, unfolding(crate::specs::Placing::with_globals))]
 fn add_globals<A: Allocator + Copy>(
     alloc: A,
@@ -122,7 +122,7 @@ fn add_globals<A: Allocator + Copy>(
     }
 }
 
-/// The names that statements make global.
+/// The names that statements make global. Fails when out of memory.
 #[tactic(auto, unfolding(crate::specs::Placing::globals_from))]
 pub fn globals_of<A: Allocator + Copy>(
     alloc: A,
@@ -137,7 +137,7 @@ pub fn globals_of<A: Allocator + Copy>(
     Ok(names)
 }
 
-/// Adds the symbol that a statement defines.
+// Adds the symbol that a statement defines.
 #[tactic(auto, unfolding(crate::specs::Placing::symbols_at, crate::specs::Placing::IsNew))]
 fn define<A: Allocator + Copy>(
     alloc: A,
@@ -162,7 +162,7 @@ fn define<A: Allocator + Copy>(
     add(alloc, symbols, name.as_str(), symbol)
 }
 
-/// Whether an index is this one.
+// Whether an index is this one.
 fn is_at(heavy: Option<usize>, i: usize) -> bool
     ensures { result ≡ is_at heavy i }
 {
@@ -185,7 +185,7 @@ pub fn place<A: Allocator + Copy>(
         (placing (symbol_list globals.now.entries) [] heavy 0 start statements.now) }
 {
     let mut symbols = empty(alloc);
-    // The bound on the statements bounds what the cursor reaches.
+    // The number of statements bounds the cursor.
     let _count = count_of(statements);
     let mut cursor = start;
     'statements: for (i, statement) in statements.iter().enumerate() {

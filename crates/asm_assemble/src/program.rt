@@ -10,7 +10,7 @@ use std::marker::Model;
 /// The address of the first byte of the text.
 pub const TEXT_BASE: u32 = 0x0001_0000;
 
-/// The most bytes that text and data segment may have together.
+/// The largest size of text and data segment together, in bytes.
 pub const PROGRAM_LIMIT: u32 = 0x0100_0000;
 
 /// A symbol of a program.
@@ -20,7 +20,7 @@ pub struct Symbol {
     pub section: Section,
     /// Its address.
     pub address: u32,
-    /// Whether `.globl` names it.
+    /// Whether `.globl` declares it.
     pub global: bool,
 }
 
@@ -29,8 +29,9 @@ pub type Symbols<A> = IndexMap<String<A>, Symbol, BuildHasherDefault<FoldHasher>
 
 /// An assembled program.
 ///
-/// The text begins at `TEXT_BASE`, the data at the next multiple of 4096 after it, the zeros at the next multiple of 4
-/// after the data. Text and data segment have together at most `PROGRAM_LIMIT` bytes.
+/// The text begins at `TEXT_BASE`, the data at the next multiple of 4096 after it, the zeros at the
+/// next multiple of 4 after the data. Text and data segment have at most `PROGRAM_LIMIT` bytes
+/// together.
 #[derive(Drop)]
 pub struct Program<A: Allocator> {
     pub(crate) text: Vec<u8, A>,
@@ -75,7 +76,7 @@ impl<A: Allocator> Program<A> {
         &self.bytes
     }
 
-    /// How many zero bytes stand after the data.
+    /// The number of zero bytes after the data.
     pub fn zeros(&self) -> u32
         ensures value { result ≡ self.now.zeros }
         ensures within { IsWithinLimit self.now.text self.now.bytes self.now.zeros }
@@ -90,7 +91,7 @@ impl<A: Allocator> Program<A> {
         &self.symbols
     }
 
-    /// The address of the first instruction: that of `_start`, else `TEXT_BASE`.
+    /// The address of the first instruction: that of `_start` if it is defined, else `TEXT_BASE`.
     pub fn entry(&self) -> u32
         ensures { result ≡ self.now.entry }
     {

@@ -17,12 +17,12 @@ use isa_encode::encode;
 use isa_table::Instr;
 use std::alloc::{AllocError, Allocator};
 
-/// Why the bytes of a statement can't be made.
+/// The reason why a statement gives no bytes.
 #[derive(Clone, Copy)]
 pub enum PushFault {
-    /// An operand has no value, or one out of range.
+    /// An operand has no value, or one that is out of range.
     Kind(FaultKind),
-    /// The host refused memory.
+    /// Out of memory.
     Memory,
 }
 
@@ -42,7 +42,7 @@ impl From<FaultKind> for PushFault {
     }
 }
 
-/// Adds the bytes of an instruction.
+// Appends the bytes of an instruction.
 #[tactic(auto, unfolding(crate::specs::Valuing::instr_bytes))]
 fn push_instr<A: Allocator>(out: &mut Vec<u8, A>, instr: &Instr) -> Result<(), AllocError>
     ensures { OnOk result (out.new.items ≡ out.old.items ++ instr_bytes instr.now) }
@@ -50,7 +50,7 @@ fn push_instr<A: Allocator>(out: &mut Vec<u8, A>, instr: &Instr) -> Result<(), A
     out.extend_from_slice(&encode(instr).to_le_bytes())
 }
 
-/// Adds the bytes of one or two instructions.
+// Appends the bytes of one or two instructions.
 #[tactic(auto, unfolding(crate::specs::Valuing::pair_bytes))]
 fn push_pair<A: Allocator>(out: &mut Vec<u8, A>, pair: &Pair) -> Result<(), AllocError>
     ensures { OnOk result (out.new.items
@@ -63,7 +63,7 @@ fn push_pair<A: Allocator>(out: &mut Vec<u8, A>, pair: &Pair) -> Result<(), Allo
     }
 }
 
-/// Adds zero bytes.
+// Appends zero bytes.
 fn push_zeros<A: Allocator>(out: &mut Vec<u8, A>, count: u64) -> Result<(), AllocError>
     ensures { OnOk result (out.new.items ≡ out.old.items ++ replicate count 0) }
 {
@@ -73,7 +73,7 @@ fn push_zeros<A: Allocator>(out: &mut Vec<u8, A>, count: u64) -> Result<(), Allo
     Ok(())
 }
 
-/// Adds NOPs.
+// Appends NOPs.
 #[tactic(auto, unfolding(crate::specs::Valuing::nops))]
 fn push_nops<A: Allocator>(out: &mut Vec<u8, A>, count: u64) -> Result<(), AllocError>
     ensures { OnOk result (out.new.items ≡ out.old.items ++ nops count) }
@@ -84,7 +84,7 @@ fn push_nops<A: Allocator>(out: &mut Vec<u8, A>, count: u64) -> Result<(), Alloc
     Ok(())
 }
 
-/// Adds what fills so many bytes of a section.
+// Appends padding in a section.
 #[tactic(auto, unfolding(crate::specs::Valuing::padding))]
 fn push_padding<A: Allocator>(
     out: &mut Vec<u8, A>,
@@ -102,7 +102,7 @@ fn push_padding<A: Allocator>(
     }
 }
 
-/// Whether a number, if it is one, fits a word.
+// Whether a value fits a word, if it is a number.
 #[tactic(auto, unfolding(crate::specs::Valuing::fits_word, crate::specs::Numbers::is_between))]
 fn fits_word(value: &Value<'_>) -> bool
     ensures { result ≡ fits_word value.now }
@@ -113,7 +113,7 @@ fn fits_word(value: &Value<'_>) -> bool
     }
 }
 
-/// Whether all numbers fit words.
+// Whether all numbers fit words.
 fn fit_words(values: &[Value<'_>]) -> bool
     ensures { result ≡ list_all fits_word values.now }
 {
@@ -125,7 +125,7 @@ fn fit_words(values: &[Value<'_>]) -> bool
     true
 }
 
-/// Whether a number fits a halfword.
+// Whether a number fits a halfword.
 #[tactic(auto, unfolding(crate::specs::Numbers::is_between))]
 fn fits_half(number: i64) -> bool
     ensures { result ≡ is_between (2 ^ 15) (2 ^ 16) number }
@@ -133,7 +133,7 @@ fn fits_half(number: i64) -> bool
     -0x8000 <= number && number < 0x1_0000
 }
 
-/// Whether all numbers fit halfwords.
+// Whether all numbers fit halfwords.
 fn fit_halves(numbers: &[i64]) -> bool
     ensures { result ≡ list_all (is_between (2 ^ 15) (2 ^ 16)) numbers.now }
 {
@@ -145,7 +145,7 @@ fn fit_halves(numbers: &[i64]) -> bool
     true
 }
 
-/// Whether a number fits a byte.
+// Whether a number fits a byte.
 #[tactic(auto, unfolding(crate::specs::Numbers::is_between))]
 fn fits_byte(number: i64) -> bool
     ensures { result ≡ is_between (2 ^ 7) (2 ^ 8) number }
@@ -153,7 +153,7 @@ fn fits_byte(number: i64) -> bool
     -0x80 <= number && number < 0x100
 }
 
-/// Whether all numbers fit bytes.
+// Whether all numbers fit bytes.
 fn fit_bytes(numbers: &[i64]) -> bool
     ensures { result ≡ list_all (is_between (2 ^ 7) (2 ^ 8)) numbers.now }
 {
@@ -165,7 +165,7 @@ fn fit_bytes(numbers: &[i64]) -> bool
     true
 }
 
-/// Adds the words of values.
+// Appends the words of values.
 #[tactic(auto, unfolding(crate::specs::Valuing::word_list, crate::specs::Valuing::appended, crate::specs::Valuing::Pushes))]
 fn push_words<A: Allocator>(
     out: &mut Vec<u8, A>,
@@ -185,7 +185,7 @@ fn push_words<A: Allocator>(
     Ok(())
 }
 
-/// Adds the halfwords of numbers.
+// Appends the halfwords of numbers.
 #[tactic(auto, unfolding(crate::specs::Valuing::half_list))]
 fn push_halves<A: Allocator>(out: &mut Vec<u8, A>, numbers: &[i64]) -> Result<(), AllocError>
     ensures { OnOk result (out.new.items ≡ out.old.items ++ half_list numbers.now) }
@@ -197,7 +197,7 @@ fn push_halves<A: Allocator>(out: &mut Vec<u8, A>, numbers: &[i64]) -> Result<()
     Ok(())
 }
 
-/// Adds the bytes of numbers.
+// Appends the bytes of numbers.
 #[tactic(auto, unfolding(crate::specs::Valuing::byte_list))]
 fn push_bytes<A: Allocator>(out: &mut Vec<u8, A>, numbers: &[i64]) -> Result<(), AllocError>
     ensures { OnOk result (out.new.items ≡ out.old.items ++ byte_list numbers.now) }
@@ -208,7 +208,7 @@ fn push_bytes<A: Allocator>(out: &mut Vec<u8, A>, numbers: &[i64]) -> Result<(),
     Ok(())
 }
 
-/// Adds the bytes of a directive at an address in a section.
+// Appends the bytes of a directive at an address in a section.
 #[tactic(auto, unfolding(crate::specs::Valuing::directive_bytes, crate::specs::Valuing::where_fits, crate::specs::Valuing::appended, crate::specs::Valuing::Pushes, crate::specs::Cursors::directive_size))]
 fn push_directive<A: Allocator>(
     out: &mut Vec<u8, A>,
@@ -248,7 +248,8 @@ fn push_directive<A: Allocator>(
     Ok(())
 }
 
-/// Adds the bytes of a statement at an address in a section. `local` is the address of its local reference.
+/// Appends the bytes of a statement at an address in a section; `local` is the address of its local
+/// reference.
 #[tactic(auto, unfolding(crate::specs::Valuing::bytes_of, crate::specs::Valuing::appended, crate::specs::Valuing::Pushes))]
 pub fn push_statement<A: Allocator>(
     out: &mut Vec<u8, A>,

@@ -11,7 +11,7 @@ use asm_parse::{Section, Statement};
 use std::alloc::Allocator;
 use std::marker::Model;
 
-/// The bytes of the sections, as far as statements are valued.
+/// The bytes of the sections, of the statements evaluated so far.
 #[derive(Drop)]
 pub struct Sections<A: Allocator> {
     pub text: Vec<u8, A>,
@@ -27,7 +27,7 @@ impl<A: Allocator> Model for Sections<A> {
 }
 
 impl<A: Allocator + Copy> Sections<A> {
-    /// Sections of no bytes.
+    /// Sections without bytes.
     pub fn new(alloc: A) -> Sections<A>
         ensures { result ≡ no_bytes }
     {
@@ -39,7 +39,8 @@ impl<A: Allocator + Copy> Sections<A> {
 }
 
 impl<A: Allocator> Sections<A> {
-    /// Adds the bytes of a statement at the cursor. `local` is the address of its local reference.
+    /// Appends the bytes of a statement at the cursor; `local` is the address of its local
+    /// reference.
     #[tactic(auto, using(crate::proofs::Pushed::in_text, crate::proofs::Pushed::in_data, crate::proofs::Pushed::in_zeros), unfolding(crate::specs::Valuing::bytes_in))]
     pub fn push(
         &mut self,

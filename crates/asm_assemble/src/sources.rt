@@ -1,4 +1,4 @@
-//! Sources as a program.
+//! Sources to a program.
 ghost use Rattle.std.specs.Prelude.{◌≡◌, IfOk, IfErr};
 ghost use Rattle.asm_parse.specs.Answer.{Gives};
 ghost use Rattle.asm_parse.specs.Statements.{texts_of};
@@ -11,11 +11,11 @@ use crate::program::Program;
 use asm_parse::{AsmFault, statements};
 use std::alloc::Allocator;
 
-/// The program of sources, or the fault that decides.
+/// The program of sources, or the fault that counts.
 ///
-/// All sources are read, then all statements are placed, then all operands are valued: the first of these phases with a
-/// fault decides, in it the earliest statement, in a statement the lowest number. `Memory` is answered where the
-/// allocator refuses. After a refusal nothing is kept.
+/// All sources are parsed, then all statements are placed, then all operands are evaluated. The
+/// first of these phases with a fault counts, in it the first statement with one, and of its faults
+/// the lowest number. `Memory` when out of memory.
 #[tactic(auto, using(crate::proofs::PlacedSources::is_program, crate::proofs::PlacedSources::no_program, crate::proofs::PlacedSources::unread_has_no_program), unfolding(crate::specs::Sources::assembled_texts))]
 pub fn assemble<A: Allocator + Copy>(alloc: A, sources: &[&str]) -> Result<Program<A>, AsmFault>
     ensures value { Gives (λ program. program) result (assembled_texts (texts_of sources.now)) }

@@ -7,10 +7,10 @@ use indexmap::IndexMap;
 use std::alloc::{AllocError, Allocator};
 use std::hash::{BuildHasherDefault, FoldHasher};
 
-/// What stands under names, in the order in which they came.
+/// Values by name, in order of insertion.
 pub type Table<V, A> = IndexMap<String<A>, V, BuildHasherDefault<FoldHasher>, A>;
 
-/// A table with nothing in it.
+/// An empty table.
 #[tactic(auto, unfolding(crate::specs::Program::symbol_list))]
 pub fn empty<V, A: Allocator + Copy>(alloc: A) -> Table<V, A>
     ensures { symbol_list result.entries ≡ [] }
@@ -18,14 +18,14 @@ pub fn empty<V, A: Allocator + Copy>(alloc: A) -> Table<V, A>
     IndexMap::new(alloc)
 }
 
-/// What stands under a name.
+/// The value of a name.
 pub fn look_up<V: Copy, A: Allocator>(table: &Table<V, A>, name: &str) -> Option<V>
     ensures { result ≡ found (symbol_list table.now.entries) name.now }
 {
     table.get(name).copied()
 }
 
-/// Adds what stands under a new name.
+/// Adds a new name with its value. Fails when out of memory.
 pub fn add<V: Copy, A: Allocator + Copy>(
     alloc: A,
     table: &mut Table<V, A>,
@@ -40,7 +40,7 @@ pub fn add<V: Copy, A: Allocator + Copy>(
     Ok(())
 }
 
-/// Puts what stands under a name, in the place of what stood there.
+/// Sets the value of a name; an earlier one is replaced. Fails when out of memory.
 pub fn put<V: Copy, A: Allocator + Copy>(
     alloc: A,
     table: &mut Table<V, A>,

@@ -1,4 +1,4 @@
-//! The phase in which operands are valued.
+//! Phase 2: the values of operands.
 ghost use Rattle.std.specs.Prelude.{◌≡◌, ◌^◌, ◌<◌, ◌+◌, []};
 ghost use Rattle.asm_parse.specs.Answer.{Gives};
 ghost use Rattle.asm_assemble.specs.Program.{symbol_list};
@@ -28,7 +28,7 @@ pub fn value_all<A: Allocator + Copy>(
     ensures { Gives (λ sections. sections) result
         (valuing (symbol_list symbols.now.entries) [] no_bytes start statements.now) }
 {
-    // The bound on the statements bounds what the cursor reaches.
+    // The number of statements bounds the cursor.
     let _count = count_of(statements);
     let mut sections = Sections::new(alloc);
     let mut aheads = aheads_of(alloc, start, statements)?;

@@ -1,4 +1,4 @@
--- What is read is in the grammar.
+-- A text's reading is in the grammar.
 use Rattle.std.proofs.Common.{◌≡◌, ℕ, zero, suc, ◌+◌, ◌-◌, ◌<◌, ◌≤◌, Bool, true, false, cond, List, [], ◌∷◌, length, take, drop, Option, Some, None, refl, sym, ap, subst, ◌∙◌, arith, one-add, add-zero, inl, inr, length-take, length-take-le, take-append-drop, get_or-take}
 use Rattle.std.specs.Prelude.{Result, Ok, Err, IfOk}
 use Rattle.asm_lex.specs.declared.fault.TextFault.{TextFault}
@@ -20,7 +20,7 @@ use Rattle.asm_lex.specs.Pieces.{front, sign_of, run_of_names, comment_len, clos
 use Rattle.asm_lex.specs.Reading.{Reading, whole, stopped, answer, answer_of, behind, with_piece, reading}
 use Rattle.asm_lex.specs.Grammar.{IsSign, IsComment, IsRun, StopsBefore, is_in_line, IsLexeme, Reads, Ended, Blank, Comment, Lexed}
 
--- what a piece at the front says
+-- the properties of a piece at the front
 abbrev pub IsGap : List ℕ → ℕ → Type 0
 IsGap text n = ((n ≡ 1) × (is_blank (slice_index text 0) ≡ true)) ⊎ IsComment (take n text) (drop n text)
 
@@ -208,7 +208,7 @@ answered_whole ts us (Some f) e = absurd cc
 pub given : (bytes : List ℕ) (ts : List Token) → answer (reading 0 0 bytes) ≡ Ok ts → Reads 0 bytes ts
 given bytes ts e = let r = reading 0 0 bytes in reads bytes ts (answered_whole ts r.tokens r.fault e)
 
--- a result that answers the reading answers what the grammar reads
+-- a result that equals the reading is what the grammar reads
 pub given_by : {V : Type 0} (items : V → List Token) (r : Result V TextFault) (text : List ℕ) → IfOk r (λ v. answer (reading 0 0 text) ≡ Ok (items v)) → IfOk r (λ v. Reads 0 text (items v))
 given_by items (Ok v) text h = given text (items v) h
 given_by items (Err f) text h = tt

@@ -1,4 +1,4 @@
--- Reading lexemes on behind a piece.
+-- Reading lexemes on after a piece.
 use Rattle.std.proofs.Common.{◌≡◌, ℕ, zero, suc, ◌+◌, ◌-◌, ◌<◌, ◌≤◌, List, [], ◌∷◌, length, take, drop, true, refl, ap, ◌∙◌, arith, length-drop}
 use Rattle.std.proofs.lemmas.List.{drop-drop, drop_all, drop_more}
 use Rattle.asm_lex.specs.declared.lexeme.Lexeme as program
@@ -23,7 +23,7 @@ unfolding lexed
 stepped [] lt = absurd (omega arith)
 stepped (b ∷ bs) lt = refl
 
--- and then behind it
+-- and then after it
 behind_piece : (n : ℕ) (bytes : List ℕ) → 0 < n → n ≤ length bytes → lexed (n - 1) (drop 1 bytes) ≡ lexed 0 (drop n bytes)
 behind_piece n [] pos le = absurd (omega arith)
 behind_piece zero (b ∷ bs) pos le = absurd (omega arith)

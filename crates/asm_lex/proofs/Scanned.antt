@@ -6,7 +6,7 @@ use Rattle.std.proofs.lemmas.Bool.{cases_lt, ne_eqb, lt-ltb, le-ltb}
 use Rattle.std.proofs.Math.Nat.{mul-le-mul_left}
 use Rattle.asm_lex.specs.Numbers.{digit_of, value_after, number_in, number_of}
 
--- the value behind the digits so far
+-- the value after the digits so far
 abbrev pub scanned : ℕ → ℕ → List ℕ → Option ℕ
 scanned base n [] = Some n
 scanned base n (b ∷ bs) =

@@ -1,4 +1,4 @@
--- The tokens' bytes don't depend on where they stand.
+-- The tokens' bytes do not depend on their places.
 use Rattle.std.proofs.Common.{◌≡◌, ℕ, zero, suc, ◌+◌, ◌-◌, List, [], ◌∷◌, ◌++◌, length, take, drop, refl, ap, ◌∙◌, arith, append_assoc, length-append}
 use Rattle.std.proofs.lemmas.List.{drop_at}
 use Rattle.asm_lex.specs.declared.token.Kind.{Kind}

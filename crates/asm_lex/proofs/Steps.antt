@@ -1,4 +1,4 @@
--- Reading on behind a piece.
+-- Reading on after a piece.
 use Rattle.std.proofs.Common.{◌≡◌, ℕ, zero, suc, ◌+◌, ◌-◌, ◌<◌, ◌≤◌, List, [], ◌∷◌, ◌++◌, length, drop, Some, None, refl, sym, ap, ◌∙◌, arith, add-zero, append_assoc, length-drop}
 use Rattle.std.proofs.lemmas.List.{drop-drop, drop_all, append-nil}
 use Rattle.asm_lex.specs.declared.token.Kind.{Kind}
@@ -25,7 +25,7 @@ unfolding reading
 stepped at [] lt = absurd (omega arith)
 stepped at (b ∷ bs) lt = refl
 
--- and then behind it
+-- and then after it
 pub behind_piece : (at n : ℕ) (bytes : List ℕ) → 0 < n → n ≤ length bytes → reading (n - 1) (at + 1) (drop 1 bytes) ≡ reading 0 (at + n) (drop n bytes)
 behind_piece at n [] pos le = absurd (omega arith)
 behind_piece at zero (b ∷ bs) pos le = absurd (omega arith)

@@ -1,4 +1,4 @@
--- A text that reads by the grammar is read so.
+-- A text that the grammar reads is read the same way.
 use Rattle.std.proofs.Common.{◌≡◌, ℕ, suc, ◌+◌, ◌-◌, ◌<◌, Bool, true, false, List, [], ◌∷◌, ◌++◌, length, take, drop, Result, Ok, Err, refl, sym, ap, ◌∙◌, arith, length-append, one-add, true≢false, eqb, inl, inr}
 use Rattle.std.specs.Prelude.{◌≢◌, IfErr}
 use Rattle.std.specs.List.{prefix_len}
@@ -28,11 +28,11 @@ run_len p (x ∷ run) rest h =
 tail_run : (p : ℕ → Bool) (x : ℕ) (run rest : List ℕ) → IsRun p (x ∷ run) rest → IsRun p run rest
 tail_run p x run rest h = record { each = λ i lt. h.each (suc i) (omega arith); stops = h.stops }
 
--- a byte that passes a test is none that doesn't
+-- a byte that passes a test is none that does not
 differs : (p : ℕ → Bool) (b k : ℕ) → p b ≡ true → p k ≡ false → eqb b k ≡ false
 differs p b k passes other = ne_eqb b k (λ e. true≢false (sym passes ∙ (ap p e ∙ other)))
 
--- what stands at the front where a name byte does
+-- the piece at the front of a text that begins with a name byte
 pub word_front : (word rest : List ℕ) → 0 < length word → IsRun is_name_byte word rest → front (word ++ rest) ≡ word_piece word
 unfolding front run_of_names
 word_front [] rest pos run = absurd (omega arith)
@@ -79,7 +79,7 @@ blank_front : (b : ℕ) (rest : List ℕ) → is_blank b ≡ true → front (b �
 unfolding front
 blank_front b rest h = rw h refl
 
--- behind a piece of that length
+-- after a piece of that length
 goes_behind : (at : ℕ) (word rest : List ℕ) → 0 < length word → reading (length word - 1) (at + 1) (drop 1 (word ++ rest)) ≡ reading 0 (at + length word) rest
 goes_behind at word rest pos = behind_piece at (length word) (word ++ rest) pos (omega (arith, length-append word rest)) ∙ ap (reading 0 (at + length word)) (drop_at word rest (length word) refl)
 
@@ -105,7 +105,7 @@ done ts = Ok ts
 ok_is_no_fault : (ts : List Token) (f : TextFault) → done ts ≡ Err f → ⊥
 ok_is_no_fault ts f e = absurd cc
 
--- where the answer is a list, a fault is want of memory
+-- where the expected answer is a list, the only fault is out of memory
 pub only_memory : (text : List ℕ) (ts : List Token) (fault : TextFault) → (fault ≢ faults.Memory → answer (reading 0 0 text) ≡ Err fault) → Reads 0 text ts → fault ≡ faults.Memory
 only_memory text ts faults.Memory gives r = refl
 only_memory text ts (faults.BadChar at) gives r = absurd (ok_is_no_fault ts _ (sym (answers text ts r) ∙ gives (λ e. cc)))

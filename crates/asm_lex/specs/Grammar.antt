@@ -9,7 +9,7 @@ use Rattle.asm_lex.specs.Numbers.{number_of}
 use Rattle.asm_lex.specs.Pieces.{reference_of, closing, sign_of}
 use Rattle.asm_lex.specs.declared.piece.Piece.TheVariants as pieces
 
--- a run of bytes that pass, which the next byte doesn't continue
+-- a run of bytes that pass the test, up to the first byte that does not
 abbrev pub StopsBefore : (ℕ → Bool) → List ℕ → Type 0
 StopsBefore passes [] = Unit {0}
 StopsBefore passes (b ∷ bs) = passes b ≡ false
@@ -41,7 +41,7 @@ IsLexeme kinds.Ahead word rest = (0 < length word) × (is_digit (slice_index wor
 IsLexeme kinds.Text word rest = (n : ℕ) × (length word ≡ n + 2) × (slice_index word 0 ≡ 34) × (closing false (drop 1 (word ++ rest)) ≡ Some n)
 IsLexeme sign word rest = IsSign sign word
 
--- `#` and what follows it in its line
+-- `#` and the rest of its line
 abbrev pub IsComment : List ℕ → List ℕ → Type 0
 IsComment comment rest = (0 < length comment) × (slice_index comment 0 ≡ 35) × IsRun is_in_line comment rest
 

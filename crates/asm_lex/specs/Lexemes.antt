@@ -1,4 +1,4 @@
--- Tokens by their bytes, without where they stand: what the statements of a text are a function of.
+-- Tokens by their bytes, without their places: the statements of a text are a function of them.
 use Rattle.std.specs.Prelude.{ℕ, zero, suc, ◌≡◌, ◌-◌, ◌<◌, ◌≤◌, List, [], ◌∷◌, map, length, take, drop, Bool, true, false, Option, Some, None}
 use Rattle.asm_lex.specs.declared.lexeme.Lexeme as l
 use Rattle.asm_lex.specs.declared.lexeme.Lexeme.TheVariants as lexemes
@@ -30,7 +30,7 @@ pub data Lexeme : Type 0 where
   Other : ℕ → Lexeme
   LineEnd : Lexeme
 
--- a lexeme of the program, without where its bytes lie in memory
+-- a lexeme of the code, without the address of its bytes
 abbrev pub seen : l.Lexeme → Lexeme
 seen (lexemes.Name text) = Word text.now
 seen (lexemes.Number n text) = Number n text.now
@@ -89,7 +89,7 @@ abbrev pub is_none : Option TextFault → Bool
 is_none None = true
 is_none (Some f) = false
 
--- what was read, by its bytes
+-- the lexemes of a reading
 abbrev pub lexed_of : List ℕ → Reading → Lexed
 lexed_of source r = record { lexemes = lexemes_in source r.tokens; whole = is_none r.fault }
 
@@ -112,7 +112,7 @@ lexed inside [] = record { lexemes = []; whole = true }
 lexed (suc inside) (b ∷ bs) = lexed inside bs
 lexed zero (b ∷ bs) = by_piece (front (b ∷ bs)) (b ∷ bs) (λ n. lexed (n - 1) bs)
 
--- the lexemes from a place on are this one and those from where the rest begins; or none, or none before a fault
+-- the next item at an offset: a lexeme and the offset after it, the end, or a fault
 abbrev pub IsNext : List ℕ → ℕ → Next → Type 0
 IsNext source from (nexts.Lexeme l end) =
     (from < end) × (end ≤ length source) × (lexed 0 (drop from source) ≡ with_lexeme (seen l) (lexed 0 (drop end source)))

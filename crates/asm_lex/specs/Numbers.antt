@@ -10,18 +10,18 @@ digit_of b =
     else (if nat_le 65 b && nat_le b 70 then b - 65 + 10
     else 16))
 
--- what the digits are worth, behind the value of those before them
+-- the value of the digits, after the value of those before them
 abbrev pub value_after : ℕ → ℕ → List ℕ → ℕ
 value_after base before digits = fold (λ n b. n * base + digit_of b) before digits
 
--- some digits of the base, worth less than 2^32
+-- at least one digit of the base, with a value below 2^32
 unfoldable pub number_in : ℕ → List ℕ → Option ℕ
 number_in base digits =
     if nat_lt 0 (length digits) && list_all (λ b. nat_lt (digit_of b) base) digits && nat_lt (value_after base 0 digits) 4294967296
     then Some (value_after base 0 digits)
     else None
 
--- `0x` and `0b` begin hexadecimal and binary numbers, another 0 with digits behind it an octal one
+-- `0x` and `0b` begin hexadecimal and binary numbers, another 0 before digits an octal one
 unfoldable pub number_of : List ℕ → Option ℕ
 number_of [] = number_in 10 []
 number_of (a ∷ []) = number_in 10 (a ∷ [])

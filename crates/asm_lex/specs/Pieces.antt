@@ -1,4 +1,4 @@
--- What stands at the front of a text.
+-- The first piece of a text.
 use Rattle.std.specs.Prelude.{ℕ, suc, ◌<◌, ◌≤◌, slice_index, take, ◌+◌, ◌-◌, Bool, false, not, ◌&&◌, ◌==◌, nat_lt, if◌then◌else◌, List, [], ◌∷◌, Option, Some, None, length}
 use Rattle.std.specs.List.{prefix_len, list_all}
 use Rattle.std.specs.Option.{option_map}
@@ -25,11 +25,11 @@ sign_of b =
 unfoldable pub run_of_names : List ℕ → ℕ
 run_of_names text = prefix_len is_name_byte text
 
--- a comment goes on to the end of its line
+-- a comment extends to the end of its line
 unfoldable pub comment_len : List ℕ → ℕ
 comment_len text = prefix_len (λ b. not (b == 10)) text
 
--- how many bytes stand before the quote that closes a string; a backslash takes the next byte with it
+-- the number of bytes before the closing quote; a backslash escapes the next byte
 unfoldable pub closing : Bool → List ℕ → Option ℕ
 closing escaped [] = None
 closing escaped (b ∷ bs) =
@@ -37,7 +37,7 @@ closing escaped (b ∷ bs) =
     else (if b == 34 && not escaped then Some 0
     else option_map suc (closing (b == 92 && not escaped) bs))
 
--- decimal digits with `b` or `f` behind them
+-- decimal digits followed by `b` or `f`
 unfoldable pub reference_of : List ℕ → Piece
 reference_of word =
     let digits = length word - 1 in
@@ -54,17 +54,17 @@ number_piece word None = reference_of word
 unfoldable pub word_piece : List ℕ → Piece
 word_piece word = if is_digit (slice_index word 0) then number_piece word (number_of word) else Lexeme Name (length word)
 
--- a string whose closing quote is that far behind the opening one
+-- a string whose closing quote is this far after the opening one
 abbrev pub text_piece : Option ℕ → Piece
 text_piece None = OpenText
 text_piece (Some n) = Lexeme Text (n + 2)
 
--- CR is the beginning of a line end, and nothing else
+-- CR only begins a line end
 abbrev pub return_piece : List ℕ → Piece
 return_piece [] = BadChar
 return_piece (b ∷ bs) = if b == 10 then Lexeme LineEnd 2 else BadChar
 
--- the piece at the front of a text that isn't empty
+-- the first piece of a text that is not empty
 unfoldable pub front : List ℕ → Piece
 front [] = BadChar
 front (b ∷ bs) =
@@ -77,7 +77,7 @@ front (b ∷ bs) =
     else (if is_printable b then Lexeme (sign_of b) 1
     else BadChar))))))
 
--- the piece has some of so many bytes
+-- the piece has at least one and at most this many bytes
 abbrev pub TakesSomeOf : ℕ → Piece → Type 0
 TakesSomeOf len (Gap n) = (0 < n) × (n ≤ len)
 TakesSomeOf len (Lexeme kind n) = (0 < n) × (n ≤ len)

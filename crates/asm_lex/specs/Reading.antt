@@ -7,24 +7,24 @@ use Rattle.asm_lex.specs.declared.piece.Piece.{Piece}
 use Rattle.asm_lex.specs.declared.piece.Piece.TheVariants as pieces
 use Rattle.asm_lex.specs.Pieces.{front}
 
--- tokens, and the fault at which they end, if any
+-- tokens, and the fault that ends them, if any
 pub record Reading : Type 0 where
   pub tokens : List Token
   pub fault : Option TextFault
 
--- all of a text, without a fault
+-- a whole text, without a fault
 abbrev pub whole : List Token → Reading
 whole ts = record { tokens = ts; fault = None }
 
--- a token before what is read behind it
+-- a token before a reading
 abbrev pub behind : Token → Reading → Reading
 behind t r = record { tokens = t ∷ r.tokens; fault = r.fault }
 
--- no token before the fault
+-- no token before a fault
 abbrev pub stopped : TextFault → Reading
 stopped f = record { tokens = []; fault = Some f }
 
--- a piece that begins at an offset, and what is read behind its length
+-- a piece at an offset, and the reading after its length
 abbrev pub with_piece : ℕ → Piece → (ℕ → Reading) → Reading
 with_piece at (pieces.Gap n) rest = rest n
 with_piece at (pieces.Lexeme kind n) rest = behind (record { kind = kind; start = at; end = at + n }) (rest n)
@@ -38,7 +38,7 @@ reading inside at [] = whole []
 reading (suc inside) at (b ∷ bs) = reading inside (at + 1) bs
 reading zero at (b ∷ bs) = with_piece at (front (b ∷ bs)) (λ n. reading (n - 1) (at + 1) bs)
 
--- what `tokens` answers of a reading while memory suffices
+-- the answer of `tokens` for a reading, unless out of memory
 abbrev pub answer_of : List Token → Option TextFault → Result (List Token) TextFault
 answer_of ts None = Ok ts
 answer_of ts (Some f) = Err f

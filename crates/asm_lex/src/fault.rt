@@ -1,23 +1,25 @@
-//! Why a text has no tokens.
+//! The faults of a text.
 ghost use Rattle.std.specs.Prelude.{◌≡◌};
 ghost use Rattle.asm_lex.specs.declared.fault.TextFault.TheVariants.{Memory};
 
 use std::alloc::AllocError;
 use thiserror::Error;
 
-/// Why a text has no tokens: its first fault, with the byte offset where that begins, or want of memory.
+/// The first fault of a text, with the byte offset where it begins; or out of memory.
 #[derive(Clone, Copy, Debug, PartialEq, Eq, Error)]
 pub enum TextFault {
-    /// A byte that no token begins with: a control character, a byte above 126, or a CR that no LF follows.
+    /// A byte that begins no token: a control character, a byte above 126, or a CR without an LF
+    /// after it.
     #[error("text fault BadChar at {0}")]
     BadChar(usize),
-    /// A run of name characters that begins with a digit, but is neither a number below 2^32 nor a reference.
+    /// A run of name characters that begins with a digit but is neither a number below 2^32 nor a
+    /// reference.
     #[error("text fault BadNumber at {0}")]
     BadNumber(usize),
-    /// A string that isn't closed on its line.
+    /// A string that is not closed on its line.
     #[error("text fault OpenText at {0}")]
     OpenText(usize),
-    /// Memory for the list was refused.
+    /// Out of memory.
     #[error("out of memory")]
     Memory,
 }

@@ -1,4 +1,4 @@
-//! Tokens by their bytes.
+//! Tokens by their bytes, without their places.
 ghost use Rattle.std.specs.Prelude.{◌≡◌};
 ghost use Rattle.std.specs.Str.{IsAscii};
 ghost use Rattle.asm_lex.specs.Lexemes.{IsNext, lexeme_in, seen, without_last};
@@ -9,15 +9,15 @@ use crate::piece::{Piece, front};
 use crate::token::{Kind, Token, text_of};
 use std::str;
 
-/// A token by what it says, without where it stands. The kinds are those of `Kind`.
+/// A token without its place. The variants are those of `Kind`.
 #[derive(Clone, Copy, PartialEq, Eq)]
 pub enum Lexeme<'a> {
     Name(&'a str),
-    /// A number's value, and how it is written.
+    /// A number: its value and its characters.
     Number(u32, &'a str),
-    /// The digits of a reference with `b`.
+    /// The digits of a reference `b`.
     Back(&'a str),
-    /// The digits of a reference with `f`.
+    /// The digits of a reference `f`.
     Ahead(&'a str),
     /// A string with its quotes.
     Text(&'a [u8]),
@@ -33,18 +33,18 @@ pub enum Lexeme<'a> {
     LineEnd,
 }
 
-/// What stands next in a source.
+/// The next item of a source.
 #[derive(Clone, Copy, PartialEq, Eq)]
 pub enum Next<'a> {
-    /// A lexeme, and where the rest of the source begins.
+    /// A lexeme, and the offset after it.
     Lexeme(Lexeme<'a>, usize),
-    /// The source's end.
+    /// The end of the source.
     End,
-    /// What is no token.
+    /// Bytes that are no token.
     Fault,
 }
 
-// A text of ASCII bytes.
+// ASCII bytes as a text.
 fn ascii(bytes: &[u8]) -> &str
     requires { IsAscii bytes.now }
     ensures { result.now ≡ bytes.now }
@@ -53,7 +53,7 @@ fn ascii(bytes: &[u8]) -> &str
     unsafe { str::from_utf8_unchecked(bytes) }
 }
 
-// What a token of this source says.
+// The lexeme of a token of this source.
 #[tactic(auto, using(crate::proofs::Ascii::name_is_ascii, crate::proofs::Ascii::number_is_ascii, crate::proofs::Ascii::back_is_ascii, crate::proofs::Ascii::ahead_is_ascii))]
 fn lexeme_of<'a>(source: &'a [u8], token: Token) -> Lexeme<'a>
     requires { IsPieceOf source.now token }
@@ -87,7 +87,8 @@ fn without_last(bytes: &[u8]) -> &[u8]
     front
 }
 
-/// What stands in a source from a place on (in bytes), behind blanks and comments; its end, where the place is behind it.
+/// The next item of a source from a byte offset on, after blanks and comments; `End` for an offset
+/// past its end.
 #[tactic(auto, using(crate::proofs::LexemeSteps::blank_step, crate::proofs::LexemeSteps::gap_step, crate::proofs::LexemeSteps::lexeme_step, crate::proofs::LexemeSteps::bad_char, crate::proofs::LexemeSteps::bad_number, crate::proofs::LexemeSteps::open_text, crate::proofs::LexemeSteps::at_end))]
 pub fn next_lexeme<'a>(source: &'a str, from: usize) -> Next<'a>
     ensures { IsNext source.now from result }
@@ -95,7 +96,7 @@ pub fn next_lexeme<'a>(source: &'a str, from: usize) -> Next<'a>
     let bytes = source.as_bytes();
     let mut at = from;
     'gaps: while at < bytes.len() {
-        // Most gaps are blanks, which need not be told from what else may stand at the front.
+        // Most gaps are blanks; testing for them first saves the full match.
         if is_blank(bytes[at]) {
             at += 1;
             continue;

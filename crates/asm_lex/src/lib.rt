@@ -1,4 +1,4 @@
-//! Cuts an assembler text into tokens.
+//! Splits an assembler text into tokens.
 #![tactic(auto)]
 
 pub use fault::TextFault;

@@ -2,7 +2,7 @@
 ghost use Rattle.std.specs.Prelude.{◌≡◌, ◌≤◌, ◌<◌, length};
 ghost use Rattle.asm_lex.specs.Numbers.{digit_of, number_in, number_of};
 
-// The value of a digit of either case, or 16 where it is none.
+// The value of a digit of either case, or 16 if the byte is not a digit.
 fn digit_of(byte: u8) -> u32
     ensures { result ≡ digit_of byte }
 {
@@ -14,7 +14,7 @@ fn digit_of(byte: u8) -> u32
     }
 }
 
-// The number that the digits spell, if they spell one below 2^32.
+// The number that the digits spell, if it is below 2^32.
 #[tactic(auto, using(crate::proofs::Scanned::number_is, crate::proofs::Scanned::number_empty))]
 fn number_in(base: u32, digits: &[u8]) -> Option<u32>
     requires { base ≤ 16 }
@@ -37,7 +37,8 @@ fn number_in(base: u32, digits: &[u8]) -> Option<u32>
     Some(value as u32)
 }
 
-/// The number that a word spells, if it spells one below 2^32: decimal, `0x`, `0b`, or octal after a leading 0.
+/// The number that a word spells, if it is below 2^32: decimal, `0x`, `0b`, or octal after a
+/// leading 0.
 #[tactic(auto, using(crate::proofs::Scanned::number_short, crate::proofs::Scanned::number_plain), unfolding(crate::specs::Numbers::number_of))]
 pub fn number_of(word: &[u8]) -> Option<u32>
     ensures { result ≡ number_of word.now }

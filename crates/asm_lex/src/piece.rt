@@ -1,4 +1,4 @@
-//! What stands at the front of a text.
+//! The first piece of a text.
 
 ghost use Rattle.std.specs.Prelude.{◌≡◌, ◌<◌, ◌≤◌, ◌-◌, length, true, false, slice_index, IfSome};
 ghost use Rattle.std.specs.List.{list_all};
@@ -9,7 +9,7 @@ use crate::bytes::{is_blank, is_digit, is_name_byte, is_printable};
 use crate::number::number_of;
 use crate::token::Kind;
 
-/// The piece at the front of a text, with its length.
+/// The first piece of a text, with its length in bytes.
 #[derive(Clone, Copy, PartialEq, Eq)]
 pub enum Piece {
     /// A blank or a comment.
@@ -20,7 +20,7 @@ pub enum Piece {
     BadChar,
     /// A word that begins with a digit and is neither a number nor a reference.
     BadNumber,
-    /// A string that isn't closed on its line.
+    /// A string that is not closed on its line.
     OpenText,
 }
 
@@ -41,7 +41,7 @@ fn sign_of(byte: u8) -> Kind
     }
 }
 
-// How many name characters stand at the front.
+// The number of name characters at the front.
 #[tactic(auto, unfolding(crate::specs::Pieces::run_of_names))]
 fn run_of_names(text: &[u8]) -> usize
     ensures begins { is_name_byte (slice_index text.now 0) ≡ true → 0 < result }
@@ -51,7 +51,7 @@ fn run_of_names(text: &[u8]) -> usize
     text.iter().take_while(|byte| is_name_byte(**byte)).count()
 }
 
-// How many bytes stand before the end of the line.
+// The number of bytes before the end of the line.
 #[tactic(auto, unfolding(crate::specs::Pieces::comment_len))]
 fn comment_len(text: &[u8]) -> usize
     ensures value { result ≡ comment_len text.now }
@@ -60,7 +60,7 @@ fn comment_len(text: &[u8]) -> usize
     text.iter().take_while(|byte| **byte != b'\n').count()
 }
 
-// How many bytes stand before the quote that closes a string.
+// The number of bytes before the quote that closes a string.
 #[tactic(auto, unfolding(crate::specs::Pieces::closing))]
 fn closing(text: &[u8]) -> Option<usize>
     ensures value { result ≡ closing false text.now }
@@ -85,7 +85,7 @@ fn are_digits(text: &[u8]) -> bool
     text.iter().all(|byte| is_digit(*byte))
 }
 
-// Decimal digits with `b` or `f` behind them.
+// Decimal digits followed by `b` or `f`.
 #[tactic(auto, unfolding(crate::specs::Pieces::reference_of))]
 fn reference_of(word: &[u8]) -> Piece
     ensures value { result ≡ reference_of word.now }
@@ -106,7 +106,7 @@ fn reference_of(word: &[u8]) -> Piece
     }
 }
 
-// A run of name characters as a piece. Inlined as `front` is, which it is a part of.
+// A run of name characters as a piece. Inlined, as it is a part of `front`, which is inlined.
 #[inline(always)]
 #[tactic(auto, unfolding(crate::specs::Pieces::word_piece))]
 fn word_piece(word: &[u8]) -> Piece
@@ -123,9 +123,10 @@ fn word_piece(word: &[u8]) -> Piece
     }
 }
 
-/// The piece at the front of a text.
-// It has two callers: what reads sources, for each lexeme, and what reads one line for advice. Left to itself the compiler inlines it in neither, and a line of
-// source takes a tenth more instructions.
+/// The first piece of a text.
+// Two callers: the reader of sources, for each lexeme, and the reader of one line for hints.
+// Without the attribute the compiler inlines it in neither, and a line of source takes a tenth more
+// instructions.
 #[inline(always)]
 #[tactic(auto, unfolding(crate::specs::Pieces::front))]
 pub fn front(text: &[u8]) -> Piece

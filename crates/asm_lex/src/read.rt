@@ -10,7 +10,7 @@ use crate::piece::{Piece, front};
 use crate::token::Token;
 use std::alloc::{AllocError, Allocator};
 
-/// The tokens of a text up to its first fault, if it has one.
+/// The tokens of a text up to its first fault, if any.
 #[derive(Drop)]
 pub struct Scan<A: Allocator> {
     /// The tokens before the fault, in order.
@@ -19,7 +19,7 @@ pub struct Scan<A: Allocator> {
     pub fault: Option<TextFault>,
 }
 
-/// Reads a text up to its first fault. Fails only for want of memory.
+/// Reads a text up to its first fault. Fails only when out of memory.
 #[tactic(auto, using(crate::proofs::Steps::gap_step, crate::proofs::Steps::lexeme_step, crate::proofs::Steps::bad_char, crate::proofs::Steps::bad_number, crate::proofs::Steps::open_text, crate::proofs::Steps::at_end))]
 pub fn scan_text<A: Allocator + Copy>(alloc: A, text: &str) -> Result<Scan<A>, AllocError>
     ensures pieces { IfOk result (λ scan. All (IsPieceOf text.now) scan.tokens.items) }
@@ -74,14 +74,14 @@ fn all_tokens<A: Allocator + Copy>(alloc: A, text: &str) -> Result<Vec<Token, A>
     }
 }
 
-/// The tokens of a text in order, or its first fault. `#` begins a comment, which goes to the end of its line; spaces and
-/// tabs only separate.
+/// The tokens of a text in order, or its first fault. A comment is `#` and the rest of its line;
+/// spaces and tabs only separate. Fails with `Memory` when out of memory.
 pub fn tokens<A: Allocator + Copy>(alloc: A, text: &str) -> Result<Vec<Token, A>, TextFault>
     // Each token is the piece at its place.
     ensures pieces { IfOk result (λ tokens. All (IsPieceOf text.now) tokens.items) }
     // The tokens are those of the grammar.
     ensures found { IfOk result (λ tokens. Reads 0 text.now tokens.items) }
-    // A text that has tokens by the grammar gives them, unless memory runs out.
+    // A text that has tokens by the grammar gives them, unless memory is exhausted.
     ensures only { (ts : List Token) → Reads 0 text.now ts
         → IfErr result (λ fault. fault ≡ Memory) }
     ensures ok { IfOk result (λ tokens. answer (reading 0 0 text.now) ≡ Ok tokens.items) }

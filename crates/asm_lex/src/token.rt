@@ -2,18 +2,18 @@
 ghost use Rattle.std.specs.Prelude.{◌≡◌};
 ghost use Rattle.asm_lex.specs.Lexemes.{text_in};
 
-/// What a token is. Each punctuation sign is a kind of its own.
+/// The kind of a token. Each punctuation sign is a kind of its own.
 #[derive(Clone, Copy, PartialEq, Eq)]
 pub enum Kind {
     /// A name: letters, digits, `_`, `.` and `$`, no digit first.
     Name,
     /// A number, with its value: decimal, `0x`, `0b`, or octal after a leading 0.
     Number(u32),
-    /// Decimal digits and `b`: the last such label not after the statement.
+    /// Decimal digits and `b`: the last such numeric label before or at the statement.
     Back,
-    /// Decimal digits and `f`: the next such label after the statement.
+    /// Decimal digits and `f`: the next such numeric label after the statement.
     Ahead,
-    /// A string, with its quotes; its escapes are not looked at.
+    /// A string, with its quotes; its escapes are not checked here.
     Text,
     /// `,`
     Comma,
@@ -37,18 +37,18 @@ pub enum Kind {
     LineEnd,
 }
 
-/// A token, and where it stands in the source: its bytes are those from offset `start` to before `end`.
+/// A token and its span: its bytes are those from offset `start` up to but not including `end`.
 #[derive(Clone, Copy, PartialEq, Eq)]
 pub struct Token {
-    /// What it is.
+    /// The kind.
     pub kind: Kind,
     /// The offset of its first byte.
     pub start: usize,
-    /// The offset behind its last byte.
+    /// The offset after its last byte.
     pub end: usize,
 }
 
-/// The bytes of a token of this source. A span that is not within the source gives the part of it that is.
+/// The bytes of a token of this source. Of a span that is not within the source, the part that is.
 #[tactic(auto, unfolding(crate::specs::Lexemes::text_in))]
 pub fn text_of<'a>(source: &'a [u8], token: &Token) -> &'a [u8]
     ensures { result.now ≡ text_in source.now token.now }

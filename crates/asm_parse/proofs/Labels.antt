@@ -1,4 +1,4 @@
--- Reading on behind a label.
+-- Reading on after a label.
 use Rattle.std.proofs.Common.{◌≡◌, ℕ, ◌+◌, ◌≤◌, List, [], ◌∷◌, ◌++◌, length, drop, map, Some, None, refl, sym, ◌∙◌}
 use Rattle.std.proofs.lemmas.List.{drop-drop, drop_all}
 use Rattle.asm_lex.specs.declared.lexeme.Lexeme as program
@@ -7,7 +7,7 @@ use Rattle.asm_parse.specs.declared.place.Place.{Place}
 use Rattle.asm_parse.specs.Statement.{StatementValue, BodyValue}
 use Rattle.asm_parse.specs.Statements.{label_of, labels_from, stated}
 
--- one lexeme alone is no label
+-- a single lexeme is no label
 alone : (l : Lexeme) → label_of (l ∷ []) ≡ None
 unfolding label_of
 alone (Word w) = refl

@@ -1,4 +1,4 @@
--- Statements, one after the other.
+-- Statements, in order.
 use Rattle.std.proofs.Common.{◌≡◌, List, [], ◌∷◌, ◌++◌, map, Result, Ok, Err, true, false, sym}
 use Rattle.std.proofs.lemmas.List.{map_push}
 use Rattle.asm_lex.specs.declared.lexeme.Lexeme as program
@@ -34,7 +34,7 @@ module _ (place : Place) (done : List StatementValue) (part : List program.Lexem
   unfolding source_from
   line_fails l rest fault is ends gives = sym (rw (is, ends, gives) at so_far)
 
-  -- the first refused statement decides
+  -- the first statement with a fault decides
   pub line_refused : (l : program.Lexeme) (rest : Lexed) (fault : AsmFault) → text ≡ with_lexeme (seen l) rest → ends_statement (seen l) ≡ true
       → Fails fault (statement_from place done (map seen part))
       → Fails fault total

@@ -1,4 +1,4 @@
--- Sources, one after the other.
+-- Sources, in order.
 use Rattle.std.proofs.Common.{◌≡◌, ℕ, ◌<◌, List, length, get_or, drop, Result, Err, sym}
 use Rattle.std.specs.Borrow.{Bor}
 use Rattle.std.proofs.Math.Seq.{drop-cons}
@@ -18,7 +18,7 @@ source_fails : (done : List StatementValue) (fault : Fault) (xs : List (Bor (Lis
 unfolding sources_from
 source_fails done fault xs i d total lt is so_far = sym (rw (drop-cons xs i d lt, is) at so_far)
 
--- the first refused source decides
+-- the first source with a fault decides
 pub source_refused : (fault : AsmFault) (done : List StatementValue) (xs : List (Bor (List ℕ))) (i : ℕ) (d : Bor (List ℕ)) (total : Result (List StatementValue) Fault) → i < length xs
     → Fails fault (source_statements i done (lexed 0 (get_or xs i d).now))
     → sources_from i done (texts_of (drop i xs)) ≡ total

@@ -1,4 +1,4 @@
--- Reading on behind a byte that a string says.
+-- The bytes of a string, byte by byte.
 use Rattle.std.proofs.Common.{◌≡◌, ℕ, zero, suc, ◌+◌, ◌-◌, ◌<◌, ◌≤◌, List, [], ◌∷◌, ◌++◌, length, drop, Some, None, Result, Ok, Err, refl, sym, arith, length-drop}
 use Rattle.std.proofs.lemmas.List.{drop-drop, drop_all}
 use Rattle.asm_parse.specs.declared.fault.FaultKind.{FaultKind}
@@ -12,7 +12,7 @@ skips zero done bytes le = refl
 skips (suc n) done [] le = absurd (omega arith)
 skips (suc n) done (b ∷ bs) le = skips n done bs (omega arith)
 
--- a text says the byte at its front, and then what stands behind it
+-- the byte at a text's front, and then those of the rest
 stepped : (done bytes : List ℕ) → 0 < length bytes → said_from 0 done bytes ≡ with_byte (byte_in_front bytes) (λ byte len. said_from (len - 1) (done ++ byte ∷ []) (drop 1 bytes))
 unfolding said_from
 stepped done [] lt = absurd (omega arith)

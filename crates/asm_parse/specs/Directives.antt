@@ -20,68 +20,68 @@ abbrev pub is_comma : Lexeme → Bool
 is_comma Comma = true
 is_comma _ = false
 
--- parts of the lexemes, by what they say
+-- parts of the lexemes, as contracts see them
 abbrev pub parts_seen : List (Bor (List program.Lexeme)) → List (List Lexeme)
 parts_seen parts = map (λ part. map seen part.now) parts
 
--- the parts between commas behind those done, of which the last has begun
+-- the parts between commas after those done; the last one has begun
 unfoldable pub parts_from : List (List Lexeme) → List Lexeme → List Lexeme → List (List Lexeme)
 parts_from done part [] = done ++ part ∷ []
 parts_from done part (l ∷ ls) = if is_comma l then parts_from (done ++ part ∷ []) [] ls else parts_from done (part ++ l ∷ []) ls
 
--- the parts between commas; there is one at least
+-- the parts between commas; at least one
 abbrev pub parts : List Lexeme → List (List Lexeme)
 parts ls = parts_from [] [] ls
 
--- what each part gives, behind those done
+-- the values of parts, after those done
 unfoldable pub each : {X : Type 0} → (List Lexeme → Option X) → List X → List (List Lexeme) → Result (List X) FaultKind
 each read done [] = Ok done
 each read done (part ∷ parts) = shaped (read part) (λ x. each read (done ++ x ∷ []) parts)
 
--- a list between commas, of one part at least
+-- a list separated by commas, of at least one part
 abbrev pub listed : {X : Type 0} → (List Lexeme → Option X) → List Lexeme → Result (List X) FaultKind
 listed read ls = each read [] (parts ls)
 
--- a name and nothing more
+-- one name, without anything after it
 unfoldable pub name : List Lexeme → Option (List ℕ)
 name (Word w ∷ []) = Some w
 name _ = None
 
--- the bytes of a string and nothing more, behind those done
+-- the bytes of one string, without anything after it, after those done
 unfoldable pub text : List ℕ → List Lexeme → Result (List ℕ) FaultKind
 text done (Text quoted ∷ []) = said done quoted
 text done _ = Err faults.Operands
 
--- bytes with a zero byte after them where they are ended
+-- bytes, with a zero byte after them if the flag is set
 abbrev pub with_end : Bool → List ℕ → List ℕ
 with_end true bytes = bytes ++ 0 ∷ []
 with_end false bytes = bytes
 
--- the bytes of texts behind those done, with a zero byte after each where it is ended
+-- the bytes of strings after those done, with a zero byte after each if the flag is set
 unfoldable pub texts_from : Bool → List ℕ → List (List Lexeme) → Result (List ℕ) FaultKind
 texts_from ended done [] = Ok done
 texts_from ended done (part ∷ parts) = text done part >>- λ bytes. texts_from ended (with_end ended bytes) parts
 
--- the bytes of texts between commas
+-- the bytes of strings separated by commas
 abbrev pub texts : Bool → List Lexeme → Result (List ℕ) FaultKind
 texts ended ls = texts_from ended [] (parts ls)
 
--- a number without a sign and nothing more
+-- one number without a sign, without anything after it
 unfoldable pub count : List Lexeme → Option ℕ
 count (Number n w ∷ []) = Some n
 count _ = None
 
--- what follows a section's name: nothing, or a dot and more
+-- the rest of a section's name: empty, or a dot and more
 abbrev pub is_rest : List ℕ → Bool
 is_rest [] = true
 is_rest (b ∷ []) = false
 is_rest (b ∷ c ∷ bs) = b == 46
 
--- whether a name is that of a section, alone or followed by a dot and more
+-- whether a name is that of a section, or begins with it and a dot
 abbrev pub is_section : List ℕ → List ℕ → Bool
 is_section word section = bytes_eq (take (length section) word) section && is_rest (drop (length section) word)
 
--- the section of a name behind `.section`
+-- the section with a name in `.section`
 unfoldable pub named_section : List ℕ → Option Section
 named_section word =
     if is_section word (codes ".text") then Some sections.Text else
@@ -89,12 +89,12 @@ named_section word =
     (if is_section word (codes ".rodata") then Some sections.Data else
     (if is_section word (codes ".bss") then Some sections.Zeros else None)))
 
--- the section that a directive names, which may be followed by more
+-- the section of a `.section` directive; operands after its name are ignored
 unfoldable pub section : List Lexeme → Option Section
 section (Word w ∷ rest) = named_section w
 section _ = None
 
--- a section, where no operands follow
+-- a section, if no operands follow
 unfoldable pub alone : Section → List Lexeme → Option Section
 alone s [] = Some s
 alone s (l ∷ ls) = None
@@ -107,7 +107,7 @@ abbrev pub required : {X : Type 0} → (X → DirectiveValue) → Option X → R
 required make (Some x) = Ok (Some (make x))
 required make None = Err faults.Operands
 
--- the directive of a name at the front of a statement, with the operands behind it; a skipped one says nothing
+-- the directive with a name at the front and the operands after it; none for an ignored one
 unfoldable pub directive : Head → List Lexeme → Result (Option DirectiveValue) FaultKind
 directive (heads.Section s) ls = required directives.Section (alone s ls)
 directive heads.NamedSection ls = required directives.Section (section ls)

@@ -1,4 +1,4 @@
--- What a statement's first name says.
+-- The meaning of a statement's first name.
 use Rattle.std.specs.Prelude.{ℕ, List, [], ◌∷◌, ◌++◌, map, flat_map, Option, codes, true, false}
 use Rattle.isa_table.specs.Names.{name_of}
 use Rattle.isa_table.specs.Table.{mnemonics}
@@ -14,7 +14,7 @@ use Rattle.asm_parse.specs.declared.heads.Operation.TheVariants as ops
 use Rattle.asm_parse.specs.declared.heads.Unary.TheVariants as unaries
 use Rattle.asm_parse.specs.Names.{first_named}
 
--- what may stand behind a mnemonic of the A extension, and the order that it says
+-- the suffixes of a mnemonic of the A extension, and their orderings
 abbrev pub suffixes : List (List ℕ × Order)
 suffixes =
     ([], record { aq = false; rl = false }) ∷
@@ -22,7 +22,7 @@ suffixes =
     (codes ".rl", record { aq = false; rl = true }) ∷
     (codes ".aqrl", record { aq = true; rl = true }) ∷ []
 
--- a mnemonic that stands alone
+-- a mnemonic without a suffix
 abbrev pub alone : Mnemonic → Operation → List (List ℕ × Head)
 alone mnemonic operation = (name_of mnemonic, heads.Operation operation) ∷ []
 
@@ -30,7 +30,7 @@ alone mnemonic operation = (name_of mnemonic, heads.Operation operation) ∷ []
 abbrev pub ordered : Mnemonic → (Order → Operation) → List (List ℕ × Head)
 ordered mnemonic operation = map (λ s. (name_of mnemonic ++ s.0, heads.Operation (operation s.1))) suffixes
 
--- what a mnemonic says
+-- the names of a mnemonic
 abbrev pub mnemonic_names : Mnemonic → List (List ℕ × Head)
 mnemonic_names m.Lui = alone m.Lui ops.Lui
 mnemonic_names m.Auipc = alone m.Auipc ops.Auipc
@@ -102,7 +102,7 @@ other_names =
     (codes ".size", heads.Skipped) ∷
     (codes ".ident", heads.Skipped) ∷ []
 
--- all that a name may say
+-- all names, with their meanings
 abbrev pub head_names : List (List ℕ × Head)
 head_names = flat_map mnemonic_names mnemonics ++ other_names
 

@@ -4,12 +4,12 @@ use Rattle.std.specs.Borrow.{Bor}
 use Rattle.std.specs.Str.{bytes_eq}
 use Rattle.isa_names.specs.Names.{abi_names, set_name}
 
--- what the first row of a name has
+-- the value of the first row with a name
 unfoldable pub first_named : {V : Type 0} → List (List ℕ × V) → List ℕ → Option V
 first_named [] name = None
 first_named (row ∷ rows) name = if bytes_eq row.0 name then Some row.1 else first_named rows name
 
--- rows without where their texts lie in memory
+-- rows without the addresses of their texts
 abbrev pub rows_of : {V : Type 0} → List (Bor (List ℕ) × V) → List (List ℕ × V)
 rows_of rows = map (λ row. (row.0.now, row.1)) rows
 
@@ -18,7 +18,7 @@ abbrev pub below : ℕ → Option ℕ → Option ℕ
 below bound None = None
 below bound (Some n) = if nat_lt n bound then Some n else None
 
--- texts with their numbers, the first with this one
+-- texts with their numbers, from this number on
 abbrev pub numbered : ℕ → List (List ℕ) → List (List ℕ × ℕ)
 numbered n [] = []
 numbered n (text ∷ texts) = (text, n) ∷ numbered (n + 1) texts
@@ -31,11 +31,11 @@ x_names =
     codes "x16" ∷ codes "x17" ∷ codes "x18" ∷ codes "x19" ∷ codes "x20" ∷ codes "x21" ∷ codes "x22" ∷ codes "x23" ∷
     codes "x24" ∷ codes "x25" ∷ codes "x26" ∷ codes "x27" ∷ codes "x28" ∷ codes "x29" ∷ codes "x30" ∷ codes "x31" ∷ []
 
--- the calling convention's names, then x0 to x31, then the frame pointer's
+-- the ABI names, then x0 to x31, then the frame pointer's
 abbrev pub register_names : List (List ℕ × ℕ)
 register_names = numbered 0 abi_names ++ (numbered 0 x_names ++ (codes "fp", 8) ∷ [])
 
--- the sets of accesses that aren't empty, by their letters
+-- the sets of accesses that are not empty, by their letters
 abbrev pub fence_names : List (List ℕ × ℕ)
 fence_names =
     map (λ set. (set_name set, set))

@@ -1,4 +1,4 @@
--- Instructions with their operands, over lexemes. A wrong shape is told before a name that is no register.
+-- Instructions with their operands. A wrong shape comes before a name that is no register.
 use Rattle.std.specs.Prelude.{ℕ, pos, negsuc, List, [], ◌∷◌, Option, Some, None, Result, Ok, Err}
 use Rattle.asm_lex.specs.Lexemes.{Lexeme, Word, Comma}
 use Rattle.isa_table.specs.declared.mnemonic.AmoOp.{AmoOp}
@@ -30,7 +30,7 @@ abbrev pub ◌>>-◌ : {X Y : Type 0} → Result X FaultKind → (X → Result Y
 (Ok x) >>- next = next x
 (Err fault) >>- next = Err fault
 
--- what operands of a shape give, or the fault of a wrong shape
+-- the result for operands of a shape, or the fault of a wrong shape
 abbrev pub shaped : {X Y : Type 0} → Option X → (X → Result Y FaultKind) → Result Y FaultKind
 shaped (Some x) next = next x
 shaped None next = Err faults.Operands
@@ -75,7 +75,7 @@ unfoldable pub branch_zero : BranchOp → List Lexeme → Result Instruction Fau
 branch_zero op (Word rs1 ∷ Comma ∷ rest) = shaped (target rest) (λ t. register rs1 >>- λ rs1. Ok (i.Branch op rs1 0 t))
 branch_zero op _ = Err faults.Operands
 
--- `rs, target`, with which zero is compared
+-- `rs, target`, zero compared with it
 unfoldable pub zero_branch : BranchOp → List Lexeme → Result Instruction FaultKind
 zero_branch op (Word rs2 ∷ Comma ∷ rest) = shaped (target rest) (λ t. register rs2 >>- λ rs2. Ok (i.Branch op 0 rs2 t))
 zero_branch op _ = Err faults.Operands
@@ -104,11 +104,11 @@ unfoldable pub jump_register : ℕ → List Lexeme → Result Instruction FaultK
 jump_register rd (Word rs1 ∷ []) = register rs1 >>- λ rs1. Ok (i.Jalr rd rs1 (immediates.Number (pos 0)))
 jump_register rd _ = Err faults.Operands
 
--- `imm(rs1)` behind rd
+-- `imm(rs1)` after rd
 unfoldable pub jalr_memory : List ℕ → List Lexeme → Result Instruction FaultKind
 jalr_memory rd rest = shaped (memory rest) (λ m. register rd >>- λ rd. register m.1 >>- λ rs1. Ok (i.Jalr rd rs1 m.0))
 
--- `rs1, imm` or `imm(rs1)` behind rd
+-- `rs1, imm` or `imm(rs1)` after rd
 unfoldable pub jalr_behind : List ℕ → List Lexeme → Result Instruction FaultKind
 jalr_behind rd (Word rs1 ∷ Comma ∷ rest) = shaped (immediate rest) (λ imm. register rd >>- λ rd. register rs1 >>- λ rs1. Ok (i.Jalr rd rs1 imm))
 jalr_behind rd ls = jalr_memory rd ls
@@ -130,7 +130,7 @@ abbrev fence_sets : Option ℕ → Option ℕ → Result Instr FaultKind
 fence_sets (Some pred) (Some succ) = Ok (plain_fence pred succ)
 fence_sets _ _ = Err faults.Operands
 
--- two sets of accesses, or none for all
+-- two sets of accesses, or no operands for all
 unfoldable pub fence : List Lexeme → Result Instr FaultKind
 fence [] = Ok (plain_fence 15 15)
 fence (Word pred ∷ Comma ∷ Word succ ∷ []) = fence_sets (fence_set_of pred) (fence_set_of succ)
@@ -159,7 +159,7 @@ atomic op order _ = Err faults.Operands
 abbrev pub register_instruction : RegisterOp → ℕ → ℕ → ℕ → Instruction
 register_instruction op rd rs1 rs2 = i.Fixed (instrs.Register op rd rs1 rs2)
 
--- what a pseudo-instruction of two registers is
+-- the instruction of a pseudo-instruction with two registers
 abbrev pub unary_instruction : Unary → ℕ → ℕ → Instruction
 unary_instruction unaries.Move rd rs = i.Immediate Addi rd rs (immediates.Number (pos 0))
 unary_instruction unaries.Not rd rs = i.Immediate Xori rd rs (immediates.Number (negsuc 0))
@@ -182,7 +182,7 @@ unfoldable pub constant : Instruction → List Lexeme → Result Instruction Fau
 constant instruction [] = Ok instruction
 constant instruction (l ∷ ls) = Err faults.Operands
 
--- an instruction with nothing left to value; ECALL is the last of them
+-- an instruction whose operands need no values; ECALL is the last case
 unfoldable pub fixed : Operation → List Lexeme → Result Instr FaultKind
 fixed (ops.Register op) ls = three_registers op ls
 fixed ops.Fence ls = fence ls
@@ -197,7 +197,7 @@ abbrev as_fixed : Result Instr FaultKind → Result Instruction FaultKind
 as_fixed (Ok instr) = Ok (i.Fixed instr)
 as_fixed (Err fault) = Err fault
 
--- the instruction of a name at the front of a statement, with the operands behind it
+-- the instruction with a name at the front of a statement and the operands after it
 unfoldable pub instruction : Operation → List Lexeme → Result Instruction FaultKind
 instruction ops.Lui ls = lui ls
 instruction ops.Auipc ls = auipc ls

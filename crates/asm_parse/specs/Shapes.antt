@@ -1,4 +1,4 @@
--- The shapes of operands, over lexemes. A reader of a front part gives what stands there and the lexemes behind it.
+-- The shapes of operands. `.._in_front` gives the item at the front and the lexemes after it.
 use Rattle.std.specs.Prelude.{ℕ, ℤ, pos, negsuc, neg_ℤ, ◌==◌, List, [], ◌∷◌, map, Bool, false, if◌then◌else◌, codes, Option, Some, None, Result, Ok, Err}
 use Rattle.std.specs.Borrow.{Bor}
 use Rattle.std.specs.Str.{bytes_eq}
@@ -16,7 +16,7 @@ use Rattle.asm_parse.specs.declared.operand.Target.{Target}
 use Rattle.asm_parse.specs.declared.operand.Target.TheVariants as targets
 use Rattle.asm_parse.specs.Names.{register_of}
 
--- what a reader of a front part answers, by what the lexemes say
+-- the result of a function `.._in_front`, as contracts see it
 abbrev pub with_rest : {X : Type 0} → X × Bor (List program.Lexeme) → X × List Lexeme
 with_rest r = (r.0, map seen r.1.now)
 
@@ -29,13 +29,13 @@ number_in_front (Minus ∷ Number n w ∷ rest) = Some (neg_ℤ (pos n), rest)
 number_in_front (Number n w ∷ rest) = Some (pos n, rest)
 number_in_front _ = None
 
--- a number, with its sign turned
+-- a number, negated
 unfoldable pub turned_number_in_front : List Lexeme → Option (ℤ × List Lexeme)
 turned_number_in_front (Minus ∷ Number n w ∷ rest) = Some (pos n, rest)
 turned_number_in_front (Number n w ∷ rest) = Some (neg_ℤ (pos n), rest)
 turned_number_in_front _ = None
 
--- what is added to a symbol's address: plus or minus a number, or nothing
+-- the number added to a symbol's address: plus or minus a number, or nothing
 unfoldable pub offset_in_front : List Lexeme → Option (ℤ × List Lexeme)
 offset_in_front (Plus ∷ rest) = number_in_front rest
 offset_in_front (Minus ∷ rest) = turned_number_in_front rest
@@ -80,7 +80,7 @@ unfoldable pub immediate_in_front : List Lexeme → Option (Immediate × List Le
 immediate_in_front (Percent ∷ rest) = low (part_in_front (codes "lo") (Percent ∷ rest))
 immediate_in_front ls = as_immediate (number_in_front ls)
 
--- what stands at the front, where nothing stands behind it
+-- the item at the front, if nothing follows
 abbrev alone_of : {X : Type 0} → X → List Lexeme → Option X
 alone_of x [] = Some x
 alone_of x (l ∷ ls) = None
@@ -122,7 +122,7 @@ target (Back digits ∷ []) = Some (targets.Back digits)
 target (Ahead digits ∷ []) = Some (targets.Ahead digits)
 target ls = as_target (number ls)
 
--- `(rs)` and nothing more
+-- `(rs)`, without anything after it
 unfoldable pub base : List Lexeme → Option (List ℕ)
 base (Open ∷ Word name ∷ Close ∷ []) = Some name
 base _ = None
@@ -131,7 +131,7 @@ abbrev and_name : Immediate → Option (List ℕ) → Option (Immediate × List 
 and_name immediate (Some name) = Some (immediate, name)
 and_name immediate None = None
 
--- an immediate and `(rs)` behind it
+-- an immediate and `(rs)` after it
 unfoldable pub with_base : Immediate → List Lexeme → Option (Immediate × List ℕ)
 with_base immediate ls = and_name immediate (base ls)
 
@@ -164,6 +164,6 @@ abbrev known : Option ℕ → Result ℕ FaultKind
 known (Some r) = Ok r
 known None = Err faults.Register
 
--- the register of a name in a register's place
+-- the register with a name, or the fault `Register`
 unfoldable pub register : List ℕ → Result ℕ FaultKind
 register name = known (register_of name)

@@ -5,11 +5,11 @@ use Rattle.asm_parse.specs.declared.statement.Body.TheVariants as body
 use Rattle.asm_parse.specs.declared.statement.Directive.{Directive}
 use Rattle.asm_parse.specs.declared.statement.Directive.TheVariants as directive
 
--- a directive, whatever allocator holds its lists
+-- a directive, whatever allocator has its lists
 abbrev pub DirectiveValue : Type 0
 DirectiveValue = Directive (Unit {0})
 
--- what a statement says, whatever allocator holds its lists
+-- the body of a statement, whatever allocator has its lists
 abbrev pub BodyValue : Type 0
 BodyValue = Body (Unit {0})
 
@@ -30,7 +30,7 @@ directive_value (directive.Bytes numbers) = directive.Bytes numbers
 directive_value (directive.Ascii bytes) = directive.Ascii bytes
 directive_value (directive.Global names) = directive.Global names
 
--- what a statement says without its allocator
+-- the body of a statement without its allocator
 abbrev pub body_value : {A : Type 0} → Body A → BodyValue
 body_value (body.Label name) = body.Label name
 body_value (body.LocalLabel digits) = body.LocalLabel digits

@@ -69,7 +69,7 @@ as_directive (Ok (Some d)) = Ok (Some (bodies.Directive d))
 as_directive (Ok None) = Ok None
 as_directive (Err fault) = Err fault
 
--- what a statement that begins with a known name says; a skipped directive says nothing
+-- the body of a statement that begins with a known name; none for an ignored directive
 unfoldable pub headed : Head → List Lexeme → Result (Option BodyValue) FaultKind
 headed (heads.Operation operation) ls = as_instruction (instruction operation ls)
 headed heads.Li ls = as_pseudo (load_number ls)
@@ -78,7 +78,7 @@ headed heads.Call ls = as_pseudo (call ls)
 headed heads.Tail ls = as_pseudo (tail ls)
 headed head ls = as_directive (directive head ls)
 
--- instructions and bytes, which `.bss` doesn't take
+-- instructions and bytes, which `.bss` does not accept
 abbrev pub is_bytes : BodyValue → Bool
 is_bytes (bodies.Instruction i) = true
 is_bytes (bodies.Pseudo p) = true
@@ -92,7 +92,7 @@ abbrev pub is_zeros : Section → Bool
 is_zeros sections.Zeros = true
 is_zeros _ = false
 
--- what is said in a section: no instructions and no bytes in `.bss`
+-- the body, if its section allows it: `.bss` has no instructions and no bytes
 abbrev pub allowed : Section → Option BodyValue → Result (Option BodyValue) FaultKind
 allowed s (Some b) = if is_zeros s && is_bytes b then Err faults.Directive else Ok (Some b)
 allowed s None = Ok None
@@ -101,11 +101,11 @@ abbrev pub by_head : Section → List ℕ → List Lexeme → Option Head → Re
 by_head s name ls (Some head) = headed head ls >>- allowed s
 by_head s name ls None = Err (unknown name)
 
--- what a statement that begins with a name says, in a section
+-- the body of a statement that begins with a name, in a section
 abbrev pub named : Section → List ℕ → List Lexeme → Result (Option BodyValue) FaultKind
 named s name ls = by_head s name ls (head_of name)
 
--- what a statement says behind its labels, in a section
+-- the body of a statement after its labels, in a section
 unfoldable pub body : Section → List Lexeme → Result (Option BodyValue) FaultKind
 body s [] = Ok None
 body s (Word name ∷ ls) = named s name ls
@@ -117,7 +117,7 @@ stated place b = record { source = place.source; line = place.line; body = b }
 abbrev pub fault_at : Place → FaultKind → Fault
 fault_at place kind = record { kind = kind; source = place.source; line = place.line }
 
--- the label that stands at the front
+-- the label at the front
 unfoldable pub label_of : List Lexeme → Option BodyValue
 label_of (Word w ∷ Colon ∷ ls) = Some (bodies.Label w)
 label_of (Number n w ∷ Colon ∷ ls) = if list_all is_ascii_digit w then Some (bodies.LocalLabel w) else None
@@ -127,12 +127,12 @@ abbrev pub with_label : Option BodyValue → (BodyValue → List StatementValue 
 with_label (Some b) next last = next b
 with_label None next last = last
 
--- the labels at the front of a statement, behind the statements done, and the lexemes behind them
+-- the labels at the front of a statement, after the statements done, and the lexemes after them
 unfoldable pub labels_from : Place → List StatementValue → List Lexeme → List StatementValue × List Lexeme
 labels_from place done (l ∷ m ∷ ls) = with_label (label_of (l ∷ m ∷ ls)) (λ b. labels_from place (done ++ stated place b ∷ []) ls) (done, l ∷ m ∷ ls)
 labels_from place done ls = (done, ls)
 
--- the section behind what a statement says
+-- the section after a body
 abbrev pub section_behind : Section → BodyValue → Section
 section_behind s (bodies.Directive (directives.Section next)) = next
 section_behind s _ = s
@@ -142,7 +142,7 @@ after_body place done (Ok None) = Ok (done, place.section)
 after_body place done (Ok (Some b)) = Ok (done ++ stated place b ∷ [], section_behind place.section b)
 after_body place done (Err kind) = Err (fault_at place kind)
 
--- the statements done and those of a statement's lexemes, and the section behind them
+-- the statements done and those of a statement's lexemes, and the section after them
 unfoldable pub statement_from : Place → List StatementValue → List Lexeme → Result (List StatementValue × Section) Fault
 statement_from place done ls = let labels = labels_from place done ls in after_body place labels.0 (body place.section labels.1)
 
@@ -155,17 +155,17 @@ abbrev pub lines_ended : Lexeme → ℕ
 lines_ended LineEnd = 1
 lines_ended _ = 0
 
--- where the next statement stands
+-- the place of the next statement
 abbrev pub next_place : Place → Lexeme → Section → Place
 next_place place l section = record { source = place.source; line = place.line + lines_ended l; section = section }
 
--- the last statement's end; where the source is not whole, it has the fault of a token
+-- the end of the last statement; if the source is not whole, it has the fault `Token`
 abbrev pub at_the_end : Bool → Place → Result (List StatementValue × Section) Fault → Result (List StatementValue) Fault
 at_the_end false place last = Err (fault_at place faults.Token)
 at_the_end true place (Ok r) = Ok r.0
 at_the_end true place (Err fault) = Err fault
 
--- the statements of a source behind those done, of which the last has begun with a part
+-- the statements of a source after those done; the last one has begun with a part
 unfoldable pub source_from : Bool → Place → List StatementValue → List Lexeme → List Lexeme → Result (List StatementValue) Fault
 source_from whole place done part [] = at_the_end whole place (statement_from place done part)
 source_from whole place done part (l ∷ ls) =
@@ -173,7 +173,7 @@ source_from whole place done part (l ∷ ls) =
     then (statement_from place done part >>= λ r. source_from whole (next_place place l r.1) r.0 [] ls)
     else source_from whole place done (part ++ l ∷ []) ls
 
--- the same, where so much of the source is left
+-- the same for the rest of a source
 abbrev pub read_from : Place → List StatementValue → List Lexeme → Lexed → Result (List StatementValue) Fault
 read_from place done part text = source_from text.whole place done part text.lexemes
 
@@ -181,17 +181,17 @@ read_from place done part text = source_from text.whole place done part text.lex
 abbrev pub first_place : ℕ → Place
 first_place source = record { source = source; line = 1; section = sections.Text }
 
--- the statements done, and behind another source the change to `.text` with which a source begins
+-- the statements done, and for a source after the first the change to `.text` at its start
 abbrev pub begun : ℕ → List StatementValue → List StatementValue
 begun source done =
     if source == 0 then done
     else (done ++ stated (first_place source) (bodies.Directive (directives.Section sections.Text)) ∷ [])
 
--- the statements of a source behind those done
+-- the statements of a source after those done
 abbrev pub source_statements : ℕ → List StatementValue → Lexed → Result (List StatementValue) Fault
 source_statements source done text = read_from (first_place source) (begun source done) [] text
 
--- the statements of sources from an index on, behind those done
+-- the statements of sources from an index on, after those done
 unfoldable pub sources_from : ℕ → List StatementValue → List (List ℕ) → Result (List StatementValue) Fault
 sources_from source done [] = Ok done
 sources_from source done (text ∷ texts) = source_statements source done (lexed 0 text) >>= λ more. sources_from (source + 1) more texts
@@ -200,6 +200,6 @@ sources_from source done (text ∷ texts) = source_statements source done (lexed
 abbrev pub texts_of : List (Bor (List ℕ)) → List (List ℕ)
 texts_of sources = map (λ source. source.now) sources
 
--- the statements of sources, or the earliest wrong statement's lowest fault
+-- the statements of sources, or the lowest fault of the first statement with one
 unfoldable pub statements_of : List (List ℕ) → Result (List StatementValue) Fault
 statements_of sources = sources_from 0 [] sources

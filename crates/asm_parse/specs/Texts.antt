@@ -1,4 +1,4 @@
--- The bytes that strings say.
+-- The bytes of strings.
 use Rattle.std.specs.Prelude.{ℕ, zero, suc, ◌+◌, ◌*◌, ◌-◌, ◌==◌, ◌&&◌, nat_lt, nat_le, min, List, [], ◌∷◌, ◌++◌, length, take, drop, slice_index, Bool, if◌then◌else◌, Option, Some, None, Result, Ok, Err}
 use Rattle.asm_parse.specs.declared.fault.FaultKind.{FaultKind}
 use Rattle.asm_parse.specs.declared.fault.FaultKind.TheVariants as faults
@@ -6,18 +6,18 @@ use Rattle.asm_parse.specs.declared.fault.FaultKind.TheVariants as faults
 abbrev pub is_octal : ℕ → Bool
 is_octal b = nat_le 48 b && nat_le b 55
 
--- the octal digit at a place, if one stands there
+-- the octal digit at a place, if there is one
 abbrev pub octal_at : List ℕ → ℕ → Option ℕ
 octal_at text place = if nat_lt place (length text) && is_octal (slice_index text place) then Some (slice_index text place - 48) else None
 
--- the byte that digits say, and how many they are
+-- the byte of octal digits, and their number
 abbrev byte_of_digits : Option ℕ → Option ℕ → Option ℕ → Option (ℕ × ℕ)
 byte_of_digits (Some a) (Some b) (Some c) = if nat_lt a 4 then Some (a * 64 + b * 8 + c, 3) else None
 byte_of_digits (Some a) (Some b) None = Some (a * 8 + b, 2)
 byte_of_digits (Some a) None c = Some (a, 1)
 byte_of_digits None b c = None
 
--- one to three octal digits that say a byte
+-- one to three octal digits of a byte
 unfoldable pub octal_escape : List ℕ → Option (ℕ × ℕ)
 octal_escape text = byte_of_digits (octal_at text 0) (octal_at text 1) (octal_at text 2)
 
@@ -34,7 +34,7 @@ abbrev or_octal : Option ℕ → List ℕ → Option (ℕ × ℕ)
 or_octal (Some b) text = Some (b, 1)
 or_octal None text = octal_escape text
 
--- the byte that an escape says, and how many bytes it takes behind the backslash
+-- the byte of an escape, and the number of bytes that it takes after the backslash
 unfoldable pub escape : List ℕ → Option (ℕ × ℕ)
 escape [] = None
 escape (b ∷ bs) = or_octal (plain_escape b) (b ∷ bs)
@@ -43,7 +43,7 @@ abbrev escaped : Option (ℕ × ℕ) → Option (ℕ × ℕ)
 escaped (Some e) = Some (e.0, e.1 + 1)
 escaped None = None
 
--- the byte that is said at the front of a text, and how many bytes it takes
+-- the byte at the front of a text, and the number of bytes that it takes
 unfoldable pub byte_in_front : List ℕ → Option (ℕ × ℕ)
 byte_in_front [] = None
 byte_in_front (b ∷ bs) = if b == 92 then escaped (escape bs) else Some (b, 1)
@@ -52,16 +52,16 @@ abbrev pub with_byte : Option (ℕ × ℕ) → (ℕ → ℕ → Result (List ℕ
 with_byte (Some e) next = next e.0 e.1
 with_byte None next = Err faults.Operands
 
--- the bytes that a text says, behind those done; the first `inside` of the text belong to the escape before
+-- the bytes of a text after those done; its first `inside` bytes belong to the escape before
 unfoldable pub said_from : ℕ → List ℕ → List ℕ → Result (List ℕ) FaultKind
 said_from inside done [] = Ok done
 said_from (suc inside) done (b ∷ bs) = said_from inside done bs
 said_from zero done (b ∷ bs) = with_byte (byte_in_front (b ∷ bs)) (λ byte len. said_from (len - 1) (done ++ byte ∷ []) bs)
 
--- what stands between the quotes of a string
+-- the bytes between the quotes of a string
 abbrev pub between_quotes : List ℕ → List ℕ
 between_quotes quoted = drop (min (length quoted - 1) 1) (take (length quoted - 1) quoted)
 
--- the bytes that a string says, behind those done
+-- the bytes of a string, after those done
 abbrev pub said : List ℕ → List ℕ → Result (List ℕ) FaultKind
 said done quoted = said_from 0 done (between_quotes quoted)

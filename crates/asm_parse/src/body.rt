@@ -1,4 +1,4 @@
-//! What a statement says behind its labels.
+//! The body of a statement, after its labels.
 ghost use Rattle.std.specs.Prelude.{◌≡◌, map, option_map};
 ghost use Rattle.asm_lex.specs.Lexemes.{seen};
 ghost use Rattle.asm_parse.specs.Answer.{Tells};
@@ -78,7 +78,7 @@ fn tail<'a>(lexemes: &[Lexeme<'a>]) -> Result<Pseudo<'a>, FaultKind>
     }
 }
 
-// A statement that is this pseudo-instruction.
+// A statement with this pseudo-instruction.
 fn as_pseudo<'a, A: Allocator>(
     pseudo: Result<Pseudo<'a>, FaultKind>,
 ) -> Result<Option<Body<'a, A>>, Refusal>
@@ -90,7 +90,7 @@ fn as_pseudo<'a, A: Allocator>(
     }
 }
 
-// What a statement that begins with a directive's name says; a skipped one says nothing.
+// The body of a statement that begins with a directive's name; `None` for an ignored one.
 fn as_directive<'a, A: Allocator + Copy>(
     alloc: A,
     head: Head,
@@ -104,7 +104,7 @@ fn as_directive<'a, A: Allocator + Copy>(
     }
 }
 
-// What a statement that begins with this name says; a skipped directive says nothing.
+// The body of a statement that begins with this name; `None` for an ignored directive.
 #[tactic(auto, unfolding(crate::specs::Statements::headed))]
 fn headed<'a, A: Allocator + Copy>(
     alloc: A,
@@ -126,7 +126,7 @@ fn headed<'a, A: Allocator + Copy>(
     }
 }
 
-// The fault of a name that says nothing: an unknown directive's begins with a dot.
+// The fault of an unknown name: a directive's begins with a dot.
 #[tactic(auto, unfolding(crate::specs::Statements::unknown))]
 fn unknown(name: &str) -> FaultKind
     ensures { result ≡ statements.unknown name.now }
@@ -137,7 +137,7 @@ fn unknown(name: &str) -> FaultKind
     }
 }
 
-// Whether a statement makes instructions or bytes, which `.bss` doesn't take.
+// Whether a statement makes instructions or bytes, which `.bss` does not accept.
 fn is_bytes<A: Allocator>(body: &Body<A>) -> bool
     ensures { result ≡ statements.is_bytes (body_value body.now) }
 {
@@ -156,7 +156,7 @@ fn is_zeros(section: Section) -> bool
     matches!(section, Section::Zeros)
 }
 
-// What is said in a section: no instructions and no bytes in `.bss`.
+// The body, if its section allows it: `.bss` has no instructions and no bytes.
 fn allowed<'a, A: Allocator>(
     section: Section,
     body: Option<Body<'a, A>>,
@@ -174,7 +174,7 @@ fn allowed<'a, A: Allocator>(
     }
 }
 
-// What a statement that begins with a name says, in a section.
+// The body of a statement that begins with a name, in a section.
 fn named<'a, A: Allocator + Copy>(
     alloc: A,
     section: Section,
@@ -192,7 +192,8 @@ fn named<'a, A: Allocator + Copy>(
     }
 }
 
-/// What a statement says behind its labels, in a section; an empty one and a skipped directive say nothing.
+/// The body of a statement after its labels, in a section; `None` for an empty statement and an
+/// ignored directive.
 #[tactic(auto, unfolding(crate::specs::Statements::body))]
 pub fn body<'a, A: Allocator + Copy>(
     alloc: A,

@@ -24,7 +24,7 @@ fn is_comma(lexeme: Lexeme) -> bool
     matches!(lexeme, Lexeme::Comma)
 }
 
-// The parts of a list between its commas; there is one at least.
+// The parts of a list between its commas; at least one.
 #[tactic(auto, using(crate::proofs::Parts::goes_on, crate::proofs::Parts::comma_here), unfolding(crate::specs::Directives::parts_from))]
 fn parts<'t, 'a, A: Allocator>(
     alloc: A,
@@ -45,7 +45,7 @@ fn parts<'t, 'a, A: Allocator>(
     Ok(parts)
 }
 
-// Values between commas.
+// Values separated by commas.
 #[tactic(auto, unfolding(crate::specs::Directives::each))]
 fn values<'a, A: Allocator + Copy>(
     alloc: A,
@@ -64,7 +64,7 @@ fn values<'a, A: Allocator + Copy>(
     Ok(values)
 }
 
-// Numbers between commas.
+// Numbers separated by commas.
 #[tactic(auto, unfolding(crate::specs::Directives::each))]
 fn numbers<A: Allocator + Copy>(alloc: A, lexemes: &[Lexeme]) -> Result<Vec<i64, A>, Refusal>
     ensures { Tells (λ numbers. numbers.items) result (directives.listed shapes.number (map seen lexemes.now)) }
@@ -80,7 +80,7 @@ fn numbers<A: Allocator + Copy>(alloc: A, lexemes: &[Lexeme]) -> Result<Vec<i64,
     Ok(numbers)
 }
 
-// A name and nothing more.
+// One name, without anything after it.
 #[tactic(auto, unfolding(crate::specs::Directives::name))]
 fn name<'a>(lexemes: &[Lexeme<'a>]) -> Option<Name<'a>>
     ensures { result ≡ directives.name (map seen lexemes.now) }
@@ -91,7 +91,7 @@ fn name<'a>(lexemes: &[Lexeme<'a>]) -> Option<Name<'a>>
     }
 }
 
-// Names between commas.
+// Names separated by commas.
 #[tactic(auto, unfolding(crate::specs::Directives::each))]
 fn names<'a, A: Allocator + Copy>(
     alloc: A,
@@ -121,7 +121,7 @@ fn push_part<A: Allocator>(bytes: &mut Vec<u8, A>, lexemes: &[Lexeme]) -> Result
     }
 }
 
-// Appends a zero byte to bytes that are ended.
+// Appends a zero byte if `ended` is set.
 fn push_end<A: Allocator>(bytes: &mut Vec<u8, A>, ended: bool) -> Result<(), AllocError>
     ensures { IfOk result (λ _. bytes.new.items ≡ directives.with_end ended bytes.old.items) }
 {
@@ -131,7 +131,7 @@ fn push_end<A: Allocator>(bytes: &mut Vec<u8, A>, ended: bool) -> Result<(), All
     Ok(())
 }
 
-// The bytes of texts between commas, with a zero byte after each where it is ended.
+// The bytes of strings separated by commas, with a zero byte after each if `ended` is set.
 #[tactic(auto, unfolding(crate::specs::Directives::texts_from))]
 fn texts<A: Allocator + Copy>(
     alloc: A,
@@ -149,7 +149,7 @@ fn texts<A: Allocator + Copy>(
     Ok(bytes)
 }
 
-// A number without a sign and nothing more.
+// One number without a sign, without anything after it.
 #[tactic(auto, unfolding(crate::specs::Directives::count))]
 fn count(lexemes: &[Lexeme]) -> Option<u32>
     ensures { result ≡ directives.count (map seen lexemes.now) }
@@ -160,7 +160,7 @@ fn count(lexemes: &[Lexeme]) -> Option<u32>
     }
 }
 
-// Whether nothing, or a dot and more, follows a section's name.
+// Whether the rest of a section's name is empty, or begins with a dot.
 fn is_rest(text: &[u8]) -> bool
     ensures { result ≡ directives.is_rest text.now }
 {
@@ -171,7 +171,7 @@ fn is_rest(text: &[u8]) -> bool
     }
 }
 
-// Whether a name is that of a section, alone or followed by a dot and more.
+// Whether a name is that of a section, or begins with it and a dot.
 fn is_section(name: &str, section: &str) -> bool
     ensures { result ≡ directives.is_section name.now section.now }
 {
@@ -180,7 +180,7 @@ fn is_section(name: &str, section: &str) -> bool
     front == section.as_bytes() && is_rest(rest)
 }
 
-// The section of a name behind `.section`.
+// The section with a name in `.section`.
 #[tactic(auto, unfolding(crate::specs::Directives::named_section))]
 fn named_section(name: &str) -> Option<Section>
     ensures { result ≡ directives.named_section name.now }
@@ -198,7 +198,7 @@ fn named_section(name: &str) -> Option<Section>
     }
 }
 
-// The section that a directive names, which may be followed by more.
+// The section of a `.section` directive; operands after its name are ignored.
 #[tactic(auto, unfolding(crate::specs::Directives::section))]
 fn section(lexemes: &[Lexeme]) -> Option<Section>
     ensures { result ≡ directives.section (map seen lexemes.now) }
@@ -209,7 +209,7 @@ fn section(lexemes: &[Lexeme]) -> Option<Section>
     }
 }
 
-// A section, where no operands follow.
+// A section, if no operands follow.
 #[tactic(auto, unfolding(crate::specs::Directives::alone))]
 fn alone(section: Section, lexemes: &[Lexeme]) -> Option<Section>
     ensures { result ≡ directives.alone section (map seen lexemes.now) }
@@ -220,7 +220,8 @@ fn alone(section: Section, lexemes: &[Lexeme]) -> Option<Section>
     }
 }
 
-/// The directive of a name at the front of a statement, with the operands behind it; a skipped one says nothing.
+/// The directive with a name at the front of a statement and the operands after it; `None` for an
+/// ignored one.
 #[tactic(auto, unfolding(crate::specs::Directives::directive))]
 pub fn directive<'a, A: Allocator + Copy>(
     alloc: A,

@@ -1,4 +1,4 @@
-//! Why sources give no program.
+//! The faults of sources.
 ghost use Rattle.std.specs.Prelude.{◌≡◌};
 ghost use Rattle.asm_parse.specs.Fault.{number_of};
 ghost use Rattle.asm_parse.specs.declared.fault.AsmFault.TheVariants.{Memory};
@@ -6,25 +6,25 @@ ghost use Rattle.asm_parse.specs.declared.fault.AsmFault.TheVariants.{Memory};
 use std::alloc::{AllocError, AllocFailed};
 use thiserror::Error;
 
-/// What is wrong with a statement. A lower number goes before a higher one in the same statement.
+/// The kind of a statement's fault. Of several faults of one statement, the lowest number counts.
 #[derive(Clone, Copy, Debug, PartialEq, Eq, Error)]
 pub enum FaultKind {
     /// A byte that begins no token, a malformed number, or a string that its line does not end.
     #[error("Token")]
     Token,
-    /// The statement begins with no mnemonic and no directive.
+    /// The statement begins with an unknown name, or with no name.
     #[error("Mnemonic")]
     Mnemonic,
-    /// The operands are not as many, or not of the shapes, that the mnemonic or the directive takes.
+    /// The number or the shapes of the operands are wrong for the mnemonic or the directive.
     #[error("Operands")]
     Operands,
-    /// A name that is no register stands in a register's place.
+    /// An operand that must be a register is another name.
     #[error("Register")]
     Register,
     /// A number is out of its operand's range.
     #[error("Range")]
     Range,
-    /// A symbol or a local label is nowhere defined.
+    /// A symbol or a local label is not defined.
     #[error("Undefined")]
     Undefined,
     /// A label is defined a second time.
@@ -36,10 +36,10 @@ pub enum FaultKind {
     /// An unknown directive, or an instruction or bytes in `.bss`.
     #[error("Directive")]
     Directive,
-    /// An instruction at no multiple of 4, or an alignment above 2^12.
+    /// An instruction at an address that is not a multiple of 4, or an alignment above 2^12.
     #[error("Align")]
     Align,
-    /// Text and data segment are together over 2^24 bytes.
+    /// Text and data segment have more than 2^24 bytes together.
     #[error("TooLarge")]
     TooLarge,
 }
@@ -65,7 +65,7 @@ impl FaultKind {
     }
 }
 
-/// What is wrong, and with which statement.
+/// A fault and the place of its statement.
 #[derive(Clone, Copy, Debug, PartialEq, Eq)]
 pub struct Fault {
     pub kind: FaultKind,
@@ -75,13 +75,13 @@ pub struct Fault {
     pub line: usize,
 }
 
-/// Why sources give no program: the fault that decides, or want of memory.
+/// The reason why sources give no program: the fault that counts, or out of memory.
 #[derive(Clone, Copy, Debug, PartialEq, Eq, Error)]
 pub enum AsmFault {
-    /// A statement is wrong.
+    /// A statement has a fault.
     #[error("asm fault {} {} at {}:{}", .0.kind.number(), .0.kind, .0.source, .0.line)]
     At(Fault),
-    /// The host refused memory.
+    /// Out of memory.
     #[error("out of memory")]
     Memory,
 }

@@ -1,4 +1,4 @@
-//! What a statement's first name says.
+//! The first names of statements.
 ghost use Rattle.std.specs.Prelude.{◌≡◌};
 ghost use Rattle.asm_parse.specs.Heads.{head_of};
 
@@ -13,26 +13,26 @@ pub enum Unary {
     Move,
     /// rd gets the complement of rs.
     Not,
-    /// rd gets the negative of rs.
+    /// rd gets the negation of rs.
     Negate,
-    /// rd gets 1 where rs is 0, else 0.
+    /// rd gets 1 if rs is 0, else 0.
     IsZero,
-    /// rd gets 1 where rs is not 0, else 0.
+    /// rd gets 1 if rs is not 0, else 0.
     IsNotZero,
-    /// rd gets 1 where rs is below 0, else 0.
+    /// rd gets 1 if rs is below 0, else 0.
     IsNegative,
-    /// rd gets 1 where rs is above 0, else 0.
+    /// rd gets 1 if rs is above 0, else 0.
     IsPositive,
 }
 
-/// An instruction, or a pseudo-instruction that is one instruction wherever it stands.
+/// An instruction, or a pseudo-instruction that is always one instruction.
 #[derive(Clone, Copy, PartialEq, Eq)]
 pub enum Operation {
     Lui,
     Auipc,
-    /// With one operand, rd is ra.
+    /// With one operand, rd is `ra`.
     Jal,
-    /// With one operand, rd is ra.
+    /// With one operand, rd is `ra`.
     Jalr,
     Branch(BranchOp),
     Load(LoadOp),
@@ -57,7 +57,7 @@ pub enum Operation {
     BranchZero(BranchOp),
     /// A branch that compares zero with a register.
     ZeroBranch(BranchOp),
-    /// A branch whose registers stand the other way round.
+    /// A branch with its two registers swapped.
     SwappedBranch(BranchOp),
     /// `jal zero, t`
     Jump,
@@ -65,7 +65,7 @@ pub enum Operation {
     JumpRegister,
 }
 
-/// What a statement's first name says.
+/// The meaning of a statement's first name.
 #[derive(Clone, Copy, PartialEq, Eq)]
 pub enum Head {
     Operation(Operation),
@@ -80,12 +80,12 @@ pub enum Head {
     Words,
     Halves,
     Bytes,
-    /// Texts, with a zero byte after each where it is ended.
+    /// Strings; a zero byte follows each if `ended` is set.
     Ascii { ended: bool },
     Zero,
     Align,
     Global,
-    /// A directive that says nothing.
+    /// A directive that is ignored.
     Skipped,
 }
 
@@ -429,7 +429,7 @@ const OTHER_HEADS: [(&str, Head); 19] = [
     ("tail", Head::Tail),
 ];
 
-/// What a name at the front of a statement says, if it says anything.
+/// The meaning of a name at the front of a statement, if it is known.
 #[tactic(auto, unfolding(crate::specs::Heads::head_of))]
 pub fn head_of(name: &str) -> Option<Head>
     ensures { result ≡ head_of name.now }

@@ -4,7 +4,7 @@ ghost use Rattle.std.specs.Prelude.{◌≡◌};
 use std::alloc::Allocator;
 use std::marker::Model;
 
-/// The operands of a directive that takes any number of them. A contract sees the list.
+/// The operands of a directive that takes any number of them. Contracts see the list.
 #[derive(Drop)]
 pub struct Items<T, A: Allocator> {
     items: Vec<T, A>,
@@ -19,7 +19,7 @@ impl<T, A: Allocator> Model for Items<T, A> {
 }
 
 impl<T, A: Allocator> Items<T, A> {
-    /// The list of a vector's items.
+    /// The items of a vector.
     pub fn new(items: Vec<T, A>) -> Items<T, A>
         ensures { result ≡ items.items }
     {

@@ -1,4 +1,4 @@
-//! Reads assembler sources as statements.
+//! Parses assembler sources to statements, or to the first fault with its source and line.
 #![tactic(auto)]
 
 pub use fault::{AsmFault, Fault, FaultKind};

@@ -3,7 +3,7 @@ ghost use Rattle.std.specs.Prelude.{◌≡◌};
 
 use std::marker::Model;
 
-/// A name, or the digits of a local label, as it stands in its source. A contract sees its bytes.
+/// A name, or the digits of a local label, as in its source. Contracts see its bytes.
 #[derive(Clone, Drop)]
 pub struct Name<'a> {
     text: &'a str,

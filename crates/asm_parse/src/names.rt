@@ -5,7 +5,7 @@ ghost use Rattle.asm_parse.specs.Names.{fence_bits, fence_set_of, first_named, r
 
 use isa_table::{FenceSet, Reg};
 
-// Registers whose names begin with `a`, and so on; the first are named by the calling convention, `x0` to `x31` by number.
+// Registers whose names begin with `a`, and so on; first the ABI names, then `x0` to `x31`.
 const A_REGISTERS: [(&str, u8); 8] = [
     ("a0", 10),
     ("a1", 11),
@@ -81,7 +81,7 @@ const X_REGISTERS: [(&str, u8); 32] = [
 
 const OTHER_REGISTERS: [(&str, u8); 4] = [("zero", 0), ("ra", 1), ("gp", 3), ("fp", 8)];
 
-// The parts of `iorw` by their bits: input 8, output 4, read 2, write 1.
+// The subsets of `iorw` by their bits: input 8, output 4, read 2, write 1.
 const FENCE_SETS: [(&str, u8); 15] = [
     ("w", 1),
     ("r", 2),
@@ -123,7 +123,7 @@ fn last_of(text: &str) -> u8
     bytes[bytes.len() - 1]
 }
 
-// Whether two texts are the same. The last byte tells most names of a table apart.
+// Whether two texts are equal. The last byte distinguishes most names of a table.
 #[inline(always)]
 #[tactic(auto, using(crate::proofs::Endings::others_end_otherwise))]
 fn is_same(one: &str, other: &str) -> bool
@@ -132,7 +132,7 @@ fn is_same(one: &str, other: &str) -> bool
     last_of(one) == last_of(other) && one == other
 }
 
-/// What the first row of this name has.
+/// The value of the first row with this name.
 #[tactic(auto, unfolding(crate::specs::Names::first_named))]
 pub fn find<V: Copy>(rows: &[(&str, V)], name: &str) -> Option<V>
     ensures { result ≡ first_named (rows_of rows.now) name.now }
@@ -145,7 +145,7 @@ pub fn find<V: Copy>(rows: &[(&str, V)], name: &str) -> Option<V>
     None
 }
 
-// What the table of registers has for a name.
+// The number of a register's name.
 #[tactic(auto, unfolding(crate::specs::Names::register_number))]
 fn register_number(name: &str) -> Option<u8>
     ensures { result ≡ register_number name.now }
@@ -159,7 +159,7 @@ fn register_number(name: &str) -> Option<u8>
     }
 }
 
-// What the table of sets has for a name.
+// The bits of a fence set's name.
 #[tactic(auto, unfolding(crate::specs::Names::fence_bits, isa_names::specs::Names::set_name))]
 fn fence_bits(name: &str) -> Option<u8>
     ensures { result ≡ fence_bits name.now }
@@ -167,7 +167,7 @@ fn fence_bits(name: &str) -> Option<u8>
     find(&FENCE_SETS, name)
 }
 
-/// The register of a name: `x0` to `x31`, or the calling convention's.
+/// The register with a name: `x0` to `x31`, or an ABI name.
 #[tactic(auto, unfolding(crate::specs::Names::register_of))]
 pub fn register_of(name: &str) -> Option<Reg>
     ensures { result ≡ register_of name.now }
@@ -178,7 +178,7 @@ pub fn register_of(name: &str) -> Option<Reg>
     }
 }
 
-/// The set of accesses of a name: a nonempty part of `iorw` in that order.
+/// The set of accesses with a name: a nonempty subset of `iorw` in that order.
 #[tactic(auto, unfolding(crate::specs::Names::fence_set_of))]
 pub fn fence_set_of(name: &str) -> Option<FenceSet>
     ensures { result ≡ fence_set_of name.now }

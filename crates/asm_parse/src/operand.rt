@@ -1,4 +1,4 @@
-//! Operands whose value depends on where labels stand.
+//! Operands whose values depend on the addresses of labels.
 use crate::name::Name;
 
 /// A number, or a symbol's address and a number, both modulo 2^32.
@@ -10,7 +10,7 @@ pub enum Value<'a> {
     Symbol { name: Name<'a>, offset: i64 },
 }
 
-/// The immediate of 12 bits of an instruction.
+/// The 12-bit immediate of an instruction.
 #[derive(Drop)]
 pub enum Immediate<'a> {
     /// A number, which must be from -2048 to 2047.
@@ -19,24 +19,24 @@ pub enum Immediate<'a> {
     Low(Value<'a>),
 }
 
-/// The immediate of 20 bits of LUI and AUIPC.
+/// The 20-bit immediate of LUI and AUIPC.
 #[derive(Drop)]
 pub enum Upper<'a> {
     /// A number, which must be from 0 to 1048575.
     Number(i64),
-    /// `%hi(v)`: what `%lo(v)` leaves of a value, divided by 2^12.
+    /// `%hi(v)`: a value minus `%lo(v)`, divided by 2^12.
     High(Value<'a>),
 }
 
-/// Where a branch or a jump goes.
+/// The target of a branch or a jump.
 #[derive(Drop)]
 pub enum Target<'a> {
-    /// To this address, modulo 2^32.
+    /// This address, modulo 2^32.
     Address(i64),
-    /// To a symbol.
+    /// The address of a symbol.
     Symbol(Name<'a>),
-    /// `1b`: to the last local label of these digits in its source that does not come after it.
+    /// `1b`: the last local label with these digits in its source at or before the statement.
     Back(Name<'a>),
-    /// `1f`: to the next local label of these digits in its source.
+    /// `1f`: the next local label with these digits in its source.
     Ahead(Name<'a>),
 }

@@ -1,4 +1,4 @@
-//! Instructions with their operands. A wrong shape is told before a name that is no register.
+//! Instructions with their operands. A wrong shape comes before a name that is no register.
 ghost use Rattle.std.specs.Prelude.{◌≡◌, map};
 ghost use Rattle.asm_lex.specs.Lexemes.{seen};
 ghost use Rattle.asm_parse.specs.Operations as operations;
@@ -206,7 +206,7 @@ fn branch_zero<'a>(op: BranchOp, lexemes: &[Lexeme<'a>]) -> Result<Instruction<'
     }
 }
 
-// `rs, target`, with which zero is compared
+// `rs, target`, zero compared with it
 #[tactic(auto, unfolding(crate::specs::Operations::zero_branch))]
 fn zero_branch<'a>(op: BranchOp, lexemes: &[Lexeme<'a>]) -> Result<Instruction<'a>, FaultKind>
     ensures { result ≡ operations.zero_branch op (map seen lexemes.now) }
@@ -306,7 +306,7 @@ fn jump_register<'a>(rd: Reg, lexemes: &[Lexeme<'a>]) -> Result<Instruction<'a>,
     }
 }
 
-// `imm(rs1)` behind rd
+// `imm(rs1)` after rd
 #[tactic(auto, unfolding(crate::specs::Operations::jalr_memory))]
 fn jalr_memory<'a>(rd: &str, lexemes: &[Lexeme<'a>]) -> Result<Instruction<'a>, FaultKind>
     ensures { result ≡ operations.jalr_memory rd.now (map seen lexemes.now) }
@@ -321,7 +321,7 @@ fn jalr_memory<'a>(rd: &str, lexemes: &[Lexeme<'a>]) -> Result<Instruction<'a>, 
     }
 }
 
-// `rs1, imm` or `imm(rs1)` behind rd
+// `rs1, imm` or `imm(rs1)` after rd
 #[tactic(auto, unfolding(crate::specs::Operations::jalr_behind))]
 fn jalr_behind<'a>(rd: &str, lexemes: &[Lexeme<'a>]) -> Result<Instruction<'a>, FaultKind>
     ensures { result ≡ operations.jalr_behind rd.now (map seen lexemes.now) }
@@ -350,7 +350,7 @@ fn jalr<'a>(lexemes: &[Lexeme<'a>]) -> Result<Instruction<'a>, FaultKind>
     }
 }
 
-// Two sets of accesses, or none for all.
+// Two sets of accesses, or no operands for all.
 #[tactic(auto, unfolding(crate::specs::Operations::fence))]
 fn fence(lexemes: &[Lexeme]) -> Result<Instr, FaultKind>
     ensures { result ≡ operations.fence (map seen lexemes.now) }
@@ -540,7 +540,7 @@ fn return_instruction<'a>() -> Instruction<'a>
     }
 }
 
-// An instruction with nothing left to value.
+// An instruction whose operands need no values.
 #[tactic(auto, unfolding(crate::specs::Operations::fixed))]
 fn fixed(operation: Operation, lexemes: &[Lexeme]) -> Result<Instr, FaultKind>
     ensures { result ≡ operations.fixed operation (map seen lexemes.now) }
@@ -571,7 +571,7 @@ fn constant<'a>(
     }
 }
 
-/// The instruction of a name at the front of a statement, with the operands behind it.
+/// The instruction with a name at the front of a statement and the operands after it.
 #[tactic(auto, unfolding(crate::specs::Operations::instruction))]
 pub fn instruction<'a>(
     operation: Operation,

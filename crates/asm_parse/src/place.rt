@@ -1,4 +1,4 @@
-//! Where a statement stands.
+//! The place of a statement.
 ghost use Rattle.std.specs.Prelude.{◌≡◌, ◌≢◌};
 ghost use Rattle.asm_parse.specs.Answer.{Fails};
 ghost use Rattle.asm_parse.specs.Statements as statements;
@@ -6,7 +6,7 @@ ghost use Rattle.asm_parse.specs.Statements as statements;
 use crate::fault::{AsmFault, Fault, FaultKind};
 use crate::statement::Section;
 
-/// Where a statement stands: its source, its line, and the section that it is in.
+/// The place of a statement: its source, its line, and its section.
 #[derive(Clone, Copy, PartialEq, Eq)]
 pub struct Place {
     /// The source's index, from 0.
@@ -16,7 +16,7 @@ pub struct Place {
     pub section: Section,
 }
 
-/// Where a source begins: on line 1, in `.text`.
+/// The start of a source: line 1, in `.text`.
 pub fn first_place(source: usize) -> Place
     ensures { result ≡ statements.first_place source }
 {
@@ -27,7 +27,7 @@ pub fn first_place(source: usize) -> Place
     }
 }
 
-/// A fault of the statement that stands here.
+/// A fault of the statement at this place.
 pub fn fault_at(place: Place, kind: FaultKind) -> AsmFault
     ensures { result ≡ AsmFault.At (statements.fault_at place kind) }
 {

@@ -1,4 +1,4 @@
-//! Sources as statements.
+//! Sources to statements.
 ghost use Rattle.std.specs.Prelude.{◌≡◌, ◌≤◌, ◌<◌, ◌-◌, ◌^◌, [], map, true, option_map, drop, length, IfOk, IfSome, Ok, OnOk};
 ghost use Rattle.std.specs.List.{list_all};
 ghost use Rattle.std.specs.Char.{is_ascii_digit};
@@ -22,7 +22,7 @@ fn are_digits(text: &str) -> bool
     text.as_bytes().iter().all(|byte| byte.is_ascii_digit())
 }
 
-// The label that stands at the front.
+// The label at the front.
 #[tactic(auto, unfolding(crate::specs::Statements::label_of))]
 fn label_of<'a, A: Allocator>(lexemes: &[Lexeme<'a>]) -> Option<Body<'a, A>>
     ensures value { option_map body_value result ≡ label_of (map seen lexemes.now) }
@@ -41,7 +41,7 @@ fn label_of<'a, A: Allocator>(lexemes: &[Lexeme<'a>]) -> Option<Body<'a, A>>
     }
 }
 
-// Appends the labels at the front of a statement; how many lexemes they are.
+// Appends the labels at the front of a statement; returns the number of their lexemes.
 #[tactic(auto, using(crate::proofs::Labels::label_step, crate::proofs::Labels::no_label, crate::proofs::Labels::at_end))]
 fn push_labels<'a, A: Allocator + Copy>(
     place: Place,
@@ -65,7 +65,7 @@ fn push_labels<'a, A: Allocator + Copy>(
     Ok(at)
 }
 
-// The section behind a statement.
+// The section after a statement.
 fn section_behind<A: Allocator>(section: Section, body: &Body<A>) -> Section
     ensures { result ≡ section_behind section (body_value body.now) }
 {
@@ -75,7 +75,7 @@ fn section_behind<A: Allocator>(section: Section, body: &Body<A>) -> Section
     }
 }
 
-// Appends what a statement says, if it says anything; the section behind it.
+// Appends the body of a statement, if it has one; returns the section after it.
 fn push_body<'a, A: Allocator + Copy>(
     place: Place,
     body: Option<Body<'a, A>>,
@@ -99,7 +99,7 @@ fn push_body<'a, A: Allocator + Copy>(
     }
 }
 
-// Appends a statement's labels and what it says; the section behind it.
+// Appends a statement's labels and its body; returns the section after it.
 #[tactic(auto, unfolding(crate::specs::Statements::statement_from))]
 fn push_statement<'a, A: Allocator + Copy>(
     alloc: A,
@@ -128,7 +128,7 @@ fn ends_statement(lexeme: Lexeme) -> bool
     matches!(lexeme, Lexeme::Semicolon | Lexeme::LineEnd)
 }
 
-// How many lines a lexeme ends.
+// The number of lines that a lexeme ends.
 fn lines_ended(lexeme: Lexeme) -> usize
     ensures value { result ≡ lines_ended (seen lexeme.entry) }
     ensures one { result ≤ 1 }
@@ -139,7 +139,7 @@ fn lines_ended(lexeme: Lexeme) -> usize
     }
 }
 
-// Where the statement behind a lexeme that ends one stands.
+// The place of the statement after a lexeme that ends one.
 fn next_place(place: Place, lexeme: Lexeme, section: Section) -> Place
     requires { place.line < 2 ^ 64 - 1 }
     ensures { result ≡ next_place place (seen lexeme.entry) section }
@@ -165,7 +165,8 @@ fn push_last<'a, A: Allocator + Copy>(
     Ok(())
 }
 
-// Appends the statements of a text that begins at a place. Where the text has a token's fault, the statement in which it stands has it.
+// Appends the statements of a text from a place on. An invalid token is a fault of the statement
+// that it is in.
 #[tactic(auto, using(crate::proofs::Lines::line_goes_on, crate::proofs::Lines::line_ends, crate::proofs::Lines::line_refused, crate::proofs::Lines::at_end, crate::proofs::Lines::at_fault))]
 fn push_lines<'a, A: Allocator + Copy>(
     alloc: A,
@@ -197,7 +198,8 @@ fn push_lines<'a, A: Allocator + Copy>(
     }
 }
 
-// Appends the change to `.text` with which each source behind the first begins, since the one before may end elsewhere.
+// Appends the change to `.text` at the start of each source after the first, since the previous one
+// may end elsewhere.
 fn push_begin<'a, A: Allocator>(
     place: Place,
     statements: &mut Vec<Statement<'a, A>, A>,
@@ -216,7 +218,7 @@ fn push_begin<'a, A: Allocator>(
     Ok(())
 }
 
-// Appends the statements of a source, which begins in `.text`.
+// Appends the statements of a source, which starts in `.text`.
 fn push_source<'a, A: Allocator + Copy>(
     alloc: A,
     source: usize,
@@ -231,8 +233,9 @@ fn push_source<'a, A: Allocator + Copy>(
     push_lines(alloc, place, text, statements)
 }
 
-/// The statements of sources, in order, each source beginning in `.text`; or the earliest wrong statement with the lowest
-/// of its faults among Token, Mnemonic, Operands, Register and Directive.
+/// The statements of sources, in order, each source starting in `.text`; or the first statement
+/// with a fault among Token, Mnemonic, Operands, Register and Directive, and its lowest such fault.
+/// `Memory` when out of memory.
 #[tactic(auto, unfolding(crate::specs::Statements::statements_of, crate::specs::Statements::sources_from))]
 pub fn statements<'a, A: Allocator + Copy>(
     alloc: A,

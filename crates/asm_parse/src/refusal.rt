@@ -1,16 +1,16 @@
-//! Why a statement is refused.
+//! The refusal of a statement.
 ghost use Rattle.std.specs.Prelude.{◌≡◌};
 ghost use Rattle.asm_parse.specs.declared.refusal.Refusal.TheVariants.{Memory};
 
 use crate::fault::FaultKind;
 use std::alloc::{AllocError, AllocFailed};
 
-/// Why a statement is refused: its fault, or want of memory.
+/// The reason why a statement gives nothing: its fault, or out of memory.
 #[derive(Clone, Copy, PartialEq, Eq)]
 pub enum Refusal {
-    /// The statement is wrong.
+    /// The statement has a fault.
     Wrong(FaultKind),
-    /// The host refused memory.
+    /// Out of memory.
     Memory,
 }
 

@@ -1,4 +1,5 @@
-//! The shapes of operands. A reader of a front part answers what stands there and the lexemes behind it.
+//! The shapes of operands. A function `.._in_front` returns the item at the front and the lexemes
+//! after it.
 ghost use Rattle.std.specs.Prelude.{◌≡◌, map, option_map};
 ghost use Rattle.asm_lex.specs.Lexemes.{seen};
 ghost use Rattle.asm_parse.specs.Shapes as shapes;
@@ -22,7 +23,7 @@ fn number_in_front<'t, 'a>(lexemes: &'t [Lexeme<'a>]) -> Option<(i64, &'t [Lexem
     }
 }
 
-// The number at the front, with its sign turned.
+// The number at the front, negated.
 #[tactic(auto, unfolding(crate::specs::Shapes::turned_number_in_front))]
 fn turned_number_in_front<'t, 'a>(lexemes: &'t [Lexeme<'a>]) -> Option<(i64, &'t [Lexeme<'a>])>
     ensures { option_map shapes.with_rest result ≡ shapes.turned_number_in_front (map seen lexemes.now) }
@@ -34,7 +35,7 @@ fn turned_number_in_front<'t, 'a>(lexemes: &'t [Lexeme<'a>]) -> Option<(i64, &'t
     }
 }
 
-// What is added to a symbol's address: plus or minus a number, or nothing.
+// The number added to a symbol's address: plus or minus a number, or nothing.
 #[tactic(auto, unfolding(crate::specs::Shapes::offset_in_front))]
 fn offset_in_front<'t, 'a>(lexemes: &'t [Lexeme<'a>]) -> Option<(i64, &'t [Lexeme<'a>])>
     ensures { option_map shapes.with_rest result ≡ shapes.offset_in_front (map seen lexemes.now) }
@@ -46,7 +47,7 @@ fn offset_in_front<'t, 'a>(lexemes: &'t [Lexeme<'a>]) -> Option<(i64, &'t [Lexem
     }
 }
 
-// A symbol's address and what stands behind its name.
+// A symbol's address and the offset after its name.
 fn symbol_and<'t, 'a>(
     name: &'a str,
     behind: Option<(i64, &'t [Lexeme<'a>])>,
@@ -62,7 +63,7 @@ fn symbol_and<'t, 'a>(
     }
 }
 
-// The number or the symbol plus or minus a number at the front.
+// The number at the front, or the symbol plus or minus a number.
 #[tactic(auto, unfolding(crate::specs::Shapes::value_in_front))]
 fn value_in_front<'t, 'a>(lexemes: &'t [Lexeme<'a>]) -> Option<(Value<'a>, &'t [Lexeme<'a>])>
     ensures { option_map shapes.with_rest result ≡ shapes.value_in_front (map seen lexemes.now) }
@@ -76,7 +77,7 @@ fn value_in_front<'t, 'a>(lexemes: &'t [Lexeme<'a>]) -> Option<(Value<'a>, &'t [
     }
 }
 
-// The value between parentheses behind `%` and this name, at the front.
+// The value in parentheses after `%` and this name, at the front.
 #[tactic(auto, unfolding(crate::specs::Shapes::part_in_front))]
 fn part_in_front<'t, 'a>(
     part: &str,
@@ -100,7 +101,7 @@ fn part_in_front<'t, 'a>(
     }
 }
 
-// The immediate of 12 bits at the front.
+// The 12-bit immediate at the front.
 #[tactic(auto, unfolding(crate::specs::Shapes::immediate_in_front))]
 fn immediate_in_front<'t, 'a>(
     lexemes: &'t [Lexeme<'a>],
@@ -119,7 +120,7 @@ fn immediate_in_front<'t, 'a>(
     }
 }
 
-/// A number and nothing more.
+/// One number, without anything after it.
 #[tactic(auto, unfolding(crate::specs::Shapes::number))]
 pub fn number(lexemes: &[Lexeme]) -> Option<i64>
     ensures { result ≡ shapes.number (map seen lexemes.now) }
@@ -130,7 +131,7 @@ pub fn number(lexemes: &[Lexeme]) -> Option<i64>
     }
 }
 
-/// A value and nothing more.
+/// One value, without anything after it.
 #[tactic(auto, unfolding(crate::specs::Shapes::value))]
 pub fn value<'a>(lexemes: &[Lexeme<'a>]) -> Option<Value<'a>>
     ensures { result ≡ shapes.value (map seen lexemes.now) }
@@ -141,7 +142,7 @@ pub fn value<'a>(lexemes: &[Lexeme<'a>]) -> Option<Value<'a>>
     }
 }
 
-/// An immediate of 12 bits and nothing more.
+/// One 12-bit immediate, without anything after it.
 #[tactic(auto, unfolding(crate::specs::Shapes::immediate))]
 pub fn immediate<'a>(lexemes: &[Lexeme<'a>]) -> Option<Immediate<'a>>
     ensures { result ≡ shapes.immediate (map seen lexemes.now) }
@@ -152,7 +153,7 @@ pub fn immediate<'a>(lexemes: &[Lexeme<'a>]) -> Option<Immediate<'a>>
     }
 }
 
-/// An immediate of 20 bits and nothing more.
+/// One 20-bit immediate, without anything after it.
 #[tactic(auto, unfolding(crate::specs::Shapes::upper))]
 pub fn upper<'a>(lexemes: &[Lexeme<'a>]) -> Option<Upper<'a>>
     ensures { result ≡ shapes.upper (map seen lexemes.now) }
@@ -169,7 +170,7 @@ pub fn upper<'a>(lexemes: &[Lexeme<'a>]) -> Option<Upper<'a>>
     }
 }
 
-/// Where a branch or a jump goes, and nothing more.
+/// One target of a branch or a jump, without anything after it.
 #[tactic(auto, unfolding(crate::specs::Shapes::target))]
 pub fn target<'a>(lexemes: &[Lexeme<'a>]) -> Option<Target<'a>>
     ensures { result ≡ shapes.target (map seen lexemes.now) }
@@ -185,7 +186,7 @@ pub fn target<'a>(lexemes: &[Lexeme<'a>]) -> Option<Target<'a>>
     }
 }
 
-// `(rs)` and nothing more: the register's name.
+// `(rs)`, without anything after it: the register's name.
 #[tactic(auto, unfolding(crate::specs::Shapes::base))]
 fn base<'a>(lexemes: &[Lexeme<'a>]) -> Option<&'a str>
     ensures { option_map (λ name. name.now) result ≡ shapes.base (map seen lexemes.now) }
@@ -196,7 +197,7 @@ fn base<'a>(lexemes: &[Lexeme<'a>]) -> Option<&'a str>
     }
 }
 
-// An immediate and the name of the register in parentheses behind it.
+// An immediate and the name of the register in parentheses after it.
 #[tactic(auto, unfolding(crate::specs::Shapes::with_base))]
 fn with_base<'a>(
     immediate: Immediate<'a>,
@@ -210,7 +211,7 @@ fn with_base<'a>(
     }
 }
 
-/// `imm(rs)` or `(rs)` and nothing more: the immediate and the register's name.
+/// `imm(rs)` or `(rs)`, without anything after it: the immediate and the register's name.
 #[tactic(auto, unfolding(crate::specs::Shapes::memory))]
 pub fn memory<'a>(lexemes: &[Lexeme<'a>]) -> Option<(Immediate<'a>, &'a str)>
     ensures { option_map shapes.with_name result ≡ shapes.memory (map seen lexemes.now) }
@@ -224,7 +225,7 @@ pub fn memory<'a>(lexemes: &[Lexeme<'a>]) -> Option<(Immediate<'a>, &'a str)>
     }
 }
 
-/// `(rs)`, for which `0(rs)` may stand, and nothing more: the register's name.
+/// `(rs)` or `0(rs)`, without anything after it: the register's name.
 #[tactic(auto, unfolding(crate::specs::Shapes::address))]
 pub fn address<'a>(lexemes: &[Lexeme<'a>]) -> Option<&'a str>
     ensures { option_map (λ name. name.now) result ≡ shapes.address (map seen lexemes.now) }
@@ -235,7 +236,7 @@ pub fn address<'a>(lexemes: &[Lexeme<'a>]) -> Option<&'a str>
     }
 }
 
-/// A register in a register's place.
+/// The register with a name, or the fault `Register`.
 #[tactic(auto, unfolding(crate::specs::Shapes::register))]
 pub fn register(name: &str) -> Result<Reg, FaultKind>
     ensures { result ≡ shapes.register name.now }

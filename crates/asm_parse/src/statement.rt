@@ -1,4 +1,4 @@
-//! Statements. Pseudo-instructions that are one instruction wherever they stand are read as that instruction.
+//! Statements. A pseudo-instruction that is always one instruction is parsed as that instruction.
 use crate::items::Items;
 use crate::name::Name;
 use crate::operand::{Immediate, Target, Upper, Value};
@@ -6,21 +6,22 @@ use isa_table::{BranchOp, ImmediateOp, Instr, LoadOp, Reg, ShiftOp, StoreOp};
 use std::alloc::Allocator;
 use std::marker::Model;
 
-/// What a program's bytes are sorted into.
+/// The sections of a program.
 #[derive(Clone, Copy, PartialEq, Eq)]
 pub enum Section {
     /// Instructions: `.text`.
     Text,
-    /// Bytes that may be written: `.data`, and `.rodata` too.
+    /// Writable bytes: `.data`, and `.rodata` too.
     Data,
-    /// Zero bytes that the file does not hold: `.bss`.
+    /// Zero bytes that take no space in the file: `.bss`.
     Zeros,
 }
 
-/// An instruction whose operands are not yet valued.
+/// An instruction whose operands have no values yet.
 #[derive(Drop)]
 pub enum Instruction<'a> {
-    /// An instruction with nothing left to value: registers, fences, ECALL, EBREAK and the A extension.
+    /// An instruction whose operands need no values: registers, fences, ECALL, EBREAK and the A
+    /// extension.
     Fixed(Instr),
     Lui {
         rd: Reg,
@@ -75,12 +76,12 @@ pub enum Instruction<'a> {
 /// A pseudo-instruction whose instructions depend on its operand's value.
 #[derive(Drop)]
 pub enum Pseudo<'a> {
-    /// `li rd, n`: rd gets the number modulo 2^32; below -2^31 it is out of range.
+    /// `li rd, n`: rd gets the number modulo 2^32; a number below -2^31 is out of range.
     Li {
         rd: Reg,
         number: i64,
     },
-    /// `la rd, x`: rd gets the address of a symbol and a number.
+    /// `la rd, x`: rd gets the sum of a symbol's address and a number.
     La {
         rd: Reg,
         name: Name<'a>,
@@ -90,20 +91,20 @@ pub enum Pseudo<'a> {
     Call {
         name: Name<'a>,
     },
-    /// `tail x`: a jump to a symbol, by way of t1.
+    /// `tail x`: a jump to a symbol through t1.
     Tail {
         name: Name<'a>,
     },
 }
 
-/// A directive that makes bytes or decides where they go.
+/// A directive that makes bytes or selects their section.
 #[derive(Drop)]
 pub enum Directive<'a, A: Allocator> {
-    /// `.text`, `.data`, `.bss`, `.section`: what follows goes into this section.
+    /// `.text`, `.data`, `.bss`, `.section`: the section of the following statements.
     Section(Section),
     /// `.align`, `.p2align`: zero bytes or nops up to a multiple of 2^n; n must be at most 12.
     Align(u32),
-    /// `.zero`, `.space`, `.skip`: so many zero bytes.
+    /// `.zero`, `.space`, `.skip`: this many zero bytes.
     Zero(u32),
     /// `.word`: four bytes a value; a number must be from -2^31 to 2^32 - 1.
     Words(Items<Value<'a>, A>),
@@ -111,25 +112,25 @@ pub enum Directive<'a, A: Allocator> {
     Halves(Items<i64, A>),
     /// `.byte`: a byte a number, which must be from -2^7 to 2^8 - 1.
     Bytes(Items<i64, A>),
-    /// `.ascii`, `.asciz`, `.string`: the bytes of the texts, with the zero bytes after them.
+    /// `.ascii`, `.asciz`, `.string`: the bytes of the strings, with the zero bytes after them.
     Ascii(Items<u8, A>),
-    /// `.globl`, `.global`: symbols of these names are global.
+    /// `.globl`, `.global`: the symbols with these names are global.
     Global(Items<Name<'a>, A>),
 }
 
-/// What a statement says. Skipped directives say nothing, and a label is a statement of its own.
+/// The body of a statement. An ignored directive has none; a label is a statement of its own.
 #[derive(Drop)]
 pub enum Body<'a, A: Allocator> {
     /// `name:`
     Label(Name<'a>),
-    /// `1:`, a label of digits that its source alone knows.
+    /// `1:`, a numeric label that is local to its source.
     LocalLabel(Name<'a>),
     Instruction(Instruction<'a>),
     Pseudo(Pseudo<'a>),
     Directive(Directive<'a, A>),
 }
 
-/// A statement and where it begins.
+/// A statement and the place where it begins.
 #[derive(Drop)]
 pub struct Statement<'a, A: Allocator> {
     /// The index of its source, from 0.

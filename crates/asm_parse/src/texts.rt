@@ -13,7 +13,7 @@ fn is_octal(byte: u8) -> bool
     byte >= b'0' && byte <= b'7'
 }
 
-// The octal digit at a place, if one stands there.
+// The octal digit at a place, if there is one.
 fn octal_at(text: &[u8], place: usize) -> Option<u8>
     ensures value { result ≡ texts.octal_at text.now place }
     ensures digit { IfSome result (λ digit. digit < 8) }
@@ -25,7 +25,7 @@ fn octal_at(text: &[u8], place: usize) -> Option<u8>
     }
 }
 
-// The byte that one to three octal digits say, and how many they are.
+// The byte of one to three octal digits, and their number.
 #[tactic(auto, unfolding(crate::specs::Texts::octal_escape))]
 fn octal_escape(text: &[u8]) -> Option<(u8, usize)>
     ensures value { result ≡ texts.octal_escape text.now }
@@ -45,7 +45,7 @@ fn octal_escape(text: &[u8]) -> Option<(u8, usize)>
     }
 }
 
-// The byte that a letter or a sign says behind a backslash.
+// The byte of a letter or a sign after a backslash.
 fn plain_escape(byte: u8) -> Option<u8>
     ensures { result ≡ texts.plain_escape byte }
 {
@@ -59,7 +59,7 @@ fn plain_escape(byte: u8) -> Option<u8>
     }
 }
 
-// The byte that an escape says, and how many bytes it takes behind the backslash.
+// The byte of an escape, and the number of bytes that it takes after the backslash.
 #[tactic(auto, unfolding(crate::specs::Texts::escape))]
 fn escape(text: &[u8]) -> Option<(u8, usize)>
     ensures value { result ≡ texts.escape text.now }
@@ -74,7 +74,7 @@ fn escape(text: &[u8]) -> Option<(u8, usize)>
     }
 }
 
-// The byte at the front of a text, and how many bytes it takes.
+// The byte at the front of a text, and the number of bytes that it takes.
 #[tactic(auto, unfolding(crate::specs::Texts::byte_in_front))]
 fn byte_in_front(text: &[u8]) -> Option<(u8, usize)>
     ensures value { result ≡ texts.byte_in_front text.now }
@@ -91,7 +91,7 @@ fn byte_in_front(text: &[u8]) -> Option<(u8, usize)>
     }
 }
 
-// What stands between the quotes of a string.
+// The bytes between the quotes of a string.
 fn between_quotes(text: &[u8]) -> &[u8]
     ensures { result.now ≡ texts.between_quotes text.now }
 {
@@ -100,7 +100,7 @@ fn between_quotes(text: &[u8]) -> &[u8]
     inner
 }
 
-/// Appends the bytes of a string, given with its quotes. Wrong where an escape says no byte.
+/// Appends the bytes of a string, given with its quotes. An invalid escape is a fault.
 #[tactic(auto, using(crate::proofs::TextSteps::byte_step, crate::proofs::TextSteps::no_byte, crate::proofs::TextSteps::at_end))]
 pub fn push_text<A: Allocator>(bytes: &mut Vec<u8, A>, text: &[u8]) -> Result<(), Refusal>
     ensures { Tells (λ _. bytes.new.items) result (texts.said bytes.old.items text.now) }

@@ -1,4 +1,4 @@
--- A text of words that end where they should reads as these words.
+-- A text of words with proper ends reads as these words.
 use Rattle.std.proofs.Common.{◌≡◌, ℕ, zero, suc, ◌-◌, ◌<◌, Bool, true, false, List, [], ◌∷◌, ◌++◌, length, get_or, refl, sym, ap, ◌∙◌, arith, true≢false, ◌&&◌}
 use Rattle.std.specs.List.{list_all}
 use Rattle.std.proofs.lemmas.List.{take_at}
@@ -33,7 +33,7 @@ each_passes p (x ∷ w) e (suc i) lt = each_passes p w (and_right (p x) (list_al
 run : (p : ℕ → Bool) (w rest : List ℕ) → list_all p w ≡ true → StopsBefore p rest → IsRun p w rest
 run p w rest e stops = record { each = each_passes p w e; stops = stops }
 
--- a word, whatever it is
+-- any word
 word_read : (w rest : List ℕ) (kind : Kind) → 0 < length w → is_word w ≡ true → StopsBefore is_name_byte rest → word_piece w ≡ pieces.Lexeme kind (length w) → lexed 0 (w ++ rest) ≡ with_lexeme (lexeme kind w) (lexed 0 rest)
 unfolding lexed
 word_read [] rest kind pos all stops is = absurd (omega arith)

@@ -1,4 +1,4 @@
--- A text made of words that end where they should.
+-- A text made of words with proper ends.
 use Rattle.std.specs.Prelude.{◌≡◌, ℕ, ◌<◌, ◌==◌, Bool, true, false, List, [], ◌∷◌, ◌++◌, Some, slice_index, length}
 use Rattle.std.specs.List.{list_all}
 use Rattle.asm_lex.specs.Bytes.{is_digit, is_name_byte, is_printable}
@@ -43,7 +43,7 @@ lexemes (Line ∷ atoms) rest = LineEnd ∷ lexemes atoms rest
 abbrev pub afterwards : List Atom → Lexed → Lexed
 afterwards atoms rest = record { lexemes = lexemes atoms rest.lexemes; whole = rest.whole }
 
--- name characters alone
+-- name characters only
 abbrev pub is_word : List ℕ → Bool
 is_word w = list_all is_name_byte w
 

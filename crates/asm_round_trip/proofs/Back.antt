@@ -20,7 +20,7 @@ abbrev pub IsOneLine : List Atom → Type 0
 IsOneLine atoms = (place : Place) (done : List StatementValue) (more : List Lexeme)
     → source_from true place done [] (lexemes atoms (LineEnd ∷ more)) ≡ (statement_from place done (lexemes atoms []) >>= λ r. source_from true (next_place place LineEnd r.1) r.0 [] more)
 
--- the lexemes of a statement in the text say this
+-- the lexemes of a statement in the text have this body
 abbrev pub Says : List Lexeme → BodyValue → Type 0
 Says ls b = (source line : ℕ) (done : List StatementValue)
     → statement_from (text_place source line) done ls ≡ Ok (done ++ stated (text_place source line) b ∷ [], sections.Text)

@@ -41,7 +41,7 @@ registers_found = (refl, (refl, (refl, (refl, (refl, (refl, (refl, (refl, (refl,
 pub register_found : (r : ℕ) → r < 2 ^ 5 → NamesRegister r
 register_found r lt = record { word = register_is_name r lt; is = each_at (λ r. register (abi r) ≡ Ok r) 32 r registers_found lt }
 
--- the name of a set that isn't empty is a name, and found as this set's
+-- the name of a set that is not empty is a name, and found as this set's
 pub record NamesSet (s : ℕ) : Type 0 where
   pub word : IsName (set_name s)
   pub is : fence_set_of (set_name s) ≡ Some s
@@ -54,7 +54,7 @@ pub set_found : (s : ℕ) → 0 < s → s < 2 ^ 4 → NamesSet s
 set_found zero some lt = absurd (omega (arith, some))
 set_found (suc s) some lt = record { word = set_is_name (suc s) some lt; is = each_at (λ s. fence_set_of (set_name (suc s)) ≡ Some (suc s)) 15 s sets_found (omega arith) }
 
--- a name at the front of a statement is a name, and says this
+-- a name at the front of a statement is a name with this meaning
 pub record NamesHead (w : List ℕ) (h : Head) : Type 0 where
   pub word : IsName w
   pub is : head_of w ≡ Some h

@@ -1,4 +1,4 @@
--- Statements of the text alone go through all phases of the assembler as one fold.
+-- Statements of only the text pass all phases of the assembler as one fold.
 use Rattle.std.proofs.Common.{◌≡◌, ℕ, ◌+◌, ◌-◌, ◌^◌, ◌≤◌, false, List, [], ◌∷◌, ◌++◌, length, None, Ok, refl, ap, ◌∙◌, arith, nat_lt, append_assoc, length-append}
 use Rattle.std.proofs.lemmas.List.{append-nil}
 use Rattle.asm_parse.specs.Statement.{StatementValue, BodyValue}
@@ -21,7 +21,7 @@ in_text at d z = record { section = sections.Text; text_at = at; data_at = d; ze
 abbrev pub more_text : Images → List ℕ → Images
 more_text done bytes = record { text_bytes = done.text_bytes ++ bytes; data_bytes = done.data_bytes }
 
--- statements that give bytes one behind the other, from an address in the text on
+-- statements that give consecutive bytes from an address in the text on
 pub record Phased (at : ℕ) (ss : List StatementValue) (bytes : List ℕ) : Type 0 where
   pub after : (d z : ℕ) → cursor_after (in_text at d z) ss ≡ in_text (at + length bytes) d z
   pub globals : (seen : Globals) → globals_from seen ss ≡ seen

@@ -1,4 +1,4 @@
--- What the assembler does with a statement of the text that is no label and no change of section.
+-- The assembler on a statement of the text that is neither a label nor a change of section.
 use Rattle.std.proofs.Common.{◌≡◌, ℕ, ◌%◌, ◌^◌, ◌<◌, List, [], ◌∷◌, length, Option, None, Ok, refl, arith}
 use Rattle.std.specs.Prelude.{pos}
 use Rattle.std.specs.Int.{w32, to_le_bytes}
@@ -21,7 +21,7 @@ use Rattle.asm_assemble.specs.Placing.{Globals, with_globals, own_fault, symbols
 use Rattle.asm_assemble.specs.Valuing.{instr_bytes, fits_word, word_list, byte_list, where_fits, directive_bytes, bytes_of}
 use Rattle.asm_round_trip.proofs.Signs.{is_below}
 
--- at an address of the text a statement gives bytes, and nothing else
+-- at an address of the text a statement gives bytes, and has no other effect
 pub record Stands (at : ℕ) (b : BodyValue) (bytes : List ℕ) : Type 0 where
   pub stays : section_of b ≡ None
   pub size_is : size at b ≡ length bytes

@@ -35,7 +35,7 @@ hex8_in_line n = rw (in_line n 7, in_line n 6, in_line n 5, in_line n 4, in_line
 digits_in_line : (n : ℕ) → list_all is_in_line (word_text n) ≡ true
 digits_in_line n = rw (word_text_is n) (hex8_in_line n)
 
--- the address and the digits behind a word's line
+-- the address and the digits after a word's line
 abbrev remark : ℕ → ℕ → List ℕ
 remark at word = 32 ∷ (word_text at ++ (32 ∷ word_text word))
 
@@ -134,7 +134,7 @@ are_bytes : (bytes : List ℕ) → All (λ b. b < 2 ^ 8) bytes → AreBytes byte
 are_bytes [] h = tt
 are_bytes (b ∷ bs) h = (h 0 0 (omega arith), are_bytes bs (λ k d lt. h (suc k) d (omega arith)))
 
--- one source alone
+-- a single source
 one_source : (text : List ℕ) (words : List Lexeme) (said : List StatementValue) → lexed 0 text ≡ whole_of words → source_from true (text_place 0 1) [] [] words ≡ Ok said → statements_of (text ∷ []) ≡ Ok said
 unfolding statements_of sources_from
 one_source text words said are says = rw (are, says) refl

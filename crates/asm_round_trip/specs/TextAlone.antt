@@ -1,4 +1,4 @@
--- Programs of a text alone.
+-- Programs that have only a text.
 use Rattle.std.specs.Prelude.{ℕ, List, []}
 use Rattle.asm_assemble.specs.Program.{ProgramValue}
 use Rattle.asm_assemble.specs.Program.{text_start}

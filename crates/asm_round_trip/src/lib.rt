@@ -1,4 +1,4 @@
-//! The listing of a program, and that it is a source of the program that it lists.
+//! The listing of a program, with the law that it is a source of the same text.
 #![tactic(auto)]
 
 pub use laws::a_listing_is_its_source;

@@ -8,10 +8,12 @@ use asm_assemble::{Program, TEXT_BASE};
 use isa_disasm::push_listing;
 use std::alloc::{AllocError, Allocator};
 
-// How many bytes most lines have at most, so that the listing of a large program is seldom moved.
+// Room for one line, in bytes; most lines fit. The listing of a large program is then seldom
+// reallocated.
 const LINE_ROOM: usize = 48;
 
-/// The listing of a program's text: a line for each word, and for each byte behind the last whole word.
+/// The listing of a program's text: a line for each word, and for each byte after the last whole
+/// word. Fails when out of memory.
 pub fn list<A: Allocator + Copy>(alloc: A, program: &Program<A>) -> Result<String<A>, AllocError>
     ensures { IfOk result (λ text. string_bytes text ≡ listing text_start program.now.text) }
 {

@@ -11,7 +11,7 @@ use crate::program::list;
 use asm_assemble::Program;
 use std::alloc::{AllocError, Allocator};
 
-// The law of these bytes: nothing is done.
+// Applies the law to these bytes; does nothing at run time.
 fn comes_back(bytes: &[u8], source: &str)
     requires lines { source.now ≡ listing text_start bytes.now }
     requires within { length bytes.now ≤ 2 ^ 24 }
@@ -20,8 +20,8 @@ fn comes_back(bytes: &[u8], source: &str)
     a_listing_is_its_source();
 }
 
-/// The listing of a program's text. As the one source it assembles to a program of the same text, without data, zeros
-/// and symbols.
+/// The listing of a program's text. As the only source it assembles to a program of the same text,
+/// without data, zeros and symbols. Fails when out of memory.
 pub fn list_source<A: Allocator + Copy>(
     alloc: A,
     program: &Program<A>,

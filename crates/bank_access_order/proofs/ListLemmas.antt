@@ -5,7 +5,7 @@ use Rattle.std.specs.List.{AllByRecursion, filter}
 use Rattle.std.proofs.lemmas.Bool.{cases_lt}
 use Rattle.bank_laws.specs.Order.{In}
 
--- what is left from a place on begins with what stands there
+-- the rest of a list from an index on begins with the element there
 pub drop_here : {A : Type 0} (xs : List A) (i : ℕ) (a : A) → i < length xs → a ≡ get_or xs i a → drop i xs ≡ a ∷ drop (i + 1) xs
 drop_here [] i a low e = absurd (omega (arith, low))
 drop_here (x ∷ xs) zero a low e = ap (λ y. y ∷ xs) (sym e)
@@ -13,7 +13,7 @@ drop_here (x ∷ xs) (suc i) a low e =
     let next : suc i + 1 ≡ suc (i + 1) = omega arith in
     rw next (drop_here xs i a (omega (arith, low)) e)
 
--- what stands at a place, seen through a function
+-- the element at an index, seen through a function
 pub map_here : {A B : Type 0} (f : A → B) (xs : List A) (i : ℕ) (a : A) (d : B) → i < length xs → a ≡ get_or xs i a → get_or (map f xs) i d ≡ f a
 map_here f [] i a d low e = absurd (omega (arith, low))
 map_here f (x ∷ xs) zero a d low e = ap f (sym e)

@@ -20,7 +20,7 @@ segments_of logs = map (λ l. l.log) logs
 abbrev pub log_at : List (List LoggedAccess) → ℕ → List LoggedAccess
 log_at banks b = slice_index_or banks b []
 
--- the segments of hart h, which has none past the last hart
+-- the segments of hart h, empty past the last hart
 abbrev pub own_log : List (List LoggedSegment) → ℕ → List LoggedSegment
 own_log harts h = slice_index_or harts h []
 
@@ -28,12 +28,12 @@ own_log harts h = slice_index_or harts h []
 abbrev pub of_hart : ℕ → List LoggedAccess → List LoggedAccess
 of_hart h log = filter (λ a. a.hart == h) log
 
--- from these places on, the banks' logs have these accesses of hart h: each bank those of its words, in order
+-- from these places on, each bank's log has those of these accesses of hart h that are its own
 abbrev pub AreLeft : List (List LoggedAccess) → ℕ → List ℕ → List LoggedAccess → Type 0
 AreLeft banks h places xs = (b : ℕ) → b < most_banks
     → of_hart h (drop (slice_index_or places b 0) (log_at banks b)) ≡ share_of bank_of b xs
 
--- the banks' logs have these accesses of hart h: each bank those of its words, in order
+-- each bank's log has those of these accesses of hart h that are to its words, in order
 abbrev pub IsOrdered : List (List LoggedAccess) → ℕ → List LoggedAccess → Type 0
 IsOrdered banks h xs = (b : ℕ) → b < most_banks → of_hart h (log_at banks b) ≡ share_of bank_of b xs
 
@@ -46,7 +46,7 @@ pub record AreOrdered (harts : List (List LoggedSegment)) (banks : List (List Lo
   pub each : (h : ℕ) → h < length harts → IsOrdered banks h (accesses (own_log harts h))
   pub no_others : HaveNoOthers banks (length harts)
 
--- what is behind an access, if that is the first of hart h from a place on
+-- the place after an access, if that is the first of hart h from a place on
 abbrev pub IsBehind : List LoggedAccess → ℕ → ℕ → LoggedAccess → Option ℕ → Type 0
 IsBehind log h from a None = (xs : List LoggedAccess) → of_hart h (drop from log) ≡ a ∷ xs → ⊥
 IsBehind log h from a (Some place) = of_hart h (drop from log) ≡ a ∷ of_hart h (drop place log)

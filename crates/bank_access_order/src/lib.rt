@@ -1,4 +1,4 @@
-//! Whether the accesses of harts stand in their own logs and in the banks' in the same order.
+//! Checks whether harts' own logs and the banks' logs have the harts' accesses in the same order.
 #![tactic(auto)]
 
 pub use order::{are_ordered, have_no_others, is_ordered};

@@ -1,4 +1,4 @@
-//! Whether the accesses of harts stand in their own logs and in the banks' in the same order.
+//! Whether harts' logs and banks' logs have their accesses in the same order.
 ghost use Rattle.std.specs.Prelude.{◌≡◌, ◌↔◌, ◌<◌, true, length};
 ghost use Rattle.std.specs.List.{AllByRecursion};
 ghost use Rattle.bank_laws.specs.Segments.{accesses};
@@ -12,7 +12,7 @@ use bank_memory::{BANKS, Bank};
 use bank_order::LogSegment;
 use std::alloc::Allocator;
 
-/// Whether the accesses of a hart stand in the banks' logs in the order in which they stand in its own. It takes no memory of the host.
+/// Whether the banks' logs have a hart's accesses in the order of its own log. Allocates nothing.
 pub fn is_ordered<A: Allocator>(hart: usize, segments: &[LogSegment], banks: &[Bank<A>]) -> bool
     requires { length banks.now ≡ most_banks }
     ensures { (result ≡ true) ↔ IsOrdered (logs_of banks.now) hart (accesses segments.now) }
@@ -21,7 +21,7 @@ pub fn is_ordered<A: Allocator>(hart: usize, segments: &[LogSegment], banks: &[B
     pass_all(&mut places, banks, hart, segments) && are_passed(&places, banks, hart)
 }
 
-/// Whether all accesses are of harts below a number.
+// Whether all accesses are of harts below a number.
 fn are_below(log: &[LoggedAccess], harts: usize) -> bool
     ensures { (result ≡ true) ↔ AllByRecursion (λ a. a.hart < harts) log.now }
 {
@@ -33,7 +33,7 @@ fn are_below(log: &[LoggedAccess], harts: usize) -> bool
     true
 }
 
-/// Whether the banks have accesses of harts below a number alone. It takes no memory of the host.
+/// Whether all accesses in the banks are of harts below a number. Allocates nothing.
 pub fn have_no_others<A: Allocator>(banks: &[Bank<A>], harts: usize) -> bool
     requires { length banks.now ≡ most_banks }
     ensures { (result ≡ true) ↔ HaveNoOthers (logs_of banks.now) harts }
@@ -46,8 +46,8 @@ pub fn have_no_others<A: Allocator>(banks: &[Bank<A>], harts: usize) -> bool
     true
 }
 
-/// Whether the accesses of each hart stand in the banks' logs in the order in which they stand in its own, and the banks have
-/// no others. It takes no memory of the host.
+/// Whether the banks' logs have the accesses of each hart in the order of its own log, and no
+/// others. Allocates nothing.
 pub fn are_ordered<A: Allocator>(logs: &[HartLog<A>], banks: &[Bank<A>]) -> bool
     requires { length banks.now ≡ most_banks }
     ensures { (result ≡ true) ↔ AreOrdered (segments_of logs.now) (logs_of banks.now) }

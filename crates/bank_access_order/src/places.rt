@@ -1,4 +1,4 @@
-//! How far the banks' logs were looked through.
+//! Places in the banks' logs: how far each has been checked.
 ghost use Rattle.std.specs.Prelude.{◌≡◌, ◌==◌, ◌↔◌, ℕ, ◌<◌, true, [], ◌∷◌, drop, length, map, option_to_list, slice_index_or};
 ghost use Rattle.bank_laws.specs.Segments.{accesses};
 ghost use Rattle.bank_runs.specs.Merged.{most_banks};
@@ -12,21 +12,20 @@ use std::alloc::Allocator;
 /// For each bank a place in its log.
 pub(crate) type Places = [usize; 16];
 
-/// Whether an access is of a hart.
 fn is_of(access: &LoggedAccess, hart: usize) -> bool
     ensures { result ≡ (access.now.hart == hart) }
 {
     access.hart as usize == hart
 }
 
-/// Whether two accesses are the same.
+// Whether two accesses are the same.
 fn is_same(first: &LoggedAccess, second: &LoggedAccess) -> bool
     ensures { (result ≡ true) ↔ (first.now ≡ second.now) }
 {
     *first == *second
 }
 
-/// The place behind an access in a log, where that is the first of a hart from a place on.
+// The place after an access in a log, if it is the first of a hart from a place on.
 fn place_behind(
     log: &[LoggedAccess],
     hart: usize,
@@ -46,7 +45,7 @@ fn place_behind(
     None
 }
 
-/// Whether a log has no access of a hart from a place on.
+// Whether a log has no access of a hart from a place on.
 fn has_none(log: &[LoggedAccess], hart: usize, from: usize) -> bool
     ensures { (result ≡ true) ↔ (of_hart hart (drop from log.now) ≡ []) }
 {
@@ -58,7 +57,7 @@ fn has_none(log: &[LoggedAccess], hart: usize, from: usize) -> bool
     true
 }
 
-/// Goes past an access in its bank's log, if it is the hart's next one there.
+// Moves past an access in its bank's log, if it is the hart's next one there.
 fn pass<A: Allocator>(
     places: &mut Places,
     banks: &[Bank<A>],
@@ -78,7 +77,7 @@ fn pass<A: Allocator>(
     }
 }
 
-/// Goes past an access, if there is one.
+// Moves past an access, if there is one.
 fn pass_if<A: Allocator>(
     places: &mut Places,
     banks: &[Bank<A>],
@@ -94,7 +93,7 @@ fn pass_if<A: Allocator>(
     }
 }
 
-/// Goes past the accesses of a segment.
+// Moves past the accesses of a segment.
 fn pass_segment<A: Allocator>(
     places: &mut Places,
     banks: &[Bank<A>],
@@ -108,7 +107,7 @@ fn pass_segment<A: Allocator>(
         && pass_if(places, banks, hart, segment.data_access)
 }
 
-/// Goes past the accesses of segments.
+/// Moves past the accesses of segments.
 pub(crate) fn pass_all<A: Allocator>(
     places: &mut Places,
     banks: &[Bank<A>],

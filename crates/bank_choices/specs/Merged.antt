@@ -18,11 +18,11 @@ use Rattle.bank_order.specs.Weaving.{log_of}
 abbrev pub choice : ℕ → Bool → Choice
 choice hart refuse = record { hart = hart; refuse = refuse }
 
--- so many plain choices of a hart
+-- n plain choices of a hart
 abbrev pub plain : ℕ → ℕ → List Choice
 plain hart count = replicate count (choice hart false)
 
--- the choices of a segment: so many of its hart, and then one with its refusal
+-- the choices of a segment: its local steps, then one choice with its refusal
 abbrev pub choices_of_one : LoggedSegment → List Choice
 choices_of_one e = plain e.hart e.local ++ choice e.hart e.refuse ∷ []
 
@@ -32,8 +32,8 @@ pub record IsMergeOf (logs : List (List LoggedSegment)) (choices : List Choice) 
   pub merged : IsMerged (log_of logs) segments
   pub are : choices ≡ choices_of segments
 
--- whatever program the logs are of: if banks have the same accesses in their logs, the run of the choices ends as the logs of
--- harts and banks do
+-- for any program of the logs: if banks have the same accesses in their logs, the run of the
+-- choices ends as the logs of harts and banks do
 abbrev pub LeadsTo : List (List LoggedSegment) → List Choice → Type 0
 LeadsTo logs choices =
     (image : ImageValue) (inputs : List ℕ) (ends : ℕ → HartSlot HartValue) (banks : ℕ → List LoggedAccess)

@@ -1,4 +1,4 @@
-//! The choices of the one run that logs of harts are.
+//! The choices of the run that matching logs are.
 #![tactic(auto)]
 
 ghost use Rattle.std.specs.Prelude.{◌≡◌, ℕ, ◌++◌, OnOk, IfOk};
@@ -13,9 +13,11 @@ use bank_order::{LogSegment, in_order};
 use machine::Choice;
 use std::alloc::{AllocError, Allocator};
 
-/// The choices of the segments of all harts, log h being that of hart h, in the order of their stamps. In each log stamps rise.
+/// The choices of the segments of all harts, log h being that of hart h, in the order of their
+/// stamps. In each log stamps rise.
 ///
-/// Where the same accesses stand in logs of a program's banks, the run of these choices ends as the logs do.
+/// If the same accesses are in the logs of a program's banks, the run of these choices ends as the
+/// logs do.
 pub fn choices_in_order<A: Allocator + Copy>(
     alloc: A,
     logs: &[&[LogSegment]],
@@ -30,7 +32,7 @@ pub fn choices_in_order<A: Allocator + Copy>(
     Ok(choices)
 }
 
-/// The choices of segments, one after another.
+// The choices of segments, one after another.
 fn choices_of<A: Allocator>(
     alloc: A,
     segments: &[&LogSegment],
@@ -44,7 +46,7 @@ fn choices_of<A: Allocator>(
     Ok(choices)
 }
 
-/// Puts the choices of a segment behind others.
+// Appends the choices of a segment.
 fn push_choices<A: Allocator>(
     choices: &mut Vec<Choice, A>,
     segment: &LogSegment,
@@ -59,7 +61,7 @@ fn push_choices<A: Allocator>(
     Ok(())
 }
 
-/// Puts so many plain choices of a hart behind others.
+// Appends `count` plain choices of a hart.
 #[tactic(auto, using(crate::proofs::MergedLemmas::push_more))]
 fn push_plain<A: Allocator>(
     choices: &mut Vec<Choice, A>,

@@ -161,7 +161,7 @@ leads_alone m v e =
 same_hart : {a b : HartValue} → ◌≡◌ {A = Option HartValue} (Some a) (Some b) → a ≡ b
 same_hart e = cc e
 
--- so many of them
+-- the same for n steps
 walk_is_local : (m : Memory) (n : ℕ) (v u : HartValue) → walk (code_in m) n v ≡ Some u → AreLocal (table m) n v × (u ≡ local_hart (table m) n v)
 unfolding walk
 walk_is_local m zero v u e = (tt, sym (same_hart e))

@@ -1,4 +1,4 @@
--- What every log of a hart keeps, and what a segment more makes of it.
+-- What every hart log keeps, and one more segment.
 use Rattle.std.proofs.Common.{◌≡◌, ℕ, Bool, ◌&&◌, List, [], ◌∷◌, ◌++◌, Option, Some, None, refl, ap, ap₂, sym, subst, ◌∙◌}
 use Rattle.std.specs.List.{AllByRecursion}
 use Rattle.image.specs.Image.{ImageValue}
@@ -46,7 +46,7 @@ pub fits_by : (l : HartLogValue) (e : LoggedSegment) (s : Slot) (r : Option Slot
 fits_by l e s r own local is h =
     fits_more l e r own local (subst (λ (t : HartSlot HartValue). SlotIf (StepFits (image_table l.image) e t) (step_slot (image_table l.image) e t) r) is h)
 
--- ---- one segment more
+-- ---- one more segment
 all_push : (P : LoggedSegment → Type 0) (log : List LoggedSegment) (e : LoggedSegment) → AllByRecursion P log → P e → AllByRecursion P (log ++ e ∷ [])
 all_push P [] e all p = (p, tt)
 all_push P (x ∷ log) e all p = (all.0, all_push P log e all.1 p)
@@ -93,7 +93,7 @@ fits_seen l0 l e0 e s r p q own local hart named h =
     (λ i. record { hart = hart2 i; named = named2 i })
     (subst (λ (x : HartLogValue). SlotIf (StepFits (image_table x.image) e (slot_is s)) (step_slot (image_table x.image) e (slot_is s)) r) p h)
 
--- ---- a segment that touches a word of which all is known
+-- ---- a segment that touches a word, with all of it known
 access_is_touch : (T : StepTable HartValue) (e : LoggedSegment) (s : HartSlot HartValue) (c : WordBytes) (t : Touch) (a : LoggedAccess) (v : WordBytes) (m : Bool)
     → a ≡ access T e s.hart c t v m (succeeds t.act e.refuse (m && names s.named t.word)) → IsTouch T e s c t a
 access_is_touch T e s c t a v m is =
@@ -109,7 +109,7 @@ did_by_access T e s c t a v m is =
     let mark : a.mark ≡ m = ap (λ (x : LoggedAccess). x.mark) is in
     ap₂ (λ (w : WordBytes) (n : Bool). slot_did T s c t w (succeeds t.act e.refuse (n && names s.named t.word))) (sym before) (sym mark)
 
--- what the code has, as the log has it
+-- the fields of the code as the log's
 pub next_fits : (l : HartLogValue) (e : LoggedSegment) (t : Touch) (s r : Slot) (a : LoggedAccess) (v : WordBytes) (m : Bool) → TouchesNext l e t
     → slot_is s ≡ local_slot (image_table l.image) e.local (slot_of l)
     → a ≡ access (image_table l.image) e (slot_is s).hart [] t v m (succeeds t.act e.refuse (m && names s.named t.word))

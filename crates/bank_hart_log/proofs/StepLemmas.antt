@@ -93,7 +93,7 @@ fits_outside T e s x a xs r p q is h =
     (slot_more (DataFits T e s a.before xs) (FitsBy T e s (Some x) (a ∷ xs)) (data_slot T e s a.before xs) r
     (λ f. ap₂ (λ (y : LoggedAccess) (ys : List LoggedAccess). y ∷ ys) is f) (λ f. tail_same a _ xs _ f) h)
 
--- ---- words that are told
+-- ---- words that are given
 pub told_touch : (o : Option Touch) (t : Touch) (x : ℕ) (v : WordBytes) → o ≡ Some t → x ≡ t.word → Some (record { address = x; bytes = v }) ≡ told_word (word_in o) v
 told_touch o t x v e f = ap (λ (y : ℕ). Some (record { address = y; bytes = v })) f ∙ ap (λ (p : Option Touch). told_word (word_in p) v) (sym e)
 
@@ -101,7 +101,8 @@ pub told_none : (o : Option Touch) (v : WordBytes) → o ≡ None → None ≡ t
 told_none o v e = ap (λ (p : Option Touch). told_word (word_in p) v) (sym e)
 
 -- ---- local steps
--- that n steps from one hart touch nothing is known by that of those which are left from another, and both end alike
+-- that n steps from one hart touch nothing is known by that of those which are left from another,
+-- and both end alike
 pub record LeadsOn (T : StepTable HartValue) (n : ℕ) (h : HartValue) (left : ℕ) (reached : HartValue) : Type 0 where
   pub back : AreLocal T left reached → AreLocal T n h
   pub forth : AreLocal T n h → AreLocal T left reached

@@ -1,4 +1,4 @@
--- What a hart's log is: segments over the table of an image.
+-- A hart's log as segments over the table of an image.
 use Rattle.std.specs.Prelude.{◌≡◌, ℕ, ◌-◌, ◌<◌, ◌≤◌, List, [], ◌∷◌, ◌++◌, length, Option, Some, None, slice_get}
 use Rattle.std.specs.List.{AllByRecursion}
 use Rattle.image.specs.Image.{ImageValue}
@@ -16,7 +16,7 @@ use Rattle.bank_hart_log.specs.declared.log.Ahead.{Ahead}
 use Rattle.bank_hart_log.specs.declared.log.AddFault.{AddFault}
 use Rattle.bank_hart_log.specs.declared.log.AddFault.TheVariants.{Mismatch, Memory}
 
--- the program with its inputs, one a hart; the hart's number, and its segments
+-- the program with its inputs, one per hart; the hart's number, and its segments
 pub record HartLogValue : Type 0 where
   pub image : ImageValue
   pub inputs : List ℕ
@@ -27,30 +27,30 @@ pub record HartLogValue : Type 0 where
 abbrev pub image_table : ImageValue → StepTable HartValue
 image_table image = table (image_memory image)
 
--- the slot to which segments lead hart h of a program
+-- the slot of hart h of a program after segments
 abbrev pub slot_in : ImageValue → List ℕ → ℕ → List LoggedSegment → HartSlot HartValue
 slot_in image inputs h log = slot_after_log (image_table image) (first_slot image inputs h) log
 
--- the slot to which the log has led: the hart, and the word that its last LR without a fault named, if no SC without a fault
--- came after it
+-- the slot after the log: the hart, and the word that its last LR without a fault named, if no SC
+-- without a fault came after it
 abbrev pub slot_of : HartLogValue → HartSlot HartValue
 slot_of l = slot_in l.image l.inputs l.hart l.log
 
--- a slot of the code
+-- the code's slot as a `HartSlot`
 abbrev pub slot_with : Hart → Option ℕ → HartSlot HartValue
 slot_with hart named = record { hart = hart_of hart; named = named }
 
--- the stamp of a segment, and 0 where there is none
+-- the stamp of a segment, 0 if there is none
 abbrev pub stamp_of : Option LoggedSegment → ℕ
 stamp_of None = 0
 stamp_of (Some e) = e.stamp
 
--- the stamp of the last segment, and 0 where there is none
+-- the stamp of the last segment, 0 if there is none
 abbrev pub last_stamp : List LoggedSegment → ℕ
 last_stamp log = stamp_of (slice_get log (length log - 1))
 
--- hart and word are those to which the segments lead, which are the hart's own, step by step; and from there so many steps that
--- touch nothing have reached a hart
+-- hart and word are those after the segments, which are the hart's own, step by step; and n further
+-- steps that touch nothing have led to the hart walked ahead
 pub record HoldsIn (image : ImageValue) (inputs : List ℕ) (h : ℕ) (log : List LoggedSegment) (hart : Hart) (named : Option ℕ) (walked : ℕ) (reached : Hart) : Type 0 where
   pub harts : length inputs ≤ most_harts
   pub there : h < length inputs
@@ -66,33 +66,33 @@ pub record IsOfHart (l : HartLogValue) : Type 0 where
   pub own : AllByRecursion (λ e. e.hart ≡ l.hart) l.log
   pub walks : Walks (image_table l.image) (first_slot l.image l.inputs l.hart) l.log (slot_of l)
 
--- a hart is so many steps ahead of the log, which touch nothing
+-- a hart is n steps ahead of the log, which touch nothing
 pub record IsAhead (l : HartLogValue) (a : Ahead) : Type 0 where
   pub local : AreLocal (image_table l.image) a.local (slot_of l).hart
   pub hart : hart_of a.hart ≡ local_hart (image_table l.image) a.local (slot_of l).hart
 
--- a segment may come next: it is the hart's, its local steps touch nothing, and its accesses are those of its last step
+-- a segment may come next: the hart's own, with local steps, and its last step's accesses
 pub record Fits (l : HartLogValue) (e : LoggedSegment) : Type 0 where
   pub hart : e.hart ≡ l.hart
   pub local : AreLocal (image_table l.image) e.local (slot_of l).hart
   pub step : StepFits (image_table l.image) e (local_slot (image_table l.image) e.local (slot_of l))
 
--- a segment with an access, and no other
+-- a segment with one access
 abbrev pub with_access : LoggedSegment → LoggedAccess → LoggedSegment
 with_access e a = record e { accesses = a ∷ [] }
 
--- a segment may come next that touches a word: it is the hart's, its local steps touch nothing, and its last step is of code
+-- a segment that touches a word may come next: its own, with local steps, its last of code
 pub record TouchesNext (l : HartLogValue) (e : LoggedSegment) (t : Touch) : Type 0 where
   pub hart : e.hart ≡ l.hart
   pub local : AreLocal (image_table l.image) e.local (slot_of l).hart
   pub need : (image_table l.image).need (local_hart (image_table l.image) e.local (slot_of l).hart) ≡ None
   pub plan : (image_table l.image).plan (local_hart (image_table l.image) e.local (slot_of l).hart) [] ≡ Some t
 
--- the log with a segment more
+-- the log with one more segment
 abbrev pub taken : HartLogValue → LoggedSegment → HartLogValue
 taken l e = record l { log = l.log ++ e ∷ [] }
 
--- why a segment is not taken
+-- why a segment is not logged
 abbrev pub Refuses : HartLogValue → LoggedSegment → AddFault → Type 0
 Refuses l e Mismatch = Fits l e → ⊥
 Refuses l e Memory = Fits l e

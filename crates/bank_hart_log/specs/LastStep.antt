@@ -12,11 +12,11 @@ use Rattle.bank_hart_log.specs.HartLog.{slot_with}
 use Rattle.bank_hart_log.specs.declared.step.Accesses.{Accesses}
 use Rattle.bank_hart_log.specs.declared.step.Slot.{Slot}
 
--- a slot of the code as contracts see it
+-- the code's slot as a `HartSlot`
 abbrev pub slot_is : Slot → HartSlot HartValue
 slot_is s = slot_with s.hart s.named
 
--- whether a touch stores as an SC, by what its access has found
+-- whether a touch is an SC that stores, by what its access has found
 abbrev pub succeeds_at : LoggedSegment → HartSlot HartValue → Touch → LoggedAccess → Bool
 succeeds_at e s t a = succeeds t.act e.refuse (a.mark && names s.named t.word)
 
@@ -24,7 +24,7 @@ succeeds_at e s t a = succeeds t.act e.refuse (a.mark && names s.named t.word)
 abbrev pub IsTouch : StepTable HartValue → LoggedSegment → HartSlot HartValue → WordBytes → Touch → LoggedAccess → Type 0
 IsTouch T e s c t a = a ≡ access T e s.hart c t a.before a.mark (succeeds_at e s t a)
 
--- accesses are those to the data, by the bytes of the code
+-- accesses are the data accesses, by the bytes of the code
 abbrev pub DataFits : StepTable HartValue → LoggedSegment → HartSlot HartValue → WordBytes → List LoggedAccess → Type 0
 DataFits T e s c xs = xs ≡ data_accesses T e s c (T.plan s.hart c) (first xs).value (first xs).mark
 
@@ -32,7 +32,7 @@ DataFits T e s c xs = xs ≡ data_accesses T e s c (T.plan s.hart c) (first xs).
 abbrev pub data_slot : StepTable HartValue → LoggedSegment → HartSlot HartValue → WordBytes → List LoggedAccess → HartSlot HartValue
 data_slot T e s c xs = slot_after T e.refuse s c (T.plan s.hart c) (first xs).value (first xs).mark
 
--- an answer is a slot where a fact holds, and none where it doesn't
+-- an answer is a slot if a fact holds, and none if it doesn't
 abbrev pub SlotIf : Type 0 → HartSlot HartValue → Option Slot → Type 0
 SlotIf P s None = P → ⊥
 SlotIf P s (Some t) = P × (slot_is t ≡ s)
@@ -42,7 +42,7 @@ abbrev pub listed : Option Accesses → List LoggedAccess
 listed None = []
 listed (Some a) = a.first ∷ option_to_list a.second
 
--- an access is the read of an instruction from a word, whatever it has found there
+-- an access is the code read from a word, whatever it has found there
 abbrev pub IsCodeRead : LoggedSegment → ℕ → LoggedAccess → Type 0
 IsCodeRead e x a = a ≡ record {
   stamp = e.stamp;

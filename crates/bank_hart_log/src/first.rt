@@ -5,7 +5,8 @@ ghost use Rattle.machine.specs.Start.{first_hart};
 
 use hart_step::{Hart, HartState};
 
-/// A hart at the entry: `a0` is its number, `a1` its input, `a2` the number of harts, all other registers are 0.
+/// A hart at the entry: `a0` is its number, `a1` its input, `a2` the number of harts; all other
+/// registers are 0.
 pub fn first_hart(entry: u32, number: u32, input: u32, harts: u32) -> Hart
     ensures { hart_of result ≡ first_hart entry harts number input }
 {

@@ -1,4 +1,4 @@
-//! The log of a hart: what it did, and where that has led it.
+//! The log of one hart; replaying it from the start gives the hart state that it stores.
 #![tactic(auto)]
 
 pub use first::first_hart;

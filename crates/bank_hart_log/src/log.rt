@@ -23,10 +23,11 @@ use image::Image;
 use std::alloc::Allocator;
 use std::marker::Model;
 
-/// Why a segment is not taken; then nothing has changed.
+/// Why a segment is not logged. Nothing has changed then.
 #[derive(Clone, Copy, Drop, PartialEq, Eq)]
 pub enum AddFault {
-    /// The segment is of another hart, or its local steps touch something, or its accesses are not those of its last step.
+    /// The segment is of another hart, one of its local steps touches something, or its accesses
+    /// are not those of its last step.
     Mismatch,
     /// The host refused memory.
     Memory,
@@ -35,13 +36,14 @@ pub enum AddFault {
 /// A hart some local steps ahead of its log.
 #[derive(Clone, Copy)]
 pub struct Ahead {
-    /// How many steps.
+    /// Number of local steps.
     pub local: u32,
     /// The hart after them.
     pub hart: Hart,
 }
 
-/// What one hart of a program did, segment by segment, and where that has led it. Nothing is said of its stamps.
+/// The log of one hart of a program, segment by segment, and the hart's state after it. It says
+/// nothing about the order of stamps.
 #[derive(Drop)]
 pub struct HartLog<'a, A: Allocator> {
     image: &'a Image<A>,
@@ -50,7 +52,7 @@ pub struct HartLog<'a, A: Allocator> {
     hart: Hart,
     named: Option<u32>,
     segments: Vec<LogSegment, A>,
-    // Local steps that have been walked ahead, and the hart after them.
+    // Number of local steps walked ahead, and the hart after them.
     walked: u32,
     reached: Hart,
 }
@@ -71,7 +73,7 @@ impl<'a, A: Allocator> Model for HartLog<'a, A> {
 }
 
 impl<'a, A: Allocator> HartLog<'a, A> {
-    /// The log of a hart as its program begins. There is a hart for each input.
+    /// The log of a hart as its program begins. There is one hart for each input.
     pub fn new(alloc: A, image: &'a Image<A>, inputs: &'a [u32], number: u32) -> HartLog<'a, A>
         requires harts { length inputs.now ≤ most_harts }
         requires there { number < length inputs.now }
@@ -96,7 +98,7 @@ impl<'a, A: Allocator> HartLog<'a, A> {
         }
     }
 
-    /// The hart after so many steps, if they touch nothing.
+    // The hart after `count` steps, if they touch nothing.
     fn after_local(&self, count: u32) -> Option<Hart>
         ensures { let t = image_table self.now.image in let h = (slot_of self.now).hart in
             MatchOption result (AreLocal t count h → ⊥)
@@ -108,8 +110,9 @@ impl<'a, A: Allocator> HartLog<'a, A> {
         walked(self.image, &self.hart, count)
     }
 
-    /// Does local steps ahead of the log, over the image's code, until the next one isn't local or `limit` have been done. A
-    /// segment of so many local steps that comes next is taken without doing them again.
+    /// Does local steps ahead of the log, over the image's code, until the next one isn't local or
+    /// `limit` have been done. If the next segment has that number of local steps, `add` doesn't do
+    /// them again.
     pub fn walk_ahead(&mut self, code: &Code<A>, limit: u32) -> Ahead
         requires { segments_memory code.now ≡ code_in (image_memory self.old.image) }
         ensures same { self.new ≡ self.old }
@@ -128,7 +131,7 @@ impl<'a, A: Allocator> HartLog<'a, A> {
         }
     }
 
-    /// The slot after a segment, if it may come next.
+    // The slot after a segment, if it may come next.
     fn slot_after(&self, segment: &LogSegment) -> Option<Slot>
         ensures { SlotIf (Fits self.now segment.now)
             (segment_slot (image_table self.now.image) segment.now (slot_of self.now)) result }
@@ -147,7 +150,7 @@ impl<'a, A: Allocator> HartLog<'a, A> {
         last_step(self.image, &slot, segment)
     }
 
-    /// Takes a segment into the log: the hart goes on by its steps.
+    /// Logs a segment, and moves the hart on by its steps.
     pub fn add(&mut self, segment: LogSegment) -> Result<(), AddFault>
         ensures ok { OnOk result (Fits self.old segment × (self.new ≡ taken self.old segment)) }
         ensures fault { IfErr result (λ fault. Refuses self.old segment fault) }
@@ -167,8 +170,9 @@ impl<'a, A: Allocator> HartLog<'a, A> {
         Ok(())
     }
 
-    /// Takes a segment in whose last step is of code and touches a word, and tells the access, where the word has these bytes
-    /// and this mark. The segment comes without accesses. What is known before isn't looked at again.
+    /// Logs a segment whose last step is of code and touches a word, given the word's bytes and
+    /// mark; returns the access. The segment is passed without accesses. What the caller knows
+    /// isn't checked again.
     pub fn add_touch(
         &mut self,
         segment: LogSegment,
@@ -211,7 +215,7 @@ impl<'a, A: Allocator> HartLog<'a, A> {
         self.number
     }
 
-    /// The program.
+    /// The program's image.
     pub fn image(&self) -> &Image<A>
         ensures { result.now ≡ self.now.image }
     {
@@ -225,28 +229,29 @@ impl<'a, A: Allocator> HartLog<'a, A> {
         self.inputs
     }
 
-    /// The hart to which the log has led.
+    /// The hart's state after the log.
     pub fn slot(&self) -> &Hart
         ensures { hart_of result.now ≡ (slot_of self.now).hart }
     {
         &self.hart
     }
 
-    /// The word that the hart's last LR without a fault named, if no store-conditional without a fault came after it.
+    /// The word that the hart's last LR without a fault named, if no store-conditional without a
+    /// fault came after it.
     pub fn named(&self) -> Option<u32>
         ensures { result ≡ (slot_of self.now).named }
     {
         self.named
     }
 
-    /// What the hart did.
+    /// The segments so far.
     pub fn segments(&self) -> &[LogSegment]
         ensures { result.now ≡ self.now.log }
     {
         &self.segments
     }
 
-    /// The stamp of the last segment, and 0 before the first.
+    /// The stamp of the last segment, 0 before the first.
     pub fn last_stamp(&self) -> u64
         ensures { result ≡ last_stamp self.now.log }
     {
@@ -257,7 +262,7 @@ impl<'a, A: Allocator> HartLog<'a, A> {
     }
 }
 
-/// A segment with an access to its data, and no other.
+// A segment with this data access and no other.
 fn with_access(segment: LogSegment, access: LoggedAccess) -> LogSegment
     ensures { result ≡ with_access segment access }
 {
@@ -271,11 +276,11 @@ fn with_access(segment: LogSegment, access: LoggedAccess) -> LogSegment
     }
 }
 
-/// In every log of a hart that can be made the segments are that hart's alone, and are a walk from where the program begins to
-/// the hart and the word that the log tells.
+/// The segments of every hart log are that hart's own, and a walk from its start to the state and
+/// the word that the log stores.
 pub fn each_hart_log_is_walked<A: Allocator>(log: &HartLog<A>)
     ensures { IsOfHart log.now }
 {
-    // Reading a field tells the proof what the log keeps.
+    // Reading a field gives the proof the invariant.
     let _ = &log.segments;
 }

@@ -19,7 +19,8 @@ use hart_step::{AccessKind, Hart};
 use image::Image;
 use std::alloc::Allocator;
 
-/// A hart with the word that its last LR without a fault named, if no store-conditional without a fault came after it.
+/// A hart with the word that its last LR without a fault named, if no store-conditional without a
+/// fault came after it.
 #[derive(Clone, Copy)]
 pub struct Slot {
     /// The hart.
@@ -28,7 +29,7 @@ pub struct Slot {
     pub named: Option<u32>,
 }
 
-/// Whether a touch stores as a store-conditional does.
+/// Whether a touch is a store-conditional that stores.
 pub fn succeeds(kind: AccessKind, refuse: bool, holds: bool) -> bool
     ensures { result ≡ succeeds (act_of kind) refuse holds }
 {
@@ -84,23 +85,23 @@ pub fn names(named: Option<u32>, word: u32) -> bool
     }
 }
 
-/// Whether two accesses are the same.
+// Whether two accesses are the same.
 fn is_same(first: &LoggedAccess, second: &LoggedAccess) -> bool
     ensures { (result ≡ true) ↔ (first.now ≡ second.now) }
 {
     *first == *second
 }
 
-/// What an access finds: the word's bytes, and whether the hart's mark stands on it.
+/// What an access finds: the word's bytes, and whether the hart's mark is on it.
 #[derive(Clone, Copy)]
 pub struct Found {
-    /// The bytes, the lowest first.
+    /// The bytes, lowest address first.
     pub bytes: [u8; 4],
     /// Whether the word's bank has this hart's mark on it.
     pub mark: bool,
 }
 
-/// The read of the last step's instruction from a word, where it finds these bytes and this mark.
+/// The code read of the last step, given the word's bytes and mark.
 pub fn code_access(segment: &LogSegment, word: u32, found: Found) -> LoggedAccess
     ensures { code_reads segment.now (Some word) found.bytes found.mark ≡ result ∷ [] }
 {
@@ -116,7 +117,7 @@ pub fn code_access(segment: &LogSegment, word: u32, found: Found) -> LoggedAcces
     }
 }
 
-/// Whether an access is the read of a step's instruction from a word.
+// Whether an access is the code read of a step, from this word.
 fn is_code_read(segment: &LogSegment, word: u32, access: &LoggedAccess) -> bool
     ensures { (result ≡ true) ↔ IsCodeRead segment.now word access.now }
 {
@@ -132,8 +133,8 @@ fn is_code_read(segment: &LogSegment, word: u32, access: &LoggedAccess) -> bool
     is_same(access, &expected)
 }
 
-/// Does a hart's step that touches a word, and tells the bytes of the word after an access of this kind. A store-conditional
-/// succeeds where `succeeds` says so.
+// Does a hart's step that touches a word; returns the word's bytes after an access of this kind. A
+// store-conditional succeeds if `succeeds` is set.
 fn settle_word<A: Allocator>(
     hart: &mut Hart,
     image: &Image<A>,
@@ -160,7 +161,7 @@ fn settle_word<A: Allocator>(
     touched.bytes
 }
 
-/// Whether a touch stores as a store-conditional, where its access finds this mark.
+// Whether a touch is a store-conditional that stores, given the mark that it finds.
 fn stores(slot: &Slot, segment: &LogSegment, touch: PlannedTouch, mark: bool) -> bool
     ensures { result ≡ succeeds (as_touch touch).act segment.now.refuse (mark && names slot.now.named touch.word) }
 {
@@ -168,7 +169,7 @@ fn stores(slot: &Slot, segment: &LogSegment, touch: PlannedTouch, mark: bool) ->
     succeeds(touch.kind, segment.refuse, holds)
 }
 
-/// What the last step of a segment logs of a word that it touches, and where it leads.
+/// What the last step of a segment logs of the word that it touches, and the slot after it.
 #[derive(Clone, Copy)]
 pub(crate) struct TouchedWord {
     /// The access to the word.
@@ -177,8 +178,8 @@ pub(crate) struct TouchedWord {
     pub slot: Slot,
 }
 
-/// Does the last step of a segment, which touches a word and finds these bytes and this mark there. `code` is the word of the
-/// instruction, where it is one that must be read.
+/// Does the last step of a segment, which touches a word, given the word's bytes and mark. `code`
+/// is the word of the instruction, if that must be read.
 pub(crate) fn touch_word<A: Allocator>(
     image: &Image<A>,
     slot: &Slot,
@@ -223,8 +224,8 @@ pub(crate) fn touch_word<A: Allocator>(
     }
 }
 
-/// The access of a touch in the last step of a segment, where it finds these bytes and this mark. `code` is the word of the
-/// instruction, where it is one that must be read.
+/// The access of a touch in the last step of a segment, given the word's bytes and mark. `code` is
+/// the word of the instruction, if that must be read.
 pub fn data_access<A: Allocator>(
     image: &Image<A>,
     slot: &Slot,
@@ -241,7 +242,7 @@ pub fn data_access<A: Allocator>(
     touch_word(image, slot, segment, code, touch, found).access
 }
 
-/// The slot after a step that touches a word, if an access is that of the touch.
+// The slot after a step that touches a word, if an access is that of the touch.
 fn touched<A: Allocator>(
     image: &Image<A>,
     slot: &Slot,
@@ -266,7 +267,7 @@ fn touched<A: Allocator>(
     Some(expected.slot)
 }
 
-/// The slot after a step that touches no data.
+// The slot after a step that touches no data.
 fn untouched<A: Allocator>(image: &Image<A>, slot: &Slot, code: Option<Word>) -> Slot
     ensures { (c : WordBytes) → let t = image_table image.now in let s = slot_is slot.now in
         code ≡ told_word (t.need s.hart) c → t.plan s.hart c ≡ None
@@ -284,7 +285,8 @@ fn untouched<A: Allocator>(image: &Image<A>, slot: &Slot, code: Option<Word>) ->
     }
 }
 
-/// The slot after a step, by the word of its code, if an access, or none, is what it does with data.
+// The slot after a step, given the word of its code, if the given access, or none, is its data
+// access.
 fn data_step<A: Allocator>(
     image: &Image<A>,
     slot: &Slot,
@@ -309,7 +311,7 @@ fn data_step<A: Allocator>(
     }
 }
 
-/// The accesses of a segment: the first, if there is one, and one behind it.
+/// The accesses of a segment: the first, and the second if there is one.
 #[derive(Clone, Copy)]
 struct Accesses {
     first: LoggedAccess,
@@ -334,7 +336,7 @@ fn accesses_of(segment: &LogSegment) -> Option<Accesses>
     }
 }
 
-/// The slot after the last step of a segment whose instruction is code.
+// The slot after the last step of a segment whose instruction is code.
 fn step_in_code<A: Allocator>(
     image: &Image<A>,
     slot: &Slot,
@@ -355,7 +357,7 @@ fn step_in_code<A: Allocator>(
     }
 }
 
-/// The slot after the last step of a segment whose instruction is in a word that must be read.
+// The slot after the last step of a segment whose instruction must be read from memory.
 fn step_outside_code<A: Allocator>(
     image: &Image<A>,
     slot: &Slot,
@@ -382,8 +384,8 @@ fn step_outside_code<A: Allocator>(
     data_step(image, slot, segment, Some(code), second)
 }
 
-/// The slot after the last step of a segment, if the segment's accesses are those of the step, which is answered by the bytes
-/// and the marks that they have found.
+/// The slot after the last step of a segment, if the segment's accesses are those of the step,
+/// given the bytes and marks that they have found.
 pub(crate) fn last_step<A: Allocator>(
     image: &Image<A>,
     slot: &Slot,
@@ -399,7 +401,7 @@ pub(crate) fn last_step<A: Allocator>(
     }
 }
 
-/// Whether a hart's next step touches nothing.
+// Whether a hart's next step touches nothing.
 fn touches_nothing<A: Allocator>(image: &Image<A>, hart: &Hart) -> bool
     ensures { let t = image_table image.now in (result ≡ true)
         ↔ ((t.need (hart_of hart.now) ≡ None) × (t.plan (hart_of hart.now) [] ≡ None)) }
@@ -407,7 +409,7 @@ fn touches_nothing<A: Allocator>(image: &Image<A>, hart: &Hart) -> bool
     needed_word(hart, image).is_none() && planned_touch(hart, image, None).is_none()
 }
 
-/// The hart after so many steps, if they touch nothing.
+/// The hart after `count` steps, if they touch nothing.
 pub(crate) fn walked<A: Allocator>(image: &Image<A>, hart: &Hart, count: u32) -> Option<Hart>
     ensures { let t = image_table image.now in MatchOption result (AreLocal t count (hart_of hart.now) → ⊥)
         (λ reached. AreLocal t count (hart_of hart.now) × (hart_of reached ≡ local_hart t count (hart_of hart.now))) }

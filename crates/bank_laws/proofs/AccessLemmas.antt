@@ -1,4 +1,4 @@
--- An access keeps what banks and slots tell
+-- An access keeps the shared state equal to that of banks and slots
 use Rattle.std.proofs.Common.{◌≡◌, ℕ, ◌==◌, Bool, true, false, Some, None, refl, ap, sym, ◌∙◌, arith, ⊎_elim}
 use Rattle.std.specs.Prelude.{if◌then◌else◌, Option}
 use Rattle.std.proofs.lemmas.Bool.{eq-eqb, ne_eqb, cases_eq, eqb-true}
@@ -24,7 +24,7 @@ value_keeps s b f x v y LoadReserved h link e = value_kept s b (with_mark b.mark
 value_keeps s b f x v y ConditionalStored h link e = value_stored s b (without_mark (ended b.marks h x) h) f x v y link e
 value_keeps s b f x v y ConditionalFailed h link e = value_kept s b (without_mark b.marks h) (f y) y e
 
--- what a slot's word says of a mark
+-- the mark as seen through a slot's named word
 abbrev seen : Option ℕ → Option ℕ → Option ℕ
 seen m None = None
 seen m (Some y) = if names m y then Some y else None
@@ -56,7 +56,7 @@ end_self s x y link e = ap (λ (m : Option ℕ). if names m x then None else m) 
 end_same : (s : Bool) (z x y : ℕ) → (y ≡ x → s ≡ true) → z ≡ y → (z == y) ≡ true → (if names (seen (Some z) (Some y)) x then None else seen (Some z) (Some y)) ≡ seen (if s then (if names (Some z) x then None else Some z) else Some z) (Some y)
 end_same s z x y link same e = rw same (end_self s x y link (eq-eqb y y refl))
 
--- a mark that another's store may end
+-- a mark that another hart's store may clear
 end_some : (s : Bool) (z x y : ℕ) → (y ≡ x → s ≡ true) → (if names (seen (Some z) (Some y)) x then None else seen (Some z) (Some y)) ≡ seen (if s then (if names (Some z) x then None else Some z) else Some z) (Some y)
 end_some s z x y link = ⊎_elim (λ (e : z ≡ y). end_same s z x y link e (eq-eqb z y e)) (λ (n : z ≡ y → ⊥). end_apart s z x y (ne_eqb z y n)) (cases_eq z y)
 

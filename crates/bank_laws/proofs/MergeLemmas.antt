@@ -235,7 +235,7 @@ merged_once logs es fs m n =
     (λ e i. n.complete e.hart e (m.taken e i))
     (λ e i. m.complete e.hart e (n.taken e i))
 
--- accesses of two harts in one bank's log have two stamps
+-- accesses of different harts in one bank's log have different stamps
 stamps_apart : (bank : List LoggedAccess) (a c : LoggedAccess) → Rises Before bank → In a bank → In c bank → a.stamp ≡ c.stamp → (a.hart ≡ c.hart → ⊥) → ⊥
 stamps_apart bank a c r i j stamps harts =
     ⊎_elim

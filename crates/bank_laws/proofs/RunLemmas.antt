@@ -33,7 +33,7 @@ agree_apart : (b t : Bool) (y x : ℕ) → (y == x) ≡ false → (b && (y == x)
 agree_apart b true y x e = rw e (and_no b)
 agree_apart b false y x e = rw e (and_no b)
 
--- a mark in the word's bank stands exactly where the world has it, if the slot names the word
+-- if the slot names the word, its bank's mark is the world's
 marks_agree : (bank_of : ℕ → ℕ) (banks : ℕ → BankState) (h x : ℕ) (n : Option ℕ) → (names ((banks (bank_of x)).marks h) x && names n x) ≡ names (joined_mark bank_of banks h n) x
 marks_agree bank_of banks h x None = and_no (names ((banks (bank_of x)).marks h) x)
 marks_agree bank_of banks h x (Some y) =
@@ -85,7 +85,7 @@ after_of T e s c v m = slot_after T e.refuse s (answered T s c) (T.plan s.hart (
 abbrev world_of : {H : Type 0} → TableWorld H → ℕ → HartSlot H → List LoggedAccess → TableWorld H
 world_of w h s xs = record { harts = put_at w.harts h s.hart; shared = after_log w.shared xs }
 
--- a touch that finds the value v, and what it tries succeeds or not
+-- a touch that finds the value v and succeeds or fails
 abbrev did_at : {H : Type 0} → StepTable H → TableWorld H → ℕ → H → WordBytes → Touch → WordBytes → Bool → TableWorld H
 did_at T w h s c t v ok = record {
   harts = put_at w.harts h (T.after s c v ok);

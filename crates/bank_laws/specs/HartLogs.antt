@@ -1,5 +1,5 @@
--- A hart's log by equations alone, as the invariant of a type has it: the bytes and marks that answer a step are read off
--- its accesses.
+-- A hart's log as equations, for a type's invariant: the bytes and marks that answer a step are
+-- read off its accesses.
 use Rattle.std.specs.Prelude.{◌≡◌, ℕ, zero, suc, Bool, false, List, [], ◌∷◌, ◌++◌, Option, Some, None}
 use Rattle.bank_laws.specs.declared.access.LoggedAccess.{LoggedAccess}
 use Rattle.bank_laws.specs.Banks.{WordBytes}
@@ -11,17 +11,17 @@ pub record Answer : Type 0 where
   pub value : WordBytes
   pub mark : Bool
 
--- those of the first access
+-- what the first access has found
 abbrev pub first : List LoggedAccess → Answer
 first [] = record { value = []; mark = false }
 first (a ∷ xs) = record { value = a.before; mark = a.mark }
 
--- the accesses behind the first
+-- all accesses but the first
 abbrev pub behind : List LoggedAccess → List LoggedAccess
 behind [] = []
 behind (a ∷ xs) = xs
 
--- the accesses behind the code read, where there is one
+-- the accesses after the code read, if there is one
 abbrev pub data_part : Option ℕ → List LoggedAccess → List LoggedAccess
 data_part None xs = xs
 data_part (Some x) xs = behind xs
@@ -30,7 +30,7 @@ data_part (Some x) xs = behind xs
 abbrev pub data_answer : {H : Type 0} → StepTable H → LoggedSegment → HartSlot H → Answer
 data_answer T e s = first (data_part (T.need s.hart) e.accesses)
 
--- the bytes of the code, as they were found
+-- the bytes of the code as the log records them
 abbrev pub code_answer : {H : Type 0} → StepTable H → LoggedSegment → HartSlot H → WordBytes
 code_answer T e s = answered T s (first e.accesses).value
 
@@ -48,17 +48,17 @@ abbrev pub StepFits : {H : Type 0} → StepTable H → LoggedSegment → HartSlo
 StepFits T e s = e.accesses ≡ code_reads e (T.need s.hart) (first e.accesses).value (first e.accesses).mark
     ++ data_accesses T e s (code_answer T e s) (plan_of T e s) (data_answer T e s).value (data_answer T e s).mark
 
--- the hart after so many steps that touch nothing
+-- the hart after n steps that touch nothing
 abbrev pub local_hart : {H : Type 0} → StepTable H → ℕ → H → H
 local_hart T zero h = h
 local_hart T (suc n) h = local_hart T n (T.after h [] [] false)
 
--- the next steps touch nothing, so many
+-- the next n steps touch nothing
 abbrev pub AreLocal : {H : Type 0} → StepTable H → ℕ → H → Type 0
 AreLocal T zero h = Unit {0}
 AreLocal T (suc n) h = (T.need h ≡ None) × (T.plan h [] ≡ None) × AreLocal T n (T.after h [] [] false)
 
--- the slot after so many steps that touch nothing
+-- the slot after n steps that touch nothing
 abbrev pub local_slot : {H : Type 0} → StepTable H → ℕ → HartSlot H → HartSlot H
 local_slot T n s = record { hart = local_hart T n s.hart; named = s.named }
 
@@ -71,7 +71,7 @@ abbrev pub slot_after_log : {H : Type 0} → StepTable H → HartSlot H → List
 slot_after_log T s [] = s
 slot_after_log T s (e ∷ es) = slot_after_log T (segment_slot T e s) es
 
--- each segment is what its steps give
+-- each segment is what the table's steps give
 abbrev pub IsStepwise : {H : Type 0} → StepTable H → HartSlot H → List LoggedSegment → Type 0
 IsStepwise T s [] = Unit {0}
 IsStepwise T s (e ∷ es) =

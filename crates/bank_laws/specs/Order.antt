@@ -8,12 +8,12 @@ use Rattle.bank_laws.specs.Banks.{BankState, IsLogged}
 use Rattle.bank_laws.specs.Runs.{StepTable}
 use Rattle.bank_laws.specs.Segments.{LoggedSegment, HartSlot, Walks, accesses}
 
--- a stands in a list
+-- a is an element of the list
 abbrev pub In : {A : Type 0} → A → List A → Type 0
 In a [] = ⊥
 In a (x ∷ xs) = (a ≡ x) ⊎ In a xs
 
--- each element comes before all later ones
+-- each element is related to all later ones
 abbrev pub Rises : {A : Type 0} → (A → A → Type 0) → List A → Type 0
 Rises R [] = Unit {0}
 Rises R (x ∷ xs) = AllByRecursion (R x) xs × Rises R xs
@@ -32,11 +32,11 @@ abbrev pub Before : LoggedAccess → LoggedAccess → Type 0
 Before a c = (a.stamp < c.stamp)
     ⊎ ((a.stamp ≡ c.stamp) × (a.hart ≡ c.hart) × (is_code_read a.kind ≡ true) × (is_code_read c.kind ≡ false))
 
--- by the stamp
+-- ordered by stamp
 abbrev pub Earlier : LoggedSegment → LoggedSegment → Type 0
 Earlier e f = e.stamp < f.stamp
 
--- by the stamp, and by the hart's number where stamps are equal
+-- ordered by stamp, then by hart number
 abbrev pub Ahead : LoggedSegment → LoggedSegment → Type 0
 Ahead e f = (e.stamp < f.stamp) ⊎ ((e.stamp ≡ f.stamp) × (e.hart < f.hart))
 
@@ -46,13 +46,13 @@ pub record IsMerged (logs : ℕ → List LoggedSegment) (es : List LoggedSegment
   pub taken : (e : LoggedSegment) → In e es → In e (logs e.hart)
   pub complete : (h : ℕ) (e : LoggedSegment) → In e (logs h) → In e es
 
--- an access stands in a hart's log exactly where it stands in its bank's
+-- an access is in a hart's log exactly if it is in its bank's
 pub record IsMatched (bank_of : ℕ → ℕ) (logs : ℕ → List LoggedSegment) (banks : ℕ → List LoggedAccess) : Type 0 where
   pub in_bank : (h : ℕ) (a : LoggedAccess) → In a (accesses (logs h)) → In a (banks (bank_of a.word))
   pub in_log : (b : ℕ) (a : LoggedAccess) → In a (banks b) → (h : ℕ) × In a (accesses (logs h))
 
--- what the logs of harts and of banks keep by themselves: a hart's has its own segments, which are a walk, and a bank's has
--- accesses of its own words, in order, each of which finds what those before it left
+-- each log alone: a hart's has its own segments, which are a walk; a bank's has accesses to its own
+-- words, in order, each of which finds what the ones before left
 pub record AreLogs {H : Type 0} (bank_of : ℕ → ℕ) (T : StepTable H) (slots ends : ℕ → HartSlot H) (start : ℕ → BankState) (logs : ℕ → List LoggedSegment) (banks : ℕ → List LoggedAccess) : Type 0 where
   pub own : (h : ℕ) → AllByRecursion (λ e. e.hart ≡ h) (logs h)
   pub walks : (h : ℕ) → Walks T (slots h) (logs h) (ends h)

@@ -1,11 +1,11 @@
--- Harts that access at most a code word and a data word in a step, and their runs.
+-- Harts whose steps access at most a code word and a data word, and their runs.
 use Rattle.std.specs.Prelude.{ℕ, Bool, false, not, ◌&&◌, ◌==◌, if◌then◌else◌, List, [], ◌∷◌, Option, Some, None}
 use Rattle.hart_reservations.specs.Marks.{names}
 use Rattle.bank_laws.specs.declared.access.LoggedKind.{LoggedKind}
 use Rattle.bank_laws.specs.declared.access.LoggedKind.TheVariants.{Load, Store, LoadReserved, ConditionalStored, ConditionalFailed}
 use Rattle.bank_laws.specs.Banks.{WordBytes, BankState, is_store, after_touch}
 
--- what an instruction does with its word: it loads or stores, or it is an LR, or an SC that tries to store
+-- what an instruction does with its word: it loads, stores, reserves (LR), or tries to store (SC)
 pub data Act : Type 0 where
   Reads : Act
   Writes : Act
@@ -17,15 +17,15 @@ pub record Touch : Type 0 where
   pub act : Act
   pub word : ℕ
 
--- harts of a kind H, step by step: the word that a hart needs to know its instruction; by its bytes, the word that it
--- touches; by the bytes of both and whether an SC succeeds, the hart after the step; and the bytes that it stores
+-- harts of a type H: the word needed to know the instruction; given its bytes, the word touched;
+-- given both words' bytes and the SC's success, the hart after the step; the bytes that it stores
 pub record StepTable (H : Type 0) : Type 0 where
   pub need : H → Option ℕ
   pub plan : H → WordBytes → Option Touch
   pub after : H → WordBytes → WordBytes → Bool → H
   pub stored : H → WordBytes → WordBytes → WordBytes
 
--- the harts, and what they share
+-- the harts and the state that they share
 pub record TableWorld (H : Type 0) : Type 0 where
   pub harts : ℕ → H
   pub shared : BankState
@@ -35,11 +35,11 @@ pub record Turn : Type 0 where
   pub hart : ℕ
   pub refuse : Bool
 
--- what belongs to hart h is replaced
+-- a family with the value at h replaced
 abbrev pub put_at : {A : Type 0} → (ℕ → A) → ℕ → A → ℕ → A
 put_at f h v = λ k. if k == h then v else f k
 
--- whether an SC stores: it isn't refused and holds its word
+-- whether an SC stores: it isn't refused and the hart holds a reservation of the word
 abbrev pub succeeds : Act → Bool → Bool → Bool
 succeeds Reads refuse holds = false
 succeeds Writes refuse holds = false
@@ -53,11 +53,11 @@ kind_of Writes ok = Store
 kind_of Reserves ok = LoadReserved
 kind_of Tries ok = if ok then ConditionalStored else ConditionalFailed
 
--- a touched word's bytes after the step, by its code's bytes and the word's own
+-- the touched word's bytes after the step, by the bytes of the code and its own
 abbrev pub word_after : {H : Type 0} → StepTable H → H → WordBytes → WordBytes → LoggedKind → WordBytes
 word_after T s c v kind = if is_store kind then T.stored s c v else v
 
--- the bytes of the word that is needed, and none where none is
+-- the bytes of the needed word, or none
 abbrev pub word_found : Option ℕ → (ℕ → WordBytes) → WordBytes
 word_found None values = []
 word_found (Some x) values = values x
@@ -70,13 +70,13 @@ touching T w h s c t ok = record {
       (word_after T s c (w.shared.values t.word) (kind_of t.act ok));
 }
 
--- hart h has done what it planned
+-- hart h after its planned touch
 abbrev pub done : {H : Type 0} → StepTable H → TableWorld H → ℕ → Bool → H → WordBytes → Option Touch → TableWorld H
 done T w h refuse s c None = record { harts = put_at w.harts h (T.after s c [] false); shared = w.shared }
 done T w h refuse s c (Some t) =
     touching T w h s c t (succeeds t.act refuse (names (w.shared.marks h) t.word))
 
--- the step of hart h, which is s and has these bytes as code
+-- the step of hart h in state s, with these bytes as code
 abbrev pub step_from : {H : Type 0} → StepTable H → TableWorld H → ℕ → Bool → H → WordBytes → TableWorld H
 step_from T w h refuse s c = done T w h refuse s c (T.plan s c)
 

@@ -1,4 +1,4 @@
--- The segments of harts' logs, and what they say of a run.
+-- The segments of harts' logs, and the run that they give.
 use Rattle.std.specs.Prelude.{◌≡◌, ℕ, zero, suc, Bool, false, ◌&&◌, ◌==◌, if◌then◌else◌, List, [], ◌∷◌, ◌++◌, Option, Some, None, replicate}
 use Rattle.hart_reservations.specs.Marks.{names}
 use Rattle.bank_laws.specs.declared.access.LoggedAccess.{LoggedAccess}
@@ -6,7 +6,7 @@ use Rattle.bank_laws.specs.declared.access.LoggedKind.TheVariants.{CodeRead}
 use Rattle.bank_laws.specs.Banks.{WordBytes, BankState, named_by_kind, BanksTell}
 use Rattle.bank_laws.specs.Runs.{Touch, StepTable, TableWorld, Turn, succeeds, kind_of, word_after}
 
--- a segment of a hart's log: steps that touch nothing, so many, and then one with its stamp, its refusal and its accesses
+-- a segment of a hart's log: local steps, then one step with its stamp, refusal and accesses
 pub record LoggedSegment : Type 0 where
   pub stamp : ℕ
   pub hart : ℕ
@@ -37,22 +37,22 @@ abbrev pub segments_of : ℕ → List LoggedSegment → List LoggedSegment
 segments_of h [] = []
 segments_of h (e ∷ es) = if e.hart == h then e ∷ segments_of h es else segments_of h es
 
--- a hart, and the word that its last LR without a fault named, if no SC without a fault came after it
+-- a hart, and the word named by its last LR without a fault, if no SC without a fault followed
 pub record HartSlot (H : Type 0) : Type 0 where
   pub hart : H
   pub named : Option ℕ
 
--- what a segment's last step logs of its code, where it finds these bytes and this mark
+-- the code read that a segment's last step logs, given these bytes and this mark
 abbrev pub code_reads : LoggedSegment → Option ℕ → WordBytes → Bool → List LoggedAccess
 code_reads e None c m = []
 code_reads e (Some x) c m = record { stamp = e.stamp; hart = e.hart; kind = CodeRead; word = x; before = c; after = c; mark = m } ∷ []
 
--- the bytes that answer a need, and none where there is none
+-- the bytes for a needed word, or none
 abbrev pub answer : Option ℕ → WordBytes → WordBytes
 answer None c = []
 answer (Some x) c = c
 
--- what is logged of a touch, where it finds these bytes and this mark
+-- what is logged of a touch, given these bytes and this mark
 abbrev pub access : {H : Type 0} → StepTable H → LoggedSegment → H → WordBytes → Touch → WordBytes → Bool → Bool → LoggedAccess
 access T e s c t v m ok = record {
   stamp = e.stamp;
@@ -64,7 +64,7 @@ access T e s c t v m ok = record {
   mark = m;
 }
 
--- what a segment's last step logs of its data. An SC succeeds where the mark stands and the hart's last LR names the word
+-- the data accesses of a segment's last step; an SC needs the mark, and the last LR's word
 abbrev pub data_accesses : {H : Type 0} → StepTable H → LoggedSegment → HartSlot H → WordBytes → Option Touch → WordBytes → Bool → List LoggedAccess
 data_accesses T e s c None v m = []
 data_accesses T e s c (Some t) v m =
@@ -75,17 +75,17 @@ abbrev pub slot_did : {H : Type 0} → StepTable H → HartSlot H → WordBytes 
 slot_did T s c t v ok =
     record { hart = T.after s.hart c v ok; named = named_by_kind (kind_of t.act ok) t.word s.named }
 
--- the slot after what was planned
+-- the slot after the planned touch
 abbrev pub slot_after : {H : Type 0} → StepTable H → Bool → HartSlot H → WordBytes → Option Touch → WordBytes → Bool → HartSlot H
 slot_after T refuse s c None v m = record { hart = T.after s.hart c [] false; named = s.named }
 slot_after T refuse s c (Some t) v m =
     slot_did T s c t v (succeeds t.act refuse (m && names s.named t.word))
 
--- the bytes that answer the hart's need of code
+-- the bytes of the code that the hart needs
 abbrev pub answered : {H : Type 0} → StepTable H → HartSlot H → WordBytes → WordBytes
 answered T s c = answer (T.need s.hart) c
 
--- the last step of a segment leads from slot s to s', answered by some bytes and marks, and logs them
+-- a segment's last step leads from slot s to s', given some bytes and marks, and logs them
 pub record IsLastStep {H : Type 0} (T : StepTable H) (e : LoggedSegment) (s s' : HartSlot H) : Type 0 where
   pub code : WordBytes
   pub code_mark : Bool
@@ -95,7 +95,7 @@ pub record IsLastStep {H : Type 0} (T : StepTable H) (e : LoggedSegment) (s s' :
       ++ data_accesses T e s (answered T s code) (T.plan s.hart (answered T s code)) value mark
   pub slot : s' ≡ slot_after T e.refuse s (answered T s code) (T.plan s.hart (answered T s code)) value mark
 
--- so many steps touch nothing, and lead from hart s to t
+-- n steps touch nothing, and lead from hart s to t
 abbrev pub TouchNothing : {H : Type 0} → StepTable H → ℕ → H → H → Type 0
 TouchNothing T zero s t = t ≡ s
 TouchNothing T (suc n) s t =
@@ -112,7 +112,7 @@ abbrev pub Walks : {H : Type 0} → StepTable H → HartSlot H → List LoggedSe
 Walks T s [] s' = s' ≡ s
 Walks {H} T s (e ∷ es) s' = (mid : HartSlot H) × IsSegment T e s mid × Walks T mid es s'
 
--- harts, words and reservations are those that the slots and the banks have
+-- harts, words and reservations are those of the slots and the banks
 pub record TellsWorld {H : Type 0} (bank_of : ℕ → ℕ) (w : TableWorld H) (slots : ℕ → HartSlot H) (banks : ℕ → BankState) : Type 0 where
   pub harts : (k : ℕ) → w.harts k ≡ (slots k).hart
   pub rest : BanksTell bank_of w.shared banks (λ k. (slots k).named)

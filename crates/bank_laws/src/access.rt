@@ -1,4 +1,4 @@
-//! One access of one word, as logs have it.
+//! One access to one word, as logs record it.
 
 /// How a step accesses a word.
 #[derive(Clone, Copy, Drop, PartialEq, Eq, PartialOrd, Ord)]
@@ -7,13 +7,13 @@ pub enum LoggedKind {
     CodeRead,
     /// It loads bytes.
     Load,
-    /// It stores bytes, as an AMO does too.
+    /// It stores bytes; an AMO is logged as a store.
     Store,
     /// It is an LR.
     LoadReserved,
-    /// It is an SC that has stored.
+    /// It is an SC that stored.
     ConditionalStored,
-    /// It is an SC that has not stored.
+    /// It is an SC that failed.
     ConditionalFailed,
 }
 
@@ -28,10 +28,10 @@ pub struct LoggedAccess {
     pub kind: LoggedKind,
     /// The address of the word, a multiple of 4.
     pub word: u32,
-    /// The word's bytes before the access, the lowest first. A byte that isn't mapped is 0.
+    /// The word's bytes before the access, lowest address first. An unmapped byte is 0.
     pub before: [u8; 4],
-    /// The word's bytes after it.
+    /// The word's bytes after the access.
     pub after: [u8; 4],
-    /// Whether the word's bank had this hart's mark on the word before the access.
+    /// Whether the word's bank held this hart's mark on the word before the access.
     pub mark: bool,
 }

@@ -1,4 +1,4 @@
-//! What harts that share words in banks do together is what their logs say.
+//! The joint run of harts that share memory in banks is determined by their logs.
 ghost use Rattle.std.specs.Prelude.{◌≡◌, ◌≢◌, ℕ, Option, List};
 ghost use Rattle.bank_laws.specs.declared.access.LoggedAccess.{LoggedAccess};
 ghost use Rattle.bank_laws.specs.Banks.{BankState, BanksTell, IsLogged, after_access, after_log, banks_after, named_after, share_of};
@@ -7,16 +7,16 @@ ghost use Rattle.bank_laws.specs.Segments.{LoggedSegment, HartSlot, Walks, Tells
 ghost use Rattle.bank_laws.specs.HartLogs.{IsStepwise, slot_after_log};
 ghost use Rattle.bank_laws.specs.Order.{In, Rises, Earlier, AreLogs, IsMatched, IsMerged};
 
-/// Where the banks and the words of the harts' last LRs tell what all harts share, they still do after an access, though
-/// only its word's bank takes it in.
+/// If the banks and the words of the harts' last LRs have the shared state, they still have it
+/// after an access, though it changes only its word's bank.
 pub fn access_keeps_joined()
     ensures { (bank_of : ℕ → ℕ) (shared : BankState) (banks : ℕ → BankState) (named : ℕ → Option ℕ) (a : LoggedAccess)
         → BanksTell bank_of shared banks named
         → BanksTell bank_of (after_access shared a) (banks_after bank_of banks a) (named_after named a) }
 {}
 
-/// A run over a list of segments, where each hart's segments are a walk of that hart and each bank's accesses are logged,
-/// ends in what the walks and the banks' logs end in.
+/// A run over a list of segments, in which each hart's segments are a walk of that hart and each
+/// bank's accesses are logged, ends as the walks and the banks' logs do.
 pub fn segments_run<H>()
     ensures { (bank_of : ℕ → ℕ) (T : StepTable H) (es : List LoggedSegment) (w : TableWorld H) (slots ends : ℕ → HartSlot H)
         (banks : ℕ → BankState)
@@ -27,8 +27,8 @@ pub fn segments_run<H>()
         (λ b. after_log (banks b) (share_of bank_of b (accesses es))) }
 {}
 
-/// Logs of harts and of banks in which the same accesses stand, and in which stamps rise, are one run: that of the harts'
-/// segments in the order of their stamps, and of the harts' numbers where stamps are equal.
+/// Logs of harts and of banks with the same accesses and rising stamps are one run: that of the
+/// harts' segments in the order of their stamps, and of the harts' numbers where stamps are equal.
 pub fn logs_merge<H>()
     ensures { (bank_of : ℕ → ℕ) (T : StepTable H) (w : TableWorld H) (slots ends : ℕ → HartSlot H) (start : ℕ → BankState)
         (logs : ℕ → List LoggedSegment) (banks : ℕ → List LoggedAccess) (es : List LoggedSegment)
@@ -42,7 +42,7 @@ pub fn merged_list_is_one()
     ensures { (logs : ℕ → List LoggedSegment) (es fs : List LoggedSegment) → IsMerged logs es → IsMerged logs fs → es ≡ fs }
 {}
 
-/// Two segments of two harts that have one stamp share no bank: so it is all one which of them comes first.
+/// Two segments of different harts with equal stamps share no bank, so their order doesn't matter.
 pub fn equal_stamps_share_no_bank<H>()
     ensures { (bank_of : ℕ → ℕ) (T : StepTable H) (slots ends : ℕ → HartSlot H) (start : ℕ → BankState)
         (logs : ℕ → List LoggedSegment) (banks : ℕ → List LoggedAccess)
@@ -51,7 +51,7 @@ pub fn equal_stamps_share_no_bank<H>()
         → (a c : LoggedAccess) → In a e.accesses → In c f.accesses → bank_of a.word ≢ bank_of c.word }
 {}
 
-/// A log that agrees with the hart's steps one by one is a walk to the slot that they lead to.
+/// A log that agrees with the hart's steps one by one is a walk to the slot that those steps reach.
 pub fn stepwise_log_walks<H>()
     ensures { (T : StepTable H) (s : HartSlot H) (es : List LoggedSegment)
         → IsStepwise T s es → Walks T s es (slot_after_log T s es) }

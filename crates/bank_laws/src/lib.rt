@@ -1,4 +1,4 @@
-//! Laws of memory in banks: logs of harts and of banks that match are one run.
+//! Laws of memory in banks: matching logs of harts and of banks are one run.
 #![tactic(auto)]
 
 pub use access::{LoggedAccess, LoggedKind};

@@ -1,4 +1,4 @@
--- A bank begins as its image, and takes accesses into its log.
+-- A bank begins as its image, and logs accesses.
 use Rattle.std.proofs.Common.{◌≡◌, ℕ, ◌≤◌, ◌==◌, Bool, true, false, List, [], ◌∷◌, ◌++◌, length, Option, Some, None, refl, ap, sym, ◌∙◌}
 use Rattle.std.specs.Prelude.{if◌then◌else◌}
 use Rattle.std.specs.List.{AllByRecursion}
@@ -61,7 +61,7 @@ holds_push image inputs number log old new held held' a h f stores e = record {
   logged = logged_push (first_bank image) log a h.logged f.finds;
 }
 
--- ---- the host has refused memory
+-- ---- out of memory
 pub holds_still : (image : ImageValue) (inputs : List ℕ) (number : ℕ) (log : List LoggedAccess) (old new : BTreeMap ℕ WordBytes) (held : Marks) (a : LoggedAccess)
     → HoldsIn image inputs number log old held → StoresAt false old new a → HoldsIn image inputs number log new held
 holds_still image inputs number log old new held a h stores = record {

@@ -7,7 +7,7 @@ use Rattle.bank_laws.specs.declared.access.LoggedAccess.{LoggedAccess}
 use Rattle.bank_laws.specs.Order.{is_code_read, Before, Rises}
 use Rattle.bank_memory.specs.Rising.{is_before, may_follow, may_lead, rises}
 
--- the test tells the order, and the other way round
+-- the test is exact
 pub before_parts : (a c : LoggedAccess) → is_before a c ≡ true → Before a c
 before_parts a c e =
     ⊎_elim

@@ -1,4 +1,4 @@
--- What a bank is: a log over the words of an image.
+-- A bank as a log over the words of an image.
 use Rattle.std.specs.Prelude.{◌≡◌, ℕ, ◌%◌, ◌<◌, true, List, [], ◌∷◌, ◌++◌, length}
 use Rattle.std.specs.List.{AllByRecursion}
 use Rattle.image.specs.Image.{ImageValue}
@@ -10,19 +10,19 @@ use Rattle.bank_memory.specs.Rising.{may_follow}
 use Rattle.bank_memory.specs.declared.bank.AddFault.{AddFault}
 use Rattle.bank_memory.specs.declared.bank.AddFault.TheVariants.{Mismatch, Memory}
 
--- the program with its inputs, one a hart; the bank's number, and the accesses to its words
+-- the program with its inputs, one per hart; the bank's number, and the accesses to its words
 pub record BankLog : Type 0 where
   pub image : ImageValue
   pub inputs : List ℕ
   pub number : ℕ
   pub log : List LoggedAccess
 
--- the words and marks to which the log has led
+-- the words and marks after the log
 abbrev pub state_of : BankLog → BankState
 state_of b = after_log (first_bank b.image) b.log
 
--- an access may come next: it is to a word of the bank, of a hart that is there, has found what the bank has, and comes after
--- all accesses before it
+-- an access may come next: it is to a word of the bank, by one of the program's harts, has found
+-- what the bank has, and comes after all accesses before it
 pub record Fits (b : BankLog) (a : LoggedAccess) : Type 0 where
   pub word : a.word % 4 ≡ 0
   pub bank : bank_of a.word ≡ b.number
@@ -30,11 +30,11 @@ pub record Fits (b : BankLog) (a : LoggedAccess) : Type 0 where
   pub finds : Finds (state_of b) a
   pub follows : may_follow b.log a ≡ true
 
--- the bank with an access more
+-- the bank with one more access
 abbrev pub taken : BankLog → LoggedAccess → BankLog
 taken b a = record b { log = b.log ++ a ∷ [] }
 
--- why an access is not taken
+-- why an access is not logged
 abbrev pub Refuses : BankLog → LoggedAccess → AddFault → Type 0
 Refuses b a Mismatch = Fits b a → ⊥
 Refuses b a Memory = Fits b a

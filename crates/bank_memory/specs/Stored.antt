@@ -1,4 +1,4 @@
--- How a bank keeps its words: those that stores have changed stand in a map, all others are the image's.
+-- How a bank keeps its words: a map has those that stores changed, all others are the image's.
 use Rattle.std.specs.Prelude.{◌≡◌, ℕ, ◌≤◌, ◌==◌, Bool, true, false, List, Option, Some, length, if◌then◌else◌}
 use Rattle.std.specs.List.{AllByRecursion}
 use Rattle.std.specs.Ordering.{nat_cmp}
@@ -19,17 +19,17 @@ use Rattle.bank_memory.specs.Rising.{rises}
 abbrev pub value_in : ImageValue → BTreeMap ℕ WordBytes → ℕ → WordBytes
 value_in image changed x = unwrap_or (tree.get nat_cmp changed x) (bytes_at (image_memory image).bytes x)
 
--- what the map has at a word, after an access
+-- the map's entry for a word after an access
 abbrev pub stored_at : BTreeMap ℕ WordBytes → LoggedAccess → ℕ → Option WordBytes
 stored_at changed a x =
     if is_store a.kind then (if x == a.word then Some a.after else tree.get nat_cmp changed x) else tree.get nat_cmp changed x
 
--- the map has what an access stores; or it has not changed
+-- the map has the bytes that an access stores; or it is unchanged
 abbrev pub StoresAt : Bool → BTreeMap ℕ WordBytes → BTreeMap ℕ WordBytes → LoggedAccess → Type 0
 StoresAt true old new a = (x : ℕ) → tree.get nat_cmp new x ≡ stored_at old a x
 StoresAt false old new a = (x : ℕ) → tree.get nat_cmp new x ≡ tree.get nat_cmp old x
 
--- bytes and marks are those to which the log has led, whose accesses are the bank's, in order, and have found what was there
+-- bytes and marks are the log's, whose accesses are the bank's, in order, and found what was there
 pub record HoldsIn (image : ImageValue) (inputs : List ℕ) (number : ℕ) (log : List LoggedAccess) (changed : BTreeMap ℕ WordBytes) (held : Marks) : Type 0 where
   pub harts : length inputs ≤ most_harts
   pub values : (x : ℕ) → value_in image changed x ≡ (after_log (first_bank image) log).values x

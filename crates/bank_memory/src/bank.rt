@@ -1,4 +1,4 @@
-//! A bank of words.
+//! A bank of memory.
 ghost use Rattle.std.specs.Prelude.{◌≡◌, ◌↔◌, ◌%◌, ◌<◌, ◌≤◌, length, IfErr, OnErr, OnOk, [], true};
 ghost use Rattle.image.specs.Image.{ImageValue};
 ghost use Rattle.hart_reservations.specs.Limit.{most_harts};
@@ -20,19 +20,21 @@ use std::alloc::Allocator;
 use std::collections::BTreeMap;
 use std::marker::Model;
 
-/// How many banks there are.
+/// Number of banks.
 pub const BANKS: u32 = 16;
 
-/// Why an access is not taken; then nothing has changed.
+/// Why an access is not logged. Nothing has changed then.
 #[derive(Clone, Copy, Drop, PartialEq, Eq)]
 pub enum AddFault {
-    /// The access is to no word of the bank or of no hart, or hasn't found what the bank has, or its stamp is too low.
+    /// The access is to a word of another bank or by a hart that doesn't exist, its bytes or mark
+    /// aren't the bank's, or its stamp is too low.
     Mismatch,
     /// The host refused memory.
     Memory,
 }
 
-/// One of the banks of a program's memory: the bytes of its words, its marks, and the log of accesses that led to both.
+/// One bank of a program's memory: the bytes of its words, its marks, and the log of accesses that
+/// led to both.
 #[derive(Drop)]
 pub struct Bank<'a, A: Allocator> {
     image: &'a Image<A>,
@@ -62,7 +64,7 @@ impl<'a, A: Allocator> Model for Bank<'a, A> {
 }
 
 impl<'a, A: Allocator> Bank<'a, A> {
-    /// A bank of a program's memory as the program begins. There is a hart for each input.
+    /// A bank as the program begins. There is one hart for each input.
     pub fn new(alloc: A, image: &'a Image<A>, inputs: &'a [u32], number: u32) -> Bank<'a, A>
     where
         A: Copy,
@@ -85,7 +87,7 @@ impl<'a, A: Allocator> Bank<'a, A> {
         }
     }
 
-    /// Which bank it is, from 0.
+    /// The bank's number, from 0.
     pub fn number(&self) -> u32
         ensures { result ≡ self.now.number }
     {
@@ -106,21 +108,21 @@ impl<'a, A: Allocator> Bank<'a, A> {
         self.inputs
     }
 
-    /// The bytes of a word, the lowest first.
+    /// The bytes of a word, lowest address first.
     pub fn bytes(&self, word: u32) -> [u8; 4]
         ensures { result ≡ (state_of self.now).values word }
     {
         value_at(&self.changed, self.image, word)
     }
 
-    /// Which words of the bank each hart's mark stands on.
+    /// For each hart, the word of this bank that its mark is on, if any.
     pub fn marks(&self) -> Reserve
         ensures { marks result ≡ (state_of self.now).marks }
     {
         self.held
     }
 
-    /// Whether a hart's mark stands on a word.
+    /// Whether a hart's mark is on a word.
     pub fn holds(&self, hart: usize, word: u32) -> bool
         requires { hart < most_harts }
         ensures { result ≡ names ((state_of self.now).marks hart) word }
@@ -145,7 +147,7 @@ impl<'a, A: Allocator> Bank<'a, A> {
         }
     }
 
-    /// Whether an access may come next that finds what the bank has.
+    // Whether an access that finds the bank's bytes and mark may come next.
     fn fits_found(&self, access: &LoggedAccess) -> bool
         requires { Finds (state_of self.now) access.now }
         ensures { (result ≡ true) ↔ Fits self.now access.now }
@@ -156,7 +158,7 @@ impl<'a, A: Allocator> Bank<'a, A> {
             && may_follow(&self.log, access)
     }
 
-    /// Whether an access may come next.
+    // Whether an access may come next.
     fn fits(&self, access: &LoggedAccess) -> bool
         ensures { (result ≡ true) ↔ Fits self.now access.now }
     {
@@ -172,7 +174,7 @@ impl<'a, A: Allocator> Bank<'a, A> {
         self.fits_found(access)
     }
 
-    /// Takes an access that fits into the log, and does to bytes and marks what it did.
+    // Logs an access that fits, and applies it to bytes and marks.
     fn take(&mut self, access: LoggedAccess) -> Result<(), AddFault>
     where
         A: Clone,
@@ -192,7 +194,7 @@ impl<'a, A: Allocator> Bank<'a, A> {
         Ok(())
     }
 
-    /// Takes an access into the log, and does to bytes and marks what it did.
+    /// Logs an access that may come next, and applies it to bytes and marks.
     pub fn add(&mut self, access: LoggedAccess) -> Result<(), AddFault>
     where
         A: Clone,
@@ -206,7 +208,8 @@ impl<'a, A: Allocator> Bank<'a, A> {
         self.take(access)
     }
 
-    /// Takes an access as `add` does, of which it is known that it finds what the bank has: that isn't looked up again.
+    /// As `add`, for an access that is known to find the bank's bytes and mark: neither is checked
+    /// again.
     pub fn add_found(&mut self, access: LoggedAccess) -> Result<(), AddFault>
     where
         A: Clone,
@@ -222,16 +225,16 @@ impl<'a, A: Allocator> Bank<'a, A> {
     }
 }
 
-/// In every bank that can be made the log has accesses to its own words alone, in order, and each has found what those before
-/// it left in the words of the image.
+/// The log of every bank has accesses to its own words only, in order, and each has found what the
+/// ones before it left in the words of the image.
 pub fn each_bank_is_logged<A: Allocator>(bank: &Bank<A>)
     ensures { IsOfBank bank.now }
 {
-    // Reading a field tells the proof what the bank keeps.
+    // Reading a field gives the proof the invariant.
     let _ = &bank.log;
 }
 
-/// The bytes of a word: those that were stored last, else the image's.
+// The bytes of a word: the last stored ones, else the image's.
 fn value_at<A: Allocator>(
     changed: &BTreeMap<u32, [u8; 4], A>,
     image: &Image<A>,
@@ -245,7 +248,7 @@ fn value_at<A: Allocator>(
     }
 }
 
-/// Keeps what an access has stored, if it is a store, and tells whether the host gave the memory for that.
+// Keeps the bytes of an access that stores. Returns false if out of memory.
 fn store<A: Allocator + Clone>(
     changed: &mut BTreeMap<u32, [u8; 4], A>,
     access: &LoggedAccess,
@@ -260,7 +263,7 @@ fn store<A: Allocator + Clone>(
     }
 }
 
-/// What an access does to the marks.
+// Applies an access to the marks.
 fn mark(held: &mut Reserve, access: &LoggedAccess)
     requires hart { access.now.hart < most_harts }
     requires word { access.now.word % 4 ≡ 0 }

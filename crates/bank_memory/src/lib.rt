@@ -1,4 +1,4 @@
-//! Memory in sixteen banks: each with its bytes, its marks and the log of its accesses.
+//! One of sixteen banks of memory: its bytes, its marks and the log of its accesses.
 #![tactic(auto)]
 
 pub use bank::{AddFault, BANKS, Bank, each_bank_is_logged};

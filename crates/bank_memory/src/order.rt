@@ -5,8 +5,8 @@ ghost use Rattle.bank_memory.specs.Rising.{is_before, may_follow, rises};
 
 use bank_laws::{LoggedAccess, LoggedKind};
 
-/// Whether an access comes before another in a bank's log: its stamp is lower; or it is the code read of the step whose data
-/// access the other is.
+// Whether an access comes before another in a bank's log: its stamp is lower, or it is the code
+// read of the step whose data access the other is.
 fn is_before(first: &LoggedAccess, second: &LoggedAccess) -> bool
     ensures { result ≡ is_before first.now second.now }
 {
@@ -23,7 +23,7 @@ fn is_code_read(kind: LoggedKind) -> bool
     matches!(kind, LoggedKind::CodeRead)
 }
 
-/// Whether an access may come after a log that is in order. The last one decides.
+/// Whether an access may come after a log that is in order. Only the log's last access decides.
 pub(crate) fn may_follow(log: &[LoggedAccess], access: &LoggedAccess) -> bool
     requires { rises log.now ≡ true }
     ensures { result ≡ may_follow log.now access.now }

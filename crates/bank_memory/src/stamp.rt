@@ -1,8 +1,8 @@
-//! Stamps, which order the steps of all harts.
+//! Stamps: they order the steps of all harts.
 ghost use Rattle.std.specs.Prelude.{◌≡◌, ◌-◌, ◌^◌, [], ◌∷◌, Some, None};
 ghost use Rattle.bank_memory.specs.Stamps.{greatest, next_stamp};
 
-/// The greatest of a stamp and of more.
+// The greatest of a stamp and a list of stamps.
 fn greatest(own: u64, banks: &[u64]) -> u64
     ensures { result ≡ greatest own banks.now }
 {
@@ -15,8 +15,8 @@ fn greatest(own: u64, banks: &[u64]) -> u64
     greatest
 }
 
-/// The stamp of a step, from the last stamp of its hart and those of the banks that it touches: one more than the greatest of
-/// them. None where that would be `u64::MAX` or above.
+/// The stamp of a step, from the last stamps of its hart and of the banks that it touches: one more
+/// than the greatest of them. `None` if that is `u64::MAX` or above.
 pub fn next_stamp(own: u64, banks: &[u64]) -> Option<u64>
     ensures { result ≡ next_stamp own banks.now }
 {
@@ -27,7 +27,8 @@ pub fn next_stamp(own: u64, banks: &[u64]) -> Option<u64>
     Some(last + 1)
 }
 
-/// Worked stamps: the greatest counts, whosever it is, and the last that there is, is the last but one number of 64 bits.
+/// Examples: the greatest stamp decides, whether the hart's or a bank's; the last stamp is
+/// `u64::MAX - 1`.
 pub fn stamps_in_examples()
     ensures greatest_of_all { next_stamp 3 (5 ∷ 1 ∷ []) ≡ Some 6 }
     ensures own_is_greatest { next_stamp 7 (5 ∷ 1 ∷ []) ≡ Some 8 }

@@ -1,4 +1,4 @@
--- The tests of sets are those of matching.
+-- The tests on sets decide matching.
 use Rattle.std.proofs.Common.{◌≡◌, ℕ, zero, suc, ◌<◌, ◌≤◌, ◌+◌, Bool, true, List, [], ◌∷◌, ◌++◌, Some, length, refl, ap, sym, ◌∙◌, subst, inl, inr, ⊎_elim, arith}
 use Rattle.std.specs.Prelude.{◌⊎◌, ◌↔◌, slice_get, slice_index_or}
 use Rattle.std.specs.List.{AllByRecursion}
@@ -106,7 +106,7 @@ each_in P [] a each i = absurd i
 each_in P (x ∷ xs) a each (inl q) = subst P (sym q) each.0
 each_in P (x ∷ xs) a each (inr i) = each_in P xs a each.1 i
 
--- an access that stands in a bank is of a word of the bank
+-- an access in a bank is to a word of the bank
 its_bank : (banks : List BankLog) → ((b : ℕ) (k : BankLog) → slice_get banks b ≡ Some k → IsOfBank k) → AreNumbered banks
     → (b : ℕ) (a : LoggedAccess) → In a (bank_log banks b) → bank_of a.word ≡ b
 its_bank banks keep numbered b a i = ⊎_elim

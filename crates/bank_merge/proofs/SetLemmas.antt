@@ -6,7 +6,7 @@ use Rattle.std.specs.BTreeSet.{BTreeSet}
 use Rattle.bank_laws.specs.declared.access.LoggedAccess.{LoggedAccess}
 use Rattle.bank_merge.specs.Matching.{access_cmp, is_in, is_among, are_in}
 
--- the item at a place, and the items behind it
+-- the item at an index, and those after it
 pub drop_item : {X : Type 0} (xs : List X) (i : ℕ) (x : X) → i < length xs → x ≡ slice_index_or xs i x → drop i xs ≡ x ∷ drop (i + 1) xs
 drop_item [] i x low is = absurd (omega (arith, low))
 drop_item {X} (y ∷ xs) zero x low is = ap (λ (z : X). z ∷ xs) (sym is)
@@ -81,7 +81,7 @@ pub not_in : (set : BTreeSet LoggedAccess) (front xs ys : List LoggedAccess) (al
 not_in set front xs ys all is so_far there =
     ap (λ (b : Bool). b && are_in set ys) (sym there) ∙ sym (are_both set xs ys) ∙ ap (are_in set) (sym is) ∙ so_far
 
--- the access at a place, and those behind it
+-- the access at an index, and those after it
 pub item_in : (old new : BTreeSet LoggedAccess) (xs : List LoggedAccess) (i : ℕ) (d : LoggedAccess) (rhs : LoggedAccess → Bool) → i < length xs
     → ((a : LoggedAccess) → (is_among (drop i xs) a || is_in old a) ≡ rhs a) → ((a : LoggedAccess) → is_in new a ≡ (is_among (slice_index_or xs i d ∷ []) a || is_in old a))
     → (a : LoggedAccess) → (is_among (drop (i + 1) xs) a || is_in new a) ≡ rhs a

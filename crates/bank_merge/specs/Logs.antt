@@ -13,11 +13,11 @@ use Rattle.bank_memory.specs.BankLog.{BankLog}
 abbrev pub segments_of_all : List HartLogValue → List (List LoggedSegment)
 segments_of_all logs = map (λ l. l.log) logs
 
--- the segments of hart h, which has none past the last hart
+-- the segments of hart h, empty past the last hart
 abbrev pub hart_log : List HartLogValue → ℕ → List LoggedSegment
 hart_log logs h = log_of (segments_of_all logs) h
 
--- the accesses of bank b, which has none past the last bank
+-- the accesses of bank b, empty past the last bank
 abbrev pub bank_log : List BankLog → ℕ → List LoggedAccess
 bank_log banks b = slice_index_or (map (λ k. k.log) banks) b []
 
@@ -37,8 +37,8 @@ pub record IsBankOf (image : ImageValue) (inputs : List ℕ) (b : ℕ) (k : Bank
   pub same_inputs : k.inputs ≡ inputs
   pub number : k.number ≡ b
 
--- logs and banks are those of a program whose entry is an address of a word: each hart and each of the sixteen banks once and in
--- order
+-- logs and banks are those of a program whose entry is word-aligned: each hart and each of the
+-- sixteen banks once and in order
 pub record AreOf (image : ImageValue) (inputs : List ℕ) (logs : List HartLogValue) (banks : List BankLog) : Type 0 where
   pub entry : image.entry % 4 ≡ 0
   pub harts : length logs ≡ length inputs

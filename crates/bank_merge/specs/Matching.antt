@@ -29,7 +29,7 @@ abbrev pub are_in : BTreeSet LoggedAccess → List LoggedAccess → Bool
 are_in set [] = true
 are_in set (x ∷ xs) = is_in set x && are_in set xs
 
--- all of a list stand in another one
+-- another list has all elements of a list
 abbrev pub Covers : List LoggedAccess → List LoggedAccess → Type 0
 Covers xs ys = (a : LoggedAccess) → In a xs → In a ys
 

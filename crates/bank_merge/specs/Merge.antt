@@ -1,4 +1,4 @@
--- What merging answers.
+-- The answers of merging.
 use Rattle.std.specs.Prelude.{ℕ, List}
 use Rattle.image.specs.Image.{ImageValue}
 use Rattle.hart_step.specs.Hart.{HartValue}
@@ -16,7 +16,7 @@ use Rattle.bank_merge.specs.Logs.{bank_log, hart_log, segments_of_all, AreOf, St
 use Rattle.bank_merge.specs.declared.merging.MergeFault.{MergeFault}
 use Rattle.bank_merge.specs.declared.merging.MergeFault.TheVariants.{Unmatched, OutOfOrder, Memory}
 
--- an access stands in a hart's log exactly where it stands in its word's bank
+-- an access is in a hart's log exactly if it is in its word's bank
 abbrev pub AreMatched : List HartLogValue → List BankLog → Type 0
 AreMatched logs banks = IsMatched bank_of (hart_log logs) (bank_log banks)
 
@@ -24,8 +24,8 @@ AreMatched logs banks = IsMatched bank_of (hart_log logs) (bank_log banks)
 abbrev pub slots : ImageValue → List ℕ → List HartLogValue → ℕ → HartSlot HartValue
 slots image inputs logs h = slot_in image inputs h (hart_log logs h)
 
--- the run of choices from the program's start has the logs' slots, the banks' bytes, and as reservation of each hart the word that
--- its slot names, where that word's bank has its mark
+-- the run of choices from the program's start has the logs' slots, the banks' bytes, and as
+-- reservation of each hart the word that its slot names, where that word's bank has its mark
 abbrev pub EndsAsLogged : List HartLogValue → List BankLog → List Choice → Type 0
 EndsAsLogged logs banks choices = (image : ImageValue) (inputs : List ℕ) → AreOf image inputs logs banks
     → EndsIn image inputs (run (started image inputs) choices) (slots image inputs logs) (λ b. after_log (first_bank image) (bank_log banks b))

@@ -1,4 +1,4 @@
-//! Logs of harts and of banks that match, as the choices of the one run that they are.
+//! Merges matching logs of harts and of banks to the choices of one run.
 #![tactic(auto)]
 
 pub use matching::is_matched;

@@ -1,4 +1,4 @@
-//! Whether the same accesses stand in the logs of harts and of banks.
+//! Whether the logs of harts and of banks have the same accesses.
 ghost use Rattle.std.specs.Prelude.{◌≡◌, ◌||◌, ◌↔◌, [], ◌∷◌, option_to_list, length, IfOk, OnOk, true};
 ghost use Rattle.bank_laws.specs.declared.access.LoggedAccess.{LoggedAccess};
 ghost use Rattle.bank_laws.specs.Order.{IsMatched};
@@ -17,7 +17,7 @@ use bank_order::LogSegment;
 use std::alloc::{AllocError, Allocator};
 use std::collections::BTreeSet;
 
-// Puts an access into a set.
+// Adds an access to a set.
 fn insert<A: Allocator + Clone>(
     set: &mut BTreeSet<LoggedAccess, A>,
     access: &LoggedAccess,
@@ -30,7 +30,7 @@ fn insert<A: Allocator + Clone>(
     Ok(())
 }
 
-// Puts accesses into a set.
+// Adds accesses to a set.
 fn insert_all<A: Allocator + Clone>(
     set: &mut BTreeSet<LoggedAccess, A>,
     accesses: &[LoggedAccess],
@@ -43,7 +43,7 @@ fn insert_all<A: Allocator + Clone>(
     Ok(())
 }
 
-// Puts an access into a set, if there is one.
+// Adds an access to a set, if there is one.
 fn insert_if<A: Allocator + Clone>(
     set: &mut BTreeSet<LoggedAccess, A>,
     access: Option<LoggedAccess>,
@@ -56,7 +56,7 @@ fn insert_if<A: Allocator + Clone>(
     Ok(())
 }
 
-// Puts the accesses of a segment into a set.
+// Adds the accesses of a segment to a set.
 fn insert_segment<A: Allocator + Clone>(
     set: &mut BTreeSet<LoggedAccess, A>,
     segment: &LogSegment,
@@ -68,7 +68,7 @@ fn insert_segment<A: Allocator + Clone>(
     Ok(())
 }
 
-// Puts the accesses of segments into a set.
+// Adds the accesses of segments to a set.
 fn insert_segments<A: Allocator + Clone>(
     set: &mut BTreeSet<LoggedAccess, A>,
     segments: &[LogSegment],
@@ -109,14 +109,12 @@ fn hart_set<A: Allocator + Copy>(
     Ok(set)
 }
 
-// Whether a set has an access.
 fn is_in<A: Allocator>(set: &BTreeSet<LoggedAccess, A>, access: &LoggedAccess) -> bool
     ensures { result ≡ are_in set.now (access.now ∷ []) }
 {
     set.contains(access)
 }
 
-// Whether a set has all accesses.
 fn are_in<A: Allocator>(set: &BTreeSet<LoggedAccess, A>, accesses: &[LoggedAccess]) -> bool
     ensures { result ≡ are_in set.now accesses.now }
 {
@@ -181,7 +179,7 @@ fn harts_are_in<A: Allocator>(set: &BTreeSet<LoggedAccess, A>, logs: &[HartLog<A
     true
 }
 
-// Whether all accesses in the logs of harts stand in those of banks.
+// Whether the banks' logs have all accesses in the harts'.
 fn banks_have_all<A: Allocator + Copy>(
     alloc: A,
     logs: &[HartLog<A>],
@@ -193,7 +191,7 @@ fn banks_have_all<A: Allocator + Copy>(
     Ok(harts_are_in(&set, logs))
 }
 
-// Whether all accesses in the logs of banks stand in those of harts.
+// Whether the harts' logs have all accesses in the banks'.
 fn harts_have_all<A: Allocator + Copy>(
     alloc: A,
     logs: &[HartLog<A>],
@@ -205,8 +203,8 @@ fn harts_have_all<A: Allocator + Copy>(
     Ok(banks_are_in(&set, banks))
 }
 
-// Whether there are all banks, with the accesses of each hart in the order of its own log. Logs that threads have left are so, and to see it
-// takes a look at each access and no memory.
+// Whether all banks are there, with the accesses of each hart in the order of its own log. Logs of
+// threads are like this, and checking it allocates nothing.
 fn are_in_order<A: Allocator>(logs: &[HartLog<A>], banks: &[Bank<A>]) -> bool
     ensures { result ≡ true
         → (length banks.now ≡ most_banks) × AreOrdered (segments_of logs.now) (logs_of banks.now) }
@@ -214,8 +212,8 @@ fn are_in_order<A: Allocator>(logs: &[HartLog<A>], banks: &[Bank<A>]) -> bool
     banks.len() == BANKS as usize && are_ordered(logs, banks)
 }
 
-/// Whether an access stands in a hart's log exactly where it stands in the log of its word's bank. Each bank stands at the place
-/// of its number.
+/// Whether a hart's log has an access exactly if the log of its word's bank has it. Bank b is at
+/// index b.
 pub fn is_matched<A: Allocator + Copy>(
     alloc: A,
     logs: &[HartLog<A>],

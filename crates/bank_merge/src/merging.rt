@@ -20,7 +20,7 @@ use std::alloc::{AllocError, Allocator};
 /// Why logs are not merged.
 #[derive(Clone, Copy, Drop, PartialEq, Eq)]
 pub enum MergeFault {
-    /// An access stands in a hart's log and not in its bank's, or the other way round.
+    /// An access is in a hart's log but not in its bank's, or the other way round.
     Unmatched,
     /// The stamps of a hart's log don't rise.
     OutOfOrder,
@@ -28,8 +28,9 @@ pub enum MergeFault {
     Memory,
 }
 
-/// The one run that the logs of all harts and of all banks of a program are: the choices of all segments, by the stamp, and by the
-/// hart's number where stamps are equal. Each hart and each of the sixteen banks is there once and in order.
+/// The run that the logs of all harts and of all banks of a program are: the choices of all
+/// segments, by stamp, then by hart number. Each hart and each of the sixteen banks is there once
+/// and in order.
 pub fn merge<A: Allocator + Copy>(
     alloc: A,
     logs: &[HartLog<A>],
@@ -57,8 +58,8 @@ pub fn merge<A: Allocator + Copy>(
     }
 }
 
-/// The one run that logs are which are known to match and to rise, as those are that a run of threads leaves. Nothing is compared
-/// again.
+/// The run of logs that are known to match and to rise, such as those of a run of threads. Nothing
+/// is checked again.
 pub fn merge_matched<A: Allocator + Copy>(
     alloc: A,
     logs: &[HartLog<A>],
@@ -76,7 +77,6 @@ pub fn merge_matched<A: Allocator + Copy>(
     Ok(choices)
 }
 
-// Whether the stamps of each log rise.
 fn stamps_rise<A: Allocator>(logs: &[HartLog<A>]) -> bool
     ensures { (result ≡ true) ↔ StampsRise logs.now }
 {

@@ -1,4 +1,4 @@
-//! Logs as one run of which nobody has the choices.
+//! Law: matching logs are one run, even if its choices are never made.
 ghost use Rattle.bank_merge.specs.Logs.{AreOfOne, StampsRise};
 ghost use Rattle.bank_merge.specs.Merge.{AreMatched, AreOneRun};
 
@@ -7,7 +7,7 @@ use bank_hart_log::HartLog;
 use bank_memory::Bank;
 use std::alloc::Allocator;
 
-/// Logs that are known to match and to rise are one run, also where its choices are not made.
+/// Logs that are known to match and to rise are one run, even if its choices are never made.
 pub fn logs_are_one_run<A: Allocator>(logs: &[HartLog<A>], banks: &[Bank<A>])
     requires one { AreOfOne logs.now banks.now }
     requires matched { AreMatched logs.now banks.now }

@@ -1,4 +1,4 @@
-//! What logs keep by themselves, of each of a list.
+//! The invariants of all logs of a list.
 ghost use Rattle.std.specs.Prelude.{◌≡◌, ℕ, Some, slice_get};
 ghost use Rattle.bank_memory.specs.BankLog.{BankLog, IsOfBank};
 ghost use Rattle.bank_hart_log.specs.HartLog.{HartLogValue, IsOfHart};
@@ -7,7 +7,7 @@ use bank_hart_log::{HartLog, each_hart_log_is_walked};
 use bank_memory::{Bank, each_bank_is_logged};
 use std::alloc::Allocator;
 
-/// Looks at each bank, so that it is known what it keeps.
+/// Reads each bank, which gives the proof its invariant.
 pub(crate) fn see_banks<A: Allocator>(banks: &[Bank<A>])
     ensures { (b : ℕ) (k : BankLog) → slice_get banks.now b ≡ Some k → IsOfBank k }
 {
@@ -16,7 +16,7 @@ pub(crate) fn see_banks<A: Allocator>(banks: &[Bank<A>])
     }
 }
 
-/// Looks at each hart's log, so that it is known what it keeps.
+/// Reads each hart's log, which gives the proof its invariant.
 pub(crate) fn see_harts<A: Allocator>(logs: &[HartLog<A>])
     ensures { (h : ℕ) (l : HartLogValue) → slice_get logs.now h ≡ Some l → IsOfHart l }
 {

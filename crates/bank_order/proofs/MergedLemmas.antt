@@ -55,7 +55,7 @@ behind_if e f t ne =
     less : (a b : ℕ) → a ≤ b → (a ≡ b → ⊥) → a < b
     less a b l n = ⊎_elim (λ (m : a < b). m) (λ (m : b ≤ a). absurd (n (omega (arith, l, m)))) (cases_lt a b)
 
--- the harts of both lists are apart
+-- the lists have no hart in common
 abbrev Apart : List LoggedSegment → List LoggedSegment → Type 0
 Apart xs ys = (e f : LoggedSegment) → In e xs → In f ys → e.hart ≡ f.hart → ⊥
 

@@ -1,4 +1,4 @@
--- The test tells whether stamps rise.
+-- The test is exact: it is true exactly if stamps rise.
 use Rattle.std.proofs.Common.{◌≡◌, ℕ, ◌<◌, true, List, [], ◌∷◌, Some, None, refl, arith}
 use Rattle.std.specs.Prelude.{nat_lt}
 use Rattle.std.specs.List.{AllByRecursion}

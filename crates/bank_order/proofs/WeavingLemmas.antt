@@ -1,4 +1,4 @@
--- Two lists woven to one: step by step, with the elements of both, in order.
+-- Two lists merged to one: step by step, with the elements of both, in order.
 use Rattle.std.proofs.Common.{◌≡◌, ℕ, zero, suc, ◌+◌, ◌<◌, ◌≤◌, Bool, true, false, List, [], ◌∷◌, ◌++◌, length, drop, refl, ap, sym, ◌∙◌, arith, append_assoc, append-nil, inl, inr, ⊎_elim}
 use Rattle.std.specs.Borrow.{Bor}
 use Rattle.std.proofs.lemmas.List.{drop-map, length-map, map-append}

@@ -1,4 +1,4 @@
-//! The segments of all harts in one list, in the order of their stamps.
+//! Merges the segments of all harts to one list, in the order of their stamps.
 #![tactic(auto)]
 
 pub use rising::is_rising;

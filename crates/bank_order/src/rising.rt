@@ -5,7 +5,7 @@ ghost use Rattle.bank_order.specs.Rising.{is_above, rises_above};
 
 use crate::segment::LogSegment;
 
-/// Whether a stamp may come after another, if there is one.
+// Whether a stamp is above the last one, if there is one.
 fn is_above(last: Option<u64>, stamp: u64) -> bool
     ensures { result ≡ is_above last stamp }
 {
@@ -15,7 +15,7 @@ fn is_above(last: Option<u64>, stamp: u64) -> bool
     }
 }
 
-/// Whether each stamp is above the one before.
+// Whether each stamp is above the one before.
 fn rises(log: &[LogSegment]) -> bool
     ensures { result ≡ rises_above None log.now }
 {

@@ -2,20 +2,20 @@
 use bank_laws::LoggedAccess;
 use std::marker::Model;
 
-/// Some steps of a hart that touch nothing, and then one with its stamp and its accesses.
+/// Local steps of a hart, which touch nothing, and then one step with its stamp and its accesses.
 #[derive(Drop)]
 pub struct LogSegment {
     /// The stamp of the last step.
     pub stamp: u64,
     /// The hart's number, from 0.
     pub hart: u32,
-    /// How many steps come before the last.
+    /// Number of local steps.
     pub local: u32,
     /// Whether a store-conditional of the last step is refused.
     pub refuse: bool,
-    /// The read of the last step's instruction, if it was read from a bank.
+    /// The fetch of the last step's instruction, if it was read from a bank.
     pub code_read: Option<LoggedAccess>,
-    /// The access of the last step to its data, if it had one.
+    /// The data access of the last step, if it had one.
     pub data_access: Option<LoggedAccess>,
 }
 

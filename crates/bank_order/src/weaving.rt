@@ -1,4 +1,4 @@
-//! Logs woven to one list.
+//! Merges logs to one list.
 ghost use Rattle.std.specs.Prelude.{◌≡◌, ℕ, ◌++◌, [], drop, IfOk, OnOk};
 ghost use Rattle.std.specs.List.{AllByRecursion};
 ghost use Rattle.bank_laws.specs.Order.{Rises, Earlier, IsMerged};
@@ -8,14 +8,14 @@ ghost use Rattle.bank_order.specs.Logs.{logs_of, seen};
 use crate::segment::LogSegment;
 use std::alloc::{AllocError, Allocator};
 
-/// Whether a segment comes before another: by the stamp, and by the hart's number where stamps are equal.
+// Whether a segment comes before another: by stamp, then by hart number.
 fn comes_first(first: &LogSegment, second: &LogSegment) -> bool
     ensures { result ≡ comes_first first.now second.now }
 {
     first.stamp < second.stamp || (first.stamp == second.stamp && first.hart < second.hart)
 }
 
-/// Puts what a list has from a place on behind another.
+// Appends a list's elements from a place on to another list.
 fn push_from<'s, A: Allocator>(
     out: &mut Vec<&'s LogSegment, A>,
     segments: &[&'s LogSegment],
@@ -31,7 +31,7 @@ fn push_from<'s, A: Allocator>(
     Ok(())
 }
 
-/// Two lists in order as one: again and again the first of both heads.
+// Merges two ordered lists: the first of both heads is taken, until both are empty.
 fn weave<'s, A: Allocator>(
     alloc: A,
     first: &[&'s LogSegment],
@@ -56,8 +56,8 @@ fn weave<'s, A: Allocator>(
     Ok(out)
 }
 
-/// The segments of all logs, log h being that of hart h, in the order of their stamps, and of the harts' numbers where stamps
-/// are equal. In each log stamps rise.
+/// The segments of all logs, log h being that of hart h, ordered by stamp, then by hart number. In
+/// each log stamps rise.
 pub fn in_order<'s, A: Allocator + Copy>(
     alloc: A,
     logs: &[&'s [LogSegment]],
@@ -70,7 +70,7 @@ pub fn in_order<'s, A: Allocator + Copy>(
     Ok(out)
 }
 
-/// All logs woven, one after another.
+// All logs merged, one after another.
 #[tactic(auto, unfolding(crate::specs::Weaving::woven_with))]
 fn all_woven<'s, A: Allocator + Copy>(
     alloc: A,
@@ -86,7 +86,6 @@ fn all_woven<'s, A: Allocator + Copy>(
     Ok(out)
 }
 
-/// References to the segments of a log.
 fn references<'s, A: Allocator>(
     alloc: A,
     log: &'s [LogSegment],

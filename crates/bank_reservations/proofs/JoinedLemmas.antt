@@ -1,4 +1,4 @@
--- Hart by hart the reservations are those that stand.
+-- Hart by hart, the reservations that are still held.
 use Rattle.std.proofs.Common.{◌≡◌, ℕ, ◌+◌, ◌<◌, ◌≤◌, ◌==◌, Bool, true, false, refl, sym, ◌∙◌, ap, subst, arith, ⊎_elim, List, length, [], ◌∷◌, zero, suc}
 use Rattle.std.specs.Prelude.{Option, Some, None, if◌then◌else◌}
 use Rattle.std.proofs.lemmas.Bool.{cases_lt, eqb-true, eq-eqb}

@@ -1,4 +1,5 @@
-//! The reservations of all harts, from the marks of sixteen banks and the words that harts' last load-reserveds named.
+//! The reservations of all harts, from the banks' marks and the words that the harts' last LRs
+//! named.
 #![tactic(auto)]
 
 ghost use Rattle.std.specs.Prelude.{◌≡◌, ℕ, ◌<◌, ◌≤◌, length};
@@ -11,11 +12,12 @@ ghost use Rattle.bank_reservations.specs.Joined.{banks_with, with_mark_if};
 
 use hart_reservations::Reserve;
 
-// How many banks there are.
+// Number of banks.
 const BANKS: u32 = 16;
 
-/// The word that each hart has reserved, from the marks of banks 0 to 15 and the word that each hart's last load-reserved
-/// named, if no store-conditional came after it: it stands where that word's bank has the hart's mark on it.
+/// The word that each hart has reserved, from the marks of banks 0 to 15 and the word that each
+/// hart's last load-reserved named, if no store-conditional came after it. The reservation is held
+/// while that word's bank has the hart's mark on the word.
 pub fn joined(banks: &[Reserve], named: &[Option<u32>]) -> Reserve
     requires banks { length banks.now ≡ most_banks }
     requires harts { length named.now ≤ most_harts }
@@ -29,7 +31,7 @@ pub fn joined(banks: &[Reserve], named: &[Option<u32>]) -> Reserve
     reserve
 }
 
-/// The word that a hart's last load-reserved named, where that word's bank has its mark on it.
+// The word that a hart's last load-reserved named, if that word's bank has its mark on it.
 fn standing(banks: &[Reserve], hart: usize, named: Option<u32>) -> Option<u32>
     requires banks { length banks.now ≡ most_banks }
     requires hart { hart < most_harts }
@@ -44,7 +46,7 @@ fn standing(banks: &[Reserve], hart: usize, named: Option<u32>) -> Option<u32>
     }
 }
 
-/// Reserves a word for a hart, if there is one.
+// Reserves a word for a hart, if there is one.
 fn set_if(reserve: &mut Reserve, hart: usize, word: Option<u32>)
     requires { hart < most_harts }
     ensures { marks reserve.new ≡ with_mark_if (marks reserve.old) hart word }

@@ -55,7 +55,7 @@ start_memory : (image : ImageValue) (inputs : List ℕ) → (started image input
 unfolding started
 start_memory image inputs = refl
 
--- ---- the turns of harts that are there
+-- ---- the turns of harts that exist
 turns_there : (n count h : ℕ) (refuse : Bool) → h < n → AllByRecursion (λ (c : Turn). c.hart < n) (replicate count (turn h false) ++ turn h refuse ∷ [])
 turns_there n zero h refuse low = (low, tt)
 turns_there n (suc count) h refuse low = (low, turns_there n count h refuse low)

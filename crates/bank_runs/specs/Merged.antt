@@ -11,11 +11,11 @@ use Rattle.bank_laws.specs.Segments.{LoggedSegment, HartSlot, turns}
 use Rattle.bank_table.specs.Words.{bytes_at}
 use Rattle.bank_runs.specs.Worlds.{choice_of}
 
--- how many banks there are
+-- number of banks
 abbrev pub most_banks : ℕ
 most_banks = 16
 
--- the bank of the word at an address: words that follow one another are in banks that do
+-- the bank of the word at an address: consecutive words are in consecutive banks
 abbrev pub bank_of : ℕ → ℕ
 bank_of x = x / 4 % most_banks
 
@@ -24,16 +24,16 @@ abbrev pub first_slot : ImageValue → List ℕ → ℕ → HartSlot HartValue
 first_slot image inputs h =
     record { hart = first_hart image.entry (length inputs) h (slice_index inputs h); named = None }
 
--- a bank as a program begins: it has its words of the image, and no marks
+-- a bank as a program begins: its words are the image's, and it has no marks
 abbrev pub first_bank : ImageValue → BankState
 first_bank image = record { values = λ x. bytes_at (image_memory image).bytes x; marks = λ h. None }
 
--- the choices of segments: of each so many of its hart, and then one with its refusal
+-- the choices of segments: for each its local steps, then one choice with its refusal
 abbrev pub choices_of : List LoggedSegment → List Choice
 choices_of es = map choice_of (turns es)
 
--- a program's world has the harts of the slots, the rights of the image, the bytes of the banks, each of its own words, and
--- as reservation of a hart the word that its slot names, where that word's bank has its mark
+-- a program's world has the slots' harts, the image's rights, each bank's bytes at its own words,
+-- and as reservation of a hart the word that its slot names, where that word's bank has its mark
 pub record EndsIn (image : ImageValue) (inputs : List ℕ) (w : World) (ends : ℕ → HartSlot HartValue) (banks : ℕ → BankState) : Type 0 where
   pub count : length w.harts ≡ length inputs
   pub harts : (h : ℕ) → h < length inputs → slice_get w.harts h ≡ Some (ends h).hart

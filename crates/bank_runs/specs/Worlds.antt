@@ -1,4 +1,4 @@
--- What a world of words shows of the world of a machine.
+-- When a world of words shows the world of a machine.
 use Rattle.std.specs.Prelude.{◌≡◌, ℕ, ◌%◌, Some, slice_get}
 use Rattle.hart_step.specs.Hart.{HartValue}
 use Rattle.machine.specs.World.{World}

@@ -1,4 +1,4 @@
-//! What logs of harts and of banks say of a run.
+//! Logs of harts and of banks as one run.
 ghost use Rattle.std.specs.Prelude.{◌≡◌, ℕ, ◌%◌, ◌<◌, ◌≤◌, List, [], map, length};
 ghost use Rattle.std.specs.List.{All, AllByRecursion};
 ghost use Rattle.image.specs.Image.{ImageValue};
@@ -17,16 +17,18 @@ ghost use Rattle.bank_table.specs.Table.{table};
 ghost use Rattle.bank_runs.specs.Worlds.{ShowsWorld, choice_of};
 ghost use Rattle.bank_runs.specs.Merged.{bank_of, first_slot, first_bank, choices_of, EndsIn};
 
-/// A run of harts that are there, over memory that comes from an image's, is the run of the image's table.
+/// A run of harts below the number of harts, over memory that comes from an image's, is the run of
+/// the image's table.
 pub fn run_is_the_tables()
     ensures { (m : Memory) (turns : List Turn) (w : World) (t : TableWorld HartValue)
         → Keeps m w.memory → All IsAligned w.harts → AllByRecursion (λ c. c.hart < length w.harts) turns
         → ShowsWorld t w → ShowsWorld (table_run (table m) t turns) (run w (map choice_of turns)) }
 {}
 
-/// Logs of a program's harts and of its sixteen banks, in which the same accesses stand and stamps rise, are one run of the
-/// program: that of the choices which its segments stand for, in the order of their stamps. It ends with the harts in
-/// which the logs end, the bytes that the banks have, and the reservations whose marks still stand.
+/// Matching logs of a program's harts and of its sixteen banks, with rising stamps, are one run of
+/// the program: that of the choices of their segments, in the order of their stamps. It ends with
+/// the harts at the end of the logs, the bytes of the banks, and the reservations whose marks are
+/// still set.
 pub fn matching_logs_are_one_run()
     ensures { (image : ImageValue) (inputs : List ℕ) (ends : ℕ → HartSlot HartValue) (logs : ℕ → List LoggedSegment)
         (banks : ℕ → List LoggedAccess) (es : List LoggedSegment)

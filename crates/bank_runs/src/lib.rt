@@ -1,4 +1,4 @@
-//! Runs of a machine whose memory is in banks: logs that match are one run of it.
+//! Laws: matching logs of a program's harts and banks are one run of its machine.
 #![tactic(auto)]
 
 pub use laws::{matching_logs_are_one_run, run_is_the_tables};

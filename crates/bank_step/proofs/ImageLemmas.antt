@@ -47,7 +47,7 @@ bytes_in_one ss address s e low =
     ap (slice_index s.bytes) (sym here) ∙ at 0 (omega arith) ∙ ap (λ (x : ℕ). byte_in (segment_at ss x) x) there) in
     λ i. first i ∷ at 1 (omega arith) i ∷ at 2 (omega arith) i ∷ at 3 (omega arith) i ∷ []
 
--- the same of what the code has seen of the segment
+-- the same for the segment as the code sees it
 pub bytes_seen : (ss : List SegmentValue) (address : ℕ) (s : SegmentValue) (bytes : List ℕ) (offset : ℕ) → AllIn ss address 4 s → s.base ≤ address → bytes ≡ s.bytes → offset ≡ address - s.base
     → slice_index_or bytes offset 0 ∷ slice_index_or bytes (offset + 1) 0 ∷ slice_index_or bytes (offset + 2) 0 ∷ slice_index_or bytes (offset + 3) 0 ∷ [] ≡ bytes_at (segments_memory ss).bytes address
 bytes_seen ss address s bytes offset e low is at =

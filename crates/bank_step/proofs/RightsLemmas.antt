@@ -1,4 +1,4 @@
--- What may be done with bytes of a told memory.
+-- The rights to bytes of a memory with given words.
 use Rattle.std.proofs.Common.{◌≡◌, ℕ, zero, suc, ◌+◌, ◌-◌, ◌*◌, ◌/◌, ◌%◌, ◌<◌, ◌≤◌, Bool, true, false, ◌&&◌, eqb, Option, Some, None, refl, ap₂, sym, ◌∙◌, arith, rules, bit_and, inl, inr, ⊎_elim}
 use Rattle.std.specs.Prelude.{if◌then◌else◌, nat_le, nat_lt}
 use Rattle.std.proofs.lemmas.Bool.{cases_Bool, false≢true, and_parts, and_from, and_left, and_right, leb-true, lt-leb, le-ltb, le-leb, lt-ltb, cases_lt}
@@ -72,13 +72,13 @@ inside first a n k e low =
     let below = leb-true (a + n) (first + 4) both.1 in
     and_from (nat_le first (a + k)) (nat_lt (a + k) (first + 4)) (le-leb first (a + k) (omega (arith, above))) (lt-ltb (a + k) (first + 4) (omega (arith, below, low)))
 
--- inside the target the image's rights to write stand
+-- inside the writable word the image's write rights hold
 pub write_same : (m : Memory) (code touched : Option Word) (w : Word) (n a : ℕ) → has_all w.address a n ≡ true
     → granted to_write m n a ≡ granted to_write (told_memory m code touched (Some w)) n a
 write_same m code touched w n a e =
     all_same n _ _ (λ k low. rw (inside w.address a n k e low) refl)
 
--- and none elsewhere
+-- none elsewhere
 outside_one : (m : Memory) (target : Option Word) (x : ℕ) → is_in target x ≡ false → grants to_write (rights_told m target x) ≡ false
 outside_one m target x e = rw e (no_write (m.rights x))
 

@@ -1,5 +1,5 @@
--- A memory of an image's rights and bytes, some words of which are told otherwise, and of which one word alone may be
--- written.
+-- A memory with an image's rights and bytes, of which some words are given in place of the image's,
+-- and one word alone is writable.
 use Rattle.std.specs.Prelude.{◌≡◌, ℕ, ◌+◌, ◌%◌, ◌==◌, Bool, true, false, ◌&&◌, nat_le, nat_lt, if◌then◌else◌, Option, Some, None, Result, Ok, Err}
 use Rattle.mem_store.specs.Memory.{Memory, grants, granted, to_execute, to_load, to_write}
 use Rattle.mem_store.specs.Instruction.{instruction_at}
@@ -23,7 +23,7 @@ use Rattle.bank_step.specs.declared.steps.PlannedTouch.{PlannedTouch}
 abbrev pub as_touch : PlannedTouch → Touch
 as_touch t = record { act = act_of t.kind; word = t.word }
 
--- bytes with those of a word that is told
+-- bytes with those of a given word
 abbrev pub with_told : (ℕ → ℕ) → Option Word → ℕ → ℕ
 with_told bytes None = bytes
 with_told bytes (Some w) = with_four bytes w.address w.bytes
@@ -37,23 +37,23 @@ is_in (Some w) a = nat_le w.address a && nat_lt a (w.address + 4)
 abbrev pub has_all : ℕ → ℕ → ℕ → Bool
 has_all first address n = nat_le first address && nat_le (address + n) (first + 4)
 
--- rights without that to write. What may be written may be loaded, and so it still may
+-- rights without the write right. A writable byte is loadable, and stays so
 abbrev pub without_write : Option ℕ → Option ℕ
 without_write None = None
 without_write (Some r) = Some (if grants to_write (Some r) then (if grants to_execute (Some r) then 5 else 4) else r)
 
--- an image's rights, of which those to write stand in one word alone
+-- an image's rights, with the write right inside one word only
 abbrev pub rights_told : Memory → Option Word → ℕ → Option ℕ
 rights_told m target a = if is_in target a then m.rights a else without_write (m.rights a)
 
--- the image's memory with a word of code, a word of data, and the one that may be written
+-- the image's memory with a word of code, a word of data, and the writable word
 abbrev pub told_memory : Memory → Option Word → Option Word → Option Word → Memory
 told_memory m code touched target = record {
   rights = rights_told m target;
   bytes = with_told (with_told (with_told m.bytes code) touched) target;
 }
 
--- a word with the bytes that are told of it, where there is a word
+-- a word with its given bytes, if there is a word
 abbrev pub told_word : Option ℕ → WordBytes → Option Word
 told_word None bytes = None
 told_word (Some x) bytes = Some (record { address = x; bytes = bytes })
@@ -88,7 +88,7 @@ abbrev pub word_by : (ℕ → ℕ) → Option Access → Option Word
 word_by bytes None = None
 word_by bytes (Some c) = Some (record { address = word_of c.address; bytes = bytes_at bytes (word_of c.address) })
 
--- the same, where there is an access
+-- whether there is an access, and it is a store-conditional's
 abbrev pub tries_by : Option Access → Bool
 tries_by None = false
 tries_by (Some c) = is_conditional c.kind

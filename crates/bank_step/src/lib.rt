@@ -1,10 +1,10 @@
-//! Steps of a hart that knows its image, and is told the bytes of two words at most.
+//! A hart's next step, given its image and the bytes of at most two words.
 #![tactic(auto)]
 
-pub use image::bytes_at;
+pub use image_bytes::bytes_at;
 pub use steps::{PlannedTouch, ToldWords, needed_word, planned_touch, settle, settle_store};
 pub use words::Word;
 
-mod image;
+mod image_bytes;
 mod steps;
 mod words;

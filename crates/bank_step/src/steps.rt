@@ -11,7 +11,7 @@ ghost use Rattle.hart_step.specs.declared.hart.HartState.TheVariants.{Running};
 ghost use Rattle.bank_table.specs.Table.{table, told, word_in};
 ghost use Rattle.bank_step.specs.Told.{access_if, as_touch, is_granted, told_memory, told_word, touch_by, tries_by, wanted, word_by, Leaves};
 
-use crate::image::{granted, is_unwritable};
+use crate::image_bytes::{granted, is_unwritable};
 use crate::words::{ToldMemory, Word};
 use hart_reservations::Reserve;
 use hart_step::{Access, AccessKind, Hart, HartState, access_by, step_hart};
@@ -29,17 +29,17 @@ pub struct PlannedTouch {
     pub word: u32,
 }
 
-/// The words of which a hart is told the bytes.
+/// The words that a step is given.
 #[derive(Clone, Copy, PartialEq, Eq)]
 pub struct ToldWords {
-    /// The one that it must read to know its instruction, if it must.
+    /// The word that the hart must read to know its instruction, if it must.
     pub code: Option<Word>,
-    /// The one that its instruction touches, if it touches one.
+    /// The word that the instruction touches, if it touches one.
     pub touched: Option<Word>,
 }
 
-/// The word that a hart must read to know its next instruction: none where the hart has stopped or may not execute the word,
-/// and none where it is code, since that is the image's for good.
+/// The word that a hart must read to know its next instruction. `None` if the hart has stopped, if
+/// the word isn't executable, or if it is code, which never differs from the image.
 pub fn needed_word<A: Allocator>(hart: &Hart, image: &Image<A>) -> Option<u32>
     ensures { result ≡ (table (image_memory image.now)).need (hart_of hart.now) }
 {
@@ -54,7 +54,7 @@ pub fn needed_word<A: Allocator>(hart: &Hart, image: &Image<A>) -> Option<u32>
     }
 }
 
-/// The right that an access needs.
+// The right that an access needs.
 fn wanted(kind: AccessKind) -> Rights
     ensures { result.0 ≡ wanted kind }
 {
@@ -64,7 +64,7 @@ fn wanted(kind: AccessKind) -> Rights
     }
 }
 
-/// Whether an access has no fault.
+// Whether an access has no fault.
 fn is_granted<A: Allocator>(image: &Image<A>, access: &Access) -> bool
     requires { 0 < access.now.size }
     ensures { result ≡ is_granted (image_memory image.now) access.now }
@@ -78,7 +78,7 @@ fn is_granted<A: Allocator>(image: &Image<A>, access: &Access) -> bool
         )
 }
 
-/// The word that an access touches, unless it faults.
+// The word that an access touches, unless it faults.
 fn touch_by<A: Allocator>(image: &Image<A>, access: Option<Access>) -> Option<PlannedTouch>
     requires { IfSome access (λ c. 0 < c.size) }
     ensures touch { option_map as_touch result ≡ touch_by (image_memory image.now) access }
@@ -94,8 +94,8 @@ fn touch_by<A: Allocator>(image: &Image<A>, access: Option<Access>) -> Option<Pl
     })
 }
 
-/// The word that a hart's next step touches, by the word that it needs: none where the hart has stopped, where its instruction
-/// touches none, and where it faults.
+/// The word that a hart's next step touches, given the word that it needs. `None` if the hart has
+/// stopped, if its instruction touches no word, or if it faults.
 pub fn planned_touch<A: Allocator>(
     hart: &Hart,
     image: &Image<A>,
@@ -121,7 +121,7 @@ pub fn planned_touch<A: Allocator>(
     }
 }
 
-/// The access of a hart's instruction, if there is one, whether it faults or not.
+// The access of a hart's instruction, if there is one, whether it faults or not.
 fn access_if(hart: &Hart, found: Result<Instr, FetchFault>) -> Option<Access>
     ensures { result ≡ access_if found (hart_of hart.now) }
 {
@@ -131,7 +131,7 @@ fn access_if(hart: &Hart, found: Result<Instr, FetchFault>) -> Option<Access>
     }
 }
 
-/// The word of an access in a memory, with its bytes, if there is an access.
+// The word of an access, with its bytes in a memory.
 fn word_by<A: Allocator>(memory: &ToldMemory<A>, access: Option<Access>) -> Option<Word>
     ensures { result ≡ word_by
         (told_memory (image_memory memory.now.image.now) memory.now.code memory.now.touched memory.now.target).bytes access }
@@ -140,7 +140,7 @@ fn word_by<A: Allocator>(memory: &ToldMemory<A>, access: Option<Access>) -> Opti
     Some(memory.word_at(access.address - access.address % 4))
 }
 
-/// Whether an access is a store-conditional's.
+// Whether an access is a store-conditional's.
 fn tries_by(access: Option<Access>) -> bool
     ensures { result ≡ tries_by access }
 {
@@ -153,7 +153,7 @@ fn tries_by(access: Option<Access>) -> bool
     }
 }
 
-/// A reservation of the word that is touched, if a store-conditional is to succeed.
+// A reservation of the touched word, if a store-conditional is to succeed.
 fn reserve_of(touched: Option<Word>, succeeds: bool) -> Reserve
     ensures { marks result 0 ≡ (if succeeds then option_map (λ w. w.address) touched else None) }
 {
@@ -168,7 +168,7 @@ fn reserve_of(touched: Option<Word>, succeeds: bool) -> Reserve
     reserve
 }
 
-/// An image's memory with these words, of which none may be written yet.
+// An image's memory with these words in place, none of which is writable yet.
 #[inline]
 fn memory_of<A: Allocator>(image: &Image<A>, words: ToldWords) -> ToldMemory<A>
     ensures image { result.image.now ≡ image.now }
@@ -185,8 +185,9 @@ fn memory_of<A: Allocator>(image: &Image<A>, words: ToldWords) -> ToldMemory<A>
     }
 }
 
-/// A hart's step over an image's memory with two told words at most, and whether a store-conditional succeeds; returns the access
-/// of its instruction. Only bytes of the memory may have changed. Whether it would succeed is asked of a store-conditional alone.
+// A hart's step over an image's memory with at most two given words; returns the access of its
+// instruction. Only bytes of the memory may have changed. `succeeds` matters only to a
+// store-conditional.
 fn told_step<A: Allocator>(
     hart: &mut Hart,
     memory: &mut ToldMemory<A>,
@@ -211,8 +212,8 @@ fn told_step<A: Allocator>(
     access
 }
 
-/// Does a hart's next step, where it is told these words: the one that it needs, and the one that its instruction touches. A
-/// store-conditional succeeds where `succeeds` says so.
+/// Does a hart's next step, given the word that it needs and the word that its instruction touches.
+/// A store-conditional succeeds if `succeeds` is set.
 pub fn settle<A: Allocator>(hart: &mut Hart, image: &Image<A>, words: ToldWords, succeeds: bool)
     ensures { (c v : WordBytes) → let t = table (image_memory image.now) in let h = hart_of hart.old in
         words.code ≡ told_word (t.need h) c → words.touched ≡ told_word (word_in (t.plan h c)) v
@@ -222,7 +223,8 @@ pub fn settle<A: Allocator>(hart: &mut Hart, image: &Image<A>, words: ToldWords,
     told_step(hart, &mut memory, succeeds);
 }
 
-/// Does a hart's next step as `settle` does, and tells the bytes of the touched word after it, if it stores.
+/// Does a hart's next step as `settle` does. Returns the bytes of the touched word after it, if it
+/// stores.
 pub fn settle_store<A: Allocator>(
     hart: &mut Hart,
     image: &Image<A>,
@@ -250,7 +252,7 @@ pub fn settle_store<A: Allocator>(
     memory.word_at(touched.address).bytes
 }
 
-/// The bytes of the touched word after a hart's next step, if that stores, where the hart is told these words.
+// The bytes of the touched word after a hart's next step with these words, if that stores.
 fn stored_bytes<A: Allocator>(
     hart: Hart,
     image: &Image<A>,

@@ -1,4 +1,4 @@
-//! An image's memory as a hart is told it.
+//! An image's memory with the words that a step is given.
 ghost use Rattle.std.specs.Prelude.{◌≡◌, ◌⊎◌, ℕ, ◌+◌, ◌<◌, ◌≤◌, true, false, length, IfSome};
 ghost use Rattle.std.specs.Option.{ForSome};
 ghost use Rattle.std.specs.Option.{is_some};
@@ -9,7 +9,7 @@ ghost use Rattle.mem_store.specs.Instruction.{instruction_at};
 ghost use Rattle.bank_table.specs.Words.{bytes_at};
 ghost use Rattle.bank_step.specs.Told.{has_all, told_memory, with_told};
 
-use crate::image::{byte_at, bytes_at, granted, is_mapped};
+use crate::image_bytes::{byte_at, bytes_at, granted, is_mapped};
 use image::{Image, Rights};
 use isa_decode::decode;
 use isa_table::Instr;
@@ -21,11 +21,11 @@ use std::alloc::Allocator;
 pub struct Word {
     /// The address of its first byte.
     pub address: u32,
-    /// The bytes, the lowest first.
+    /// The bytes, lowest address first.
     pub bytes: [u8; 4],
 }
 
-/// The byte at an address, where that below a word is given.
+// The byte at an address: the word's, else `below`.
 #[inline]
 fn byte_over(word: Option<Word>, address: u64, below: u8) -> u8
     ensures { (bytes : ℕ → ℕ) → bytes address ≡ below → result ≡ with_told bytes word address }
@@ -40,7 +40,7 @@ fn byte_over(word: Option<Word>, address: u64, below: u8) -> u8
     below
 }
 
-/// The bytes of a word, if it is the one at an address.
+// The bytes of a word, if it is the one at an address.
 #[inline]
 fn bytes_of(word: Option<Word>, address: u32) -> Option<[u8; 4]>
     ensures { (bytes : ℕ → ℕ) → IfSome result (λ four. four ≡ bytes_at (with_told bytes word) address) }
@@ -52,7 +52,7 @@ fn bytes_of(word: Option<Word>, address: u32) -> Option<[u8; 4]>
     None
 }
 
-/// Whether four bytes from an address on have none of the four from another on.
+// Whether the four bytes from one address on and those from another don't overlap.
 #[inline]
 fn is_apart(first: u32, second: u32) -> bool
     ensures { result ≡ true → (first + 4 ≤ second) ⊎ (second + 4 ≤ first) }
@@ -62,7 +62,7 @@ fn is_apart(first: u32, second: u32) -> bool
     first + 4 <= second || second + 4 <= first
 }
 
-/// The four bytes from an address on, where those below a word are given.
+// The four bytes from an address on: the word's where it has them, else `below`.
 #[inline]
 fn bytes_over(word: Option<Word>, address: u32, below: [u8; 4]) -> [u8; 4]
     ensures { (bytes : ℕ → ℕ) → bytes_at bytes address ≡ below → result ≡ bytes_at (with_told bytes word) address }
@@ -83,7 +83,7 @@ fn bytes_over(word: Option<Word>, address: u32, below: [u8; 4]) -> [u8; 4]
     ]
 }
 
-/// Whether a word has all of the bytes from an address on, so many.
+// Whether a word has all `count` bytes from an address on.
 #[inline]
 fn has_all(word: &Word, address: u32, count: u32) -> bool
     ensures { result ≡ has_all word.now.address address count }
@@ -93,7 +93,7 @@ fn has_all(word: &Word, address: u32, count: u32) -> bool
     first <= address && address + u64::from(count) <= first + 4
 }
 
-/// Bytes, of which some from an offset on spell the low digits of a value.
+// Bytes, of which `count` from an offset on are the low bytes of a value.
 fn spelled(bytes: [u8; 4], offset: usize, count: usize, value: u32) -> [u8; 4]
     requires { offset + count ≤ 4 }
     ensures value { result ≡ spelled count bytes offset value }
@@ -108,7 +108,7 @@ fn spelled(bytes: [u8; 4], offset: usize, count: usize, value: u32) -> [u8; 4]
     bytes
 }
 
-/// What stands at an address as an instruction.
+/// The instruction at an address, looked up.
 #[derive(Clone, Copy)]
 pub struct KnownInstr {
     /// The address.
@@ -117,24 +117,23 @@ pub struct KnownInstr {
     pub found: Result<Instr, FetchFault>,
 }
 
-/// An image's memory with words that are told otherwise, and one word that alone may be written.
+/// An image's memory with given words in place of its own, of which one word alone is writable.
 #[derive(Drop)]
 pub struct ToldMemory<'a, A: Allocator> {
     /// The image.
     pub image: &'a Image<A>,
-    /// The word of the instruction, where it is told.
+    /// The word of the instruction, if it is given.
     pub code: Option<Word>,
-    /// The word that the instruction touches, where it is told.
+    /// The word that the instruction touches, if it is given.
     pub touched: Option<Word>,
-    /// The word that may be written.
+    /// The writable word.
     pub target: Option<Word>,
-    /// An instruction that was looked up before.
+    /// An instruction looked up before.
     pub known: Option<KnownInstr>,
     ghost its_instr: { ForSome known (λ k. k.found ≡ instruction_at (told_memory (image_memory image.now) code touched target) k.address) },
 }
 
 impl<'a, A: Allocator> ToldMemory<'a, A> {
-    /// The byte at an address.
     fn byte(&self, address: u64) -> u8
         ensures { result ≡ (told_memory (image_memory self.now.image.now) self.now.code self.now.touched self.now.target).bytes address }
     {
@@ -144,7 +143,7 @@ impl<'a, A: Allocator> ToldMemory<'a, A> {
         byte_over(self.target, address, below)
     }
 
-    /// The four bytes from an address on, below the word that may be written.
+    // The four bytes from an address on, without the writable word's.
     #[inline]
     fn bytes_below(&self, address: u32) -> [u8; 4]
         ensures { result ≡ bytes_at (with_told (with_told (image_memory self.now.image.now).bytes self.now.code) self.now.touched) address }
@@ -157,7 +156,7 @@ impl<'a, A: Allocator> ToldMemory<'a, A> {
         bytes_over(self.touched, address, below)
     }
 
-    /// The four bytes from an address on.
+    // The four bytes from an address on.
     fn bytes_from(&self, address: u32) -> [u8; 4]
         ensures { result ≡ bytes_at (told_memory (image_memory self.now.image.now) self.now.code self.now.touched self.now.target).bytes address }
     {
@@ -176,7 +175,7 @@ impl<'a, A: Allocator> ToldMemory<'a, A> {
         Word { address, bytes }
     }
 
-    /// Whether each of some bytes may be loaded.
+    // Whether each of some bytes may be loaded.
     #[tactic(auto, using(crate::proofs::RightsLemmas::load_same))]
     fn may_load(&self, count: u32, address: u32) -> bool
         ensures { result ≡ granted to_load (told_memory (image_memory self.now.image.now) self.now.code self.now.touched self.now.target) count address }
@@ -184,7 +183,7 @@ impl<'a, A: Allocator> ToldMemory<'a, A> {
         granted(self.image.segments(), Rights::ANY, count, address)
     }
 
-    /// Whether each of the four bytes may be executed.
+    // Whether each of the four bytes may be executed.
     #[tactic(auto, using(crate::proofs::RightsLemmas::execute_same))]
     fn may_execute(&self, address: u32) -> bool
         ensures { result ≡ granted to_execute (told_memory (image_memory self.now.image.now) self.now.code self.now.touched self.now.target) 4 address }
@@ -192,7 +191,7 @@ impl<'a, A: Allocator> ToldMemory<'a, A> {
         granted(self.image.segments(), Rights::EXECUTE, 4, address)
     }
 
-    /// Whether each of some bytes may be written.
+    // Whether each of some bytes may be written.
     fn may_write(&self, count: u32, address: u32) -> bool
         requires { 0 < count }
         ensures { result ≡ granted to_write (told_memory (image_memory self.now.image.now) self.now.code self.now.touched self.now.target) count address }
@@ -204,14 +203,14 @@ impl<'a, A: Allocator> ToldMemory<'a, A> {
             && granted(self.image.segments(), Rights::WRITE, count, address)
     }
 
-    /// The number that the four bytes from an address on spell.
+    // The number at an address: four bytes, little-endian.
     fn number_at(&self, address: u32) -> u32
         ensures { result ≡ number_at (told_memory (image_memory self.now.image.now) self.now.code self.now.touched self.now.target).bytes 4 address }
     {
         u32::from_le_bytes(self.bytes_from(address))
     }
 
-    /// Whether there is a byte at an address.
+    // Whether the byte at an address is mapped.
     fn is_mapped(&self, address: u32) -> bool
         ensures { result ≡ is_some ((told_memory (image_memory self.now.image.now) self.now.code self.now.touched self.now.target).rights address) }
     {
@@ -227,7 +226,7 @@ impl<'a, A: Allocator> ToldMemory<'a, A> {
         KnownInstr { address, found }
     }
 
-    /// Lets a word be written, and keeps the instruction that then stands at an address.
+    /// Makes a word writable, and keeps the instruction that was looked up.
     pub fn begin(&mut self, target: Option<Word>, known: KnownInstr)
         requires { known.found ≡ instruction_at (told_memory (image_memory self.old.image.now) self.old.code self.old.touched target) known.address }
         ensures image { self.new.image.now ≡ self.old.image.now }
@@ -244,7 +243,7 @@ impl<'a, A: Allocator> ToldMemory<'a, A> {
         };
     }
 
-    /// Stores the low bytes of a value, if each of them may be written.
+    // Stores the low `count` bytes of a value, if all of them are writable.
     fn put(&mut self, count: u32, address: u32, value: u32) -> bool
         requires { (0 < count) × (count ≤ 4) }
         ensures { Puts count address value

@@ -31,11 +31,12 @@ abbrev pub SameTouched : Option Touch → (ℕ → ℕ) → (ℕ → ℕ) → Ty
 SameTouched None b d = Unit {0}
 SameTouched (Some t) b d = SameFour b d t.word
 
--- the reservations that a hart is told of
+-- the reservations that a step is given
 abbrev pub told_marks : Option Touch → Bool → Marks
 told_marks p ok = λ j. if ok then word_in p else None
 
--- where a step of hart k over these bytes and reservations leads, by where it leads a hart that is told of its word alone
+-- where a step of hart k over these bytes and reservations leads, by where it leads given its word
+-- alone
 pub record Touched (t : Touch) (k : ℕ) (refuse : Bool) (b : ℕ → ℕ) (r : Marks) (e : Site) (f : Bool → Site) : Type 0 where
   pub hart : e.hart ≡ (f (succeeds t.act refuse (names (r k) t.word))).hart
   pub reserved : e.reserved ≡ marks_after (kind_of t.act (succeeds t.act refuse (names (r k) t.word))) r k t.word
@@ -43,7 +44,7 @@ pub record Touched (t : Touch) (k : ℕ) (refuse : Bool) (b : ℕ → ℕ) (r : 
       ≡ (if is_store (kind_of t.act (succeeds t.act refuse (names (r k) t.word)))
       then (if y == t.word then bytes_at (f true).memory.bytes t.word else bytes_at b y) else bytes_at b y)
 
--- and where no word is touched
+-- the same where no word is touched
 pub record Untouched (b : ℕ → ℕ) (r : Marks) (e : Site) (f : Bool → Site) : Type 0 where
   pub hart : e.hart ≡ (f false).hart
   pub reserved : e.reserved ≡ r
@@ -146,7 +147,7 @@ effect_outcome (Amo op aq rl rd rs1 rs2) v g b d r k refuse x pc c same =
     }
 effect_outcome i v g b d r k refuse x pc c same = record { hart = refl; reserved = refl; bytes = refl }
 
--- faults look at rights alone
+-- faults depend on rights alone
 pub fault_same : (i : Instr) (g : ℕ → Option ℕ) (b d : ℕ → ℕ) (x : Registers) (pc : ℕ)
     → fault i (record { rights = g; bytes = b }) x pc ≡ fault i (record { rights = g; bytes = d }) x pc
 fault_same (Load op rd rs1 imm) g b d x pc = refl

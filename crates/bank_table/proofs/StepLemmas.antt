@@ -21,7 +21,7 @@ use Rattle.bank_table.specs.Shown.{ShowsSite}
 use Rattle.bank_table.proofs.WordLemmas.{SameFour, put_back, put_there, fetched_same}
 use Rattle.bank_table.proofs.EffectLemmas.{at_bytes, SameTouched, told_marks, Outcome, word_outcome}
 
--- ---- the instruction that a hart is told of
+-- ---- the instruction that a hart is given
 each_below : (n : ℕ) (test : ℕ → Bool) (i : ℕ) → i < n → all_below n test ≡ true → test i ≡ true
 each_below zero test i low e = absurd (omega (arith, low))
 each_below (suc n) test i low e =
@@ -41,7 +41,7 @@ Stays m b = (a : ℕ) → grants to_write (m.rights a) ≡ false → b a ≡ m.b
 abbrev pub ShowsWords : (ℕ → WordBytes) → (ℕ → ℕ) → Type 0
 ShowsWords values b = (x : ℕ) → x % 4 ≡ 0 → values x ≡ bytes_at b x
 
--- the image's bytes with a word that is needed, as the words give it
+-- the image's bytes with the needed word in place
 abbrev filled : (ℕ → ℕ) → (ℕ → WordBytes) → Option ℕ → ℕ → ℕ
 filled bytes values o = with_four_if bytes o (word_found o values)
 
@@ -55,7 +55,7 @@ code_same m b values pc stays shows aligned may = go (granted to_execute m 4 pc 
         let fixed : is_unwritable m pc ≡ true = and_no (granted to_execute m 4 pc) (is_unwritable m pc) may e in
         stays (pc + i) (not-true (grants to_write (m.rights (pc + i))) (each_below 4 (λ k. not (grants to_write (m.rights (pc + k)))) i low fixed))
 
--- ---- the word that a hart is told of
+-- ---- the word that a hart is given
 abbrev IsWordTouch : Option Touch → Type 0
 IsWordTouch None = Unit {0}
 IsWordTouch (Some t) = t.word % 4 ≡ 0
@@ -77,7 +77,7 @@ still_same (Some t) b a values pc word shows same =
     λ i low. put_back b a t.word (pc + i) (same i low) ∙ ap (λ (v : WordBytes). with_four_if a (Some t.word) v (pc + i)) (sym (shows t.word word))
 
 -- ---- the outcome of a step
--- what a hart in a state is told of by the words
+-- what a hart in a state is given of the words
 abbrev known : HartState → HartValue → Memory → (ℕ → WordBytes) → ℕ → ℕ
 known st v m values = filled m.bytes values (needed st m v.pc)
 
@@ -87,7 +87,7 @@ plan_in st v m values = touch_of (carried_in st (record { rights = m.rights; byt
 abbrev all_told : HartState → HartValue → Memory → (ℕ → WordBytes) → ℕ → ℕ
 all_told st v m values = filled (known st v m values) values (word_in (plan_in st v m values))
 
--- a step's outcome, by the words that the real hart and the told one fetch
+-- a step's outcome, by the fetched words of the machine's hart and of the table's
 abbrev ByWords : HartValue → Memory → (ℕ → ℕ) → Marks → ℕ → Bool → (ℕ → WordBytes) → Option ℕ → Option ℕ → Type 0
 ByWords v m b r k refuse values real hears =
     let p = plan_in Running v m values in
@@ -115,7 +115,7 @@ state_outcome (Exited status) v m b r k refuse values stays shows aligned = reco
 state_outcome (Faulted cause) v m b r k refuse values stays shows aligned = record { hart = refl; reserved = refl; bytes = refl }
 
 -- ---- the table's step
--- the world after a touch, by where it leads the told hart
+-- the world after a touch, by where it leads the table's hart
 abbrev outcome_at : TableWorld HartValue → ℕ → Touch → (WordBytes → Bool → Site) → WordBytes → Bool → TableWorld HartValue
 outcome_at w k t F v ok = record {
   harts = put_at w.harts k (F v ok).hart;

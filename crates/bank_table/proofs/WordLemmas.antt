@@ -1,4 +1,4 @@
--- Words in memory: loads see their word alone, and stores change their word alone.
+-- Words in memory: a load depends on its word alone, and a store changes its word alone.
 use Rattle.std.proofs.Common.{◌≡◌, ℕ, zero, suc, ◌+◌, ◌-◌, ◌*◌, ◌/◌, ◌%◌, ◌^◌, ◌<◌, ◌≤◌, Bool, true, false, ◌&&◌, ◌==◌, [], ◌∷◌, Option, Some, None, refl, ap, ap₂, sym, ◌∙◌, arith, inl, inr, ⊎_elim}
 use Rattle.std.specs.Prelude.{if◌then◌else◌, slice_index, nat_le, nat_lt, ◌⊎◌}
 use Rattle.std.proofs.lemmas.Bool.{eq-eqb, ne_eqb, cases_eq, cases_lt, and_parts, and_from, and_left, and_right, leb-true, ltb-true, lt-leb, le-ltb, le-leb, lt-ltb}
@@ -21,7 +21,7 @@ index_at b x (suc (suc (suc (suc i)))) low = absurd (omega (arith, low))
 index_from : (b : ℕ → ℕ) (x a : ℕ) → x ≤ a → a < x + 4 → slice_index (bytes_at b x) (a - x) ≡ b a
 index_from b x a low high = index_at b x (a - x) (omega (arith, low, high)) ∙ ap b (omega (arith, low))
 
--- a word that is put where it was
+-- a word put back where it was
 pub put_back : (b d : ℕ → ℕ) (x a : ℕ) → b a ≡ d a → b a ≡ with_four d x (bytes_at b x) a
 put_back b d x a same = go (nat_le x a && nat_lt a (x + 4)) refl
   where
@@ -36,7 +36,7 @@ number_same : (n : ℕ) (f g : ℕ → ℕ) → ((k : ℕ) → k < n → f k ≡
 number_same zero f g e = refl
 number_same (suc n) f g e = ap₂ (λ (low high : ℕ). low + high * 256 ^ n) (number_same n f g (λ k below. e k (omega (arith, below)))) (e n (omega arith))
 
--- a load sees its word alone
+-- a load depends on its word alone
 pub number_in_word : (b d : ℕ → ℕ) (n a : ℕ) → a % 4 + n ≤ 4 → SameFour b d (word_of a) → number_at b n a ≡ number_at d n a
 number_in_word b d n a fits same =
     number_same n (λ k. b (a + k)) (λ k. d (a + k))

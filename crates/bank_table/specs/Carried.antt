@@ -1,4 +1,4 @@
--- The access that a step carries out: that of its instruction, unless this faults.
+-- The access that a step carries out: its instruction's, unless it faults.
 use Rattle.std.specs.Prelude.{ℕ, Option, Some, None}
 use Rattle.mem_store.specs.Memory.{Memory}
 use Rattle.mem_store.specs.Access.{fetched}
@@ -16,22 +16,22 @@ use Rattle.hart_step.specs.declared.hart.HartState.{HartState}
 use Rattle.hart_step.specs.declared.hart.HartState.TheVariants.{Running, Exited, Faulted}
 use Rattle.bank_laws.specs.Runs.{Act, Reads, Writes, Reserves, Tries, Touch}
 
--- an access, unless there is a cause to fault
+-- an access, unless there is a fault
 abbrev pub unless_fault : Option Cause → Option Access → Option Access
 unless_fault None access = access
 unless_fault (Some cause) access = None
 
--- that of an instruction, or of a word that is none
+-- the access of an instruction; none for a word that is no instruction
 abbrev pub carried_by : Option Instr → Memory → Registers → ℕ → Option Access
 carried_by None m x pc = None
 carried_by (Some i) m x pc = unless_fault (fault i m x pc) (access_by i x)
 
--- that of the word that was fetched, if it could be
+-- the access of the fetched word, if the fetch succeeded
 abbrev pub carried_at : Option ℕ → Memory → Registers → ℕ → Option Access
 carried_at None m x pc = None
 carried_at (Some word) m x pc = carried_by (decoded word) m x pc
 
--- that of a hart over a memory; one that has stopped has none
+-- the access of a hart over a memory; a stopped hart has none
 abbrev pub carried_in : HartState → Memory → HartValue → Option Access
 carried_in Running m h = carried_at (fetched m h.pc) m h.registers h.pc
 carried_in (Exited status) m h = None

@@ -1,4 +1,4 @@
--- What a world of words shows of the site of a hart.
+-- When a world of words shows the site of a hart.
 use Rattle.std.specs.Prelude.{◌≡◌, ℕ, ◌%◌}
 use Rattle.hart_step.specs.Hart.{HartValue}
 use Rattle.hart_step.specs.Effect.{Site}

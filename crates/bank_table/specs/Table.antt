@@ -1,5 +1,5 @@
--- The table of the harts of an image: its steps are those of harts that know the image's memory, and are told the word at
--- pc, where it isn't code, and the one word that their instruction touches.
+-- The step table of an image's harts. A step knows the image's memory and is given the word at pc,
+-- unless that is code, and the one word that its instruction touches.
 use Rattle.std.specs.Prelude.{ℕ, ◌+◌, Bool, true, false, not, ◌&&◌, if◌then◌else◌, [], Option, Some, None}
 use Rattle.mem_store.specs.Memory.{Memory, to_execute, to_write, grants, all_below, granted}
 use Rattle.hart_step.specs.Hart.{HartValue}
@@ -12,26 +12,26 @@ use Rattle.bank_laws.specs.Runs.{StepTable, Touch}
 use Rattle.bank_table.specs.Words.{bytes_at, with_four_if}
 use Rattle.bank_table.specs.Carried.{carried_in, touch_of}
 
--- whether none of the four bytes from an address on may be written
+-- whether none of the four bytes from an address on is writable
 abbrev pub is_unwritable : Memory → ℕ → Bool
 is_unwritable m address = all_below 4 (λ k. not (grants to_write (m.rights (address + k))))
 
--- the word that a hart must read to know its instruction: none where it has stopped or may not execute the word, and none
--- where the word is code, since that is the image's for good
+-- the word that a hart must read to know its instruction: none if it has stopped or may not execute
+-- the word, and none if the word is code, which never differs from the image
 abbrev pub needed : HartState → Memory → ℕ → Option ℕ
 needed Running m pc = if granted to_execute m 4 pc && not (is_unwritable m pc) then Some pc else None
 needed (Exited status) m pc = None
 needed (Faulted cause) m pc = None
 
--- the image's bytes, with the word that is needed
+-- the image's bytes, with the needed word in place
 abbrev pub code_bytes : Memory → HartValue → WordBytes → ℕ → ℕ
 code_bytes m h c = with_four_if m.bytes (needed h.state m h.pc) c
 
--- a memory of the image's rights
+-- a memory with the image's rights and these bytes
 abbrev pub memory_of : Memory → (ℕ → ℕ) → Memory
 memory_of m bytes = record { rights = m.rights; bytes = bytes }
 
--- the word that the hart's next step touches, if it touches one
+-- the word that the hart's next step touches, if any
 abbrev pub planned : Memory → HartValue → WordBytes → Option Touch
 planned m h c = touch_of (carried_in h.state (memory_of m (code_bytes m h c)) h)
 
@@ -40,7 +40,7 @@ abbrev pub word_in : Option Touch → Option ℕ
 word_in None = None
 word_in (Some t) = Some t.word
 
--- what a hart is told: the word that it needs, the word that it touches, and whether it has that word reserved
+-- what a step is given: the needed word, the touched word, and whether the hart reserved that
 abbrev pub told : Memory → HartValue → WordBytes → WordBytes → Bool → Site
 told m h c v ok =
     let word = word_in (planned m h c) in
@@ -51,7 +51,7 @@ abbrev pub bytes_left : Option Touch → Site → WordBytes
 bytes_left None s = []
 bytes_left (Some t) s = bytes_at s.memory.bytes t.word
 
--- the table of an image's harts, by its memory. A store-conditional stores only where the hart has its word reserved
+-- the step table of an image's harts; an SC stores only if the hart has its word reserved
 abbrev pub table : Memory → StepTable HartValue
 table m = record {
   need = λ h. needed h.state m h.pc;

@@ -1,4 +1,4 @@
-//! A step of a hart is a step of the table that an image's memory gives: the hart is told at most two words.
+//! Law: given at most two words of memory, a hart's next step matches the image's step table.
 #![tactic(auto)]
 
 pub use laws::step_is_the_tables;

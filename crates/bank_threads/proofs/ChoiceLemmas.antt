@@ -1,4 +1,4 @@
--- How many choices segments stand for, and their refusals.
+-- The number of choices that segments stand for, and their refusals.
 use Rattle.std.proofs.Common.{◌≡◌, ℕ, ◌+◌, Bool, true, false, not, List, [], ◌∷◌, refl, sym, subst, ◌∙◌, arith}
 use Rattle.std.specs.Bool.{beq}
 use Rattle.thread_gate.specs.Plan.{is_planned}

@@ -27,7 +27,7 @@ each_yes answers i low all = elim (cases_Bool (get_or answers i false)) [
   | inr missing ↦ let none = list_all_at (λ (answer : Bool). answer) answers i false low missing in absurd (cc (all, none))
 ]
 
--- what is left from a place on begins with what stands there
+-- the rest of a list from an index on begins with the element there
 pub drop_here : {A : Type 0} (xs : List A) (i : ℕ) (a : A) → i < length xs → a ≡ get_or xs i a → drop i xs ≡ a ∷ drop (i + 1) xs
 drop_here [] i a low e = absurd (omega (arith, low))
 drop_here (x ∷ xs) zero a low e = ap (λ y. y ∷ xs) (sym e)
@@ -79,7 +79,7 @@ same_all (x ∷ xs) (y ∷ ys) e f =
     let head : x ≡ y = cc (first) in
     ap₂ (λ a zs. a ∷ zs) head (same_all xs ys (omega (arith, e)) (λ k low. f (suc k) (omega (arith, low))))
 
--- nothing is left behind the end
+-- nothing is left after the end
 pub drop_none : {A : Type 0} (xs : List A) (n : ℕ) → length xs ≤ n → drop n xs ≡ []
 drop_none [] zero e = refl
 drop_none [] (suc n) e = refl

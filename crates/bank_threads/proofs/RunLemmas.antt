@@ -42,7 +42,7 @@ there [] h low = absurd (omega (arith, low))
 there (l ∷ logs) zero low = (l, refl, refl)
 there (l ∷ logs) (suc h) low = there logs h (omega (arith, low))
 
--- logs whose accesses stand in the banks' in their own order match
+-- logs whose accesses the banks' logs have in the same order match
 pub ordered_matched : (image : ImageValue) (inputs : List ℕ) (budget : ℕ) (plan : List (ℕ × ℕ)) (logs : List HartLogValue) (banks : List BankLog)
     → length banks ≡ most_banks → AreOrderedHarts image inputs budget plan (logs_of banks) logs → HaveNoOthers (logs_of banks) (length logs) → AreMatched logs banks
 ordered_matched image inputs budget plan logs banks sixteen harts no_others =
@@ -66,7 +66,7 @@ is_banked image inputs budget plan logs banks sound ls bs matched = record {
   matched = matched;
 }
 
--- the same of what was looked at
+-- the same of what the code sees
 pub seen_banked : (image : ImageValue) (inputs : List ℕ) (budget : ℕ) (plan : List (ℕ × ℕ)) (logs logs_seen : List HartLogValue) (banks banks_seen : List BankLog)
     → logs_seen ≡ logs → banks_seen ≡ banks → IsBanked image inputs budget plan logs_seen banks_seen → IsBanked image inputs budget plan logs banks
 seen_banked image inputs budget plan logs logs_seen banks banks_seen e f banked =

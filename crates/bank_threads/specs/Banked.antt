@@ -1,6 +1,5 @@
--- What a run of threads over banks leaves, and why it is refused.
+-- The result of a run of threads over banks.
 use Rattle.std.specs.Prelude.{◌≡◌, ◌⊎◌, ℕ, ◌+◌, ◌%◌, ◌<◌, ◌≤◌, true, List, [], ◌∷◌, Some, length, slice_get}
-use Rattle.hart_reservations.specs.Limit.{most_harts}
 use Rattle.image.specs.Image.{ImageValue}
 use Rattle.thread_gate.specs.Stopped.{is_stopped}
 use Rattle.thread_gate.specs.Plan.{is_planned}
@@ -10,27 +9,25 @@ use Rattle.bank_runs.specs.Merged.{most_banks}
 use Rattle.bank_merge.specs.Merge.{AreMatched}
 use Rattle.bank_memory.specs.BankLog.{BankLog}
 use Rattle.bank_hart_log.specs.HartLog.{HartLogValue, slot_of}
-use Rattle.bank_threads.specs.declared.fault.RunFault.{RunFault}
-use Rattle.bank_threads.specs.declared.fault.RunFault.TheVariants as fault
 
--- how many choices segments stand for
+-- the number of choices that segments stand for
 abbrev pub choices_in : List LoggedSegment → ℕ
 choices_in [] = 0
 choices_in (e ∷ es) = e.local + 1 + choices_in es
 
--- each segment of hart h, behind so many of its choices, is refused exactly where the plan holds the hart and the number of the
--- segment's last choice, counted from 0
+-- each segment of hart h, after the choices made so far, is refused exactly if the plan has the
+-- hart and the number of the segment's last choice, counted from 0
 abbrev pub IsFlagged : List (ℕ × ℕ) → ℕ → ℕ → List LoggedSegment → Type 0
 IsFlagged plan h made [] = Unit {0}
 IsFlagged plan h made (e ∷ es) =
     (e.refuse ≡ is_planned plan h (made + e.local)) × IsFlagged plan h (made + (e.local + 1)) es
 
--- a hart has stopped after at most so many of its choices, or has made just so many
+-- a hart has stopped after at most `budget` of its choices, or has made exactly that many
 abbrev pub HasEnded : ℕ → HartLogValue → Type 0
 HasEnded budget l = (choices_in l.log ≤ budget)
     × ((is_stopped (slot_of l).hart.state ≡ true) ⊎ (choices_in l.log ≡ budget))
 
--- a log is that of hart h of a run: of this program and these inputs, ended, with the refusals of the plan and rising stamps
+-- a log is hart h's of a run: its program and inputs, ended, the plan's refusals, rising stamps
 pub record IsHartOf (image : ImageValue) (inputs : List ℕ) (budget : ℕ) (plan : List (ℕ × ℕ)) (h : ℕ) (l : HartLogValue) : Type 0 where
   pub same_image : l.image ≡ image
   pub same_inputs : l.inputs ≡ inputs
@@ -45,8 +42,8 @@ pub record IsBankOf (image : ImageValue) (inputs : List ℕ) (b : ℕ) (k : Bank
   pub same_inputs : k.inputs ≡ inputs
   pub number : k.number ≡ b
 
--- what a run of a program, whose entry is an address of a word, leaves: the log of each hart and each bank, once and in order, where
--- an access stands in its hart's log exactly where it stands in its word's bank
+-- the result of a run of a program with a word-aligned entry: the log of each hart and each bank,
+-- once and in order, where an access is in its hart's log exactly if it is in its word's bank
 pub record IsBanked (image : ImageValue) (inputs : List ℕ) (budget : ℕ) (plan : List (ℕ × ℕ)) (logs : List HartLogValue) (banks : List BankLog) : Type 0 where
   pub entry : image.entry % 4 ≡ 0
   pub harts : length logs ≡ length inputs
@@ -54,12 +51,3 @@ pub record IsBanked (image : ImageValue) (inputs : List ℕ) (budget : ℕ) (pla
   pub of_harts : (h : ℕ) (l : HartLogValue) → slice_get logs h ≡ Some l → IsHartOf image inputs budget plan h l
   pub of_banks : (b : ℕ) (k : BankLog) → slice_get banks b ≡ Some k → IsBankOf image inputs b k
   pub matched : AreMatched logs banks
-
--- why a run with n inputs is refused; threads and memory are asked for only where there can be a hart for each
-abbrev pub RunRefuses : ℕ → RunFault → Type 0
-RunRefuses n fault.NoHarts = n ≡ 0
-RunRefuses n fault.TooManyHarts = most_harts < n
-RunRefuses n fault.StartRefused = (0 < n) × (n ≤ most_harts)
-RunRefuses n fault.StampsExhausted = (0 < n) × (n ≤ most_harts)
-RunRefuses n fault.Stale = (0 < n) × (n ≤ most_harts)
-RunRefuses n fault.Memory = (0 < n) × (n ≤ most_harts)

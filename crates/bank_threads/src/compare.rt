@@ -12,7 +12,7 @@ use image::{Image, Segment};
 use std::alloc::Allocator;
 use thread_gate::{Plan, is_planned, is_stopped};
 
-/// Whether two segments are the same.
+// Whether two segments are the same.
 fn same_segment<A: Allocator>(first: &Segment<A>, second: &Segment<A>) -> bool
     ensures { result ≡ true → first.now ≡ second.now }
 {
@@ -22,7 +22,7 @@ fn same_segment<A: Allocator>(first: &Segment<A>, second: &Segment<A>) -> bool
         && first.bytes[..] == second.bytes[..]
 }
 
-/// Whether two lists of segments are the same.
+// Whether two lists of segments are the same.
 fn same_segments<A: Allocator>(first: &[Segment<A>], second: &[Segment<A>]) -> bool
     ensures { result ≡ true → first.now ≡ second.now }
 {
@@ -37,14 +37,15 @@ fn same_segments<A: Allocator>(first: &[Segment<A>], second: &[Segment<A>]) -> b
     true
 }
 
-/// Whether two images are the same.
+// Whether two images are the same.
 fn same_image<A: Allocator>(first: &Image<A>, second: &Image<A>) -> bool
     ensures { result ≡ true → first.now ≡ second.now }
 {
     first.entry() == second.entry() && same_segments(first.segments(), second.segments())
 }
 
-/// How many choices segments stand for, if they are at most `budget` and each segment's refusal is what the plan says.
+// The number of choices that segments stand for, if it is at most `budget` and each segment's
+// refusal is the plan's.
 fn planned_choices<A: Allocator>(
     segments: &[LogSegment],
     plan: &Plan<A>,
@@ -68,8 +69,8 @@ fn planned_choices<A: Allocator>(
     Some(made)
 }
 
-/// Whether a hart has stopped after at most `budget` of its choices or has made just so many, and its segments are refused as
-/// the plan says.
+/// Whether a hart has stopped after at most `budget` choices or has made exactly that many, and its
+/// segments are refused as in the plan.
 pub fn has_ended<A: Allocator>(log: &HartLog<A>, plan: &Plan<A>, hart: u32, budget: u32) -> bool
     ensures { result ≡ true → HasEnded budget log.now × IsFlagged plan.now.keys hart 0 log.now.log }
 {
@@ -97,7 +98,7 @@ pub fn is_of_hart<A: Allocator>(
         && is_rising(log.segments())
 }
 
-/// Whether a bank is a bank of a run.
+/// Whether a bank is one of a run's.
 pub fn is_of_bank<A: Allocator>(
     bank: &Bank<A>,
     image: &Image<A>,
@@ -133,7 +134,7 @@ pub fn are_of_harts<'a, A: Allocator>(
     true
 }
 
-/// Whether banks are all banks of a run, each once and in order.
+/// Whether banks are all of a run's banks, each once and in order.
 pub fn are_of_banks<'a, A: Allocator>(
     banks: &[Bank<'a, A>],
     image: &Image<A>,

@@ -1,4 +1,4 @@
-//! What a run of threads over banks leaves can be merged.
+//! The logs of a run of threads over banks can be merged.
 ghost use Rattle.std.specs.Prelude.{◌≡◌, ℕ, List};
 ghost use Rattle.image.specs.Image.{ImageValue};
 ghost use Rattle.bank_memory.specs.BankLog.{BankLog};
@@ -9,13 +9,13 @@ ghost use Rattle.bank_merge.specs.declared.merging.MergeFault.{MergeFault};
 ghost use Rattle.bank_merge.specs.declared.merging.MergeFault.TheVariants.{Memory};
 ghost use Rattle.bank_threads.specs.Banked.{IsBanked};
 
-/// What a run leaves is what `merge` asks for.
+/// The result of a run meets the precondition of `merge`.
 pub fn banked_runs_are_of_one_program()
     ensures { (image : ImageValue) (inputs : List ℕ) (budget : ℕ) (plan : List (ℕ × ℕ)) (logs : List HartLogValue)
         (banks : List BankLog) → IsBanked image inputs budget plan logs banks → AreOf image inputs logs banks }
 {}
 
-/// `merge` refuses it for want of memory alone.
+/// For the result of a run, the only error of `merge` is out of memory.
 pub fn banked_runs_merge()
     ensures { (image : ImageValue) (inputs : List ℕ) (budget : ℕ) (plan : List (ℕ × ℕ)) (logs : List HartLogValue)
         (banks : List BankLog) → IsBanked image inputs budget plan logs banks

@@ -1,4 +1,4 @@
-//! Harts on threads of their own, over memory that has a lock for each of its banks.
+//! Runs each hart on a thread of its own, with a lock for each bank of memory.
 #![tactic(auto)]
 
 pub use compare::{are_of_banks, are_of_harts};

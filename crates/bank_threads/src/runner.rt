@@ -1,7 +1,6 @@
-//! Harts that run on threads of their own.
-ghost use Rattle.std.specs.Prelude.{◌≡◌, ◌<◌, ◌≤◌, IfOk, IfErr, length, vec_len, true};
-ghost use Rattle.hart_reservations.specs.Limit.{most_harts as most};
-ghost use Rattle.bank_threads.specs.Banked.{IsBanked, RunRefuses};
+//! Runs harts on threads of their own.
+ghost use Rattle.std.specs.Prelude.{◌≡◌, ◌<◌, IfOk, length};
+ghost use Rattle.bank_threads.specs.Banked.{IsBanked};
 
 use crate::fault::RunFault;
 use crate::whole::are_of_a_run;
@@ -9,14 +8,14 @@ use bank_hart_log::HartLog;
 use bank_memory::Bank;
 use bank_worker::{Job, StepFault, work};
 use image::Image;
-use machine::{StartFault, check_inputs};
+use machine::Inputs;
 use std::alloc::{AllocError, Allocator};
 use std::sync::{Mutex, Wait};
 use std::thread;
 use std::thread::{JoinHandle, Threads};
 use thread_gate::{Gate, Plan};
 
-/// What a run of threads over banks leaves.
+/// The result of a run of threads over banks.
 #[derive(Drop)]
 pub struct Banked<'a, A: Allocator> {
     /// The log of each hart.
@@ -25,33 +24,27 @@ pub struct Banked<'a, A: Allocator> {
     pub banks: Vec<Bank<'a, A>, A>,
 }
 
-/// Runs a program with a hart for each input, each hart in a thread of its own, until it has stopped or was chosen `budget`
-/// times. A hart does local steps at once with the others; each further step is done under the locks of the banks that it
-/// touches. Refused where a machine can't start, where the host refuses a thread or memory, and where stamps are used up.
+/// Runs a program with a hart for each input, each hart on a thread of its own, until it has
+/// stopped or was chosen `budget` times. Local steps of harts run in parallel; each other step runs
+/// under the locks of the banks that it touches. Fails if the host refuses a thread or memory, and
+/// if stamps are used up.
 pub fn run_banked<'a, A: Allocator + Copy + Send + Sync, G: Gate + Sync, R: Threads + Wait + Sync>(
     rt: &R,
     alloc: A,
     image: &'a Image<A>,
-    inputs: &'a [u32],
+    inputs: &'a Inputs,
     budget: u32,
     plan: &'a Plan<A>,
     gate: &G,
 ) -> Result<Banked<'a, A>, RunFault>
     ensures banked { IfOk result (λ b.
         IsBanked image.now inputs.now budget plan.now.keys b.logs.items b.banks.items) }
-    ensures few { IfOk result (λ _. (0 < length inputs.now) × (length inputs.now ≤ most)) }
-    ensures refused { IfErr result (λ fault. RunRefuses (length inputs.now) fault) }
 {
-    match check_inputs(inputs) {
-        Ok(()) => {}
-        Err(StartFault::NoHarts) => return Err(RunFault::NoHarts),
-        Err(StartFault::TooManyHarts) => return Err(RunFault::TooManyHarts),
-        Err(StartFault::Memory) => return Err(RunFault::Memory),
-    }
-    let Ok(job) = Job::new(alloc, image, inputs, budget, plan) else {
+    let words = inputs.words();
+    let Ok(job) = Job::new(alloc, image, words, budget, plan) else {
         return Err(RunFault::Memory);
     };
-    let logs = match run_all(rt, alloc, &job, gate, inputs.len() as u32) {
+    let logs = match run_all(rt, alloc, &job, gate, inputs.harts()) {
         Ok(logs) => logs,
         Err(StepFault::StartRefused) => return Err(RunFault::StartRefused),
         Err(StepFault::StampsExhausted) => return Err(RunFault::StampsExhausted),
@@ -61,7 +54,7 @@ pub fn run_banked<'a, A: Allocator + Copy + Send + Sync, G: Gate + Sync, R: Thre
     let Ok(banks) = unlocked(alloc, job.into_banks()) else {
         return Err(RunFault::Memory);
     };
-    let Ok(all) = are_of_a_run(rt, alloc, &logs, &banks, image, inputs, plan, budget) else {
+    let Ok(all) = are_of_a_run(rt, alloc, &logs, &banks, image, words, plan, budget) else {
         return Err(RunFault::Memory);
     };
     if !all {
@@ -70,7 +63,7 @@ pub fn run_banked<'a, A: Allocator + Copy + Send + Sync, G: Gate + Sync, R: Thre
     Ok(Banked { logs, banks })
 }
 
-// The banks, once nobody holds them.
+// The banks, without their locks.
 fn unlocked<'a, A: Allocator>(
     alloc: A,
     banks: Vec<Mutex<Bank<'a, A>>, A>,
@@ -84,8 +77,8 @@ fn unlocked<'a, A: Allocator>(
     Ok(out)
 }
 
-// Starts a worker for each hart, the last one first, and joins them all. A scope waits for its threads also where it is left
-// early.
+// Starts a worker for each hart, the last one first, and joins them all. A scope waits for its
+// threads even if it is left early.
 fn run_all<'a, A: Allocator + Copy + Send + Sync, G: Gate + Sync, R: Threads + Wait + Sync>(
     rt: &R,
     alloc: A,

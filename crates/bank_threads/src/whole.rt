@@ -1,4 +1,4 @@
-//! Whether logs and banks are all that one run has left.
+//! Whether logs and banks are the whole result of one run.
 ghost use Rattle.std.specs.Prelude.{◌≡◌, ℕ, ◌<◌, ◌≤◌, true, IfOk, length, slice_index_or};
 ghost use Rattle.std.specs.List.{list_all};
 ghost use Rattle.bank_access_order.specs.AccessOrder.{logs_of};
@@ -17,7 +17,7 @@ use std::thread;
 use std::thread::Threads;
 use thread_gate::Plan;
 
-/// Whether a log is that of a hart of a run, with its accesses in the banks' logs in its own order.
+// Whether a log is that of a hart of a run, and the banks' logs have its accesses in its own order.
 fn is_ordered_hart<'a, A: Allocator>(
     log: &HartLog<'a, A>,
     banks: &[Bank<'a, A>],
@@ -34,15 +34,14 @@ fn is_ordered_hart<'a, A: Allocator>(
         && is_ordered(hart as usize, log.segments(), banks)
 }
 
-/// Whether all answers are yes.
 fn are_yes(answers: &[bool]) -> bool
     ensures { result ≡ list_all (λ answer. answer) answers.now }
 {
     answers.iter().all(|answer| *answer)
 }
 
-/// Whether logs are those of the harts of a run, each once and in order, with their accesses in the banks' logs in their own order. Each
-/// is looked at in a thread of its own where the host gives one.
+// Whether logs are those of the harts of a run, each once and in order, and the banks' logs have
+// their accesses in their own order. Each is checked in a thread of its own if the host starts one.
 fn are_ordered_harts<'a, R: Threads + Sync, A: Allocator + Copy + Send + Sync>(
     rt: &R,
     alloc: A,
@@ -70,8 +69,9 @@ fn are_ordered_harts<'a, R: Threads + Sync, A: Allocator + Copy + Send + Sync>(
     Ok(are_yes(&answers))
 }
 
-/// Whether logs and banks are all that a run has left: each hart's and each bank's, once and in order, with the same accesses. Logs that
-/// threads have left have them in the same order, and of others it says no.
+/// Whether logs and banks are the whole result of a run: each hart's and each bank's, once and in
+/// order, with the same accesses. It expects them in the same order in both, as threads leave them,
+/// and answers no otherwise.
 pub fn are_of_a_run<'a, R: Threads + Sync, A: Allocator + Copy + Send + Sync>(
     rt: &R,
     alloc: A,
@@ -89,7 +89,7 @@ pub fn are_of_a_run<'a, R: Threads + Sync, A: Allocator + Copy + Send + Sync>(
     if !are_of_banks(banks, image, inputs) {
         return Ok(false);
     }
-    // An image that was made has passed its checks, also that of its entry.
+    // Every image has passed its checks, also that of its entry.
     let _ = image.segments();
     let ordered = are_ordered_harts(rt, alloc, logs, banks, image, inputs, plan, budget)?;
     Ok(ordered && have_no_others(banks, logs.len()))

@@ -6,7 +6,7 @@ use Rattle.bank_laws.specs.HartLogs.{AreLocal, local_hart}
 use Rattle.bank_hart_log.specs.HartLog.{HartLogValue, image_table, slot_of}
 use Rattle.bank_worker.specs.declared.step.Walked.{Walked}
 
--- what was walked are so many steps of the log's hart that touch nothing
+-- the steps walked ahead are local steps of the log's hart
 pub record IsWalked (image : ImageValue) (l : HartLogValue) (w : Walked) : Type 0 where
   pub same_image : l.image ≡ image
   pub number : w.hart ≡ l.hart

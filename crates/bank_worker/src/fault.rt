@@ -7,7 +7,7 @@ pub enum StepFault {
     StartRefused,
     /// A step would have needed a stamp of `u64::MAX` or above.
     StampsExhausted,
-    /// A bank or a log hasn't taken what a step did. Nothing is known to lead here.
+    /// A bank or a log did not accept what a step did. No way to get here is known.
     Stale,
     /// The host refused memory.
     Memory,

@@ -1,4 +1,4 @@
-//! What the workers of a run share.
+//! The shared state of a run's workers.
 ghost use Rattle.std.specs.Prelude.{◌≡◌, ◌≤◌, IfOk, length, vec_len};
 ghost use Rattle.mem_store.specs.Image.{image_memory, segments_memory};
 ghost use Rattle.hart_reservations.specs.Limit.{most_harts};
@@ -12,7 +12,7 @@ use std::alloc::{AllocError, Allocator};
 use std::sync::Mutex;
 use thread_gate::Plan;
 
-/// The program, what it is run with, and its banks, each under a lock of its own.
+/// The program, the run's inputs and limits, and its banks, each under a lock of its own.
 #[derive(Drop)]
 pub struct Job<'a, A: Allocator> {
     pub(crate) image: &'a Image<A>,
@@ -27,7 +27,7 @@ pub struct Job<'a, A: Allocator> {
 }
 
 impl<'a, A: Allocator + Copy> Job<'a, A> {
-    /// A run in which nothing was done yet.
+    /// A run before its first step.
     pub fn new(
         alloc: A,
         image: &'a Image<A>,
@@ -57,14 +57,14 @@ impl<'a, A: Allocator + Copy> Job<'a, A> {
         })
     }
 
-    /// The lock of each bank, in the banks' order.
+    /// The lock of each bank, in the order of the banks.
     pub fn banks(&self) -> &[Mutex<Bank<'a, A>>]
         ensures { length result.now ≡ 16 }
     {
         &self.banks
     }
 
-    /// The locks, once the harts' threads have ended.
+    /// The locks, after the harts' threads have ended.
     pub fn into_banks(self) -> Vec<Mutex<Bank<'a, A>>, A>
         ensures same { result ≡ self.entry.banks }
         ensures sixteen { vec_len result ≡ 16 }

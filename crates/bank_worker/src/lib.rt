@@ -1,4 +1,4 @@
-//! What each hart's thread does in a run over memory that has a lock for each of its banks.
+//! What each hart's thread does in a run with a lock for each bank.
 #![tactic(auto)]
 
 pub use fault::StepFault;

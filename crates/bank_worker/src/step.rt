@@ -16,7 +16,8 @@ use std::alloc::Allocator;
 use std::sync::Wait;
 use thread_gate::Gate;
 
-/// A segment of a hart without its stamp and its accesses, and the slot that its last step begins from.
+/// A segment of a hart before its stamp and its accesses are known, and the slot before its last
+/// step.
 #[derive(Clone, Copy)]
 pub struct Walked {
     pub hart: u32,
@@ -28,7 +29,7 @@ pub struct Walked {
 }
 
 impl Walked {
-    /// The segment with a stamp, and no accesses yet.
+    // The segment with a stamp, and no accesses yet.
     fn stamped(&self, banks: &[u64]) -> Result<LogSegment, StepFault>
         ensures { IfOk result (λ e. (e.hart ≡ self.now.hart) × (e.local ≡ self.now.local)) }
     {
@@ -46,14 +47,14 @@ impl Walked {
     }
 }
 
-/// The place of the bank of a word.
+// The index of a word's bank.
 fn place_of(word: u32) -> usize
     ensures { result < 16 }
 {
     (word / 4 % BANKS) as usize
 }
 
-/// The place of the bank of the word that is touched, or another one where none is.
+// The index of the touched word's bank, or `other` if no word is touched.
 fn place_or(touch: Option<PlannedTouch>, other: usize) -> usize
     requires { other < 16 }
     ensures { result < 16 }
@@ -64,7 +65,7 @@ fn place_or(touch: Option<PlannedTouch>, other: usize) -> usize
     }
 }
 
-/// What a bank has at a word.
+// What a bank has at a word.
 fn found_in<A: Allocator>(bank: &Bank<A>, hart: u32, word: u32) -> Found
     requires { hart < 32 }
     ensures bytes { result.bytes ≡ (state_of bank.now).values word }
@@ -76,7 +77,8 @@ fn found_in<A: Allocator>(bank: &Bank<A>, hart: u32, word: u32) -> Found
     }
 }
 
-/// Takes a segment whose last step is of code into its hart's log, and what that touches into its bank, whose lock it holds.
+// Logs a segment whose last step is of code in its hart's log, and its access in the bank, whose
+// lock it holds.
 fn step_in_code<A: Allocator + Copy, G: Gate, R: Wait>(
     rt: &R,
     job: &Job<A>,
@@ -103,8 +105,8 @@ fn step_in_code<A: Allocator + Copy, G: Gate, R: Wait>(
     Ok(())
 }
 
-/// The last step of a segment whose instruction stands in a word that may be written, under the locks of all banks, in ascending
-/// order: which word it touches isn't known before it is read.
+// Does the last step of a segment whose instruction is in a writable word, under the locks of all
+// banks, in ascending order: the word that it touches isn't known before the instruction is read.
 fn step_outside_code<A: Allocator + Copy, G: Gate, R: Wait>(
     rt: &R,
     alloc: A,
@@ -148,7 +150,8 @@ fn step_outside_code<A: Allocator + Copy, G: Gate, R: Wait>(
     Ok(segment)
 }
 
-/// Takes a segment into its hart's log, and what its last step touches into the banks, under whose locks it is done.
+/// Logs a segment in its hart's log, and the accesses of its last step in the banks, under the
+/// locks of those banks.
 pub fn step<A: Allocator + Copy, G: Gate, R: Wait>(
     rt: &R,
     alloc: A,

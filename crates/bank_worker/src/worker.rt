@@ -1,4 +1,4 @@
-//! What one hart's thread does.
+//! The thread of one hart.
 ghost use Rattle.std.specs.Prelude.{◌≡◌, ◌<◌, IfOk, length};
 
 use crate::fault::StepFault;
@@ -10,8 +10,9 @@ use std::alloc::Allocator;
 use std::sync::Wait;
 use thread_gate::Gate;
 
-/// Makes a hart's choices until it has stopped or its budget is used up: local steps as long as they come, and one step more
-/// under the locks of the banks that it touches. No lock is held while the gate is asked to let the hart go on.
+/// Makes a hart's choices until it has stopped or its budget is used up: local steps while the next
+/// one is local, then one step under the locks of the banks that it touches. No lock is held while
+/// the gate is asked to let the hart go on.
 pub fn work<'a, A: Allocator + Copy, G: Gate, R: Wait>(
     rt: &R,
     alloc: A,

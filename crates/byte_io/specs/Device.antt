@@ -1,7 +1,7 @@
--- What a call of a device tells of its failures.
+-- Failures of a device's call.
 use Rattle.std.specs.Prelude.{◌≡◌, ℕ, ◌+◌, MatchResult}
 use Rattle.std.specs.declared.result.Result.{Result}
 
--- where a call answered an error, and only there, the count of failures rose by one
+-- the number of failures rises by one if a call fails, and else stays
 abbrev pub CountsFailure : {V E : Type 0} → Result V E → ℕ → ℕ → Type 0
 CountsFailure result old new = MatchResult result (λ _. new ≡ old) (λ _. new ≡ old + 1)

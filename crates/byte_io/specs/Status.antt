@@ -3,7 +3,7 @@ use Rattle.std.specs.Prelude.{ℕ}
 use Rattle.byte_io.specs.declared.status.Status.{Status}
 use Rattle.byte_io.specs.declared.status.Status.TheVariants.{Done, Refused, BadLine, Faulted, Broken, NoMemory}
 
--- the number that the program ends with
+-- the exit status as a number
 abbrev pub code_of : Status → ℕ
 code_of Done = 0
 code_of Refused = 1

@@ -1,4 +1,4 @@
-//! Sources that give bytes and sinks that take them, a piece a call.
+//! Sources that give bytes and sinks that take them, in pieces.
 
 ghost use Rattle.std.specs.Prelude.{◌≡◌, ◌+◌, ◌-◌, ◌^◌, ◌<◌, ◌≤◌, List, Option, ℕ, length, IfOk};
 ghost use Rattle.std.specs.Io.KnownBytes.{ReadConsumes, WriteAppends};
@@ -8,18 +8,19 @@ ghost use Rattle.byte_io.specs.Device.{CountsFailure};
 #[derive(Clone, Copy, PartialEq, Eq)]
 pub struct DeviceFault;
 
-/// Where bytes come from.
+/// A source of bytes.
 pub trait Source {
-    /// The bytes that are left, where they are known.
+    /// The bytes that are left, if they are known.
     ghost left: { Self → Option (List ℕ) };
 
-    /// How many reads have failed.
+    /// Number of failed reads.
     ghost failures: { Self → ℕ };
 
-    /// How many bytes can still come at most.
+    /// An upper bound on the number of bytes that are left.
     ghost room: { Self → ℕ };
 
-    /// Reads into a piece, and says how many bytes came: none only at the end, or where the piece is empty.
+    /// Reads into a piece, and returns the number of bytes read: 0 only at the end, or for an empty
+    /// piece.
     fn read(&mut self, piece: &mut [u8]) -> Result<usize, DeviceFault>
         requires { failures self.old < 2 ^ 64 - 1 }
         ensures within { IfOk result (λ n. n ≤ length piece.old) }
@@ -28,15 +29,16 @@ pub trait Source {
         ensures count { CountsFailure result (failures self.old) (failures self.new) };
 }
 
-/// Where bytes go.
+/// A sink for bytes.
 pub trait Sink {
-    /// The bytes that it holds, where they are known.
+    /// The bytes that it holds, if they are known.
     ghost held: { Self → Option (List ℕ) };
 
-    /// How many writes have failed.
+    /// Number of failed writes.
     ghost failures: { Self → ℕ };
 
-    /// Writes bytes from the front of a piece, and says how many. To take none of a piece that isn't empty is a failure.
+    /// Writes bytes from the front of a piece, and returns how many. Writing none of a piece that
+    /// isn't empty is a failure.
     fn write(&mut self, piece: &[u8]) -> Result<usize, DeviceFault>
         requires { failures self.old < 2 ^ 64 - 1 }
         ensures within { IfOk result (λ n. n ≤ length piece.now) }

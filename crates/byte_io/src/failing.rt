@@ -1,9 +1,9 @@
-//! Devices for tests, which fail.
+//! Failing devices, for tests.
 ghost use Rattle.std.specs.Prelude.{◌+◌, ◌≡◌, Some, []};
 
 use crate::device::{DeviceFault, Sink, Source};
 
-/// Passes `calls_before` calls on to a device, and fails at each one that follows.
+/// Passes `calls_before` calls on to a device, and fails every later one.
 #[derive(Drop)]
 pub struct Failing<D> {
     device: D,
@@ -12,7 +12,7 @@ pub struct Failing<D> {
 }
 
 impl<D> Failing<D> {
-    /// Passes `calls_before` calls on, and fails from then on.
+    /// Passes `calls_before` calls on, and fails every later one.
     pub fn new(device: D, calls_before: u64) -> Failing<D>
         ensures device { result.device ≡ device }
         ensures calls { result.calls_before ≡ calls_before }
@@ -25,7 +25,7 @@ impl<D> Failing<D> {
         }
     }
 
-    /// The device that the calls are passed on to.
+    /// The wrapped device.
     pub fn device(&self) -> &D
         ensures { result.now ≡ self.now.device }
     {
@@ -65,14 +65,14 @@ impl<D: Sink> Sink for Failing<D> {
     }
 }
 
-/// A sink that is full: it takes no byte.
+/// A full sink: it takes no byte.
 #[derive(Drop)]
 pub struct FullSink {
     failures: u64,
 }
 
 impl FullSink {
-    /// A full sink, which has not failed yet.
+    /// A full sink with no failure so far.
     pub fn new() -> FullSink
         ensures held { ⟦<FullSink as Sink>⟧.held result ≡ Some [] }
         ensures failures { ⟦<FullSink as Sink>⟧.failures result ≡ 0 }

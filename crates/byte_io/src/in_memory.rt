@@ -4,7 +4,7 @@ ghost use Rattle.std.specs.Prelude.{length, ◌≡◌, Some, []};
 use crate::device::{DeviceFault, Sink, Source};
 use std::alloc::Allocator;
 
-/// A source of the bytes of a slice.
+/// A source over a slice of bytes.
 #[derive(Drop)]
 pub struct MemorySource<'a> {
     rest: &'a [u8],
@@ -48,7 +48,7 @@ pub struct MemorySink<A: Allocator> {
 }
 
 impl<A: Allocator> MemorySink<A> {
-    /// A sink that holds nothing yet.
+    /// An empty sink.
     pub fn new(alloc: A) -> MemorySink<A>
         ensures held { ⟦<MemorySink<A> as Sink>⟧.held result ≡ Some [] }
         ensures failures { ⟦<MemorySink<A> as Sink>⟧.failures result ≡ 0 }
@@ -59,7 +59,7 @@ impl<A: Allocator> MemorySink<A> {
         }
     }
 
-    /// The bytes that were written.
+    /// The bytes written so far.
     pub fn bytes(&self) -> &[u8]
         ensures { ⟦<MemorySink<A> as Sink>⟧.held self.now ≡ Some result.now }
     {

@@ -1,4 +1,4 @@
-//! Sources of bytes and sinks for them, reading to the end and writing all, and how a command ends.
+//! Sources of bytes and sinks for them, and the exit statuses of commands.
 #![tactic(auto)]
 
 pub use device::{DeviceFault, Sink, Source};

@@ -1,27 +1,27 @@
-//! How the program ends.
+//! The exit statuses of the program.
 
 ghost use Rattle.std.specs.Prelude.{◌≡◌};
 ghost use Rattle.byte_io.specs.Status.{code_of};
 
-/// How a command ends, as the program's exit status tells.
+/// How a command ends.
 #[derive(Clone, Copy, PartialEq, Eq)]
 pub enum Status {
-    /// The command is done, or help was asked for.
+    /// The command succeeded, or help was asked for.
     Done,
-    /// An input is refused, or a file can't be read or written.
+    /// An input is invalid, or a file can't be read or written.
     Refused,
-    /// The command line is wrong.
+    /// The command line is invalid.
     BadLine,
-    /// A hart has faulted, and no rule was given.
+    /// A hart has faulted, and no rule was given; or a hart must exit and still runs.
     Faulted,
     /// The rule is broken.
     Broken,
-    /// Memory was refused.
+    /// Out of memory.
     NoMemory,
 }
 
 impl Status {
-    /// The exit status.
+    /// The exit status as a number.
     pub fn code(self) -> u8
         ensures { result ≡ code_of self }
     {

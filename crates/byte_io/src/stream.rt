@@ -1,11 +1,11 @@
-//! Devices over the readers and writers of std. A call that the system interrupts is made again.
+//! Devices over the readers and writers of std. An interrupted call is repeated.
 ghost use Rattle.std.specs.Prelude.{◌≡◌, ◌-◌, ◌^◌, ◌≤◌, length, IfOk};
 ghost use Rattle.std.specs.Io.KnownBytes.{ReadConsumes, WriteAppends};
 
 use crate::device::{DeviceFault, Sink, Source};
 use std::io::{ErrorKind, Read, Write};
 
-// Reads once, however often the call is interrupted.
+// One read, repeated while it is interrupted.
 fn read_again<R: Read>(reader: &mut R, piece: &mut [u8]) -> Result<usize, DeviceFault>
     ensures bound { IfOk result (λ n. n ≤ length piece.old) }
     ensures bytes { ReadConsumes (R.remaining reader.old) (R.remaining reader.new) result piece.new }
@@ -20,7 +20,7 @@ fn read_again<R: Read>(reader: &mut R, piece: &mut [u8]) -> Result<usize, Device
     Err(DeviceFault)
 }
 
-// Writes once, however often the call is interrupted.
+// One write, repeated while it is interrupted.
 fn write_again<W: Write>(writer: &mut W, piece: &[u8]) -> Result<usize, DeviceFault>
     ensures bound { IfOk result (λ n. n ≤ length piece.now) }
     ensures bytes { WriteAppends (W.contents writer.old) (W.contents writer.new) result piece.now }
@@ -90,7 +90,7 @@ pub struct WriterSink<W: Write> {
 }
 
 impl<W: Write> WriterSink<W> {
-    /// What the writer contains is held.
+    /// The sink holds what the writer contains.
     pub fn new(writer: W) -> WriterSink<W>
         ensures held { ⟦<WriterSink<W> as Sink>⟧.held result ≡ W.contents writer }
         ensures failures { ⟦<WriterSink<W> as Sink>⟧.failures result ≡ 0 }

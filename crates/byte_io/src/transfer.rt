@@ -1,4 +1,4 @@
-//! Reading a source to its end, and writing all of a text.
+//! Reads a source to its end, and writes a text whole.
 
 ghost use Rattle.std.specs.Prelude.{◌≡◌, ◌+◌, ◌-◌, ◌^◌, ◌<◌, ℕ, take, OnErr, IfOk};
 ghost use Rattle.std.specs.Io.KnownBytes.{Appends, Consumes, IsAtEnd};
@@ -7,20 +7,20 @@ ghost use Rattle.byte_io.specs.Device.{CountsFailure};
 use crate::device::{DeviceFault, Sink, Source};
 use std::alloc::Allocator;
 
-// How many bytes are asked for in a call.
+// Number of bytes asked for in a call.
 const PIECE: usize = 16384;
 
-/// Why not all was read.
+/// Why a source wasn't read to its end.
 #[derive(Clone, Copy, PartialEq, Eq)]
 pub enum ReadFault {
     /// The source has failed.
     Device,
-    /// Memory for the bytes was refused.
+    /// Out of memory.
     Memory,
 }
 
-/// Reads all that is left.
-/// It is a fault of the device only where its count of failures rose by one.
+/// Reads all that is left. The fault is `Device` only if the source's number of failures rose by
+/// one.
 pub fn read_all<A: Allocator + Copy, S: Source>(
     alloc: A,
     source: &mut S,
@@ -49,7 +49,7 @@ pub fn read_all<A: Allocator + Copy, S: Source>(
     }
 }
 
-/// Writes all of the bytes. After a failure a beginning of them has been written.
+/// Writes all of the bytes. After a failure the sink has a beginning of them.
 pub fn write_all<K: Sink>(sink: &mut K, bytes: &[u8]) -> Result<(), DeviceFault>
     requires { K.failures sink.old < 2 ^ 64 - 1 }
     ensures ok { IfOk result (λ _. Appends (K.held sink.old) (K.held sink.new) bytes.now) }

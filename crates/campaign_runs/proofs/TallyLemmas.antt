@@ -91,7 +91,7 @@ pub fits_from : {Z : Type 0} (test : Ending Z → Bool) (entries : List (Ending 
 fits_from test entries None is room = tt
 fits_from test entries (Some count) is room = omega (arith, count_within test entries count (sym is), room)
 
--- ---- what the row of an ending tells
+-- ---- the row of an ending
 abbrev told : ℕ → ℕ → Option SeedCount
 told seeds first = Some (record { seeds = seeds; first = first })
 
@@ -99,7 +99,7 @@ abbrev told_once_more : Option SeedCount → ℕ → Option SeedCount
 told_once_more before seed = Some (count_after before seed)
 
 module _ (ending : EndingValue) where
-  -- what it tells once more seeds are counted
+  -- the row once more seeds are counted
   abbrev told_after : Option SeedCount → List SeedEnding → Option SeedCount
   told_after None all = seeds_with ending all
   told_after (Some count) all = told (count.seeds + how_many ending all) count.first

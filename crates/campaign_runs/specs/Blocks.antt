@@ -1,6 +1,6 @@
--- How large the blocks of a campaign's seeds are.
+-- The size of the blocks of a campaign's seeds.
 use Rattle.std.specs.Prelude.{ℕ, ◌/◌, ◌^◌, max, min}
 
--- how many seeds a block has, where so many are left: those whose runs take about 2^26 steps together, but 64 at least and 4096 at most
+-- the number of seeds of a block: about 2^26 steps together, at least 64 and at most 4096 seeds
 abbrev pub block_seeds : ℕ → ℕ
 block_seeds steps = max 64 (min (2 ^ 26 / max steps 1) 4096)

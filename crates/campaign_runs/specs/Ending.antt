@@ -1,4 +1,4 @@
--- How a run ended, as far as runs are told apart.
+-- How a run ended, in the detail that a report distinguishes.
 use Rattle.std.specs.Prelude.{ℕ, Bool, true, false, ◌==◌, ◌&&◌, List, [], ◌∷◌, map, Option, Some, None}
 use Rattle.hart_step.specs.Hart.{HartValue}
 use Rattle.ends.specs.Ends.{a0_of, a1_of}
@@ -10,20 +10,20 @@ use Rattle.campaign_runs.specs.declared.campaign.Report.TheVariants.{Lines, Fail
 use Rattle.campaign_runs.specs.declared.ending.Ending.{Ending}
 use Rattle.campaign_runs.specs.declared.ending.HartResult.{HartResult}
 
--- the outcome of a run, and what each hart left in a0 and a1, where runs are told apart by it
+-- the outcome of a run, and each hart's a0 and a1, if the report distinguishes runs by them
 pub record EndingValue : Type 0 where
   pub outcome : Outcome
   pub results : List HartResult
 
--- an ending of the code as contracts see it
+-- the code's ending as an `EndingValue`
 abbrev pub ending_of : {Z : Type 0} → Ending Z → EndingValue
 ending_of ending = record { outcome = ending.outcome; results = ending.results.items }
 
--- what a hart left in the registers of its result
+-- the registers of a hart's result
 abbrev pub result_of : HartValue → HartResult
 result_of hart = record { a0 = a0_of hart; a1 = a1_of hart }
 
--- what harts left, where a report tells runs apart by it
+-- the results of harts, if the report distinguishes runs by them
 abbrev pub results_of : Report → List HartValue → List HartResult
 results_of Lines harts = []
 results_of Failures harts = []
@@ -46,7 +46,7 @@ abbrev pub same_outcome : Outcome → Outcome → Bool
 same_outcome a b =
     (a.exited == b.exited) && (a.faulted == b.faulted) && (a.running == b.running) && same_verdict a.verdict b.verdict
 
--- whether harts left the same
+-- whether two lists of results are the same
 abbrev pub same_results : List HartResult → List HartResult → Bool
 same_results [] [] = true
 same_results (x ∷ xs) (y ∷ ys) = (x.a0 == y.a0) && (x.a1 == y.a1) && same_results xs ys

@@ -16,7 +16,7 @@ pub record SeedEnding : Type 0 where
   pub seed : ℕ
   pub ending : EndingValue
 
--- what a seed's end holds
+-- the code's seed and ending as a `SeedEnding`
 abbrev pub end_of : {Z : Type 0} → SeedEnd Z → SeedEnding
 end_of end = record { seed = end.seed; ending = ending_of end.ending }
 

@@ -2,51 +2,49 @@
 
 ghost use Rattle.std.specs.Prelude.{◌≡◌, ◌+◌, ◌<◌, ◌≤◌, ◌^◌, IfOk, length, map};
 ghost use Rattle.std.specs.List.{range_with_len};
-ghost use Rattle.machine.specs.Start.{IsStartable};
 ghost use Rattle.machine.specs.Machine.{world};
 ghost use Rattle.campaign_runs.specs.Runs.{end_of, ending_from, endings_of};
 
 use crate::campaign::Campaign;
-use crate::seed_run::{SeedEnd, first_machine, run_seed};
+use crate::seed_run::{SeedEnd, run_seed};
 use crate::seeds::Block;
 use image::Image;
-use machine::Machine;
+use machine::{Inputs, Machine};
+use mem_flat::FlatStore;
 use mem_store::FromImage;
 use rayon::prelude::*;
 use std::alloc::{AllocError, Allocator};
 use std::thread::Threads;
 
-/// How the runs of a block of seeds end, in order. One machine is started for all of them. Refused
-/// for want of memory alone.
+/// How the runs of a block of seeds end, in order. One machine is started for all of them. The only
+/// error is out of memory.
 pub fn run_block<A: Allocator + Copy + Send + Sync, B: Allocator + Sync>(
     rt: &(impl Threads + Sync),
     alloc: A,
     image: &Image<B>,
-    inputs: &[u32],
+    inputs: &Inputs,
     campaign: Campaign,
     block: Block,
 ) -> Result<Vec<SeedEnd<A>, A>, AllocError>
-    requires startable { IsStartable inputs.now }
     requires fits { block.first + block.count ≤ 2 ^ 64 }
     ensures { IfOk result (λ ends. map end_of ends.items
         ≡ endings_of campaign image.now inputs.now (range_with_len block.first block.count)) }
 {
-    let start = first_machine(alloc, image, inputs)?;
+    let start: Machine<FlatStore<A>, A> = Machine::start(alloc, image, inputs)?;
     let ends = run_each(rt, alloc, &start, inputs, campaign, block)?;
     Ok(ends)
 }
 
-// The runs of seeds, each on a copy of a machine, in pieces of one seed at least: a run is worth a
-// thread's time.
+// Runs seeds, each on a copy of a machine, in pieces of at least one seed: one run is worth a
+// thread.
 fn run_each<S: FromImage<A> + Sync, A: Allocator + Copy + Send + Sync>(
     rt: &(impl Threads + Sync),
     alloc: A,
     start: &Machine<S, A>,
-    inputs: &[u32],
+    inputs: &Inputs,
     campaign: Campaign,
     block: Block,
 ) -> Result<Vec<SeedEnd<A>, A>, AllocError>
-    requires startable { IsStartable inputs.now }
     requires there { length (world S.memory start.now).harts ≡ length inputs.now }
     requires fits { block.first + block.count ≤ 2 ^ 64 }
     ensures { IfOk result (λ ends. map end_of ends.items
@@ -59,7 +57,7 @@ fn run_each<S: FromImage<A> + Sync, A: Allocator + Copy + Send + Sync>(
         .with_min_len(1)
         .map(
             |place: u64| -> Result<SeedEnd<A>, AllocError>
-                requires { IsStartable inputs.now × (length (world S.memory start.now).harts ≡ length inputs.now) × (first + place < 2 ^ 64) }
+                requires { (length (world S.memory start.now).harts ≡ length inputs.now) × (first + place < 2 ^ 64) }
                 ensures { IfOk result (λ end. end_of end
                     ≡ ending_from (world S.memory start.entry.now) campaign inputs.entry.now (first + place)) }
             { run_seed(alloc, start, inputs, campaign, first + place) },

@@ -1,4 +1,4 @@
-//! Which runs a campaign does, and what it reports of them.
+//! The runs of a campaign, and what it reports of them.
 
 use outcome::Expect;
 use sched_draw::Draw;
@@ -12,7 +12,7 @@ pub enum Report {
     Failures,
     /// A line for each outcome, once all runs are done.
     Summary,
-    /// A line for each outcome, with runs told apart by each hart's `a0` and `a1` too.
+    /// A line for each outcome, where runs also differ by each hart's `a0` and `a1`.
     Outcomes,
 }
 

@@ -1,4 +1,4 @@
-//! How a run ended, as far as runs are told apart.
+//! How a run ended, in the detail that a report distinguishes.
 
 ghost use Rattle.std.specs.Prelude.{◌≡◌, IfOk, map};
 ghost use Rattle.hart_step.specs.Hart.{hart_of};
@@ -9,12 +9,12 @@ use hart_step::Hart;
 use outcome::Outcome;
 use std::alloc::{AllocError, Allocator};
 
-// The places of a0 and a1 among the registers.
+// The indices of a0 and a1 among the registers.
 const A0: usize = 10;
 
 const A1: usize = 11;
 
-/// What a hart left in the registers of its result.
+/// The registers that hold a hart's result.
 #[derive(Clone, Copy, Debug, PartialEq, Eq, Hash)]
 pub struct HartResult {
     /// `a0`, which is x10.
@@ -23,21 +23,21 @@ pub struct HartResult {
     pub a1: u32,
 }
 
-/// How a run ended, as far as runs are told apart.
+/// How a run ended, in the detail that a report distinguishes.
 #[derive(Drop)]
 #[derive_where(Debug, PartialEq, Eq, Hash)]
 pub struct Ending<A: Allocator> {
     /// Number of harts that ended in each way, and the verdict.
     pub outcome: Outcome,
-    /// What each hart left, in order of the harts' numbers; empty where runs aren't told apart by it.
+    /// The results of the harts in order; empty if the report doesn't distinguish runs by them.
     pub results: Vec<HartResult, A>,
 }
 
 impl<A: Allocator> Ending<A> {
     ghost use Rattle.campaign_runs.specs.Ending.{ending_of, ending_with};
 
-    /// The ending of a run with this outcome that left these harts, as far as a report tells runs
-    /// apart. Refused for want of memory alone.
+    /// The ending of a run with this outcome that left these harts, in the detail that a report
+    /// distinguishes. The only error is out of memory.
     pub fn of(
         alloc: A,
         report: Report,
@@ -54,7 +54,7 @@ impl<A: Allocator> Ending<A> {
     }
 }
 
-// What harts left, where runs are told apart by it.
+// The results of harts, if the report distinguishes runs by them.
 fn results<A: Allocator>(
     alloc: A,
     report: Report,
@@ -68,7 +68,7 @@ fn results<A: Allocator>(
     }
 }
 
-// What harts left, in order.
+// The results of harts, in order.
 fn hart_results<A: Allocator>(alloc: A, harts: &[Hart]) -> Result<Vec<HartResult, A>, AllocError>
     ensures { IfOk result (λ results. results.items ≡ map result_of (map hart_of harts.now)) }
 {

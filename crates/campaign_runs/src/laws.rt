@@ -5,20 +5,20 @@ ghost use Rattle.campaign_runs.specs.Ending.{EndingValue, same_ending};
 ghost use Rattle.campaign_runs.specs.Runs.{SeedEnding};
 ghost use Rattle.campaign_runs.specs.Tally.{count_in, seeds_in, seeds_with, tally_of, tally_onto};
 
-/// Endings are told apart exactly where they differ.
+/// Endings compare equal exactly if they are the same.
 pub fn same_endings_are_equal()
     ensures { (a b : EndingValue) → IsTrue (same_ending a b) ↔ (a ≡ b) }
 {}
 
-/// The row of each ending tells how many of the seeds have it and which is the first of them, an
-/// ending of no seed has no row, and each seed is counted once.
+/// The row of each ending has the number of seeds with it and the first of them, an ending of no
+/// seed has no row, and each seed is counted once.
 pub fn each_ending_is_counted()
     ensures rows { (all : List SeedEnding) (ending : EndingValue)
         → count_in ending (tally_of all) ≡ seeds_with ending all }
     ensures sum { (all : List SeedEnding) → seeds_in (tally_of all) ≡ length all }
 {}
 
-/// Seeds that are counted block by block give the tally of all of them.
+/// Counting seeds block by block gives the tally of all of them.
 pub fn blocks_are_counted_together()
     ensures { (before block : List SeedEnding)
         → tally_onto (tally_of before) block ≡ tally_of (before ++ block) }

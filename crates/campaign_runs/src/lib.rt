@@ -1,12 +1,12 @@
-//! Campaigns: one program run under the schedule of each seed of a range, on all processors, and how
-//! the runs end.
+//! Runs a program under the schedule of each seed of a range, on all processors, and counts how the
+//! runs end.
 #![tactic(auto)]
 
 pub use block::run_block;
 pub use campaign::{Campaign, Report};
 pub use ending::{Ending, HartResult};
 pub use laws::{blocks_are_counted_together, each_ending_is_counted, same_endings_are_equal};
-pub use seed_run::{SeedEnd, first_machine, run_seed};
+pub use seed_run::{SeedEnd, run_seed};
 pub use seeds::{BLOCK_STEPS, Block, LEAST_SEEDS, MOST_SEEDS, Seeds};
 pub use tally::{SeedCount, Tally};
 

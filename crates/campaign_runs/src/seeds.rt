@@ -4,27 +4,29 @@ ghost use Rattle.std.specs.Prelude.{◌≡◌, ◌++◌, ◌+◌, ◌<◌, ◌�
 ghost use Rattle.std.specs.List.{range_with_len};
 ghost use Rattle.campaign_runs.specs.Blocks.{block_seeds};
 
-/// The most seeds of a block: what is kept of their runs takes 0.3 MB, and 1 MB more where it has the
-/// results of 32 harts.
+/// The greatest number of seeds of a block: the results of their runs take 0.3 MB, and 1 MB more if
+/// they include those of 32 harts.
 pub const MOST_SEEDS: u64 = 4096;
 
-/// The fewest seeds of a block, where so many are left: enough to keep the processors at work.
+/// The least number of seeds of a block, if as many are left: enough to keep the processors at
+/// work.
 pub const LEAST_SEEDS: u64 = 64;
 
-/// About how many steps the runs of a block take together, within these limits. At a block's end processors wait for the last of them, so the longer a block
-/// runs, the less of its time they wait; 2^26 steps take some tenths of a second.
+/// About the number of steps of a block's runs together, within these limits. At a block's end
+/// processors wait for the last run, so longer blocks waste a smaller part of the time; 2^26 steps
+/// take some tenths of a second.
 pub const BLOCK_STEPS: u64 = 1 << 26;
 
-/// Seeds that follow one another.
+/// Consecutive seeds.
 #[derive(Clone, Copy, PartialEq, Eq)]
 pub struct Block {
-    /// The first of them.
+    /// The first seed.
     pub first: u64,
-    /// How many there are, 1 at least.
+    /// Number of seeds, at least 1.
     pub count: u64,
 }
 
-/// The seeds that a campaign has still to run. They are handed out in order, block by block.
+/// The seeds that a campaign has still to run. They are taken in order, block by block.
 #[derive(Clone, Copy, Drop)]
 pub struct Seeds {
     first: u64,
@@ -36,7 +38,7 @@ pub struct Seeds {
 impl Seeds {
     ghost use Rattle.campaign_runs.specs.Seeds.{seeds_left};
 
-    /// So many seeds from a first one on.
+    /// `count` seeds from `first` on.
     pub fn new(first: u64, count: u64) -> Seeds
         requires { first + count ≤ 2 ^ 64 }
         ensures { seeds_left result ≡ range_with_len first count }
@@ -48,8 +50,8 @@ impl Seeds {
         }
     }
 
-    /// The next block of seeds for runs of so many steps, or none where no seed is left. The longer the runs, the
-    /// smaller the block, so that results come early.
+    /// The next block of seeds for runs of `steps` steps; `None` if no seed is left. The longer the
+    /// runs, the smaller the block, so that results come early.
     #[tactic(auto, using(crate::proofs::SeedLemmas::seeds_none, crate::proofs::SeedLemmas::seeds_split, crate::proofs::SeedLemmas::seeds_size))]
     pub fn next_block(&mut self, steps: u64) -> Option<Block>
         ensures order { MatchOption result (seeds_left self.old ≡ [])
@@ -70,7 +72,7 @@ impl Seeds {
     }
 }
 
-// How many seeds a block has, where so many are left.
+// Number of seeds of a block, if as many are left.
 fn block_seeds(steps: u64) -> u64
     ensures value { result ≡ block_seeds steps }
     ensures some { 0 < result }

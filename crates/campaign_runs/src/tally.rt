@@ -1,4 +1,4 @@
-//! How many seeds have each ending.
+//! Counts the seeds of each ending.
 
 ghost use Rattle.std.specs.Prelude.{◌≡◌, ◌==◌, ◌+◌, ◌<◌, ◌^◌, IfSome, OnOk, Some, [], length, slice_get};
 ghost use Rattle.campaign_runs.specs.Ending.{ending_of};
@@ -12,13 +12,13 @@ use std::hash::{BuildHasherDefault, FoldHasher};
 /// The seeds that have an ending.
 #[derive(Clone, Copy, PartialEq, Eq)]
 pub struct SeedCount {
-    /// Number of them, 1 at least.
+    /// Number of seeds, at least 1.
     pub seeds: u64,
-    /// The first of them.
+    /// The first seed.
     pub first: u64,
 }
 
-// The count of an ending once one seed more has it.
+// The count of an ending with one more seed.
 fn count_after(count: Option<SeedCount>, seed: u64) -> SeedCount
     requires { IfSome count (λ c. c.seeds + 1 < 2 ^ 64) }
     ensures { result ≡ count_after count seed }
@@ -35,8 +35,8 @@ fn count_after(count: Option<SeedCount>, seed: u64) -> SeedCount
     }
 }
 
-/// How many seeds each ending has, and which is the first of them. The endings stand in the order in
-/// which they came.
+/// The number of seeds of each ending, and the first of them. Endings are in the order in which
+/// they were first added.
 #[derive(Drop)]
 pub struct Tally<A: Allocator> {
     rows: IndexMap<Ending<A>, SeedCount, BuildHasherDefault<FoldHasher>, A>,
@@ -54,7 +54,7 @@ impl<A: Allocator + Copy> Tally<A> {
 
     /// Counts a seed under its ending.
     pub fn add(&mut self, ending: Ending<A>, seed: u64) -> Result<(), AllocError>
-        // Their number fits.
+        // The number of seeds fits in 64 bits.
         requires { seeds_in (rows_of self.old) + 1 < 2 ^ 64 }
         ensures { OnOk result (rows_of self.new
             ≡ add_seed (record { seed = seed; ending = ending_of ending }) (rows_of self.old)) }
@@ -78,7 +78,7 @@ impl<A: Allocator + Copy> Tally<A> {
         self.rows.is_empty()
     }
 
-    /// The ending at a place in their order, from 0, with its seeds.
+    /// The ending at an index in their order, from 0, with its seeds.
     pub fn row(&self, place: usize) -> (&Ending<A>, SeedCount)
         requires { place < length (rows_of self.now) }
         ensures { slice_get (rows_of self.now) place

@@ -1,27 +1,27 @@
--- Arguments of the command line, as clap's own matching function takes them.
+-- Arguments of the command line, as clap's matching function has them.
 use Rattle.std.specs.Prelude.{◌≡◌, Bool, true, false, ◌&&◌, List, [], ◌∷◌, Option, Some, None, codes}
 use Rattle.clap.specs.Words.{App, Row, Rule, Text, first_of, new_rule, with_rule}
 use Rattle.clap.specs.declared.builder.ArgAction.TheVariants.{SetTrue, Append}
 use Rattle.cli_args.specs.declared.arguments.Argument.{Argument}
 use Rattle.cli_args.specs.declared.arguments.Argument.TheVariants as arguments
 
--- a word that has to stand
+-- a required word
 abbrev pub needed : Text → Rule
 needed id = record (new_rule id) { required = true }
 
--- a word that may be left out
+-- an optional word
 abbrev pub allowed : Text → Rule
 allowed id = new_rule id
 
--- words, of which one at least has to stand
+-- one or more words
 abbrev pub many : Text → Rule
 many id = record (new_rule id) { required = true; action = Some Append }
 
--- an option with a value that may be left out
+-- an optional option with a value
 abbrev pub optional : Text → Rule
 optional id = record (new_rule id) { long = Some id }
 
--- an option with a value that has to stand
+-- a required option with a value
 abbrev pub needed_option : Text → Rule
 needed_option id = record (new_rule id) { required = true; long = Some id }
 
@@ -29,7 +29,7 @@ needed_option id = record (new_rule id) { required = true; long = Some id }
 abbrev pub flag : Text → Rule
 flag id = record (new_rule id) { long = Some id; action = Some SetTrue }
 
--- the argument by its name; help says the rest of it
+-- the argument's rule by its name; the rest is for help
 abbrev pub rule_by : Argument → Rule
 rule_by (arguments.Needed id help) = needed id.now
 rule_by (arguments.Allowed id help) = allowed id.now
@@ -38,7 +38,7 @@ rule_by (arguments.Optional id help) = optional id.now
 rule_by (arguments.NeededOption id help) = needed_option id.now
 rule_by (arguments.Flag id help) = flag id.now
 
--- a command with these arguments too, in order
+-- a command with further arguments, in order
 abbrev pub with_arguments : App → List Argument → App
 with_arguments app [] = app
 with_arguments app (argument ∷ rest) = with_arguments (with_rule app (rule_by argument)) rest
@@ -51,7 +51,7 @@ with_program app = with_rule (with_rule app (needed (codes "FILE"))) (needed_opt
 abbrev pub with_schedule : App → App
 with_schedule app = with_rule (with_program app) (needed_option (codes "choices"))
 
--- whether a flag is set, by the text that clap holds of it
+-- whether a flag is set, by its text in clap's matches
 pub record IsSet (text : Option Text) (set : Bool) : Type 0 where
   pub absent : text ≡ None → set ≡ false
   pub present : text ≡ Some (codes "true") → set ≡ true
@@ -62,7 +62,7 @@ abbrev pub is_there : Option Text → Bool
 is_there None = false
 is_there (Some text) = true
 
--- whether clap holds a text under each of the names
+-- whether clap's matches have a text for each of the names
 abbrev pub holds_all : List Text → List Row → Bool
 holds_all [] rows = true
 holds_all (id ∷ ids) rows = is_there (first_of id rows) && holds_all ids rows

@@ -1,4 +1,4 @@
--- The commands, as clap takes them.
+-- The commands, as clap's matching function has them.
 use Rattle.std.specs.Prelude.{codes}
 use Rattle.clap.specs.Words.{App, Text, new_app, with_rule}
 use Rattle.cli_args.specs.Arguments.{allowed, flag, many, needed, needed_option, optional, with_program, with_schedule}
@@ -59,8 +59,8 @@ seeds_app =
     (needed_option (codes "steps")))
     (optional (codes "rule"))
 
--- `campaign FILE --inputs L --first S --count C --steps N [--rule K] [--failures] [--summary] [--outcomes] [--schedule KIND]
--- [--refusals never|one-in:N] [--must-exit]`
+-- `campaign FILE --inputs L --first S --count C --steps N [--rule K] [--failures] [--summary]
+-- [--outcomes] [--schedule KIND] [--refusals never|one-in:N] [--must-exit]`
 abbrev pub campaign_app : App
 campaign_app =
     with_rule
@@ -88,7 +88,7 @@ drawn_app =
     (flag (codes "turns")))
     (optional (codes "only"))
 
--- `schedule --harts N --steps M [--seed S] [--turns] [--only H] [--schedule KIND] [--refusals never|one-in:N] [--inputs L] [FILE]`
+-- `schedule` with all its options: as above, `--schedule`, `--refusals`, `--inputs` and `FILE`
 abbrev pub schedule_app : App
 schedule_app =
     with_rule

@@ -9,7 +9,7 @@ use Rattle.cli_args.specs.declared.line.LineFault.TheVariants as faults
 abbrev pub is_comma : ℕ → Bool
 is_comma b = b == 44
 
--- the input that one or more decimal digits write, below 2 ^ 32; leading zeros are allowed
+-- the input of one or more decimal digits, below 2 ^ 32; leading zeros are allowed
 abbrev pub input_of : List ℕ → Option ℕ
 input_of digits = number_below (2 ^ 32) digits
 
@@ -32,7 +32,7 @@ inputs_of_parts (part ∷ parts) = input_then (input_of part) (inputs_of_parts p
 abbrev pub inputs_of : List ℕ → Option (List ℕ)
 inputs_of text = inputs_of_parts (slice_split is_comma text)
 
--- a text of no inputs is refused as such
+-- a text that isn't a list of inputs is reported as such
 abbrev pub RefusesInputs : List ℕ → LineFault → Type 0
 RefusesInputs text (faults.Told error) = ⊥
 RefusesInputs text faults.NoCommand = ⊥

@@ -39,23 +39,23 @@ program_app =
     shrink_app.top)
     trace_app.top
 
--- the order is that of `run`, if this is the command that clap met; else clap met another one
+-- the order is that of `run`, if clap matched this command; else clap matched another one
 abbrev pub IsRunOrder : Option (Text × List Row) → Option RunOrder → Type 0
 IsRunOrder None order = ⊥
 IsRunOrder (Some found) (Some order) = (found.0 ≡ codes "run") × IsRun found.1 order
 IsRunOrder (Some found) None = found.0 ≡ codes "run" → ⊥
 
--- clap met no command, or `run` without a text that has to stand
+-- clap matched no command, or `run` without a required text
 abbrev pub IsNoRun : Option (Text × List Row) → Type 0
 IsNoRun None = Unit {0}
 IsNoRun (Some found) = (found.0 ≡ codes "run") × (holds_all run_names found.1 ≡ false)
 
--- what has to hold where the fault is that no command is given
+-- the fact for the fault that no command is given
 abbrev pub IfNoCommand : Type 0 → LineFault → Type 0
 IfNoCommand none faults.NoCommand = none
 IfNoCommand none fault = Unit {0}
 
--- clap refuses no line that it takes
+-- clap rejects no line that its matching function accepts
 abbrev pub IsTold : Bool → LineFault → Type 0
 IsTold taken (faults.Told error) = taken ≡ true → ⊥
 IsTold taken faults.NoCommand = Unit {0}
@@ -65,7 +65,7 @@ IsTold taken faults.BadNumber = ⊥
 IsTold taken faults.BadObject = ⊥
 IsTold taken faults.Memory = Unit {0}
 
--- no matches come only where clap tells why, or memory is refused
+-- matching fails only with clap's text or out of memory
 abbrev pub IsNotMatched : LineFault → Type 0
 IsNotMatched (faults.Told error) = Unit {0}
 IsNotMatched faults.NoCommand = ⊥

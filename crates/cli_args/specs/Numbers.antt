@@ -3,7 +3,7 @@ use Rattle.std.specs.Prelude.{ℕ, ◌&&◌, nat_lt, List, length, Option, Some,
 use Rattle.std.specs.Str.{all_ascii_digits}
 use Rattle.text_items.specs.Numbers.{value_after}
 
--- the number that one or more decimal digits write, if it is below the limit; leading zeros are allowed
+-- the number of one or more decimal digits, if it is below a limit; leading zeros are allowed
 abbrev pub number_below : ℕ → List ℕ → Option ℕ
 number_below limit digits =
     if all_ascii_digits digits && (nat_lt 0 (length digits) && nat_lt (value_after 0 digits) limit)

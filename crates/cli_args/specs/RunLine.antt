@@ -5,11 +5,11 @@ use Rattle.clap.specs.Walk.{one_of}
 use Rattle.cli_args.specs.Arguments.{IsSet}
 use Rattle.cli_args.specs.declared.run_line.RunOrder.{RunOrder}
 
--- the names of the texts that have to stand
+-- the names of the required texts
 abbrev pub run_names : List Text
 run_names = codes "FILE" ∷ codes "inputs" ∷ codes "choices" ∷ []
 
--- each text of the order is the one that clap holds under its name, and so are the flags
+-- each text of the order is the one in clap's matches under its name, and so is each flag
 abbrev pub IsRun : List Row → RunOrder → Type 0
 IsRun rows order =
     IsSet (one_of (codes "hex") rows) order.hex

@@ -1,4 +1,4 @@
-//! Arguments of commands, and what clap holds of them.
+//! Arguments of commands, and their values in clap's matches.
 
 ghost use Rattle.std.specs.Prelude.{◌≡◌, false, IfOk, IsOkAnd, map, option_map};
 ghost use Rattle.clap.specs.Walk.{one_of};
@@ -9,18 +9,18 @@ ghost use Rattle.cli_args.specs.Arguments.{rule_by, with_arguments, IsSet};
 use clap::{Arg, ArgAction, ArgMatches, Command};
 use std::alloc::{AllocError, Global};
 
-/// An argument of a command: its name, and what help says of it.
+/// An argument of a command: its name, and its help text.
 #[derive(Clone, Copy)]
 pub(crate) enum Argument<'a> {
-    /// A word that has to stand.
+    /// A required word.
     Needed(&'a str, &'a str),
-    /// A word that may be left out.
+    /// An optional word.
     Allowed(&'a str, &'a str),
-    /// Words, of which one at least has to stand.
+    /// One or more words.
     Many(&'a str, &'a str),
-    /// An option with a value that may be left out.
+    /// An optional option with a value.
     Optional(&'a str, &'a str),
-    /// An option with a value that has to stand.
+    /// A required option with a value.
     NeededOption(&'a str, &'a str),
     /// An option without a value.
     Flag(&'a str, &'a str),
@@ -49,7 +49,7 @@ fn arg_of<'a>(alloc: Global, argument: Argument<'a>) -> Arg<'a>
     }
 }
 
-// A command of this name, with what it does and an example of its use for its help.
+// A command of this name, with its description and an example for its help.
 fn headed<'a>(alloc: Global, name: &'a str, does: &'a str, example: &'a str) -> Command<'a>
     ensures app { app_of result ≡ new_app name.entry.now }
     ensures globals { (out-Command result).has_globals ≡ false }
@@ -57,7 +57,7 @@ fn headed<'a>(alloc: Global, name: &'a str, does: &'a str, example: &'a str) -> 
     Command::new(alloc, name).about(does).after_help(example)
 }
 
-// A command with one argument more.
+// A command with one more argument.
 fn add<'a>(command: Command<'a>, arg: Arg<'a>) -> Result<Command<'a>, AllocError>
     requires { arg.global ≡ false }
     ensures app { IfOk result (λ c.
@@ -68,7 +68,7 @@ fn add<'a>(command: Command<'a>, arg: Arg<'a>) -> Result<Command<'a>, AllocError
     command.arg(arg)
 }
 
-// A command with these arguments too, in order.
+// A command with further arguments, in order.
 fn add_all<'a>(
     alloc: Global,
     command: Command<'a>,
@@ -86,7 +86,7 @@ fn add_all<'a>(
     Ok(command)
 }
 
-/// A command of this name and these arguments; help says what it does and shows an example.
+/// A command of this name and these arguments, with its description and an example for its help.
 pub(crate) fn command_of<'a>(
     alloc: Global,
     name: &'a str,
@@ -101,8 +101,8 @@ pub(crate) fn command_of<'a>(
     add_all(alloc, headed(alloc, name, does, example), arguments)
 }
 
-/// A program with one command more, if memory was left for it. The command comes as it was made, so that a chain of these
-/// has one want of memory a command to pass on.
+/// A program with one more command, if that isn't out of memory. The command is passed as a result,
+/// so that a chain of these calls has one error to pass on for each command.
 pub(crate) fn add_command<'a>(
     program: Command<'a>,
     command: Result<Command<'a>, AllocError>,
@@ -124,7 +124,7 @@ pub fn text_of<'a>(matches: &ArgMatches<'a>, id: &str) -> Option<&'a str>
     matches.get_str(id)
 }
 
-/// The texts of an argument that stands more than once.
+/// The texts of a repeated argument.
 pub fn texts_of<'a>(
     alloc: Global,
     matches: &ArgMatches<'a>,

@@ -1,4 +1,4 @@
-//! The commands as clap takes them: their names, their arguments and their help.
+//! The commands for clap: their names, their arguments and their help.
 
 ghost use Rattle.std.specs.Prelude.{◌≡◌, false, IfOk, codes};
 ghost use Rattle.clap.specs.Words.{app_of};

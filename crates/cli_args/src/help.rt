@@ -1,4 +1,4 @@
-//! What help says of arguments.
+//! The help texts of arguments.
 
 /// Of `FILE`.
 pub(crate) const FILE: &str = "the program, an ELF file";

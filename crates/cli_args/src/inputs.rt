@@ -8,7 +8,7 @@ use crate::line::LineFault;
 use crate::numbers::number_in;
 use std::alloc::Allocator;
 
-/// The number that one or more decimal digits write, if it is below 2^32.
+/// The number of one or more decimal digits, if it is below 2^32.
 pub fn read_input(digits: &[u8]) -> Option<u32>
     ensures { result ≡ input_of digits.now }
 {
@@ -16,7 +16,7 @@ pub fn read_input(digits: &[u8]) -> Option<u32>
     u32::try_from(number).ok()
 }
 
-/// How many bytes stand before the first comma.
+/// Number of bytes before the first comma.
 pub fn part_len(rest: &[u8]) -> usize
     ensures count { result ≡ position_or_len is_comma rest.now }
     ensures within { result ≤ length rest.now }
@@ -24,14 +24,15 @@ pub fn part_len(rest: &[u8]) -> usize
     rest.iter().take_while(|byte| **byte != b',').count()
 }
 
-/// Reads a number below 2^32 of one or more decimal digits. Leading zeros are allowed, a sign isn't.
+/// A number below 2^32 of one or more decimal digits. Leading zeros are allowed, a sign isn't.
 pub fn read_word(text: &str) -> Option<u32>
     ensures { result ≡ input_of text.now }
 {
     read_input(text.as_bytes())
 }
 
-/// Reads one or more decimal inputs below 2^32 with commas between them, as `7,9`. Leading zeros are allowed, a sign isn't.
+/// One or more decimal inputs below 2^32 with commas between them, as `7,9`. Leading zeros are
+/// allowed, a sign isn't.
 pub fn read_inputs<A: Allocator + Copy>(alloc: A, text: &str) -> Result<Vec<u32, A>, LineFault>
     ensures ok { IfOk result (λ inputs. inputs_of text.now ≡ Some inputs.items) }
     ensures err { IfErr result (RefusesInputs text.now) }

@@ -1,4 +1,4 @@
-//! The words of a command line as clap takes them, the order of `run`, and numbers and inputs.
+//! The arguments of all commands, the order of `run`, and numbers and inputs.
 #![tactic(auto)]
 
 pub use arguments::{is_set, text_of, texts_of};

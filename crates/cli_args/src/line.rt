@@ -1,4 +1,4 @@
-//! The command line as clap takes it.
+//! Matches the command line by clap.
 
 ghost use Rattle.std.specs.Prelude.{◌≡◌, map, IfOk, IfErr};
 ghost use Rattle.clap.specs.Words.{app_of, subcommand_of, subcommand_rows_of, rows_of, found_of, takes};
@@ -17,19 +17,20 @@ use std::alloc::{AllocError, Global};
 /// Why a command line gives no order.
 #[derive(Drop)]
 pub enum LineFault {
-    /// The line is refused, or asks for help or the version: what clap says of it.
+    /// The line is invalid, or asks for help or the version: clap's text.
     Told(clap::Error),
     /// No command is named.
     NoCommand,
-    /// The inputs aren't decimal numbers below 2^32 between commas.
+    /// The inputs aren't decimal numbers below 2^32 with commas between them.
     BadInputs,
-    /// The plan isn't pairs of a hart and the number of its choice, two decimal numbers below 2^32 each, between commas.
+    /// The plan isn't pairs of a hart and the number of its choice, two decimal numbers below 2^32
+    /// each, with commas between them.
     BadPlan,
     /// A number isn't written in decimal digits, or is too large.
     BadNumber,
-    /// No object of the library has this name.
+    /// The library has no object with this name.
     BadObject,
-    /// Memory was refused.
+    /// Out of memory.
     Memory,
 }
 
@@ -38,7 +39,7 @@ fn bare_program<'a>(alloc: Global) -> Command<'a>
     ensures { app_of result ≡ bare_app }
 {
     Command::new(alloc, "rvcons")
-        .version("0.1.0")
+        .version("1.0.0")
         .about("Shows what RISC-V machine code of several harts does under a named schedule")
         .after_help("`rvcons run --help` shows a command's options and an example; so for each.")
 }
@@ -60,8 +61,8 @@ fn program<'a>(alloc: Global, objects: &'a str) -> Result<Command<'a>, AllocErro
     add_command(program, trace_command(alloc))
 }
 
-/// What clap matches in the words, of which the first is the program's name. Clap refuses no line
-/// that it takes. Help lists the library's objects by `objects`, their names.
+/// Clap's matches for the words, the first of which is the program's name. Clap rejects no line
+/// that its matching function accepts. Help lists the library's objects by `objects`, their names.
 pub fn match_line<'a>(
     alloc: Global,
     words: &'a [&'a str],
@@ -82,9 +83,10 @@ pub fn match_line<'a>(
     }
 }
 
-/// The order of `run` that the words give, of which the first is the program's name; none where they
-/// give another command. Each text of it is the one that clap holds for these words, and clap
-/// refuses no line that it takes. Help lists the library's objects by `objects`, their names.
+/// The order of `run` that the words give, the first of which is the program's name; `None` if they
+/// give another command. Each text of it is the one in clap's matches for these words, and clap
+/// rejects no line that its matching function accepts. Help lists the library's objects by
+/// `objects`, their names.
 pub fn read_run<'a>(
     alloc: Global,
     words: &'a [&'a str],

@@ -5,10 +5,10 @@ ghost use Rattle.cli_args.specs.Numbers.{number_below};
 
 use crate::line::LineFault;
 
-// Numbers are below this.
+// Numbers are below this limit.
 const LIMIT: u128 = 1 << 64;
 
-/// The number below 2^64 that one or more decimal digits write. Leading zeros are allowed, a sign isn't.
+/// The number below 2^64 of one or more decimal digits. Leading zeros are allowed, a sign isn't.
 pub(crate) fn number_in(digits: &[u8]) -> Option<u64>
     ensures { result ≡ number_below (2 ^ 64) digits.now }
 {
@@ -29,7 +29,8 @@ pub(crate) fn number_in(digits: &[u8]) -> Option<u64>
     }
 }
 
-/// Reads a number of one or more decimal digits that is at most `most`. Leading zeros are allowed, a sign isn't.
+/// A number of one or more decimal digits that is at most `most`. Leading zeros are allowed, a sign
+/// isn't.
 pub fn read_number(text: &str, most: u64) -> Result<u64, LineFault>
     ensures ok { IfOk result (λ n. number_below (most + 1) text.now ≡ Some n) }
     ensures err { IfErr result (λ fault. fault ≡ LineFault.BadNumber) }

@@ -8,8 +8,8 @@ ghost use Rattle.cli_args.specs.RunLine.{run_names, IsRun};
 use crate::arguments::{is_set, text_of};
 use clap::ArgMatches;
 
-/// `run [--hex] FILE --inputs L --choices C [--rule K] [--must-exit]`: runs a program under a schedule, and prints each hart's end and,
-/// with a rule, its verdict.
+/// `run [--hex] FILE --inputs L --choices C [--rule K] [--must-exit]`: runs a program under a
+/// schedule, and prints each hart's end and, with a rule, its verdict.
 #[derive(Drop)]
 pub struct RunOrder<'a> {
     /// Whether the file has words in hexadecimal.
@@ -26,7 +26,7 @@ pub struct RunOrder<'a> {
     pub must_exit: bool,
 }
 
-/// The order that clap's matches hold.
+/// The order in clap's matches.
 pub fn run_order<'a>(matches: &ArgMatches<'a>) -> Option<RunOrder<'a>>
     ensures some { IfSome result (λ order. IsRun (rows_of (found_of matches.now)) order) }
     ensures none { result ≡ None → holds_all run_names (rows_of (found_of matches.now)) ≡ false }

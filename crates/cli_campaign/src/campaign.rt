@@ -1,4 +1,4 @@
-//! Doing `campaign`.
+//! Runs `campaign`.
 
 ghost use Rattle.std.specs.Prelude.{◌+◌, ◌-◌, ◌<◌, ◌≤◌, ◌^◌, IfOk};
 
@@ -22,16 +22,16 @@ use std::rt::Files;
 use std::thread::Threads;
 use std::{fs, io};
 
-// Tells a person how far a campaign is.
+// Shows a person how far a campaign is.
 #[derive(Drop)]
 struct Line<'a, R> {
     rt: &'a R,
     audience: Audience,
-    // How many seeds there are.
+    // Number of seeds.
     count: u64,
-    // What a bad seed is.
+    // What a bad seed is, as a sentence.
     bad: &'a str,
-    // Whether it was told anything.
+    // Whether anything was shown.
     is_shown: bool,
 }
 
@@ -39,14 +39,14 @@ impl<'a, R: Eprint> Progress for Line<'a, R> {
     fn seeds_done(&mut self, done: u64, bad: u64) {
         if self.audience == Audience::Person {
             self.is_shown = true;
-            // Where standard error is closed there is nobody to tell.
+            // If standard error is closed, nobody sees it.
             let (count, what) = (self.count, self.bad);
             let _ = eprint!(self.rt; "{WIPE}{done} of {count} seeds done, {bad} {what}");
         }
     }
 }
 
-// What a bad seed is, for a person.
+// What a bad seed is, as a sentence.
 fn what_is_bad(expect: Expect) -> &'static str {
     match (expect.rule, expect.exit) {
         (None, Exit::May) => "with a fault",
@@ -55,7 +55,7 @@ fn what_is_bad(expect: Expect) -> &'static str {
     }
 }
 
-// What an order expects of each run, or the status of a line that can't be read.
+// What an order expects of each run, or the status of an invalid line.
 fn read_expect<R: Print + Eprint>(rt: &R, order: &CampaignOrder) -> Result<Expect, Status> {
     match read_rule(order.rule) {
         Ok(rule) => Ok(Expect {
@@ -66,7 +66,7 @@ fn read_expect<R: Print + Eprint>(rt: &R, order: &CampaignOrder) -> Result<Expec
     }
 }
 
-// The campaign that an order asks for, or the status of a line that can't be read.
+// The campaign that an order asks for, or the status of an invalid line.
 fn read_campaign<R: Print + Eprint>(rt: &R, order: &CampaignOrder) -> Result<Campaign, Status>
     ensures { IfOk result (λ campaign. campaign.first + campaign.count ≤ 2 ^ 64) }
 {
@@ -98,7 +98,7 @@ fn read_campaign<R: Print + Eprint>(rt: &R, order: &CampaignOrder) -> Result<Cam
     })
 }
 
-// Whether harts may still run at the end.
+// What is expected of a hart that still runs at the end.
 fn exit_of(order: &CampaignOrder) -> Exit {
     if order.must_exit {
         Exit::Must
@@ -107,7 +107,7 @@ fn exit_of(order: &CampaignOrder) -> Exit {
     }
 }
 
-/// Runs a program under the schedule of each seed. Progress is told to a person.
+/// Runs a program under the schedule of each seed. A person sees the progress.
 pub fn run_campaign<R: Files + AllocGlobal + Print + Eprint + Threads + Sync>(
     rt: &R,
     audience: Audience,
@@ -136,7 +136,7 @@ pub fn run_campaign<R: Files + AllocGlobal + Print + Eprint + Threads + Sync>(
     )
 }
 
-// Runs a program under the schedule of each seed and reports it, with words for a person where one looks on.
+// Runs a program under the schedule of each seed and reports it, with hints for a person.
 fn report_campaign<R: Files + AllocGlobal + Print + Eprint + Threads + Sync, P: Source>(
     rt: &R,
     audience: Audience,
@@ -192,7 +192,7 @@ fn report_campaign<R: Files + AllocGlobal + Print + Eprint + Threads + Sync, P: 
     }
 }
 
-// Tells the commands by which the run of a seed is looked into.
+// Shows the commands for a closer look at the run of a seed.
 fn show_commands<R: Eprint>(
     rt: &R,
     order: &CampaignOrder,
@@ -222,7 +222,7 @@ fn show_commands<R: Eprint>(
     .ok()
 }
 
-// Tells how the first seed whose run has failed is looked into, and what its faults mean.
+// Shows how to look into the first seed whose run has failed, and explains its faults.
 fn explain_seed<R: Files + AllocGlobal + Eprint>(
     rt: &R,
     order: &CampaignOrder,

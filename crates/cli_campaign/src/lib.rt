@@ -1,4 +1,4 @@
-//! The command `campaign`.
+//! Runs `campaign`.
 #![tactic(auto)]
 
 pub use campaign::run_campaign;

@@ -1,11 +1,11 @@
-//! A campaign's sink, which keeps the line of progress apart from what is written.
+//! A campaign's sink, which keeps the progress line apart from the output.
 
 ghost use Rattle.std.specs.Prelude.{◌≡◌};
 
 use byte_io::{DeviceFault, Sink};
 use cli_report::{Audience, wipe_line};
 
-/// Passes bytes on, once the line of progress is wiped.
+/// Wipes the progress line, then passes bytes on.
 #[derive(Drop)]
 pub(crate) struct Watching<'a, R, K> {
     rt: &'a R,
@@ -14,7 +14,7 @@ pub(crate) struct Watching<'a, R, K> {
 }
 
 impl<'a, R, K> Watching<'a, R, K> {
-    /// Nothing has gone through.
+    /// Before the first write.
     pub(crate) fn new(rt: &'a R, audience: Audience, sink: K) -> Watching<'a, R, K>
         ensures { result.sink ≡ sink }
     {

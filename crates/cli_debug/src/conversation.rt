@@ -1,4 +1,4 @@
-//! The debugger at a terminal: a prompt, and beside each answer what a person looks for next.
+//! The debugger at a terminal: a prompt, and hints beside each answer.
 
 ghost use Rattle.std.specs.Prelude.{◌-◌, ◌^◌, ◌<◌};
 
@@ -15,7 +15,7 @@ use progress::Progress;
 use std::alloc::{AllocError, Global};
 use std::io::{self, Input};
 
-// What a session's program has, to name places in it.
+// The image and the symbols of a session's program, to name places in it.
 #[derive(Drop)]
 struct Names {
     image: Image<Global>,
@@ -29,7 +29,6 @@ enum Turn {
     Last,
 }
 
-// Shows a text.
 fn show(rt: &impl Print, text: &str) -> Result<(), DebugEngineFault> {
     match print!(rt; "{text}") {
         Ok(()) => Ok(()),
@@ -37,7 +36,7 @@ fn show(rt: &impl Print, text: &str) -> Result<(), DebugEngineFault> {
     }
 }
 
-/// Holds a session with a person: opens the run as for a program, and answers each line as it comes.
+/// Runs a session with a person: opens the run as for a program, and answers each line as it comes.
 pub(crate) fn talk_to_person<R: AllocGlobal + Print + Input, P: Source, C: Source>(
     rt: &R,
     inputs: &[u32],
@@ -60,7 +59,7 @@ pub(crate) fn talk_to_person<R: AllocGlobal + Print + Input, P: Source, C: Sourc
         Ok(run) => run,
         Err(fault) => return Err(DebugEngineFault::Refused(fault)),
     };
-    let mut debugger = match open_session(rt.alloc(), run, inputs, progress) {
+    let mut debugger = match open_session(rt.alloc(), run, progress) {
         Ok(debugger) => debugger,
         Err(AllocError) => return Err(DebugEngineFault::Refused(CommandFault::Memory)),
     };
@@ -90,7 +89,7 @@ fn answer_lines<R: AllocGlobal + Print + Input>(
         }
         let mut line = String::new(rt.alloc());
         match rt.read_line(&mut line) {
-            // The shell's prompt stands on a line of its own.
+            // The shell's prompt begins on a line of its own.
             Ok(0) => {
                 show(rt, "\n")?;
                 return Ok(Status::Done);
@@ -106,7 +105,7 @@ fn answer_lines<R: AllocGlobal + Print + Input>(
     Ok(Status::Done)
 }
 
-// Answers a line as for a program, and shows what a person looks for next.
+// Answers a line as for a program, and shows hints beside it.
 fn answer_line<R: AllocGlobal + Print>(
     rt: &R,
     debugger: &mut Debugger<Global>,
@@ -142,14 +141,14 @@ fn answer_line<R: AllocGlobal + Print>(
     }
 }
 
-// A limit that a command has passed.
+// A limit that a command has exceeded.
 #[derive(Clone, Copy)]
 enum Limit {
     Command { harts: usize },
     Choices { length: usize },
 }
 
-// Tells of a limit.
+// Reports a limit.
 fn tell(rt: &impl Print, limit: Limit) -> Result<(), DebugEngineFault> {
     let told = match limit {
         Limit::Command { harts } => println!(rt;
@@ -165,7 +164,7 @@ fn tell(rt: &impl Print, limit: Limit) -> Result<(), DebugEngineFault> {
     }
 }
 
-// Shows what is told of a line.
+// Shows the hints on a line.
 fn show_advice<R: AllocGlobal + Print>(
     rt: &R,
     names: &Names,
@@ -189,7 +188,7 @@ fn show_next<R: AllocGlobal + Print>(
     }
 }
 
-// Shows what a person looks for behind an answer: who changed a watched word, and what comes next.
+// Shows hints after an answer: the store that changed a watched word, and what comes next.
 fn show_behind<R: AllocGlobal + Print>(
     rt: &R,
     debugger: &mut Debugger<Global>,
@@ -211,7 +210,7 @@ fn show_behind<R: AllocGlobal + Print>(
     }
 }
 
-// Shows who changed a watched word.
+// Shows the store that changed a watched word.
 fn show_stored<R: AllocGlobal + Print>(
     rt: &R,
     debugger: &mut Debugger<Global>,

@@ -1,4 +1,4 @@
-//! Doing `debug`.
+//! Runs `debug`.
 
 use crate::conversation::talk_to_person;
 use byte_io::{ReaderSource, Status, WriterSink};
@@ -11,7 +11,7 @@ use progress::Progress;
 use std::io::{self, BufReader, Input};
 use std::rt::Files;
 
-// Tells a person how far the start of a session is.
+// Shows a person how far the start of a session is.
 #[derive(Drop)]
 struct Line<'a, R> {
     rt: &'a R,
@@ -23,7 +23,7 @@ impl<'a, R: Eprint> Progress for Line<'a, R> {
         if self.audience == Audience::Program {
             return;
         }
-        // Where standard error is closed there is nobody to tell.
+        // If standard error is closed, nobody sees it.
         let _ = eprint!(self.rt; "{WIPE}{done} of {all} choices done");
         if done == all {
             wipe_line(self.rt, self.audience);
@@ -31,8 +31,8 @@ impl<'a, R: Eprint> Progress for Line<'a, R> {
     }
 }
 
-/// Answers the commands of standard input, each as it comes. Both files are opened before either is read. How far a long
-/// start is, is told to a person, and the conversation with one has more than the answers.
+/// Answers the commands of standard input, each as it comes. Both files are opened before either is
+/// read. A person sees the progress of a long start, and hints beside the answers.
 pub fn converse<R: Files + AllocGlobal + Print + Eprint + Input>(
     rt: &R,
     audience: Audience,
@@ -73,7 +73,7 @@ pub fn converse<R: Files + AllocGlobal + Print + Eprint + Input>(
     }
 }
 
-// Says why the conversation wasn't held, or ended early.
+// Reports why the session didn't begin, or ended early.
 fn tell<R: Files + AllocGlobal + Eprint>(
     rt: &R,
     audience: Audience,
@@ -82,7 +82,7 @@ fn tell<R: Files + AllocGlobal + Eprint>(
     harts: usize,
 ) -> Status {
     let DebugEngineFault::Refused(why) = fault else {
-        // Where standard error is closed, the status alone tells.
+        // If standard error is closed, only the status shows it.
         let _ = eprintln!(rt; "rvcons: {fault}");
         return fault.status();
     };

@@ -1,4 +1,4 @@
-//! The command `debug`: a conversation with another program, or with a person at a terminal.
+//! Runs `debug`, for another program or for a person at a terminal.
 #![tactic(auto)]
 
 pub use debug::converse;

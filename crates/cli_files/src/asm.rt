@@ -1,4 +1,4 @@
-//! Doing `asm`.
+//! Runs `asm`.
 
 ghost use Rattle.std.specs.Prelude.{◌≡◌, ◌≢◌, ◌-◌, ◌^◌, ◌<◌, All, IfErr, IfOk, length, map};
 
@@ -35,7 +35,8 @@ fn open_sources<R: Files + AllocGlobal + Print + Eprint>(
     Ok(sources)
 }
 
-/// Assembles sources, all of which are opened before any is read. An output file is opened once its bytes are made.
+/// Assembles sources, all of which are opened before any is read. An output file is opened once its
+/// bytes are made.
 pub fn assemble<R: Files + AllocGlobal + Print + Eprint>(
     rt: &R,
     audience: Audience,
@@ -64,7 +65,7 @@ pub fn assemble<R: Files + AllocGlobal + Print + Eprint>(
     }
 }
 
-// Says that the output file can't be written, or that memory was refused for opening it.
+// Reports that the output file can't be written, or that opening it is out of memory.
 fn tell_unwritten<R: Eprint>(rt: &R, path: &str, fault: Option<OpenFault>) -> Status {
     match fault {
         Some(OpenFault::Memory) => out_of_memory(rt),
@@ -72,7 +73,7 @@ fn tell_unwritten<R: Eprint>(rt: &R, path: &str, fault: Option<OpenFault>) -> St
     }
 }
 
-// The path of the source at a place.
+// The path of the source at an index.
 fn path_at<'a>(order: &AsmOrder<'a>, place: usize) -> &'a str {
     match order.sources.get(place) {
         Some(path) => *path,
@@ -80,7 +81,7 @@ fn path_at<'a>(order: &AsmOrder<'a>, place: usize) -> &'a str {
     }
 }
 
-// Says why sources give nothing.
+// Reports why sources give no output.
 fn tell<R: Files + AllocGlobal + Eprint>(
     rt: &R,
     audience: Audience,
@@ -96,7 +97,7 @@ fn tell<R: Files + AllocGlobal + Eprint>(
             status
         }
         fault => {
-            // Where standard error is closed, the status alone tells.
+            // If standard error is closed, only the status shows it.
             let _ = eprintln!(rt; "rvcons: {fault}");
             if let AssemblyFault::Wrong(wrong) = fault {
                 explain_sources(rt, audience, order.sources.as_slice(), wrong);

@@ -1,4 +1,4 @@
-//! Doing `list` and `info`.
+//! Runs `list` and `info`.
 
 use byte_io::{ReaderSource, Status, WriterSink};
 use cli_orders::FileOrder;

@@ -1,4 +1,4 @@
-//! The commands that run no program: `asm`, `list`, `info` and `lib`.
+//! Runs `asm`, `list`, `info` and `lib`.
 #![tactic(auto)]
 
 pub use asm::assemble;

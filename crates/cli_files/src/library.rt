@@ -1,4 +1,4 @@
-//! Doing `lib`.
+//! Runs `lib`.
 
 use byte_io::{Status, WriterSink};
 use cli_objects::read_object;

@@ -1,4 +1,4 @@
-//! The file that `asm --out` writes, which is opened when its first bytes come.
+//! The output file of `asm --out`, which is opened at the first write.
 
 ghost use Rattle.std.specs.Prelude.{◌≡◌, None};
 
@@ -8,19 +8,19 @@ use std::io;
 use std::os::unix::fs::OpenOptionsExt;
 use std::rt::Files;
 
-// A program may be executed by whom the system's mask of rights lets, as a linker's file is.
+// Mode 0777 before umask, as a linker's output.
 const PROGRAM_MODE: u32 = 0o777;
 
 /// Why a file can't be opened.
 #[derive(Clone, Copy, PartialEq, Eq)]
 pub enum OpenFault {
-    /// The system refused it.
+    /// The system refused to open it.
     Refused,
-    /// Memory was refused.
+    /// Out of memory.
     Memory,
 }
 
-/// A program's file: nothing at its path changes before the first write. One that is new may be executed.
+/// A program's file. Nothing at its path changes before the first write. A new file is executable.
 #[derive(Drop)]
 pub struct ProgramFile<'a, R: Files> {
     rt: &'a R,
@@ -31,7 +31,7 @@ pub struct ProgramFile<'a, R: Files> {
 }
 
 impl<'a, R: Files> ProgramFile<'a, R> {
-    /// The file at a path, which isn't opened yet.
+    /// The file at a path, not yet opened.
     pub fn new(rt: &'a R, path: &'a str) -> ProgramFile<'a, R>
         ensures path { result.path.now ≡ path.now }
         ensures unopened { result.file ≡ None }
@@ -47,7 +47,7 @@ impl<'a, R: Files> ProgramFile<'a, R> {
         }
     }
 
-    /// Why it couldn't be opened, where a write has failed for that.
+    /// Why it couldn't be opened, if a write has failed for that reason.
     pub fn open_fault(&self) -> Option<OpenFault>
         ensures { result ≡ self.now.open_fault }
     {
@@ -55,7 +55,7 @@ impl<'a, R: Files> ProgramFile<'a, R> {
     }
 }
 
-// Opens a program's file, empty.
+// Opens a program's file, and truncates it.
 fn open_program<R: Files>(rt: &R, path: &str) -> Result<R::File, OpenFault> {
     let opened = OpenOptions::new()
         .write(true)
@@ -71,7 +71,7 @@ fn open_program<R: Files>(rt: &R, path: &str) -> Result<R::File, OpenFault> {
 }
 
 impl<'a, R: Files> Sink for ProgramFile<'a, R> {
-    // What stood at the path isn't known.
+    // What the file had before isn't known.
     ghost held = { λ _. None };
 
     ghost failures = { λ s. s.failures };

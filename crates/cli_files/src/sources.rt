@@ -1,11 +1,12 @@
-//! What a person at a terminal is told beside a fault of sources. They are read once more for it. Where that fails, or memory is refused, nothing is added.
+//! Hints for a person at a terminal on a fault of sources, which are read again for them. If that
+//! fails, or is out of memory, there are none.
 
 use asm_parse::Fault;
 use cli_report::{Audience, read_again, show};
 use hint_asm::{SourceText, asm_advice};
 use std::rt::Files;
 
-// The sources that can be read once more, as texts.
+// The sources as texts, if they can be read again.
 fn texts_of<R: Files + AllocGlobal>(rt: &R, paths: &[&str]) -> Option<Vec<String>> {
     let mut texts = Vec::new(rt.alloc());
     'paths: for path in paths {
@@ -28,7 +29,7 @@ pub(crate) fn explain_sources<R: Files + AllocGlobal + Eprint>(
     }
 }
 
-/// Explains that a source is no text.
+/// Explains that a source isn't text.
 pub(crate) fn explain_no_text(rt: &impl Eprint, audience: Audience, path: &str) {
     if audience == Audience::Person {
         let _ = eprintln!(rt;
@@ -37,7 +38,7 @@ pub(crate) fn explain_no_text(rt: &impl Eprint, audience: Audience, path: &str) 
     }
 }
 
-// Tells of a fault of sources, where they can be read once more.
+// The hints on a fault of sources, if they can be read again.
 fn told_of_sources<R: Files + AllocGlobal + Eprint>(
     rt: &R,
     paths: &[&str],

@@ -8,7 +8,7 @@ use Rattle.object_library.specs.declared.kind.Kind.{Kind}
 abbrev pub IsNoObject : List ℕ → Type 0
 IsNoObject name = (kind : Kind) → name ≡ name_of kind → ⊥
 
--- the rule is that of the object that is named, or none where none is named
+-- the rule is that of the named object, or none if none is named
 abbrev pub IsRule : Option (Bor (List ℕ)) → Option Kind → Type 0
 IsRule None rule = rule ≡ None
 IsRule (Some name) None = ⊥

@@ -7,7 +7,7 @@ ghost use Rattle.object_library.specs.Names.{name_of};
 use cli_args::LineFault;
 use object_library::Kind;
 
-/// The object of this name.
+/// The object with this name.
 pub fn read_object(text: &str) -> Result<Kind, LineFault>
     ensures ok { IfOk result (λ kind. text.now ≡ name_of kind) }
     ensures err { IfErr result (λ fault. fault ≡ LineFault.BadObject) }
@@ -19,7 +19,7 @@ pub fn read_object(text: &str) -> Result<Kind, LineFault>
     }
 }
 
-/// The object whose rule is judged, where one is named.
+/// The object whose rule is judged, if one is named.
 pub fn read_rule(text: Option<&str>) -> Result<Option<Kind>, LineFault>
     ensures ok { IfOk result (IsRule text.entry) }
     ensures err { IfErr result (λ fault. fault ≡ LineFault.BadObject) }

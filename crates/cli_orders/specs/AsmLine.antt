@@ -7,7 +7,7 @@ use Rattle.cli_orders.specs.declared.asm_line.AsmOrder.{AsmOrder}
 abbrev pub sources_name : Text
 sources_name = codes "IN"
 
--- each text of the order is the one that clap holds under its name
+-- each text of the order is the one in clap's matches under its name
 abbrev pub IsAsm : List Row → AsmOrder → Type 0
 IsAsm rows order =
     (first_of (codes "out") rows ≡ option_map (λ s. s.now) order.out)

@@ -5,11 +5,11 @@ use Rattle.clap.specs.Walk.{one_of}
 use Rattle.cli_args.specs.Arguments.{IsSet}
 use Rattle.cli_orders.specs.declared.campaign_line.CampaignOrder.{CampaignOrder}
 
--- the names of the texts that have to stand
+-- the names of the required texts
 abbrev pub campaign_names : List Text
 campaign_names = codes "FILE" ∷ codes "inputs" ∷ codes "first" ∷ codes "count" ∷ codes "steps" ∷ []
 
--- each text of the order is the one that clap holds under its name, and so are the flags
+-- each text of the order is the one in clap's matches under its name, and so are the flags
 abbrev pub IsCampaign : List Row → CampaignOrder → Type 0
 IsCampaign rows order =
     (first_of (codes "FILE") rows ≡ Some order.file.now)

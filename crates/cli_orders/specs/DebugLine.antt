@@ -3,11 +3,11 @@ use Rattle.std.specs.Prelude.{◌≡◌, List, [], ◌∷◌, Some, codes}
 use Rattle.clap.specs.Words.{Row, Text, first_of}
 use Rattle.cli_orders.specs.declared.debug_line.DebugOrder.{DebugOrder}
 
--- the names of the texts that have to stand
+-- the names of the required texts
 abbrev pub debug_names : List Text
 debug_names = codes "FILE" ∷ codes "inputs" ∷ codes "choices" ∷ []
 
--- each text of the order is the one that clap holds under its name
+-- each text of the order is the one in clap's matches under its name
 abbrev pub IsDebug : List Row → DebugOrder → Type 0
 IsDebug rows order =
     (first_of (codes "FILE") rows ≡ Some order.file.now)

@@ -16,7 +16,7 @@ use Rattle.cli_orders.specs.TraceLine.{trace_names, IsTrace}
 use Rattle.cli_orders.specs.declared.line.Order.{Order}
 use Rattle.cli_orders.specs.declared.line.Order.TheVariants as order
 
--- the order is the command that clap met, with its matches
+-- the order is the command that clap matched, with its texts
 abbrev pub IsOrder : Option (Text × List Row) → Order → Type 0
 IsOrder None order = ⊥
 IsOrder (Some found) (order.Asm o) = (found.0 ≡ codes "asm") × IsAsm found.1 o
@@ -32,7 +32,7 @@ IsOrder (Some found) (order.Schedule o) = (found.0 ≡ codes "schedule") × IsSc
 IsOrder (Some found) (order.Shrink o) = (found.0 ≡ codes "shrink") × IsShrink found.1 o
 IsOrder (Some found) (order.Trace o) = (found.0 ≡ codes "trace") × IsTrace found.1 o
 
--- the matches are of no command of plain texts, or lack a text of it
+-- the matches are of no command whose arguments are all texts, or lack a text of it
 pub record IsNoPlain (name : Text) (rows : List Row) : Type 0 where
   pub of_list : name ≡ codes "list" → holds_all file_names rows ≡ false
   pub of_info : name ≡ codes "info" → holds_all file_names rows ≡ false
@@ -46,7 +46,7 @@ pub record IsNoPlain (name : Text) (rows : List Row) : Type 0 where
   pub of_shrink : name ≡ codes "shrink" → holds_all shrink_names rows ≡ false
   pub of_trace : name ≡ codes "trace" → holds_all trace_names rows ≡ false
 
--- clap met no command, or one that lacks a text that has to stand
+-- clap matched no command, or one without a required text
 abbrev pub HasNoOrder : Option (Text × List Row) → Type 0
 HasNoOrder None = Unit {0}
 HasNoOrder (Some found) =

@@ -6,13 +6,13 @@ use Rattle.cli_args.specs.Inputs.{input_of, is_comma}
 use Rattle.cli_args.specs.declared.line.LineFault.{LineFault}
 use Rattle.cli_args.specs.declared.line.LineFault.TheVariants as faults
 
--- the pair of two numbers, if both are there
+-- the pair of two numbers, if both are valid
 abbrev pub pair_by : Option ℕ → Option ℕ → Option (ℕ × ℕ)
 pair_by None number = None
 pair_by (Some hart) None = None
 pair_by (Some hart) (Some number) = Some (hart, number)
 
--- the pair that two numbers below 2 ^ 32 write, with the first colon between them
+-- the pair of two numbers below 2 ^ 32, with the first colon between them
 abbrev pub pair_of : List ℕ → Option (ℕ × ℕ)
 pair_of part = pair_by (input_of (before_byte 58 part)) (input_of (drop 1 (from_byte 58 part)))
 
@@ -35,15 +35,15 @@ pairs_of_parts (part ∷ parts) = pair_then (pair_of part) (pairs_of_parts parts
 abbrev pub pairs_of : List ℕ → Option (List (ℕ × ℕ))
 pairs_of text = pairs_of_parts (slice_split is_comma text)
 
--- whether a pair stands in a list
+-- whether a list has a pair
 abbrev pub has_pair : List (ℕ × ℕ) → ℕ → ℕ → Bool
 has_pair pairs h n = list_any (λ p. p.0 == h && p.1 == n) pairs
 
--- the keys are those pairs, in whatever order
+-- the keys are those pairs, in any order
 abbrev pub Holds : List (ℕ × ℕ) → List (ℕ × ℕ) → Type 0
 Holds keys pairs = (h n : ℕ) → has_pair keys h n ≡ has_pair pairs h n
 
--- a text of no pairs is refused as such
+-- a text that isn't a plan is reported as such
 abbrev pub RefusesPlan : List ℕ → LineFault → Type 0
 RefusesPlan text (faults.Told error) = ⊥
 RefusesPlan text faults.NoCommand = ⊥

@@ -5,11 +5,11 @@ use Rattle.clap.specs.Walk.{one_of}
 use Rattle.cli_args.specs.Arguments.{IsSet}
 use Rattle.cli_orders.specs.declared.schedule_line.ScheduleOrder.{ScheduleOrder}
 
--- the names of the texts that have to stand
+-- the names of the required texts
 abbrev pub schedule_names : List Text
 schedule_names = codes "harts" ∷ codes "steps" ∷ []
 
--- each text of the order is the one that clap holds under its name, and so is the flag
+-- each text of the order is the one in clap's matches under its name, and so is the flag
 abbrev pub IsSchedule : List Row → ScheduleOrder → Type 0
 IsSchedule rows order =
     (first_of (codes "harts") rows ≡ Some order.harts.now)

@@ -5,11 +5,11 @@ use Rattle.clap.specs.Walk.{one_of}
 use Rattle.cli_args.specs.Arguments.{IsSet}
 use Rattle.cli_orders.specs.declared.shrink_line.ShrinkOrder.{ShrinkOrder}
 
--- the names of the texts that have to stand
+-- the names of the required texts
 abbrev pub shrink_names : List Text
 shrink_names = codes "FILE" ∷ codes "inputs" ∷ codes "choices" ∷ []
 
--- each text of the order is the one that clap holds under its name, and so is the flag
+-- each text of the order is the one in clap's matches under its name, and so is the flag
 abbrev pub IsShrink : List Row → ShrinkOrder → Type 0
 IsShrink rows order =
     (first_of (codes "FILE") rows ≡ Some order.file.now)

@@ -7,7 +7,7 @@ use Rattle.cli_orders.specs.declared.threads_line.Locks.{Locks}
 use Rattle.cli_orders.specs.declared.threads_line.Locks.TheVariants as locks
 use Rattle.cli_orders.specs.declared.threads_line.ThreadsOrder.{ThreadsOrder}
 
--- the names of the texts that have to stand
+-- the names of the required texts
 abbrev pub threads_names : List Text
 threads_names = codes "FILE" ∷ codes "inputs" ∷ codes "budget" ∷ []
 
@@ -16,7 +16,7 @@ abbrev pub are_banks : Locks → Bool
 are_banks locks.One = false
 are_banks locks.Banks = true
 
--- each text of the order is the one that clap holds under its name, and so is the flag
+-- each text of the order is the one in clap's matches under its name, and so is the flag
 abbrev pub IsThreads : List Row → ThreadsOrder → Type 0
 IsThreads rows order =
     (first_of (codes "FILE") rows ≡ Some order.file.now)

@@ -5,11 +5,11 @@ use Rattle.clap.specs.Walk.{one_of}
 use Rattle.cli_args.specs.Arguments.{IsSet}
 use Rattle.cli_orders.specs.declared.trace_line.TraceOrder.{TraceOrder}
 
--- the names of the texts that have to stand
+-- the names of the required texts
 abbrev pub trace_names : List Text
 trace_names = codes "FILE" ∷ codes "inputs" ∷ codes "choices" ∷ []
 
--- each text of the order is the one that clap holds under its name, and so are the flags
+-- each text of the order is the one in clap's matches under its name, and so are the flags
 abbrev pub IsTrace : List Row → TraceOrder → Type 0
 IsTrace rows order =
     IsSet (one_of (codes "hex") rows) order.hex

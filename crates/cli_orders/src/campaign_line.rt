@@ -8,9 +8,10 @@ ghost use Rattle.cli_orders.specs.CampaignLine.{campaign_names, IsCampaign};
 use clap::ArgMatches;
 use cli_args::{is_set, text_of};
 
-/// `campaign FILE --inputs L --first S --count C --steps N [--rule K] [--failures] [--summary] [--outcomes] [--schedule KIND]
-/// [--refusals never|one-in:N] [--must-exit]`: runs a program under a random schedule for each of C seeds from S on, and prints a line for each,
-/// with a rule also its verdict; or the lines of bad seeds alone, or how many seeds end in which way.
+/// `campaign FILE --inputs L --first S --count C --steps N [--rule K] [--failures] [--summary]
+/// [--outcomes] [--schedule KIND] [--refusals never|one-in:N] [--must-exit]`: runs a program under
+/// a random schedule for each of C seeds from S on, and prints a line for each, with a rule also
+/// its verdict; or the lines of bad seeds alone, or how many seeds end in which way.
 #[derive(Drop)]
 pub struct CampaignOrder<'a> {
     /// The program's path.
@@ -19,17 +20,17 @@ pub struct CampaignOrder<'a> {
     pub inputs: &'a str,
     /// The first seed.
     pub first: &'a str,
-    /// How many seeds.
+    /// The number of seeds.
     pub count: &'a str,
-    /// How many steps for each seed.
+    /// The number of steps for each seed.
     pub steps: &'a str,
     /// The name of the object whose rule is judged.
     pub rule: Option<&'a str>,
     /// Whether the lines of bad seeds alone are printed.
     pub failures: bool,
-    /// Whether it is printed how many seeds end in which way.
+    /// Whether only the number of seeds with each outcome is printed.
     pub summary: bool,
-    /// Whether ways of ending differ by the harts' results too.
+    /// Whether outcomes also differ by the harts' results.
     pub outcomes: bool,
     /// How the choices of a seed are drawn.
     pub draw: Option<&'a str>,
@@ -39,7 +40,7 @@ pub struct CampaignOrder<'a> {
     pub must_exit: bool,
 }
 
-/// The order that clap's matches hold.
+/// The order in clap's matches.
 pub(crate) fn campaign_order<'a>(matches: &ArgMatches<'a>) -> Option<CampaignOrder<'a>>
     ensures some { IfSome result (λ order. IsCampaign (rows_of (found_of matches.now)) order) }
     ensures none { result ≡ None

@@ -8,7 +8,8 @@ ghost use Rattle.cli_orders.specs.DebugLine.{debug_names, IsDebug};
 use clap::ArgMatches;
 use cli_args::text_of;
 
-/// `debug FILE --inputs L --choices C`: obeys commands of standard input, which go forward and back in a run.
+/// `debug FILE --inputs L --choices C`: does the commands of standard input, which move forward and
+/// back in a run.
 #[derive(Drop)]
 pub struct DebugOrder<'a> {
     /// The program's path.
@@ -19,7 +20,7 @@ pub struct DebugOrder<'a> {
     pub choices: &'a str,
 }
 
-/// The order that clap's matches hold.
+/// The order in clap's matches.
 pub(crate) fn debug_order<'a>(matches: &ArgMatches<'a>) -> Option<DebugOrder<'a>>
     ensures some { IfSome result (λ order. IsDebug (rows_of (found_of matches.now)) order) }
     ensures none { result ≡ None → holds_all debug_names (rows_of (found_of matches.now)) ≡ false }

@@ -8,14 +8,15 @@ ghost use Rattle.cli_orders.specs.FileLine.{file_names, IsFile};
 use clap::ArgMatches;
 use cli_args::text_of;
 
-/// `list FILE` or `info FILE`: lists the executable segments of an ELF file, or shows its entry, segments and symbols.
+/// `list FILE` or `info FILE`: lists the executable segments of an ELF file, or shows its entry,
+/// segments and symbols.
 #[derive(Drop)]
 pub struct FileOrder<'a> {
     /// The file's path.
     pub file: &'a str,
 }
 
-/// The order that clap's matches hold.
+/// The order in clap's matches.
 pub(crate) fn file_order<'a>(matches: &ArgMatches<'a>) -> Option<FileOrder<'a>>
     ensures some { IfSome result (λ order. IsFile (rows_of (found_of matches.now)) order) }
     ensures none { result ≡ None → holds_all file_names (rows_of (found_of matches.now)) ≡ false }

@@ -1,4 +1,4 @@
-//! The words of a command line as an order, for all commands.
+//! Parses a command line to an order, for all commands.
 #![tactic(auto)]
 
 pub use asm_line::AsmOrder;

@@ -15,7 +15,7 @@ pub struct LibOrder<'a> {
     pub object: &'a str,
 }
 
-/// The order that clap's matches hold.
+/// The order in clap's matches.
 pub(crate) fn lib_order<'a>(matches: &ArgMatches<'a>) -> Option<LibOrder<'a>>
     ensures some { IfSome result (λ order. IsLib (rows_of (found_of matches.now)) order) }
     ensures none { result ≡ None → holds_all lib_names (rows_of (found_of matches.now)) ≡ false }

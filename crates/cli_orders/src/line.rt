@@ -1,4 +1,4 @@
-//! The command line as an order.
+//! Parses the command line to an order.
 
 ghost use Rattle.std.specs.Prelude.{◌≡◌, Some, None, map, IfOk, IfErr, IfSome};
 ghost use Rattle.clap.specs.Words.{subcommand_of, subcommand_rows_of, rows_of, found_of, takes};
@@ -48,7 +48,7 @@ pub enum Order<'a> {
     Trace(TraceOrder<'a>),
 }
 
-// The order of a command of plain texts, by its name and its matches.
+// The order of a command whose arguments are all texts, by its name and its matches.
 fn plain_order<'a>(name: &str, found: &ArgMatches<'a>) -> Option<Order<'a>>
     ensures some { IfSome result (λ order.
         IsOrder (Some (name.now, rows_of (found_of found.now))) order) }
@@ -70,7 +70,7 @@ fn plain_order<'a>(name: &str, found: &ArgMatches<'a>) -> Option<Order<'a>>
     }
 }
 
-// The order that clap's matches hold.
+// The order in clap's matches.
 fn order_of<'a>(alloc: Global, matches: &ArgMatches<'a>) -> Result<Option<Order<'a>>, AllocError>
     ensures some { IfOk result (λ found.
         IfSome found (λ order. IsOrder (subcommand_rows_of matches.now) order)) }
@@ -89,8 +89,9 @@ fn order_of<'a>(alloc: Global, matches: &ArgMatches<'a>) -> Result<Option<Order<
     Ok(plain_order(name, found))
 }
 
-/// The order that the words give, of which the first is the program's name. Each text of it is the one that clap holds
-/// for these words, and clap refuses no line that it takes. Help lists the library's objects by `objects`, their names.
+/// The order that the words give, the first of which is the program's name. Each text of it is the
+/// one in clap's matches for these words, and clap rejects no line that its matching function
+/// accepts. Help lists the library's objects by `objects`, their names.
 pub fn read_line<'a>(
     alloc: Global,
     words: &'a [&'a str],

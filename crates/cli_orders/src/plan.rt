@@ -8,7 +8,7 @@ use std::alloc::{AllocError, Allocator};
 use std::collections::BTreeSet;
 use text_items::split_at_byte;
 
-// What stands behind the first byte.
+// All bytes but the first.
 fn behind_first(rest: &[u8]) -> &[u8]
     ensures { result.now ≡ drop 1 rest.now }
 {
@@ -18,7 +18,7 @@ fn behind_first(rest: &[u8]) -> &[u8]
     }
 }
 
-// The pair that two numbers below 2^32 with a colon between them write.
+// The pair of two numbers below 2^32 with a colon between them.
 fn read_pair(part: &[u8]) -> Option<(u32, u32)>
     ensures { result ≡ pair_of part.now }
 {
@@ -42,8 +42,9 @@ fn add_pair<A: Allocator + Copy>(
     Ok(())
 }
 
-/// Reads one or more pairs of a hart and the number of one of its choices with commas between them, as `0:12,1:3`. The numbers are
-/// decimal and below 2^32; leading zeros are allowed, a sign isn't. A pair may stand again, and may name no hart.
+/// Reads one or more pairs of a hart and the number of one of its choices, with commas between
+/// them, as `0:12,1:3`. The numbers are decimal and below 2^32; leading zeros are allowed, a sign
+/// isn't. A pair may be repeated, and may name a hart that doesn't exist.
 pub fn read_plan<A: Allocator + Copy>(
     alloc: A,
     text: &str,

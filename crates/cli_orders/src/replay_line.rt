@@ -8,7 +8,8 @@ ghost use Rattle.cli_orders.specs.ReplayLine.{replay_names, IsReplay};
 use clap::ArgMatches;
 use cli_args::text_of;
 
-/// `replay FILE --inputs L --history H [--rule K]`: runs a program under a history, and prints what the run that left it printed.
+/// `replay FILE --inputs L --history H [--rule K]`: runs a program under a history, and prints what
+/// the run with that history printed.
 #[derive(Drop)]
 pub struct ReplayOrder<'a> {
     /// The program's path.
@@ -21,7 +22,7 @@ pub struct ReplayOrder<'a> {
     pub rule: Option<&'a str>,
 }
 
-/// The order that clap's matches hold.
+/// The order in clap's matches.
 pub(crate) fn replay_order<'a>(matches: &ArgMatches<'a>) -> Option<ReplayOrder<'a>>
     ensures some { IfSome result (λ order. IsReplay (rows_of (found_of matches.now)) order) }
     ensures none { result ≡ None

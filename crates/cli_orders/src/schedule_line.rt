@@ -8,31 +8,32 @@ ghost use Rattle.cli_orders.specs.ScheduleLine.{schedule_names, IsSchedule};
 use clap::ArgMatches;
 use cli_args::{is_set, text_of};
 
-/// `schedule --harts N --steps M [--seed S] [--turns] [--only H] [--schedule KIND] [--refusals never|one-in:N] [--inputs L] [FILE]`: prints
-/// the choice text of a seed, of turns, or of one hart alone.
+/// `schedule --harts N --steps M [--seed S] [--turns] [--only H] [--schedule KIND] [--refusals
+/// never|one-in:N] [--inputs L] [FILE]`: prints the choice text of a seed, of turns, or of one hart
+/// alone.
 #[derive(Drop)]
 pub struct ScheduleOrder<'a> {
-    /// How many harts there are.
+    /// The number of harts.
     pub harts: &'a str,
-    /// How many choices are printed.
+    /// The number of choices.
     pub steps: &'a str,
-    /// The seed that the choices are drawn from.
+    /// The seed of the choices.
     pub seed: Option<&'a str>,
     /// Whether the harts take turns.
     pub turns: bool,
     /// The hart that takes all steps.
     pub only: Option<&'a str>,
-    /// How the choices of the seed are drawn.
+    /// How the seed draws its choices.
     pub draw: Option<&'a str>,
     /// How often they refuse a store-conditional.
     pub refusals: Option<&'a str>,
-    /// The harts' inputs, where the choices are those of a run.
+    /// The harts' inputs, if the choices are those of a run.
     pub inputs: Option<&'a str>,
     /// The path of that run's program.
     pub file: Option<&'a str>,
 }
 
-/// The order that clap's matches hold.
+/// The order in clap's matches.
 pub(crate) fn schedule_order<'a>(matches: &ArgMatches<'a>) -> Option<ScheduleOrder<'a>>
     ensures some { IfSome result (λ order. IsSchedule (rows_of (found_of matches.now)) order) }
     ensures none { result ≡ None

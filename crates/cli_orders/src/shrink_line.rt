@@ -8,8 +8,8 @@ ghost use Rattle.cli_orders.specs.ShrinkLine.{shrink_names, IsShrink};
 use clap::ArgMatches;
 use cli_args::{is_set, text_of};
 
-/// `shrink FILE --inputs L --choices C [--rule K] [--must-exit]`: prints a minimal choice text under which a program fails as it does
-/// under the given one.
+/// `shrink FILE --inputs L --choices C [--rule K] [--must-exit]`: prints a minimal choice text
+/// under which a program fails as it does under the given one.
 #[derive(Drop)]
 pub struct ShrinkOrder<'a> {
     /// The program's path.
@@ -24,7 +24,7 @@ pub struct ShrinkOrder<'a> {
     pub must_exit: bool,
 }
 
-/// The order that clap's matches hold.
+/// The order in clap's matches.
 pub(crate) fn shrink_order<'a>(matches: &ArgMatches<'a>) -> Option<ShrinkOrder<'a>>
     ensures some { IfSome result (λ order. IsShrink (rows_of (found_of matches.now)) order) }
     ensures none { result ≡ None

@@ -9,7 +9,7 @@ ghost use Rattle.cli_orders.specs.ThreadsLine.{are_banks, threads_names, IsThrea
 use clap::ArgMatches;
 use cli_args::{is_set, text_of};
 
-/// What harts lock for a step on what they share.
+/// What harts lock for a step on shared state.
 #[derive(Clone, Copy, PartialEq, Eq)]
 pub enum Locks {
     /// One lock for all memory.
@@ -18,19 +18,20 @@ pub enum Locks {
     Banks,
 }
 
-/// `threads FILE --inputs L --budget N [--refuse P] [--history OUT] [--rule K] [--banked]`: runs each hart in a thread of its own,
-/// writes the history of what they did, and prints each hart's end and, with a rule, its verdict.
+/// `threads FILE --inputs L --budget N [--refuse P] [--history OUT] [--rule K] [--banked]`: runs
+/// each hart in a thread of its own, writes the history of the run, and prints each hart's end and,
+/// with a rule, its verdict.
 #[derive(Drop)]
 pub struct ThreadsOrder<'a> {
     /// The program's path.
     pub file: &'a str,
     /// The harts' inputs.
     pub inputs: &'a str,
-    /// How often each hart is chosen at most.
+    /// The greatest number of choices of each hart.
     pub budget: &'a str,
     /// The pairs of harts and their choices whose store-conditionals are refused.
     pub refuse: Option<&'a str>,
-    /// The path of the history that is written.
+    /// The path of the history to write.
     pub history: Option<&'a str>,
     /// The name of the object whose rule is judged.
     pub rule: Option<&'a str>,
@@ -49,7 +50,7 @@ fn locks_of<'a>(matches: &ArgMatches<'a>) -> Locks
     }
 }
 
-/// The order that clap's matches hold.
+/// The order in clap's matches.
 pub(crate) fn threads_order<'a>(matches: &ArgMatches<'a>) -> Option<ThreadsOrder<'a>>
     ensures some { IfSome result (λ order. IsThreads (rows_of (found_of matches.now)) order) }
     ensures none { result ≡ None

@@ -8,7 +8,8 @@ ghost use Rattle.cli_orders.specs.TraceLine.{trace_names, IsTrace};
 use clap::ArgMatches;
 use cli_args::{is_set, text_of};
 
-/// `trace [--hex] FILE --inputs L --choices C [--from A] [--to B] [--table]`: prints what each choice of a run did.
+/// `trace [--hex] FILE --inputs L --choices C [--from A] [--to B] [--table]`: prints what each
+/// choice of a run did.
 #[derive(Drop)]
 pub struct TraceOrder<'a> {
     /// Whether the file has words in hexadecimal.
@@ -19,15 +20,15 @@ pub struct TraceOrder<'a> {
     pub inputs: &'a str,
     /// The choice text's path.
     pub choices: &'a str,
-    /// The place of the first choice that is told, counted from 1.
+    /// The number of the first traced choice, counted from 1.
     pub from: Option<&'a str>,
-    /// The place of the last choice that is told.
+    /// The number of the last traced choice.
     pub to: Option<&'a str>,
-    /// Whether a table is printed, and not lines of JSON.
+    /// Whether a table is printed instead of lines of JSON.
     pub table: bool,
 }
 
-/// The order that clap's matches hold.
+/// The order in clap's matches.
 pub(crate) fn trace_order<'a>(matches: &ArgMatches<'a>) -> Option<TraceOrder<'a>>
     ensures some { IfSome result (λ order. IsTrace (rows_of (found_of matches.now)) order) }
     ensures none { result ≡ None → holds_all trace_names (rows_of (found_of matches.now)) ≡ false }

@@ -7,7 +7,8 @@ use byte_io::Status;
 use std::io;
 use std::rt::Env;
 
-/// The words, of which the first is the program's name; or the status where they are no text, or memory is refused, which is told.
+/// The words, the first of which is the program's name; or the status if they aren't UTF-8, or out
+/// of memory, which is reported.
 pub fn read_arguments<R: Env + AllocGlobal + Eprint>(rt: &R) -> Result<Vec<String>, Status>
     ensures { IfErr result (λ status. status ≢ Status.Done) }
 {

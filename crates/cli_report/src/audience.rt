@@ -1,9 +1,9 @@
-//! Who reads standard error.
+//! The reader of standard error.
 
-/// Who reads standard error. Progress is told to a person alone.
+/// The reader of standard error. Progress and hints are for a person alone.
 #[derive(Clone, Copy, PartialEq, Eq)]
 pub enum Audience {
-    /// Somebody at a terminal.
+    /// A person at a terminal.
     Person,
     /// A file, or another program.
     Program,

@@ -1,5 +1,5 @@
-//! What a person at a terminal is told beside a fault: what is wrong, where, and what to write instead. Files are read once more for it. Where that
-//! fails, or memory is refused, nothing is added.
+//! Hints for a person at a terminal beside a fault: what is wrong, where, and what to write
+//! instead. Files are read again for them. If that fails, or is out of memory, there are none.
 
 use crate::audience::Audience;
 use clap::error::ErrorKind;
@@ -10,19 +10,19 @@ use program_open::{CommandFault, ProgramForm};
 use std::rt::Files;
 use std::{fs, io};
 
-/// The files of a run, as its command line names them, and its harts.
+/// The files of a run, as the command line names them, and the number of its harts.
 #[derive(Clone, Copy)]
 pub struct RunFiles<'a> {
-    /// The program's file, and its form.
+    /// The program's file and its form.
     pub program: &'a str,
     pub form: ProgramForm,
-    /// The file of the choices, or of the history that stands for them, where there is one.
+    /// The file of the choices or of the history, if there is one.
     pub choices: &'a str,
-    /// How many inputs there are.
+    /// Number of inputs.
     pub harts: usize,
 }
 
-/// The bytes of a plain file.
+/// The bytes of a file, if it is a regular one.
 pub fn read_again<R: Files + AllocGlobal>(rt: &R, path: &str) -> Option<Vec<u8>> {
     let about = fs::metadata(rt, path).ok()?;
     if !about.is_file() {
@@ -33,7 +33,7 @@ pub fn read_again<R: Files + AllocGlobal>(rt: &R, path: &str) -> Option<Vec<u8>>
 
 /// Shows whole lines.
 pub fn show(rt: &impl Eprint, text: &str) {
-    // Where standard error is closed there is nobody to tell.
+    // If standard error is closed, nobody sees it.
     let _ = eprint!(rt; "{text}");
 }
 
@@ -82,7 +82,7 @@ pub fn explain_run<R: Files + AllocGlobal + Eprint>(
     }
 }
 
-// Tells of a file that is no program.
+// The hints on a file that isn't a program.
 fn told_of_program<R: Files + AllocGlobal + Eprint>(
     rt: &R,
     files: RunFiles<'_>,
@@ -111,7 +111,7 @@ fn told_of_program<R: Files + AllocGlobal + Eprint>(
     }
 }
 
-// Tells of an item that is no choice.
+// The hints on an item that isn't a choice.
 fn told_of_choice<R: Files + AllocGlobal + Eprint>(
     rt: &R,
     files: RunFiles<'_>,
@@ -128,7 +128,7 @@ fn told_of_choice<R: Files + AllocGlobal + Eprint>(
     .ok()
 }
 
-// Tells of an item that names a hart that isn't there.
+// The hints on an item that names a hart that doesn't exist.
 fn told_of_hart<R: Files + AllocGlobal + Eprint>(
     rt: &R,
     path: &str,
@@ -143,7 +143,7 @@ fn told_of_hart<R: Files + AllocGlobal + Eprint>(
     ).ok()
 }
 
-// Tells of an item that is no entry.
+// The hints on an item that isn't an entry.
 fn told_of_entry<R: Files + AllocGlobal + Eprint>(rt: &R, path: &str, offset: usize) -> Option<()> {
     let bytes = read_again(rt, path)?;
     let item = item_at(&bytes, offset);

@@ -1,4 +1,4 @@
-//! The files of a run: how they are opened, and why a command that reads them gives no answer.
+//! Opens the files of a run, and reports why a command that reads them gives no answer.
 
 ghost use Rattle.std.specs.Prelude.{◌≡◌, ◌≢◌, IfErr, IfOk};
 ghost use Rattle.program_open.specs.CommandFaults.{status_of_fault};
@@ -11,7 +11,7 @@ use program_open::{CommandFault, Input};
 use std::fs;
 use std::rt::Files;
 
-/// Opens a program and the text beside it, or says which can't be opened. Neither is read before
+/// Opens a program and the text beside it, or reports which can't be opened. Neither is read before
 /// both are open.
 pub fn open_both<R: Files + AllocGlobal + Eprint>(
     rt: &R,
@@ -36,7 +36,7 @@ pub fn open_both<R: Files + AllocGlobal + Eprint>(
     Ok((ReaderSource::new(first), ReaderSource::new(second)))
 }
 
-/// Says why a command gives no answer, and explains it to a person.
+/// Reports why a command gives no answer, and explains it to a person.
 pub fn say_why<R: Files + AllocGlobal + Eprint>(
     rt: &R,
     audience: Audience,

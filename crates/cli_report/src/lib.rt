@@ -1,4 +1,4 @@
-//! What the program says on standard error: faults, how far a long command is, and what a person at a terminal is told beside them; and the words of its command line.
+//! Opens a run's files, and reports faults and progress on standard error.
 #![tactic(auto)]
 
 pub use arguments::read_arguments;

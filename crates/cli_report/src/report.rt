@@ -1,4 +1,4 @@
-//! What the program says on standard error.
+//! Reports faults on standard error.
 
 ghost use Rattle.std.specs.Prelude.{◌≡◌, ◌≢◌};
 ghost use Rattle.program_open.specs.CommandFaults.{status_of_fault};
@@ -11,23 +11,23 @@ use object_library::KIND_NAMES;
 use program_open::CommandFault;
 use std::io;
 
-/// Memory was refused.
+/// Reports that memory is exhausted.
 pub fn out_of_memory(rt: &impl Eprint) -> Status
     ensures { result ≡ Status.NoMemory }
 {
     say(rt, CommandFault::Memory)
 }
 
-/// Says why a command gives no answer.
+/// Reports why a command gives no answer.
 pub fn say(rt: &impl Eprint, fault: CommandFault) -> Status
     ensures { result ≡ status_of_fault fault }
 {
-    // Where standard error is closed, the status alone tells.
+    // If standard error is closed, only the status shows it.
     let _ = eprintln!(rt; "rvcons: {fault}");
     fault.status()
 }
 
-/// A file can't be opened or read.
+/// Reports that a file can't be opened or read.
 pub fn cannot_read(rt: &impl Eprint, path: &str) -> Status
     ensures { result ≡ Status.Refused }
 {
@@ -35,7 +35,7 @@ pub fn cannot_read(rt: &impl Eprint, path: &str) -> Status
     Status::Refused
 }
 
-/// A file can't be written.
+/// Reports that a file can't be written.
 pub fn cannot_write(rt: &impl Eprint, path: &str) -> Status
     ensures { result ≡ Status.Refused }
 {
@@ -43,7 +43,8 @@ pub fn cannot_write(rt: &impl Eprint, path: &str) -> Status
     Status::Refused
 }
 
-/// A file can't be opened, for want of memory or for another reason, which a person is told.
+/// Reports that a file can't be opened: out of memory, or another reason, which is explained to a
+/// person.
 pub fn cannot_open(rt: &impl Eprint, audience: Audience, path: &str, error: &io::Error) -> Status
     ensures { result ≢ Status.Done }
 {
@@ -55,7 +56,7 @@ pub fn cannot_open(rt: &impl Eprint, audience: Audience, path: &str, error: &io:
     status
 }
 
-/// Says why a command line gives no order, or prints the help or the version that it asks for.
+/// Reports why a command line gives no order, or prints the help or the version that it asks for.
 pub fn refuse(rt: &(impl Print + Eprint), fault: &LineFault) -> Status {
     match fault {
         LineFault::Told(error) => {
@@ -89,7 +90,7 @@ pub fn refuse(rt: &(impl Print + Eprint), fault: &LineFault) -> Status {
     }
 }
 
-/// The command line is wrong.
+/// Reports that the command line is invalid.
 pub fn bad_line(rt: &impl Eprint, why: &str) -> Status
     ensures { result ≡ Status.BadLine }
 {
@@ -97,7 +98,7 @@ pub fn bad_line(rt: &impl Eprint, why: &str) -> Status
     Status::BadLine
 }
 
-/// An object that the command line names is none of the library's.
+// Reports that an object of the command line isn't one of the library's.
 fn bad_object(rt: &impl Eprint) -> Status
     ensures { result ≡ Status.BadLine }
 {

@@ -1,4 +1,4 @@
-//! The command `run`.
+//! Runs the command `run`.
 #![tactic(auto)]
 
 pub use run::run_schedule;

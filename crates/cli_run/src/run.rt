@@ -1,4 +1,4 @@
-//! Doing `run`.
+//! Runs `run`.
 
 use byte_io::{Status, WriterSink};
 use cli_args::{RunOrder, read_inputs};
@@ -57,7 +57,6 @@ pub fn run_schedule<R: Files + AllocGlobal + Print + Eprint>(
     }
 }
 
-// The form of the program.
 fn form_of(order: &RunOrder) -> ProgramForm {
     if order.hex {
         ProgramForm::Hex
@@ -66,7 +65,7 @@ fn form_of(order: &RunOrder) -> ProgramForm {
     }
 }
 
-// Whether a hart may still run at the end.
+// What is expected of a hart that still runs at the end.
 fn exit_of(order: &RunOrder) -> Exit {
     if order.must_exit {
         Exit::Must
@@ -75,7 +74,7 @@ fn exit_of(order: &RunOrder) -> Exit {
     }
 }
 
-// Tells what the faults mean with which the run ended, where its files can be read once more.
+// Explains the faults with which the run ended, if its files can be read again.
 fn explain_faults<R: Files + AllocGlobal + Eprint>(
     rt: &R,
     order: &RunOrder,

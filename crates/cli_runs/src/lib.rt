@@ -1,4 +1,4 @@
-//! The commands about one run of a program beside `run`: `replay`, `threads`, `trace`, `shrink`, and `schedule`, which makes choices for one.
+//! Runs `replay`, `threads`, `trace`, `shrink` and `schedule`.
 #![tactic(auto)]
 
 pub use replay::replay_history;

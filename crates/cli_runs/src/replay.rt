@@ -1,4 +1,4 @@
-//! Doing `replay`.
+//! Runs `replay`.
 
 use byte_io::{Status, WriterSink};
 use cli_args::read_inputs;
@@ -53,7 +53,7 @@ pub fn replay_history<R: Files + AllocGlobal + Print + Eprint>(
     }
 }
 
-// Tells what the faults mean with which the replay ended, where its files can be read once more.
+// Explains the faults with which the replay ended, if its files can be read again.
 fn explain_faults<R: Files + AllocGlobal + Eprint>(
     rt: &R,
     order: &ReplayOrder,

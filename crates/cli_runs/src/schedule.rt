@@ -1,4 +1,4 @@
-//! Doing `schedule`.
+//! Runs `schedule`.
 
 ghost use Rattle.std.specs.Prelude.{◌≡◌};
 
@@ -27,7 +27,7 @@ const OF_A_RUN: &str =
 const MEAN: &str =
     "--schedule bursts:MEAN takes a decimal number from 1 to 2147483648, as bursts:100";
 
-// What is said of a line that says how a seed draws, and names no seed.
+// What is wrong with a line that has options for a seed's draw, but no seed.
 fn why_no_seed(order: &ScheduleOrder) -> Option<&'static str> {
     match (order.seed, order.draw, order.refusals) {
         (None, Some(_), _) => Some(
@@ -40,7 +40,7 @@ fn why_no_seed(order: &ScheduleOrder) -> Option<&'static str> {
     }
 }
 
-// How a seed draws, where the order of the harts is to be looked at last: even where it is none.
+// How a seed draws. A bad mean of bursts is not reported here, but after the refusals.
 fn read_most_of_draw<R: Eprint>(rt: &R, order: &ScheduleOrder) -> Result<Draw, Status> {
     let said = read_order(order.draw);
     if matches!(said, Err(OrderFault::Unknown | OrderFault::BadDepth)) {
@@ -55,7 +55,7 @@ fn read_most_of_draw<R: Eprint>(rt: &R, order: &ScheduleOrder) -> Result<Draw, S
     })
 }
 
-// The plan of a schedule that is the same in each run, or the status of a line that asks for none.
+// The plan of a schedule that is the same in each run, or the status of an invalid line.
 fn read_plan<R: Eprint>(rt: &R, order: &ScheduleOrder) -> Result<Plan, Status> {
     let draw = read_most_of_draw(rt, order)?;
     if let Some(why) = why_no_seed(order) {
@@ -83,16 +83,16 @@ fn read_plan<R: Eprint>(rt: &R, order: &ScheduleOrder) -> Result<Plan, Status> {
     Ok(plan)
 }
 
-// Says why there is no plan.
+// Reports why there is no plan.
 fn tell_plan(rt: &impl Eprint, fault: PlanFault) -> Status
     ensures { result ≡ Status.BadLine }
 {
-    // Where standard error is closed, the status alone tells.
+    // If standard error is closed, only the status shows it.
     let _ = eprintln!(rt; "rvcons: {fault}");
     Status::BadLine
 }
 
-// A run that choices are of.
+// The run whose choices are drawn.
 #[derive(Clone, Copy, Drop)]
 struct RunOrder<'a> {
     draw: Draw,
@@ -101,7 +101,7 @@ struct RunOrder<'a> {
     file: &'a str,
 }
 
-// Whether choices that are drawn so are those of a run.
+// Whether choices drawn in this way belong to a run.
 fn is_of_a_run(draw: Option<&str>) -> bool {
     matches!(
         read_order(draw),
@@ -109,7 +109,7 @@ fn is_of_a_run(draw: Option<&str>) -> bool {
     )
 }
 
-// The run that the choices of an order are of: there is one just by priorities, of a seed alone, with
+// The run whose choices an order asks for. There is one only by priorities, with a seed alone,
 // inputs and a program.
 fn run_of<'a, R: Eprint>(
     rt: &R,

@@ -1,4 +1,4 @@
-//! Doing `shrink`.
+//! Runs `shrink`.
 
 use byte_io::{Status, WriterSink};
 use cli_args::read_inputs;
@@ -12,7 +12,7 @@ use shrink_list::ChoicesLeft;
 use std::io;
 use std::rt::Files;
 
-// Tells a person how many choices are left.
+// Shows a person the number of choices left.
 #[derive(Drop)]
 struct Line<'a, R> {
     rt: &'a R,
@@ -22,21 +22,21 @@ struct Line<'a, R> {
 impl<'a, R: Eprint> ChoicesLeft for Line<'a, R> {
     fn choices_left(&mut self, left: usize) {
         if self.audience == Audience::Person {
-            // Where standard error is closed there is nobody to tell.
+            // If standard error is closed, nobody sees it.
             let _ = eprint!(self.rt; "{WIPE}{left} choices left");
         }
     }
 
     fn choices_needed(&mut self, needed: usize) {
         if self.audience == Audience::Person {
-            // The choice text stands on a line of its own.
+            // The choice text begins on a line of its own.
             let _ = eprintln!(self.rt; "{WIPE}{needed} choices needed");
         }
     }
 }
 
-/// Prints a minimal choice text under which a program fails as it does under the given one. Both files are opened before either is
-/// read. How many choices are left is told to a person.
+/// Prints a minimal choice text under which a program fails as it does under the given one. Both
+/// files are opened before either is read. A person sees the number of choices left.
 pub fn shrink_schedule<R: Files + AllocGlobal + Print + Eprint>(
     rt: &R,
     audience: Audience,
@@ -73,7 +73,7 @@ pub fn shrink_schedule<R: Files + AllocGlobal + Print + Eprint>(
     }
 }
 
-// What would have been a failure, for a person.
+// What would have been a failure, as a sentence.
 fn what_would_fail(must_exit: bool) -> &'static str {
     if must_exit {
         "no hart faults under these choices, or with --rule the rule is kept, and given as many steps more all harts stop: run shows how they end\n"
@@ -82,7 +82,7 @@ fn what_would_fail(must_exit: bool) -> &'static str {
     }
 }
 
-// Says why nothing is shrunk.
+// Reports why nothing is shrunk.
 fn tell<R: Files + AllocGlobal + Eprint>(
     rt: &R,
     audience: Audience,

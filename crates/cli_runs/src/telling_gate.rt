@@ -1,13 +1,13 @@
-//! How many entries the history of a run in threads has, for a person.
+//! Shows a person the number of entries in the history of a run on threads.
 
 use cli_report::{Audience, WIPE, wipe_line};
 use std::sync::atomic::{AtomicU64, Ordering};
 use thread_gate::Gate;
 
-// After so many entries of a history a person is told how many there are.
+// The number is shown each time this many entries were added.
 const TOLD_EACH: u64 = 65536;
 
-/// Lets each hart go on at once, and tells a person how many entries the history has.
+/// Lets each hart go on at once, and shows a person the number of entries in the history.
 #[derive(Drop)]
 pub(crate) struct TellingGate<'a, R> {
     rt: &'a R,
@@ -16,7 +16,7 @@ pub(crate) struct TellingGate<'a, R> {
 }
 
 impl<'a, R> TellingGate<'a, R> {
-    /// A gate through which no hart has gone.
+    /// A gate that no hart has passed.
     pub(crate) fn new(rt: &'a R, audience: Audience) -> TellingGate<'a, R> {
         TellingGate {
             rt,
@@ -27,7 +27,7 @@ impl<'a, R> TellingGate<'a, R> {
 }
 
 impl<'a, R: Eprint> TellingGate<'a, R> {
-    /// Wipes what was told, once no hart goes through any more.
+    /// Wipes the shown number, once no hart passes any more.
     pub(crate) fn wipe(&self) {
         if self.entries.load(Ordering::SeqCst) > TOLD_EACH {
             wipe_line(self.rt, self.audience);
@@ -42,7 +42,7 @@ impl<'a, R: Eprint> Gate for TellingGate<'a, R> {
         }
         let entries = self.entries.fetch_add(1, Ordering::SeqCst);
         if entries > 0 && entries % TOLD_EACH == 0 {
-            // Where standard error is closed there is nobody to tell.
+            // If standard error is closed, nobody sees it.
             let _ = eprint!(self.rt; "{WIPE}{entries} entries");
         }
     }

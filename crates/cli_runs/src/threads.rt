@@ -1,4 +1,4 @@
-//! Doing `threads`.
+//! Runs `threads`.
 
 ghost use Rattle.std.specs.Prelude.{◌^◌, ◌-◌, ◌<◌};
 
@@ -23,7 +23,7 @@ use std::thread::Threads;
 use std::{fs, io};
 use thread_gate::Gate;
 
-// What the order's texts say.
+// Parses the order's texts.
 fn read_task(alloc: Global, order: &ThreadsOrder) -> Result<ThreadsTask<Global>, LineFault> {
     let inputs = read_inputs(alloc, order.inputs)?;
     let budget = read_number(order.budget, u64::from(u32::MAX))? as u32;
@@ -40,7 +40,8 @@ fn read_task(alloc: Global, order: &ThreadsOrder) -> Result<ThreadsTask<Global>,
     })
 }
 
-// What becomes of the history: it is written where that is ordered, and a person is told by it why harts were stopped.
+// Whether the history is used: it is written if that is ordered, and explains to a person why harts
+// were stopped.
 fn use_of_history(audience: Audience, order: &ThreadsOrder) -> HistoryUse {
     if order.history.is_some() || audience == Audience::Person {
         HistoryUse::Read
@@ -49,7 +50,7 @@ fn use_of_history(audience: Audience, order: &ThreadsOrder) -> HistoryUse {
     }
 }
 
-// Runs a task under the locks that are ordered.
+// Runs a task with the ordered kind of locks.
 fn run_task<P: Source, G: Gate + Sync, R: AllocGlobal + Threads + Wait + Sync>(
     rt: &R,
     locks: Locks,
@@ -66,7 +67,8 @@ fn run_task<P: Source, G: Gate + Sync, R: AllocGlobal + Threads + Wait + Sync>(
     }
 }
 
-/// Runs each hart in a thread of its own. The history is written before anything is printed. Progress is told to a person.
+/// Runs each hart in a thread of its own. The history is written before anything is printed. A
+/// person sees the progress.
 pub fn run_on_threads<R: Files + AllocGlobal + Print + Eprint + Threads + Wait + Sync>(
     rt: &R,
     audience: Audience,
@@ -91,7 +93,7 @@ pub fn run_on_threads<R: Files + AllocGlobal + Print + Eprint + Threads + Wait +
     }
 }
 
-// Writes the history where it is asked for, and prints how the harts ended.
+// Writes the history if that is ordered, and prints how the harts ended.
 fn write_answer<R: Files + AllocGlobal + Print + Eprint>(
     rt: &R,
     audience: Audience,
@@ -117,7 +119,7 @@ fn write_answer<R: Files + AllocGlobal + Print + Eprint>(
     }
 }
 
-// Writes the history into a file of its own, which is opened now.
+// Writes the history to a file of its own, which is opened now.
 fn write_history<R: Files + AllocGlobal + Print + Eprint>(
     rt: &R,
     path: &str,
@@ -134,7 +136,7 @@ fn write_history<R: Files + AllocGlobal + Print + Eprint>(
     }
 }
 
-// Tells why a run of threads gives no answer, and a person what is wrong with what was read.
+// Reports why a run on threads gives no answer, and explains an invalid input to a person.
 fn tell_fault<R: Files + AllocGlobal + Eprint>(
     rt: &R,
     audience: Audience,
@@ -154,7 +156,7 @@ fn tell_fault<R: Files + AllocGlobal + Eprint>(
     say_why(rt, audience, files, fault)
 }
 
-// Tells what the faults mean with which the run ended, by its history, where its program can be read once more.
+// Explains the faults with which the run ended, by its history, if its program can be read again.
 fn explain_faults<R: Files + AllocGlobal + Eprint>(
     rt: &R,
     order: &ThreadsOrder,

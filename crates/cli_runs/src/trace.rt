@@ -1,4 +1,4 @@
-//! Doing `trace`.
+//! Runs `trace`.
 
 use byte_io::{Status, WriterSink};
 use cli_args::read_inputs;

@@ -13,7 +13,7 @@ numbers_within (Some first) (Some count) (Some steps) =
     then Some (record { first = first; count = count; steps = steps })
     else None
 
--- the numbers that three texts write: a first seed, a count of seeds, and a count of steps below 2 ^ 32
+-- the numbers of three texts: the first seed, the number of seeds, and of steps below 2 ^ 32
 abbrev pub numbers_of : List ℕ → List ℕ → List ℕ → Option SeedNumbers
 numbers_of first count steps =
     numbers_within (number_below (2 ^ 64) first) (number_below (2 ^ 64) count) (number_below (2 ^ 32) steps)

@@ -7,8 +7,8 @@ use Rattle.sched_draw.specs.declared.schedule.Draw.{Draw}
 use Rattle.sched_draw.specs.declared.schedule.Schedule.{Schedule}
 use Rattle.sched_draw.specs.declared.schedule.Schedule.TheVariants.{Turns, Only, Seeded}
 
--- the schedule of a seed, of turns or of one hart, where exactly one is said, and how it is drawn only
--- with a seed
+-- the schedule of a seed, of turns or of one hart, if exactly one is given, and how it is drawn
+-- only with a seed
 abbrev pub schedule_said : Option (Bor (List ℕ)) → Bool → Option (Bor (List ℕ)) → Bool → Draw → Option Schedule
 schedule_said (Some seed) false None drawn draw =
     option_map (λ n. Seeded n draw) (number_below (2 ^ 64) seed.now)
@@ -22,7 +22,7 @@ schedule_said None true None true draw = None
 schedule_said None false None drawn draw = None
 schedule_said None false (Some hart) true draw = None
 
--- the plan of these numbers of steps and of a seed
+-- the plan of these numbers of steps and seed
 abbrev pub seed_plan_of : Draw → Option ℕ → Option ℕ → Option SeedPlan
 seed_plan_of draw None seed = None
 seed_plan_of draw (Some steps) None = None

@@ -6,20 +6,20 @@ use Rattle.cmd_trace.specs.declared.plan.TraceForm.{TraceForm}
 use Rattle.cmd_trace.specs.declared.plan.TraceForm.TheVariants as form
 use Rattle.cmd_trace.specs.declared.plan.TracePlan.{TracePlan}
 
--- a choice's place, which is not 0
+-- a choice's number, which is not 0
 abbrev pub unless_zero : ℕ → Option ℕ
 unless_zero place = if place == 0 then None else Some place
 
--- the place that a text writes: a number from 1 to 2 ^ 64 - 1
+-- the number in a text: 1 to 2 ^ 64 - 1
 abbrev pub place_of : List ℕ → Option ℕ
 place_of text = option_and_then unless_zero (number_below (2 ^ 64) text)
 
--- the first choice that is told: the first of all where none is given
+-- the first traced choice: the first of all by default
 abbrev pub first_of : Option (Bor (List ℕ)) → Option ℕ
 first_of None = Some 1
 first_of (Some text) = place_of text.now
 
--- the last choice that is told: the last of all where none is given
+-- the last traced choice: the last of all by default
 abbrev pub last_of : Option (Bor (List ℕ)) → Option (Option ℕ)
 last_of None = Some None
 last_of (Some text) = option_map (λ place. Some place) (place_of text.now)
@@ -29,12 +29,12 @@ abbrev pub form_of : Bool → TraceForm
 form_of true = form.Table
 form_of false = form.Lines
 
--- the plan of these places
+-- the plan of these numbers
 abbrev pub plan_with : TraceForm → Option ℕ → Option (Option ℕ) → Option TracePlan
 plan_with how None last = None
 plan_with how (Some first) None = None
 plan_with how (Some first) (Some last) = Some (record { form = how; from = first; to = last })
 
--- the plan that the order's texts write
+-- the plan of the order's texts
 abbrev pub trace_plan_of : Bool → Option (Bor (List ℕ)) → Option (Bor (List ℕ)) → Option TracePlan
 trace_plan_of table from to = plan_with (form_of table) (first_of from) (last_of to)

@@ -1,4 +1,4 @@
-//! The seeds of a campaign, and what it reports.
+//! The numbers of a campaign, and what it reports.
 
 ghost use Rattle.std.specs.Prelude.{◌≡◌};
 ghost use Rattle.cli_values.specs.CampaignPlans.{numbers_of};
@@ -18,8 +18,9 @@ pub struct SeedNumbers {
     pub steps: u64,
 }
 
-/// The numbers that three decimal texts write: the first seed, how many seeds, and how many steps for each. `None` just where one is no number or too
-/// large: the seeds end by 2^64, and the steps are below 2^32.
+/// The numbers of three decimal texts: the first seed, the number of seeds, and the number of steps
+/// for each. `None` exactly if one is invalid or too large: the seeds end by 2^64, and the steps
+/// are below 2^32.
 pub fn read_seed_numbers(first: &str, count: &str, steps: &str) -> Option<SeedNumbers>
     ensures { result ≡ numbers_of first.now count.now steps.now }
 {
@@ -42,7 +43,8 @@ pub fn read_seed_numbers(first: &str, count: &str, steps: &str) -> Option<SeedNu
     })
 }
 
-/// What is reported. `None` just where the options don't go together: failures and a summary, or outcomes without a summary.
+/// What is reported. `None` exactly if the options don't go together: failures and a summary, or
+/// outcomes without a summary.
 pub fn read_report(failures: bool, summary: bool, outcomes: bool) -> Option<Report>
     ensures { result ≡ report_of failures summary outcomes }
 {

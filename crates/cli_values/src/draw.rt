@@ -1,4 +1,4 @@
-//! How a seed draws choices, as texts say it.
+//! Parses how a seed draws choices.
 
 ghost use Rattle.std.specs.Prelude.{◌≡◌, Ok, Some, MatchResult};
 ghost use Rattle.cli_values.specs.Draws.{named_in, IsNoDraw, MeansOrder, MeansRefusals, OrderSaid};
@@ -7,37 +7,37 @@ use cli_args::read_input;
 use sched_draw::{Chance, Depth, Draw, Mean, Order, Refusals};
 use text_items::split_at_byte;
 
-/// What `--schedule` takes.
+/// The forms of `--schedule`, for its fault.
 pub const DRAWS: &str =
     "--schedule takes even, bursts:MEAN with a decimal number from 1 to 2147483648, or priorities:DEPTH with one from 1 to 1000, \
                      as bursts:100";
 
-/// What `--refusals` takes.
+/// The forms of `--refusals`, for its fault.
 pub const REFUSALS: &str =
     "--refusals takes never, or one-in:N with a decimal number from 1 to 65536, as one-in:4";
 
-/// Why a text says no order of harts.
+/// Why a text gives no order of harts.
 #[derive(Clone, Copy, Debug, PartialEq, Eq)]
 pub enum OrderFault {
-    /// It says it in no known way.
+    /// The form is unknown.
     Unknown,
-    /// Bursts of no choice in the mean, or of more than `MOST_MEAN`.
+    /// The mean of bursts is 0, or more than `MOST_MEAN`.
     BadMean,
-    /// Priorities of depth 0, or of more than `MOST_DEPTH`.
+    /// The depth of priorities is 0, or more than `MOST_DEPTH`.
     BadDepth,
 }
 
-/// Why texts say no draw.
+/// Why texts give no draw.
 #[derive(Clone, Copy, Debug, PartialEq, Eq)]
 pub enum DrawFault {
-    /// The refusals are said in no known way, or are one in 0 or in more than `MOST_ONE_IN`.
+    /// The form of the refusals is unknown, or they are one in 0 or in more than `MOST_ONE_IN`.
     Refusals,
-    /// The order of the harts is none.
+    /// The order of the harts is invalid.
     Order(OrderFault),
 }
 
 impl DrawFault {
-    /// What is said of it on standard error.
+    /// The text of the fault, for standard error.
     pub fn text(self) -> &'static str {
         match self {
             DrawFault::Refusals => REFUSALS,
@@ -46,7 +46,7 @@ impl DrawFault {
     }
 }
 
-// The number behind a word and a colon, in a text that begins with that word.
+// The number after a word and a colon, in a text that begins with that word.
 fn number_behind(text: &str, word: &str) -> Option<u32>
     ensures { result ≡ named_in word.now text.now }
 {
@@ -60,8 +60,7 @@ fn number_behind(text: &str, word: &str) -> Option<u32>
     }
 }
 
-/// The order that a text says: `even`, also where there is none, or `bursts:` or `priorities:` and a
-/// decimal number.
+/// The order of a text: `even` (the default), or `bursts:` or `priorities:` and a decimal number.
 pub fn read_order(text: Option<&str>) -> Result<Order, OrderFault>
     ensures { MeansOrder text.entry result }
 {
@@ -93,8 +92,8 @@ fn order_said(text: &str) -> Result<Order, OrderFault>
     Err(OrderFault::Unknown)
 }
 
-/// The refusals that a text says: one in 16 where there is none, `never`, or `one-in:` and a decimal
-/// number from 1 to `MOST_ONE_IN`. `None` just where it says none of these.
+/// The refusals of a text: one in 16 by default, `never`, or `one-in:` and a decimal number from 1
+/// to `MOST_ONE_IN`. `None` exactly if it is none of these.
 pub fn read_refusals(text: Option<&str>) -> Option<Refusals>
     ensures { MeansRefusals text.entry result }
 {
@@ -109,7 +108,7 @@ pub fn read_refusals(text: Option<&str>) -> Option<Refusals>
     Some(Refusals::OneIn(chance))
 }
 
-/// How a seed draws, as two texts say it. A fault of the refusals comes first.
+/// How a seed draws, by two texts. A fault of the refusals comes first.
 pub fn read_draw(order: Option<&str>, refusals: Option<&str>) -> Result<Draw, DrawFault>
     ensures { MatchResult result
         (λ draw. MeansOrder order.entry (Ok draw.order) × MeansRefusals refusals.entry (Some draw.refusals))

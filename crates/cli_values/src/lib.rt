@@ -1,4 +1,4 @@
-//! The texts of orders, read to what the engines take.
+//! Parses the texts of an order to what the engines take: schedules, campaigns, traces.
 #![tactic(auto)]
 
 pub use campaign::{SeedNumbers, read_report, read_seed_numbers};

@@ -1,4 +1,4 @@
-//! The schedule that an order asks for.
+//! Parses schedules.
 
 ghost use Rattle.std.specs.Prelude.{◌≡◌, ◌^◌};
 ghost use Rattle.cli_args.specs.Numbers.{number_below};
@@ -8,8 +8,9 @@ use cli_args::{read_number, read_word};
 use cmd_schedule::SeedPlan;
 use sched_draw::{Draw, Schedule};
 
-/// The schedule that texts say: exactly one of a seed, a decimal number below 2^64, of turns, and of a
-/// hart, one below 2^32. How it is drawn is said with a seed alone. `None` just where it is otherwise.
+/// The schedule of texts: exactly one of a seed, a decimal number below 2^64, of turns, and of a
+/// hart, one below 2^32. How it is drawn is given with a seed only. `None` exactly if it is
+/// otherwise.
 pub fn read_schedule(
     seed: Option<&str>,
     turns: bool,
@@ -35,8 +36,8 @@ pub fn read_schedule(
     }
 }
 
-/// The plan of the choices that a seed draws so: so many steps, a decimal number below 2^32, of a seed,
-/// one below 2^64. `None` just where one is no number or too large.
+/// The plan of a seed's choices: the number of steps, a decimal number below 2^32, and the seed,
+/// one below 2^64. `None` exactly if one is invalid or too large.
 pub fn read_seed_plan(draw: Draw, steps: &str, seed: &str) -> Option<SeedPlan>
     ensures { result ≡ seed_plan_of draw (number_below (2 ^ 32) steps.now) (number_below (2 ^ 64) seed.now) }
 {

@@ -1,4 +1,4 @@
-//! The plan of a trace.
+//! Parses the plan of a trace.
 
 ghost use Rattle.std.specs.Prelude.{◌≡◌};
 ghost use Rattle.cli_values.specs.TracePlans.{first_of, form_of, last_of, place_of, trace_plan_of};
@@ -6,7 +6,7 @@ ghost use Rattle.cli_values.specs.TracePlans.{first_of, form_of, last_of, place_
 use cli_args::read_number;
 use cmd_trace::{TraceForm, TracePlan};
 
-// The place of a choice: a number from 1 to 2^64 - 1.
+// The number of a choice: 1 to 2^64 - 1.
 fn place_of(text: &str) -> Option<u64>
     ensures { result ≡ place_of text.now }
 {
@@ -16,7 +16,7 @@ fn place_of(text: &str) -> Option<u64>
     }
 }
 
-// The first choice that is told.
+// The first traced choice.
 fn first_of(from: Option<&str>) -> Option<u64>
     ensures { result ≡ first_of from.entry }
 {
@@ -26,7 +26,7 @@ fn first_of(from: Option<&str>) -> Option<u64>
     }
 }
 
-// The last choice that is told, if one is given.
+// The last traced choice, if one is given.
 fn last_of(to: Option<&str>) -> Option<Option<u64>>
     ensures { result ≡ last_of to.entry }
 {
@@ -47,8 +47,8 @@ fn form_of(table: bool) -> TraceForm
     }
 }
 
-/// The plan that an order's options write: a table or lines, from a choice to a choice. `None` just where a place is no decimal number from 1 to
-/// 2^64 - 1.
+/// The plan of an order's options: a table or lines, from a choice to a choice. `None` exactly if
+/// one of both isn't a decimal number from 1 to 2^64 - 1.
 pub fn read_trace_plan(table: bool, from: Option<&str>, to: Option<&str>) -> Option<TracePlan>
     ensures { result ≡ trace_plan_of table from.entry to.entry }
 {

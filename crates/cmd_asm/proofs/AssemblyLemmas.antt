@@ -1,4 +1,4 @@
--- What the assembler's answer says of sources.
+-- The assembler's answer for sources.
 use Rattle.std.proofs.Common.{◌≡◌, ℕ, List, Option, Some, None, IfSome, Ok, Err, Result, sym, ap, ◌∙◌}
 use Rattle.asm_parse.specs.Answer.{Fails}
 use Rattle.asm_parse.specs.declared.fault.Fault.{Fault}
@@ -12,7 +12,7 @@ use Rattle.cmd_asm.specs.Sources.{first_other, IfNotText, IsOfReading}
 use Rattle.cmd_asm.specs.declared.fault.AssemblyFault.{AssemblyFault}
 use Rattle.cmd_asm.specs.declared.fault.AssemblyFault.TheVariants as faults
 
--- texts that are the sources, of which none is another thing, are assembled
+-- sources that are all texts are assembled
 sources_give : (all : Option (List (List ℕ))) (texts given : List (List ℕ))
     → IfSome all (λ all. (texts ≡ all) × (first_other 0 all ≡ None)) → given ≡ texts
     → (answer : Result ProgramValue Fault) → assembled_texts given ≡ answer
@@ -36,7 +36,7 @@ pub statement_is_wrong : (all : Option (List (List ℕ))) (texts given : List (L
 statement_is_wrong all texts given read same (assembler.At why) e refused = sources_give all texts given read same (Err why) e
 statement_is_wrong all texts given read same assembler.Memory e refused = absurd refused
 
--- where reading is refused, a source is another thing
+-- if reading fails, a source isn't a text
 pub source_is_other : (all : Option (List (List ℕ))) (fault : AssemblyFault)
     → IfSome all (λ all. IfNotText fault (λ place. first_other 0 all ≡ Some place)) → IsOfReading fault → IsRefusal fault
     → IfSome all (λ all. program_of all ≡ Err fault)

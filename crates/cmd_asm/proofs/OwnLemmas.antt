@@ -6,8 +6,8 @@ use Rattle.asm_assemble.specs.Program.{ProgramValue}
 use Rattle.asm_assemble.specs.Sources.{assembled_texts}
 use Rattle.elf_write.specs.File.{file}
 use Rattle.isa_disasm.specs.Listing.{listing}
-use Rattle.asm_own.proofs.Whole.{written, listed}
-use Rattle.asm_own.specs.Own.{LoadsOwn}
+use Rattle.asm_laws.proofs.OwnLemmas.{written, listed}
+use Rattle.asm_laws.specs.Own.{LoadsOwn}
 use Rattle.cmd_asm.specs.Assembly.{from_statements, program_of, program_unless, FileIsOwn, LinesAreOwn, WritesOwnFile, WritesOwnLines}
 use Rattle.cmd_asm.specs.Sources.{first_other}
 use Rattle.cmd_asm.specs.declared.fault.AssemblyFault.{AssemblyFault}

@@ -11,7 +11,7 @@ use Rattle.std.proofs.lemmas.Str.{is_utf8-from_IsUtf8, IsUtf8-from_is_utf8}
 use Rattle.std.specs.Str.{is_utf8, IsUtf8}
 use Rattle.cmd_asm.specs.Sources.{all_known, first_other, known_onto, RisesAt}
 
--- so many were read of all, and these are left
+-- of all sources these were read, and those are left
 abbrev pub ReadSoFar : {X : Type 0} → Option (List X) → List X → Option (List X) → Type 0
 ReadSoFar None got rest = Unit {0}
 ReadSoFar (Some all) got None = ⊥
@@ -36,7 +36,7 @@ none_other : (n : ℕ) (xs : List (List ℕ)) → list_all is_utf8 xs ≡ true �
 none_other n [] all = refl
 none_other n (x ∷ xs) all = search (rules, common_steps, none_other (n + 1) xs)
 
--- the first that is no text stands behind texts
+-- the first that isn't a text comes after texts
 other_at : (n : ℕ) (xs : List (List ℕ)) (x : List ℕ) (rest : List (List ℕ)) → list_all is_utf8 xs ≡ true → is_utf8 x ≡ false
     → (place : ℕ) → place ≡ n + length xs → first_other n (xs ++ x ∷ rest) ≡ Some place
 other_at n [] x rest all other place at = let here : place ≡ n = omega (arith, at) in rw (other, here) refl

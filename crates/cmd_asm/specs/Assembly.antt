@@ -1,4 +1,4 @@
--- What sources give: their program, its listing and its file, or the first fault.
+-- The program of sources, its listing and its file, or the first fault.
 use Rattle.std.specs.Prelude.{◌≡◌, ℕ, ◌%◌, List, [], ◌∷◌, take, Option, Some, None}
 use Rattle.std.specs.Io.KnownBytes.{Appends}
 use Rattle.std.specs.declared.result.Result.{Result}
@@ -9,7 +9,7 @@ use Rattle.asm_assemble.specs.Sources.{assembled_texts}
 use Rattle.asm_assemble.specs.Program.{text_start}
 use Rattle.elf_write.specs.File.{file}
 use Rattle.isa_disasm.specs.Listing.{listing}
-use Rattle.asm_own.specs.Own.{ListsOwn, LoadsOwn}
+use Rattle.asm_laws.specs.Own.{ListsOwn, LoadsOwn}
 use Rattle.asm_round_trip.specs.TextAlone.{text_alone}
 use Rattle.cmd_asm.specs.Sources.{first_other}
 use Rattle.cmd_asm.specs.declared.fault.AssemblyFault.{AssemblyFault}
@@ -20,12 +20,12 @@ abbrev pub from_statements : Result ProgramValue Fault → Result ProgramValue A
 from_statements (Ok program) = Ok program
 from_statements (Err why) = Err (faults.Wrong why)
 
--- the program of sources, of which the first that is no text is at this place
+-- the program of sources, of which the first that isn't UTF-8 is at this index
 abbrev pub program_unless : List (List ℕ) → Option ℕ → Result ProgramValue AssemblyFault
 program_unless sources None = from_statements (assembled_texts sources)
 program_unless sources (Some place) = Err (faults.NotText place)
 
--- the program of sources, or why there is none
+-- the program of sources, or the fault
 abbrev pub program_of : List (List ℕ) → Result ProgramValue AssemblyFault
 program_of sources = program_unless sources (first_other 0 sources)
 
@@ -38,7 +38,7 @@ bytes_by bytes (Err why) = Err why
 abbrev pub listing_of : List (List ℕ) → Result (List ℕ) AssemblyFault
 listing_of sources = bytes_by (λ program. listing text_start program.text) (program_of sources)
 
--- the listing of a program, as the one source, gives a program of the same text and nothing else
+-- the listing of a program, as the only source, gives a program with the same text and nothing else
 abbrev pub ComesBack : Result ProgramValue AssemblyFault → Type 0
 ComesBack (Ok program) = assembled_texts (listing text_start program.text ∷ []) ≡ Ok (text_alone program.text)
 ComesBack (Err why) = Unit {0}
@@ -47,7 +47,7 @@ ComesBack (Err why) = Unit {0}
 abbrev pub file_of : List (List ℕ) → Result (List ℕ) AssemblyFault
 file_of sources = bytes_by file (program_of sources)
 
--- a fault of what was read, and of no device or memory
+-- a fault of what was read, not of a device and not out of memory
 abbrev pub IsRefusal : AssemblyFault → Type 0
 IsRefusal (faults.Wrong why) = Unit {0}
 IsRefusal (faults.Read place) = ⊥
@@ -69,7 +69,7 @@ abbrev pub BeginsToWrite : Result (List ℕ) AssemblyFault → Option (List ℕ)
 BeginsToWrite (Ok bytes) old new = Begins old new bytes
 BeginsToWrite (Err why) old new = ⊥
 
--- the file of sources' program, where its entry is a multiple of 4, loads as the sources' own instructions
+-- a program's file, if its entry is a multiple of 4, loads as the sources' own instructions
 abbrev pub FileIsOwn : List (List ℕ) → List ℕ → Result ProgramValue AssemblyFault → Type 0
 FileIsOwn sources bytes (Ok program) = program.entry % 4 ≡ 0 → LoadsOwn sources program bytes
 FileIsOwn sources bytes (Err why) = ⊥

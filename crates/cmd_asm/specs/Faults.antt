@@ -6,7 +6,7 @@ use Rattle.byte_io.specs.declared.status.Status.TheVariants as status
 use Rattle.cmd_asm.specs.declared.fault.AssemblyFault.{AssemblyFault}
 use Rattle.cmd_asm.specs.declared.fault.AssemblyFault.TheVariants as faults
 
--- the status that the command ends with
+-- the exit status of the command
 abbrev pub status_of_fault : AssemblyFault → Status
 status_of_fault (faults.Wrong why) = status.Refused
 status_of_fault (faults.Read place) = status.Refused

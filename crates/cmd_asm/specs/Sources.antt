@@ -10,31 +10,31 @@ abbrev pub known_onto : {X : Type 0} → Option X → Option (List X) → Option
 known_onto None xs = None
 known_onto (Some x) xs = option_map (λ xs. x ∷ xs) xs
 
--- all values, where each is known
+-- all values, if each is known
 abbrev pub all_known : {X : Type 0} → List (Option X) → Option (List X)
 all_known [] = Some []
 all_known (x ∷ xs) = known_onto x (all_known xs)
 
--- the place of the first source that is no text in UTF-8
+-- the index of the first source that isn't UTF-8
 abbrev pub first_other : ℕ → List (List ℕ) → Option ℕ
 first_other place [] = None
 first_other place (bytes ∷ more) = if is_utf8 bytes then first_other (place + 1) more else Some place
 
--- the count at this place rose
+-- the number at this index rose
 abbrev pub RisesAt : List ℕ → List ℕ → ℕ → Type 0
 RisesAt old new place = (place < length old) × (slice_index old place < slice_index new place)
 
--- what has to hold of the source that is named as one that can't be read
+-- the fact for the source that is reported as unreadable
 abbrev pub IfRead : AssemblyFault → (ℕ → Type 0) → Type 0
 IfRead (faults.Read place) fact = fact place
 IfRead fault fact = Unit {0}
 
--- what has to hold of the source that is named as no text
+-- the fact for the source that is reported as not UTF-8
 abbrev pub IfNotText : AssemblyFault → (ℕ → Type 0) → Type 0
 IfNotText (faults.NotText place) fact = fact place
 IfNotText fault fact = Unit {0}
 
--- a fault of reading, and of no statement and no sink
+-- a fault of reading, not of a statement nor of the sink
 abbrev pub IsOfReading : AssemblyFault → Type 0
 IsOfReading (faults.Wrong why) = ⊥
 IsOfReading (faults.Read place) = Unit {0}

@@ -1,4 +1,4 @@
-//! `asm`: sources in; the listing, or an ELF file's bytes, out.
+//! `asm`: from sources to the listing, or the bytes of an ELF file.
 
 ghost use Rattle.std.specs.Prelude.{◌≡◌, ◌≢◌, ◌-◌, ◌^◌, ◌<◌, Ok, Err, All, IfOk, IfErr, IfSome, map, string_bytes};
 ghost use Rattle.std.specs.Io.KnownBytes.{Appends, Keeps};
@@ -13,7 +13,6 @@ use byte_io::{Sink, Source, Status, write_all};
 use elf_write::write_elf;
 use std::alloc::{AllocError, Allocator};
 
-// The texts, borrowed.
 fn borrowed_texts<'a, A: Allocator + Copy>(
     alloc: A,
     owned: &'a [String<A>],
@@ -29,7 +28,6 @@ fn borrowed_texts<'a, A: Allocator + Copy>(
     Ok(texts)
 }
 
-// The program of sources.
 fn assembled_program<A: Allocator + Copy, S: Source>(
     alloc: A,
     sources: &mut [S],
@@ -56,7 +54,8 @@ fn assembled_program<A: Allocator + Copy, S: Source>(
     }
 }
 
-/// `asm --out`, its first half: reads sources, each to its end in order, and makes the ELF file of their program.
+/// The first half of `asm --out`: reads sources, each to its end in order, and makes the ELF file
+/// of their program.
 pub fn assembled_file<A: Allocator + Copy, S: Source>(
     alloc: A,
     sources: &mut [S],
@@ -64,7 +63,7 @@ pub fn assembled_file<A: Allocator + Copy, S: Source>(
     requires { All (λ n. n < 2 ^ 64 - 1) (map S.failures sources.old) }
     ensures made { IfOk result (λ bytes. IfSome (all_known (map S.left sources.old)) (λ all.
         file_of all ≡ Ok bytes.items)) }
-    // It loads as the sources' own instructions.
+    // The file loads as the sources' own instructions.
     ensures own { IfOk result (λ bytes. IfSome (all_known (map S.left sources.old)) (λ all.
         FileIsOwn all bytes.items (program_of all))) }
     ensures refused { IfErr result (λ fault. IsRefusal fault
@@ -83,7 +82,8 @@ pub fn assembled_file<A: Allocator + Copy, S: Source>(
     }
 }
 
-/// `asm --out`, its second half: writes the file's bytes. After a failed write a beginning of them stands there.
+/// The second half of `asm --out`: writes the file's bytes. After a failed write the sink has a
+/// beginning of them.
 pub fn write_file<K: Sink>(sink: &mut K, bytes: &[u8]) -> Result<Status, AssemblyFault>
     requires { K.failures sink.old < 2 ^ 64 - 1 }
     ensures done { IfOk result (λ status. (status ≡ Status.Done)
@@ -98,8 +98,9 @@ pub fn write_file<K: Sink>(sink: &mut K, bytes: &[u8]) -> Result<Status, Assembl
     }
 }
 
-/// `asm --out`, whole: reads sources, each to its end in order, and writes the ELF file of their program. The sink is asked for
-/// nothing before the file's bytes are made, so it may open its file then. After a failed write a beginning of them stands there.
+/// `asm --out`: reads sources, each to its end in order, and writes the ELF file of their program.
+/// The sink isn't used before the file's bytes are made, so it may open its file then. After a
+/// failed write the sink has a beginning of them.
 pub fn file_engine<A: Allocator + Copy, S: Source, K: Sink>(
     alloc: A,
     sources: &mut [S],
@@ -113,12 +114,12 @@ pub fn file_engine<A: Allocator + Copy, S: Source, K: Sink>(
         Writes (file_of all) (K.held sink.old) (K.held sink.new))) }
     ensures own { IfOk result (λ _. IfSome (all_known (map S.left sources.old)) (λ all.
         WritesOwnFile all (K.held sink.old) (K.held sink.new))) }
-    // What was read is refused, and nothing is written.
+    // A source is invalid, and nothing is written.
     ensures refused { IfErr result (λ fault. IsRefusal fault
         → IfSome (all_known (map S.left sources.old)) (λ all. file_of all ≡ Err fault)) }
     ensures unwritten { IfErr result (λ fault. fault ≢ AssemblyFault.Write
         → Keeps (K.held sink.old) (K.held sink.new)) }
-    // A device is named only where it failed.
+    // A device is named only if it failed.
     ensures read { IfErr result (λ fault. IfRead fault
         (RisesAt (map S.failures sources.old) (map S.failures sources.new))) }
     ensures write { result ≡ Err AssemblyFault.Write → K.failures sink.old < K.failures sink.new }
@@ -133,8 +134,8 @@ pub fn file_engine<A: Allocator + Copy, S: Source, K: Sink>(
     write_file(sink, &bytes)
 }
 
-/// `asm` without `--out`: reads sources, each to its end in order, and writes the listing of their program. Nothing is written
-/// where what was read is refused.
+/// `asm` without `--out`: reads sources, each to its end in order, and writes the listing of their
+/// program. Nothing is written if a source is invalid.
 pub fn listing_engine<A: Allocator + Copy, S: Source, K: Sink>(
     alloc: A,
     sources: &mut [S],
@@ -152,16 +153,16 @@ pub fn listing_engine<A: Allocator + Copy, S: Source, K: Sink>(
     // The listing is a source of the same text.
     ensures back { IfOk result (λ _. IfSome (all_known (map S.left sources.old)) (λ all.
         ComesBack (program_of all))) }
-    // What was read is refused, and nothing is written.
+    // A source is invalid, and nothing is written.
     ensures refused { IfErr result (λ fault. IsRefusal fault
         → IfSome (all_known (map S.left sources.old)) (λ all. listing_of all ≡ Err fault)) }
     ensures unwritten { IfErr result (λ fault. fault ≢ AssemblyFault.Write
         → Keeps (K.held sink.old) (K.held sink.new)) }
-    // A device is named only where it failed.
+    // A device is named only if it failed.
     ensures read { IfErr result (λ fault. IfRead fault
         (RisesAt (map S.failures sources.old) (map S.failures sources.new))) }
     ensures write { result ≡ Err AssemblyFault.Write → K.failures sink.old < K.failures sink.new }
-    // After a failed write a beginning of the listing stands there.
+    // After a failed write the sink has a beginning of the listing.
     ensures begun { result ≡ Err AssemblyFault.Write
         → IfSome (all_known (map S.left sources.old)) (λ all.
         BeginsToWrite (listing_of all) (K.held sink.old) (K.held sink.new)) }

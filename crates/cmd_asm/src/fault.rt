@@ -7,29 +7,29 @@ use asm_parse::{AsmFault, Fault};
 use byte_io::Status;
 use thiserror::Error;
 
-/// Why sources give no file and no listing. The text of each is what stands after `rvcons: ` on standard error, but that the
-/// program puts the path of a source that can't be read.
+/// Why sources give no file and no listing. The text of each is printed after `rvcons: ` on
+/// standard error; for a source that can't be read the program prints its path instead.
 #[derive(Clone, Copy, Debug, PartialEq, Eq, Error)]
 pub enum AssemblyFault {
     /// A statement is wrong.
     #[error("asm fault {} {} at {}:{}", .0.kind.number(), .0.kind, .0.source, .0.line)]
     Wrong(Fault),
-    /// The source at this place, from 0, can't be read to its end.
+    /// The source at this index can't be read to its end.
     #[error("cannot read")]
     Read(usize),
-    /// The source at this place, from 0, is no text in UTF-8.
+    /// The source at this index isn't UTF-8.
     #[error("cannot read")]
     NotText(usize),
     /// The output can't be written.
     #[error("cannot write -")]
     Write,
-    /// Memory was refused.
+    /// Out of memory.
     #[error("out of memory")]
     Memory,
 }
 
 impl AssemblyFault {
-    /// The status that the command ends with.
+    /// The exit status of the command.
     pub fn status(self) -> Status
         ensures { result ≡ status_of_fault self }
     {

@@ -1,4 +1,4 @@
-//! What `asm` does, over any sources of bytes and any sink.
+//! The engine of `asm`.
 #![tactic(auto)]
 
 pub use assembling::{assembled_file, file_engine, listing_engine, write_file};

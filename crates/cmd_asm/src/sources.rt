@@ -1,4 +1,4 @@
-//! Reading sources.
+//! Reads sources.
 
 ghost use Rattle.std.specs.Prelude.{◌≡◌, ◌-◌, ◌^◌, ◌<◌, Some, None, All, IfOk, IfErr, IfSome, map, string_bytes};
 ghost use Rattle.cmd_asm.specs.Sources.{all_known, first_other, IfNotText, IfRead, IsOfReading, RisesAt};
@@ -7,7 +7,8 @@ use crate::fault::AssemblyFault;
 use byte_io::{ReadFault, Source, read_all};
 use std::alloc::Allocator;
 
-/// Reads each source to its end, in order. The first that can't be read, or is no text, decides.
+/// Reads each source to its end, in order. The fault is that of the first that can't be read or
+/// isn't UTF-8.
 pub fn read_sources<A: Allocator + Copy, S: Source>(
     alloc: A,
     sources: &mut [S],
@@ -33,7 +34,7 @@ pub fn read_sources<A: Allocator + Copy, S: Source>(
             Ok(text) => text,
             Err(_) => return Err(AssemblyFault::NotText(place)),
         };
-        // What the type of a text says of its bytes.
+        // Gives the proof that the text is UTF-8.
         let _bytes = text.as_str();
         let Ok(()) = texts.push(text) else {
             return Err(AssemblyFault::Memory);

@@ -1,12 +1,12 @@
--- What is answered once the program is read, and over what the device had left.
+-- The answer after the program is read, and over what the device had left.
 use Rattle.std.proofs.Common.{◌≡◌, ◌≢◌, ℕ, ◌<◌, ◌≤◌, true, false, cond, eqb, ltb, List, ◌⊎◌, length, Option, Some, None, Result, Ok, Err, IfOk, IfErr, arith, ne_eqb, le-ltb, lt-ltb, refl, ap, sym, subst, ◌∙◌}
 use Rattle.std.specs.Io.KnownBytes.{Appends}
 use Rattle.std.specs.Option.{IfSome}
 use Rattle.image.specs.Image.{ImageValue}
 use Rattle.hart_reservations.specs.Limit.{most_harts}
 use Rattle.machine.specs.Start.{IsStartable, Refuses}
-use Rattle.machine.specs.declared.start.StartFault.{StartFault}
-use Rattle.machine.specs.declared.start.StartFault.TheVariants as start
+use Rattle.machine.specs.declared.inputs.StartFault.{StartFault}
+use Rattle.machine.specs.declared.inputs.StartFault.TheVariants as start
 use Rattle.program_open.specs.CommandFaults.{fault_of_start, IfHalts, IfNames, IsRefusal}
 use Rattle.program_open.specs.Program.{program_of}
 use Rattle.program_open.specs.declared.program.ProgramForm.TheVariants as form
@@ -22,7 +22,7 @@ use Rattle.cmd_campaign.specs.Status.{finished_of}
 use Rattle.cmd_campaign.specs.declared.engine.Finished.{Finished}
 
 module _ (campaign : Campaign) (inputs : List ℕ) where
-  -- what is told of an image's runs
+  -- the report of an image's runs
   abbrev shown : ImageValue → Answer
   shown image = Ok (reported campaign (all_endings campaign image inputs))
 
@@ -57,12 +57,11 @@ module _ (campaign : Campaign) (inputs : List ℕ) where
       much : (n : ℕ) → most_harts < n → ltb most_harts n ≡ true
       much n h = lt-ltb most_harts n h
 
-  -- a refusal of the inputs
-  pub answer_of_refused : (image : ImageValue) (why : StartFault) → Refuses inputs why → why ≢ start.Memory
+  -- inputs that are invalid
+  pub answer_of_refused : (image : ImageValue) (why : StartFault) → Refuses inputs why
       → after_image campaign inputs (Ok image) ≡ Err (fault_of_start why)
-  answer_of_refused image start.NoHarts none other = answer_of_none image none
-  answer_of_refused image start.TooManyHarts many other = answer_of_many image many
-  answer_of_refused image start.Memory startable other = absurd (other refl)
+  answer_of_refused image start.NoHarts none = answer_of_none image none
+  answer_of_refused image start.TooManyHarts many = answer_of_many image many
 
   -- ---- the answer to an image is that to what the device had left
   -- a program that isn't read
@@ -128,12 +127,11 @@ done_answer (Ok f) answer lines wanted old new shown written is =
     subst (λ a. Prints a f.status old new) (sym shown) (ap (λ (x : Finished). x.status) (sym is), written)
 done_answer (Err why) answer lines wanted old new shown written is = is
 
--- ---- which device a fault names
--- none, where the inputs are refused
+-- ---- the device that a fault names
+-- none, if the inputs are invalid
 pub start_unread : (why : StartFault) (file choices history sink : Type 0) → IfNames (fault_of_start why) file choices history sink
 start_unread start.NoHarts file choices history sink = tt
 start_unread start.TooManyHarts file choices history sink = tt
-start_unread start.Memory file choices history sink = tt
 
 -- the sink at most, where the runs were halted
 pub halted_unread : (r : Result Finished CommandFault) (risen : Type 0) → IfErr r (λ why. IfHalts why risen)

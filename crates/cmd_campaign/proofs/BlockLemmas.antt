@@ -27,7 +27,7 @@ use Rattle.cmd_campaign.specs.declared.engine.Finished.{Finished}
 use Rattle.cmd_campaign.proofs.ReportLemmas.{begins_at, begins_in}
 use Rattle.cmd_campaign.proofs.TallyLemmas.{as_many, few_counted, tallied}
 
--- the endings of seeds and of those behind them
+-- the endings of seeds and of those after them
 endings-append : (campaign : Campaign) (image : ImageValue) (inputs seeds more : List ℕ)
     → endings_of campaign image inputs (seeds ++ more) ≡ endings_of campaign image inputs seeds ++ endings_of campaign image inputs more
 unfolding endings_of
@@ -71,7 +71,8 @@ first_failure-append exit (end ∷ done) block = by (has_failed exit end) (first
     by false rest = rest
 
 module _ (report : Report) (exit : Exit) where
-  -- the runs that are done are recorded, and it is known which of them has failed first; the others are to come
+  -- the runs that are done are recorded, and it is known which of them has failed first; the others
+  -- are to come
   pub record SoFar (all left : List SeedEnding) (old now : Option (List ℕ)) (rows : List Row) (broken : Bool) (first : Option ℕ) : Type 0 where
     pub done : List SeedEnding
     pub order : all ≡ done ++ left

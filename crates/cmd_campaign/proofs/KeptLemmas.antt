@@ -104,14 +104,14 @@ same_image : (x y : ImageValue) → loads x ≡ loads y → x ≡ y
 same_image x y e = search (rules, e)
 
 -- what is known of the campaign of an object over what the device had left
-module _ (campaign : Campaign) (inputs : List ℕ) (words : All (λ x. x < 2 ^ 32) inputs) (image : ImageValue) where
+module _ (campaign : Campaign) (inputs : List ℕ) (image : ImageValue) where
   abbrev Certifies : Finished → List ℕ → Type 0
   Certifies finished p = (object : IsCertified form.Elf p inputs campaign.expect.rule)
       → IsUnbroken campaign.expect.exit finished.status × AllKept (all_endings campaign object.image inputs)
 
-  certified : (finished : Finished) (p : List ℕ) → IsStartable inputs → program_of form.Elf p ≡ Ok image
+  certified : (finished : Finished) (p : List ℕ) → All (λ x. x < 2 ^ 32) inputs → IsStartable inputs → program_of form.Elf p ≡ Ok image
       → finished ≡ finished_of campaign.expect.exit (all_endings campaign image inputs) → Certifies finished p
-  certified finished p startable reads is = λ object.
+  certified finished p words startable reads is = λ object.
       let seeds = range_with_len campaign.first campaign.count in
       let one : object.image ≡ image = same_image object.image image (sym object.reads ∙ reads) in
       let status : finished.status ≡ status_of campaign.expect.exit (all_endings campaign object.image inputs)
@@ -122,15 +122,15 @@ module _ (campaign : Campaign) (inputs : List ℕ) (words : All (λ x. x < 2 ^ 3
       )
 
   pub certified_known : (left : Option (List ℕ)) (r : Result Finished CommandFault) → IfSome left (λ p. program_of form.Elf p ≡ Ok image)
-      → IfOk r (λ _. IsStartable inputs)
+      → IfOk r (λ _. All (λ x. x < 2 ^ 32) inputs) → IfOk r (λ _. IsStartable inputs)
       → IfOk r (λ f. f ≡ finished_of campaign.expect.exit (all_endings campaign image inputs))
       → IfOk r (λ f. IfSome left (λ p. Certifies f p))
-  certified_known None (Ok f) reads startable is = tt
-  certified_known (Some p) (Ok f) reads startable is = certified f p startable reads is
-  certified_known left (Err why) reads startable is = is
+  certified_known None (Ok f) reads words startable is = tt
+  certified_known (Some p) (Ok f) reads words startable is = certified f p words startable reads is
+  certified_known left (Err why) reads words startable is = is
 
 -- ---- failures
--- what holds of both refusals, and of the answer where there are inputs, holds
+-- what holds for both faults, and for the answer if there are inputs, holds
 answered : {X : Type 0} (P : X → Type 0) (n : ℕ) (none many shown : X) → P none → P many → (0 < n → P shown)
     → P (cond (eqb n 0) none (cond (ltb most_harts n) many shown))
 answered P n none many shown of_none of_many runs = by (eqb n 0) refl

@@ -1,4 +1,4 @@
--- What a campaign over an ELF file answers.
+-- The answer of a campaign over an ELF file.
 use Rattle.std.specs.Prelude.{ℕ, List, length, Option, None}
 use Rattle.std.specs.declared.result.Result.{Result}
 use Rattle.std.specs.declared.result.Result.TheVariants.{Ok, Err}
@@ -18,12 +18,12 @@ use Rattle.cmd_campaign.specs.Summary.{report_text}
 abbrev pub reported : Campaign → List SeedEnding → List ℕ × Status
 reported campaign ends = (report_text campaign.report campaign.expect.exit ends, status_of campaign.expect.exit ends)
 
--- what is answered once the program is read: the number of inputs is looked at before the first run
+-- the answer after the program is read: the number of inputs is checked before the first run
 abbrev pub after_image : Campaign → List ℕ → Result ImageValue CommandFault → Answer
 after_image campaign inputs read = after_program (length inputs)
     (λ image. Ok (reported campaign (all_endings campaign image inputs))) read
 
--- what a campaign answers over an ELF file
+-- the answer of a campaign over an ELF file
 unfoldable pub campaign_answer : Campaign → List ℕ → List ℕ → Answer
 campaign_answer campaign inputs bytes = after_image campaign inputs (program_of form.Elf bytes)
 
@@ -32,6 +32,6 @@ abbrev pub failure_after : Campaign → List ℕ → Result ImageValue CommandFa
 failure_after campaign inputs (Ok image) = first_failure campaign.expect.exit (all_endings campaign image inputs)
 failure_after campaign inputs (Err why) = None
 
--- and over an ELF file
+-- the same over an ELF file
 unfoldable pub campaign_failure : Campaign → List ℕ → List ℕ → Option ℕ
 campaign_failure campaign inputs bytes = failure_after campaign inputs (program_of form.Elf bytes)

@@ -11,7 +11,7 @@ use Rattle.campaign_runs.specs.Runs.{SeedEnding}
 abbrev pub AllKept : List SeedEnding → Type 0
 AllKept ends = All (λ end. end.ending.outcome.verdict ≡ Some Kept) ends
 
--- where a campaign answers, it reports no run, and its status is 0
+-- if a campaign answers, it reports no run, and its status is 0
 abbrev pub AnswersNothing : Answer → Type 0
 AnswersNothing (Ok answer) = (answer.0 ≡ []) × (answer.1 ≡ status.Done)
 AnswersNothing (Err why) = Unit {0}

@@ -10,7 +10,7 @@ use Rattle.campaign_runs.specs.Runs.{SeedEnding}
 use Rattle.campaign_runs.specs.declared.campaign.Report.{Report}
 use Rattle.campaign_runs.specs.declared.campaign.Report.TheVariants.{Lines, Failures, Summary, Outcomes}
 
--- a seed's line, without its verdict and its end: how many harts have exited, have faulted, and run
+-- a seed's line, without verdict and LF: harts that have exited, have faulted, and run
 abbrev pub seed_line : ℕ → ℕ → ℕ → ℕ → List ℕ
 seed_line seed exited faulted running =
     codes "seed " ++ (decimal seed ++ (codes " exited " ++ (decimal exited

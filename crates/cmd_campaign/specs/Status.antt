@@ -22,10 +22,10 @@ abbrev pub first_of : Option ℕ → Option ℕ → Option ℕ
 first_of None other = other
 first_of (Some seed) other = Some seed
 
--- the status of a campaign's runs: by whether a rule is broken in one, and whether one has failed
+-- the status of a campaign's runs: whether a rule is broken in one, and whether one has failed
 abbrev pub status_of : Exit → List SeedEnding → Status
 status_of exit ends = status_by (any_breaks ends) (is_some (first_failure exit ends))
 
--- how a campaign of these runs ends
+-- the end of a campaign of these runs
 abbrev pub finished_of : Exit → List SeedEnding → Finished
 finished_of exit ends = record { status = status_of exit ends; first_failure = first_failure exit ends }

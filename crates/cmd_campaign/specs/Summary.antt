@@ -1,4 +1,4 @@
--- The lines of outcomes, and all that a report has of runs.
+-- The lines of outcomes, and the whole report of runs.
 use Rattle.std.specs.Prelude.{ℕ, ◌+◌, List, [], ◌∷◌, ◌++◌, codes}
 use Rattle.std.specs.Fmt.{decimal}
 use Rattle.std.specs.List.{flat_map}
@@ -12,15 +12,15 @@ use Rattle.campaign_runs.specs.declared.ending.HartResult.{HartResult}
 use Rattle.campaign_runs.specs.declared.tally.SeedCount.{SeedCount}
 use Rattle.cmd_campaign.specs.Lines.{entries_of, verdict_word}
 
--- an outcome's line, without its verdict and its end: how many seeds have it, the first of them, and how many
--- harts have exited, have faulted, and run
+-- an outcome's line, without verdict and LF: the number of its seeds, the first of them, and the
+-- number of harts that have exited, have faulted, and run
 abbrev pub row_line : SeedCount → ℕ → ℕ → ℕ → List ℕ
 row_line count exited faulted running =
     codes "seeds " ++ (decimal count.seeds ++ (codes " first " ++ (decimal count.first
     ++ (codes " exited " ++ (decimal exited ++ (codes " faulted " ++ (decimal faulted
     ++ (codes " running " ++ decimal running))))))))
 
--- what harts left that are numbered from a number on: ` 0:a0=00000001 0:a1=00000000` for each
+-- the results of harts from a number on: ` 0:a0=00000001 0:a1=00000000` for each
 abbrev pub result_words : ℕ → List HartResult → List ℕ
 result_words number [] = []
 result_words number (result ∷ results) =
@@ -45,8 +45,8 @@ counted_of Failures ends = []
 counted_of Summary ends = ends
 counted_of Outcomes ends = ends
 
--- all that a report has of runs: their lines, those of the failed ones, or a line for each outcome in the order of
--- the first seeds
+-- the whole report of runs: their lines, those of the failed ones, or a line for each outcome in
+-- the order of their first seeds
 abbrev pub report_text : Report → Exit → List SeedEnding → List ℕ
 report_text Lines exit ends = entries_of Lines exit ends
 report_text Failures exit ends = entries_of Failures exit ends

@@ -1,6 +1,6 @@
-//! `campaign`: a program and a range of seeds in; the report of their runs out.
+//! `campaign`: from a program and a range of seeds to the report of their runs.
 
-ghost use Rattle.std.specs.Prelude.{◌≡◌, ◌≢◌, ◌+◌, ◌-◌, ◌^◌, ◌<◌, ◌≤◌, ◌⊎◌, Ok, Err, IfOk, IfErr, IfSome};
+ghost use Rattle.std.specs.Prelude.{◌≡◌, ◌≢◌, ◌+◌, ◌-◌, ◌^◌, ◌<◌, ◌≤◌, ◌⊎◌, All, Ok, Err, IfOk, IfErr, IfSome};
 ghost use Rattle.std.specs.Io.KnownBytes.{Appends, Keeps};
 ghost use Rattle.machine.specs.Start.{IsStartable};
 ghost use Rattle.cmd_run.specs.Certified.{IsCertified, IsUnbroken};
@@ -19,9 +19,8 @@ use crate::record::record_block;
 use crate::rows::summary_text;
 use byte_io::{Sink, Source, Status, write_all};
 use campaign_runs::{Campaign, Seeds, Tally, run_block};
-use cmd_run::see_words;
 use image::Image;
-use machine::check_inputs;
+use machine::Inputs;
 use program_open::{CommandFault, ProgramForm, read_image};
 use progress::Progress;
 use std::alloc::{AllocError, Allocator};
@@ -30,32 +29,31 @@ use std::thread::Threads;
 /// How a campaign ended.
 #[derive(Clone, Copy, PartialEq, Eq)]
 pub struct Finished {
-    /// `Broken` where a rule is broken in some run, else `Faulted` where some run has failed, else
+    /// `Broken` if a rule is broken in some run, else `Faulted` if some run has failed, else
     /// `Done`.
     pub status: Status,
     /// The first seed whose run has failed, if one has.
     pub first_failure: Option<u64>,
 }
 
-// Looks at the number of seeds, so that it is known to be one of 64 bits.
+// Reads the number of seeds, which gives the proof that it fits in 64 bits.
 fn see_count(campaign: Campaign)
     ensures { campaign.count < 2 ^ 64 }
 {
     let _count = campaign.count;
 }
 
-// Does the runs of all seeds, block by block, and records them. After a fault a beginning of their
-// lines may stand in the sink.
+// Does the runs of all seeds, block by block, and records them. After a fault the sink may have a
+// beginning of their lines.
 fn run_blocks<A: Allocator + Copy + Send + Sync, K: Sink>(
     rt: &(impl Threads + Sync),
     alloc: A,
     image: &Image<A>,
-    inputs: &[u32],
+    inputs: &Inputs,
     campaign: Campaign,
     sink: &mut K,
     progress: &mut impl Progress,
 ) -> Result<(Tally<A>, Finished), CommandFault>
-    requires startable { IsStartable inputs.now }
     requires fits { campaign.first + campaign.count ≤ 2 ^ 64 }
     requires sink_counts { K.failures sink.old < 2 ^ 64 - 1 }
     ensures written { IfOk result (λ _. Appends (K.held sink.old) (K.held sink.new)
@@ -94,7 +92,7 @@ fn run_blocks<A: Allocator + Copy + Send + Sync, K: Sink>(
     Ok((tally, found.finished()))
 }
 
-// Writes a line for each row of a tally. Nothing is written where memory is refused.
+// Writes a line for each row of a tally. Nothing is written if out of memory.
 fn write_rows<A: Allocator + Copy, K: Sink>(
     alloc: A,
     tally: &Tally<A>,
@@ -120,18 +118,17 @@ fn write_rows<A: Allocator + Copy, K: Sink>(
     }
 }
 
-// Does the runs of all seeds and writes their report. After a fault a beginning of it may stand in the
-// sink.
+// Does the runs of all seeds and writes their report. After a fault the sink may have a beginning
+// of it.
 fn write_report<A: Allocator + Copy + Send + Sync, K: Sink>(
     rt: &(impl Threads + Sync),
     alloc: A,
     image: &Image<A>,
-    inputs: &[u32],
+    inputs: &Inputs,
     campaign: Campaign,
     sink: &mut K,
     progress: &mut impl Progress,
 ) -> Result<Finished, CommandFault>
-    requires startable { IsStartable inputs.now }
     requires fits { campaign.first + campaign.count ≤ 2 ^ 64 }
     requires sink_counts { K.failures sink.old < 2 ^ 64 - 1 }
     ensures written { IfOk result (λ _. Appends (K.held sink.old) (K.held sink.new)
@@ -156,7 +153,7 @@ fn write_report<A: Allocator + Copy + Send + Sync, K: Sink>(
     }
 }
 
-// Writes the report of an image's campaign. Nothing is written where the inputs are refused.
+// Writes the report of an image's campaign. Nothing is written if the inputs are invalid.
 fn write_campaign<A: Allocator + Copy + Send + Sync, K: Sink>(
     rt: &(impl Threads + Sync),
     alloc: A,
@@ -169,6 +166,7 @@ fn write_campaign<A: Allocator + Copy + Send + Sync, K: Sink>(
     requires fits { campaign.first + campaign.count ≤ 2 ^ 64 }
     requires sink_counts { K.failures sink.old < 2 ^ 64 - 1 }
     ensures takes { IfOk result (λ _. IsStartable inputs.now) }
+    ensures words { IfOk result (λ _. All (λ x. x < 2 ^ 32) inputs.now) }
     ensures done { IfOk result (λ finished.
         Prints (after_image campaign inputs.now (Ok image.now)) finished.status
         (K.held sink.old) (K.held sink.new)) }
@@ -189,17 +187,17 @@ fn write_campaign<A: Allocator + Copy + Send + Sync, K: Sink>(
         ⊎ BeginsToPrint (after_image campaign inputs.now (Ok image.now))
         (K.held sink.old) (K.held sink.new) }
 {
-    match check_inputs(inputs) {
-        Ok(()) => {}
+    let inputs = match Inputs::new(inputs) {
+        Ok(inputs) => inputs,
         Err(fault) => return Err(CommandFault::from(fault)),
-    }
-    write_report(rt, alloc, image, inputs, campaign, sink, progress)
+    };
+    write_report(rt, alloc, image, &inputs, campaign, sink, progress)
 }
 
-/// `campaign`: reads an ELF file to its end, does a run for each seed, and writes what the report has
-/// of them: lines while the runs go on, a summary once all are done.
-/// Nothing is written where what was read is refused, nor of a summary where memory is; after another
-/// fault a beginning of the report may stand there.
+/// `campaign`: reads an ELF file to its end, does a run for each seed, and writes their report:
+/// lines while the runs go on, a summary once all are done. Nothing is written if an input is
+/// invalid, nor of a summary if out of memory; after any other fault the sink may have a beginning
+/// of the report.
 pub fn campaign_engine<A: Allocator + Copy + Send + Sync, P: Source, K: Sink>(
     rt: &(impl Threads + Sync),
     alloc: A,
@@ -219,32 +217,32 @@ pub fn campaign_engine<A: Allocator + Copy + Send + Sync, P: Source, K: Sink>(
     // The first seed whose run has failed.
     ensures first { IfOk result (λ finished. IfSome (P.left program.old) (λ p.
         finished.first_failure ≡ campaign_failure campaign inputs.now p)) }
-    // What was read is refused, and nothing is written.
+    // An input is invalid, and nothing is written.
     ensures refused { IfErr result (λ fault. IsRefusal fault
         → IfSome (P.left program.old) (λ p. campaign_answer campaign inputs.now p ≡ Err fault)) }
     ensures unwritten { IfErr result (λ fault. fault ≢ CommandFault.Write → fault ≢ CommandFault.Memory
         → Keeps (K.held sink.old) (K.held sink.new)) }
-    // Of a summary nothing is written unless all of it is there to be written.
+    // A summary is written only once all of its text is made.
     ensures whole { IsSummary campaign.report → IfErr result (λ fault. fault ≢ CommandFault.Write
         → Keeps (K.held sink.old) (K.held sink.new)) }
-    // A device is named only where it failed; there is no other text to read.
+    // A device is named only if it failed; the program is the only input.
     ensures read { IfErr result (λ fault. IfNames fault
         (P.failures program.old < P.failures program.new) ⊥ ⊥
         (K.failures sink.old < K.failures sink.new)) }
-    // After a failed write, and where memory is refused to a later run, a beginning of the report stands there.
+    // After a failed write, or if a later run is out of memory, the sink has a beginning of the
+    // report.
     ensures begun { result ≡ Err CommandFault.Write → IfSome (P.left program.old) (λ p.
         BeginsToPrint (campaign_answer campaign inputs.now p) (K.held sink.old) (K.held sink.new)) }
     ensures halted { result ≡ Err CommandFault.Memory → IfSome (P.left program.old) (λ p.
         Keeps (K.held sink.old) (K.held sink.new)
         ⊎ BeginsToPrint (campaign_answer campaign inputs.now p) (K.held sink.old) (K.held sink.new)) }
-    // Of a file that is an object, run by as many harts as it is for, each verdict by its kind's rule is
-    // `kept`, and the status tells of no broken rule.
+    // For a file that is an object, run by as many harts as it is for, each verdict by its kind's
+    // rule is `kept`, and the status shows no broken rule.
     ensures certified { IfOk result (λ finished. IfSome (P.left program.old) (λ p.
         (object : IsCertified ProgramForm.Elf p inputs.now campaign.expect.rule)
         → IsUnbroken campaign.expect.exit finished.status
         × AllKept (all_endings campaign object.image inputs.now))) }
 {
-    see_words(inputs);
     let image = match read_image(alloc, ProgramForm::Elf, program) {
         Ok(image) => image,
         Err(fault) => return Err(fault),

@@ -1,4 +1,4 @@
-//! What is known of a campaign's runs so far.
+//! The failures of a campaign's runs so far.
 
 ghost use Rattle.std.specs.Prelude.{◌≡◌, map};
 ghost use Rattle.campaign_runs.specs.Runs.{end_of};
@@ -9,7 +9,7 @@ use campaign_runs::SeedEnd;
 use outcome::{Expect, status_by};
 use std::alloc::Allocator;
 
-/// What is known of the runs that are done.
+/// The failures of the runs that are done.
 #[derive(Clone, Copy, Drop)]
 pub(crate) struct Findings {
     /// Whether a rule is broken in one.
@@ -29,7 +29,7 @@ impl Findings {
         first_failure: None,
     };
 
-    /// More runs are done.
+    /// Adds more runs.
     pub(crate) fn add<A: Allocator>(&mut self, expect: Expect, ends: &[SeedEnd<A>])
         ensures broken { self.new.is_broken ≡ (self.old.is_broken || any_breaks (map end_of ends.now)) }
         ensures first { self.new.first_failure
@@ -42,7 +42,7 @@ impl Findings {
         };
     }
 
-    /// How a campaign of these runs ends.
+    /// The end of a campaign of these runs.
     pub(crate) fn finished(self) -> Finished
         ensures status { result.status ≡ status_by self.is_broken (is_some self.first_failure) }
         ensures first { result.first_failure ≡ self.first_failure }

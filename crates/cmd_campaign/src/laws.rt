@@ -16,19 +16,20 @@ ghost use Rattle.cmd_campaign.specs.Answers.{campaign_answer};
 ghost use Rattle.cmd_campaign.specs.Kept.{AnswersNothing};
 ghost use Rattle.cmd_campaign.specs.Status.{status_of};
 
-/// The counts of a summary's rows come to the number of seeds.
+/// The counts of a summary's rows add up to the number of seeds.
 pub fn all_seeds_are_counted()
     ensures { (campaign : Campaign) (image : ImageValue) (inputs : List ℕ)
         → seeds_in (tally_of (all_endings campaign image inputs)) ≡ campaign.count }
 {}
 
-/// A campaign of one run ends with the status that the run has.
+/// A campaign of one run has the status of that run.
 pub fn campaign_of_one_run_has_its_status()
     ensures { (exit : Exit) (end : SeedEnding)
         → status_of exit (end ∷ []) ≡ run.status_of exit end.ending.outcome }
 {}
 
-/// Of a file that is an object, run by as many harts as it is for under its kind's rule, `campaign --failures` reports no run, and its status is 0.
+/// For a file that is an object, run by as many harts as it is for under its kind's rule, `campaign
+/// --failures` reports no run, and its status is 0.
 pub fn failures_of_an_object_are_none()
     ensures { (campaign : Campaign) (inputs program : List ℕ) → campaign.report ≡ Failures → campaign.expect.exit ≡ May
         → All (λ x. x < 2 ^ 32) inputs → IsCertified Elf program inputs campaign.expect.rule

@@ -1,4 +1,4 @@
-//! What `campaign` does, over any source of bytes and any sink.
+//! The engine of `campaign`.
 #![tactic(auto)]
 
 pub use campaign_runs::{Campaign, Report};

@@ -9,7 +9,7 @@ use outcome::Expect;
 use std::alloc::{AllocError, Allocator};
 use std::fmt;
 
-// How many harts of a seed's run ended in each way, shown as a line without its end.
+// The number of harts of a seed's run that ended in each way, shown as a line without LF.
 #[derive(Clone, Copy)]
 struct SeedLine {
     seed: u64,
@@ -76,7 +76,7 @@ fn push_entry<A: Allocator>(
     Ok(())
 }
 
-/// Appends what a report has of runs while they go on, in order. Refused for want of memory alone.
+/// Appends what a report has of runs while they go on, in order. The only error is out of memory.
 pub fn push_lines<A: Allocator>(
     text: &mut String<A>,
     report: Report,

@@ -1,4 +1,4 @@
-//! What becomes of a block's runs: lines that are written, or seeds that are counted.
+//! Records a block's runs: writes their lines, or counts their seeds.
 
 ghost use Rattle.std.specs.Prelude.{◌≡◌, ◌+◌, ◌-◌, ◌<◌, ◌^◌, IfOk, IfErr, length, map};
 ghost use Rattle.std.specs.Io.KnownBytes.{Appends};
@@ -16,7 +16,7 @@ use campaign_runs::{Campaign, Ending, Report, SeedEnd, Tally};
 use program_open::CommandFault;
 use std::alloc::{AllocError, Allocator};
 
-// An ending once more.
+// A copy of an ending.
 fn copied<A: Allocator + Copy>(alloc: A, ending: &Ending<A>) -> Result<Ending<A>, AllocError>
     ensures { IfOk result (λ copy. ending_of copy ≡ ending_of ending.now) }
 {
@@ -26,7 +26,7 @@ fn copied<A: Allocator + Copy>(alloc: A, ending: &Ending<A>) -> Result<Ending<A>
     })
 }
 
-/// Counts seeds under the endings of their runs. Refused for want of memory alone.
+/// Counts seeds under the endings of their runs. The only error is out of memory.
 pub fn count_ends_of<A: Allocator + Copy>(
     alloc: A,
     tally: &mut Tally<A>,
@@ -71,7 +71,6 @@ fn write_lines<A: Allocator + Copy, K: Sink>(
     }
 }
 
-// Counts a block's seeds.
 fn count_block<A: Allocator + Copy>(
     alloc: A,
     tally: &mut Tally<A>,
@@ -88,8 +87,8 @@ fn count_block<A: Allocator + Copy>(
     }
 }
 
-/// Records a block's runs as a campaign's report wants it: writes their lines, or counts their seeds.
-/// After a fault a beginning of the lines may stand in the sink.
+/// Records a block's runs for a campaign's report: writes their lines, or counts their seeds. After
+/// a fault the sink may have a beginning of the lines.
 pub fn record_block<A: Allocator + Copy, K: Sink>(
     alloc: A,
     campaign: Campaign,

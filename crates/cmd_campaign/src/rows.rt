@@ -10,7 +10,8 @@ use isa_names::Word;
 use std::alloc::{AllocError, Allocator};
 use std::fmt;
 
-// How many seeds there are, the first of them, and how many harts ended in each way, shown as a line without its end.
+// Number of seeds, the first of them, and the number of harts that ended in each way, shown as a
+// line without LF.
 #[derive(Clone, Copy)]
 struct RowLine {
     count: SeedCount,
@@ -37,7 +38,7 @@ impl fmt::Display for RowLine {
     }
 }
 
-// Appends what each hart left.
+// Appends the results of harts.
 fn push_results<A: Allocator>(
     text: &mut String<A>,
     results: &[HartResult],
@@ -78,7 +79,7 @@ fn push_row<A: Allocator>(
     Ok(())
 }
 
-/// The lines of a tally. Refused for want of memory alone.
+/// The lines of a tally. The only error is out of memory.
 pub fn summary_text<A: Allocator + Copy>(
     alloc: A,
     tally: &Tally<A>,

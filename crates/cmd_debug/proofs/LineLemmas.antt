@@ -30,7 +30,7 @@ plain_more bytes b plain other =
 no_lf : (b : ℕ) → b ≢ 10 → (b == 10) ≡ false
 no_lf b other = search (rules, common_steps)
 
--- a byte more of a line was read
+-- one more byte of a line was read
 module _ (old l0 l1 : Option (List ℕ)) (before r0 r1 : ℕ) (line piece : List ℕ) (n : ℕ)
     (so_far : IsTaking old l0 before r0 line) (one : length piece ≡ 1) (some : n ≢ 0)
     (took : Consumes l0 l1 (take n piece)) (nearer : r1 + n ≤ r0) where

@@ -17,3 +17,8 @@ in_session P inputs image choices s None text commands opens begun h = tt
 in_session P inputs image choices s (Some p) None commands opens begun h = tt
 in_session P inputs image choices s (Some p) (Some t) commands opens begun h =
     subst (λ r. IfSome commands (P r)) (ap Ok begun ∙ sym (ap (after_opening inputs) opens)) h
+
+-- the same inputs begin the same session
+pub same_inputs : (image : ImageValue) (xs ys : List ℕ) (choices : List Choice) → xs ≡ ys
+    → first_session image xs choices ≡ first_session image ys choices
+same_inputs image xs ys choices same = ap (λ inputs. first_session image inputs choices) same

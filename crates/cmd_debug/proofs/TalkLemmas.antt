@@ -68,7 +68,8 @@ answers_first s rest after line took = ⊎_elim
     ap (answers s) split)
     took
 
--- what is shown of the whole input is what was shown, and then what is shown of the rest in this session
+-- what is shown of the whole input is what was shown, and then what is shown of the rest in this
+-- session
 abbrev pub AnswersLeft : Session → Option (List ℕ) → Option (List ℕ) → List ℕ → Session → Type 0
 AnswersLeft first None rest done s = Unit {0}
 AnswersLeft first (Some input) None done s = ⊥
@@ -88,7 +89,7 @@ left_on first (Some input) (Some rest) (Some others) s after line text done left
     left ∙ ap (λ xs. done ++ xs) (answers_first s rest others line took ∙ ap (λ o. shown_on o (lines others)) outcome)
     ∙ sym (append_assoc done text (answers after (lines others)))
 
--- so many lines were answered, and the rest is still to be answered in this session
+-- the lines so far were answered, and the rest is still to be answered in this session
 pub record IsAnswered (first : Session) (input rest old now : Option (List ℕ)) (s : Session) : Type 0 where
   pub done : List ℕ
   pub wrote : Appends old now done

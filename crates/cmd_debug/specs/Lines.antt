@@ -1,4 +1,4 @@
--- Lines that were taken off the front of a source.
+-- Lines read from the front of a source.
 use Rattle.std.specs.Prelude.{◌≡◌, ℕ, ◌<◌, ◌==◌, ◌++◌, ◌⊎◌, Bool, true, not, List, [], ◌∷◌, Option, length}
 use Rattle.std.specs.List.{list_all}
 use Rattle.std.specs.Io.KnownBytes.{Consumes, IsAtEnd}
@@ -12,20 +12,20 @@ has_no_end = list_all (λ b. not (b == 10))
 abbrev pub TakesNone : Option (List ℕ) → Option (List ℕ) → Type 0
 TakesNone old new = Consumes old new [] × IsAtEnd new
 
--- the bytes up to an LF and the LF were taken, and the line is these bytes, less a carriage return
+-- the bytes up to an LF and the LF were read; the line is these bytes without a final CR
 pub record TakesEnded (old new : Option (List ℕ)) (line : List ℕ) : Type 0 where
   pub bytes : List ℕ
   pub plain : has_no_end bytes ≡ true
   pub took : Consumes old new (bytes ++ 10 ∷ [])
   pub is : line ≡ strip_carriage_return bytes
 
--- all bytes that were left were taken, none of which ends a line, and they are the line
+-- all bytes that were left were read, none of which ends a line, and they are the line
 pub record TakesLast (old new : Option (List ℕ)) (line : List ℕ) : Type 0 where
   pub plain : has_no_end line ≡ true
   pub took : Consumes old new line
   pub some : 0 < length line
   pub end : IsAtEnd new
 
--- a line of any length was taken
+-- a line of any length was read
 abbrev pub TakesLine : Option (List ℕ) → Option (List ℕ) → List ℕ → Type 0
 TakesLine old new line = TakesEnded old new line ⊎ TakesLast old new line

@@ -1,4 +1,4 @@
--- The session that a file, inputs and a choice text begin, or the first fault of what was read, and what it leaves in a sink.
+-- The session that a file, inputs and a choice text begin, or the first fault; and its output.
 use Rattle.std.specs.Prelude.{ℕ, List, [], length, Option}
 use Rattle.std.specs.Io.KnownBytes.{Appends}
 use Rattle.std.specs.Str.Lines.{lines}
@@ -17,7 +17,7 @@ use Rattle.cmd_debug.specs.Talk.{answers, Begins}
 use Rattle.cmd_debug.specs.declared.fault.DebugEngineFault.{DebugEngineFault}
 use Rattle.cmd_debug.specs.declared.fault.DebugEngineFault.TheVariants as engine
 
--- a session, or why there is none
+-- a session, or the fault
 abbrev pub Opening : Type 0
 Opening = Result Session CommandFault
 
@@ -26,7 +26,7 @@ abbrev pub first_session : ImageValue → List ℕ → List Choice → Session
 first_session image inputs choices =
     record { image = image; inputs = inputs; choices = choices; position = 0; breaks = []; watches = [] }
 
--- the session once it is known what its run begins with
+-- the session for an opened run
 abbrev pub after_opening : List ℕ → Opened → Opening
 after_opening inputs (Ok run) = Ok (first_session run.0 inputs run.1)
 after_opening inputs (Err why) = Err why
@@ -40,17 +40,17 @@ abbrev pub Answers : Opening → List ℕ → Option (List ℕ) → Option (List
 Answers (Ok s) commands old new = Appends old new (answers s (lines commands))
 Answers (Err why) commands old new = ⊥
 
--- a beginning of them was appended
+-- a beginning of the answers was appended
 abbrev pub BeginsToAnswer : Opening → List ℕ → Option (List ℕ) → Option (List ℕ) → Type 0
 BeginsToAnswer (Ok s) commands old new = Begins old new (answers s (lines commands))
 BeginsToAnswer (Err why) commands old new = ⊥
 
--- a fact that holds where no session was begun
+-- a fact for the case that no session began
 abbrev pub IfUnopened : DebugEngineFault → (CommandFault → Type 0) → Type 0
 IfUnopened (engine.Refused why) P = P why
 IfUnopened why P = Unit {0}
 
--- a fact that holds where a session was begun and did not end
+-- a fact for the case that a session began and did not end
 abbrev pub IfCut : DebugEngineFault → Type 0 → Type 0
 IfCut (engine.Refused why) P = Unit {0}
 IfCut why P = P

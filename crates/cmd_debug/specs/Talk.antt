@@ -1,4 +1,4 @@
--- A conversation with the debugger.
+-- A debugger session: lines and answers.
 use Rattle.std.specs.Prelude.{ℕ, ◌++◌, false, List, [], ◌∷◌, take, Option, Ok, Err, codes, if◌then◌else◌}
 use Rattle.std.specs.Io.KnownBytes.{Appends}
 use Rattle.std.specs.Str.{is_utf8}
@@ -7,17 +7,17 @@ use Rattle.debug_text.specs.Reply.{Outcome, Reply, reply_to}
 use Rattle.debug_text.specs.declared.fault.DebugFault.{DebugFault}
 use Rattle.debug_text.specs.declared.fault.DebugFault.TheVariants as faults
 
--- the line that is shown for a refused command
+-- the line shown for a refused command
 abbrev pub fault_line : DebugFault → List ℕ
 fault_line faults.BadCommand = codes "bad command\n"
 fault_line faults.PastEnd = codes "past end\n"
 fault_line faults.Memory = codes "out of memory\n"
 
--- what is replied to a line of any length, without its end; bytes that are no UTF-8 are no command
+-- the reply to a line of any length, without its end; bytes that aren't UTF-8 are no command
 abbrev pub line_reply : Session → List ℕ → Reply
 line_reply s line = if is_utf8 line then reply_to s line else Err faults.BadCommand
 
--- a reply as an outcome: a refused command is told, and changes nothing
+-- a reply as an outcome: a refused command is reported, and changes nothing
 abbrev pub settled : Session → Reply → Outcome
 settled s (Ok outcome) = outcome
 settled s (Err why) = record { text = fault_line why; after = s; ended = false }
@@ -26,7 +26,7 @@ settled s (Err why) = record { text = fault_line why; after = s; ended = false }
 unfoldable pub outcome_to : Session → List ℕ → Outcome
 outcome_to s line = settled s (line_reply s line)
 
--- what is shown for lines until one ends the session
+-- the text shown for lines, until one ends the session
 abbrev pub answers : Session → List (List ℕ) → List ℕ
 answers s [] = []
 answers s (line ∷ lines) =

@@ -1,4 +1,4 @@
-//! A conversation: each line is answered before the next is read.
+//! A debugger session: each line is answered before the next is read.
 
 ghost use Rattle.std.specs.Prelude.{◌≡◌, ◌+◌, ◌-◌, ◌^◌, ◌<◌, Err, IfOk, IfErr, IfSome, string_bytes};
 ghost use Rattle.std.specs.Io.KnownBytes.{Appends};
@@ -13,18 +13,18 @@ use debug_session::Debugger;
 use debug_text::{Answer, DebugFault, command};
 use std::alloc::{AllocError, Allocator};
 
-/// Why a conversation ended early.
+/// Why a session ended early.
 #[derive(Clone, Copy, PartialEq, Eq)]
 pub enum TalkFault {
     /// The commands can't be read.
     Read,
     /// The answers can't be written.
     Write,
-    /// Memory was refused.
+    /// Out of memory.
     Memory,
 }
 
-// The line that tells why a command is refused.
+// The line that reports a refused command.
 fn fault_text<A: Allocator>(alloc: A, fault: DebugFault) -> Result<String<A>, AllocError>
     ensures { IfOk result (λ text. string_bytes text ≡ fault_line fault) }
 {
@@ -36,7 +36,8 @@ fn fault_text<A: Allocator>(alloc: A, fault: DebugFault) -> Result<String<A>, Al
     String::from_str(alloc, line)
 }
 
-// Obeys a line, without its end, and answers its text. One that is no UTF-8 is a bad command.
+// Does the command of a line, without its end, and returns its text. A line that isn't UTF-8 is a
+// bad command.
 fn answer_line<A: Allocator + Copy>(
     alloc: A,
     debugger: &mut Debugger<A>,
@@ -55,7 +56,8 @@ fn answer_line<A: Allocator + Copy>(
     }
 }
 
-/// Answers the lines of a source, each as soon as it has come, until one ends the session or none is left.
+/// Answers the lines of a source, each as soon as it is read, until one ends the session or none is
+/// left.
 pub fn talk<A: Allocator + Copy, S: Source, K: Sink>(
     alloc: A,
     debugger: &mut Debugger<A>,

@@ -1,4 +1,4 @@
-//! `debug`: a program, inputs and a list of choices in; then commands in, and an answer out for each.
+//! `debug`: from a program, inputs, a choice text and commands to an answer for each command.
 
 ghost use Rattle.std.specs.Prelude.{◌≡◌, ◌^◌, ◌-◌, ◌<◌, Ok, Err, IfOk, IfErr, IfSome, length};
 ghost use Rattle.std.specs.Io.KnownBytes.{Keeps};
@@ -16,9 +16,10 @@ use program_open::{CommandFault, Input, ProgramForm, open_run};
 use progress::Progress;
 use std::alloc::{AllocError, Allocator};
 
-/// `debug`: reads the file to its end, and where it is a program and the inputs are not too many, the choice text to its end; then answers each line of the
-/// commands before it reads the next, until one ends the session or none is left. No command is read where the session
-/// can't be begun. How far a long start is, is told meanwhile.
+/// `debug`: reads the file to its end and, if it is a valid program and the number of inputs is
+/// valid, the choice text to its end; then answers each line of the commands before it reads the
+/// next, until one ends the session or none is left. If the session can't begin, no command is
+/// read. A long start reports its progress.
 #[tactic(auto, unfolding(crate::specs::Opening::opened))]
 pub fn debug_engine<A: Allocator + Copy, P: Source, C: Source, S: Source, K: Sink>(
     alloc: A,
@@ -34,12 +35,12 @@ pub fn debug_engine<A: Allocator + Copy, P: Source, C: Source, S: Source, K: Sin
     requires commands_count { S.failures commands.old < 2 ^ 64 - 1 }
     requires sink_counts { K.failures sink.old < 2 ^ 64 - 1 }
     ensures status { IfOk result (λ status. status ≡ Status.Done) }
-    // The answers of the session to the lines of the commands were appended.
+    // The session's answers to the lines of the commands were appended.
     ensures done { IfOk result (λ _.
         IfSome (P.left program.old) (λ p. IfSome (C.left choices.old) (λ c.
         IfSome (S.left commands.old) (λ s.
         Answers (opened inputs.now p c) s (K.held sink.old) (K.held sink.new))))) }
-    // What was read is refused, and no command is read and nothing written.
+    // An input is invalid, no command is read and nothing is written.
     ensures refused { IfErr result (λ fault. IfUnopened fault (λ why. IsRefusal why
         → IfSome (P.left program.old) (λ p. IfSome (C.left choices.old) (λ c.
         opened inputs.now p c ≡ Err why)))) }
@@ -47,22 +48,22 @@ pub fn debug_engine<A: Allocator + Copy, P: Source, C: Source, S: Source, K: Sin
         Keeps (K.held sink.old) (K.held sink.new))) }
     ensures unread { IfErr result (λ fault. IfUnopened fault (λ _.
         Keeps (S.left commands.old) (S.left commands.new))) }
-    // A device is named only where it failed.
+    // A device is named only if it failed.
     ensures read { IfErr result (λ fault. IfUnopened fault (λ why. IfNames why
         (P.failures program.old < P.failures program.new)
         (C.failures choices.old < C.failures choices.new) ⊥ ⊥)) }
-    // A fault of the program comes before one of the device that the choices are read from.
+    // A fault of the program comes before one of the choices' device.
     ensures program_first { result ≡ Err (DebugEngineFault.Refused (CommandFault.Read Input.Choices))
         → IfSome (P.left program.old) (λ p.
         (image : ImageValue) × (program_of ProgramForm.Elf p ≡ Ok image)) }
-    // And so does the fault of the number of inputs.
+    // So does the fault of the number of inputs.
     ensures inputs_first { result ≡ Err (DebugEngineFault.Refused (CommandFault.Read Input.Choices))
         → IsStartable inputs.now }
     ensures commands { result ≡ Err DebugEngineFault.Commands
         → S.failures commands.old < S.failures commands.new }
     ensures write { result ≡ Err DebugEngineFault.Answers
         → K.failures sink.old < K.failures sink.new }
-    // After a fault within the session a beginning of its answers stands there.
+    // After a fault within the session the sink has a beginning of its answers.
     ensures begun { IfErr result (λ fault. IfCut fault
         (IfSome (P.left program.old) (λ p. IfSome (C.left choices.old) (λ c.
         IfSome (S.left commands.old) (λ s.
@@ -72,7 +73,7 @@ pub fn debug_engine<A: Allocator + Copy, P: Source, C: Source, S: Source, K: Sin
         Ok(run) => run,
         Err(fault) => return Err(DebugEngineFault::Refused(fault)),
     };
-    let mut debugger = match open_session(alloc, run, inputs, progress) {
+    let mut debugger = match open_session(alloc, run, progress) {
         Ok(debugger) => debugger,
         Err(AllocError) => return Err(DebugEngineFault::Refused(CommandFault::Memory)),
     };

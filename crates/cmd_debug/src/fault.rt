@@ -1,4 +1,4 @@
-//! Why a session isn't held to its end.
+//! Why a session ends with a fault.
 
 ghost use Rattle.std.specs.Prelude.{◌≡◌};
 ghost use Rattle.cmd_debug.specs.Opening.{status_of};
@@ -7,11 +7,11 @@ use byte_io::Status;
 use program_open::CommandFault;
 use thiserror::Error;
 
-/// Why a session isn't held to its end. The text of each is what stands after `rvcons: ` on standard error, but that the
-/// program puts the path of an input that can't be read.
+/// Why a session ends with a fault. The text of each is printed after `rvcons: ` on standard error;
+/// for an input that can't be read the program prints its path instead.
 #[derive(Clone, Copy, Debug, PartialEq, Eq, Error)]
 pub enum DebugEngineFault {
-    /// No session is begun: a run of the same program, inputs and choice text would be refused so.
+    /// No session begins: a run of the same program, inputs and choice text has this fault.
     #[error("{0}")]
     Refused(CommandFault),
     /// The commands can't be read.
@@ -20,13 +20,13 @@ pub enum DebugEngineFault {
     /// The answers can't be written.
     #[error("cannot write -")]
     Answers,
-    /// Memory was refused within the session.
+    /// Out of memory within the session.
     #[error("out of memory")]
     Memory,
 }
 
 impl DebugEngineFault {
-    /// The status that the program ends with.
+    /// The program's exit status.
     pub fn status(self) -> Status
         ensures { result ≡ status_of self }
     {

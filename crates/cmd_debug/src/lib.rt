@@ -1,4 +1,4 @@
-//! What `debug` does, over any source of commands and any sink.
+//! The engine of `debug`.
 #![tactic(auto)]
 
 pub use conversation::{TalkFault, talk};

@@ -1,4 +1,4 @@
-//! Lines of a source, read as they come.
+//! Reads the lines of a source, one at a time.
 
 ghost use Rattle.std.specs.Prelude.{◌≡◌, ◌+◌, ◌-◌, ◌^◌, ◌<◌, Err, IfOk, IfSome, MatchOption, length};
 ghost use Rattle.std.specs.Io.KnownBytes.{IsAtEnd};
@@ -8,7 +8,7 @@ ghost use Rattle.cmd_debug.specs.Lines.{TakesLine, TakesNone};
 use byte_io::{DeviceFault, ReadFault, Source};
 use std::alloc::Allocator;
 
-/// Takes the carriage return off the end, if one stands there.
+/// Removes a carriage return at the end, if there is one.
 pub(crate) fn strip<A: Allocator>(line: &mut Vec<u8, A>)
     ensures { line.new.items ≡ strip_carriage_return line.old.items }
 {
@@ -17,8 +17,9 @@ pub(crate) fn strip<A: Allocator>(line: &mut Vec<u8, A>)
     }
 }
 
-/// The next line without its end, as soon as its end has come. None where no byte is left. A line ends by LF or CR LF, or by the
-/// source's end, and may be of any length; it takes memory in proportion.
+/// The next line without its end, as soon as its end is read; `None` if no byte is left. A line
+/// ends with LF or CR LF, or at the source's end, and may have any length; it takes memory in
+/// proportion.
 pub fn read_line<A: Allocator + Copy, S: Source>(
     alloc: A,
     source: &mut S,

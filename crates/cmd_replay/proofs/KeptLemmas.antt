@@ -1,4 +1,4 @@
--- What is printed of a certified file after a history.
+-- The printed result of a certified file after a history.
 use Rattle.std.proofs.Common.{◌≡◌, ℕ, suc, ◌^◌, ◌<◌, false, List, [], ◌∷◌, length, Option, Some, None, Ok, sym, subst, arith}
 use Rattle.std.specs.Prelude.{replicate}
 use Rattle.std.specs.Option.{IfSome}
@@ -17,7 +17,7 @@ use Rattle.outcome.specs.declared.expect.Exit.TheVariants.{May}
 use Rattle.cmd_run.proofs.CertifiedLemmas.{certified_shown}
 use Rattle.cmd_replay.specs.Replay.{after_opening, replay_opening, replay_answer}
 
--- each choice that a history stands for names a hart that is there
+-- each choice that a history stands for names a hart that exists
 within_entry : (n : ℕ) (e : Entry) → e.hart < n → All (λ c. c.hart < n) (choices_of e)
 within_entry n e lt =
     let P : Choice → Type 0 = λ c. c.hart < n in

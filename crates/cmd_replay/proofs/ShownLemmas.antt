@@ -1,4 +1,4 @@
--- A verdict asks no more of a history than which harts it chooses.
+-- A verdict depends on a history only by which harts it chooses.
 use Rattle.std.proofs.Common.{◌≡◌, ℕ, List, Option, Some, None, refl, ap}
 use Rattle.hart_step.specs.Hart.{HartValue}
 use Rattle.machine.specs.Chosen.{ChooseAlike}

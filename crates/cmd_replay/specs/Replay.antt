@@ -1,4 +1,4 @@
--- What a replay answers: the printed world after a history with the verdict on it, or the first fault of what was read.
+-- The answer of a replay: the printed world after a history and the verdict, or the first fault.
 use Rattle.std.specs.Prelude.{ℕ, List, length, Option}
 use Rattle.std.specs.declared.result.Result.{Result}
 use Rattle.std.specs.declared.result.Result.TheVariants.{Ok, Err}
@@ -23,7 +23,7 @@ fault_of_history (history.BadEntry offset) = fault.BadEntry offset
 fault_of_history (history.NoHart offset) = fault.NoHartOfEntry offset
 fault_of_history history.Memory = fault.Memory
 
--- an image with its history, or why there is no replay
+-- an image with its history, or the fault
 abbrev pub Opened : Type 0
 Opened = Result (ImageValue × List Entry) CommandFault
 
@@ -32,17 +32,17 @@ abbrev pub with_history : ImageValue → Result (List Entry) HistoryFault → Op
 with_history image (Ok entries) = Ok (image, entries)
 with_history image (Err why) = Err (fault_of_history why)
 
--- what a replay of a program and a history text begins with, for so many inputs
+-- a replay of a program and a history text with this number of inputs, opened
 unfoldable pub replay_opening : ℕ → List ℕ → List ℕ → Opened
 replay_opening harts program text = after_program harts
     (λ image. with_history image (entries_of harts text)) (program_of form.Elf program)
 
--- what is answered once it is known what the replay begins with
+-- the answer for an opened replay
 abbrev pub after_opening : Option Kind → List ℕ → Opened → Answer
 after_opening rule inputs (Ok opened) =
     Ok (shown (may_run rule) inputs (expanded opened.1) (world_after opened.0 inputs (expanded opened.1)))
 after_opening rule inputs (Err why) = Err why
 
--- what a replay of a program and a history text answers, under a rule if there is one
+-- the answer for a program and a history text, under a rule if there is one
 unfoldable pub replay_answer : List ℕ → Option Kind → List ℕ → List ℕ → Answer
 replay_answer inputs rule program text = after_opening rule inputs (replay_opening (length inputs) program text)

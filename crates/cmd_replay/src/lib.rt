@@ -1,4 +1,4 @@
-//! What `replay` does, over any sources.
+//! The engine of `replay`.
 #![tactic(auto)]
 
 pub use replay::replay_engine;

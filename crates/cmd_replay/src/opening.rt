@@ -1,4 +1,5 @@
-//! How a replay begins: the program, the number of inputs and the history text, checked once, in this order.
+//! Opens a replay: the program, the number of inputs and the history text are checked once, in this
+//! order.
 
 ghost use Rattle.std.specs.Prelude.{◌≡◌, ◌≢◌, ◌^◌, ◌-◌, ◌<◌, Ok, Err, IfOk, IfErr, IfSome, length};
 ghost use Rattle.std.specs.List.{All};
@@ -11,21 +12,23 @@ ghost use Rattle.cmd_replay.specs.Replay.{fault_of_history, replay_opening};
 use byte_io::{ReadFault, Source, read_all};
 use history::{Entry, HistoryFault, read_history};
 use image::Image;
-use machine::check_inputs;
+use machine::Inputs;
 use program_open::{CommandFault, Input, ProgramForm, read_image};
 use std::alloc::Allocator;
 
-/// What a replay begins with.
+/// An opened replay.
 #[derive(Drop)]
 pub struct OpenReplay<A: Allocator> {
     /// The program's image.
     pub image: Image<A>,
-    /// The history, each entry of a hart that is there.
+    /// The harts' inputs.
+    pub inputs: Inputs,
+    /// The history, each entry of a hart that exists.
     pub history: Vec<Entry, A>,
 }
 
-/// Reads an ELF file to its end, counts the inputs, and reads the history text to its end. The first that is refused decides, and
-/// what comes after it is not read.
+/// Reads an ELF file to its end, checks the number of inputs, and reads the history text to its
+/// end. The first fault is returned, and what comes after it is not read.
 #[tactic(auto, unfolding(crate::specs::Replay::replay_opening))]
 pub fn open_replay<A: Allocator + Copy, P: Source, H: Source>(
     alloc: A,
@@ -35,7 +38,7 @@ pub fn open_replay<A: Allocator + Copy, P: Source, H: Source>(
 ) -> Result<OpenReplay<A>, CommandFault>
     requires program_counts { P.failures program.old < 2 ^ 64 - 1 }
     requires history_counts { H.failures history.old < 2 ^ 64 - 1 }
-    ensures takes { IfOk result (λ _. IsStartable inputs.now) }
+    ensures inputs { IfOk result (λ run. (run.inputs ≡ inputs.now) × IsStartable inputs.now) }
     ensures within { IfOk result (λ run. All (λ e. e.hart < length inputs.now) run.history.items) }
     ensures image { IfOk result (λ run.
         IfSome (P.left program.old) (λ p. program_of ProgramForm.Elf p ≡ Ok run.image)) }
@@ -45,11 +48,11 @@ pub fn open_replay<A: Allocator + Copy, P: Source, H: Source>(
     ensures refused { IfErr result (λ fault. IsRefusal fault
         → IfSome (P.left program.old) (λ p. IfSome (H.left history.old) (λ h.
         replay_opening (length inputs.now) p h ≡ Err fault))) }
-    // A device is named only where it failed.
+    // A device is named only if it failed.
     ensures read { IfErr result (λ fault. IfNames fault
         (P.failures program.old < P.failures program.new) ⊥
         (H.failures history.old < H.failures history.new) ⊥) }
-    // A fault of the program, and that of the number of inputs, come before one of the device that the history is read from.
+    // A fault of the program or of the number of inputs comes before one of the history's device.
     ensures program_first { result ≡ Err (CommandFault.Read Input.History)
         → IfSome (P.left program.old) (λ p. (image : ImageValue) × (program_of ProgramForm.Elf p ≡ Ok image)) }
     ensures inputs_first { result ≡ Err (CommandFault.Read Input.History) → IsStartable inputs.now }
@@ -58,22 +61,26 @@ pub fn open_replay<A: Allocator + Copy, P: Source, H: Source>(
         Ok(image) => image,
         Err(fault) => return Err(fault),
     };
-    match check_inputs(inputs) {
-        Ok(()) => {}
+    let inputs = match Inputs::new(inputs) {
+        Ok(inputs) => inputs,
         Err(fault) => return Err(CommandFault::from(fault)),
-    }
+    };
     let text = match read_all(alloc, history) {
         Ok(bytes) => bytes,
         Err(ReadFault::Device) => return Err(CommandFault::Read(Input::History)),
         Err(ReadFault::Memory) => return Err(CommandFault::Memory),
     };
-    match read_history(alloc, &text, inputs.len() as u32) {
-        Ok(history) => Ok(OpenReplay { image, history }),
+    match read_history(alloc, &text, inputs.harts()) {
+        Ok(history) => Ok(OpenReplay {
+            image,
+            inputs,
+            history,
+        }),
         Err(fault) => Err(history_fault(fault)),
     }
 }
 
-// A fault of the history text, as one of the command.
+// A fault of the history text as one of the command.
 fn history_fault(fault: HistoryFault) -> CommandFault
     ensures { result ≡ fault_of_history fault }
 {

@@ -1,4 +1,4 @@
-//! `replay`: a program, inputs and a history in; the harts' ends and the verdict on them out.
+//! `replay`: from a program, inputs and a history to the harts' ends and the verdict on them.
 
 ghost use Rattle.std.specs.Prelude.{◌≡◌, ◌≢◌, ◌^◌, ◌-◌, ◌<◌, Ok, Err, IfOk, IfErr, IfSome, length, string_bytes};
 ghost use Rattle.std.specs.List.{All};
@@ -15,41 +15,36 @@ ghost use Rattle.cmd_replay.specs.Replay.{replay_answer};
 use crate::opening::open_replay;
 use crate::shown::shown_after;
 use byte_io::{Source, Status};
-use cmd_run::see_words;
 use history::Entry;
 use history_replay::replay_history;
 use image::Image;
-use machine::Machine;
+use machine::{Inputs, Machine, see_words};
 use mem_flat::FlatStore;
 use object_library::Kind;
 use program_open::{CommandFault, Input, ProgramForm};
 use std::alloc::{AllocError, Allocator};
 
-/// What a replay of a history on an image prints and its status. Each entry is run as it is.
+// The printed result of a history's replay on an image, and its status. The history is replayed
+// entry by entry.
 fn replay_image<A: Allocator + Copy>(
     alloc: A,
     image: &Image<A>,
-    inputs: &[u32],
+    inputs: &Inputs,
     rule: Option<Kind>,
     history: &[Entry],
 ) -> Result<(String<A>, Status), AllocError>
-    requires takes { IsStartable inputs.now }
-    requires within { All (λ e. e.hart < length inputs.now) history.now }
+    requires { All (λ e. e.hart < length inputs.now) history.now }
     ensures { IfOk result (λ answer.
         shown (may_run rule) inputs.now (expanded history.now) (world_after image.now inputs.now (expanded history.now))
         ≡ (string_bytes answer.0, answer.1)) }
 {
-    let mut machine: Machine<FlatStore<A>, A> = match Machine::start(alloc, image, inputs) {
-        Ok(machine) => machine,
-        // As many inputs as these are refused only for want of memory.
-        Err(_) => return Err(AllocError),
-    };
+    let mut machine: Machine<FlatStore<A>, A> = Machine::start(alloc, image, inputs)?;
     replay_history(&mut machine, history);
-    shown_after(alloc, inputs, rule, history, machine.ends())
+    shown_after(alloc, inputs.words(), rule, history, machine.ends())
 }
 
-/// `replay`: reads the program to its end, and where it is one and the inputs are not too many, the
-/// history text to its end; answers how the harts end, and under a rule the verdict.
+/// `replay`: reads the program to its end and, if it is valid and the number of inputs is, the
+/// history text to its end; returns how the harts end, and under a rule the verdict.
 #[tactic(auto, unfolding(crate::specs::Replay::replay_answer))]
 pub fn replay_engine<A: Allocator + Copy, P: Source, H: Source>(
     alloc: A,
@@ -60,22 +55,23 @@ pub fn replay_engine<A: Allocator + Copy, P: Source, H: Source>(
 ) -> Result<(String<A>, Status), CommandFault>
     requires program_counts { P.failures program.old < 2 ^ 64 - 1 }
     requires history_counts { H.failures history.old < 2 ^ 64 - 1 }
-    // The printed world of the replay, and its status.
+    // The printed result of the replay, and its status.
     ensures done { IfOk result (λ answer.
         IfSome (P.left program.old) (λ p. IfSome (H.left history.old) (λ h.
         replay_answer inputs.now rule p h ≡ Ok (string_bytes answer.0, answer.1)))) }
     ensures refused { IfErr result (λ fault. IsRefusal fault
         → IfSome (P.left program.old) (λ p. IfSome (H.left history.old) (λ h.
         replay_answer inputs.now rule p h ≡ Err fault))) }
-    // A device is named only where it failed.
+    // A device is named only if it failed.
     ensures read { IfErr result (λ fault. IfNames fault
         (P.failures program.old < P.failures program.new) ⊥
         (H.failures history.old < H.failures history.new) ⊥) }
-    // A fault of the program, and that of the number of inputs, come before one of the device that the history is read from.
+    // A fault of the program or of the number of inputs comes before one of the history's device.
     ensures program_first { result ≡ Err (CommandFault.Read Input.History)
         → IfSome (P.left program.old) (λ p. (image : ImageValue) × (program_of ProgramForm.Elf p ≡ Ok image)) }
     ensures inputs_first { result ≡ Err (CommandFault.Read Input.History) → IsStartable inputs.now }
-    // A file that is an object, run by as many harts as it is for, never has a broken verdict of its kind's rule.
+    // For a file that is an object, run by as many harts as it is for, the verdict by its kind's
+    // rule is never `broken`.
     ensures certified { IfOk result (λ _.
         IfSome (P.left program.old) (λ p. IfSome (H.left history.old) (λ h.
         IsCertified ProgramForm.Elf p inputs.now rule
@@ -86,7 +82,7 @@ pub fn replay_engine<A: Allocator + Copy, P: Source, H: Source>(
         Ok(run) => run,
         Err(fault) => return Err(fault),
     };
-    match replay_image(alloc, &run.image, inputs, rule, &run.history) {
+    match replay_image(alloc, &run.image, &run.inputs, rule, &run.history) {
         Ok(answer) => Ok(answer),
         Err(AllocError) => Err(CommandFault::Memory),
     }

@@ -15,7 +15,8 @@ use history_replay::chosen_harts;
 use object_library::Kind;
 use std::alloc::{AllocError, Allocator};
 
-/// The harts' lines and, under a rule, the verdict on them by the choices that a history stands for. The choices are never held.
+/// The harts' lines and, under a rule, the verdict on them by the choices that a history stands
+/// for, which are never held as a list; and the status.
 pub fn shown_after<A: Allocator + Copy>(
     alloc: A,
     inputs: &[u32],

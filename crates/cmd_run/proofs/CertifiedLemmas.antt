@@ -1,4 +1,4 @@
--- The rules that the objects keep, as a run's answer shows them.
+-- The rules that the objects keep, in a run's answer.
 use Rattle.std.proofs.Common.{◌≡◌, ℕ, ◌^◌, ◌<◌, Bool, true, false, cond, rules, List, length, Option, Some, None, Result, Ok, refl, arith, ap, sym, subst, ◌∙◌, inl, inr}
 use Rattle.std.specs.List.{All}
 use Rattle.hart_reservations.specs.Limit.{most_harts}
@@ -14,10 +14,10 @@ use Rattle.object_library.specs.declared.verdict.Verdict.TheVariants as verdict
 use Rattle.object_library.specs.Images.{image_of, IsSame}
 use Rattle.object_library.specs.Rules.{Keeps}
 use Rattle.object_library.proofs.JudgeLemmas.{kept-decides}
-use Rattle.object_amo.proofs.Race.{swap_agrees_in, add_agrees_in}
-use Rattle.object_lrsc.proofs.Race.{agrees_in as lrsc_agrees_in}
+use Rattle.object_consensus.proofs.AmoRace.{swap_agrees_in, add_agrees_in}
+use Rattle.object_consensus.proofs.LrscRace.{agrees_in as lrsc_agrees_in}
 use Rattle.object_adopt.proofs.Alone.{agrees_in as adopt_agrees_in}
-use Rattle.object_rounds.proofs.Four.{agrees_in as rounds_agrees_in}
+use Rattle.object_adopt.proofs.Four.{agrees_in as rounds_agrees_in}
 use Rattle.cmd_run.specs.Certified.{AnswersKept, IsCertified, IsMeantFor, IsUnbroken}
 use Rattle.ends.specs.Ends.{ends_of, verdict_on}
 use Rattle.outcome.specs.Expect.{status_by}
@@ -43,7 +43,7 @@ object_keeps AdoptCommit image inputs choices same meant words there =
     adopt_agrees_in most_harts image (omega arith) same inputs choices meant words there
 object_keeps Rounds image inputs choices same meant words there = rounds_agrees_in image same inputs choices meant words there
 
--- and so a judge says of it
+-- so a judge says it is kept
 pub object_is_kept : (kind : Kind) (image : ImageValue) (inputs : List ℕ) (choices : List Choice) → IsSame image (image_of kind)
     → IsMeantFor kind (length inputs) → All (λ x. x < 2 ^ 32) inputs → All (λ c. c.hart < length inputs) choices
     → verdict_on (Some kind) inputs choices (run (started image inputs) choices).harts ≡ Some verdict.Kept
@@ -52,7 +52,7 @@ object_is_kept kind image inputs choices same meant words there =
     ap (λ kept. Some (cond kept verdict.Kept verdict.Broken))
     ((kept-decides kind inputs choices harts).1 (object_keeps kind image inputs choices same meant words there))
 
--- whether some hart runs is all that decides then
+-- only a running hart makes a difference
 unbroken : (b : Bool) → IsUnbroken Must (status_by false b)
 unbroken true = inr refl
 unbroken false = inl refl

@@ -18,10 +18,10 @@ use Rattle.object_library.specs.declared.kind.Kind.TheVariants.{Swap, Add, LrSc,
 use Rattle.object_library.specs.declared.verdict.Verdict.TheVariants.{Kept}
 use Rattle.object_library.specs.Images.{image_of, IsSame}
 use Rattle.object_library.specs.Rules.{HasExited, is_exited}
-use Rattle.object_amo.proofs.Race.{add_ends_in, swap_ends_in}
-use Rattle.object_lrsc.proofs.Race.{ends_in as lrsc_ends_in}
+use Rattle.object_consensus.proofs.AmoRace.{add_ends_in, swap_ends_in}
+use Rattle.object_consensus.proofs.LrscRace.{ends_in as lrsc_ends_in}
 use Rattle.object_adopt.proofs.Alone.{ends_in as adopt_ends_in}
-use Rattle.object_rounds.proofs.Four.{ends_in as rounds_ends_in}
+use Rattle.object_adopt.proofs.Four.{ends_in as rounds_ends_in}
 use Rattle.ends.specs.Ends.{verdict_on}
 use Rattle.outcome.specs.Expect.{hangs, status_by, status_of}
 use Rattle.outcome.specs.Outcome.{counted, counts, outcome_of}
@@ -49,20 +49,20 @@ at_most Rounds n meant = meant
 few : (kind : Kind) (n : ℕ) → IsMeantFor kind n → n < 2 ^ 32
 few kind n meant = let below = at_most kind n meant in omega (arith, below)
 
--- who has exited doesn't run
+-- an exited hart doesn't run
 stopped : (state : HartState) → is_exited state ≡ true → counts end.Running state ≡ 0
 stopped Running e = absurd (cc)
 stopped (Exited status) e = refl
 stopped (Faulted cause) e = absurd (cc)
 
--- where each has exited, none runs
+-- if each has exited, none runs
 none_runs : (harts : List HartValue) → ((h : ℕ) (d : HartValue) → h < length harts → HasExited (slice_index_or harts h d))
     → counted end.Running harts ≡ 0
 none_runs [] each = refl
 none_runs (hart ∷ harts) each =
     ap₂ (λ a b. a + b) (stopped hart.state (each 0 hart (omega arith))) (none_runs harts (λ h d lt. each (suc h) d (omega (arith, lt))))
 
--- a kept rule and no hart that runs are well, whatever is expected
+-- a kept rule and no running hart are as expected, whatever that is
 well : (exit : Exit) (running : ℕ) → running ≡ 0 → status_by false (false || (false || hangs exit (ltb 0 running))) ≡ status.Done
 well May running e = refl
 well Must running e = ap (λ n. status_by false (false || (false || ltb 0 n))) e
@@ -123,7 +123,7 @@ ends_well form inputs expect program text words e =
     done : status_of expect.exit (outcome_of (verdict_on expect.rule inputs e.choices harts) harts) ≡ status.Done
     done = ap (λ v. status_of expect.exit (outcome_of v harts)) kept ∙ well expect.exit (counted end.Running harts) quiet
 
--- and so by what the devices had left
+-- the same by what the devices had left
 pub known_enough : (form : ProgramForm) (inputs : List ℕ) (expect : Expect) (program text : Option (List ℕ)) → All (λ x. x < 2 ^ 32) inputs
     → IfSome program (λ p. IfSome text (λ c. IsChosenEnough form p inputs expect.rule c → EndsWell (run_answer form inputs expect p c)))
 known_enough form inputs expect None text words = tt

@@ -1,4 +1,4 @@
--- What a run's answer and its parts say of one another.
+-- A run's answer and its parts.
 use Rattle.std.proofs.Common.{◌≡◌, ℕ, ◌^◌, ◌<◌, Bool, true, false, cond, eqb, ltb, List, length, map, Option, Some, None, Result, Ok, Err, refl, ap, sym, subst, ◌∙◌}
 use Rattle.std.specs.Option.{IfSome}
 use Rattle.std.specs.List.{All}
@@ -28,12 +28,6 @@ use Rattle.program_open.specs.declared.command_fault.CommandFault.TheVariants as
 use Rattle.cmd_run.specs.Certified.{AnswersKept, IsCertified}
 use Rattle.cmd_run.specs.Run.{after_opening, run_answer, shown, shown_with, world_after}
 use Rattle.cmd_run.proofs.CertifiedLemmas.{certified_keeps}
-
--- a machine that was started has a hart for each input
-pub harts-started : (harts : List Hart) (w : World) (image : ImageValue) (inputs : List ℕ)
-    → w.harts ≡ map hart_of harts → w ≡ started image inputs → length (map hart_of harts) ≡ length inputs
-harts-started harts w image inputs here begun =
-    ap length (sym here) ∙ ap (λ (v : World). length v.harts) begun ∙ length-started image inputs
 
 -- the ends of the harts after a text that was run
 pub text_answered : (expect : Expect) (image : ImageValue) (inputs text : List ℕ) (old now : World) (chosen : Harts) (harts : List HartValue)
@@ -92,7 +86,7 @@ opened_parts form n program text image choices opens = first (program_of form pr
     first (Err why) reads e = absurd (cc)
     first (Ok i) reads e = rest i reads (eqb n 0) (ltb most_harts n) (choices_of n text) refl e
 
--- what a run of a certified file answers, whatever the choice text says
+-- the answer of a certified file's run, for any choice text
 certified_answers : (form : ProgramForm) (inputs : List ℕ) (expect : Expect) (program text : List ℕ) → All (λ x. x < 2 ^ 32) inputs
     → length inputs < 2 ^ 32 → IsCertified form program inputs expect.rule → AnswersKept expect.exit (run_answer form inputs expect program text)
 unfolding run_answer
@@ -106,7 +100,7 @@ certified_answers form inputs expect program text words few h = by (opening form
         subst (λ o. AnswersKept expect.exit (after_opening expect inputs o)) opens
         (certified_keeps form inputs expect program text o.0 o.1 words there parts.0 opens h)
 
--- and so by what the devices had left
+-- the same by what the devices had left
 pub known_kept : (form : ProgramForm) (inputs : List ℕ) (expect : Expect) (program text : Option (List ℕ)) → All (λ x. x < 2 ^ 32) inputs
     → length inputs < 2 ^ 32
     → IfSome program (λ p. IfSome text (λ c. IsCertified form p inputs expect.rule → AnswersKept expect.exit (run_answer form inputs expect p c)))

@@ -16,7 +16,7 @@ use Rattle.program_open.specs.declared.program.ProgramForm.{ProgramForm}
 use Rattle.byte_io.specs.declared.status.Status.{Status}
 use Rattle.byte_io.specs.declared.status.Status.TheVariants as status
 
--- an object is for so many harts
+-- the number of harts that an object is for
 abbrev pub IsMeantFor : Kind → ℕ → Type 0
 IsMeantFor Swap harts = harts ≡ 2
 IsMeantFor Add harts = harts ≡ 2
@@ -33,7 +33,7 @@ pub record IsCertified (form : ProgramForm) (program inputs : List ℕ) (rule : 
   pub meant : IsMeantFor kind (length inputs)
   pub ruled : rule ≡ Some kind
 
--- a status that shows no broken rule: 0, or 3 where each hart must exit and one still runs
+-- a status that shows no broken rule: 0, or 3 if each hart must exit and one still runs
 abbrev pub IsUnbroken : Exit → Status → Type 0
 IsUnbroken May code = code ≡ status.Done
 IsUnbroken Must code = (code ≡ status.Done) ⊎ (code ≡ status.Faulted)
@@ -44,7 +44,7 @@ pub record EndsKept (exit : Exit) (text : List ℕ) (code : Status) : Type 0 whe
   pub text_is : text ≡ ends ++ verdict_line (Some Kept)
   pub unbroken : IsUnbroken exit code
 
--- where a run answers, its text ends with `verdict kept`, and its status shows no broken rule
+-- if a run answers, its text ends with `verdict kept`, and its status shows no broken rule
 abbrev pub AnswersKept : Exit → Answer → Type 0
 AnswersKept exit (Ok answer) = EndsKept exit answer.0 answer.1
 AnswersKept exit (Err why) = Unit {0}

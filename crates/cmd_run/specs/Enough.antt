@@ -1,4 +1,4 @@
--- How often a hart of an object has to be chosen until it has exited: the bounds that the object crates prove.
+-- How many choices a hart of an object needs at most to exit: the bounds of the object crates.
 use Rattle.std.specs.Prelude.{◌≡◌, ℕ, ◌+◌, ◌*◌, ◌<◌, ◌≤◌, List, length, Option}
 use Rattle.std.specs.declared.result.Result.TheVariants.{Ok, Err}
 use Rattle.sched_text.specs.Reading.{choices_of}
@@ -11,7 +11,7 @@ use Rattle.program_open.specs.Answers.{Answer}
 use Rattle.program_open.specs.declared.program.ProgramForm.{ProgramForm}
 use Rattle.cmd_run.specs.Certified.{IsCertified}
 
--- so often, for one of n harts of whose choices r refuse a store-conditional
+-- this bound, for one of n harts, r of whose choices refuse a store-conditional
 abbrev pub enough : Kind → ℕ → ℕ → ℕ
 enough Swap n r = 15
 enough Add n r = 15
@@ -19,11 +19,11 @@ enough LrSc n r = 17 + 4 * r
 enough AdoptCommit n r = 19 + 14 * n
 enough Rounds n r = 82 + 56 * n
 
--- choices choose each of n harts so often
+-- choices choose each of n harts that often
 abbrev pub ChooseEnough : Kind → ℕ → List Choice → Type 0
 ChooseEnough kind n choices = (h : ℕ) → h < n → enough kind n (refusals choices h) ≤ own choices h
 
--- a program is the object of the rule's kind, run by one hart at least, and a text's choices choose each hart so often
+-- a program is the object of the rule's kind, run by at least one hart, and chosen that often
 pub record IsChosenEnough (form : ProgramForm) (program inputs : List ℕ) (rule : Option Kind) (text : List ℕ) : Type 0 where
   pub object : IsCertified form program inputs rule
   pub some : 0 < length inputs

@@ -13,7 +13,7 @@ use Rattle.object_library.specs.declared.kind.Kind.{Kind}
 use Rattle.object_library.specs.Images.{image_of, IsSame}
 use Rattle.object_library.specs.Names.{name_of}
 
--- a letter where a right is given, else a dash
+-- a letter for a right, or a dash if it is missing
 abbrev pub right_text : ℕ → ℕ → List ℕ → List ℕ
 right_text rights right letter = if bit_and rights right == 0 then codes "-" else letter
 
@@ -26,7 +26,7 @@ abbrev pub segment_line : ℕ → ℕ → ℕ → List ℕ
 segment_line base size rights =
     codes "segment " ++ (word_text base ++ (codes " " ++ (decimal size ++ (codes " " ++ rights_text rights))))
 
--- a segment's line with its end
+-- a segment's line with LF
 abbrev pub segment_entry : SegmentValue → List ℕ
 segment_entry s = segment_line s.base s.size s.rights ++ 10 ∷ []
 
@@ -34,11 +34,11 @@ segment_entry s = segment_line s.base s.size s.rights ++ 10 ∷ []
 abbrev pub symbol_line : ℕ → List ℕ → List ℕ
 symbol_line address name = codes "symbol " ++ (word_text address ++ (codes " " ++ name))
 
--- a symbol's line with its end
+-- a symbol's line with LF
 abbrev pub symbol_entry : SymbolValue → List ℕ
 symbol_entry s = symbol_line s.address s.name ++ 10 ∷ []
 
--- the symbols' lines, or a line that tells why there are none
+-- the symbols' lines, or a line with the reason why there are none
 abbrev pub symbols_text : Symbols → List ℕ
 symbols_text (Ok []) = codes "symbols none" ++ 10 ∷ []
 symbols_text (Ok (s ∷ more)) = flat_map symbol_entry (s ∷ more)
@@ -56,7 +56,7 @@ abbrev pub library_name : Option Kind → List ℕ
 library_name None = codes "none"
 library_name (Some kind) = name_of kind
 
--- the facts of an image with these symbols, which is the object of this kind, or of none
+-- the facts of an image with these symbols, given the kind of object that it is
 unfoldable pub info_of : ImageValue → Symbols → Option Kind → List ℕ
 info_of image symbols library =
     codes "entry " ++ (word_text image.entry ++ 10 ∷ (flat_map segment_entry image.segments

@@ -1,4 +1,4 @@
--- What a run answers: the printed world after the choices with the verdict on it, or the first fault of what was read.
+-- The answer of a run: the printed world after the choices and the verdict, or the first fault.
 use Rattle.std.specs.Prelude.{ℕ, List, length, Option}
 use Rattle.std.specs.declared.result.Result.TheVariants.{Ok, Err}
 use Rattle.image.specs.Image.{ImageValue}
@@ -19,15 +19,15 @@ use Rattle.program_open.specs.Opening.{Opened, opening}
 use Rattle.program_open.specs.declared.program.ProgramForm.{ProgramForm}
 use Rattle.byte_io.specs.declared.status.Status.{Status}
 
--- under a rule, if there is one, and where harts may run at the end
+-- under a rule, if there is one; harts may still run at the end
 abbrev pub may_run : Option Kind → Expect
 may_run rule = record { rule = rule; exit = May }
 
--- harts as they are printed with a verdict, and the status of the run that left them
+-- the printed harts with a verdict, and the status of their run
 abbrev pub shown_with : Exit → Option Verdict → List HartValue → List ℕ × Status
 shown_with exit verdict harts = (text_of verdict harts, status_of exit (outcome_of verdict harts))
 
--- the world that a list of choices leads to, as it is printed with the verdict on it
+-- the printed world after a list of choices, with the verdict on it
 abbrev pub shown : Expect → List ℕ → List Choice → World → List ℕ × Status
 shown expect inputs choices w = shown_with expect.exit (verdict_on expect.rule inputs choices w.harts) w.harts
 
@@ -35,11 +35,11 @@ shown expect inputs choices w = shown_with expect.exit (verdict_on expect.rule i
 abbrev pub world_after : ImageValue → List ℕ → List Choice → World
 world_after image inputs choices = run (started image inputs) choices
 
--- what is answered once it is known what the run begins with
+-- the answer for an opened run
 abbrev pub after_opening : Expect → List ℕ → Opened → Answer
 after_opening expect inputs (Ok opened) = Ok (shown expect inputs opened.1 (world_after opened.0 inputs opened.1))
 after_opening expect inputs (Err why) = Err why
 
--- what a run of a program and a choice text answers, by what is expected of it
+-- the answer for a program and a choice text, by what is expected of the run
 unfoldable pub run_answer : ProgramForm → List ℕ → Expect → List ℕ → List ℕ → Answer
 run_answer form inputs expect program text = after_opening expect inputs (opening form (length inputs) program text)

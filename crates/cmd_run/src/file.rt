@@ -1,4 +1,4 @@
-//! `list` and `info`: an ELF file in; its listing or its facts out.
+//! `list` and `info`: from an ELF file to its listing or its facts.
 
 ghost use Rattle.std.specs.Prelude.{◌≡◌, ◌≢◌, ◌-◌, ◌^◌, ◌<◌, Err, IfOk, IfErr, IfSome, string_bytes};
 ghost use Rattle.cmd_run.specs.File.{ShowsFile};
@@ -20,7 +20,7 @@ pub enum FileView {
     Facts,
 }
 
-/// What is shown of an ELF file, or why it is refused.
+/// What is shown of an ELF file, or why it is invalid.
 pub fn file_text<A: Allocator + Copy>(
     alloc: A,
     view: FileView,
@@ -44,7 +44,7 @@ pub fn file_text<A: Allocator + Copy>(
     }
 }
 
-/// `list` or `info`: reads an ELF file to its end, and answers what is shown of it.
+/// `list` or `info`: reads an ELF file to its end, and returns what is shown of it.
 pub fn file_engine<A: Allocator + Copy, P: Source>(
     alloc: A,
     view: FileView,
@@ -56,7 +56,7 @@ pub fn file_engine<A: Allocator + Copy, P: Source>(
         ShowsFile view b (string_bytes answer.0))) }
     ensures refused { IfErr result (λ fault. IsRefusal fault
         → IfSome (P.left file.old) (λ b. program_of ProgramForm.Elf b ≡ Err fault)) }
-    // A device is named only where it failed; there is nothing else to read.
+    // A device is named only if it failed; the file is the only input.
     ensures read { IfErr result (λ fault. IfNames fault
         (P.failures file.old < P.failures file.new) ⊥ ⊥ ⊥) }
 {

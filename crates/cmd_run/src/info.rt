@@ -12,7 +12,7 @@ use object_library::{Kind, certify};
 use std::alloc::{AllocError, Allocator};
 use std::fmt;
 
-// Rights, shown as `rwx` with a dash for each that isn't given.
+// Rights, shown as `rwx` with a dash for each missing one.
 #[derive(Clone, Copy)]
 struct RightsText(Rights);
 
@@ -41,7 +41,7 @@ impl fmt::Display for RightsText {
     }
 }
 
-// A segment, shown as a line without its end.
+// A segment, shown as a line without LF.
 #[derive(Clone, Copy)]
 struct SegmentLine {
     base: u32,
@@ -62,7 +62,7 @@ impl fmt::Display for SegmentLine {
     }
 }
 
-// A symbol, shown as a line without its end.
+// A symbol, shown as a line without LF.
 #[derive(Clone, Copy)]
 struct SymbolLine<'a> {
     address: u32,
@@ -133,7 +133,7 @@ fn push_symbols<A: Allocator>(text: &mut String<A>, symbols: &[Symbol<A>]) -> Re
     Ok(())
 }
 
-// Appends the symbols of a file, or why there are none.
+// Appends the symbols of a file, or why it has none.
 fn push_symbols_of<A: Allocator + Copy>(
     alloc: A,
     text: &mut String<A>,
@@ -152,7 +152,7 @@ fn push_symbols_of<A: Allocator + Copy>(
     Ok(())
 }
 
-// The kind of the object that an image is, or none.
+// The kind whose object the image is, or `None`.
 #[tactic(auto, using(crate::proofs::InfoLemmas::names_none))]
 fn library_of<A: Allocator>(image: &Image<A>) -> Option<Kind>
     ensures { NamesLibrary image.now result }
@@ -185,7 +185,7 @@ fn library_name(library: Option<Kind>) -> &'static str
     }
 }
 
-// The facts of an image that is the object of a kind, or of none.
+// The facts of an image, given the kind of object that it is.
 #[tactic(auto, unfolding(crate::specs::Info::info_of))]
 fn facts_text<A: Allocator + Copy>(
     alloc: A,
@@ -206,8 +206,8 @@ fn facts_text<A: Allocator + Copy>(
     Ok(text)
 }
 
-/// The facts of a file's image: its entry, its segments in the file's order with their sizes in bytes and their rights, the
-/// symbols of the file's bytes, and the kind of the object that it is.
+/// The facts of a file's image: its entry, its segments in the file's order with their sizes in
+/// bytes and their rights, the file's symbols, and the kind of object that it is.
 pub fn info_text<A: Allocator + Copy>(
     alloc: A,
     image: &Image<A>,

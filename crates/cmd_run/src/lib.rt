@@ -1,4 +1,4 @@
-//! What the program's commands do, over any source of bytes.
+//! The engines of `run`, `list` and `info`.
 #![tactic(auto)]
 
 pub use byte_io::{
@@ -14,7 +14,7 @@ pub use program_open::{
     CommandFault, HEX_BASE, HEX_SIZE, HexFault, Input, MOST_WORDS, ProgramForm, deliver, hex_image,
     read_hex, read_image, read_program, write_text,
 };
-pub use run::{run_engine, run_text, see_words};
+pub use run::{run_engine, run_text};
 pub use shown::ends_text;
 
 mod file;

@@ -1,4 +1,4 @@
-//! `run`: a program, inputs and a list of choices in; the harts' ends and the verdict on them out.
+//! `run`: from a program, inputs and a choice text to the harts' ends and the verdict on them.
 
 ghost use Rattle.std.specs.Prelude.{ℕ, List, ◌≡◌, ◌≢◌, ◌^◌, ◌-◌, ◌<◌, Ok, Err, IfOk, IfErr, IfSome, length, map, string_bytes};
 ghost use Rattle.std.specs.List.{All};
@@ -21,7 +21,7 @@ use byte_io::{Source, Status};
 use ends::lines_text;
 use hart_step::Hart;
 use image::Image;
-use machine::Machine;
+use machine::{Inputs, Machine, see_words};
 use mem_flat::FlatStore;
 use outcome::Expect;
 use program_open::{CommandFault, Input, ProgramForm, open_text};
@@ -29,16 +29,8 @@ use sched_run::{Chosen, early_fault, run_choices};
 use sched_text::ChoiceFault;
 use std::alloc::{AllocError, Allocator};
 
-/// Looks at each input, so that it is known to be a word.
-pub fn see_words(inputs: &[u32])
-    ensures { All (λ x. x < 2 ^ 32) inputs.now }
-{
-    'inputs: for input in inputs {
-        let _word = *input;
-    }
-}
-
-// The harts' lines and, under a rule, the verdict on them, by which harts were chosen; the status.
+// The harts' lines and, under a rule, the verdict on them, by which harts were chosen; and the
+// status.
 fn ends_after<A: Allocator + Copy>(
     alloc: A,
     inputs: &[u32],
@@ -57,47 +49,45 @@ fn ends_after<A: Allocator + Copy>(
     Ok((text, status))
 }
 
-/// What a run of an image under a choice text prints and its status, or the text's first fault.
-/// Under a rule the verdict follows the harts' lines. The status shows whether the run did as
-/// expected. The text's choices are taken as they stand in it, and never held. A text with counts
-/// is looked through before it is run, so that its fault is reported at once.
+/// The printed result of an image's run under a choice text, and its status, or the text's first
+/// fault. Under a rule the verdict follows the harts' lines. The status shows whether the run did
+/// as expected. The choices are read from the text one by one, and never held as a list. A text
+/// with counts is checked before the run, so that its fault is reported at once.
 #[tactic(auto, using(crate::proofs::RunLemmas::text_answered))]
 pub fn run_text<A: Allocator + Copy>(
     alloc: A,
     image: &Image<A>,
-    inputs: &[u32],
+    inputs: &Inputs,
     expect: Expect,
     text: &[u8],
 ) -> Result<(String<A>, Status), ChoiceFault>
-    requires takes { IsStartable inputs.now }
     ensures shown { IfOk result (λ answer.
         after_opening expect inputs.now (with_choices image.now (choices_of (length inputs.now) text.now))
         ≡ Ok (string_bytes answer.0, answer.1)) }
     ensures refused { IfErr result (λ fault. fault ≢ ChoiceFault.Memory
         → choices_of (length inputs.now) text.now ≡ Err fault) }
 {
-    if let Some(fault) = early_fault(text, inputs.len() as u32) {
+    if let Some(fault) = early_fault(text, inputs.harts()) {
         return Err(fault);
     }
     let mut machine: Machine<FlatStore<A>, A> = match Machine::start(alloc, image, inputs) {
         Ok(machine) => machine,
-        // As many inputs as these are refused only for want of memory.
-        Err(_) => return Err(ChoiceFault::Memory),
+        Err(AllocError) => return Err(ChoiceFault::Memory),
     };
-    let chosen = match run_choices(&mut machine, text, inputs.len() as u32) {
+    let chosen = match run_choices(&mut machine, text, inputs.harts()) {
         Ok(chosen) => chosen,
         Err(why) => return Err(why),
     };
-    match ends_after(alloc, inputs, expect, &chosen, machine.ends()) {
+    match ends_after(alloc, inputs.words(), expect, &chosen, machine.ends()) {
         Ok(answer) => Ok(answer),
         Err(AllocError) => Err(ChoiceFault::Memory),
     }
 }
 
-/// `run`: reads the program in this form to its end, and where it is one and the inputs are not
-/// too many, the choice text to its end; answers how the harts end, and under a rule the verdict.
-/// The status shows whether the run did as expected. The choices are taken as they stand in the
-/// text, and never held as a list.
+/// `run`: reads the program in this form to its end and, if it is valid and the number of inputs
+/// is, the choice text to its end; returns how the harts end, and under a rule the verdict. The
+/// status shows whether the run did as expected. The choices are read from the text one by one, and
+/// never held as a list.
 #[tactic(auto, unfolding(crate::specs::Run::run_answer))]
 pub fn run_engine<A: Allocator + Copy, P: Source, C: Source>(
     alloc: A,
@@ -109,30 +99,30 @@ pub fn run_engine<A: Allocator + Copy, P: Source, C: Source>(
 ) -> Result<(String<A>, Status), CommandFault>
     requires program_counts { P.failures program.old < 2 ^ 64 - 1 }
     requires choices_count { C.failures choices.old < 2 ^ 64 - 1 }
-    // The printed world of the run, and its status.
+    // The printed result of the run, and its status.
     ensures done { IfOk result (λ answer.
         IfSome (P.left program.old) (λ p. IfSome (C.left choices.old) (λ c.
         run_answer form inputs.now expect p c ≡ Ok (string_bytes answer.0, answer.1)))) }
     ensures refused { IfErr result (λ fault. IsRefusal fault
         → IfSome (P.left program.old) (λ p. IfSome (C.left choices.old) (λ c.
         run_answer form inputs.now expect p c ≡ Err fault))) }
-    // A device is named only where it failed.
+    // A device is named only if it failed.
     ensures read { IfErr result (λ fault. IfNames fault
         (P.failures program.old < P.failures program.new)
         (C.failures choices.old < C.failures choices.new) ⊥ ⊥) }
-    // A fault of the program comes before one of the device that the choices are read from.
+    // A fault of the program comes before one of the choices' device.
     ensures program_first { result ≡ Err (CommandFault.Read Input.Choices)
         → IfSome (P.left program.old) (λ p. (image : ImageValue) × (program_of form p ≡ Ok image)) }
-    // And so does the fault of the number of inputs.
+    // So does the fault of the number of inputs.
     ensures inputs_first { result ≡ Err (CommandFault.Read Input.Choices) → IsStartable inputs.now }
-    // A file that is an object, run by as many harts as it is for, never has a broken verdict of its
-    // kind's rule: the status is 0, or 3 where each hart must exit and one still runs.
+    // For a file that is an object, run by as many harts as it is for, the verdict by its kind's
+    // rule is never `broken`: the status is 0, or 3 if each hart must exit and one still runs.
     ensures certified { IfOk result (λ _.
         IfSome (P.left program.old) (λ p. IfSome (C.left choices.old) (λ c.
         IsCertified form p inputs.now expect.rule
         → AnswersKept expect.exit (run_answer form inputs.now expect p c)))) }
-    // Where there are harts, and each is chosen as often as its object wants it at most,
-    // the run is not refused, and its status is 0.
+    // If there are harts, and each is chosen as often as its object needs at most, the run succeeds
+    // with status 0.
     ensures enough { IfSome (P.left program.old) (λ p. IfSome (C.left choices.old) (λ c.
         IsChosenEnough form p inputs.now expect.rule c
         → EndsWell (run_answer form inputs.now expect p c))) }
@@ -142,7 +132,7 @@ pub fn run_engine<A: Allocator + Copy, P: Source, C: Source>(
         Ok(run) => run,
         Err(why) => return Err(why),
     };
-    match run_text(alloc, &run.image, inputs, expect, &run.text) {
+    match run_text(alloc, &run.image, &run.inputs, expect, &run.text) {
         Ok(answer) => Ok(answer),
         Err(why) => Err(CommandFault::from(why)),
     }

@@ -1,4 +1,4 @@
-//! How harts are printed, and the status of the run that left them.
+//! How harts are printed, and the status of their run.
 
 ghost use Rattle.std.specs.Prelude.{◌≡◌, IfOk, map, string_bytes};
 ghost use Rattle.ends.specs.Ends.{verdict_on};

@@ -17,7 +17,7 @@ use Rattle.cmd_schedule.specs.Plans.{IsScheduleText}
 use Rattle.cmd_schedule.specs.Seeds.{EndsAsTold}
 use Rattle.cmd_schedule.specs.declared.plan.Plan.{Plan}
 
--- choices of harts that are there are read from their text
+-- choices of harts that exist are read from their text
 pub read_back : (harts : ℕ) (choices : List Choice) → harts < 2 ^ 32 → All (λ c. c.hart < harts) choices
     → choices_of harts (choices_text choices) ≡ Ok choices
 read_back harts choices few within =

@@ -12,18 +12,18 @@ use Rattle.cmd_schedule.specs.declared.plan.Plan.{Plan}
 use Rattle.cmd_schedule.specs.declared.plan.PlanFault.{PlanFault}
 use Rattle.cmd_schedule.specs.declared.plan.PlanFault.TheVariants.{BadHarts, NoHart}
 
--- a plan is that of so many harts and steps of a schedule
+-- a plan has this number of harts, these steps and this schedule
 abbrev pub IsPlanOf : ℕ → ℕ → Schedule → Plan → Type 0
 IsPlanOf harts steps schedule plan =
     (plan.harts ≡ harts) × (plan.steps ≡ steps) × (plan.schedule ≡ schedule)
 
--- when there is no plan of so many harts of a schedule: the number of harts is looked at first
+-- why there is no plan: the number of harts is checked first
 abbrev pub Refuses : ℕ → Schedule → PlanFault → Type 0
 Refuses harts schedule BadHarts = (harts ≡ 0) ⊎ (most_harts < harts)
 Refuses harts schedule NoHart = (0 < harts) × (harts ≤ most_harts) × (is_of_harts schedule harts ≡ false)
 
--- a text is the choice text of a plan's choices, which are the same in each run, and who reads it for
--- as many harts gets them
+-- a text is the choice text of a plan's choices, which are the same in each run, and reading it for
+-- as many harts gives them
 pub record IsScheduleText (plan : Plan) (text : List ℕ) : Type 0 where
   pub choices : List Choice
   pub made : (w : World) → choices ≡ choices_of plan.schedule w plan.harts plan.steps

@@ -1,4 +1,4 @@
--- The choices that a seed draws in a run of a program, as they are written.
+-- The choices that a seed draws in a run of a program, as text.
 use Rattle.std.specs.Prelude.{◌≡◌, ℕ, List, length}
 use Rattle.std.specs.declared.result.Result.TheVariants.{Ok}
 use Rattle.image.specs.Image.{ImageValue}
@@ -21,12 +21,12 @@ abbrev pub seed_list : SeedPlan → List ℕ → ImageValue → List Choice
 seed_list plan inputs image =
     drawn_choices plan.draw (started image inputs) (length inputs) plan.steps plan.seed
 
--- what is answered over an ELF file: the choice text of the plan's choices
+-- the answer for an ELF file: the choice text of the plan's choices
 unfoldable pub choices_answer : SeedPlan → List ℕ → List ℕ → Answer
 choices_answer plan inputs bytes = after_program (length inputs)
     (λ image. Ok (choices_text (seed_list plan inputs image), status.Done)) (program_of form.Elf bytes)
 
--- a text is read as choices whose run ends as a campaign tells of a seed
+-- a text is read as choices whose run ends as a campaign reports for a seed
 pub record EndsAsTold (campaign : Campaign) (image : ImageValue) (inputs : List ℕ) (seed : ℕ) (text : List ℕ) : Type 0 where
   pub choices : List Choice
   pub read : choices_of (length inputs) text ≡ Ok choices

@@ -1,7 +1,6 @@
-//! `schedule`: a plan in; the choice text of its choices out.
+//! `schedule`: from a plan to the choice text of its choices.
 
 ghost use Rattle.std.specs.Prelude.{◌≡◌, ◌≢◌, ◌-◌, ◌^◌, ◌<◌, Ok, Err, IfOk, IfErr, IfSome, string_bytes};
-ghost use Rattle.machine.specs.Start.{IsStartable};
 ghost use Rattle.sched_text.specs.Printing.{choices_text};
 ghost use Rattle.program_open.specs.CommandFaults.{IfNames, IsRefusal};
 ghost use Rattle.cmd_schedule.specs.Plans.{IsScheduleText};
@@ -9,16 +8,16 @@ ghost use Rattle.cmd_schedule.specs.Seeds.{choices_answer, seed_list};
 
 use crate::plan::{Plan, SeedPlan};
 use byte_io::{Source, Status};
-use campaign_runs::first_machine;
 use image::Image;
-use machine::check_inputs;
+use machine::{Inputs, Machine};
+use mem_flat::FlatStore;
 use program_open::{CommandFault, ProgramForm, read_image};
 use sched_draw::{Schedule, list_run, list_schedule};
 use sched_text::print_choices;
 use std::alloc::{AllocError, Allocator};
 
-/// `schedule` without a program: the choice text of a plan's choices, an item a choice. Refused for
-/// want of memory alone.
+/// `schedule` without a program: the choice text of a plan's choices, one item per choice. The only
+/// error is out of memory.
 pub fn schedule_engine<A: Allocator + Copy>(
     alloc: A,
     plan: Plan,
@@ -45,27 +44,25 @@ fn plan_text<A: Allocator + Copy>(alloc: A, plan: Plan) -> Result<String<A>, All
 // The choice text of a seed's choices in a run of an image.
 fn seed_text<A: Allocator + Copy>(
     alloc: A,
-    inputs: &[u32],
+    inputs: &Inputs,
     plan: SeedPlan,
     image: &Image<A>,
 ) -> Result<String<A>, AllocError>
-    requires { IsStartable inputs.now }
     ensures { IfOk result (λ text.
         string_bytes text ≡ choices_text (seed_list plan inputs.now image.now)) }
 {
-    let mut machine = first_machine(alloc, image, inputs)?;
+    let mut machine: Machine<FlatStore<A>, A> = Machine::start(alloc, image, inputs)?;
     let schedule = Schedule::Seeded {
         seed: plan.seed,
         draw: plan.draw,
     };
-    let harts = inputs.len() as u32;
-    let choices = list_run(alloc, &mut machine, schedule, harts, plan.steps)?;
+    let choices = list_run(alloc, &mut machine, schedule, inputs.harts(), plan.steps)?;
     let text = print_choices(alloc, &choices)?;
     Ok(text)
 }
 
-/// `schedule` for the choices of a run: reads an ELF file to its end, runs it under the choices that a
-/// seed draws, and answers their text, an item a choice.
+/// `schedule` for the choices of a run: reads an ELF file to its end, runs it under the choices
+/// that a seed draws, and returns their text, one item per choice.
 #[tactic(auto, unfolding(crate::specs::Seeds::choices_answer))]
 pub fn seed_engine<A: Allocator + Copy, P: Source>(
     alloc: A,
@@ -77,10 +74,10 @@ pub fn seed_engine<A: Allocator + Copy, P: Source>(
     // The text of the plan's choices.
     ensures done { IfOk result (λ answer. IfSome (P.left program.old) (λ p.
         choices_answer plan inputs.now p ≡ Ok (string_bytes answer.0, answer.1))) }
-    // What was read is refused.
+    // An input is invalid.
     ensures refused { IfErr result (λ fault. IsRefusal fault
         → IfSome (P.left program.old) (λ p. choices_answer plan inputs.now p ≡ Err fault)) }
-    // The program's device is named only where it failed, and no other is.
+    // The program's device is named only if it failed, and no other is.
     ensures read { IfErr result (λ fault. IfNames fault
         (P.failures program.old < P.failures program.new) ⊥ ⊥ ⊥) }
 {
@@ -88,11 +85,11 @@ pub fn seed_engine<A: Allocator + Copy, P: Source>(
         Ok(image) => image,
         Err(fault) => return Err(fault),
     };
-    match check_inputs(inputs) {
-        Ok(()) => {}
+    let inputs = match Inputs::new(inputs) {
+        Ok(inputs) => inputs,
         Err(fault) => return Err(CommandFault::from(fault)),
-    }
-    match seed_text(alloc, inputs, plan, &image) {
+    };
+    match seed_text(alloc, &inputs, plan, &image) {
         Ok(text) => Ok((text, Status::Done)),
         Err(AllocError) => Err(CommandFault::Memory),
     }

@@ -8,8 +8,8 @@ ghost use Rattle.sched_draw.specs.Schedules.{drawn_choices};
 ghost use Rattle.campaign_runs.specs.declared.campaign.Campaign.{Campaign};
 ghost use Rattle.cmd_schedule.specs.Seeds.{EndsAsTold};
 
-/// A run under the text of a seed's choices, however they are drawn, ends as the campaign that draws so
-/// tells of the seed.
+/// A run under the text of a seed's choices, however they are drawn, ends as the campaign that
+/// draws them reports for the seed.
 pub fn written_seeds_end_as_told()
     ensures { (campaign : Campaign) (image : ImageValue) (inputs : List ℕ) (seed : ℕ) → IsStartable inputs
         → EndsAsTold campaign image inputs seed

@@ -1,5 +1,5 @@
-//! What `schedule` does: the choice text of a schedule that is the same in each run, or of what a seed
-//! draws in a run of a program.
+//! The engine of `schedule`: the choice text of a schedule that is the same in each run, or of what
+//! a seed draws in a run of a program.
 #![tactic(auto)]
 
 pub use engine::{schedule_engine, seed_engine};

@@ -1,4 +1,4 @@
-//! Which choices are asked for.
+//! The choices to write.
 
 ghost use Rattle.std.specs.Prelude.{◌≡◌, ◌≤◌, true, false, MatchResult};
 ghost use Rattle.hart_reservations.specs.Limit.{most_harts};
@@ -8,18 +8,18 @@ use hart_reservations::MAX_HARTS;
 use sched_draw::{Draw, Schedule};
 use thiserror::Error;
 
-/// Why there is no plan. The text of each is what stands after `rvcons: ` on standard error.
+/// Why there is no plan. The text of each is printed after `rvcons: ` on standard error.
 #[derive(Clone, Copy, Debug, PartialEq, Eq, Error)]
 pub enum PlanFault {
-    /// A schedule of no hart is asked for, or one of more harts than there may be.
+    /// The schedule is for no hart, or for more harts than a machine has.
     #[error("--harts takes a decimal number from 1 to 32, as --harts 2")]
     BadHarts,
-    /// The hart that is to take all steps isn't there.
+    /// The hart that is to take all steps doesn't exist.
     #[error("--only takes the number of a hart, from 0 on and below that of --harts")]
     NoHart,
 }
 
-/// So many choices of a schedule that is the same in each run, of 1 to 32 harts.
+/// A number of choices of a schedule that is the same in each run, for 1 to 32 harts.
 #[derive(Clone, Copy, Drop)]
 pub struct Plan {
     pub(crate) harts: u32,
@@ -35,7 +35,7 @@ impl Plan {
     ghost use Rattle.sched_draw.specs.Schedules.{follows_run};
     ghost use Rattle.cmd_schedule.specs.Plans.{IsPlanOf, Refuses};
 
-    /// A plan of so many steps of so many harts. The number of harts is looked at first.
+    /// A plan of `steps` steps of `harts` harts. The number of harts is checked first.
     pub fn new(harts: u32, steps: u32, schedule: Schedule) -> Result<Plan, PlanFault>
         requires { follows_run schedule ≡ false }
         ensures { MatchResult result (λ plan. IsPlanOf harts steps schedule plan)
@@ -58,9 +58,9 @@ impl Plan {
 /// The choices that a seed draws in a run.
 #[derive(Clone, Copy, Drop)]
 pub struct SeedPlan {
-    /// How they are drawn.
+    /// How the seed draws them.
     pub draw: Draw,
-    /// How many they are.
+    /// Number of choices.
     pub steps: u64,
     /// The seed.
     pub seed: u64,

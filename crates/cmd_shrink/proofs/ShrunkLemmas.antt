@@ -15,7 +15,7 @@ use Rattle.cmd_shrink.specs.Failure.{failure_after, RunFailsSo}
 use Rattle.cmd_shrink.specs.declared.failure.Failure.{Failure}
 use Rattle.cmd_shrink.specs.Shrink.{IsShrunk}
 
--- the choices of a list that is another with some left out name harts that are there, if those of the other do
+-- the choices of a list with some left out name harts that exist, if those of the whole list do
 within_less : (n : ℕ) (list given : List Choice) → IsLess list given → All (λ c. c.hart < n) given → All (λ c. c.hart < n) list
 unfolding IsLess
 within_less n [] given less all = All-nil (λ (c : Choice). c.hart < n)

@@ -1,4 +1,4 @@
--- How a run fails, and when a run fails in the same way as another.
+-- How a run fails, and when another run fails in the same way.
 use Rattle.std.specs.Prelude.{◌≡◌, ℕ, ◌+◌, Bool, IsTrue, if◌then◌else◌}
 use Rattle.std.specs.Prelude.{List, [], ◌∷◌, length, slice_get, Option, Some, None}
 use Rattle.image.specs.Image.{ImageValue}
@@ -22,18 +22,18 @@ use Rattle.cmd_shrink.specs.declared.failure.Failure.TheVariants as failure
 abbrev pub BreaksRule : Kind → List ℕ → List Choice → List HartValue → Type 0
 BreaksRule kind inputs choices harts = verdict_of kind inputs choices harts ≡ verdict.Broken
 
--- a hart has faulted with a cause, and its pc is this
+-- a hart has faulted with this cause at this pc
 abbrev pub HasFaulted : HartValue → Cause → ℕ → Type 0
 HasFaulted hart cause pc = (hart.state ≡ Faulted cause) × (hart.pc ≡ pc)
 
--- the hart of this number has faulted with this cause at this pc
+-- the hart with this number has faulted with this cause at this pc
 abbrev pub HasFaultedAt : ℕ → Cause → ℕ → List HartValue → Type 0
 HasFaultedAt number cause pc harts =
     (hart : HartValue) × (slice_get harts number ≡ Some hart) × HasFaulted hart cause pc
 
--- the run of a list of choices fails so, from an image's start: its verdict is that the rule is
--- broken, or this hart has faulted with this cause at this pc, or the run hangs for so many further
--- steps
+-- the run of a list of choices fails in this way, from an image's start: its verdict is that the
+-- rule is broken, or this hart has faulted with this cause at this pc, or the run hangs for this
+-- number of further steps
 abbrev pub RunFailsSo : Failure → ImageValue → List ℕ → List Choice → Type 0
 RunFailsSo (failure.Broken kind) image inputs choices =
     BreaksRule kind inputs choices (harts_after image inputs choices)
@@ -48,7 +48,7 @@ fault_or other number pc Running = other
 fault_or other number pc (Exited status) = other
 fault_or other number pc (Faulted cause) = Some (failure.Faulted number cause pc)
 
--- the fault of the lowest hart that has one, of harts that are numbered from a number on
+-- the fault of the lowest hart that has one, of harts numbered from a number on
 abbrev pub first_fault : ℕ → List HartValue → Option Failure
 first_fault number [] = None
 first_fault number (hart ∷ harts) =
@@ -65,14 +65,14 @@ abbrev pub failure_of : Option Kind → List ℕ → List Choice → List HartVa
 failure_of None inputs choices harts = first_fault 0 harts
 failure_of (Some kind) inputs choices harts = failure_by kind (verdict_of kind inputs choices harts)
 
--- a failure, or else that the run hangs, where each hart must exit
+-- a failure, or else a hang, if each hart must exit
 abbrev pub failure_or : Exit → ℕ → Bool → Option Failure → Option Failure
 failure_or exit steps running (Some how) = Some how
 failure_or exit steps running None = if hangs exit running then Some (failure.Hangs steps) else None
 
--- how the run of a list of choices fails, from an image's start: at its end, or else, where each
--- hart must exit, it hangs for as many further steps as the list has choices, and for 10,000 at
--- least
+-- how the run of a list of choices fails, from an image's start: at its end, or else, if each
+-- hart must exit, it hangs for as many further steps as the list has choices, and at least
+-- 10,000
 abbrev pub failure_after : Expect → ImageValue → List ℕ → List Choice → Option Failure
 failure_after expect image inputs choices =
     failure_or expect.exit (steps_for (length choices))

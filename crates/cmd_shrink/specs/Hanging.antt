@@ -13,21 +13,21 @@ use Rattle.outcome.specs.Outcome.{some_run}
 abbrev pub harts_after : ImageValue → List ℕ → List Choice → List HartValue
 harts_after image inputs choices = (run (started image inputs) choices).harts
 
--- some hart runs after a list of choices and more of them
+-- some hart runs after a list of choices and further ones
 abbrev pub runs_on : ImageValue → List ℕ → List Choice → List Choice → Bool
 runs_on image inputs choices more = some_run (harts_after image inputs (choices ++ more))
 
--- so many steps of one hart alone, and then as many of all by turns
+-- n steps of one hart alone, and then as many of all in turn
 abbrev pub alone_first : ℕ → ℕ → ℕ → List Choice
 alone_first harts steps hart = alone hart steps ++ turns harts steps
 
--- a run hangs: some hart still runs where after its choices harts take so many further steps by
--- turns, and also where any one of them takes so many before that
+-- a run hangs: some hart still runs after its choices and n further steps of the harts in turn, and
+-- also if any one hart takes n steps alone before that
 abbrev pub hangs_after : ℕ → ImageValue → List ℕ → List Choice → Bool
 hangs_after steps image inputs choices =
     runs_on image inputs choices (turns (length inputs) steps)
     && all_below (length inputs) (λ hart. runs_on image inputs choices (alone_first (length inputs) steps hart))
 
--- how many further steps are enough, by how many choices there are
+-- the number of further steps, by the number of choices
 abbrev pub steps_for : ℕ → ℕ
 steps_for choices = max 10000 choices

@@ -1,4 +1,4 @@
--- What `shrink` answers: the text of a minimal list of choices that fails as the given one does.
+-- The answer of `shrink`: the text of a minimal list of choices that fails as the given one.
 use Rattle.std.specs.Prelude.{◌≡◌, ℕ, List, length, Option, Some, None}
 use Rattle.std.specs.declared.result.Result.TheVariants.{Ok, Err}
 use Rattle.image.specs.Image.{ImageValue}
@@ -14,9 +14,9 @@ use Rattle.outcome.specs.declared.expect.Expect.{Expect}
 use Rattle.cmd_shrink.specs.Failure.{failure_after, RunFailsSo}
 use Rattle.cmd_shrink.specs.declared.failure.Failure.{Failure}
 
--- a text is that of a list of choices which is the given one with choices left out and marks taken
--- away, whose run fails as the given one's does, and in which each choice and each mark is needed
--- for that
+-- a text is that of a list of choices which is the given one with choices left out and marks
+-- removed, whose run fails as the given one's does, and in which each choice and each mark is
+-- needed for that
 pub record IsShrunk (expect : Expect) (image : ImageValue) (inputs : List ℕ) (given : List Choice) (text : List ℕ) : Type 0 where
   pub choices : List Choice
   pub how : Failure
@@ -27,17 +27,17 @@ pub record IsShrunk (expect : Expect) (image : ImageValue) (inputs : List ℕ) (
   pub printed : text ≡ runs_text choices
   pub read : choices_of (length inputs) text ≡ Ok choices
 
--- a text is such a one of what a run begins with
+-- a text is one for an opened run
 abbrev pub Shrinks : Expect → List ℕ → Opened → List ℕ → Type 0
 Shrinks expect inputs (Ok opened) text = IsShrunk expect opened.0 inputs opened.1 text
 Shrinks expect inputs (Err why) text = ⊥
 
--- why there is no text of a run that fails or doesn't
+-- why there is no text: the run doesn't fail
 abbrev pub refusal_of : Option Failure → Option CommandFault
 refusal_of None = Some fault.NothingFails
 refusal_of (Some how) = None
 
--- why there is no text, by what a run begins with: a fault of what was read, or that nothing fails
+-- why there is no text for an opened run: its fault, or that nothing fails
 abbrev pub refusal : Expect → List ℕ → Opened → Option CommandFault
 refusal expect inputs (Ok opened) = refusal_of (failure_after expect opened.0 inputs opened.1)
 refusal expect inputs (Err why) = Some why

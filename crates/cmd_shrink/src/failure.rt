@@ -1,4 +1,4 @@
-//! Ways in which a run fails.
+//! Ways for a run to fail.
 ghost use Rattle.std.specs.Prelude.{◌≡◌, true, false, map};
 ghost use Rattle.cmd_shrink.specs.Failure.{
   failure_of,
@@ -16,20 +16,20 @@ use object_library::{Kind, Verdict, judge};
 /// How a run fails.
 #[derive(Clone, Copy, PartialEq, Eq)]
 pub enum Failure {
-    /// The verdict on it is that the rule of this kind is broken.
+    /// The rule of this kind is broken.
     Broken(Kind),
     /// A hart has faulted.
     Faulted {
-        /// Its number, from 0.
+        /// The hart's number, from 0.
         number: usize,
-        /// Why it was stopped.
+        /// The cause of its fault.
         cause: Cause,
-        /// The address of the instruction that stopped it.
+        /// The address of the instruction that faulted.
         pc: u32,
     },
-    /// However harts go on for so many further steps, one still runs.
+    /// However the harts go on for `steps` further steps, one still runs.
     Hangs {
-        /// How many further steps they take by turns, and one of them alone before that.
+        /// Number of further steps of the harts in turn, and of any one hart alone before that.
         steps: usize,
     },
 }
@@ -50,8 +50,8 @@ fn first_fault(harts: &[Hart]) -> Option<Failure>
     None
 }
 
-/// How a run fails at its end, by its inputs, its choices and its harts: under a rule where the
-/// verdict is `Broken`, and without one where a hart has faulted, of which the lowest counts.
+/// How a run fails at its end, by its inputs, its choices and its harts: under a rule if the
+/// verdict is `Broken`, and without one if a hart has faulted, of which the lowest counts.
 pub(crate) fn failure_of(
     rule: Option<Kind>,
     inputs: &[u32],
@@ -99,7 +99,7 @@ fn has_faulted(hart: &Hart, cause: Cause, pc: u32) -> bool
     }
 }
 
-/// Whether the hart of this number has faulted with this cause and at this pc.
+/// Whether the hart with this number has faulted with this cause at this pc.
 pub(crate) fn has_faulted_at(harts: &[Hart], number: usize, cause: Cause, pc: u32) -> bool
     ensures failed { result ≡ true → HasFaultedAt number cause pc (map hart_of harts.now) }
     ensures passed { result ≡ false → HasFaultedAt number cause pc (map hart_of harts.now) → ⊥ }

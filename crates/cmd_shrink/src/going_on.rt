@@ -1,4 +1,4 @@
-//! Harts that go on after a list of choices.
+//! Further steps of harts after a list of choices.
 ghost use Rattle.std.specs.Prelude.{◌≡◌, ◌<◌};
 ghost use Rattle.machine.specs.State.{state};
 ghost use Rattle.machine.specs.World.{run};
@@ -9,7 +9,7 @@ use machine::{Choice, Machine};
 use mem_flat::FlatStore;
 use std::alloc::Allocator;
 
-/// So many steps of one hart.
+/// `steps` steps of one hart.
 #[tactic(auto, using(machine::proofs::WorldLemmas::run_none, crate::proofs::TurnLemmas::alone_more))]
 pub(crate) fn go_on_alone<A: Allocator>(
     machine: &mut Machine<FlatStore<A>, A>,
@@ -29,7 +29,7 @@ pub(crate) fn go_on_alone<A: Allocator>(
     }
 }
 
-/// So many steps of so many harts by turns, from hart 0 on.
+/// `steps` steps of the harts in turn, from hart 0 on.
 #[tactic(auto, using(machine::proofs::WorldLemmas::run_none, crate::proofs::TurnLemmas::turns_more))]
 pub(crate) fn go_on_by_turns<A: Allocator>(
     machine: &mut Machine<FlatStore<A>, A>,

@@ -1,6 +1,5 @@
 //! Whether the run of a list of choices hangs.
 ghost use Rattle.std.specs.Prelude.{◌≡◌, ◌<◌, IfOk, length};
-ghost use Rattle.machine.specs.Start.{IsStartable};
 ghost use Rattle.sched_draw.specs.Turns.{turns};
 ghost use Rattle.mem_store.specs.Memory.{all_below};
 ghost use Rattle.cmd_shrink.specs.Hanging.{alone_first, hangs_after, runs_on, steps_for};
@@ -8,14 +7,14 @@ ghost use Rattle.cmd_shrink.specs.Hanging.{alone_first, hangs_after, runs_on, st
 use crate::going_on::{go_on_alone, go_on_by_turns};
 use crate::running::machine_after;
 use image::Image;
-use machine::{Choice, check_inputs};
+use machine::{Choice, Inputs};
 use outcome::some_run;
 use std::alloc::{AllocError, Allocator};
 
-/// How many further steps are taken at least, where it is asked whether a run hangs.
+/// The least number of further steps by which a run is found to hang.
 pub const FEWEST_STEPS: usize = 10_000;
 
-/// How many further steps are taken where it is asked whether a run of so many choices hangs.
+/// The number of further steps by which a run of `choices` choices is found to hang.
 pub fn steps_for(choices: usize) -> usize
     ensures { result ≡ steps_for choices }
 {
@@ -26,57 +25,55 @@ pub fn steps_for(choices: usize) -> usize
     }
 }
 
-// Whether some hart runs after choices and so many steps more by turns.
+// Whether some hart runs after the choices and `steps` further steps in turn.
 fn runs_on_by_turns<A: Allocator + Copy>(
     alloc: A,
     image: &Image<A>,
-    inputs: &[u32],
+    inputs: &Inputs,
     choices: &[Choice],
     steps: usize,
 ) -> Result<bool, AllocError>
-    requires { IsStartable inputs.now }
     ensures { IfOk result (λ running. running
         ≡ runs_on image.now inputs.now choices.now (turns (length inputs.now) steps)) }
 {
     let mut machine = machine_after(alloc, image, inputs, choices)?;
-    go_on_by_turns(&mut machine, inputs.len() as u32, steps);
+    go_on_by_turns(&mut machine, inputs.harts(), steps);
     Ok(some_run(machine.ends()))
 }
 
-// Whether some hart runs after choices, so many steps more of one hart, and then as many by turns.
+// Whether some hart runs after the choices, `steps` further steps of one hart, and then as many in
+// turn.
 fn runs_on_after_one<A: Allocator + Copy>(
     alloc: A,
     image: &Image<A>,
-    inputs: &[u32],
+    inputs: &Inputs,
     choices: &[Choice],
     steps: usize,
     hart: u32,
 ) -> Result<bool, AllocError>
-    requires { IsStartable inputs.now }
     ensures { IfOk result (λ running. running
         ≡ runs_on image.now inputs.now choices.now (alone_first (length inputs.now) steps hart)) }
 {
     let mut machine = machine_after(alloc, image, inputs, choices)?;
     go_on_alone(&mut machine, hart, steps);
-    go_on_by_turns(&mut machine, inputs.len() as u32, steps);
+    go_on_by_turns(&mut machine, inputs.harts(), steps);
     Ok(some_run(machine.ends()))
 }
 
-// Whether some hart runs after choices and steps more, whichever hart takes its own first.
+// Whether some hart runs after the choices and further steps, whichever hart takes its own first.
 #[tactic(auto, using(crate::proofs::BelowLemmas::all_none, crate::proofs::BelowLemmas::all_more))]
 fn runs_on_after_any<A: Allocator + Copy>(
     alloc: A,
     image: &Image<A>,
-    inputs: &[u32],
+    inputs: &Inputs,
     choices: &[Choice],
     steps: usize,
 ) -> Result<bool, AllocError>
-    requires { IsStartable inputs.now }
     ensures { IfOk result (λ running. running
         ≡ all_below (length inputs.now)
         (λ hart. runs_on image.now inputs.now choices.now (alone_first (length inputs.now) steps hart))) }
 {
-    let harts = inputs.len() as u32;
+    let harts = inputs.harts();
     'harts: for hart in 0..harts {
         if !runs_on_after_one(alloc, image, inputs, choices, steps, hart)? {
             return Ok(false);
@@ -85,21 +82,17 @@ fn runs_on_after_any<A: Allocator + Copy>(
     Ok(true)
 }
 
-/// Whether a run hangs: some hart still runs where after its choices harts take so many further
-/// steps by turns, and also where any one of them takes so many before that. There has to be a hart
-/// for each input: 1 to `MAX_HARTS` inputs, or it is refused.
+/// Whether a run hangs: some hart still runs after its choices and `steps` further steps of the
+/// harts in turn, and also if any one hart takes `steps` steps alone before that.
 pub fn hangs_after<A: Allocator + Copy>(
     alloc: A,
     image: &Image<A>,
-    inputs: &[u32],
+    inputs: &Inputs,
     choices: &[Choice],
     steps: usize,
 ) -> Result<bool, AllocError>
     ensures { IfOk result (λ hangs. hangs ≡ hangs_after steps image.now inputs.now choices.now) }
 {
-    let Ok(()) = check_inputs(inputs) else {
-        return Err(AllocError);
-    };
     if !runs_on_by_turns(alloc, image, inputs, choices, steps)? {
         return Ok(false);
     }

@@ -6,7 +6,7 @@ ghost use Rattle.machine.specs.declared.choice.Choice.{Choice};
 ghost use Rattle.outcome.specs.declared.expect.Expect.{Expect};
 ghost use Rattle.image.specs.Image.{ImageValue};
 
-/// A run that fails, fails so: in the way that it is said to fail.
+/// A run fails in the way that `failure_after` returns.
 pub fn failing_run_fails_so()
     ensures { (expect : Expect) (image : ImageValue) (inputs : List ℕ) (choices : List Choice) (how : Failure)
         → failure_after expect image inputs choices ≡ Some how → RunFailsSo how image inputs choices }

@@ -1,5 +1,4 @@
-//! `shrink`, over any sources: how a run fails, and a minimal choice text whose run
-//! fails in the same way.
+//! The engine of `shrink`: how a run fails, and a minimal choice text that fails in the same way.
 #![tactic(auto)]
 
 pub use failure::Failure;

@@ -2,13 +2,12 @@
 ghost use Rattle.std.specs.Prelude.{◌≡◌, IfOk};
 ghost use Rattle.cmd_shrink.specs.Failure.{failure_after, failure_of};
 ghost use Rattle.cmd_shrink.specs.Hanging.{harts_after};
-ghost use Rattle.machine.specs.Start.{IsStartable};
 
 use crate::failure::{Failure, failure_of};
 use crate::hanging::{hangs_after, steps_for};
 use crate::running::machine_after;
 use image::Image;
-use machine::Choice;
+use machine::{Choice, Inputs};
 use object_library::Kind;
 use outcome::{Exit, Expect};
 use std::alloc::{AllocError, Allocator};
@@ -18,29 +17,27 @@ fn failure_at_end<A: Allocator + Copy>(
     alloc: A,
     rule: Option<Kind>,
     image: &Image<A>,
-    inputs: &[u32],
+    inputs: &Inputs,
     choices: &[Choice],
 ) -> Result<Option<Failure>, AllocError>
-    requires { IsStartable inputs.now }
     ensures { IfOk result (λ failure. failure
         ≡ failure_of rule inputs.now choices.now (harts_after image.now inputs.now choices.now)) }
 {
     let machine = machine_after(alloc, image, inputs, choices)?;
-    Ok(failure_of(rule, inputs, choices, machine.ends()))
+    Ok(failure_of(rule, inputs.words(), choices, machine.ends()))
 }
 
 /// How the run of a list of choices fails, from an image's start: under a rule if its verdict is
-/// `Broken`, and without one if a hart has faulted, of which the lowest counts; or else, where each
-/// hart must exit, it hangs for as many further steps as the list has choices, and for
-/// `FEWEST_STEPS` at least. There has to be a hart for each input: 1 to `MAX_HARTS` inputs.
+/// `Broken`, and without one if a hart has faulted, of which the lowest counts; or else, if each
+/// hart must exit, it hangs for as many further steps as the list has choices, and at least
+/// `FEWEST_STEPS`.
 pub fn failure_after<A: Allocator + Copy>(
     alloc: A,
     expect: Expect,
     image: &Image<A>,
-    inputs: &[u32],
+    inputs: &Inputs,
     choices: &[Choice],
 ) -> Result<Option<Failure>, AllocError>
-    requires { IsStartable inputs.now }
     ensures { IfOk result (λ failure. failure ≡ failure_after expect image.now inputs.now choices.now) }
 {
     if let Some(how) = failure_at_end(alloc, expect.rule, image, inputs, choices)? {

@@ -1,15 +1,15 @@
 //! Runs from an image's start.
-ghost use Rattle.std.specs.Prelude.{◌≡◌, ◌<◌, IfOk};
-ghost use Rattle.machine.specs.Start.{started, IsStartable};
+ghost use Rattle.std.specs.Prelude.{◌≡◌, IfOk};
+ghost use Rattle.machine.specs.Start.{started};
 ghost use Rattle.machine.specs.State.{state};
 ghost use Rattle.machine.specs.World.{step, run};
 
 use image::Image;
-use machine::{Choice, Machine};
+use machine::{Choice, Inputs, Machine};
 use mem_flat::FlatStore;
 use std::alloc::{AllocError, Allocator};
 
-/// One event. The choice of a hart that isn't there changes nothing.
+/// One choice. That of a hart that doesn't exist changes nothing.
 #[tactic(auto, using(crate::proofs::StepLemmas::step_of_nobody))]
 #[inline]
 pub(crate) fn take_step<A: Allocator>(machine: &mut Machine<FlatStore<A>, A>, choice: Choice)
@@ -24,7 +24,7 @@ pub(crate) fn take_step<A: Allocator>(machine: &mut Machine<FlatStore<A>, A>, ch
     };
 }
 
-// One event after another.
+// One choice after another.
 #[tactic(auto, using(machine::proofs::WorldLemmas::run_more, machine::proofs::WorldLemmas::run_none))]
 fn take_steps<A: Allocator>(machine: &mut Machine<FlatStore<A>, A>, choices: &[Choice])
     ensures { state machine.new ≡ run (state machine.old) choices.now }
@@ -34,21 +34,16 @@ fn take_steps<A: Allocator>(machine: &mut Machine<FlatStore<A>, A>, choices: &[C
     }
 }
 
-/// The machine after choices, from an image's start. It is refused where there can't be a hart for
-/// each input, and where memory runs out.
+/// The machine after choices, from an image's start. The only error is out of memory.
 pub(crate) fn machine_after<A: Allocator + Copy>(
     alloc: A,
     image: &Image<A>,
-    inputs: &[u32],
+    inputs: &Inputs,
     choices: &[Choice],
 ) -> Result<Machine<FlatStore<A>, A>, AllocError>
-    ensures startable { IfOk result (λ _. IsStartable inputs.now) }
-    ensures after { IfOk result (λ machine. state machine ≡ run (started image.now inputs.now) choices.now) }
+    ensures { IfOk result (λ machine. state machine ≡ run (started image.now inputs.now) choices.now) }
 {
-    let mut machine: Machine<FlatStore<A>, A> = match Machine::start(alloc, image, inputs) {
-        Ok(machine) => machine,
-        Err(_) => return Err(AllocError),
-    };
+    let mut machine: Machine<FlatStore<A>, A> = Machine::start(alloc, image, inputs)?;
     take_steps(&mut machine, choices);
     Ok(machine)
 }

@@ -1,23 +1,23 @@
-//! The test of lists of choices whether their runs, from an image's start, fail in one way.
+//! Tests whether the runs of lists of choices fail in one way.
 ghost use Rattle.cmd_shrink.specs.Failure.{RunFailsSo};
 
 use crate::failure::{Failure, breaks_rule, has_faulted_at};
 use crate::hanging::hangs_after;
 use crate::running::machine_after;
 use image::Image;
-use machine::Choice;
+use machine::{Choice, Inputs};
 use shrink_list::Failing;
 use std::alloc::{AllocError, Allocator};
 
-/// The test of lists of choices whether their runs, from an image's start, fail in one way.
+/// Tests whether the runs of lists of choices, from an image's start, fail in one way.
 #[derive(Drop)]
 pub struct SameFailure<'a, A: Allocator> {
-    /// Where memory for the runs comes from.
+    /// The allocator for the runs.
     pub alloc: A,
     /// The image.
     pub image: &'a Image<A>,
-    /// An input for each hart: 1 to `MAX_HARTS` of them, or the test is refused.
-    pub inputs: &'a [u32],
+    /// The harts' inputs.
+    pub inputs: &'a Inputs,
     /// The way to fail.
     pub failure: Failure,
 }
@@ -29,7 +29,7 @@ impl<'a, A: Allocator + Copy> Failing for SameFailure<'a, A> {
         match self.failure {
             Failure::Broken(kind) => {
                 let machine = machine_after(self.alloc, self.image, self.inputs, choices)?;
-                Ok(breaks_rule(kind, self.inputs, choices, machine.ends()))
+                Ok(breaks_rule(kind, self.inputs.words(), choices, machine.ends()))
             }
             Failure::Faulted { number, cause, pc } => {
                 let machine = machine_after(self.alloc, self.image, self.inputs, choices)?;

@@ -9,18 +9,18 @@ ghost use Rattle.cmd_shrink.specs.Shrink.{IsShrunk};
 use crate::run_failure::failure_after;
 use crate::same_failure::SameFailure;
 use image::Image;
-use machine::Choice;
+use machine::{Choice, Inputs};
 use outcome::Expect;
 use sched_text::print_runs;
 use shrink_list::{ChoicesLeft, shrink_choices};
 use std::alloc::{AllocError, Allocator};
 
-/// The text of a minimal list of choices that fails as the given one does; none where that doesn't
+/// The text of a minimal list of choices that fails as the given one does; `None` if that doesn't
 /// fail.
 pub(crate) fn shortened<A: Allocator + Copy, L: ChoicesLeft>(
     alloc: A,
     image: &Image<A>,
-    inputs: &[u32],
+    inputs: &Inputs,
     expect: Expect,
     given: &[Choice],
     left: &mut L,

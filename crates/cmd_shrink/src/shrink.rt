@@ -1,5 +1,5 @@
-//! `shrink`: a program, inputs and a list of choices that fails in; the choice text of a minimal
-//! one out.
+//! `shrink`: from a program, inputs and a failing list of choices to the choice text of a minimal
+//! one.
 
 ghost use Rattle.std.specs.Prelude.{◌≡◌, ◌^◌, ◌-◌, ◌<◌, length, string_bytes};
 ghost use Rattle.std.specs.Prelude.{Err, IfErr, IfOk, IfSome, Ok, Some};
@@ -17,10 +17,10 @@ use program_open::{CommandFault, Input, ProgramForm, open_run};
 use shrink_list::ChoicesLeft;
 use std::alloc::{AllocError, Allocator};
 
-/// `shrink`: reads the program to its end, and where it is one and the inputs are not too many, the
-/// choice text to its end; answers the text of some of these choices, in their order and some
-/// without their mark, whose run still fails in the same way, and fails so no more without any one
-/// of its choices or marks. Where each hart must exit, a run that hangs has failed.
+/// `shrink`: reads the program to its end and, if it is valid and the number of inputs is, the
+/// choice text to its end; returns the text of some of these choices, in their order and some
+/// without their mark, whose run still fails in the same way, but no longer without any one of its
+/// choices or marks. If each hart must exit, a run that hangs has failed.
 pub fn shrink_engine<A: Allocator + Copy, P: Source, C: Source, L: ChoicesLeft>(
     alloc: A,
     inputs: &[u32],
@@ -36,16 +36,15 @@ pub fn shrink_engine<A: Allocator + Copy, P: Source, C: Source, L: ChoicesLeft>(
         IfSome (P.left program.old) (λ p. IfSome (C.left choices.old) (λ c.
         Shrinks expect inputs.now (opening ProgramForm.Elf (length inputs.now) p c)
         (string_bytes answer.0)))) }
-    // What was read is refused, or nothing fails.
+    // An input is invalid, or nothing fails.
     ensures refused { IfErr result (λ fault. IsRefusal fault
         → IfSome (P.left program.old) (λ p. IfSome (C.left choices.old) (λ c.
         refusal expect inputs.now (opening ProgramForm.Elf (length inputs.now) p c) ≡ Some fault))) }
-    // A device is named only where it failed.
+    // A device is named only if it failed.
     ensures read { IfErr result (λ fault. IfNames fault
         (P.failures program.old < P.failures program.new)
         (C.failures choices.old < C.failures choices.new) ⊥ ⊥) }
-    // A fault of the program, and that of the number of inputs, come before one of the device that
-    // the choices are read from.
+    // A fault of the program or of the number of inputs comes before one of the choices' device.
     ensures program_first { result ≡ Err (CommandFault.Read Input.Choices)
         → IfSome (P.left program.old) (λ p. (image : ImageValue) × (program_of ProgramForm.Elf p ≡ Ok image)) }
     ensures inputs_first { result ≡ Err (CommandFault.Read Input.Choices) → IsStartable inputs.now }
@@ -54,7 +53,7 @@ pub fn shrink_engine<A: Allocator + Copy, P: Source, C: Source, L: ChoicesLeft>(
         Ok(run) => run,
         Err(fault) => return Err(fault),
     };
-    match shortened(alloc, &run.image, inputs, expect, &run.choices, left) {
+    match shortened(alloc, &run.image, &run.inputs, expect, &run.choices, left) {
         Ok(Some(text)) => Ok((text, Status::Done)),
         Ok(None) => Err(CommandFault::NothingFails),
         Err(AllocError) => Err(CommandFault::Memory),

@@ -1,4 +1,4 @@
--- What a run of threads answers: a history, and what a replay of it prints.
+-- The answer of a run on threads: a history, and what a replay of it prints.
 use Rattle.std.specs.Prelude.{◌≡◌, ℕ, ◌<◌, List, Option, Ok, Err, string_bytes}
 use Rattle.hart_reservations.specs.Limit.{most_harts}
 use Rattle.image.specs.Image.{ImageValue}
@@ -19,7 +19,7 @@ use Rattle.thread_run.specs.declared.fault.RunFault.{RunFault}
 use Rattle.thread_run.specs.declared.fault.RunFault.TheVariants as threads
 use Rattle.cmd_threads.specs.declared.threads.ThreadsAnswer.{ThreadsAnswer}
 
--- a history of the file's program, which no plan, budget or print contradicts
+-- a history of the file's program, in accord with plan, budget and printed lines
 pub record IsAnswer {A : Type 0} (inputs : List ℕ) (budget : ℕ) (plan : List (ℕ × ℕ)) (rule : Option Kind) (program : List ℕ) (answer : ThreadsAnswer A) : Type 0 where
   pub image : ImageValue
   pub entries : List Entry
@@ -35,13 +35,11 @@ IsKept {A} answer = EndsKept May (string_bytes answer.lines) answer.status
 
 -- a fault of the threads
 abbrev pub fault_of_run : RunFault → CommandFault
-fault_of_run threads.NoHarts = fault.NoHarts
-fault_of_run threads.TooManyHarts = fault.TooManyHarts
 fault_of_run threads.StartRefused = fault.ThreadRefused
 fault_of_run threads.Stale = fault.Stale
 fault_of_run threads.Memory = fault.Memory
 
--- when so many inputs and a program are refused so: the program is looked at first
+-- how an invalid number of inputs or program is reported: the program is checked first
 abbrev pub Refuses : ℕ → List ℕ → CommandFault → Type 0
 Refuses harts program fault.NoHarts = harts ≡ 0
 Refuses harts program fault.TooManyHarts = most_harts < harts
@@ -49,7 +47,7 @@ Refuses harts program fault.ThreadRefused = Unit {0}
 Refuses harts program fault.Stale = Unit {0}
 Refuses harts program why = program_of form.Elf program ≡ Err why
 
--- a fact of the program's file where a fault names it; or the host refused a thread, or a hart is stale
+-- the fact for the program's file if a fault names it; else a thread was refused, or a hart stale
 abbrev pub IfReads : CommandFault → Type 0 → Type 0
 IfReads fault.ThreadRefused file = Unit {0}
 IfReads fault.Stale file = Unit {0}

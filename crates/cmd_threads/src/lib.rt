@@ -1,4 +1,4 @@
-//! What `threads` does, over any source.
+//! The engine of `threads`.
 #![tactic(auto)]
 
 pub use threads::{ThreadsAnswer, ThreadsTask, threads_engine};

@@ -1,4 +1,5 @@
-//! `threads`: a program, inputs, a budget and a plan in; the history of the harts, their ends and the verdict on them out.
+//! `threads`: from a program, inputs, a budget and a plan to the history of the harts, their ends
+//! and the verdict on them.
 
 ghost use Rattle.std.specs.Prelude.{◌≡◌, ◌^◌, ◌-◌, ◌<◌, ◌≤◌, IfOk, IfErr, IfSome, length};
 ghost use Rattle.cmd_run.specs.Certified.{IsCertified};
@@ -8,8 +9,8 @@ ghost use Rattle.cmd_threads.specs.Threads.{IfReads, IsAnswer, IsKept, Refuses, 
 
 use byte_io::{Source, Status};
 use cmd_replay::shown_after;
-use cmd_run::see_words;
 use history::print_history;
+use machine::Inputs;
 use object_library::Kind;
 use program_open::{CommandFault, ProgramForm, read_image};
 use std::alloc::{AllocError, Allocator};
@@ -18,12 +19,12 @@ use std::thread::Threads;
 use thread_gate::{Gate, Plan};
 use thread_run::{RunFault, run_threads};
 
-/// What is run on threads, besides the program.
+/// The parameters of a run on threads, besides the program.
 #[derive(Drop)]
 pub struct ThreadsTask<A: Allocator> {
-    /// The harts' inputs, one a hart.
+    /// The inputs, one per hart.
     pub inputs: Vec<u32, A>,
-    /// How often each hart is chosen at most.
+    /// The greatest number of choices of each hart.
     pub budget: u32,
     /// Which store-conditionals are refused.
     pub plan: Plan<A>,
@@ -31,19 +32,19 @@ pub struct ThreadsTask<A: Allocator> {
     pub rule: Option<Kind>,
 }
 
-/// What a run of threads gives: the history is to be written before the lines are printed.
+/// The answer of a run on threads. The history is to be written before the lines are printed.
 #[derive(Drop)]
 pub struct ThreadsAnswer<A: Allocator> {
     /// The history's text.
     pub history: String<A>,
     /// How the harts end, and under a rule the verdict.
     pub lines: String<A>,
-    /// The status that the program ends with.
+    /// The program's exit status.
     pub status: Status,
 }
 
-/// `threads`: reads the program to its end, and runs it with a thread for each hart. What is answered is what a replay of the
-/// answered history prints.
+/// `threads`: reads the program to its end, and runs it with a thread for each hart. The lines are
+/// those that a replay of the history prints.
 pub fn threads_engine<
     A: Allocator + Copy + Send + Sync,
     P: Source,
@@ -59,26 +60,30 @@ pub fn threads_engine<
     requires { P.failures program.old < 2 ^ 64 - 1 }
     ensures answer { IfOk result (λ answer. IfSome (P.left program.old) (λ p.
         IsAnswer task.inputs.items task.budget task.plan.keys task.rule p answer)) }
-    // A file that is an object, run by as many harts as it is for, never has a broken verdict of its kind's rule.
+    // For a file that is an object, run by as many harts as it is for, the verdict by its kind's
+    // rule is never `broken`.
     ensures certified { IfOk result (λ answer. IfSome (P.left program.old) (λ p.
         IsCertified ProgramForm.Elf p task.inputs.items task.rule → IsKept answer)) }
-    // What was read is refused, and no thread was started.
+    // An input is invalid, and no thread was started.
     ensures refused { IfErr result (λ fault. IsRefusal fault
         → IfSome (P.left program.old) (λ p. Refuses (length task.inputs.items) p fault)) }
-    // The program's device is named only where it failed, and no other is.
+    // The program's device is named only if it failed, and no other is.
     ensures read { IfErr result (λ fault. IfReads fault
         (P.failures program.old < P.failures program.new)) }
 {
-    see_words(&task.inputs);
     let image = match read_image(alloc, ProgramForm::Elf, program) {
         Ok(image) => image,
         Err(fault) => return Err(fault),
     };
+    let inputs = match Inputs::new(&task.inputs) {
+        Ok(inputs) => inputs,
+        Err(fault) => return Err(CommandFault::from(fault)),
+    };
     let ThreadsTask {
-        inputs,
         budget,
         plan,
         rule,
+        ..
     } = task;
     let book = match run_threads(rt, alloc, image, inputs, budget, plan, gate) {
         Ok(outcome) => outcome.book,
@@ -89,7 +94,7 @@ pub fn threads_engine<
     };
     match shown_after(
         alloc,
-        book.inputs(),
+        book.inputs().words(),
         rule,
         book.history(),
         book.machine().ends(),
@@ -103,13 +108,11 @@ pub fn threads_engine<
     }
 }
 
-// A fault of the threads, as one of the command.
+// A fault of the threads as one of the command.
 fn fault_of_threads(fault: RunFault) -> CommandFault
     ensures { result ≡ fault_of_run fault }
 {
     match fault {
-        RunFault::NoHarts => CommandFault::NoHarts,
-        RunFault::TooManyHarts => CommandFault::TooManyHarts,
         RunFault::StartRefused => CommandFault::ThreadRefused,
         RunFault::Stale => CommandFault::Stale,
         RunFault::Memory => CommandFault::Memory,

@@ -1,4 +1,4 @@
--- What is answered of a run's logs, and that a certified file keeps its rule.
+-- The answer from a run's logs, and the rule of a certified file.
 use Rattle.std.proofs.Common.{◌≡◌, ℕ, ◌^◌, ◌%◌, ◌<◌, List, map, length, Option, Some, None, Ok, refl, ap, sym, subst, ◌∙◌}
 use Rattle.std.specs.Prelude.{string_bytes}
 use Rattle.std.specs.Option.{IfSome}
@@ -29,7 +29,7 @@ use Rattle.outcome.specs.declared.expect.Exit.TheVariants.{May}
 use Rattle.cmd_run.proofs.CertifiedLemmas.{certified_shown}
 use Rattle.cmd_threads.specs.declared.threads.ThreadsAnswer.{ThreadsAnswer}
 use Rattle.cmd_threads_banked.specs.BankedAnswer.{hart_of_log, text_for, IsAnswer, IsMergedRun, IsOfRun}
-use Rattle.cmd_threads_banked.specs.declared.history.HistoryUse.{HistoryUse}
+use Rattle.cmd_threads_banked.specs.declared.history_use.HistoryUse.{HistoryUse}
 use Rattle.cmd_threads_banked.proofs.RunLemmas.{are_of, choices_within, harts_are}
 
 module _ (image : ImageValue) (inputs : List ℕ) (budget : ℕ) (plan : List (ℕ × ℕ)) (logs : List HartLogValue) (banks : List BankLog) (b : IsBanked image inputs budget plan logs banks) (choices : List Choice) where
@@ -79,7 +79,7 @@ pub answered : {A : Type 0} (image : ImageValue) (inputs : List ℕ) (budget : �
 answered image inputs budget plan None rule history answer reads run = tt
 answered image inputs budget plan (Some p) rule history answer reads run = record { image = image; reads = reads; of_run = run }
 
--- lines of inputs and choices as they were seen
+-- lines of inputs and choices as the code sees them
 pub seen_lines : (rule : Option Kind) (inputs inputs_seen : List ℕ) (choices choices_seen : List Choice) (harts : List HartValue) (answer : List ℕ × Status)
     → inputs_seen ≡ inputs → choices_seen ≡ choices → shown_with May (verdict_on rule inputs_seen choices_seen harts) harts ≡ answer
     → shown_with May (verdict_on rule inputs choices harts) harts ≡ answer

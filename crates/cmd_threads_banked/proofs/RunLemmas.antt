@@ -1,4 +1,4 @@
--- What the logs of a run of threads over banks lead to, once they are merged.
+-- The run of the merged logs of threads over banks.
 use Rattle.std.proofs.Common.{◌≡◌, ℕ, zero, suc, ◌%◌, ◌+◌, ◌<◌, false, List, [], ◌∷◌, ◌++◌, length, map, drop, Some, None, refl, ap, sym, subst, ◌∙◌, inl, inr, ⊎_elim, arith, append_assoc}
 use Rattle.std.specs.Prelude.{◌⊎◌, replicate, slice_get, slice_index_or, option_map}
 use Rattle.std.specs.List.{All}

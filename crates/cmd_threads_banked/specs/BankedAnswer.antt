@@ -1,4 +1,4 @@
--- What a run of threads over banks answers: the choices of the one run that the logs are, and what a replay of them prints.
+-- The answer of a run on threads over banks: the choices of the logs' run, and what they print.
 use Rattle.std.specs.Prelude.{◌≡◌, ℕ, List, [], map, Option, Ok, string_bytes}
 use Rattle.image.specs.Image.{ImageValue}
 use Rattle.hart_step.specs.Hart.{HartValue}
@@ -25,15 +25,15 @@ use Rattle.program_open.specs.declared.command_fault.CommandFault.TheVariants as
 use Rattle.cmd_run.specs.Run.{may_run, shown, world_after}
 use Rattle.cmd_threads.specs.Threads as one_lock
 use Rattle.cmd_threads.specs.declared.threads.ThreadsAnswer.{ThreadsAnswer}
-use Rattle.cmd_threads_banked.specs.declared.history.HistoryUse.{HistoryUse}
-use Rattle.cmd_threads_banked.specs.declared.history.HistoryUse.TheVariants.{Read, Unread}
+use Rattle.cmd_threads_banked.specs.declared.history_use.HistoryUse.{HistoryUse}
+use Rattle.cmd_threads_banked.specs.declared.history_use.HistoryUse.TheVariants.{Read, Unread}
 
--- the hart to which a log leads
+-- the hart at the end of a log
 abbrev pub hart_of_log : HartLogValue → HartValue
 hart_of_log l = (slot_of l).hart
 
--- choices are those of logs that a run of threads leaves, merged; they lead to the logs' harts, the banks' bytes and the
--- reservations that slots and banks tell
+-- choices are those of merged logs that a run on threads leaves; they lead to the logs' harts, the
+-- banks' bytes and the reservations of slots and banks
 pub record IsMergedRun (image : ImageValue) (inputs : List ℕ) (budget : ℕ) (plan : List (ℕ × ℕ)) (choices : List Choice) : Type 0 where
   pub logs : List HartLogValue
   pub banks : List BankLog
@@ -42,12 +42,12 @@ pub record IsMergedRun (image : ImageValue) (inputs : List ℕ) (budget : ℕ) (
   pub merged : IsMergeOf (segments_of_all logs) choices
   pub ends : EndsIn image inputs (world_after image inputs choices) (slots image inputs logs) (λ b. after_log (first_bank image) (bank_log banks b))
 
--- the text of a history that is read, and none of one that isn't
+-- the text of a history that is read, else none
 abbrev pub text_for : HistoryUse → List Entry → List ℕ
 text_for Read entries = history_text entries
 text_for Unread entries = []
 
--- an answer has the history of such choices, an entry for each, if it is read, and what a replay of the history prints
+-- an answer has the history of such choices if it is read, and what a replay of it prints
 pub record IsOfRun {A : Type 0} (image : ImageValue) (inputs : List ℕ) (budget : ℕ) (plan : List (ℕ × ℕ)) (rule : Option Kind) (history : HistoryUse) (answer : ThreadsAnswer A) : Type 0 where
   pub choices : List Choice
   pub run : IsMergedRun image inputs budget plan choices
@@ -66,19 +66,17 @@ pub record IsAnswer {A : Type 0} (inputs : List ℕ) (budget : ℕ) (plan : List
 
 -- a fault of the threads
 abbrev pub fault_of_run : RunFault → CommandFault
-fault_of_run banked.NoHarts = fault.NoHarts
-fault_of_run banked.TooManyHarts = fault.TooManyHarts
 fault_of_run banked.StartRefused = fault.ThreadRefused
 fault_of_run banked.StampsExhausted = fault.StampsExhausted
 fault_of_run banked.Stale = fault.Stale
 fault_of_run banked.Memory = fault.Memory
 
--- when so many inputs and a program are refused so: as under one lock, or stamps are exhausted
+-- how an invalid input is reported: as under one lock, or stamps are exhausted
 abbrev pub Refuses : ℕ → List ℕ → CommandFault → Type 0
 Refuses harts program fault.StampsExhausted = Unit {0}
 Refuses harts program why = one_lock.Refuses harts program why
 
--- a fact of the program's file where a fault names it
+-- the fact for the program's file if a fault names it
 abbrev pub IfReads : CommandFault → Type 0 → Type 0
 IfReads fault.StampsExhausted file = Unit {0}
 IfReads why file = one_lock.IfReads why file

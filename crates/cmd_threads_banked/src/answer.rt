@@ -1,4 +1,4 @@
-//! What is answered of a run's harts and choices.
+//! The answer from a run's harts and choices.
 
 ghost use Rattle.std.specs.Prelude.{◌≡◌, IfOk, map, string_bytes};
 ghost use Rattle.hart_step.specs.Hart.{hart_of};
@@ -8,7 +8,7 @@ ghost use Rattle.cmd_run.specs.Run.{shown_with};
 ghost use Rattle.outcome.specs.declared.expect.Exit.TheVariants.{May};
 ghost use Rattle.cmd_threads_banked.specs.BankedAnswer.{hart_of_log, text_for};
 
-use crate::history::HistoryUse;
+use crate::history_use::HistoryUse;
 use bank_hart_log::HartLog;
 use cmd_run::{Exit, Expect, ends_text};
 use cmd_threads::ThreadsAnswer;
@@ -18,7 +18,7 @@ use machine::Choice;
 use object_library::Kind;
 use std::alloc::{AllocError, Allocator};
 
-/// The hart to which each log leads.
+/// The hart at the end of each log.
 pub(crate) fn harts_of<A: Allocator>(
     alloc: A,
     logs: &[HartLog<A>],
@@ -32,7 +32,7 @@ pub(crate) fn harts_of<A: Allocator>(
     Ok(harts)
 }
 
-/// Choices as the text of a history, if that is read.
+// Choices as the text of a history, if that is read.
 fn text_for<A: Allocator + Copy>(
     alloc: A,
     history: HistoryUse,
@@ -46,7 +46,8 @@ fn text_for<A: Allocator + Copy>(
     }
 }
 
-/// Choices as the text of a history, and the lines of harts that they have led to, under a rule with the verdict.
+/// Choices as the text of a history, and the lines of the harts that they lead to, under a rule
+/// with the verdict.
 pub(crate) fn answer_of<A: Allocator + Copy>(
     alloc: A,
     inputs: &[u32],

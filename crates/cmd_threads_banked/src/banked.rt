@@ -1,5 +1,5 @@
-//! `threads --banked`: a program, inputs, a budget and a plan in; the history that the harts' logs are, their ends and the verdict
-//! on them out.
+//! `threads --banked`: from a program, inputs, a budget and a plan to the history of the harts'
+//! logs, their ends and the verdict on them.
 
 ghost use Rattle.std.specs.Prelude.{◌≡◌, ◌≢◌, ◌^◌, ◌-◌, ◌<◌, length};
 ghost use Rattle.std.specs.Prelude.{Err, IfErr, IfOk, IfSome, None};
@@ -8,29 +8,30 @@ ghost use Rattle.machine.specs.Start.{IsStartable};
 ghost use Rattle.program_open.specs.declared.program.ProgramForm.{ProgramForm};
 ghost use Rattle.bank_threads.specs.Banked.{IsBanked};
 ghost use Rattle.cmd_threads.specs.Threads.{IsKept};
-ghost use Rattle.cmd_threads_banked.specs.declared.history.HistoryUse.{HistoryUse};
+ghost use Rattle.cmd_threads_banked.specs.declared.history_use.HistoryUse.{HistoryUse};
 ghost use Rattle.cmd_threads_banked.specs.BankedAnswer.{fault_of_run, IfReads, IsAnswer, IsOfRun, Refuses};
 ghost use Rattle.program_open.specs.CommandFaults.{IsRefusal};
 
 use crate::answer::{answer_of, harts_of};
-use crate::history::HistoryUse;
+use crate::history_use::HistoryUse;
 use crate::unread::answer_of_ends;
 use bank_hart_log::HartLog;
 use bank_memory::Bank;
 use bank_merge::{logs_are_one_run, merge_matched};
 use bank_threads::{RunFault, run_banked};
 use byte_io::Source;
-use cmd_run::see_words;
 use cmd_threads::{ThreadsAnswer, ThreadsTask};
 use image::Image;
+use machine::Inputs;
 use program_open::{CommandFault, ProgramForm, read_image};
 use std::alloc::{AllocError, Allocator};
 use std::sync::Wait;
 use std::thread::Threads;
 use thread_gate::Gate;
 
-/// `threads --banked`: reads the program to its end, and runs it with a thread for each hart and a lock for each bank of memory.
-/// What is answered is what a replay of the run's history prints, which is answered where it is read.
+/// `threads --banked`: reads the program to its end, and runs it with a thread for each hart and a
+/// lock for each bank of memory. The lines are those that a replay of the run's history prints; the
+/// history is returned if it is read.
 pub fn banked_engine<
     A: Allocator + Copy + Send + Sync,
     P: Source,
@@ -48,33 +49,29 @@ pub fn banked_engine<
     ensures answer { IfOk result (λ answer. IfSome (P.left program.old) (λ p.
         IsAnswer task.inputs.items task.budget task.plan.keys task.rule history p answer)) }
     ensures startable { IfOk result (λ _. IsStartable task.inputs.items) }
-    // A file that is an object, run by as many harts as it is for, never has a broken verdict of its kind's rule.
+    // For a file that is an object, run by as many harts as it is for, the verdict by its kind's
+    // rule is never `broken`.
     ensures certified { IfOk result (λ answer. IfSome (P.left program.old) (λ p.
         IsCertified ProgramForm.Elf p task.inputs.items task.rule → IsKept answer)) }
-    // What was read is refused, and no thread was started.
+    // An input is invalid, and no thread was started.
     ensures refused { IfErr result (λ fault. IsRefusal fault → IfSome (P.left program.old) (λ p.
         Refuses (length task.inputs.items) p fault)) }
-    // Logs that threads have left match, and are in order.
+    // The logs that threads leave match, and are in order.
     ensures matched { result ≢ Err CommandFault.Unmatched }
     ensures in_order { result ≢ Err CommandFault.OutOfOrder }
-    // The program's device is named only where it failed, and no other is.
+    // The program's device is named only if it failed, and no other is.
     ensures read { IfErr result (λ fault. IfReads fault
         (P.failures program.old < P.failures program.new)) }
 {
-    see_words(&task.inputs);
     let image = match read_image(alloc, ProgramForm::Elf, program) {
         Ok(image) => image,
         Err(fault) => return Err(fault),
     };
-    let banked = match run_banked(
-        rt,
-        alloc,
-        &image,
-        &task.inputs,
-        task.budget,
-        &task.plan,
-        gate,
-    ) {
+    let inputs = match Inputs::new(&task.inputs) {
+        Ok(inputs) => inputs,
+        Err(fault) => return Err(CommandFault::from(fault)),
+    };
+    let banked = match run_banked(rt, alloc, &image, &inputs, task.budget, &task.plan, gate) {
         Ok(banked) => banked,
         Err(fault) => return Err(fault_of_banked(fault)),
     };
@@ -84,7 +81,7 @@ pub fn banked_engine<
     }
 }
 
-// The logs of a run as the one run that they are. Its choices are made only where a history or a verdict wants them.
+// The answer from a run's logs. Its choices are made only if a history or a verdict needs them.
 fn answer_of_logs<A: Allocator + Copy>(
     alloc: A,
     image: &Image<A>,
@@ -125,7 +122,7 @@ fn merged_answer<A: Allocator + Copy>(
     Ok(answer)
 }
 
-// The same under no rule and without a history, so that nobody needs the choices.
+// The same without a rule and without a history, which needs no choices.
 fn unmerged_answer<A: Allocator + Copy>(
     alloc: A,
     image: &Image<A>,
@@ -143,13 +140,11 @@ fn unmerged_answer<A: Allocator + Copy>(
     Ok(answer)
 }
 
-// A fault of the threads, as one of the command.
+// A fault of the threads as one of the command.
 fn fault_of_banked(fault: RunFault) -> CommandFault
     ensures { result ≡ fault_of_run fault }
 {
     match fault {
-        RunFault::NoHarts => CommandFault::NoHarts,
-        RunFault::TooManyHarts => CommandFault::TooManyHarts,
         RunFault::StartRefused => CommandFault::ThreadRefused,
         RunFault::StampsExhausted => CommandFault::StampsExhausted,
         RunFault::Stale => CommandFault::Stale,

@@ -1,10 +1,10 @@
-//! What `threads --banked` does, over any source.
+//! The engine of `threads --banked`.
 #![tactic(auto)]
 
 pub use banked::banked_engine;
-pub use history::HistoryUse;
+pub use history_use::HistoryUse;
 
 mod answer;
 mod banked;
-mod history;
+mod history_use;
 mod unread;

@@ -1,4 +1,4 @@
-//! What is answered of a run whose choices nobody asks for.
+//! The answer of a run whose choices aren't needed.
 
 ghost use Rattle.std.specs.Prelude.{◌≡◌, None, [], IfOk, map, string_bytes};
 ghost use Rattle.hart_step.specs.Hart.{hart_of};
@@ -10,7 +10,7 @@ use cmd_threads::ThreadsAnswer;
 use hart_step::Hart;
 use std::alloc::{AllocError, Allocator};
 
-/// The lines of harts under no rule, without choices and without a history.
+/// The lines of harts without a rule, without choices and without a history.
 pub(crate) fn answer_of_ends<A: Allocator + Copy>(
     alloc: A,
     inputs: &[u32],

@@ -1,4 +1,4 @@
--- What is known of the answer, where the bytes of both devices are known.
+-- The answer, if the bytes of both devices are known.
 use Rattle.std.proofs.Common.{◌≡◌, ℕ, List, Option, Some, None, sym, subst}
 use Rattle.std.specs.Option.{IfSome}
 use Rattle.program_open.specs.Answers.{Answer}

@@ -11,7 +11,7 @@ use Rattle.sched_text.specs.Reading.{run_of, expanded_after, choices_of}
 use Rattle.sched_text.proofs.Agreement.{goes_on, stops, read_whole}
 use Rattle.cmd_trace.specs.Left.{SpellsSoMany}
 
--- the items before an offset name so many choices, which the text begins with
+-- the items before an offset denote this number of choices, which the text begins with
 pub record CountedSoFar (harts : ℕ) (text : List ℕ) (from count : ℕ) : Type 0 where
   pub done : List Choice
   pub left : choices_of harts text ≡ expanded_after done (values_named (run_of harts) (items_from from text))

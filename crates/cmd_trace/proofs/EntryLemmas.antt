@@ -26,7 +26,7 @@ entries_one : (form : TraceForm) (harts k : ℕ) (w : World) (c : Choice) (more 
 unfolding entries tells
 entries_one form harts k w c more = refl
 
--- one choice more is told
+-- one more choice is traced
 pub entries_more : (form : TraceForm) (harts from i n : ℕ) (now new : World) (left more : List Choice) (c : Choice) (t : Told) → i < n
     → left ≡ c ∷ more → t ≡ told now c → new ≡ step now c
     → entries form harts (from + i) (tells now (take (n - i) left))
@@ -45,7 +45,7 @@ entries_none form harts k m w left none =
     ap (λ (l : List Choice). entries form harts k (tells w (take m l))) none
     ∙ ap (λ (l : List Choice). entries form harts k (tells w l)) (take_all m [] (omega arith)) ∙ entries_nothing form harts k w
 
--- all choices that are to be told were told
+-- all choices that are to be traced were traced
 pub entries_end : (form : TraceForm) (harts k i n : ℕ) (w : World) (left : List Choice) → n ≤ i → entries form harts k (tells w (take (n - i) left)) ≡ []
 entries_end form harts k i n w left past =
     let none : n - i ≡ 0 = omega (arith, past) in

@@ -1,4 +1,4 @@
--- What was written of a text so far, a piece a write.
+-- The written part of a text, piece by piece.
 use Rattle.std.proofs.Common.{⊎_elim, ◌≡◌, ℕ, ◌+◌, ◌<◌, ◌≤◌, List, [], ◌++◌, length, take, Option, append-nil, append_assoc, arith, refl, rules, ap, sym, subst, ◌∙◌}
 use Rattle.std.proofs.KnownBytes.{Appends-nil, Appends-trans}
 use Rattle.std.proofs.Math.Seq.{take-append-add, take-append_seam}
@@ -32,7 +32,7 @@ begins_in old now new xs ys rest n before more =
 pub begun_with : (all buffer rest : List ℕ) (start : Option (List ℕ)) → all ≡ buffer ++ rest → SoFar all start start buffer rest
 begun_with all buffer rest start is = record { sent = []; appended = Appends-nil start; whole = is }
 
--- what waits was written
+-- the buffer was written
 pub sent_more : (all buffer left rest : List ℕ) (start now new : Option (List ℕ)) → Appends now new buffer → left ≡ []
     → SoFar all start now buffer rest → SoFar all start new left rest
 sent_more all buffer left rest start now new more none s = record {
@@ -41,7 +41,7 @@ sent_more all buffer left rest start now new more none s = record {
   whole = s.whole ∙ sym (append_assoc s.sent buffer rest) ∙ ap (λ (l : List ℕ). (s.sent ++ buffer) ++ (l ++ rest)) (sym none);
 }
 
--- a beginning of what waits was written
+-- a beginning of the buffer was written
 pub sent_some : (all buffer rest : List ℕ) (start now new : Option (List ℕ)) (n : ℕ) → Appends now new (take n buffer)
     → SoFar all start now buffer rest → Begins all start new
 sent_some all buffer rest start now new n more s =
@@ -52,7 +52,7 @@ pub sent_none : (all buffer rest : List ℕ) (start now : Option (List ℕ)) →
 sent_none all buffer rest start now s =
     (length s.sent, subst (λ bytes. Appends start now bytes) (sym (ap (take (length s.sent)) s.whole ∙ take-append_seam s.sent (buffer ++ rest))) s.appended)
 
--- more waits
+-- the buffer has more bytes
 pub waits_more : (all buffer more entry rest : List ℕ) (start now : Option (List ℕ)) → more ≡ buffer ++ entry
     → SoFar all start now buffer (entry ++ rest) → SoFar all start now more rest
 waits_more all buffer more entry rest start now is s = record {

@@ -21,7 +21,7 @@ trace_of : (plan : TracePlan) (image : ImageValue) (symbols : List SymbolValue) 
 unfolding trace_text
 trace_of plan image symbols inputs choices = refl
 
--- what stands before the choices waits, and they are to come
+-- the head is in the buffer, and the choices are to come
 pub head_waits : (plan : TracePlan) (image : ImageValue) (symbols : List SymbolValue) (inputs : List ℕ) (choices : List Choice) (count : ℕ)
     (span : Span) (start_world w : World) (buffer : List ℕ) (start : Option (List ℕ)) → span ≡ span_of plan count → count ≡ length choices
     → start_world ≡ started image inputs → w ≡ run start_world (take (span.from - 1) choices)

@@ -1,4 +1,4 @@
--- What `trace` answers to a program and a choice text.
+-- The answer of `trace` to a program and a choice text.
 use Rattle.std.specs.Prelude.{ℕ, List, [], length}
 use Rattle.std.specs.declared.result.Result.TheVariants.{Ok, Err}
 use Rattle.elf_read.specs.Symbol.{SymbolValue}
@@ -11,7 +11,7 @@ use Rattle.program_open.specs.declared.program.ProgramForm.TheVariants as form
 use Rattle.cmd_trace.specs.Trace.{trace_text}
 use Rattle.cmd_trace.specs.declared.plan.TracePlan.{TracePlan}
 
--- the symbols that are shown; none where there is no table that can be read
+-- the symbols that are shown; none if there is no valid table
 abbrev pub shown_symbols : Symbols → List SymbolValue
 shown_symbols (Ok symbols) = symbols
 shown_symbols (Err why) = []
@@ -21,12 +21,12 @@ abbrev pub program_symbols : ProgramForm → List ℕ → List SymbolValue
 program_symbols form.Hex bytes = []
 program_symbols form.Elf bytes = shown_symbols (symbols_of bytes)
 
--- by what a run begins with
+-- the answer for an opened run
 abbrev pub after_opening : TracePlan → List SymbolValue → List ℕ → Opened → Answer
 after_opening plan symbols inputs (Ok opened) = Ok (trace_text plan opened.0 symbols inputs opened.1, Done)
 after_opening plan symbols inputs (Err why) = Err why
 
--- what is answered to a program and a choice text
+-- the answer for a program and a choice text
 unfoldable pub trace_answer : ProgramForm → TracePlan → List ℕ → List ℕ → List ℕ → Answer
 trace_answer form plan inputs program text =
     after_opening plan (program_symbols form program) inputs (opening form (length inputs) program text)

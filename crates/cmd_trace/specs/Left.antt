@@ -7,7 +7,7 @@ use Rattle.sched_text.specs.declared.run.Run.{Run}
 use Rattle.sched_text.specs.Runs.{equal_choices, expanded}
 use Rattle.sched_text.specs.Reading.{run_of, choices_of}
 
--- the items of a text from an offset on name these runs, of so many harts
+-- the items of a text from an offset on denote these runs
 abbrev pub NamesFrom : ℕ → List ℕ → ℕ → List Run → Type 0
 NamesFrom harts text at runs = values_named (run_of harts) (items_from at text) ≡ Ok runs
 
@@ -17,13 +17,13 @@ pub record Leaves (harts : ℕ) (text : List ℕ) (at : ℕ) (named : Run) (left
   pub read : NamesFrom harts text at runs
   pub in_order : left ≡ equal_choices named ++ expanded runs
 
--- of these runs, the first is named by the item that ends at an offset, and the others by the items behind it; or there is none
+-- the first of these runs is the item's that ends at an offset, the others follow; or there is none
 abbrev pub Follows : ℕ → List ℕ → List Run → Option (Run × ℕ) → Type 0
 Follows harts text runs None = runs ≡ []
 Follows harts text runs (Some named) =
     (more : List Run) × (runs ≡ named.0 ∷ more) × NamesFrom harts text named.1 more
 
--- a text spells a list of so many choices
+-- a text spells a list of this many choices
 pub record SpellsSoMany (harts : ℕ) (text : List ℕ) (count : ℕ) : Type 0 where
   pub choices : List Choice
   pub read : choices_of harts text ≡ Ok choices

@@ -1,4 +1,4 @@
--- What `trace` writes: what stands before the choices that are told, and then what each of them did.
+-- The output of `trace`: the head, and what each traced choice did.
 use Rattle.std.specs.Prelude.{ℕ, ◌+◌, ◌-◌, min, max, List, [], ◌∷◌, ◌++◌, length, take, drop, Option, Some, None}
 use Rattle.image.specs.Image.{ImageValue}
 use Rattle.elf_read.specs.Symbol.{SymbolValue}
@@ -9,7 +9,7 @@ use Rattle.machine.specs.World.{World, run}
 use Rattle.machine.specs.declared.choice.Choice.{Choice}
 use Rattle.trace_steps.specs.Tells.{tells}
 use Rattle.trace_steps.specs.declared.told.Told.{Told}
-use Rattle.trace_tables.specs.Table.{head_rows, row_of}
+use Rattle.trace_text.specs.Table.{head_rows, row_of}
 use Rattle.trace_text.specs.Head.{head_line}
 use Rattle.trace_text.specs.Line.{line_of}
 use Rattle.trace_text.specs.declared.head.Span.{Span}
@@ -17,20 +17,20 @@ use Rattle.cmd_trace.specs.declared.plan.TraceForm.{TraceForm}
 use Rattle.cmd_trace.specs.declared.plan.TraceForm.TheVariants as form
 use Rattle.cmd_trace.specs.declared.plan.TracePlan.{TracePlan}
 
--- the number of the first choice that is told: there is no choice 0
+-- the number of the first traced choice: there is no choice 0
 abbrev pub first_of : TracePlan → ℕ
 first_of plan = max 1 plan.from
 
--- the number of the last choice that may be told, of so many
+-- the number of the last traced choice, given the number of choices
 abbrev pub end_of : Option ℕ → ℕ → ℕ
 end_of None count = count
 end_of (Some to) count = min to count
 
--- the first and the last choice that are told, of so many; the last is one less than the first where none is told
+-- the first and the last traced choice; the last is one less than the first if none is traced
 abbrev pub span_of : TracePlan → ℕ → Span
 span_of plan count = record { from = first_of plan; to = max (first_of plan - 1) (end_of plan.to count) }
 
--- how many choices are told
+-- number of traced choices
 abbrev pub told_count : Span → ℕ
 told_count span = span.to + 1 - span.from
 
@@ -39,26 +39,26 @@ abbrev pub harts_from : Marks → ℕ → List HartValue → List (HartValue × 
 harts_from r h [] = []
 harts_from r h (hart ∷ harts) = (hart, r h) ∷ harts_from r (h + 1) harts
 
--- what stands before the choices that are told, in the world before the first of them
+-- the head of the trace, in the world before the first traced choice
 abbrev pub head_of : TraceForm → ℕ → List ℕ → Span → List SymbolValue → World → List ℕ
 head_of form.Lines entry inputs span symbols w = head_line entry inputs span symbols (harts_from w.reserved 0 w.harts)
 head_of form.Table entry inputs span symbols w = head_rows (length inputs)
 
--- what is written of choice k, of a run of so many harts
+-- the text of choice k, given the number of harts
 abbrev pub entry_of : TraceForm → ℕ → Told → ℕ → List ℕ
 entry_of form.Lines harts told k = line_of told k
 entry_of form.Table harts told k = row_of told k harts
 
--- what is written of choices that are numbered from k on
+-- the texts of choices that are numbered from k on
 unfoldable pub entries : TraceForm → ℕ → ℕ → List Told → List ℕ
 entries form harts k [] = []
 entries form harts k (told ∷ more) = entry_of form harts told k ++ entries form harts (k + 1) more
 
--- what is written of the choices that are told, where they are the first of some choices
+-- the texts of the traced choices, which are the first of some choices
 abbrev pub told_entries : TraceForm → ℕ → Span → World → List Choice → List ℕ
 told_entries form harts span w choices = entries form harts span.from (tells w (take (told_count span) choices))
 
--- what is written of a run of an image
+-- the trace of a run of an image
 unfoldable pub trace_text : TracePlan → ImageValue → List SymbolValue → List ℕ → List Choice → List ℕ
 trace_text plan image symbols inputs choices =
     let span = span_of plan (length choices) in

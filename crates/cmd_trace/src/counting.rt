@@ -1,4 +1,4 @@
-//! How many choices a text spells.
+//! The number of choices of a text.
 ghost use Rattle.std.specs.Prelude.{◌≡◌, ◌≢◌, Err, IfOk, IfErr};
 ghost use Rattle.sched_text.specs.Reading.{choices_of};
 ghost use Rattle.cmd_trace.specs.Left.{SpellsSoMany};
@@ -6,8 +6,8 @@ ghost use Rattle.cmd_trace.specs.Left.{SpellsSoMany};
 use sched_text::{ChoiceFault, read_run};
 use text_items::next_item;
 
-/// How many choices a text spells for so many harts, or the fault of its first bad item. `Memory` only where they are more than
-/// `u64::MAX`: no memory holds such a text.
+/// The number of choices that a text spells, or the fault of its first bad item. `Memory` only if
+/// they are more than `u64::MAX`: no memory holds such a text.
 pub fn count_choices(text: &[u8], harts: u32) -> Result<u64, ChoiceFault>
     ensures counted { IfOk result (λ count. SpellsSoMany harts text.now count) }
     ensures refused { IfErr result (λ fault. fault ≢ ChoiceFault.Memory

@@ -7,7 +7,7 @@ use machine::Choice;
 use sched_text::{Run, read_run};
 use text_items::next_item;
 
-/// A place in a choice text: the choices that are before it.
+/// A place in a choice text, before the choices that are left.
 #[derive(Clone, Copy)]
 pub struct Cursor<'a> {
     text: &'a [u8],
@@ -18,7 +18,8 @@ pub struct Cursor<'a> {
     ghost there: { named.choice.hart < harts },
 }
 
-// The run that the first item from an offset on names, and where that item ends; none where there is no item, or a bad one.
+// The run that the first item from an offset on names, and the end of that item; `None` if there is
+// no item, or a bad one.
 fn run_at(text: &[u8], at: usize, harts: u32) -> Option<(Run, usize)>
     requires { at ≤ length text.now }
     ensures within { IfSome result (λ r. r.1 ≤ length text.now) }
@@ -39,7 +40,7 @@ impl<'a> Cursor<'a> {
     ghost use Rattle.sched_text.specs.Reading.{choices_of};
     ghost use Rattle.cmd_trace.specs.Cursor.{Has, Takes};
 
-    /// Before all choices of a text for so many harts, of which there is one at least.
+    /// Before all choices of a text, which has at least one.
     pub fn new(text: &'a [u8], harts: u32) -> Cursor<'a>
         requires { 0 < harts }
         ensures has { (left : List Choice) → choices_of harts text.now ≡ Ok left → Has result left }
@@ -57,7 +58,7 @@ impl<'a> Cursor<'a> {
         }
     }
 
-    /// Takes the next choice; none where no choice is left.
+    /// The next choice; `None` if none is left.
     pub fn next(&mut self) -> Option<Choice>
         ensures takes { (left : List Choice) → Has self.old left → Takes self.new left result }
         ensures there { IfSome result (λ c. c.hart < self.old.harts) }

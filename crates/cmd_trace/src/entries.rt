@@ -1,4 +1,4 @@
-//! What is written of the choices that are told.
+//! Writes the traced choices.
 ghost use Rattle.std.specs.Prelude.{◌≡◌, ℕ, ◌-◌, ◌+◌, ◌^◌, ◌<◌, ◌≤◌, [], List, Option, IfOk, IfErr};
 ghost use Rattle.machine.specs.State.{state};
 ghost use Rattle.machine.specs.declared.choice.Choice.{Choice};
@@ -16,7 +16,8 @@ use program_open::CommandFault;
 use std::alloc::Allocator;
 use trace_text::Span;
 
-/// Takes in what is written of the choices that are told, where the first of them is the next of a teller.
+/// Appends the texts of the traced choices to the output, the first of which is the next of a
+/// teller.
 pub(crate) fn write_entries<A: Allocator + Copy, K: Sink>(
     alloc: A,
     form: TraceForm,

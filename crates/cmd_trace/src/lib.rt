@@ -1,4 +1,4 @@
-//! What `trace` does, over any sources and any sink: what each choice of a run did, told line by line.
+//! The engine of `trace`.
 #![tactic(auto)]
 
 pub use plan::{TraceForm, TracePlan};

@@ -1,4 +1,5 @@
-//! How a trace begins: the program with its symbols, the number of inputs and the choice text, read once, in this order.
+//! Opens a trace: the program with its symbols, the number of inputs and the choice text are read
+//! once, in this order.
 
 ghost use Rattle.std.specs.Prelude.{◌≡◌, ◌^◌, ◌-◌, ◌<◌, Ok, Err, IfOk, IfErr, IfSome, length};
 ghost use Rattle.image.specs.Image.{ImageValue};
@@ -13,11 +14,11 @@ ghost use Rattle.cmd_trace.specs.declared.plan.TracePlan.{TracePlan};
 use byte_io::{ReadFault, Source, read_all};
 use elf_read::{SymFault, Symbol, symbols};
 use image::Image;
-use machine::check_inputs;
+use machine::Inputs;
 use program_open::{CommandFault, Input, ProgramForm, read_program};
 use std::alloc::{AllocError, Allocator};
 
-/// A program that was read, with its symbols.
+/// A program with its symbols.
 #[derive(Drop)]
 pub(crate) struct OpenProgram<A: Allocator> {
     /// The program's image.
@@ -26,16 +27,18 @@ pub(crate) struct OpenProgram<A: Allocator> {
     pub(crate) symbols: Vec<Symbol<A>, A>,
 }
 
-/// What a trace begins with, its choices unread.
+/// An opened trace before its choices are read.
 #[derive(Drop)]
 pub(crate) struct OpenTrace<A: Allocator> {
     /// The program.
     pub(crate) program: OpenProgram<A>,
-    /// The bytes of the choice text, whatever they say.
+    /// The harts' inputs.
+    pub(crate) inputs: Inputs,
+    /// The bytes of the choice text, unchecked.
     pub(crate) text: Vec<u8, A>,
 }
 
-// The symbols of a program; none where it has no table that can be read.
+// The symbols of a program; none if it has no valid table.
 fn program_symbols<A: Allocator + Copy>(
     alloc: A,
     form: ProgramForm,
@@ -54,7 +57,8 @@ fn program_symbols<A: Allocator + Copy>(
     }
 }
 
-// Reads a program in this form to its end, and makes its image and its symbols, or says why there is no image.
+// Reads a program in this form to its end, and makes its image and its symbols, or returns its
+// fault.
 fn open_program<A: Allocator + Copy, P: Source>(
     alloc: A,
     form: ProgramForm,
@@ -83,8 +87,8 @@ fn open_program<A: Allocator + Copy, P: Source>(
     }
 }
 
-/// Reads a program in this form to its end, counts the inputs, and takes in the choice text to its end, which may say anything. The
-/// first that is refused decides, and what comes after it is not read.
+/// Reads a program in this form to its end, checks the number of inputs, and reads the bytes of the
+/// choice text to their end. The first fault is returned, and what comes after it is not read.
 #[tactic(auto, unfolding(program_open::specs::Opening::opening, crate::specs::Answer::trace_answer))]
 pub(crate) fn open_trace<A: Allocator + Copy, P: Source, C: Source>(
     alloc: A,
@@ -95,11 +99,10 @@ pub(crate) fn open_trace<A: Allocator + Copy, P: Source, C: Source>(
 ) -> Result<OpenTrace<A>, CommandFault>
     requires program_counts { P.failures program.old < 2 ^ 64 - 1 }
     requires choices_count { C.failures choices.old < 2 ^ 64 - 1 }
-    ensures takes { IfOk result (λ _. IsStartable inputs.now) }
     ensures opened { IfOk result (λ run. (plan : TracePlan)
         → IfSome (P.left program.old) (λ p. IfSome (C.left choices.old) (λ c.
-        trace_answer form plan inputs.now p c ≡ after_opening plan run.program.symbols.items inputs.now
-        (with_choices run.program.image (choices_of (length inputs.now) run.text.items))))) }
+        trace_answer form plan inputs.now p c ≡ after_opening plan run.program.symbols.items run.inputs
+        (with_choices run.program.image (choices_of (length run.inputs) run.text.items))))) }
     ensures refused { IfErr result (λ fault. IsRefusal fault → (plan : TracePlan)
         → IfSome (P.left program.old) (λ p. IfSome (C.left choices.old) (λ c.
         trace_answer form plan inputs.now p c ≡ Err fault))) }
@@ -114,12 +117,16 @@ pub(crate) fn open_trace<A: Allocator + Copy, P: Source, C: Source>(
         Ok(program) => program,
         Err(fault) => return Err(fault),
     };
-    match check_inputs(inputs) {
-        Ok(()) => {}
+    let inputs = match Inputs::new(inputs) {
+        Ok(inputs) => inputs,
         Err(fault) => return Err(CommandFault::from(fault)),
-    }
+    };
     match read_all(alloc, choices) {
-        Ok(text) => Ok(OpenTrace { program, text }),
+        Ok(text) => Ok(OpenTrace {
+            program,
+            inputs,
+            text,
+        }),
         Err(ReadFault::Device) => Err(CommandFault::Read(Input::Choices)),
         Err(ReadFault::Memory) => Err(CommandFault::Memory),
     }

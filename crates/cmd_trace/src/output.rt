@@ -1,4 +1,4 @@
-//! The output, a piece a write.
+//! The output, written in pieces.
 ghost use Rattle.std.specs.Prelude.{◌≡◌, ◌-◌, ◌^◌, ◌<◌, ◌++◌, ℕ, List, [], Option, OnOk, IfOk, IfErr};
 ghost use Rattle.program_open.specs.Answers.{Begins};
 ghost use Rattle.program_open.specs.CommandFaults.{IfHalts};
@@ -10,13 +10,12 @@ use byte_io::{Sink, write_all};
 use program_open::CommandFault;
 use std::alloc::{AllocError, Allocator};
 use trace_steps::Told;
-use trace_tables::push_row;
-use trace_text::push_line;
+use trace_text::{push_line, push_row};
 
-/// How many bytes wait at least before they are written.
+/// The least number of buffered bytes before a write.
 const PIECE: usize = 0x1_0000;
 
-// Appends what is written of choice `k`.
+// Appends the text of choice `k`.
 fn push_entry<A: Allocator + Copy>(
     alloc: A,
     buffer: &mut Vec<u8, A>,
@@ -33,7 +32,7 @@ fn push_entry<A: Allocator + Copy>(
     }
 }
 
-/// Writes what waits.
+/// Writes the buffer.
 pub(crate) fn flush<A: Allocator, K: Sink>(
     buffer: &mut Vec<u8, A>,
     sink: &mut K,
@@ -57,7 +56,7 @@ pub(crate) fn flush<A: Allocator, K: Sink>(
     }
 }
 
-/// Takes in what is written of choice `k`, and writes what waits where that is a piece.
+/// Appends the text of choice `k` to the buffer, and writes the buffer once it is a piece.
 pub(crate) fn write_entry<A: Allocator + Copy, K: Sink>(
     alloc: A,
     form: TraceForm,

@@ -1,10 +1,10 @@
-//! What is to be told.
+//! What a trace shows.
 ghost use Rattle.std.specs.Prelude.{◌≡◌, ◌≤◌, ◌-◌, ◌+◌};
 ghost use Rattle.cmd_trace.specs.Trace.{span_of, told_count};
 
 use trace_text::Span;
 
-/// How a trace is written.
+/// The form of a trace.
 #[derive(Clone, Copy, PartialEq, Eq)]
 pub enum TraceForm {
     /// A head and a line for each choice, each an object of JSON.
@@ -13,18 +13,19 @@ pub enum TraceForm {
     Table,
 }
 
-/// Which choices of a run are told, and how. Choices are numbered from 1, by their places in the list.
+/// The choices of a run that are traced, and the form. Choices are numbered from 1, by their places
+/// in the list.
 #[derive(Clone, Copy, PartialEq, Eq)]
 pub struct TracePlan {
-    /// How the trace is written.
+    /// The form of the trace.
     pub form: TraceForm,
-    /// The first choice that is told. There is no choice 0, so 0 is as 1.
+    /// The first traced choice. 0 is the same as 1.
     pub from: u64,
-    /// The last choice that is told, where there are so many; none for the last of the list.
+    /// The last traced choice, if the run has as many; `None` for the last of the list.
     pub to: Option<u64>,
 }
 
-/// The first and the last choice that are told, of so many.
+/// The first and the last traced choice, given the number of choices.
 pub(crate) fn span_of(plan: TracePlan, count: u64) -> Span
     ensures value { result ≡ span_of plan count }
     ensures some { 1 ≤ result.from }
@@ -41,7 +42,7 @@ pub(crate) fn span_of(plan: TracePlan, count: u64) -> Span
     }
 }
 
-/// How many choices are told.
+/// Number of traced choices.
 pub(crate) fn told_count(span: Span) -> u64
     requires some { 1 ≤ span.from }
     requires order { span.from ≤ span.to + 1 }

@@ -1,4 +1,4 @@
-//! The choices of a text, done and told one after the other.
+//! Does the choices of a text one after the other, and reports each step.
 ghost use Rattle.std.specs.Prelude.{◌≡◌, length};
 ghost use Rattle.machine.specs.State.{state};
 ghost use Rattle.trace_steps.specs.Known.{Knows};
@@ -6,13 +6,13 @@ ghost use Rattle.trace_steps.specs.Latest.{words_of};
 
 use crate::cursor::Cursor;
 use image::Image;
-use machine::{Choice, Machine};
+use machine::{Choice, Inputs, Machine};
 use mem_flat::FlatStore;
 use std::alloc::{AllocError, Allocator};
 use trace_steps::{Latest, Told, tell_step};
 use trace_text::HartThen;
 
-/// A machine, and the choices of a text that are before it.
+/// A machine, and the choices of a text that are still to be done.
 #[derive(Drop)]
 pub struct Teller<'a, A: Allocator> {
     machine: Machine<FlatStore<A>, A>,
@@ -29,7 +29,7 @@ impl<'a, A: Allocator> Teller<'a, A> {
     ghost use Rattle.cmd_trace.specs.Cursor.{Has};
     ghost use Rattle.cmd_trace.specs.Teller.{TellsNext, Skips};
 
-    /// Does the next choice and tells it; none where no choice is left.
+    /// Does the next choice and reports its step; `None` if no choice is left.
     pub fn next(&mut self) -> Option<Told>
         ensures { (left : List Choice) → Has self.old.cursor left
             → TellsNext (state self.old.machine) (state self.new.machine) self.new.cursor left result }
@@ -37,14 +37,14 @@ impl<'a, A: Allocator> Teller<'a, A> {
         let Some(choice) = self.cursor.next() else {
             return None;
         };
-        // Over a flat store a step wants no memory.
+        // Over a flat store a step needs no memory.
         let Ok(told) = tell_step(&mut self.machine, &mut self.latest, choice) else {
             unreachable!();
         };
         Some(told)
     }
 
-    /// Does the next choices, so many, or all that are left where those are fewer.
+    /// Does the next `count` choices, or all that are left if they are fewer.
     pub fn skip(&mut self, count: u64)
         ensures { (left : List Choice) → Has self.old.cursor left
             → Skips count (state self.old.machine) (state self.new.machine) self.new.cursor left }
@@ -60,7 +60,7 @@ impl<'a, A: Allocator> Teller<'a, A> {
 impl<'a, A: Allocator + Copy> Teller<'a, A> {
     ghost use Rattle.std.specs.Prelude.{◌≡◌, List, Ok, IfOk, length, map};
     ghost use Rattle.machine.specs.State.{state};
-    ghost use Rattle.machine.specs.Start.{started, IsStartable};
+    ghost use Rattle.machine.specs.Start.{started};
     ghost use Rattle.machine.specs.declared.choice.Choice.{Choice};
     ghost use Rattle.sched_text.specs.Reading.{choices_of};
     ghost use Rattle.trace_text.specs.Head.{then_of};
@@ -86,22 +86,18 @@ impl<'a, A: Allocator + Copy> Teller<'a, A> {
     pub fn new(
         alloc: A,
         image: &Image<A>,
-        inputs: &[u32],
+        inputs: &Inputs,
         text: &'a [u8],
     ) -> Result<Teller<'a, A>, AllocError>
-        requires { IsStartable inputs.now }
         ensures world { IfOk result (λ t. state t.machine ≡ started image.now inputs.now) }
         ensures has { IfOk result (λ t. (left : List Choice)
             → choices_of (length inputs.now) text.now ≡ Ok left → Has t.cursor left) }
     {
-        let machine: Machine<FlatStore<A>, A> = match Machine::start(alloc, image, inputs) {
-            Ok(machine) => machine,
-            Err(_) => return Err(AllocError),
-        };
+        let machine: Machine<FlatStore<A>, A> = Machine::start(alloc, image, inputs)?;
         Ok(Teller {
             machine,
             latest: Latest::new(),
-            cursor: Cursor::new(text, inputs.len() as u32),
+            cursor: Cursor::new(text, inputs.harts()),
         })
     }
 }

@@ -1,4 +1,4 @@
-//! `trace`: a program, inputs and a list of choices in; what each choice did out.
+//! `trace`: from a program, inputs and a choice text to what each choice did.
 
 ghost use Rattle.std.specs.Prelude.{◌≡◌, ◌≢◌, ◌^◌, ◌-◌, ◌<◌, ◌⊎◌, Ok, Err, IfOk, IfErr, IfSome, length};
 ghost use Rattle.std.specs.Io.KnownBytes.{Keeps};
@@ -19,50 +19,49 @@ use byte_io::{Sink, Source, Status};
 use program_open::{CommandFault, Input, ProgramForm};
 use std::alloc::Allocator;
 
-// Counts the choices of a run, and writes what is told of it. Nothing is written where a choice is bad; after another fault a beginning
-// may have been written.
+// Counts the choices of a run, and writes its trace. Nothing is written if a choice is bad; after
+// any other fault a beginning may have been written.
 fn trace_run<A: Allocator + Copy, K: Sink>(
     alloc: A,
     plan: TracePlan,
-    inputs: &[u32],
     run: &OpenTrace<A>,
     sink: &mut K,
 ) -> Result<Status, CommandFault>
-    requires takes { IsStartable inputs.now }
-    requires sink_counts { K.failures sink.old < 2 ^ 64 - 1 }
+    requires { K.failures sink.old < 2 ^ 64 - 1 }
     ensures done { IfOk result (λ status.
-        Prints (after_opening plan run.now.program.symbols.items inputs.now
-        (with_choices run.now.program.image (choices_of (length inputs.now) run.now.text.items)))
+        Prints (after_opening plan run.now.program.symbols.items run.now.inputs
+        (with_choices run.now.program.image (choices_of (length run.now.inputs) run.now.text.items)))
         status (K.held sink.old) (K.held sink.new)) }
     ensures refused { IfErr result (λ fault. IsRefusal fault
-        → after_opening plan run.now.program.symbols.items inputs.now
-        (with_choices run.now.program.image (choices_of (length inputs.now) run.now.text.items)) ≡ Err fault) }
+        → after_opening plan run.now.program.symbols.items run.now.inputs
+        (with_choices run.now.program.image (choices_of (length run.now.inputs) run.now.text.items)) ≡ Err fault) }
     ensures unwritten { IfErr result (λ fault. fault ≢ CommandFault.Write → fault ≢ CommandFault.Memory
         → Keeps (K.held sink.old) (K.held sink.new)) }
     ensures read { IfErr result (λ fault.
         IfNames fault ⊥ ⊥ ⊥ (K.failures sink.old < K.failures sink.new)) }
     ensures begun { result ≡ Err CommandFault.Write
-        → BeginsToPrint (after_opening plan run.now.program.symbols.items inputs.now
-        (with_choices run.now.program.image (choices_of (length inputs.now) run.now.text.items)))
+        → BeginsToPrint (after_opening plan run.now.program.symbols.items run.now.inputs
+        (with_choices run.now.program.image (choices_of (length run.now.inputs) run.now.text.items)))
         (K.held sink.old) (K.held sink.new) }
     ensures halted { result ≡ Err CommandFault.Memory → Keeps (K.held sink.old) (K.held sink.new)
-        ⊎ BeginsToPrint (after_opening plan run.now.program.symbols.items inputs.now
-        (with_choices run.now.program.image (choices_of (length inputs.now) run.now.text.items)))
+        ⊎ BeginsToPrint (after_opening plan run.now.program.symbols.items run.now.inputs
+        (with_choices run.now.program.image (choices_of (length run.now.inputs) run.now.text.items)))
         (K.held sink.old) (K.held sink.new) }
 {
-    let count = match count_choices(&run.text, inputs.len() as u32) {
+    let count = match count_choices(&run.text, run.inputs.harts()) {
         Ok(count) => count,
         Err(fault) => return Err(CommandFault::from(fault)),
     };
-    match write_trace(alloc, plan, inputs, run, count, sink) {
+    match write_trace(alloc, plan, run, count, sink) {
         Ok(()) => Ok(Status::Done),
         Err(fault) => Err(fault),
     }
 }
 
-/// `trace`: reads the program in this form to its end, and where it is one and the inputs are not too many, the choice text to its end;
-/// writes what the plan asks for of what the choices did, a piece a write. Nothing is written where what was read is refused; after
-/// another fault a beginning may stand there. The choices are taken as they stand in the text, and never held as a list.
+/// `trace`: reads the program in this form to its end and, if it is valid and the number of inputs
+/// is, the choice text to its end; writes the trace that the plan asks for, in pieces. Nothing is
+/// written if an input is invalid; after any other fault the sink may have a beginning. The choices
+/// are read from the text one by one, and never held as a list.
 pub fn trace_engine<A: Allocator + Copy, P: Source, C: Source, K: Sink>(
     alloc: A,
     form: ProgramForm,
@@ -75,26 +74,27 @@ pub fn trace_engine<A: Allocator + Copy, P: Source, C: Source, K: Sink>(
     requires program_counts { P.failures program.old < 2 ^ 64 - 1 }
     requires choices_count { C.failures choices.old < 2 ^ 64 - 1 }
     requires sink_counts { K.failures sink.old < 2 ^ 64 - 1 }
-    // All that is told was appended, and the status is 0.
+    // The whole trace was appended, and the status is 0.
     ensures done { IfOk result (λ status.
         IfSome (P.left program.old) (λ p. IfSome (C.left choices.old) (λ c.
         Prints (trace_answer form plan inputs.now p c) status (K.held sink.old) (K.held sink.new)))) }
-    // What was read is refused, and nothing is written.
+    // An input is invalid, and nothing is written.
     ensures refused { IfErr result (λ fault. IsRefusal fault
         → IfSome (P.left program.old) (λ p. IfSome (C.left choices.old) (λ c.
         trace_answer form plan inputs.now p c ≡ Err fault))) }
     ensures unwritten { IfErr result (λ fault. fault ≢ CommandFault.Write → fault ≢ CommandFault.Memory
         → Keeps (K.held sink.old) (K.held sink.new)) }
-    // A device is named only where it failed.
+    // A device is named only if it failed.
     ensures read { IfErr result (λ fault. IfNames fault
         (P.failures program.old < P.failures program.new)
         (C.failures choices.old < C.failures choices.new) ⊥
         (K.failures sink.old < K.failures sink.new)) }
-    // A fault of the program, and that of the number of inputs, come before one of the device that the choices are read from.
+    // A fault of the program or of the number of inputs comes before one of the choices' device.
     ensures program_first { result ≡ Err (CommandFault.Read Input.Choices)
         → IfSome (P.left program.old) (λ p. (image : ImageValue) × (program_of form p ≡ Ok image)) }
     ensures inputs_first { result ≡ Err (CommandFault.Read Input.Choices) → IsStartable inputs.now }
-    // After a failed write, and where memory is refused to a later line, a beginning of the text stands there.
+    // After a failed write, or if a later line is out of memory, the sink has a beginning of the
+    // text.
     ensures begun { result ≡ Err CommandFault.Write
         → IfSome (P.left program.old) (λ p. IfSome (C.left choices.old) (λ c.
         BeginsToPrint (trace_answer form plan inputs.now p c) (K.held sink.old) (K.held sink.new))) }
@@ -107,7 +107,7 @@ pub fn trace_engine<A: Allocator + Copy, P: Source, C: Source, K: Sink>(
         Ok(run) => run,
         Err(fault) => return Err(fault),
     };
-    match trace_run(alloc, plan, inputs, &run, sink) {
+    match trace_run(alloc, plan, &run, sink) {
         Ok(status) => Ok(status),
         Err(fault) => Err(fault),
     }

@@ -1,7 +1,6 @@
 //! The whole output of a trace.
 ghost use Rattle.std.specs.Prelude.{◌≡◌, ◌-◌, ◌^◌, ◌<◌, ◌≤◌, ◌++◌, List, Ok, OnOk, IfOk, IfErr, length};
 ghost use Rattle.std.specs.Io.KnownBytes.{Appends};
-ghost use Rattle.machine.specs.Start.{IsStartable};
 ghost use Rattle.machine.specs.State.{state};
 ghost use Rattle.machine.specs.declared.choice.Choice.{Choice};
 ghost use Rattle.sched_text.specs.Reading.{choices_of};
@@ -15,22 +14,21 @@ use crate::output::flush;
 use crate::plan::{TraceForm, TracePlan, span_of};
 use crate::teller::Teller;
 use byte_io::Sink;
+use machine::Inputs;
 use program_open::CommandFault;
 use std::alloc::{AllocError, Allocator};
-use trace_tables::push_head_rows;
-use trace_text::{Span, push_head};
+use trace_text::{Span, push_head, push_head_rows};
 
-// Appends what stands before the choices that are told, in the world before the first of them.
+// Appends the head of the trace, in the world before the first traced choice.
 fn push_head_of<A: Allocator + Copy>(
     alloc: A,
     form: TraceForm,
-    inputs: &[u32],
+    inputs: &Inputs,
     span: Span,
     program: &OpenProgram<A>,
     teller: &Teller<'_, A>,
     buffer: &mut Vec<u8, A>,
 ) -> Result<(), AllocError>
-    requires { IsStartable inputs.now }
     ensures { OnOk result (buffer.new.items ≡ buffer.old.items ++ head_of form program.now.image.entry inputs.now span
         program.now.symbols.items (state teller.now.machine)) }
 {
@@ -40,37 +38,36 @@ fn push_head_of<A: Allocator + Copy>(
             push_head(
                 buffer,
                 program.image.entry(),
-                inputs,
+                inputs.words(),
                 span,
                 &program.symbols,
                 &harts,
             )
         }
-        TraceForm::Table => push_head_rows(buffer, inputs.len() as u32),
+        TraceForm::Table => push_head_rows(buffer, inputs.harts()),
     }
 }
 
-/// Writes what is told of a run under a choice text that spells so many choices. After a fault a beginning of it has been written.
+/// Writes the trace of a run under a choice text with `count` choices. After a fault a beginning of
+/// it has been written.
 pub(crate) fn write_trace<A: Allocator + Copy, K: Sink>(
     alloc: A,
     plan: TracePlan,
-    inputs: &[u32],
     run: &OpenTrace<A>,
     count: u64,
     sink: &mut K,
 ) -> Result<(), CommandFault>
-    requires takes { IsStartable inputs.now }
-    requires sink_counts { K.failures sink.old < 2 ^ 64 - 1 }
-    ensures told { IfOk result (λ _. (choices : List Choice) → choices_of (length inputs.now) run.now.text.items ≡ Ok choices
+    requires { K.failures sink.old < 2 ^ 64 - 1 }
+    ensures told { IfOk result (λ _. (choices : List Choice) → choices_of (length run.now.inputs) run.now.text.items ≡ Ok choices
         → count ≡ length choices → Appends (K.held sink.old) (K.held sink.new)
-        (trace_text plan run.now.program.image run.now.program.symbols.items inputs.now choices)) }
-    ensures begun { IfErr result (λ _. (choices : List Choice) → choices_of (length inputs.now) run.now.text.items ≡ Ok choices
+        (trace_text plan run.now.program.image run.now.program.symbols.items run.now.inputs choices)) }
+    ensures begun { IfErr result (λ _. (choices : List Choice) → choices_of (length run.now.inputs) run.now.text.items ≡ Ok choices
         → count ≡ length choices
-        → Begins (trace_text plan run.now.program.image run.now.program.symbols.items inputs.now choices)
+        → Begins (trace_text plan run.now.program.image run.now.program.symbols.items run.now.inputs choices)
         (K.held sink.old) (K.held sink.new)) }
     ensures fault { IfErr result (λ fault. IfHalts fault (K.failures sink.old < K.failures sink.new)) }
 {
-    let mut teller = match Teller::new(alloc, &run.program.image, inputs, &run.text) {
+    let mut teller = match Teller::new(alloc, &run.program.image, &run.inputs, &run.text) {
         Ok(teller) => teller,
         Err(AllocError) => return Err(CommandFault::Memory),
     };
@@ -80,7 +77,7 @@ pub(crate) fn write_trace<A: Allocator + Copy, K: Sink>(
     match push_head_of(
         alloc,
         plan.form,
-        inputs,
+        &run.inputs,
         span,
         &run.program,
         &teller,
@@ -92,7 +89,7 @@ pub(crate) fn write_trace<A: Allocator + Copy, K: Sink>(
     match write_entries(
         alloc,
         plan.form,
-        inputs.len() as u32,
+        run.inputs.harts(),
         span,
         &mut teller,
         &mut buffer,

@@ -112,7 +112,7 @@ word-same : (w : World) (c : Choice) (a : ℕ) → a % 4 ≡ 0 → IsOther (acce
 unfolding step
 word-same w c a aligned other = word-same-of w c a (slice_get w.harts c.hart) aligned other
 
--- an aligned word that the step doesn't access is as before
+-- an aligned word that the step does not access is as before
 pub same_elsewhere : (w : World) (c : Choice) (a : ℕ) → a % 4 ≡ 0 → IsOther (accessed w (slice_get w.harts c.hart)) a → differs w (step w c) a ≡ false
 same_elsewhere w c a aligned other =
     let e : eqb (word_at w.memory a) (word_at w.memory a) ≡ true = search rules in

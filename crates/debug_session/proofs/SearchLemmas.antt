@@ -1,4 +1,4 @@
--- Searches end where the definition in the user's words says.
+-- Searches end as the definition in the user's words requires.
 use Rattle.std.proofs.Common.{◌≡◌, ℕ, zero, suc, ◌+◌, ◌-◌, ◌<◌, ◌≤◌, Option, Some, None, ◌⊎◌, inl, inr, ◌∙◌, sym, ap, refl, arith, subst}
 use Rattle.debug_session.specs.Searches.{IsLeastStop, IsGreatestStop}
 use Rattle.debug_session.specs.Session.{Session, length_of, stop_behind, Found, found_or, first_stop, last_stop, next_found, earlier_found}
@@ -16,7 +16,7 @@ first_or_later i j h = grind arith
 none_from : (stop : ℕ → Option Stop) (i : ℕ) (j : ℕ) → stop i ≡ None → (i + 1 ≤ j → stop j ≡ None) → i ≤ j → stop j ≡ None
 none_from stop i j here later h = elim (first_or_later i j h) [ inl same ↦ ap stop (sym same) ∙ here | inr after ↦ later after ]
 
--- a position that is found one further on, where one goes on
+-- a position that is found one further on, if the search goes on
 least_later : (stop : ℕ → Option Stop) (i to k : ℕ) (why : Option Stop) → stop i ≡ None → IsLeastStop stop (i + 1) to k why → IsLeastStop stop i to k why
 least_later stop i to k None here e = (e.0, λ j low high. none_from stop i j here (λ after. e.1 j after high) low)
 least_later stop i to k (Some w) here e =

@@ -1,4 +1,4 @@
--- Where one has to stop after a step.
+-- The stops after a step.
 use Rattle.std.proofs.Common.{◌≡◌, ◌≢◌, ℕ, suc, ◌+◌, ◌-◌, ◌%◌, ◌<◌, ◌≤◌, Bool, true, false, ◌&&◌, ◌||◌, cond, eqb, ltb, List, [], ◌∷◌, length, get_or, Option, Some, None, ◌⊎◌, inl, inr, ◌∙◌, sym, ap, ap₂, refl, arith, rules}
 use Rattle.std.proofs.lemmas.Bool.{cases_Bool}
 use Rattle.std.proofs.lemmas.Bool.Decides.{nat_tests}
@@ -35,7 +35,7 @@ contains-has [] x = refl
 contains-has (k ∷ ks) x = ap₂ (λ (p q : Bool). p || q) (equal_tests x k) (contains-has ks x)
 
 -- ---- the lowest watched word that differs
--- a candidate, where it passes the test
+-- a candidate, if it passes the test
 abbrev pub found_in : (ℕ → Bool) → Option ℕ → Option ℕ
 found_in p None = None
 found_in p (Some a) = cond (p a) (Some a) None
@@ -75,7 +75,7 @@ find_watched p (Some b) ws all leaves = find_at p (word_of b) ws all leaves ∙ 
     either false = refl
 
 -- ---- a step's stop
--- a hart stands on a breakpoint
+-- a hart is at a breakpoint
 pub stands : (bs : List ℕ) (h : ℕ) (o : Option HartValue) (hart : HartValue) → o ≡ Some hart
     → list_any (λ k. is_eq (nat_cmp hart.pc k)) bs ≡ true → Some (Break h hart.pc) ≡ break_of bs h o
 stands bs h o hart there on =
@@ -89,14 +89,14 @@ stands_not bs h o hart there off =
     let e : has bs hart.pc ≡ false = sym (contains-has bs hart.pc) ∙ off in
     rw (there, e) refl
 
--- a breakpoint that the hart stands on comes first
+-- a breakpoint that the hart is at comes first
 pub break_here : (bs ws : List ℕ) (v w : World) (h : ℕ) (o : Option Stop) (stop : Stop) → o ≡ break_of bs h (slice_get w.harts h) → o ≡ Some stop
     → Some stop ≡ stop_after bs ws v w h
 unfolding stop_after
 break_here bs ws v w h o stop is some =
     ap (λ (p : Option Stop). either_stop p (watch_of (find (differs v w) ws))) (sym some ∙ is)
 
--- where there is none, a watched word that was accessed decides
+-- if there is none, a watched word that was accessed decides
 watch_left : (bs ws : List ℕ) (v w : World) (c : Choice) → w ≡ step v c
     → All (λ a. a % 4 ≡ 0) ws → None ≡ break_of bs c.hart (slice_get w.harts c.hart)
     → stop_after bs ws v w c.hart ≡ watch_of (found_in (differs v w) (watched ws (accessed v (slice_get v.harts c.hart))))
@@ -149,7 +149,7 @@ pub found_elsewhere : (k : ℕ) (why : Option Stop) (elsewhere : Found) → is_s
 found_elsewhere k None elsewhere none = refl
 found_elsewhere k (Some w) elsewhere none = absurd (search rules)
 
--- a fact that holds where there is a stop
+-- a fact that holds if there is a stop
 pub if_any : (why : Option Stop) (P : Type 0) → P → IfSome why (λ _. P)
 if_any None P p = tt
 if_any (Some w) P p = p
@@ -189,7 +189,7 @@ first_here stop i n (Some w) all h is some left =
     ap (λ (o : Option Stop). found_or (i + 1) o (first_stop stop (i + 1) (n - (i + 1)))) is
     ∙ sym (first_more stop i n h) ∙ left
 
--- a step after which one goes on
+-- a step without a stop
 pub first_later : (stop : ℕ → Option Stop) (i n : ℕ) (why : Option Stop) (all : Found) → i < n → why ≡ stop i → is_some why ≡ false
     → first_stop stop i (n - i) ≡ all → first_stop stop (i + 1) (n - (i + 1)) ≡ all
 first_later stop i n (Some w) all h is none left = absurd (search rules)
@@ -208,7 +208,7 @@ last_one : (stop : ℕ → Option Stop) (i : ℕ) → last_stop stop (suc i) ≡
 unfolding last_stop
 last_one stop i = refl
 
--- nothing is looked at
+-- no position is searched
 pub last_none : (stop : ℕ → Option Stop) → (0, None) ≡ last_stop stop 0
 unfolding last_stop
 last_none stop = refl

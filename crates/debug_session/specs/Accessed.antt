@@ -1,4 +1,4 @@
--- Where a step accesses data.
+-- The data access of a step.
 use Rattle.std.specs.Prelude.{ℕ, Option, Some, None}
 use Rattle.hart_step.specs.Hart.{HartValue}
 use Rattle.hart_step.specs.Effect.{site}
@@ -11,7 +11,7 @@ abbrev pub address_of : Option Access → Option ℕ
 address_of None = None
 address_of (Some c) = Some c.address
 
--- the first address that the next step of a hart of a world accesses, if it does
+-- the first address of the data access of a hart's next step in a world, if it has one
 abbrev pub accessed : World → Option HartValue → Option ℕ
 accessed w None = None
 accessed w (Some h) = address_of (access_of (site h w.memory w.reserved))

@@ -1,4 +1,4 @@
--- Machines that are kept on the way.
+-- Copies of the machine at intervals.
 use Rattle.std.specs.Prelude.{◌≡◌, ℕ, ◌*◌, List, take, slice_get}
 use Rattle.std.specs.Option.{ForSome}
 use Rattle.mem_paged.specs.declared.page_store.PageStore.{PageStore}

@@ -1,4 +1,4 @@
--- What a debugger is for its user.
+-- A debugger as its user sees it.
 use Rattle.std.specs.Prelude.{ℕ, zero, suc, ◌+◌, ◌-◌, ◌*◌, ◌/◌, ◌%◌, Option, Some, None, List, length, slice_get}
 use Rattle.image.specs.Image.{ImageValue}
 use Rattle.machine.specs.World.{World}
@@ -8,7 +8,7 @@ use Rattle.debug_session.specs.Stops.{stop_on}
 use Rattle.debug_session.specs.declared.stop.Stop.{Stop}
 use Rattle.debug_session.specs.declared.debugger.Debugger.{Debugger}
 
--- an image, inputs and choices, the position in their run, and the addresses of breakpoints and of watched words, which rise
+-- an image, inputs, choices, the position in their run, and sorted breakpoints and watched words
 pub record Session : Type 0 where
   pub image : ImageValue
   pub inputs : List ℕ
@@ -17,11 +17,11 @@ pub record Session : Type 0 where
   pub breaks : List ℕ
   pub watches : List ℕ
 
--- what a debugger means
+-- the session of a debugger
 abbrev pub session : {Z : Type 0} → Debugger Z → Session
 session d = record {
   image = d.track.image;
-  inputs = d.track.inputs.items;
+  inputs = d.track.inputs;
   choices = d.track.choices.items;
   position = d.position;
   breaks = d.breaks.keys;
@@ -32,7 +32,7 @@ session d = record {
 abbrev pub world_at : Session → ℕ → World
 world_at s k = reached s.image s.inputs s.choices k
 
--- how many choices there are
+-- the number of choices
 abbrev pub length_of : Session → ℕ
 length_of s = length s.choices
 
@@ -40,50 +40,50 @@ length_of s = length s.choices
 abbrev pub moved : Session → ℕ → Session
 moved s k = record s { position = k }
 
--- how many steps a move to position k executes: those from the nearest position up to k that is a multiple of 256
+-- the number of steps of a move to position k: those from the greatest multiple of 256 up to k
 abbrev pub steps_to : ℕ → ℕ
 steps_to k = k % 256
 
--- how many steps `go` executes where it goes to position k: those from its own position on
+-- the number of steps of `go` if it ends at position k: those from its own position on
 abbrev pub steps_on : Session → ℕ → ℕ
 steps_on s k = k - s.position
 
--- how many steps a search back executes that finds position k, or none and k is 0: those from the nearest position below k
--- that is a multiple of 256 to the position before its own
+-- the number of steps of a search backwards that finds position k, or finds none and k is 0: those
+-- from the greatest multiple of 256 below k, or 0, to the position before its own
 abbrev pub steps_of_search : Session → ℕ → ℕ
 steps_of_search s k = s.position - 1 - (k - 1) / 256 * 256
 
--- how many steps `rgo` executes where it goes to position k: those of its search, and a move to k
+-- the number of steps of `rgo` if it ends at position k: those of its search, and of a move to k
 abbrev pub steps_back : Session → ℕ → ℕ
 steps_back s k = steps_of_search s k + steps_to k
 
--- why to stop at the position after choice i, counted from 0, if one has to
+-- the stop at the position after choice i, counted from 0, if any
 unfoldable pub stop_behind : Session → ℕ → Option Stop
 stop_behind s i = stop_on s.breaks s.watches (world_at s i) (slice_get s.choices i)
 
--- a position, and why to stop there
+-- a position, and its stop
 abbrev pub Found : Type 0
 Found = ℕ × Option Stop
 
--- a position at which one has to stop, or else what is found elsewhere
+-- a position if it has a stop, else what is found elsewhere
 abbrev pub found_or : ℕ → Option Stop → Found → Found
 found_or k None elsewhere = elsewhere
 found_or k (Some why) elsewhere = (k, Some why)
 
--- the least of n positions behind i at which one has to stop, or the last of them
+-- the least of the n positions after i with a stop, or the last of them
 unfoldable pub first_stop : (ℕ → Option Stop) → ℕ → ℕ → Found
 first_stop stop i zero = (i, None)
 first_stop stop i (suc n) = found_or (i + 1) (stop i) (first_stop stop (i + 1) n)
 
--- the greatest of the positions from 1 to n at which one has to stop, or 0
+-- the greatest of the positions from 1 to n with a stop, or 0
 unfoldable pub last_stop : (ℕ → Option Stop) → ℕ → Found
 last_stop stop zero = (0, None)
 last_stop stop (suc i) = found_or (i + 1) (stop i) (last_stop stop i)
 
--- where `go` goes
+-- the result of `go`
 abbrev pub next_found : Session → Found
 next_found s = first_stop (stop_behind s) s.position (length s.choices - s.position)
 
--- where `rgo` goes
+-- the result of `rgo`
 abbrev pub earlier_found : Session → Found
 earlier_found s = last_stop (stop_behind s) (s.position - 1)

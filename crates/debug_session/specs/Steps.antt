@@ -1,4 +1,4 @@
--- The steps of a run, one after the other.
+-- The steps of a run, in order.
 use Rattle.std.specs.Prelude.{ℕ, ◌+◌, ◌-◌, Option, Some, None, List, [], ◌∷◌, ◌++◌, take, drop, slice_get}
 use Rattle.mem_store.specs.Memory.{Memory}
 use Rattle.mem_store.specs.Access.{fetched}
@@ -12,24 +12,24 @@ use Rattle.debug_session.specs.declared.step_view.Event.{Event}
 use Rattle.debug_session.specs.declared.step_view.Event.TheVariants.{Stopped, NoFetch, Word}
 use Rattle.debug_session.specs.declared.step_view.StepView.{StepView}
 
--- what is met where this was fetched
+-- the event of a fetch
 abbrev pub event_at : Option ℕ → Event
 event_at None = NoFetch
 event_at (Some word) = Word word
 
--- what a hart in this state meets in a memory at an address
+-- the event of a hart in this state, in a memory at an address
 abbrev pub event_of : HartState → Memory → ℕ → Event
 event_of Running m pc = event_at (fetched m pc)
 event_of (Exited status) m pc = Stopped
 event_of (Faulted cause) m pc = Stopped
 
--- the step of choice i in a memory, where its hart is there
+-- the step of choice i in a memory, if its hart exists
 abbrev pub view_of : ℕ → Choice → Memory → Option HartValue → List StepView
 view_of i c m None = []
 view_of i c m (Some h) =
     record { index = i; choice = c; pc = h.pc; event = event_of h.state m h.pc } ∷ []
 
--- the steps of choices that are numbered from i on, each as its own world shows it
+-- the steps of choices, numbered from i on, each in its own world
 unfoldable pub steps_from : World → ℕ → List Choice → List StepView
 steps_from w i [] = []
 steps_from w i (c ∷ choices) =

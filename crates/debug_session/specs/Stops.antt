@@ -1,4 +1,4 @@
--- Where a debugger stops.
+-- The stops of a debugger.
 use Rattle.std.specs.Prelude.{ℕ, Bool, not, ◌==◌, if◌then◌else◌, Option, Some, None, List, slice_get}
 use Rattle.std.specs.List.{list_any, find}
 use Rattle.hart_reservations.specs.Marks.{word_of}
@@ -9,7 +9,7 @@ use Rattle.debug_session.specs.Words.{word_at}
 use Rattle.debug_session.specs.declared.stop.Stop.{Stop}
 use Rattle.debug_session.specs.declared.stop.Stop.TheVariants.{Break, Watch}
 
--- whether a list has a number
+-- whether a list contains a number
 abbrev pub has : List ℕ → ℕ → Bool
 has xs x = list_any (λ y. y == x) xs
 
@@ -17,33 +17,33 @@ has xs x = list_any (λ y. y == x) xs
 abbrev pub differs : World → World → ℕ → Bool
 differs v w a = not (word_at v.memory a == word_at w.memory a)
 
--- the breakpoint that hart h stands on, if it does
+-- the stop at hart h's breakpoint, if the hart is at one
 abbrev pub break_of : List ℕ → ℕ → Option HartValue → Option Stop
 break_of breaks h None = None
 break_of breaks h (Some hart) = if has breaks hart.pc then Some (Break h hart.pc) else None
 
--- a watched word that differs, as a reason to stop
+-- the stop of a watched word that differs
 abbrev pub watch_of : Option ℕ → Option Stop
 watch_of None = None
 watch_of (Some a) = Some (Watch a)
 
--- the first of two reasons, if there is one
+-- the first of two stops, if there is one
 abbrev pub either_stop : Option Stop → Option Stop → Option Stop
 either_stop None later = later
 either_stop (Some stop) later = Some stop
 
--- why to stop after hart h's step from the world v to the world w, if one has to: the hart stands on a breakpoint, or else
--- a watched word differs, the lowest such
+-- the stop after hart h's step from the world v to the world w, if any: the hart is at a
+-- breakpoint, or else a watched word differs, the lowest such
 unfoldable pub stop_after : List ℕ → List ℕ → World → World → ℕ → Option Stop
 stop_after breaks watches v w h =
     either_stop (break_of breaks h (slice_get w.harts h)) (watch_of (find (differs v w) watches))
 
--- why to stop after a choice that was made in a world, if there is such a choice
+-- the stop after a choice in a world, if there is such a choice
 abbrev pub stop_on : List ℕ → List ℕ → World → Option Choice → Option Stop
 stop_on breaks watches w None = None
 stop_on breaks watches w (Some c) = stop_after breaks watches w (step w c) c.hart
 
--- the watched word that holds an address, if there is one
+-- the watched word of an address, if there is one
 abbrev pub watched : List ℕ → Option ℕ → Option ℕ
 watched watches None = None
 watched watches (Some a) = if has watches (word_of a) then Some (word_of a) else None

@@ -3,16 +3,16 @@ use Rattle.std.specs.Prelude.{ℕ, ◌+◌, Option, Some, None}
 use Rattle.mem_store.specs.Memory.{Memory, number_of}
 use Rattle.mem_store.specs.Access.{peeked}
 
--- a byte, or 0 where none is mapped
+-- a byte, or 0 if it is not mapped
 abbrev pub byte_or_zero : Option ℕ → ℕ
 byte_or_zero None = 0
 byte_or_zero (Some byte) = byte
 
--- the word at an aligned address, whatever its rights; bytes that aren't mapped count as 0
+-- the word at an aligned address, whatever its rights; bytes that are not mapped count as 0
 unfoldable pub word_at : Memory → ℕ → ℕ
 word_at m a = number_of 4 (λ k. byte_or_zero (peeked m (a + k)))
 
--- the word at an address, or 0 where there is no address
+-- the word at an address, or 0 if there is no address
 abbrev pub word_if : Memory → Option ℕ → ℕ
 word_if m None = 0
 word_if m (Some a) = word_at m a

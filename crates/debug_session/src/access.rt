@@ -1,4 +1,4 @@
-//! Which word a step may change.
+//! The word that a step may change.
 ghost use Rattle.std.specs.Prelude.{◌≡◌, ◌<◌, slice_get, length};
 ghost use Rattle.mem_store.specs.Access.{fetched};
 ghost use Rattle.hart_step.specs.Hart.{hart_of, registers_of};
@@ -12,7 +12,7 @@ use isa_decode::decode;
 use mem_store::Store;
 use std::alloc::Allocator;
 
-// The first address of the access of data that a hart's next step has, if it has one.
+// The first address of the data access of a hart's next step, if it has one.
 fn hart_access<S: Store>(hart: &Hart, store: &S) -> Option<u32>
     ensures { result ≡ address_of (access_at (fetched (S.memory store.now) hart.now.pc)
         (registers_of hart.now.registers)) }
@@ -23,7 +23,7 @@ fn hart_access<S: Store>(hart: &Hart, store: &S) -> Option<u32>
     Some(access.address)
 }
 
-/// The first address of the access of data that a hart's next step has, if it has one.
+/// The first address of the data access of a hart's next step, if it has one.
 pub fn accessed<A: Allocator + Copy>(machine: &PagedMachine<A>, number: u32) -> Option<u32>
     requires { number < length (paged_world machine.now).harts }
     ensures { result ≡ accessed (paged_world machine.now)

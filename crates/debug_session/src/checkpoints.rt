@@ -1,4 +1,4 @@
-//! Machines that are kept on the way.
+//! Copies of the machine at intervals.
 ghost use Rattle.std.specs.Prelude.{◌≡◌, ◌<◌, ◌≤◌, ◌+◌, ◌*◌, ◌/◌, All, IfOk, length, vec_len};
 ghost use Rattle.machine.specs.State.{reached};
 ghost use Rattle.debug_session.specs.Paged.{paged_world};
@@ -11,7 +11,8 @@ use machine::Choice;
 use progress::Progress;
 use std::alloc::{AllocError, Allocator};
 
-/// Does the choices once, and keeps a copy of the machine after 0, 256, 512, .. of them. Tells meanwhile how far it is.
+/// Does the choices once, and keeps a copy of the machine after 0, 256, 512, .. of them; reports
+/// progress meanwhile. Fails when out of memory.
 pub fn checkpoints_of<A: Allocator + Copy>(
     alloc: A,
     first: &PagedMachine<A>,
@@ -43,7 +44,7 @@ impl<A: Allocator + Copy> Track<A> {
     /// The machine after `block` times 256 choices.
     pub fn checkpoint(&self, block: usize) -> &PagedMachine<A>
         requires { block * 256 ≤ vec_len self.now.choices }
-        ensures { paged_world result.now ≡ reached self.now.image self.now.inputs.items
+        ensures { paged_world result.now ≡ reached self.now.image self.now.inputs
             self.now.choices.items (block * 256) }
     {
         &self.checkpoints[block]

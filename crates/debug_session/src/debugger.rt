@@ -1,4 +1,4 @@
-//! What a debugger keeps.
+//! The state of a debugger.
 ghost use Rattle.std.specs.Prelude.{◌≡◌, ◌≤◌, ◌%◌, All, vec_len};
 ghost use Rattle.machine.specs.State.{reached};
 ghost use Rattle.debug_session.specs.Paged.{paged_world};
@@ -8,7 +8,8 @@ use crate::track::Track;
 use std::alloc::Allocator;
 use std::collections::BTreeSet;
 
-/// A run and a position in it, with breakpoints and watched words. Position k is that after the first k choices.
+/// A run and a position in it, with breakpoints and watched words. Position k is that after the
+/// first k choices.
 #[derive(Drop)]
 pub struct Debugger<A: Allocator + Copy> {
     pub(crate) track: Track<A>,
@@ -19,6 +20,6 @@ pub struct Debugger<A: Allocator + Copy> {
     pub(crate) watches: BTreeSet<u32, A>,
     ghost inside: { position ≤ vec_len track.choices },
     ghost here: { paged_world machine
-        ≡ reached track.image track.inputs.items track.choices.items position },
+        ≡ reached track.image track.inputs track.choices.items position },
     ghost aligned: { All (λ a. a % 4 ≡ 0) watches.keys },
 }

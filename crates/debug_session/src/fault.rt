@@ -1,14 +1,14 @@
-//! Why a move is refused.
+//! The faults of a move.
 
 use thiserror::Error;
 
-/// Why a move is refused; then nothing has changed.
+/// The reason why a move fails; nothing has then changed.
 #[derive(Clone, Copy, Debug, PartialEq, Eq, Error)]
 pub enum MoveFault {
-    /// A position is above the number of choices, or below 0.
+    /// The position is above the number of choices, or below 0.
     #[error("past end")]
     PastEnd,
-    /// The host refused memory.
+    /// Out of memory.
     #[error("out of memory")]
     Memory,
 }

@@ -1,4 +1,5 @@
-//! A debugger over a list of choices: it goes to any position, forward and back.
+//! A debugger over a list of choices: positions, moves forwards and backwards, breakpoints,
+//! watches.
 #![tactic(auto)]
 
 pub use debugger::Debugger;

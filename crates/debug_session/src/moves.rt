@@ -16,11 +16,11 @@ use machine::Choice;
 use std::alloc::{AllocError, Allocator};
 
 impl<A: Allocator + Copy> Track<A> {
-    /// The machine after k choices, and how many steps it took to come there from the checkpoint before.
+    /// The machine after k choices, and the number of steps from the checkpoint before.
     pub fn machine_at(&self, alloc: A, k: usize) -> Result<(PagedMachine<A>, u64), AllocError>
         requires { k ≤ vec_len self.now.choices }
         ensures world { IfOk result (λ r. paged_world r.0
-            ≡ reached self.now.image self.now.inputs.items self.now.choices.items k) }
+            ≡ reached self.now.image self.now.inputs self.now.choices.items k) }
         ensures cost { IfOk result (λ r. r.1 ≡ steps_to k) }
     {
         let mut machine = self.checkpoint(k / BLOCK).copy(alloc)?;
@@ -33,7 +33,7 @@ impl<A: Allocator + Copy> Track<A> {
 }
 
 impl<A: Allocator + Copy> Debugger<A> {
-    /// How many choices were done at the position: 0 to the number of choices.
+    /// The number of choices done at the position: 0 to the number of choices.
     pub fn position(&self) -> usize
         ensures value { result ≡ (session self.now).position }
         ensures inside { result ≤ length_of (session self.now) }
@@ -41,7 +41,7 @@ impl<A: Allocator + Copy> Debugger<A> {
         self.position
     }
 
-    /// The choices of the run, of which each position has done a beginning.
+    /// The choices of the run; a position is the number of them that are done.
     pub fn choices(&self) -> &[Choice]
         ensures { result.now ≡ (session self.now).choices }
     {
@@ -55,7 +55,7 @@ impl<A: Allocator + Copy> Debugger<A> {
         &self.machine
     }
 
-    /// How many steps of harts the last move executed.
+    /// The number of harts' steps that the last move executed.
     pub fn cost(&self) -> u64
         ensures { result ≡ self.now.cost }
     {
@@ -64,7 +64,7 @@ impl<A: Allocator + Copy> Debugger<A> {
 }
 
 impl<A: Allocator + Copy> Debugger<A> {
-    /// Moves to the position after k choices.
+    /// Moves to the position after k choices. On a fault nothing has changed.
     pub fn goto(&mut self, alloc: A, k: usize) -> Result<(), MoveFault>
         ensures ok { OnOk result ((k ≤ length_of (session self.old))
             × (session self.new ≡ moved (session self.old) k)) }
@@ -87,20 +87,20 @@ impl<A: Allocator + Copy> Debugger<A> {
         Ok(())
     }
 
-    /// Moves to the position after k choices, and shows the machine there.
+    /// Moves to the position after k choices, and returns the machine there.
     pub fn at(&mut self, alloc: A, k: usize) -> Result<&PagedMachine<A>, MoveFault>
         ensures world { IfOk result (λ m. paged_world m.now ≡ world_at (session self.old) k) }
         ensures inside { OnOk result (k ≤ length_of (session self.old)) }
         ensures past { IfErr result (λ e. e ≡ PastEnd → length_of (session self.old) < k) }
         ensures far { length_of (session self.old) < k → result ≡ Err PastEnd }
-        // What the debugger is once the machine is no longer looked at.
+        // The debugger once the machine's borrow ends.
         ensures* after { sem 𝓛 (EndsMoved A.row A.Allocator self.entry k result) }
     {
         self.goto(alloc, k)?;
         Ok(&self.machine)
     }
 
-    /// Moves n choices on.
+    /// Moves n choices forwards.
     pub fn forward(&mut self, alloc: A, n: usize) -> Result<(), MoveFault>
         ensures ok { OnOk result (
             ((session self.old).position + n ≤ length_of (session self.old))
@@ -120,7 +120,7 @@ impl<A: Allocator + Copy> Debugger<A> {
         self.goto(alloc, self.position + n)
     }
 
-    /// Moves n choices back.
+    /// Moves n choices backwards.
     pub fn back(&mut self, alloc: A, n: usize) -> Result<(), MoveFault>
         ensures ok { OnOk result ((n ≤ (session self.old).position)
             × (session self.new ≡ moved (session self.old) ((session self.old).position - n))) }

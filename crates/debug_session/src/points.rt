@@ -8,7 +8,7 @@ use crate::debugger::Debugger;
 use std::alloc::{AllocError, Allocator};
 
 impl<A: Allocator + Copy> Debugger<A> {
-    /// Adds a breakpoint at an address, if it is not there yet.
+    /// Adds a breakpoint at an address, unless there is one. Fails when out of memory.
     pub fn add_break(&mut self, address: u32) -> Result<(), AllocError>
         ensures ok { OnOk result (session self.new ≡ record (session self.old) {
           breaks = with_address (session self.old).breaks address;
@@ -22,7 +22,7 @@ impl<A: Allocator + Copy> Debugger<A> {
         }
     }
 
-    /// Watches the aligned word that holds an address, if it is not watched yet.
+    /// Watches the aligned word of an address, unless it is watched. Fails when out of memory.
     #[tactic(auto, using(crate::proofs::PointLemmas::aligned_after))]
     pub fn add_watch(&mut self, address: u32) -> Result<(), AllocError>
         ensures ok { OnOk result (session self.new ≡ record (session self.old) {

@@ -1,4 +1,4 @@
-//! Going on and back to where one has to stop.
+//! Searches for stops, forwards and backwards.
 ghost use Rattle.std.specs.Prelude.{◌≡◌, ◌<◌, ◌≤◌, ◌+◌, ◌-◌, ◌*◌, OnOk, OnErr, IfOk, IfSome};
 ghost use Rattle.debug_session.specs.Paged.{paged_world};
 ghost use Rattle.debug_session.specs.Searches.{IsLeastStop, IsGreatestStop};
@@ -11,25 +11,25 @@ use crate::stop::Stop;
 use crate::track::BLOCK;
 use std::alloc::{AllocError, Allocator};
 
-/// What a search has found: a position, why to stop there, and the machine there.
+/// The result of a search: a position, its stop, and the machine there.
 #[derive(Drop)]
 pub struct Target<A: Allocator + Copy> {
     pub(crate) machine: PagedMachine<A>,
     pub(crate) position: usize,
     pub(crate) stop: Option<Stop>,
-    // How many steps it took to come there.
+    // The number of steps that the search executed.
     pub(crate) cost: u64,
 }
 
 impl<A: Allocator + Copy> Target<A> {
-    /// How many choices were done there.
+    /// The number of choices done there.
     pub fn position(&self) -> usize
         ensures { result ≡ self.now.position }
     {
         self.position
     }
 
-    /// Why to stop there; `None` at the end or the start.
+    /// The reason to stop there; `None` at the end or the start.
     pub fn stop(&self) -> Option<Stop>
         ensures { result ≡ self.now.stop }
     {
@@ -37,19 +37,19 @@ impl<A: Allocator + Copy> Target<A> {
     }
 }
 
-// A place on a way back.
+// A position of a search backwards.
 #[derive(Clone, Copy)]
 struct Place {
-    // How many choices were done there.
+    // The number of choices done there.
     position: usize,
-    // Why to stop there; none at the start.
+    // The reason to stop there; `None` at the start.
     stop: Option<Stop>,
-    // How many steps the search took.
+    // The number of steps that the search executed.
     cost: u64,
 }
 
 impl<A: Allocator + Copy> Debugger<A> {
-    /// The least later position at which one has to stop, or the end. Nothing moves.
+    /// The least later position with a stop, or the end. The debugger does not move.
     pub fn next_stop(&self, alloc: A) -> Result<Target<A>, AllocError>
         ensures found { IfOk result (λ t.
             (t.position, t.stop) ≡ next_found (session self.now)) }
@@ -81,7 +81,7 @@ impl<A: Allocator + Copy> Debugger<A> {
         })
     }
 
-    // The greatest position above 256 times `block` and not above `end` at which one has to stop, if there is one.
+    // The greatest position with a stop above 256 times `block` and at most `end`, if there is one.
     fn place_in_block(&self, alloc: A, block: usize, end: usize) -> Result<Place, AllocError>
         requires from { block * 256 ≤ end }
         requires to { end ≤ length_of (session self.now) }
@@ -116,8 +116,8 @@ impl<A: Allocator + Copy> Debugger<A> {
         Ok(place)
     }
 
-    // The greatest earlier position above 0 at which one has to stop, or 0. It looks at one block of choices after the
-    // other, at the last one first.
+    // The greatest earlier position above 0 with a stop, or 0. It searches one block of choices
+    // after the other, the last one first.
     fn earlier_place(&self, alloc: A) -> Result<Place, AllocError>
         ensures found { IfOk result (λ place.
             (place.position, place.stop) ≡ earlier_found (session self.now)) }
@@ -147,7 +147,7 @@ impl<A: Allocator + Copy> Debugger<A> {
         })
     }
 
-    /// The greatest earlier position above 0 at which one has to stop, or the start. Nothing moves.
+    /// The greatest earlier position above 0 with a stop, or the start. The debugger does not move.
     pub fn earlier_stop(&self, alloc: A) -> Result<Target<A>, AllocError>
         ensures found { IfOk result (λ t.
             (t.position, t.stop) ≡ earlier_found (session self.now)) }
@@ -166,7 +166,7 @@ impl<A: Allocator + Copy> Debugger<A> {
         })
     }
 
-    /// Moves to what a search of this debugger at this position has found. It cannot be refused.
+    /// Moves to the result of a search of this debugger at this position. It cannot fail.
     pub fn settle(&mut self, target: Target<A>)
         requires inside { target.position ≤ length_of (session self.old) }
         requires world { paged_world target.machine ≡ world_at (session self.old) target.position }
@@ -178,9 +178,9 @@ impl<A: Allocator + Copy> Debugger<A> {
         self.cost = target.cost;
     }
 
-    /// Goes on to the least later position at which one has to stop, or to the end; tells why it stopped, `None` at the
-    /// end. One has to stop where the hart that stepped last stands on a breakpoint, or where a watched word differs from
-    /// the position before.
+    /// Moves forwards to the least later position with a stop, or to the end; returns the stop, or
+    /// `None` at the end. A position has a stop if the hart that stepped last is at a breakpoint,
+    /// or if a watched word differs from the position before.
     pub fn go_on(&mut self, alloc: A) -> Result<Option<Stop>, AllocError>
         ensures ok { IfOk result (λ stop.
             (session self.new ≡ moved (session self.old) (next_found (session self.old)).0)
@@ -199,8 +199,8 @@ impl<A: Allocator + Copy> Debugger<A> {
         Ok(stop)
     }
 
-    /// Goes back to the greatest earlier position above 0 at which one has to stop, or to the start; tells why it
-    /// stopped, `None` at the start.
+    /// Moves backwards to the greatest earlier position above 0 with a stop, or to the start;
+    /// returns the stop, or `None` at the start.
     pub fn go_back(&mut self, alloc: A) -> Result<Option<Stop>, AllocError>
         ensures ok { IfOk result (λ stop.
             (session self.new ≡ moved (session self.old) (earlier_found (session self.old)).0)

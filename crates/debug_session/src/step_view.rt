@@ -1,4 +1,4 @@
-//! The steps of a run, one after the other.
+//! The steps of a run, in order.
 ghost use Rattle.std.specs.Prelude.{◌≡◌, ◌<◌, ◌≤◌, ◌+◌, ◌^◌, [], ◌∷◌, Err, IfOk, OnOk, IfErr, All, max, length, slice_get};
 ghost use Rattle.debug_session.specs.Paged.{paged_world};
 ghost use Rattle.debug_session.specs.Steps.{event_of, view_of, steps_from, shown_steps};
@@ -14,31 +14,31 @@ use machine::Choice;
 use mem_store::Store;
 use std::alloc::{AllocError, Allocator};
 
-/// What a hart meets at a step.
+/// The event of a hart's step.
 #[derive(Clone, Copy, PartialEq, Eq)]
 pub enum Event {
-    /// The hart has stopped before, so nothing is done.
+    /// The hart has already stopped; its step does nothing.
     Stopped,
-    /// A byte of the word at `pc` may not be executed.
+    /// A byte of the word at `pc` is not executable.
     NoFetch,
-    /// It executes this word, which may be no instruction.
+    /// The hart executes this word, which may spell no instruction.
     Word(u32),
 }
 
 /// One step of a run.
 #[derive(Clone, Copy, PartialEq, Eq)]
 pub struct StepView {
-    /// How many choices were done before.
+    /// The number of choices done before.
     pub index: usize,
     /// The choice.
     pub choice: Choice,
-    /// Where the hart stands before its step, a byte address.
+    /// The hart's `pc` before its step.
     pub pc: u32,
-    /// What it meets.
+    /// The event of the step.
     pub event: Event,
 }
 
-// What a hart's next step meets.
+// The event of a hart's next step.
 fn event_of<S: Store>(hart: &Hart, store: &S) -> Event
     ensures { result ≡ event_of hart.now.state (S.memory store.now) hart.now.pc }
 {
@@ -66,7 +66,7 @@ fn view_of<A: Allocator + Copy>(machine: &PagedMachine<A>, index: usize, choice:
     }
 }
 
-// The steps of choices that are numbered from `first` on.
+// The steps of choices, numbered from `first` on.
 fn views_of<A: Allocator + Copy>(
     alloc: A,
     machine: &mut PagedMachine<A>,
@@ -88,8 +88,8 @@ fn views_of<A: Allocator + Copy>(
 }
 
 impl<A: Allocator + Copy> Debugger<A> {
-    /// The steps of the choices from index `from` to `to - 1`, each with what its hart meets there; none where `to` is not
-    /// above `from`. The position stays.
+    /// The steps of the choices from index `from` to `to - 1`, each with its event; none unless
+    /// `to` is above `from`. The position does not change.
     pub fn steps(&self, alloc: A, from: usize, to: usize) -> Result<Vec<StepView, A>, MoveFault>
         ensures ok { IfOk result (λ views. views.items ≡ shown_steps (session self.now) from to) }
         ensures inside { OnOk result ((from ≤ length_of (session self.now))

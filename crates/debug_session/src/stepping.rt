@@ -1,4 +1,4 @@
-//! Steps that are counted, and where they stop.
+//! Counted steps, and their stops.
 ghost use Rattle.std.specs.Prelude.{◌≡◌, ◌<◌, ◌+◌, ◌%◌, ◌^◌, ℕ, All, length, OnOk, OnErr, IfOk, IfSome, Some, slice_get};
 ghost use Rattle.machine.specs.World.{step, run};
 ghost use Rattle.debug_session.specs.Paged.{paged_world};
@@ -14,7 +14,7 @@ use machine::Choice;
 use std::alloc::{AllocError, Allocator};
 use std::collections::BTreeSet;
 
-/// One step, which is counted.
+/// One step, counted.
 pub fn tick<A: Allocator + Copy>(
     machine: &mut PagedMachine<A>,
     cost: &mut u64,
@@ -31,7 +31,7 @@ pub fn tick<A: Allocator + Copy>(
     machine.step(choice)
 }
 
-/// One counted step after another.
+/// Steps in order, counted.
 #[tactic(auto, using(machine::proofs::WorldLemmas::run_more, machine::proofs::WorldLemmas::run_none))]
 pub fn walk<A: Allocator + Copy>(
     machine: &mut PagedMachine<A>,
@@ -51,7 +51,7 @@ pub fn walk<A: Allocator + Copy>(
     Ok(())
 }
 
-// The watched word that a hart's next step may change, if there is one.
+// The watched word that a hart's next step may change, if any.
 fn watched_word<A: Allocator + Copy>(
     machine: &PagedMachine<A>,
     hart: u32,
@@ -71,7 +71,7 @@ fn watched_word<A: Allocator + Copy>(
     }
 }
 
-// The word at an address, or 0 where there is no address.
+// The word at an address, or 0 if there is no address.
 fn word_if<A: Allocator + Copy>(machine: &PagedMachine<A>, address: Option<u32>) -> u32
     requires { IfSome address (λ a. a % 4 ≡ 0) }
     ensures { result ≡ word_if (paged_world machine.now).memory address }
@@ -82,7 +82,7 @@ fn word_if<A: Allocator + Copy>(machine: &PagedMachine<A>, address: Option<u32>)
     }
 }
 
-// The breakpoint that a hart stands on, as a reason to stop, if it does.
+// The stop at a hart's breakpoint, if the hart is at one.
 fn break_of<A: Allocator + Copy>(
     machine: &PagedMachine<A>,
     hart: u32,
@@ -100,8 +100,8 @@ fn break_of<A: Allocator + Copy>(
     }
 }
 
-/// One step, which is counted, and why to stop after it, if one has to. Whether a watched word differs is looked at only
-/// where the step accesses one: no other word can change.
+/// One step, counted, and the stop after it, if any. A watched word is compared only if the step
+/// accesses it: no other word can change.
 pub fn step_to_stop<A: Allocator + Copy>(
     machine: &mut PagedMachine<A>,
     cost: &mut u64,

@@ -1,18 +1,18 @@
-//! Telling how far a run is.
+//! Reports of a run's progress.
 
 use progress::Progress;
 
-/// A run is told of each time that so many more of its choices are done.
+// A run's progress is reported each time this many more of its choices are done.
 const TOLD: usize = 0x10_0000;
 
-/// Tells that so many of all choices are done, where it is time.
+/// Reports the number of choices done, if a report is due.
 pub fn tell(progress: &mut impl Progress, done: usize, all: usize) {
     if done % TOLD == 0 {
         progress.choices_done(done as u64, all as u64);
     }
 }
 
-/// Tells that all choices are done, where it was time before.
+/// Reports that all choices are done, if there was a report before.
 pub fn tell_end(progress: &mut impl Progress, all: usize) {
     if all >= TOLD {
         progress.choices_done(all as u64, all as u64);

@@ -5,7 +5,7 @@ ghost use Rattle.debug_session.specs.Words.{byte_or_zero, word_at};
 
 use mem_store::Store;
 
-/// The byte at an address, or 0 where none is mapped.
+/// The byte at an address, or 0 if it is not mapped.
 pub fn byte_at<S: Store>(store: &S, address: u32) -> u8
     ensures { result ≡ byte_or_zero (peeked (S.memory store.now) address) }
 {
@@ -15,7 +15,8 @@ pub fn byte_at<S: Store>(store: &S, address: u32) -> u8
     }
 }
 
-/// The word at an address that is a multiple of 4, its lowest byte first. Bytes that are not mapped count as 0.
+/// The word at an address that is a multiple of 4, little-endian. Bytes that are not mapped count
+/// as 0.
 #[tactic(auto, unfolding(crate::specs::Words::word_at))]
 pub fn word_at<S: Store>(store: &S, address: u32) -> u32
     requires { address % 4 ≡ 0 }

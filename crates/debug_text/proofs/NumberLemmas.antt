@@ -1,4 +1,4 @@
--- Numbers of any length, held at 2^64 - 1.
+-- Numbers of any length, capped at 2^64 - 1.
 use Rattle.std.proofs.Common.{◌≡◌, ℕ, ◌+◌, ◌-◌, ◌*◌, ◌^◌, ◌<◌, ◌≤◌, ◌==◌, nat_lt, true, false, if◌then◌else◌, List, [], ◌∷◌, drop, length, slice_index, Option, Some, None, arith, refl, ap, sym, ◌∙◌, ⊎_elim}
 use Rattle.std.proofs.lemmas.Bool.{cases_lt}
 use Rattle.std.proofs.lemmas.List.{at_drop_more, drop_all}
@@ -6,11 +6,11 @@ use Rattle.std.proofs.lemmas.Nat.{mul-le}
 use Rattle.std.specs.Option.{option_map}
 use Rattle.debug_text.specs.Numbers.{digit_in, digit_of, held, held_number, number_after, with_digit}
 
--- numbers that are too large are held alike
+-- numbers that are too large are capped alike
 both_held : (x y : ℕ) → 2 ^ 64 - 1 ≤ x → 2 ^ 64 - 1 ≤ y → held x ≡ held y
 both_held x y a b = omega (arith, a, b)
 
--- with a digit more, numbers that are held alike are held alike
+-- with one more digit, numbers that are capped alike are capped alike
 same_digit : (base m n d : ℕ) → 0 < base → held m ≡ held n → held (m * base + d) ≡ held (n * base + d)
 same_digit base m n d some same = ⊎_elim
     (λ (small : m < 2 ^ 64 - 1). let e : m ≡ n = omega (arith, small, same) in ap (λ k. held (k * base + d)) e)
@@ -22,7 +22,7 @@ same_digit base m n d some same = ⊎_elim
     both_held (m * base + d) (n * base + d) (omega (arith, p, large)) (omega (arith, q, other)))
     (cases_lt m (2 ^ 64 - 1))
 
--- digits that follow numbers that are held alike
+-- digits after numbers that are capped alike
 after_digit : (base m n : ℕ) (bs : List ℕ) (o : Option ℕ) → 0 < base → held m ≡ held n
     → ((x y : ℕ) → held x ≡ held y → option_map held (number_after base x bs) ≡ option_map held (number_after base y bs))
     → option_map held (with_digit base m (λ k. number_after base k bs) o) ≡ option_map held (with_digit base n (λ k. number_after base k bs) o)
@@ -36,7 +36,7 @@ same_after base m n [] some same = ap Some same
 same_after base m n (b ∷ bs) some same =
     after_digit base m n bs (digit_in base (digit_of b)) some same (λ x y e. same_after base x y bs some e)
 
--- a digit more, held at once or later
+-- one more digit, capped at once or later
 one_digit : (base n d : ℕ) (bs : List ℕ) → 0 < base
     → option_map held (number_after base (held (held (n * base) + d)) bs) ≡ option_map held (number_after base (n * base + d) bs)
 one_digit base n d bs some = same_after base (held (held (n * base) + d)) (n * base + d) bs some (omega arith)

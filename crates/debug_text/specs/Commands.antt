@@ -1,4 +1,4 @@
--- The commands that lines are.
+-- The commands of lines.
 use Rattle.std.specs.Prelude.{ℕ, List, [], ◌∷◌, Option, Some, None, codes, if◌then◌else◌}
 use Rattle.std.specs.Option.{option_map}
 use Rattle.std.specs.Str.{bytes_eq}
@@ -7,7 +7,7 @@ use Rattle.debug_text.specs.Numbers.{decimal_of, address_of}
 use Rattle.debug_text.specs.declared.commands.Command.{Command}
 use Rattle.debug_text.specs.declared.commands.Command.TheVariants.{Nothing, Where, Goto, Forward, Back, Break, Watch, Go, Rgo, Steps, Regs, Mem, Quit}
 
--- the command that a word alone is
+-- the command of a single word
 abbrev pub bare_command : List ℕ → Option Command
 bare_command name =
     if bytes_eq name (codes "where") then Some Where
@@ -17,7 +17,7 @@ bare_command name =
     else (if bytes_eq name (codes "rgo") then Some Rgo
     else (if bytes_eq name (codes "quit") then Some Quit else None)))))
 
--- the command that a word and one operand are
+-- the command of a word with one operand
 abbrev pub single_command : List ℕ → List ℕ → Option Command
 single_command name operand =
     if bytes_eq name (codes "goto") then option_map Goto (decimal_of operand)
@@ -27,19 +27,19 @@ single_command name operand =
     else (if bytes_eq name (codes "watch") then option_map Watch (address_of operand)
     else (if bytes_eq name (codes "regs") then option_map Regs (decimal_of operand) else None)))))
 
--- a command of two numbers, if both are there
+-- a command of two numbers, if both are valid
 abbrev pub with_both : (ℕ → ℕ → Command) → Option ℕ → Option ℕ → Option Command
 with_both make None second = None
 with_both make (Some a) None = None
 with_both make (Some a) (Some b) = Some (make a b)
 
--- the command that a word and two operands are
+-- the command of a word with two operands
 abbrev pub double_command : List ℕ → List ℕ → List ℕ → Option Command
 double_command name first second =
     if bytes_eq name (codes "steps") then with_both Steps (decimal_of first) (decimal_of second)
     else (if bytes_eq name (codes "mem") then with_both Mem (address_of first) (decimal_of second) else None)
 
--- the command that a word and at most two operands are; a line without words is blank
+-- the command of a word with at most two operands; a line without words is blank
 abbrev pub command_by : List ℕ → List ℕ → List ℕ → Option Command
 command_by [] first second = Some Nothing
 command_by (b ∷ name) [] second = bare_command (b ∷ name)

@@ -1,4 +1,4 @@
--- What a command answers, and the session after it.
+-- The answer of a command, and the session after it.
 use Rattle.std.specs.Prelude.{ℕ, ◌+◌, ◌-◌, ◌*◌, ◌==◌, ◌||◌, nat_le, nat_lt, max, Bool, true, false, List, [], length, slice_get, Option, Some, None, Result, Ok, Err, string_bytes, codes, if◌then◌else◌}
 use Rattle.hart_reservations.specs.Marks.{word_of}
 use Rattle.hart_step.specs.Hart.{HartValue}
@@ -20,7 +20,7 @@ pub record Outcome : Type 0 where
   pub after : Session
   pub ended : Bool
 
--- an outcome, or why there is none
+-- an outcome, or the fault
 abbrev pub Reply : Type 0
 Reply = Result Outcome DebugFault
 
@@ -32,16 +32,16 @@ shows text after = Ok (record { text = text; after = after; ended = false })
 abbrev pub shows_move : Session → ℕ → Reply
 shows_move s k = shows (position_text k (length_of s)) (moved s k)
 
--- the session has moved to where one has to stop, and why is shown, or what stands in its place
+-- the session has moved to a stop; its reason is shown, or the text in its place
 abbrev pub shows_found : Session → List ℕ → Found → Reply
 shows_found s none found = shows (found_text none found.1 found.0 (length_of s)) (moved s found.0)
 
--- the registers of a hart, if it is there
+-- the registers of a hart, if it exists
 abbrev pub shows_hart : Session → ℕ → Option HartValue → Reply
 shows_hart s h None = Err BadCommand
 shows_hart s h (Some hart) = shows (hart_text h hart) s
 
--- what a command answers in a session
+-- the answer of a command in a session
 unfoldable pub reply : Session → Command → Reply
 reply s Nothing = shows [] s
 reply s Where = shows_move s s.position
@@ -62,12 +62,12 @@ reply s (Mem a n) =
     else shows (cells_text (world_at s s.position).memory (word_of a) n) s
 reply s Quit = Ok (record { text = []; after = s; ended = true })
 
--- what a line answers whose command this is
+-- the answer of a line with this command
 abbrev pub reply_if : Session → Option Command → Reply
 reply_if s None = Err BadCommand
 reply_if s (Some command) = reply s command
 
--- what a line, without its end, answers in a session
+-- the answer of a line, without its end, in a session
 unfoldable pub reply_to : Session → List ℕ → Reply
 reply_to s line = reply_if s (command_of line)
 

@@ -1,4 +1,4 @@
--- What is shown, byte by byte.
+-- The texts that are shown, byte by byte.
 use Rattle.std.specs.Prelude.{ℕ, zero, suc, ◌+◌, ◌-◌, ◌*◌, ◌%◌, ◌^◌, Bool, true, false, ◌&&◌, List, [], ◌∷◌, ◌++◌, Option, Some, None, codes, if◌then◌else◌}
 use Rattle.std.specs.Option.{is_some}
 use Rattle.std.specs.List.{flat_map}
@@ -29,13 +29,13 @@ break_text a = codes "break " ++ (word_text a ++ codes "\n")
 abbrev pub watch_text : ℕ → List ℕ
 watch_text a = codes "watch " ++ (word_text a ++ codes "\n")
 
--- why one stopped, or what stands in its place, without the line's end
+-- the reason for a stop, or the text in its place, without the line's end
 abbrev pub stop_text : List ℕ → Option Stop → List ℕ
 stop_text none None = none
 stop_text none (Some (Break h a)) = codes "break h" ++ (decimal h ++ (codes " " ++ word_text a))
 stop_text none (Some (Watch a)) = codes "watch " ++ word_text a
 
--- why one stopped and where: two lines
+-- the reason for a stop and its position: two lines
 abbrev pub found_text : List ℕ → Option Stop → ℕ → ℕ → List ℕ
 found_text none stop k n = stop_text none stop ++ (codes "\n" ++ position_text k n)
 
@@ -45,7 +45,7 @@ event_text Stopped pc = codes "stopped"
 event_text NoFetch pc = codes "no fetch"
 event_text (Word word) pc = line_text pc word
 
--- `!` where a choice refuses
+-- `!` if a choice refuses
 abbrev pub mark_text : Bool → List ℕ
 mark_text true = codes "!"
 mark_text false = []

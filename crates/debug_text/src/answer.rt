@@ -1,11 +1,11 @@
-//! What a command answers.
+//! The answer of a command.
 
 use std::alloc::Allocator;
 
-/// What a command answers.
+/// The answer of a command.
 #[derive(Drop)]
 pub enum Answer<A: Allocator> {
-    /// The lines that are shown, each ended by LF; none for a blank line.
+    /// The lines to show, each ended by LF; empty for a blank line.
     Text(String<A>),
     /// The session ends, and nothing is shown.
     Quit,

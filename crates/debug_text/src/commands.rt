@@ -1,59 +1,59 @@
-//! What a line asks for.
+//! The debugger's commands.
 ghost use Rattle.std.specs.Prelude.{◌≡◌};
 ghost use Rattle.std.specs.Str.{bytes_eq};
 ghost use Rattle.debug_text.specs.Commands.{bare_command, single_command, double_command, command_by};
 
 use crate::number::{address_of, decimal_of};
 
-/// What a line asks for. A number of choices above 2^64 - 1 is held as that: it is past every end.
+/// A command. A number above 2^64 - 1 is capped at that: it is past every end.
 #[derive(Clone, Copy, PartialEq, Eq)]
 pub enum Command {
     /// A blank line.
     Nothing,
-    /// `where`: tells the position.
+    /// `where`: shows the position.
     Where,
     /// `goto K`: moves to position K.
     Goto(u64),
-    /// `forward [N]`: moves N choices on, 1 where N is left out.
+    /// `forward [N]`: moves N choices forward, 1 by default.
     Forward(u64),
-    /// `back [N]`: moves N choices back, 1 where N is left out.
+    /// `back [N]`: moves N choices back, 1 by default.
     Back(u64),
     /// `break A`: adds a breakpoint at an address.
     Break(u32),
-    /// `watch A`: watches the aligned word that holds an address.
+    /// `watch A`: watches the aligned word that contains an address.
     Watch(u32),
-    /// `go`: goes on to where one has to stop.
+    /// `go`: moves forward to the next stop, or to the end.
     Go,
-    /// `rgo`: goes back to where one has to stop.
+    /// `rgo`: moves back to the previous stop, or to the start.
     Rgo,
     /// `steps A B`: shows the steps of the choices from A to B - 1.
     Steps {
         /// The first choice, from 0.
         from: u64,
-        /// The choice behind the last.
+        /// The choice after the last.
         to: u64,
     },
     /// `regs H`: shows a hart's end and its registers.
     Regs(u64),
-    /// `mem A N`: shows N words from the aligned word on that holds an address.
+    /// `mem A N`: shows N words from the aligned word on that contains an address.
     Mem {
         /// The address.
         address: u32,
-        /// How many words, which are 1 to 64 where the command is not refused.
+        /// Number of words: 1 to 64, else the command is refused.
         count: u64,
     },
     /// `quit`: ends the session.
     Quit,
 }
 
-// Whether a word is this one.
+// Whether a word is a given one.
 fn is_word(name: &[u8], word: &str) -> bool
     ensures { result ≡ bytes_eq name.now word.now }
 {
     name == word.as_bytes()
 }
 
-// The command that a word alone is.
+// The command of a single word.
 fn bare_command(name: &[u8]) -> Option<Command>
     ensures { result ≡ bare_command name.now }
 {
@@ -78,7 +78,7 @@ fn bare_command(name: &[u8]) -> Option<Command>
     None
 }
 
-// The command that a word and one operand are.
+// The command of a word with one operand.
 fn single_command(name: &[u8], operand: &[u8]) -> Option<Command>
     ensures { result ≡ single_command name.now operand.now }
 {
@@ -103,7 +103,7 @@ fn single_command(name: &[u8], operand: &[u8]) -> Option<Command>
     None
 }
 
-// The command that a word and two operands are.
+// The command of a word with two operands.
 fn double_command(name: &[u8], first: &[u8], second: &[u8]) -> Option<Command>
     ensures { result ≡ double_command name.now first.now second.now }
 {
@@ -120,7 +120,7 @@ fn double_command(name: &[u8], first: &[u8], second: &[u8]) -> Option<Command>
     None
 }
 
-/// The command that a word and at most two operands are, of which empty ones are left out.
+/// The command of a word with at most two operands; an empty operand counts as missing.
 pub fn command_by(name: &[u8], first: &[u8], second: &[u8]) -> Option<Command>
     ensures { result ≡ command_by name.now first.now second.now }
 {

@@ -2,10 +2,12 @@
 
 use thiserror::Error;
 
-/// Why a command is refused; then nothing has changed. Its text is the line that is shown, without the line's end.
+/// Why a command is refused. Nothing has changed then. The text is the line that is shown, without
+/// LF.
 #[derive(Clone, Copy, Debug, PartialEq, Eq, Error)]
 pub enum DebugFault {
-    /// The line is no command, or it names a hart or an address that is not there. It wins over `PastEnd`.
+    /// The line is no command, or it names a hart or an address that doesn't exist. It takes
+    /// precedence over `PastEnd`.
     #[error("bad command")]
     BadCommand,
     /// A position is above the number of choices, or below 0.

@@ -1,4 +1,4 @@
-//! The debugger's commands: a line of text in, its answer's text out.
+//! The debugger's commands: parses a line, and gives the text of its answer.
 #![tactic(auto)]
 
 pub use answer::Answer;

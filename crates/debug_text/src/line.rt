@@ -1,4 +1,4 @@
-//! Lines as commands.
+//! Parses lines as commands.
 ghost use Rattle.std.specs.Prelude.{◌≡◌, ◌≢◌, ◌≤◌, Ok, Err, IfOk, IfErr, OnErr, length};
 ghost use Rattle.std.specs.List.{prefix_len, position_or_len};
 ghost use Rattle.debug_session.specs.Session.{session};
@@ -13,7 +13,7 @@ use crate::replies::obey;
 use debug_session::Debugger;
 use std::alloc::Allocator;
 
-// How many spaces stand at the front.
+// Number of spaces at the front.
 fn space_len(line: &[u8]) -> usize
     ensures count { result ≡ prefix_len is_space line.now }
     ensures within { result ≤ length line.now }
@@ -21,7 +21,7 @@ fn space_len(line: &[u8]) -> usize
     line.iter().take_while(|byte| **byte == b' ').count()
 }
 
-// How many bytes stand before the first space.
+// Number of bytes before the first space.
 fn word_len(line: &[u8]) -> usize
     ensures count { result ≡ position_or_len is_space line.now }
     ensures within { result ≤ length line.now }
@@ -29,7 +29,7 @@ fn word_len(line: &[u8]) -> usize
     line.iter().take_while(|byte| **byte != b' ').count()
 }
 
-// The first word of a line, empty where there is none, and what stands behind it.
+// The first word of a line, empty if there is none, and the rest after it.
 fn next_word(line: &[u8]) -> (&[u8], &[u8])
     ensures word { result.0.now ≡ next_word line.now }
     ensures behind { result.1.now ≡ behind_word line.now }
@@ -38,7 +38,8 @@ fn next_word(line: &[u8]) -> (&[u8], &[u8])
     rest.split_at(word_len(rest))
 }
 
-/// The command of a line, without its end; `None` where it is no command. Words stand between spaces.
+/// The command of a line without its end; `None` if it is no command. Words are separated by
+/// spaces.
 #[tactic(auto, unfolding(crate::specs::Commands::command_of))]
 pub fn read_command(line: &[u8]) -> Option<Command>
     ensures { result ≡ command_of line.now }
@@ -53,7 +54,8 @@ pub fn read_command(line: &[u8]) -> Option<Command>
     command_by(name, first, second)
 }
 
-/// Obeys a line, without its end, and answers its text. After a fault nothing has changed.
+/// Does the command of a line without its end, and returns its text. After a fault nothing has
+/// changed.
 #[tactic(auto, unfolding(crate::specs::Reply::reply_to))]
 pub fn command<A: Allocator + Copy>(
     alloc: A,

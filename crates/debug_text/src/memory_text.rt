@@ -46,7 +46,7 @@ fn push_cell<S: Store, A: Allocator>(
     Ok(())
 }
 
-/// The lines of words from an aligned address on, which goes on with 0 behind the last address.
+/// The lines of words from an aligned address on; after the last address follows address 0.
 #[tactic(auto, using(crate::proofs::TextLemmas::cells_more, crate::proofs::TextLemmas::cells_end))]
 pub fn cells_text<S: Store, A: Allocator>(
     alloc: A,

@@ -2,7 +2,7 @@
 ghost use Rattle.std.specs.Prelude.{◌≡◌, ◌<◌, ◌^◌, IfSome};
 ghost use Rattle.debug_text.specs.Numbers.{digit_of, number_after, number_of, held_number, decimal_of, address_of};
 
-// The value of a digit of base 16, of either case.
+// The value of a hexadecimal digit of either case.
 fn digit_of(byte: u8) -> Option<u64>
     ensures value { result ≡ digit_of byte }
     ensures small { IfSome result (λ digit. digit < 16) }
@@ -15,7 +15,7 @@ fn digit_of(byte: u8) -> Option<u64>
     }
 }
 
-// The number that digits of a base write, one or more, held at 2^64 - 1 where it is above.
+// The number of one or more digits of a base, capped at 2^64 - 1.
 #[tactic(auto, unfolding(crate::specs::Numbers::number_after))]
 fn number_of(base: u64, digits: &[u8]) -> Option<u64>
     requires { 0 < base }
@@ -37,7 +37,7 @@ fn number_of(base: u64, digits: &[u8]) -> Option<u64>
     Some(number)
 }
 
-/// A decimal number of one or more digits, held at 2^64 - 1 where it is above.
+/// A decimal number of one or more digits, capped at 2^64 - 1.
 pub fn decimal_of(text: &[u8]) -> Option<u64>
     ensures { result ≡ decimal_of text.now }
 {

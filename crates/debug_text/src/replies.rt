@@ -1,4 +1,4 @@
-//! What commands do.
+//! Does the commands.
 ghost use Rattle.std.specs.Prelude.{◌≡◌, ◌≢◌, ◌≤◌, Ok, Err, IfOk, IfErr, OnErr, codes, string_bytes};
 ghost use Rattle.debug_session.specs.Session.{session, length_of};
 ghost use Rattle.debug_text.specs.Reply.{reply, shows_move, outcome_of};
@@ -14,10 +14,10 @@ use crate::texts::{break_text, found_text, position_text, watch_text};
 use debug_session::{Debugger, MoveFault};
 use std::alloc::Allocator;
 
-// The most words that `mem` shows.
+// The greatest number of words that `mem` shows.
 const MOST_WORDS: u64 = 64;
 
-// Moves to a position that is there, and shows it. The text is made before the move.
+// Moves to a position that exists, and shows it. The text is made before the move.
 fn go_to<A: Allocator + Copy>(
     alloc: A,
     debugger: &mut Debugger<A>,
@@ -38,7 +38,6 @@ fn go_to<A: Allocator + Copy>(
     }
 }
 
-// `goto K`.
 #[tactic(auto, unfolding(crate::specs::Reply::reply))]
 fn obey_goto<A: Allocator + Copy>(
     alloc: A,
@@ -57,7 +56,6 @@ fn obey_goto<A: Allocator + Copy>(
     go_to(alloc, debugger, k as usize)
 }
 
-// `forward N`.
 #[tactic(auto, unfolding(crate::specs::Reply::reply))]
 fn obey_forward<A: Allocator + Copy>(
     alloc: A,
@@ -77,7 +75,6 @@ fn obey_forward<A: Allocator + Copy>(
     go_to(alloc, debugger, position + n as usize)
 }
 
-// `back N`.
 #[tactic(auto, unfolding(crate::specs::Reply::reply))]
 fn obey_back<A: Allocator + Copy>(
     alloc: A,
@@ -97,7 +94,6 @@ fn obey_back<A: Allocator + Copy>(
     go_to(alloc, debugger, position - n as usize)
 }
 
-// `break A`.
 #[tactic(auto, unfolding(crate::specs::Reply::reply))]
 fn obey_break<A: Allocator + Copy>(
     alloc: A,
@@ -118,7 +114,6 @@ fn obey_break<A: Allocator + Copy>(
     }
 }
 
-// `watch A`.
 #[tactic(auto, unfolding(crate::specs::Reply::reply))]
 fn obey_watch<A: Allocator + Copy>(
     alloc: A,
@@ -139,7 +134,7 @@ fn obey_watch<A: Allocator + Copy>(
     }
 }
 
-// `go`. The text is made between the search and the move, which cannot be refused.
+// `go`. The text is made between the search and the move, which cannot fail.
 #[tactic(auto, unfolding(crate::specs::Reply::reply))]
 fn obey_go<A: Allocator + Copy>(
     alloc: A,
@@ -161,7 +156,7 @@ fn obey_go<A: Allocator + Copy>(
     Ok(Answer::Text(text))
 }
 
-// `rgo`. As `go`.
+// `rgo`, like `go`.
 #[tactic(auto, unfolding(crate::specs::Reply::reply))]
 fn obey_rgo<A: Allocator + Copy>(
     alloc: A,
@@ -254,7 +249,7 @@ fn obey_mem<A: Allocator + Copy>(
     }
 }
 
-/// Obeys a command, and answers its text. After a fault nothing has changed.
+/// Does a command, and returns its text. After a fault nothing has changed.
 #[tactic(auto, unfolding(crate::specs::Reply::reply))]
 pub fn obey<A: Allocator + Copy>(
     alloc: A,

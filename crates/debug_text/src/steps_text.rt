@@ -33,7 +33,7 @@ impl fmt::Display for EventText {
     }
 }
 
-// `!` where a choice refuses.
+// `!` if a choice refuses.
 fn mark_text(refuse: bool) -> &'static str
     ensures { result.now ≡ mark_text refuse }
 {

@@ -7,7 +7,7 @@ use isa_names::Word;
 use std::alloc::{AllocError, Allocator};
 use std::fmt;
 
-/// Why one stopped, or what stands in its place, shown without a line's end.
+/// The reason for a stop, or the text in its place, shown without LF.
 #[derive(Clone, Copy)]
 struct StopText<'a> {
     none: &'a str,
@@ -55,7 +55,7 @@ pub fn watch_text<A: Allocator>(alloc: A, address: u32) -> Result<String<A>, All
     format!(in alloc; "watch {address}\n")
 }
 
-/// Why one stopped, or what stands in its place, and the line of position k of n.
+/// The reason for a stop, or the text in its place, and the line of position k of n.
 pub fn found_text<A: Allocator>(
     alloc: A,
     none: &str,

@@ -17,7 +17,7 @@ use Rattle.image.specs.Spans.{is_filled, space_fault}
 use Rattle.image.proofs.RightsLemmas.{low}
 use Rattle.image.proofs.Sound.{sound_from, passed}
 
--- the bytes that the file gives
+-- the bytes of the file are as many as p_filesz
 given : (bytes : List ℕ) (h : ProgramHeader) → is_load h ≡ true → is_outside (length bytes) h ≡ false → length (take h.file_size (drop h.offset bytes)) ≡ h.file_size
 given bytes h load inside =
     let a = length-drop {A = ℕ} in
@@ -50,7 +50,7 @@ none_first : (a b : Option ElfFault) → first_fault a b ≡ None → (a ≡ Non
 none_first (Some fault) b e = cc
 none_first None b e = (refl, e)
 
--- the segments and the entry of a file that no check of its program headers refuses
+-- segments and entry of a file whose program headers pass all checks are sound
 pub file_is_sound : (bytes : List ℕ) (entry : ℕ) (hs : List ProgramHeader) → headers_fault (length bytes) entry hs ≡ None → IsSound entry (map (segment_of bytes) (filter is_kept hs))
 unfolding headers_fault
 file_is_sound bytes entry hs pass =
@@ -60,7 +60,7 @@ file_is_sound bytes entry hs pass =
     let d = passed (not (eqb (entry % 4) 0)) _ _ c.1 in
     sound_from entry (map (segment_of bytes) (filter is_kept hs)) (map header_span (filter is_load hs)) (kept_mapped bytes hs) (kept_spans bytes hs a.0) b.0 (grind (arith, nat_tests))
 
--- the segments of a file have the low three bits of its rights alone
+-- a file's segments have only the low three bits of rights
 pub files_have_low : (bytes : List ℕ) (hs : List ProgramHeader) → HaveLowRights (map (segment_of bytes) hs)
 files_have_low bytes [] = refl
 files_have_low bytes (h ∷ hs) = rw (low h.flags, files_have_low bytes hs) refl

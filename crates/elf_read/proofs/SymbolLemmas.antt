@@ -29,7 +29,7 @@ module _ (names bytes : List ℕ) (done : List SymbolValue) (place count i : ℕ
   pub symbol_refused : name_in (drop (word_at bytes (place + 0)) names) ≡ None → total ≡ Err faults.BadTable
   symbol_refused is = sym (rw is at here)
 
-  -- a symbol is read, and what is left is read behind it
+  -- a symbol is read, and the others after it
   symbol_read : (name : List ℕ) → name_in (drop (word_at bytes (place + 0)) names) ≡ Some name → symbols_from names bytes (added done name (word_at bytes (place + 4))) (place + 16) (count - (i + 1)) ≡ total
   symbol_read name is = rw is at here
 

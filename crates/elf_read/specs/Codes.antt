@@ -1,21 +1,21 @@
--- The numbers of ELF files, under the standard's names: System V ELF, "ELF Header", "Program Header", "Sections", "Symbol
--- Table"; those of RISC-V stand in the RISC-V ELF psABI, "File Header".
+-- The constants of ELF files, under the standard's names: System V ELF, "ELF Header", "Program
+-- Header", "Sections", "Symbol Table"; those of RISC-V: RISC-V ELF psABI, "File Header".
 use Rattle.std.specs.Prelude.{ℕ}
 
--- ---- the first bytes: a number, places, and what stands there
+-- ---- e_ident: magic number, offsets and values
 -- the first four bytes of a file, as a little-endian number
 abbrev pub MAGIC : ℕ
 MAGIC = 0x464c_457f
 
--- the place of the file's class
+-- the offset of the file's class
 abbrev pub EI_CLASS : ℕ
 EI_CLASS = 4
 
--- the place of the byte order
+-- the offset of the byte order
 abbrev pub EI_DATA : ℕ
 EI_DATA = 5
 
--- the place of the version of the first bytes
+-- the offset of the version in e_ident
 abbrev pub EI_VERSION : ℕ
 EI_VERSION = 6
 
@@ -27,11 +27,11 @@ ELFCLASS32 = 1
 abbrev pub ELFDATA2LSB : ℕ
 ELFDATA2LSB = 1
 
--- the one version
+-- the only version
 abbrev pub EV_CURRENT : ℕ
 EV_CURRENT = 1
 
--- ---- places of fields in the header, in bytes
+-- ---- offsets of fields in the header, in bytes
 abbrev pub E_TYPE : ℕ
 E_TYPE = 16
 
@@ -68,7 +68,7 @@ E_SHENTSIZE = 46
 abbrev pub E_SHNUM : ℕ
 E_SHNUM = 48
 
--- ---- what the header says
+-- ---- values of the header's fields
 -- an executable file
 abbrev pub ET_EXEC : ℕ
 ET_EXEC = 2
@@ -77,11 +77,11 @@ ET_EXEC = 2
 abbrev pub EM_RISCV : ℕ
 EM_RISCV = 243
 
--- the bit of e_flags that says that there are compressed instructions
+-- the bit of e_flags for compressed instructions
 abbrev pub EF_RISCV_RVC : ℕ
 EF_RISCV_RVC = 1
 
--- the count of program headers that stands for a larger one, kept elsewhere
+-- the e_phnum of a file whose count of program headers is stored elsewhere
 abbrev pub PN_XNUM : ℕ
 PN_XNUM = 0xffff
 
@@ -102,7 +102,7 @@ SECTION_HEADER_SIZE = 40
 abbrev pub SYMBOL_SIZE : ℕ
 SYMBOL_SIZE = 16
 
--- ---- places of fields in a program header
+-- ---- offsets of fields in a program header
 abbrev pub P_TYPE : ℕ
 P_TYPE = 0
 
@@ -122,11 +122,11 @@ abbrev pub P_FLAGS : ℕ
 P_FLAGS = 24
 
 -- ---- kinds of program headers
--- a segment to be loaded
+-- a loadable segment
 abbrev pub PT_LOAD : ℕ
 PT_LOAD = 1
 
--- what a dynamic linker needs
+-- dynamic linking information
 abbrev pub PT_DYNAMIC : ℕ
 PT_DYNAMIC = 2
 
@@ -134,7 +134,7 @@ PT_DYNAMIC = 2
 abbrev pub PT_INTERP : ℕ
 PT_INTERP = 3
 
--- ---- places of fields in a section header
+-- ---- offsets of fields in a section header
 abbrev pub SH_TYPE : ℕ
 SH_TYPE = 4
 
@@ -151,7 +151,7 @@ abbrev pub SH_ENTSIZE : ℕ
 SH_ENTSIZE = 36
 
 -- ---- kinds and flags of sections
--- bytes of the program's
+-- bytes defined by the program
 abbrev pub SHT_PROGBITS : ℕ
 SHT_PROGBITS = 1
 
@@ -163,15 +163,15 @@ SHT_SYMTAB = 2
 abbrev pub SHT_STRTAB : ℕ
 SHT_STRTAB = 3
 
--- zero bytes that the file does not hold
+-- zero bytes that take no space in the file
 abbrev pub SHT_NOBITS : ℕ
 SHT_NOBITS = 8
 
--- a section that may be written in memory
+-- a section that is writable in memory
 abbrev pub SHF_WRITE : ℕ
 SHF_WRITE = 1
 
--- a section that stands in memory
+-- a section that occupies memory
 abbrev pub SHF_ALLOC : ℕ
 SHF_ALLOC = 2
 
@@ -179,13 +179,13 @@ SHF_ALLOC = 2
 abbrev pub SHF_EXECINSTR : ℕ
 SHF_EXECINSTR = 4
 
--- ---- places of fields in a symbol, and a binding
+-- ---- offsets of fields in a symbol, and a binding
 abbrev pub ST_NAME : ℕ
 ST_NAME = 0
 
 abbrev pub ST_VALUE : ℕ
 ST_VALUE = 4
 
--- the binding of a symbol that other files see, in the high half of st_info
+-- the binding of a global symbol, in the high half of st_info
 abbrev pub STB_GLOBAL : ℕ
 STB_GLOBAL = 1

@@ -1,4 +1,4 @@
--- Files: the checks in their order, and the image of a file that passes them.
+-- ELF files: the checks in order, and the image of a file that passes them.
 use Rattle.std.specs.Prelude.{ℕ, ◌+◌, ◌-◌, ◌*◌, ◌%◌, Bool, not, ◌&&◌, ◌==◌, nat_lt, if◌then◌else◌, List, length, slice_index, take, drop, map, filter, Option, None, Result}
 use Rattle.std.specs.List.{list_any}
 use Rattle.image.specs.Fault.{fault_if, first_fault}
@@ -13,7 +13,7 @@ use Rattle.image.specs.declared.fault.ElfFault.{ElfFault}
 use Rattle.image.specs.declared.fault.ElfFault.TheVariants as faults
 use Rattle.elf_read.specs.declared.program_header.ProgramHeader.{ProgramHeader}
 
--- whether there are program headers that pass the file's end
+-- whether there are program headers that lie past the end of the file
 unfoldable pub is_table_outside : List ℕ → Bool
 is_table_outside bytes =
     not (half_at bytes E_PHNUM == 0)
@@ -24,7 +24,7 @@ unfoldable pub program_headers_of : List ℕ → List ProgramHeader
 program_headers_of bytes =
     program_headers_from bytes (word_at bytes E_PHOFF) (half_at bytes E_PHNUM)
 
--- the first check of the program headers and the entry that refuses a file of n bytes
+-- the first check of the program headers and the entry that a file of n bytes fails
 unfoldable pub headers_fault : ℕ → ℕ → List ProgramHeader → Option ElfFault
 headers_fault n entry headers =
     fault_if (list_any (is_outside n) headers) faults.OutsideFile (
@@ -33,14 +33,14 @@ headers_fault n entry headers =
     fault_if (not (entry % 4 == 0)) faults.EntryAlign
     None)))
 
--- the first check that refuses a file
+-- the first check that a file fails
 unfoldable pub elf_fault : List ℕ → Option ElfFault
 elf_fault bytes =
     first_fault (header_fault bytes) (
     fault_if (is_table_outside bytes) faults.OutsideFile (
     headers_fault (length bytes) (word_at bytes E_ENTRY) (program_headers_of bytes)))
 
--- the segment of a program header, with the bytes that the file gives it
+-- the segment of a program header, with its bytes of the file
 abbrev pub segment_of : List ℕ → ProgramHeader → SegmentValue
 segment_of bytes h = record {
   base = h.address;
@@ -56,7 +56,7 @@ file_image bytes = record {
   segments = map (segment_of bytes) (filter is_kept (program_headers_of bytes));
 }
 
--- the first check that refuses a file, else its image
+-- the first check that a file fails, else its image
 unfoldable pub loaded : List ℕ → Result ImageValue ElfFault
 loaded bytes = fault_or (elf_fault bytes) (file_image bytes)
 
@@ -64,7 +64,7 @@ loaded bytes = fault_or (elf_fault bytes) (file_image bytes)
 abbrev pub byte_at : SegmentValue → ℕ → ℕ
 byte_at s a = slice_index s.bytes (a - s.base)
 
--- the byte that a file gives a segment at an address: 0 from p_filesz on
+-- the byte at an address by the program header: the file's, or 0 from p_filesz on
 abbrev pub file_byte : List ℕ → ProgramHeader → ℕ → ℕ
 file_byte bytes h a =
     if nat_lt (a - h.address) h.file_size then slice_index bytes (h.offset + (a - h.address)) else 0

@@ -8,19 +8,19 @@ use Rattle.elf_read.specs.Codes.{ET_EXEC, EM_RISCV, EF_RISCV_RVC, PN_XNUM, HEADE
 use Rattle.image.specs.declared.fault.ElfFault.{ElfFault}
 use Rattle.image.specs.declared.fault.ElfFault.TheVariants as faults
 
--- whether one of the two versions is another than the one that there is
+-- whether one of the two versions is not 1
 abbrev pub is_other_version : List ℕ → Bool
 is_other_version bytes =
     not (slice_index bytes EI_VERSION == EV_CURRENT) || not (word_at bytes E_VERSION == EV_CURRENT)
 
--- whether a size of the header or of a program header is wrong, or the count of program headers is kept elsewhere
+-- whether the size of a header is invalid, or the count of program headers is stored elsewhere
 abbrev pub is_wrong_size : List ℕ → Bool
 is_wrong_size bytes =
     not (half_at bytes E_EHSIZE == HEADER_SIZE)
     || (not (half_at bytes E_PHNUM == 0) && not (half_at bytes E_PHENTSIZE == PROGRAM_HEADER_SIZE))
     || half_at bytes E_PHNUM == PN_XNUM
 
--- the first check of the header alone that refuses a file
+-- the first check of the header that a file fails
 unfoldable pub header_fault : List ℕ → Option ElfFault
 header_fault bytes =
     fault_if (nat_lt (length bytes) HEADER_SIZE) faults.Short (

@@ -7,6 +7,6 @@ abbrev pub text_before : List ℕ → Option ℕ → Option (List ℕ)
 text_before bytes None = None
 text_before bytes (Some n) = if is_utf8 (take n bytes) then Some (take n bytes) else None
 
--- the name at the front of some bytes: what stands before the first zero byte, if it is text
+-- the name at the front of some bytes: those before the first zero byte, if they are text
 unfoldable pub name_in : List ℕ → Option (List ℕ)
 name_in bytes = text_before bytes (position (λ b. b == 0) bytes)

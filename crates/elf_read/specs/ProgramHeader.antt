@@ -5,7 +5,7 @@ use Rattle.elf_read.specs.Codes.{P_TYPE, P_OFFSET, P_VADDR, P_FILESZ, P_MEMSZ, P
 use Rattle.elf_read.specs.declared.program_header.ProgramHeader.{ProgramHeader}
 use Rattle.image.specs.declared.span.Span.{Span}
 
--- the program header at a place
+-- the program header at an offset
 unfoldable pub program_header_at : List ℕ → ℕ → ProgramHeader
 program_header_at bytes place = record {
   kind = word_at bytes (place + P_TYPE);
@@ -16,13 +16,13 @@ program_header_at bytes place = record {
   flags = word_at bytes (place + P_FLAGS);
 }
 
--- so many program headers from a place on
+-- this many program headers from an offset on
 unfoldable pub program_headers_from : List ℕ → ℕ → ℕ → List ProgramHeader
 program_headers_from bytes place zero = []
 program_headers_from bytes place (suc n) =
     program_header_at bytes place ∷ program_headers_from bytes (place + PROGRAM_HEADER_SIZE) n
 
--- whether a header tells of a segment to be loaded
+-- whether a header is a loadable segment's
 abbrev pub is_load : ProgramHeader → Bool
 is_load h = h.kind == PT_LOAD
 
@@ -30,7 +30,7 @@ is_load h = h.kind == PT_LOAD
 abbrev pub is_dynamic : ProgramHeader → Bool
 is_dynamic h = h.kind == PT_DYNAMIC || h.kind == PT_INTERP
 
--- whether a file of so many bytes lacks bytes of a segment
+-- whether bytes of a segment lie past the end of a file of this many bytes
 abbrev pub is_outside : ℕ → ProgramHeader → Bool
 is_outside n h = is_load h && nat_lt 0 h.file_size && nat_lt n (h.offset + h.file_size)
 
@@ -38,6 +38,6 @@ is_outside n h = is_load h && nat_lt 0 h.file_size && nat_lt n (h.offset + h.fil
 abbrev pub is_kept : ProgramHeader → Bool
 is_kept h = is_load h && nat_lt 0 h.memory_size
 
--- what the checks of where segments stand see of a header
+-- the span of a header's segment, for the checks of places
 abbrev pub header_span : ProgramHeader → Span
 header_span h = record { base = h.address; size = h.memory_size; file_size = h.file_size }

@@ -4,7 +4,7 @@ use Rattle.elf_read.specs.Number.{word_at}
 use Rattle.elf_read.specs.Codes.{SH_TYPE, SH_OFFSET, SH_SIZE, SH_LINK, SH_ENTSIZE, SECTION_HEADER_SIZE, SHT_SYMTAB}
 use Rattle.elf_read.specs.declared.section.SectionHeader.{SectionHeader}
 
--- the section header at a place
+-- the section header at an offset
 unfoldable pub section_at : List ℕ → ℕ → SectionHeader
 section_at bytes place = record {
   kind = word_at bytes (place + SH_TYPE);
@@ -14,7 +14,7 @@ section_at bytes place = record {
   entry_size = word_at bytes (place + SH_ENTSIZE);
 }
 
--- so many section headers from a place on
+-- this many section headers from an offset on
 unfoldable pub sections_from : List ℕ → ℕ → ℕ → List SectionHeader
 sections_from bytes place zero = []
 sections_from bytes place (suc n) =
@@ -24,7 +24,7 @@ sections_from bytes place (suc n) =
 abbrev pub is_symbol_table : SectionHeader → Bool
 is_symbol_table s = s.kind == SHT_SYMTAB
 
--- whether a section passes the end of a file of so many bytes
+-- whether a section lies past the end of a file of this many bytes
 abbrev pub is_past_end : ℕ → SectionHeader → Bool
 is_past_end n s = nat_lt n (s.offset + s.size)
 

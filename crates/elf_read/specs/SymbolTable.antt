@@ -10,11 +10,11 @@ use Rattle.elf_read.specs.declared.section.SectionHeader.{SectionHeader}
 use Rattle.elf_read.specs.declared.symbol.SymFault.{SymFault}
 use Rattle.elf_read.specs.declared.symbol.SymFault.TheVariants as faults
 
--- what a file gives: its symbols, or why there are none
+-- the symbols of a file, or the reason why there are none
 abbrev pub Symbols : Type 0
 Symbols = Result (List SymbolValue) SymFault
 
--- the fault where a test finds one, else what comes after it
+-- the fault if the test holds, else the answer of the later checks
 abbrev pub refused_if : Bool → SymFault → Symbols → Symbols
 refused_if true fault later = Err fault
 refused_if false fault later = later
@@ -24,24 +24,24 @@ abbrev pub added : List SymbolValue → List ℕ → ℕ → List SymbolValue
 added done [] address = done
 added done (b ∷ bs) address = done ++ record { name = b ∷ bs; address = address } ∷ []
 
--- what comes after a name, where there is one
+-- the answer for a name, if there is one
 abbrev pub with_name : Option (List ℕ) → (List ℕ → Symbols) → Symbols
 with_name None later = Err faults.BadTable
 with_name (Some name) later = later name
 
--- the symbols that have a name, of so many from a place on, after those that are done
+-- the named ones of this many symbols from an offset on, after those already read
 unfoldable pub symbols_from : List ℕ → List ℕ → List SymbolValue → ℕ → ℕ → Symbols
 symbols_from names bytes done place zero = Ok done
 symbols_from names bytes done place (suc n) =
     with_name (name_in (drop (word_at bytes (place + ST_NAME)) names)) (λ name.
     symbols_from names bytes (added done name (word_at bytes (place + ST_VALUE))) (place + SYMBOL_SIZE) n)
 
--- whether a symbol table's sizes are wrong, or it passes the end of a file of n bytes
+-- whether a symbol table's sizes are invalid, or it lies past the end of a file of n bytes
 abbrev pub is_bad_table : ℕ → SectionHeader → Bool
 is_bad_table n table =
     not (table.entry_size == SYMBOL_SIZE) || not (table.size % SYMBOL_SIZE == 0) || is_past_end n table
 
--- the symbols of a table whose names stand in the section that it links to
+-- the symbols of a table whose names are in the section that it links to
 abbrev pub symbols_named : List ℕ → SectionHeader → Option SectionHeader → Symbols
 symbols_named bytes table None = Err faults.BadTable
 symbols_named bytes table (Some names) =
@@ -55,11 +55,11 @@ symbols_of_table bytes sections (Some table) =
     refused_if (is_bad_table (length bytes) table) faults.BadTable
     (symbols_named bytes table (slice_get sections table.link))
 
--- the symbols of the first symbol table among some sections
+-- the symbols of the first symbol table of these sections
 unfoldable pub symbols_in : List ℕ → List SectionHeader → Symbols
 symbols_in bytes sections = symbols_of_table bytes sections (find is_symbol_table sections)
 
--- whether the sections' size is wrong, or their headers pass the file's end
+-- whether the sections' size is invalid, or their headers lie past the end of the file
 abbrev pub are_bad_sections : List ℕ → Bool
 are_bad_sections bytes =
     not (half_at bytes E_SHENTSIZE == SECTION_HEADER_SIZE)
@@ -73,7 +73,7 @@ symbols_of bytes =
     refused_if (are_bad_sections bytes) faults.BadTable
     (symbols_in bytes (sections_from bytes (word_at bytes E_SHOFF) (half_at bytes E_SHNUM)))))
 
--- an answer is the expected one, or want of memory
+-- an answer is the expected one, or out of memory
 abbrev pub IsGiven : {Z : Type 0} → Result (Vec SymbolValue Z) SymFault → Symbols → Type 0
 IsGiven (Ok v) expected = expected ≡ Ok v.items
 IsGiven (Err faults.NoTable) expected = expected ≡ Err faults.NoTable

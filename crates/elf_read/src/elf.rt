@@ -1,21 +1,22 @@
-//! The numbers of ELF files, under the standard's names.
+//! The constants of ELF files, under the standard's names.
 //!
-//! System V ELF, "ELF Header", "Program Header", "Sections", "Symbol Table"; those of RISC-V stand in the RISC-V ELF
-//! psABI, "File Header". A name that begins with `E_`, `P_`, `SH_` or `ST_` is the place of a field in its header, in bytes.
+//! System V ELF, "ELF Header", "Program Header", "Sections", "Symbol Table"; those of RISC-V are in
+//! the RISC-V ELF psABI, "File Header". A name that begins with `E_`, `P_`, `SH_` or `ST_` is the
+//! offset of a field in its header, in bytes.
 
 /// The first four bytes of a file, as a little-endian number.
 pub const MAGIC: u32 = 0x464c_457f;
-/// The place of the file's class.
+/// The offset of the file's class.
 pub const EI_CLASS: usize = 4;
-/// The place of the byte order.
+/// The offset of the byte order.
 pub const EI_DATA: usize = 5;
-/// The place of the version of the first bytes.
+/// The offset of the version in e_ident.
 pub const EI_VERSION: usize = 6;
 /// Addresses and offsets have 32 bits.
 pub const ELFCLASS32: u8 = 1;
 /// Numbers are little-endian.
 pub const ELFDATA2LSB: u8 = 1;
-/// The one version.
+/// The only version.
 pub const EV_CURRENT: u8 = 1;
 
 pub const E_TYPE: usize = 16;
@@ -46,9 +47,9 @@ pub const E_SHNUM: usize = 48;
 pub const ET_EXEC: u16 = 2;
 /// RISC-V.
 pub const EM_RISCV: u16 = 243;
-/// The bit of e_flags that says that there are compressed instructions.
+/// The bit of e_flags for compressed instructions.
 pub const EF_RISCV_RVC: u32 = 1;
-/// The count of program headers that stands for a larger one, kept elsewhere.
+/// The e_phnum of a file whose count of program headers is stored elsewhere.
 pub const PN_XNUM: u16 = 0xffff;
 
 /// The size of the file's header, in bytes.
@@ -72,9 +73,9 @@ pub const P_MEMSZ: usize = 20;
 
 pub const P_FLAGS: usize = 24;
 
-/// A segment to be loaded.
+/// A loadable segment.
 pub const PT_LOAD: u32 = 1;
-/// What a dynamic linker needs.
+/// Dynamic linking information.
 pub const PT_DYNAMIC: u32 = 2;
 /// The path of an interpreter.
 pub const PT_INTERP: u32 = 3;
@@ -89,17 +90,17 @@ pub const SH_LINK: usize = 24;
 
 pub const SH_ENTSIZE: usize = 36;
 
-/// Bytes of the program's.
+/// Bytes defined by the program.
 pub const SHT_PROGBITS: u32 = 1;
 /// A symbol table.
 pub const SHT_SYMTAB: u32 = 2;
 /// A string table.
 pub const SHT_STRTAB: u32 = 3;
-/// Zero bytes that the file does not hold.
+/// Zero bytes that take no space in the file.
 pub const SHT_NOBITS: u32 = 8;
-/// A section that may be written in memory.
+/// A section that is writable in memory.
 pub const SHF_WRITE: u32 = 1;
-/// A section that stands in memory.
+/// A section that occupies memory.
 pub const SHF_ALLOC: u32 = 2;
 /// A section of instructions.
 pub const SHF_EXECINSTR: u32 = 4;
@@ -108,5 +109,5 @@ pub const ST_NAME: usize = 0;
 
 pub const ST_VALUE: usize = 4;
 
-/// The binding of a symbol that other files see, in the high half of st_info.
+/// The binding of a global symbol, in the high half of st_info.
 pub const STB_GLOBAL: u8 = 1;

@@ -1,4 +1,4 @@
-//! Files as images.
+//! ELF files as images.
 ghost use Rattle.std.specs.Prelude.{◌≡◌, ◌+◌, ◌*◌, ◌<◌, ◌≤◌, ℕ, List, length, map, filter, IfOk};
 ghost use Rattle.std.specs.Bool.{OnFalse};
 ghost use Rattle.elf_read.specs.File.{loaded, headers_fault, is_table_outside, segment_of, byte_at, file_byte};
@@ -17,18 +17,19 @@ use crate::program_header::{
 use image::{ElfFault, Image, Rights, Segment, check_space, image_of};
 use std::alloc::{AllocError, Allocator};
 
-/// A segment's byte is the file's at p_offset and as far on as the address is from p_vaddr, where that is below
-/// p_filesz, else 0.
+/// The byte of a segment at an address is the file's byte at p_offset + (address - p_vaddr) if the
+/// address is less than p_filesz bytes from p_vaddr, else 0.
 pub fn a_segments_bytes_are_the_files()
     ensures { (bytes : List ℕ) (h : ProgramHeader) (a : ℕ) →
         byte_at (segment_of bytes h) a ≡ file_byte bytes h a }
 {}
 
-/// The image of an ELF file: a static 32-bit RISC-V executable. Its segments are the nonempty PT_LOADs, in the file's order.
+/// The image of an ELF file that is a static 32-bit RISC-V executable. Its segments are the
+/// nonempty PT_LOADs, in the file's order.
 ///
-/// Else the first check that refuses it, in the order of `ElfFault`: each check is looked at only where those before it
-/// pass. Sections are not looked at. No byte of a segment is copied before all checks have passed.
-/// System V ELF, "ELF Header", "Program Header".
+/// Otherwise the fault is the first check that fails, in the order of `ElfFault`; a check runs only
+/// after all before it have passed. Sections are ignored. Segment bytes are copied only after all
+/// checks have passed. System V ELF, "ELF Header", "Program Header".
 #[tactic(auto, using(crate::proofs::FileLemmas::file_is_sound, crate::proofs::FileLemmas::files_have_low), unfolding(crate::specs::File::loaded, crate::specs::File::elf_fault, crate::specs::File::file_image, crate::specs::File::program_headers_of))]
 pub fn load<A: Allocator + Copy>(alloc: A, bytes: &[u8]) -> Result<Image<A>, ElfFault>
     ensures { Gives result (loaded bytes.now) }
@@ -56,7 +57,7 @@ pub fn load<A: Allocator + Copy>(alloc: A, bytes: &[u8]) -> Result<Image<A>, Elf
     Ok(image_of(entry, segments))
 }
 
-/// Whether the program headers pass the file's end. Where they do not, they can be read.
+// Whether the program headers lie past the end of the file. If not, they can be read.
 #[tactic(auto, unfolding(crate::specs::File::is_table_outside))]
 fn is_table_outside(bytes: &[u8]) -> bool
     requires { HEADER_SIZE ≤ length bytes.now }
@@ -69,7 +70,7 @@ fn is_table_outside(bytes: &[u8]) -> bool
     count != 0 && end > bytes.len() as u64
 }
 
-/// The first check of the program headers and the entry that refuses a file of so many bytes.
+// The first check of the program headers and the entry that fails, for a file of `len` bytes.
 #[tactic(auto, unfolding(crate::specs::File::headers_fault))]
 fn check_program_headers<A: Allocator + Copy>(
     alloc: A,
@@ -95,7 +96,7 @@ fn check_program_headers<A: Allocator + Copy>(
     Ok(None)
 }
 
-/// The segments that are not empty.
+// The segments that are not empty.
 fn segments_of<A: Allocator + Copy>(
     alloc: A,
     bytes: &[u8],
@@ -112,7 +113,7 @@ fn segments_of<A: Allocator + Copy>(
     Ok(segments)
 }
 
-/// A segment with the bytes that the file gives it.
+// A segment with its bytes of the file.
 fn segment_of<A: Allocator>(
     alloc: A,
     bytes: &[u8],

@@ -1,4 +1,4 @@
-//! The header of a file.
+//! The header of an ELF file.
 ghost use Rattle.std.specs.Prelude.{◌≡◌, ◌≤◌, length, IfNone};
 ghost use Rattle.elf_read.specs.Header.{header_fault};
 ghost use Rattle.elf_read.specs.Codes.{HEADER_SIZE};
@@ -11,7 +11,7 @@ use crate::elf::{
 use crate::number::{half_at, word_at};
 use image::ElfFault;
 
-/// The first check of the header alone that refuses a file. Where none does, the file has a whole header.
+/// The first check of the header that fails. On `None` the file has a whole header.
 #[tactic(auto, unfolding(crate::specs::Header::header_fault))]
 pub fn check_header(bytes: &[u8]) -> Option<ElfFault>
     ensures fault { result ≡ header_fault bytes.now }

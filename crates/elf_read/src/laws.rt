@@ -1,9 +1,9 @@
-//! The numbers of ELF files that the code has are those of the definitions.
+//! Law: the code's constants of ELF files equal those of the definitions.
 ghost use Rattle.std.specs.Prelude.{◌≡◌};
 ghost use Rattle.elf_read.specs.Codes as standard;
 ghost use Rattle.elf_read.specs.declared.elf.TheConstants as code;
 
-/// Each number of an ELF file is the definitions', which have the standard's numerals.
+/// Each constant equals the definitions', which have the standard's numerals.
 pub fn numbers_are_the_standards()
     ensures first_bytes { (code.MAGIC ≡ standard.MAGIC) × (code.EI_CLASS ≡ standard.EI_CLASS) ×
         (code.EI_DATA ≡ standard.EI_DATA) × (code.EI_VERSION ≡ standard.EI_VERSION) ×

@@ -1,4 +1,4 @@
-//! ELF files: their images and their symbols.
+//! Reads ELF files: their images and their symbols.
 #![tactic(auto)]
 
 pub use file::{a_segments_bytes_are_the_files, load};

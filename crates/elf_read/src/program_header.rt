@@ -11,24 +11,25 @@ use crate::number::word_at;
 use image::Span;
 use std::alloc::{AllocError, Allocator};
 
-/// What is read of a program header: all but p_paddr and p_align (System V ELF, "Program Header").
+/// The fields that are read of a program header: all but p_paddr and p_align (System V ELF,
+/// "Program Header").
 #[derive(Clone, Copy, PartialEq, Eq)]
 pub struct ProgramHeader {
-    /// What it tells of (p_type).
+    /// The kind of the header (p_type).
     pub kind: u32,
-    /// Where the segment's bytes begin in the file (p_offset).
+    /// The offset of the segment's bytes in the file (p_offset).
     pub offset: u32,
     /// The segment's first address (p_vaddr).
     pub address: u32,
-    /// How many bytes the file gives (p_filesz).
+    /// The number of bytes in the file (p_filesz).
     pub file_size: u32,
-    /// How many addresses the segment has (p_memsz).
+    /// The size in memory, in bytes (p_memsz).
     pub memory_size: u32,
     /// The rights in the low three bits (p_flags).
     pub flags: u32,
 }
 
-/// The program header at a place.
+// The program header at an offset.
 #[tactic(auto, unfolding(crate::specs::ProgramHeader::program_header_at))]
 fn program_header_at(bytes: &[u8], place: usize) -> ProgramHeader
     requires { place + 32 ≤ length bytes.now }
@@ -44,7 +45,7 @@ fn program_header_at(bytes: &[u8], place: usize) -> ProgramHeader
     }
 }
 
-/// So many program headers from a place on.
+/// `count` program headers from an offset on. Fails when out of memory.
 pub fn read_program_headers<A: Allocator>(
     alloc: A,
     bytes: &[u8],
@@ -63,7 +64,7 @@ pub fn read_program_headers<A: Allocator>(
     Ok(headers)
 }
 
-/// Whether a file of so many bytes lacks bytes of a segment.
+/// Whether bytes of a segment lie past the end of a file of `len` bytes.
 pub fn any_outside(headers: &[ProgramHeader], len: usize) -> bool
     ensures { result ≡ list_any (is_outside len) headers.now }
 {
@@ -72,7 +73,7 @@ pub fn any_outside(headers: &[ProgramHeader], len: usize) -> bool
         && h.offset as u64 + h.file_size as u64 > len as u64)
 }
 
-/// Whether a file asks for a dynamic linker.
+/// Whether the file needs a dynamic linker.
 pub fn any_dynamic(headers: &[ProgramHeader]) -> bool
     ensures { result ≡ list_any is_dynamic headers.now }
 {
@@ -81,7 +82,7 @@ pub fn any_dynamic(headers: &[ProgramHeader]) -> bool
         .any(|h| h.kind == PT_DYNAMIC || h.kind == PT_INTERP)
 }
 
-/// What the checks of where segments stand see.
+/// The spans of the loadable segments, for the checks of places. Fails when out of memory.
 pub fn load_spans<A: Allocator>(
     alloc: A,
     headers: &[ProgramHeader],

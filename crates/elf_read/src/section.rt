@@ -9,22 +9,22 @@ use crate::elf::{
 use crate::number::word_at;
 use std::alloc::{AllocError, Allocator};
 
-/// What is read of a section header (System V ELF, "Sections").
+/// The fields that are read of a section header (System V ELF, "Sections").
 #[derive(Clone, Copy, PartialEq, Eq)]
 pub struct SectionHeader {
-    /// What the section is (sh_type).
+    /// The kind of the section (sh_type).
     pub kind: u32,
-    /// Where its bytes begin in the file (sh_offset).
+    /// The offset of its bytes in the file (sh_offset).
     pub offset: u32,
-    /// How many bytes it has (sh_size).
+    /// The number of its bytes (sh_size).
     pub size: u32,
-    /// The number of another section (sh_link): a symbol table's names stand there.
+    /// The index of another section (sh_link); a symbol table's names are there.
     pub link: u32,
-    /// The size in bytes of its entries (sh_entsize).
+    /// The size of its entries, in bytes (sh_entsize).
     pub entry_size: u32,
 }
 
-/// The section header at a place.
+// The section header at an offset.
 #[tactic(auto, unfolding(crate::specs::Section::section_at))]
 fn section_at(bytes: &[u8], place: usize) -> SectionHeader
     requires { place + 40 ≤ length bytes.now }
@@ -39,7 +39,7 @@ fn section_at(bytes: &[u8], place: usize) -> SectionHeader
     }
 }
 
-/// So many section headers from a place on.
+/// `count` section headers from an offset on. Fails when out of memory.
 pub fn read_sections<A: Allocator>(
     alloc: A,
     bytes: &[u8],
@@ -70,7 +70,7 @@ pub fn find_symbol_table(sections: &[SectionHeader]) -> Option<SectionHeader>
     None
 }
 
-/// The section of a number.
+/// The section with an index.
 pub fn section_of_number(sections: &[SectionHeader], number: u32) -> Option<SectionHeader>
     ensures { result ≡ slice_get sections.now number }
 {
@@ -81,14 +81,14 @@ pub fn section_of_number(sections: &[SectionHeader], number: u32) -> Option<Sect
     }
 }
 
-/// Whether a section passes the end of a file of so many bytes.
+/// Whether a section lies past the end of a file of `len` bytes.
 pub fn is_past_end(section: SectionHeader, len: usize) -> bool
     ensures { result ≡ is_past_end len section }
 {
     section.offset as u64 + section.size as u64 > len as u64
 }
 
-/// The bytes of a section that does not pass the file's end.
+/// The bytes of a section that ends within the file.
 pub fn bytes_of(bytes: &[u8], section: SectionHeader) -> &[u8]
     requires { section.offset + section.size ≤ length bytes.now }
     ensures { result.now ≡ bytes_of bytes.now section }

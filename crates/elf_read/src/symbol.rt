@@ -3,26 +3,26 @@ use std::alloc::Allocator;
 use std::marker::Model;
 use thiserror::Error;
 
-/// Why a file gives no symbols.
+/// The reason why a file gives no symbols.
 #[derive(Clone, Copy, Debug, PartialEq, Eq, Error)]
 pub enum SymFault {
     /// The file has no sections, or none of them is a symbol table.
     #[error("no symbol table")]
     NoTable,
-    /// A size, a range, the link to the names, or a name is wrong.
+    /// A size, a range, the link to the names, or a name is invalid.
     #[error("bad symbol table")]
     BadTable,
-    /// The host refused memory.
+    /// Out of memory.
     #[error("out of memory")]
     Memory,
 }
 
-/// A name and its address (st_name and st_value of System V ELF, "Symbol Table"). The name is not empty.
+/// A symbol: its name, which is not empty, and its address (System V ELF, "Symbol Table").
 #[derive(Drop)]
 pub struct Symbol<A: Allocator> {
-    /// The name.
+    /// The name (st_name).
     pub name: String<A>,
-    /// The address.
+    /// The address (st_value).
     pub address: u32,
 }
 

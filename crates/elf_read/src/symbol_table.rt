@@ -15,12 +15,13 @@ use crate::section::{
 use crate::symbol::{SymFault, Symbol};
 use std::alloc::Allocator;
 
-/// The symbols of a file's first symbol table that have a name, in the table's order.
+/// The named symbols of a file's first symbol table, in the table's order.
 ///
-/// `NoTable` where e_shoff or e_shnum is 0 or no section is a symbol table. `BadTable` where the file has no whole header,
-/// a size is wrong (40 bytes a section, 16 a symbol, the table a multiple of it), the section headers, the table or its
-/// names pass the file's end, the table's link is to no string table, or a name has no zero byte at its end or is not UTF-8.
-/// Whether the file loads is not looked at. System V ELF, "Sections", "String Table", "Symbol Table".
+/// `NoTable`: e_shoff or e_shnum is 0, or no section is a symbol table. `BadTable`: the file has no
+/// whole header; a size is invalid (40 bytes for a section header, 16 for a symbol, the table a
+/// multiple of it); the section headers, the table or its names lie past the end of the file; the
+/// table's link is not a string table; or a name is not ended by a zero byte or is not UTF-8. The
+/// checks of `load` are not made. System V ELF, "Sections", "String Table", "Symbol Table".
 #[tactic(auto, unfolding(crate::specs::SymbolTable::symbols_of))]
 pub fn symbols<A: Allocator + Copy>(alloc: A, bytes: &[u8]) -> Result<Vec<Symbol<A>, A>, SymFault>
     ensures { IsGiven result (symbols_of bytes.now) }
@@ -43,7 +44,7 @@ pub fn symbols<A: Allocator + Copy>(alloc: A, bytes: &[u8]) -> Result<Vec<Symbol
     symbols_in(alloc, bytes, &sections)
 }
 
-/// The symbols of the first symbol table among some sections.
+// The symbols of the first symbol table of these sections.
 #[tactic(auto, unfolding(crate::specs::SymbolTable::symbols_in))]
 fn symbols_in<A: Allocator + Copy>(
     alloc: A,
@@ -74,7 +75,7 @@ fn symbols_in<A: Allocator + Copy>(
     )
 }
 
-/// Whether a symbol table's sizes are wrong, or it passes the end of a file of so many bytes.
+// Whether a symbol table's sizes are invalid, or it lies past the end of a file of `len` bytes.
 fn is_bad_table(table: SectionHeader, len: usize) -> bool
     ensures test { result ≡ is_bad_table len table }
     ensures fits { OnFalse result (table.offset + table.size ≤ len) }
@@ -82,7 +83,7 @@ fn is_bad_table(table: SectionHeader, len: usize) -> bool
     table.entry_size != SYMBOL_SIZE || table.size % SYMBOL_SIZE != 0 || is_past_end(table, len)
 }
 
-/// The symbols that have a name, of so many from a place on.
+// The named ones of `count` symbols from an offset on.
 fn read_symbols<A: Allocator + Copy>(
     alloc: A,
     bytes: &[u8],

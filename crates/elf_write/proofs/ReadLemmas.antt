@@ -22,7 +22,7 @@ use Rattle.elf_write.proofs.LayoutLemmas.{Bounds, few_headers}
 unfoldable pub plain_file : ProgramValue → ℕ → List ℕ → List ℕ
 plain_file p sections back = front p sections ++ (p.text ++ (zero_bytes (data_distance p - length p.text) ++ (p.bytes ++ back)))
 
--- the fields of the header that the checks look at
+-- the fields of the header that the checks read
 pub entry_read : (p : ProgramValue) (sections : ℕ) (rest : List ℕ) → p.entry < 2 ^ 32 → word_at (front p sections ++ rest) 24 ≡ p.entry
 unfolding file_header word_at
 entry_read p sections rest fits = little_number-reads_back 4 p.entry [] fits
@@ -71,7 +71,7 @@ parts_read p sections rest t d m a = elim (cases_Bool (eqb (length p.text) 0)) [
   ])
 ]
 
--- what the checks of places say of one segment, and of two that stand apart
+-- the checks of places pass one segment, and two that do not overlap
 pub one_passes : (b s h : ℕ) → h ≤ s → b + s ≤ 2 ^ 32 → s ≤ 2 ^ 24 → space_fault (record { base = b; size = s; file_size = h } ∷ []) ≡ None
 unfolding space_fault
 one_passes b s h given ends small =
@@ -104,7 +104,7 @@ space_passes p b = elim (cases_Bool (eqb (length p.text) 0)) [
   ])
 ]
 
--- where the parts of a file stand
+-- the places of the parts of a file
 pub front_length : (p : ProgramValue) (sections : ℕ) → length (front p sections) ≡ 4096
 unfolding zero_bytes file_header header_count text_header data_header load_fields
 front_length p sections = elim (cases_Bool (eqb (length p.text) 0)) [

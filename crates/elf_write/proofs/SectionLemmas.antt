@@ -1,11 +1,11 @@
--- where the parts behind the data stand
+-- the places of the parts after the data
 use Rattle.std.proofs.Common.{◌≡◌, ℕ, ◌+◌, ◌-◌, ◌%◌, ◌≤◌, List, ◌++◌, length, arith, length-append, ap, ◌∙◌}
 use Rattle.std.proofs.Math.ListN.{length-replicate}
 use Rattle.asm_assemble.specs.Program.{ProgramValue, round_up}
 use Rattle.elf_write.specs.Field.{zero_bytes}
 use Rattle.elf_write.specs.Section.{data_end, tables_of, symbols_at, names_at, section_names_at, sections_at, section_names, joined_tables, table_bytes}
 
--- how much is written when the names of the sections are
+-- the number of bytes written up to the end of the sections' names
 joined_length : (p : ProgramValue) → data_end p + length (joined_tables p) ≡ section_names_at p + 44
 unfolding zero_bytes section_names section_names_at names_at symbols_at round_up
 joined_length p =

@@ -14,7 +14,7 @@ symbol_from [] i e is = cc
 symbol_from (x ∷ es) zero e is = cc
 symbol_from (x ∷ es) (suc i) e is = symbol_from es i e is
 
--- the symbol at a place stands before those after it
+-- the symbol at an index, and then those after it
 symbol_at : {A : Type 0} (es : List (String A × Symbol)) (i : ℕ) (e : String A × Symbol) → slice_get es i ≡ Some e
     → drop i (symbol_list es) ≡ (string_bytes e.0, e.1) ∷ drop (i + 1) (symbol_list es)
 symbol_at es i e is = let one : i + 1 ≡ suc i = omega arith in rw one (symbol_from es i e is)

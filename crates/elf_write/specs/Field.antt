@@ -10,11 +10,11 @@ bytes_of (fields.Byte n) = n ∷ []
 bytes_of (fields.Half n) = little_bytes 2 n
 bytes_of (fields.Word n) = little_bytes 4 n
 
--- the bytes of numbers, one after the other
+-- the bytes of numbers in order
 abbrev pub bytes_of_all : List Field → List ℕ
 bytes_of_all [] = []
 bytes_of_all (f ∷ fs) = bytes_of f ++ bytes_of_all fs
 
--- so many zero bytes
+-- this many zero bytes
 unfoldable pub zero_bytes : ℕ → List ℕ
 zero_bytes n = replicate n 0

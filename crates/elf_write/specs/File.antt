@@ -1,4 +1,4 @@
--- Written files, and what they load as.
+-- Written files, and the images that they load as.
 use Rattle.std.specs.Prelude.{ℕ, ◌+◌, ◌-◌, ◌%◌, ◌^◌, ◌==◌, if◌then◌else◌, List, [], ◌∷◌, ◌++◌, length, Result, Ok, Err}
 use Rattle.asm_assemble.specs.Program.{ProgramValue}
 use Rattle.asm_assemble.specs.Program.{text_start}
@@ -15,7 +15,7 @@ use Rattle.elf_write.specs.Segment.{front}
 unfoldable pub content : ProgramValue → List ℕ
 content p = p.text ++ (zero_bytes (data_distance p - length p.text) ++ p.bytes)
 
--- the file, given the place of the section headers and what stands behind the data
+-- the file, given the offset of the section headers and the bytes after the data
 unfoldable pub file_with : ProgramValue → ℕ → List ℕ → List ℕ
 file_with p sections behind = front p sections ++ (content p ++ behind)
 
@@ -24,7 +24,7 @@ unfoldable pub file : ProgramValue → List ℕ
 file p =
     file_with p (sections_at p % 2 ^ 32) (table_bytes p ++ (own_sections p ++ table_sections p))
 
--- the segments of a program: the text, which may be executed, and data and zeros, which may be written
+-- the segments of a program: executable text, and writable data and zeros
 unfoldable pub program_segments : ProgramValue → List SegmentValue
 program_segments p =
     (if length p.text == 0 then []
@@ -32,7 +32,7 @@ program_segments p =
     ++ (if data_size p == 0 then []
     else record { base = text_start + data_distance p; size = data_size p; rights = 6; bytes = p.bytes } ∷ [])
 
--- what the file of a program loads as
+-- the image that a program's file loads as
 unfoldable pub program_image : ProgramValue → Result ImageValue ElfFault
 program_image p =
     if p.entry % 4 == 0 then Ok (record { entry = p.entry; segments = program_segments p })

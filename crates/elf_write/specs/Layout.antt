@@ -1,8 +1,8 @@
--- Where the parts of a written file stand.
+-- The layout of a written file.
 use Rattle.std.specs.Prelude.{ℕ, ◌+◌, ◌==◌, if◌then◌else◌, length}
 use Rattle.asm_assemble.specs.Program.{ProgramValue, round_up, segment_size}
 
--- how far the data begins after the text's first byte, in memory and in the file
+-- the distance from the text's first byte to the data, in memory and in the file
 unfoldable pub data_distance : ProgramValue → ℕ
 data_distance p = round_up (length p.text) 4096
 
@@ -10,6 +10,6 @@ data_distance p = round_up (length p.text) 4096
 unfoldable pub data_size : ProgramValue → ℕ
 data_size p = segment_size (length p.bytes) p.zeros
 
--- how many program headers there are
+-- the number of program headers
 unfoldable pub header_count : ProgramValue → ℕ
 header_count p = (if length p.text == 0 then 0 else 1) + (if data_size p == 0 then 0 else 1)

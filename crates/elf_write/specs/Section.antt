@@ -1,4 +1,4 @@
--- What stands behind the data of a written file.
+-- The parts after the data of a written file.
 use Rattle.std.specs.Prelude.{ℕ, ◌+◌, ◌-◌, ◌%◌, ◌^◌, List, [], ◌∷◌, ◌++◌, length, codes}
 use Rattle.asm_assemble.specs.Program.{ProgramValue, round_up}
 use Rattle.asm_assemble.specs.Program.{text_start}
@@ -10,7 +10,7 @@ use Rattle.elf_write.specs.declared.field.Field.{Field}
 use Rattle.elf_write.specs.declared.field.Field.TheVariants.{Word}
 use Rattle.elf_write.specs.declared.section.SectionHeader.{SectionHeader}
 
--- where the data ends in the file
+-- the offset of the data's end
 unfoldable pub data_end : ProgramValue → ℕ
 data_end p = 4096 + data_distance p + length p.bytes
 
@@ -18,19 +18,19 @@ data_end p = 4096 + data_distance p + length p.bytes
 abbrev pub tables_of : ProgramValue → TablesValue
 tables_of p = symbol_tables p.symbols
 
--- where the symbol table begins
+-- the offset of the symbol table
 unfoldable pub symbols_at : ProgramValue → ℕ
 symbols_at p = round_up (data_end p) 4
 
--- where its names begin
+-- the offset of its names
 unfoldable pub names_at : ProgramValue → ℕ
 names_at p = symbols_at p + length (tables_of p).entries
 
--- where the names of the sections begin
+-- the offset of the names of the sections
 unfoldable pub section_names_at : ProgramValue → ℕ
 section_names_at p = names_at p + length (tables_of p).names
 
--- where the section headers begin
+-- the offset of the section headers
 unfoldable pub sections_at : ProgramValue → ℕ
 sections_at p = round_up (section_names_at p + 44) 4
 
@@ -100,7 +100,7 @@ zeros_section p = record {
   entry_size = 0;
 }
 
--- the headers of the null section and of those that a program has
+-- the headers of the null section and of the program's own sections
 unfoldable pub own_sections : ProgramValue → List ℕ
 own_sections p =
     zero_bytes 40
@@ -108,7 +108,7 @@ own_sections p =
     ++ (bytes_of_all (section_fields (data_section p))
     ++ bytes_of_all (section_fields (zeros_section p))))
 
--- the symbol table's section: its names stand in section 5
+-- the symbol table's section; section 5 has its names
 abbrev pub symbols_section : ProgramValue → SectionHeader
 symbols_section p = record {
   name = 18;

@@ -8,24 +8,24 @@ use Rattle.elf_write.specs.Layout.{data_distance, data_size, header_count}
 use Rattle.elf_write.specs.declared.field.Field.{Field}
 use Rattle.elf_write.specs.declared.field.Field.TheVariants.{Byte, Half, Word}
 
--- the program header of a segment to be loaded: its physical address is its address
+-- the program header of a loadable segment: its physical address is its address
 unfoldable pub load_fields : ℕ → ℕ → ℕ → ℕ → ℕ → List Field
 load_fields offset address file_size memory_size flags =
     Word PT_LOAD ∷ Word offset ∷ Word address ∷ Word address ∷ Word file_size ∷ Word memory_size ∷ Word flags ∷ Word 4096 ∷ []
 
--- the text, which may be read and executed
+-- the text, readable and executable
 unfoldable pub text_header : ProgramValue → List ℕ
 text_header p =
     if length p.text == 0 then []
     else bytes_of_all (load_fields 4096 text_start (length p.text) (length p.text) 5)
 
--- data and zeros, which may be read and written
+-- data and zeros, readable and writable
 unfoldable pub data_header : ProgramValue → List ℕ
 data_header p =
     if data_size p == 0 then []
     else bytes_of_all (load_fields (4096 + data_distance p) (text_start + data_distance p) (length p.bytes) (data_size p) 6)
 
--- the file's header, with the place of the section headers, of which there are seven; the names of sections are the sixth
+-- the file's header, given the offset of the seven section headers; index 5 has sections' names
 unfoldable pub file_header : ProgramValue → ℕ → List ℕ
 file_header p sections = bytes_of_all (
     Word MAGIC ∷ Byte ELFCLASS32 ∷ Byte ELFDATA2LSB ∷ Byte EV_CURRENT ∷ Byte 0 ∷ Word 0 ∷ Word 0

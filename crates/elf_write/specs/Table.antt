@@ -9,29 +9,29 @@ use Rattle.elf_write.specs.Field.{bytes_of_all, zero_bytes}
 use Rattle.elf_write.specs.declared.field.Field.{Field}
 use Rattle.elf_write.specs.declared.field.Field.TheVariants.{Byte, Half, Word}
 
--- the bytes of the symbol table and of its names, as far as they are made, and how many symbols other files do not see
+-- a symbol table and its names, in bytes, and the number of local symbols
 pub record TablesValue : Type 0 where
   pub entries : List ℕ
   pub names : List ℕ
   pub first_global : ℕ
 
--- the number of the section of a symbol
+-- the index of a symbol's section
 abbrev pub section_number : Section → ℕ
 section_number section.Text = 1
 section_number section.Data = 2
 section_number section.Zeros = 3
 
--- a symbol whose name stands at a place
+-- a symbol whose name is at an offset
 abbrev pub symbol_fields : ℕ → Symbol → List Field
 symbol_fields place s =
     Word (place % 2 ^ 32) ∷ Word s.address ∷ Word 0
     ∷ Byte (if s.global then 16 * STB_GLOBAL else 0) ∷ Byte 0 ∷ Half (section_number s.section) ∷ []
 
--- the tables of no symbols: one without a name
+-- the tables without symbols but the unnamed one
 unfoldable pub no_symbols : TablesValue
 no_symbols = record { entries = zero_bytes 16; names = 0 ∷ []; first_global = 1 }
 
--- one symbol more
+-- one more symbol
 unfoldable pub with_symbol : TablesValue → (List ℕ × Symbol) → TablesValue
 with_symbol t s = record {
   entries = t.entries ++ bytes_of_all (symbol_fields (length t.names) s.1);
@@ -44,15 +44,15 @@ abbrev pub with_symbols : TablesValue → SymbolList → TablesValue
 with_symbols t [] = t
 with_symbols t (s ∷ ss) = with_symbols (with_symbol t s) ss
 
--- whether other files see a symbol, or do not see it
+-- whether a symbol's binding is the wanted one: global, or local
 abbrev pub is_bound : Bool → Symbol → Bool
 is_bound true s = s.global
 is_bound false s = not s.global
 
--- the symbols that other files see, or those that they do not see
+-- the global symbols, or the local ones
 abbrev pub bound : Bool → SymbolList → SymbolList
 bound global ss = filter (λ s. is_bound global s.1) ss
 
--- the tables of a program's symbols: first those that other files do not see, both in order of definition
+-- the tables of a program's symbols: local ones first, each group in order of definition
 unfoldable pub symbol_tables : SymbolList → TablesValue
 symbol_tables ss = with_symbols (with_symbols no_symbols (bound false ss)) (bound true ss)

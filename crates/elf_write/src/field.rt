@@ -5,7 +5,7 @@ ghost use Rattle.elf_write.specs.Field.{bytes_of, bytes_of_all, zero_bytes};
 use byteorder::{ByteOrder, LittleEndian};
 use std::alloc::{AllocError, Allocator};
 
-/// A number of a header, with its width. It is written little-endian.
+/// A number of a header, with its width. Numbers are little-endian.
 #[derive(Clone, Copy, PartialEq, Eq)]
 pub enum Field {
     Byte(u8),
@@ -13,7 +13,7 @@ pub enum Field {
     Word(u32),
 }
 
-/// Writes numbers one after the other.
+/// Appends numbers in order. Fails when out of memory.
 pub fn write_fields<A: Allocator>(out: &mut Vec<u8, A>, fields: &[Field]) -> Result<(), AllocError>
     ensures { OnOk result (out.new.items ≡ out.old.items ++ bytes_of_all fields.now) }
 {
@@ -23,7 +23,7 @@ pub fn write_fields<A: Allocator>(out: &mut Vec<u8, A>, fields: &[Field]) -> Res
     Ok(())
 }
 
-/// Writes one number.
+// Appends one number.
 fn write_field<A: Allocator>(out: &mut Vec<u8, A>, field: Field) -> Result<(), AllocError>
     ensures { OnOk result (out.new.items ≡ out.old.items ++ bytes_of field) }
 {
@@ -45,7 +45,7 @@ fn write_field<A: Allocator>(out: &mut Vec<u8, A>, field: Field) -> Result<(), A
     }
 }
 
-/// Writes so many zero bytes.
+/// Appends `count` zero bytes. Fails when out of memory.
 #[tactic(auto, unfolding(crate::specs::Field::zero_bytes))]
 pub fn write_zeros<A: Allocator>(out: &mut Vec<u8, A>, count: usize) -> Result<(), AllocError>
     requires { count < 2 ^ 32 }

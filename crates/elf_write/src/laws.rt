@@ -1,4 +1,4 @@
-//! What is known of written files.
+//! Law of written files.
 ghost use Rattle.std.specs.Prelude.{◌≡◌, ℕ, ◌<◌, ◌^◌, List};
 ghost use Rattle.asm_assemble.specs.Program.{ProgramValue, IsWithinLimit};
 ghost use Rattle.elf_write.specs.File.{file_with, program_image};

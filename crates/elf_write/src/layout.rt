@@ -1,4 +1,4 @@
-//! Where the parts of a written file stand.
+//! The layout of a written file.
 ghost use Rattle.std.specs.Prelude.{◌≡◌, ◌+◌, ◌≤◌, ◌^◌, length};
 ghost use Rattle.asm_assemble.specs.Program.{round_up};
 ghost use Rattle.elf_write.specs.Layout.{data_distance, data_size, header_count};
@@ -6,10 +6,11 @@ ghost use Rattle.elf_write.specs.Layout.{data_distance, data_size, header_count}
 use asm_assemble::Program;
 use std::alloc::Allocator;
 
-/// The size of a page, and the place of the text in a written file, in bytes.
+/// The size of a page, and the offset of the text in a written file, in bytes.
 pub const PAGE: u32 = 4096;
 
-/// The sizes of a program's parts in bytes, and how far its data begins after its text's first byte.
+/// The sizes of a program's parts in bytes, and the distance from its text's first byte to its
+/// data.
 #[derive(Clone, Copy, PartialEq, Eq)]
 pub struct Layout {
     pub text: u32,
@@ -46,7 +47,7 @@ pub fn layout_of<A: Allocator>(program: &Program<A>) -> Layout
     }
 }
 
-/// How many program headers a program has.
+/// The number of program headers of a program's file.
 #[tactic(auto, unfolding(crate::specs::Layout::header_count))]
 pub fn header_count<A: Allocator>(program: &Program<A>) -> u16
     ensures { result ≡ header_count program.now }
@@ -57,7 +58,7 @@ pub fn header_count<A: Allocator>(program: &Program<A>) -> u16
     texts + datas
 }
 
-/// The least multiple of 4096 that is not below a number.
+// The least multiple of 4096 that is at least a number.
 #[tactic(auto, unfolding(asm_assemble::specs::Program::round_up))]
 fn page_up(number: u32) -> u32
     requires { number ≤ 2 ^ 25 }
@@ -66,7 +67,7 @@ fn page_up(number: u32) -> u32
     (number + 4095) / 4096 * 4096
 }
 
-/// The least multiple of 4 that is not below a number.
+/// The least multiple of 4 that is at least a number.
 #[tactic(auto, unfolding(asm_assemble::specs::Program::round_up))]
 pub fn word_up(number: u32) -> u32
     requires { number ≤ 2 ^ 26 }

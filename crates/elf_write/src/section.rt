@@ -1,4 +1,4 @@
-//! What stands behind the data: the symbol table, the names, and the section headers.
+//! The parts after the data: the symbol table, the names, and the section headers.
 ghost use Rattle.std.specs.Prelude.{◌≡◌, ◌+◌, ◌-◌, ◌++◌, ◌≤◌, ◌<◌, ◌^◌, ◌%◌, OnOk, IfOk};
 ghost use Rattle.elf_write.specs.Field.{bytes_of_all};
 ghost use Rattle.elf_write.specs.Section.{section_fields, section_names, data_end, tables_of, table_bytes, joined_tables, symbols_at, names_at, section_names_at, sections_at, own_sections, table_sections};
@@ -13,7 +13,7 @@ use elf_read::elf::{
 };
 use std::alloc::{AllocError, Allocator};
 
-/// A section header, its fields in the file's order.
+// A section header, its fields in the file's order.
 #[derive(Clone, Copy)]
 struct SectionHeader {
     name: u32,
@@ -28,7 +28,7 @@ struct SectionHeader {
     entry_size: u32,
 }
 
-/// Where the parts behind the data begin in the file, in bytes.
+/// The offsets of the parts after the data, in bytes.
 #[derive(Clone, Copy, PartialEq, Eq)]
 pub struct TablePlaces {
     pub symbols: u128,
@@ -37,7 +37,7 @@ pub struct TablePlaces {
     pub sections: u128,
 }
 
-/// The bytes between the data and the section headers.
+/// The bytes between the data and the section headers. Fails when out of memory.
 #[tactic(auto, using(crate::proofs::SectionLemmas::padded))]
 pub fn table_bytes<A: Allocator + Copy>(
     alloc: A,
@@ -53,7 +53,7 @@ pub fn table_bytes<A: Allocator + Copy>(
     Ok(out)
 }
 
-/// The bytes between the data and the zero bytes before the section headers.
+// The bytes between the data and the zero bytes before the section headers.
 #[tactic(auto, unfolding(crate::specs::Section::symbols_at))]
 fn joined_tables<A: Allocator + Copy>(
     alloc: A,
@@ -72,7 +72,7 @@ fn joined_tables<A: Allocator + Copy>(
     Ok(out)
 }
 
-/// Where the data ends in the file.
+// The offset of the data's end.
 #[tactic(auto, unfolding(crate::specs::Section::data_end))]
 fn data_end<A: Allocator>(program: &Program<A>) -> u32
     ensures value { result ≡ data_end program.now }
@@ -82,7 +82,8 @@ fn data_end<A: Allocator>(program: &Program<A>) -> u32
     PAGE + layout.data_distance + layout.bytes
 }
 
-/// Where the parts behind the data begin, from the bytes between the data and the section headers.
+/// The offsets of the parts after the data, given the bytes between the data and the section
+/// headers.
 #[tactic(auto, using(crate::proofs::SectionLemmas::tables_end), unfolding(crate::specs::Section::symbols_at, crate::specs::Section::names_at, crate::specs::Section::section_names_at))]
 pub fn table_places<A: Allocator>(
     program: &Program<A>,
@@ -109,7 +110,7 @@ pub fn table_places<A: Allocator>(
     }
 }
 
-/// Writes the names of the sections.
+// Appends the names of the sections.
 #[tactic(auto, unfolding(crate::specs::Section::section_names))]
 fn write_section_names<A: Allocator>(out: &mut Vec<u8, A>) -> Result<(), AllocError>
     ensures { OnOk result (out.new.items ≡ out.old.items ++ section_names) }
@@ -117,7 +118,8 @@ fn write_section_names<A: Allocator>(out: &mut Vec<u8, A>) -> Result<(), AllocEr
     out.extend_from_slice(b"\0.text\0.data\0.bss\0.symtab\0.strtab\0.shstrtab\0")
 }
 
-/// Writes the headers of the null section and of those that a program has.
+/// Appends the headers of the null section and of the program's own sections. Fails when out of
+/// memory.
 #[tactic(auto, unfolding(crate::specs::Section::own_sections, crate::specs::Section::data_end))]
 pub fn write_own_sections<A: Allocator>(
     out: &mut Vec<u8, A>,
@@ -176,7 +178,8 @@ pub fn write_own_sections<A: Allocator>(
     )
 }
 
-/// Writes the headers of the symbol table, of its names, and of the names of the sections.
+/// Appends the headers of the symbol table, its names, and the sections' names. Fails when out of
+/// memory.
 #[tactic(auto, unfolding(crate::specs::Section::table_sections))]
 pub fn write_table_sections<A: Allocator>(
     out: &mut Vec<u8, A>,
@@ -244,7 +247,7 @@ pub fn low_word(number: u128) -> u32
     (number % 0x1_0000_0000) as u32
 }
 
-/// Writes a section header.
+// Appends a section header.
 #[tactic(auto, unfolding(crate::specs::Section::section_fields))]
 fn write_section<A: Allocator>(
     out: &mut Vec<u8, A>,

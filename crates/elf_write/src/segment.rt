@@ -13,7 +13,8 @@ use elf_read::elf::{
 };
 use std::alloc::{AllocError, Allocator};
 
-/// Writes the file up to the text; the section headers stand at a place, modulo 2^32.
+/// Appends the file up to the text, given the offset of the section headers modulo 2^32. Fails when
+/// out of memory.
 #[tactic(auto, using(crate::proofs::LayoutLemmas::few_headers))]
 pub fn write_front<A: Allocator>(
     out: &mut Vec<u8, A>,
@@ -29,7 +30,7 @@ pub fn write_front<A: Allocator>(
     write_zeros(out, 4044 - 32 * count as usize)
 }
 
-/// Writes the file's header.
+// Appends the file's header.
 #[tactic(auto, unfolding(crate::specs::Segment::file_header))]
 fn write_header<A: Allocator>(
     out: &mut Vec<u8, A>,
@@ -68,7 +69,7 @@ fn write_header<A: Allocator>(
     )
 }
 
-/// Writes the program header of the text, where there is text.
+// Appends the program header of the text, if there is any.
 #[tactic(auto, unfolding(crate::specs::Segment::text_header))]
 fn write_text_header<A: Allocator>(
     out: &mut Vec<u8, A>,
@@ -83,7 +84,7 @@ fn write_text_header<A: Allocator>(
     write_load(out, PAGE, TEXT_BASE, layout.text, layout.text, 5)
 }
 
-/// Writes the program header of data and zeros, where there are any.
+// Appends the program header of data and zeros, if there are any.
 #[tactic(auto, unfolding(crate::specs::Segment::data_header))]
 fn write_data_header<A: Allocator>(
     out: &mut Vec<u8, A>,
@@ -106,7 +107,7 @@ fn write_data_header<A: Allocator>(
     )
 }
 
-/// Writes the program header of a segment to be loaded.
+// Appends the program header of a loadable segment.
 #[tactic(auto, unfolding(crate::specs::Segment::load_fields))]
 fn write_load<A: Allocator>(
     out: &mut Vec<u8, A>,

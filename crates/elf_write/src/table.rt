@@ -12,17 +12,17 @@ use std::alloc::{AllocError, Allocator};
 use std::hash::{BuildHasherDefault, FoldHasher};
 use std::marker::Model;
 
-/// A program's symbols by their names, in order of definition.
+// A program's symbols by their names, in order of definition.
 type Symbols<A> = IndexMap<String<A>, Symbol, BuildHasherDefault<FoldHasher>, A>;
 
-/// The symbol table and its names, as far as they are made.
+/// A symbol table and its names.
 #[derive(Drop)]
 pub struct Tables<A: Allocator> {
     /// The bytes of the symbol table.
     pub entries: Vec<u8, A>,
     /// The bytes of the names.
     pub names: Vec<u8, A>,
-    /// How many symbols other files do not see, the one without a name among them, modulo 2^32.
+    /// The number of local symbols, the unnamed one included, modulo 2^32 (sh_info).
     pub first_global: u32,
 }
 
@@ -38,7 +38,7 @@ impl<A: Allocator> Model for Tables<A> {
     } };
 }
 
-/// The tables of a program's symbols: those that other files do not see come first.
+/// The tables of a program's symbols, local ones first. Fails when out of memory.
 #[tactic(auto, unfolding(crate::specs::Table::symbol_tables))]
 pub fn symbol_tables<A: Allocator + Copy>(
     alloc: A,
@@ -52,7 +52,7 @@ pub fn symbol_tables<A: Allocator + Copy>(
     Ok(tables)
 }
 
-/// The tables of no symbols: one without a name.
+// The tables without symbols but the unnamed one.
 #[tactic(auto, unfolding(crate::specs::Table::no_symbols))]
 fn no_symbols<A: Allocator + Copy>(alloc: A) -> Result<Tables<A>, AllocError>
     ensures { IfOk result (λ t. t ≡ no_symbols) }
@@ -68,7 +68,7 @@ fn no_symbols<A: Allocator + Copy>(alloc: A) -> Result<Tables<A>, AllocError>
     })
 }
 
-/// Adds the symbols that other files see, or those that they do not see.
+// Adds the global symbols, or the local ones.
 #[tactic(auto, using(crate::proofs::TableLemmas::none_left))]
 fn add_symbols<A: Allocator>(
     tables: &mut Tables<A>,
@@ -84,7 +84,7 @@ fn add_symbols<A: Allocator>(
     Ok(())
 }
 
-/// Adds the symbol at an index, if other files see it, or if they do not see it.
+// Adds the symbol at an index if its binding is the wanted one.
 #[tactic(auto, using(crate::proofs::TableLemmas::none_here, crate::proofs::TableLemmas::left_out, crate::proofs::TableLemmas::added))]
 fn add_symbol_at<A: Allocator>(
     tables: &mut Tables<A>,
@@ -106,7 +106,7 @@ fn add_symbol_at<A: Allocator>(
     Ok(())
 }
 
-/// Whether other files see a symbol, or whether they do not see it.
+// Whether a symbol's binding is the wanted one: global, or local.
 fn is_bound(symbol: Symbol, global: bool) -> bool
     ensures { result ≡ is_bound global symbol }
 {
@@ -117,7 +117,7 @@ fn is_bound(symbol: Symbol, global: bool) -> bool
     }
 }
 
-/// Adds a symbol.
+// Adds a symbol.
 #[tactic(auto, unfolding(crate::specs::Table::with_symbol))]
 fn add_symbol<A: Allocator>(
     tables: &mut Tables<A>,
@@ -147,7 +147,7 @@ fn add_symbol<A: Allocator>(
     Ok(())
 }
 
-/// The number of the section of a symbol.
+// The index of a symbol's section.
 fn section_number(section: Section) -> u16
     ensures { result ≡ section_number section }
 {

@@ -14,11 +14,13 @@ use crate::table::symbol_tables;
 use asm_assemble::Program;
 use std::alloc::{AllocError, Allocator};
 
-/// The bytes of an ELF file of a program: its header, up to two program headers, the text at 4096, the data, the symbol
-/// table, the names, and seven section headers. Sections and names beyond 4 GB have their places modulo 2^32.
+/// The bytes of a program's ELF file: its header, up to two program headers, the text at 4096, the
+/// data, the symbol table, the names, and seven section headers. Offsets of sections and names
+/// beyond 4 GB are modulo 2^32.
 ///
-/// The file loads as the program's image where the entry is a multiple of 4, and is refused for its entry else.
-/// System V ELF, "ELF Header", "Program Header", "Sections", "Symbol Table".
+/// The file loads as the program's image if the entry is a multiple of 4; otherwise it is refused
+/// for its entry. Fails when out of memory. System V ELF, "ELF Header", "Program Header",
+/// "Sections", "Symbol Table".
 #[tactic(auto, using(crate::proofs::LoadLemmas::file_loads))]
 pub fn write_elf<A: Allocator + Copy>(
     alloc: A,
@@ -27,14 +29,15 @@ pub fn write_elf<A: Allocator + Copy>(
     ensures layout { IfOk result (λ v. v.items ≡ file program.now) }
     ensures loads { IfOk result (λ v. loaded v.items ≡ program_image program.now) }
 {
-    // What the law wants to know of a program: its sizes, and that its entry is an address.
+    // The proof of the law needs the program's sizes, and that its entry is an address; these calls
+    // give them.
     let _text = program.text();
     let _entry = program.entry();
     let out = file_of(alloc, program)?;
     Ok(out)
 }
 
-/// The bytes of the file.
+// The bytes of the file.
 #[tactic(auto, unfolding(crate::specs::File::file, crate::specs::File::file_with))]
 fn file_of<A: Allocator + Copy>(alloc: A, program: &Program<A>) -> Result<Vec<u8, A>, AllocError>
     ensures { IfOk result (λ v. v.items ≡ file program.now) }
@@ -51,7 +54,7 @@ fn file_of<A: Allocator + Copy>(alloc: A, program: &Program<A>) -> Result<Vec<u8
     Ok(out)
 }
 
-/// Writes the text, zero bytes up to the data, and the data.
+// Appends the text, zero bytes up to the data, and the data.
 #[tactic(auto, unfolding(crate::specs::File::content))]
 fn write_content<A: Allocator>(out: &mut Vec<u8, A>, program: &Program<A>) -> Result<(), AllocError>
     ensures { OnOk result (out.new.items ≡ out.old.items ++ content program.now) }

@@ -25,14 +25,14 @@ cause_name JumpMisaligned = codes "JumpMisaligned"
 cause_name BadCall = codes "BadCall"
 cause_name Break = codes "Break"
 
--- the registers that a result is left in: a0 is x10, a1 is x11
+-- the result registers: a0 is x10, a1 is x11
 abbrev pub a0_of : HartValue → ℕ
 a0_of hart = hart.registers 10
 
 abbrev pub a1_of : HartValue → ℕ
 a1_of hart = hart.registers 11
 
--- what a hart does, with the registers or the place that tell more of it
+-- a hart's state, with the registers or the address that belong to it
 abbrev pub state_text : HartState → HartValue → List ℕ
 state_text Running hart = codes " running pc " ++ word_text hart.pc
 state_text (Exited status) hart =
@@ -40,7 +40,7 @@ state_text (Exited status) hart =
 state_text (Faulted cause) hart =
     codes " faulted " ++ (cause_name cause ++ (codes " pc " ++ word_text hart.pc))
 
--- a hart's line, without its end
+-- a hart's line, without LF
 abbrev pub end_line : ℕ → HartValue → List ℕ
 end_line number hart = codes "hart " ++ (decimal number ++ state_text hart.state hart)
 
@@ -49,12 +49,12 @@ abbrev pub ends_of : ℕ → List HartValue → List ℕ
 ends_of number [] = []
 ends_of number (hart ∷ harts) = end_line number hart ++ 10 ∷ ends_of (number + 1) harts
 
--- what a judge says of harts, where there is a rule
+-- the verdict on harts, if there is a rule
 abbrev pub verdict_on : Option Kind → List ℕ → List Choice → List HartValue → Option Verdict
 verdict_on None inputs choices harts = None
 verdict_on (Some kind) inputs choices harts = Some (verdict_of kind inputs choices harts)
 
--- the line of a verdict, with its end
+-- the verdict's line, with LF
 abbrev pub verdict_line : Option Verdict → List ℕ
 verdict_line None = []
 verdict_line (Some verdict) = codes "verdict " ++ (verdict_name verdict ++ 10 ∷ [])

@@ -11,7 +11,7 @@ use object_library::{Kind, Verdict, judge};
 use std::alloc::{AllocError, Allocator};
 use std::fmt;
 
-// The place of a0 among the registers, and that of a1.
+// The indices of a0 and a1 among the registers.
 const A0: usize = 10;
 
 const A1: usize = 11;
@@ -39,7 +39,7 @@ impl fmt::Display for CauseName {
     }
 }
 
-/// A hart's number and its end, shown as a line without its end.
+/// A hart's number and its end, shown as a line without LF.
 #[derive(Clone, Copy)]
 pub struct EndLine {
     /// The hart's number, from 0.
@@ -67,7 +67,7 @@ impl fmt::Display for EndLine {
     }
 }
 
-/// What a judge says of harts, where there is a rule: by the inputs and the choices of their run.
+/// The verdict on harts under a rule, if there is one, by the inputs and the choices of their run.
 pub fn verdict_on(
     rule: Option<Kind>,
     inputs: &[u32],
@@ -82,7 +82,7 @@ pub fn verdict_on(
     }
 }
 
-/// The harts' lines in order, each ended by LF, and then the line of the verdict, if there is one.
+/// The harts' lines in order, each ended by LF, and then the verdict's line, if there is one.
 pub fn lines_text<A: Allocator>(
     alloc: A,
     verdict: Option<Verdict>,

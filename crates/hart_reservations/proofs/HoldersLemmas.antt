@@ -1,4 +1,4 @@
--- Who may have a reservation is right after each change.
+-- The harts that may have a reservation are right after each change.
 use Rattle.std.proofs.Common.{◌≡◌, ◌≢◌, ℕ, ◌<◌, Bool, true, false, not, eqb, cond, List, [], ◌∷◌, zero, suc, Option, Some, None, length, get_or, set, arith, refl, ap, sym, ◌∙◌, ◌⊎◌, inl, inr, get_or-set_other}
 use Rattle.std.proofs.lemmas.Bool.Decides.{nat_tests}
 use Rattle.hart_reservations.specs.Marks.{mark_at}
@@ -9,7 +9,7 @@ use Rattle.hart_reservations.specs.declared.holders.Holders.TheVariants.{Nobody,
 same_or_not : (k h : ℕ) → (k ≡ h) ⊎ (k ≢ h)
 same_or_not k h = grind arith
 
--- whoever may have none with one hart more is another, and may have had none before
+-- a hart that may have none with one more hart is another, and may have had none before
 with_more : (holders : Holders) (h k : ℕ) → may_hold (holders_with holders h) k ≡ false → (may_hold holders k ≡ false) × (k ≢ h)
 with_more Nobody h k none = (refl, grind (arith, nat_tests))
 with_more (Only x) h k none = grind (arith, nat_tests)
@@ -22,7 +22,7 @@ covers-set words holders h word covered k none =
     let other : k ≢ h = w.1 in
     rw get_or-set_other (covered k w.0)
 
--- after hart h has left, whoever may have none is h or may have had none before
+-- after hart h has left, a hart that may have none is h or may have had none before
 left_cases : (holders : Holders) (h k : ℕ) → may_hold (left_by holders h) k ≡ false → (k ≡ h) ⊎ (may_hold holders k ≡ false)
 left_cases Nobody h k none = inr refl
 left_cases (Only x) h k none = grind (arith, nat_tests)

@@ -1,22 +1,22 @@
--- Who may have a reservation.
+-- The harts that may have a reservation.
 use Rattle.std.specs.Prelude.{◌≡◌, ℕ, Bool, true, false, not, ◌==◌, if◌then◌else◌, None}
 use Rattle.hart_reservations.specs.declared.holders.Holders.{Holders}
 use Rattle.hart_reservations.specs.declared.holders.Holders.TheVariants.{Nobody, Only, Several}
 use Rattle.hart_reservations.specs.Marks.{Marks}
 
--- with one hart more
+-- with one more hart
 abbrev pub holders_with : Holders → ℕ → Holders
 holders_with Nobody h = Only h
 holders_with (Only k) h = if k == h then Only k else Several
 holders_with Several h = Several
 
--- when a hart's reservation has ended
+-- after a hart's reservation has ended
 abbrev pub left_by : Holders → ℕ → Holders
 left_by Nobody h = Nobody
 left_by (Only k) h = if k == h then Nobody else Only k
 left_by Several h = Several
 
--- whether another hart than h may have a reservation
+-- whether a hart other than h may have a reservation
 abbrev pub has_other : Holders → ℕ → Bool
 has_other Nobody h = false
 has_other (Only k) h = not (k == h)

@@ -1,6 +1,6 @@
--- How many harts there may be.
+-- The number of harts.
 use Rattle.std.specs.Prelude.{ℕ}
 
--- a machine has at most so many harts, and an object that is for any number of them has so many slots
+-- the largest number of harts in a machine, and of slots in an object for any number of them
 abbrev pub most_harts : ℕ
 most_harts = 32

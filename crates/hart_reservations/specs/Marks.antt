@@ -5,7 +5,7 @@ use Rattle.std.specs.Prelude.{ℕ, ◌-◌, ◌%◌, Bool, false, ◌==◌, if�
 abbrev pub Marks : Type 0
 Marks = ℕ → Option ℕ
 
--- the aligned word that holds an address
+-- the aligned word of an address
 abbrev pub word_of : ℕ → ℕ
 word_of address = address - address % 4
 
@@ -14,7 +14,7 @@ abbrev pub names : Option ℕ → ℕ → Bool
 names None word = false
 names (Some reserved) word = reserved == word
 
--- hart h has reserved a word, in place of an earlier one
+-- hart h has reserved a word; its earlier reservation has ended
 abbrev pub with_mark : Marks → ℕ → ℕ → Marks
 with_mark r h word = λ k. if k == h then Some word else r k
 

@@ -1,4 +1,4 @@
--- The map that the array of reservations keeps.
+-- The map of the array of reservations.
 use Rattle.hart_reservations.specs.Marks.{Marks, mark_at}
 use Rattle.hart_reservations.specs.declared.reserve.Reserve.{Reserve}
 

@@ -1,20 +1,20 @@
-//! Who may have a reservation, so that a store need not look at every hart.
+//! The harts that may have a reservation, so that a store need not check each hart.
 ghost use Rattle.std.specs.Prelude.{◌≡◌};
 ghost use Rattle.hart_reservations.specs.Holders.{holders_with, has_other, left_by};
 
-/// Which harts may have a reservation.
+/// The harts that may have a reservation.
 #[derive(Clone, Copy, Drop)]
 pub enum Holders {
     /// No hart has one.
     Nobody,
-    /// No hart but this one has one.
+    /// At most this hart has one.
     Only(usize),
     /// Any hart may have one.
     Several,
 }
 
 impl Holders {
-    /// One hart more may have a reservation.
+    /// The same with one more hart that may have a reservation.
     pub fn with(self, hart: usize) -> Holders
         ensures { result ≡ holders_with self hart }
     {
@@ -25,7 +25,7 @@ impl Holders {
         }
     }
 
-    /// A hart's reservation has ended.
+    /// The same after a hart's reservation has ended.
     pub fn without(self, hart: usize) -> Holders
         ensures { result ≡ left_by self hart }
     {
@@ -35,7 +35,7 @@ impl Holders {
         }
     }
 
-    /// Whether another hart than this one may have a reservation.
+    /// Whether a hart other than this one may have a reservation.
     pub fn has_other(self, hart: usize) -> bool
         ensures { result ≡ has_other self hart }
     {

@@ -1,4 +1,4 @@
-//! Which word each hart has reserved.
+//! The word that each hart has reserved.
 #![tactic(auto)]
 
 pub use holders::Holders;

@@ -5,12 +5,13 @@ ghost use Rattle.hart_reservations.specs.Holders.{Covers};
 
 use crate::holders::Holders;
 
-/// The most harts that a machine may have.
+/// The largest number of harts in a machine.
 pub const MAX_HARTS: usize = 32;
 
-/// The word that each hart has reserved, if it has one, by its address. It takes no memory of the host.
+/// The word that each hart has reserved, if any, by its address. It allocates nothing.
 ///
-/// The reservation set of the Unprivileged ISA, "Load-Reserved/Store-Conditional Instructions", is one aligned word.
+/// The reservation set of the Unprivileged ISA, "Load-Reserved/Store-Conditional Instructions", is
+/// one aligned word.
 #[derive(Clone, Copy, Drop)]
 pub struct Reserve {
     words: [Option<u32>; MAX_HARTS],
@@ -24,7 +25,7 @@ impl Reserve {
     ghost use Rattle.hart_reservations.specs.Limit.{most_harts};
     ghost use Rattle.hart_reservations.specs.Reserve.{marks};
 
-    /// No hart has a reservation.
+    /// Reservations of no hart.
     pub fn new() -> Self
         ensures { marks result ≡ (λ _. None) }
     {
@@ -34,7 +35,7 @@ impl Reserve {
         }
     }
 
-    /// Reserves a word for a hart, in place of an earlier one.
+    /// Reserves a word for a hart; an earlier reservation of the hart ends.
     pub fn set(&mut self, hart: usize, word: u32)
         requires { hart < most_harts }
         ensures { marks self.new ≡ with_mark (marks self.old) hart word }
@@ -52,7 +53,7 @@ impl Reserve {
         self.holders = self.holders.without(hart);
     }
 
-    /// Whether a hart's reservation names this word.
+    /// Whether a hart's reservation is of this word.
     pub fn holds(&self, hart: usize, word: u32) -> bool
         requires { hart < most_harts }
         ensures { result ≡ names (marks self.now hart) word }
@@ -63,7 +64,7 @@ impl Reserve {
         }
     }
 
-    /// A store by a hart into some byte of a word ends all others' reservations of that word.
+    /// A store by a hart into a word ends all other harts' reservations of that word.
     #[inline]
     pub fn stored_by(&mut self, hart: usize, address: u32)
         ensures { marks self.new ≡ ended (marks self.old) hart (word_of address) }
@@ -74,7 +75,7 @@ impl Reserve {
     }
 }
 
-/// Ends the reservations of a word, but for one hart's, and says who may still have one.
+// Ends all reservations of a word except one hart's; returns the harts that may still have one.
 fn end_others(words: &mut [Option<u32>], hart: usize, word: u32) -> Holders
     ensures ended { (k : ℕ) → mark_at words.new k ≡ mark_after (mark_at words.old) hart word k }
     ensures covered { Covers result (mark_at words.new) }

@@ -1,4 +1,5 @@
--- Who may write may read: where a word can't be loaded it can't be stored, for the same reason.
+-- A writable byte can be loaded: where a word cannot be loaded it cannot be stored, for the same
+-- reason.
 use Rattle.std.proofs.Common.{refl, ◌≡◌, ℕ, zero, suc, ◌+◌, ◌*◌, ◌/◌, ◌%◌, Bool, true, false, eqb, cond, arith, Option, Some, None, Ok, Err, rules, ◌∙◌, sym, inl, inr, bit_and}
 use Rattle.std.proofs.lemmas.Grind.{common_steps}
 use Rattle.std.proofs.lemmas.Bool.{cases_Bool, false≢true}
@@ -23,7 +24,7 @@ no_write (Some rights) h = elim (cases_Bool (eqb (bit_and rights 7) 0)) [
   | inr some ↦ absurd (false≢true (sym h ∙ rw some))
 ]
 
--- a test that fails wherever another does fails for a range where the other does
+-- if a test fails wherever another does, it fails for each range for which the other does
 none_below : (n : ℕ) (p q : ℕ → Bool) → ((k : ℕ) → p k ≡ false → q k ≡ false)
     → all_below n p ≡ false → all_below n q ≡ false
 none_below zero p q h e = e

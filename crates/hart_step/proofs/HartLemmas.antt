@@ -1,4 +1,5 @@
--- What no step changes of its hart: register 0 reads 0, and the next instruction is at a multiple of 4.
+-- What no step changes of its hart: register 0 reads 0, and the next instruction is at a multiple
+-- of 4.
 use Rattle.std.proofs.Common.{◌≡◌, ◌≢◌, ℕ, ◌+◌, ◌%◌, Bool, true, false, not, ◌&&◌, cond, eqb, List, set, Option, Some, None, refl, sym, arith, inl, inr, ◌∙◌}
 use Rattle.std.specs.List.{slice_index}
 use Rattle.std.proofs.lemmas.List.{get_or-set_other}

@@ -24,11 +24,11 @@ half_digits v zero below = omega arith
 half_digits v (suc zero) below = omega arith
 half_digits v (suc (suc k)) below = absurd (omega arith)
 
--- the low byte is all that a store of one byte takes
+-- a store of one byte depends only on the low byte
 pub stored_byte : (address v : ℕ) (bytes : ℕ → ℕ) → stored 1 address (v % 256) bytes ≡ stored 1 address v bytes
 stored_byte address v bytes = λ i a. same_digits 1 address (v % 256) v bytes (byte_digits v) a i
 
--- the low half is all that a store of two bytes takes
+-- a store of two bytes depends only on the low half
 pub stored_half : (address v : ℕ) (bytes : ℕ → ℕ) → stored 2 address (v % 65536) bytes ≡ stored 2 address v bytes
 stored_half address v bytes = λ i a. same_digits 2 address (v % 65536) v bytes (half_digits v) a i
 

@@ -1,4 +1,4 @@
--- The step of a hart by what stands at its pc.
+-- The step of a hart by the word at its pc.
 use Rattle.std.proofs.Common.{◌≡◌, ℕ, Bool, Option, Some, None, Result, Ok, Err, OnOk, OnErr, refl, ap, sym, ◌∙◌, rules}
 use Rattle.mem_store.specs.Access.{fetched}
 use Rattle.mem_store.specs.Instruction.{or_illegal, instruction_in, instruction_at}
@@ -12,7 +12,7 @@ use Rattle.hart_step.specs.Step.{faults, executed, at_word, by_state, stepped}
 use Rattle.hart_step.specs.Wanting.{Stores, StepStores}
 use Rattle.hart_step.specs.declared.hart.HartState.TheVariants.{Running}
 
--- ---- what stands there
+-- ---- the word there
 spells : (o : Option Instr) (i : Instr) → ◌≡◌ {A = Result Instr FetchFault} (Ok i) (or_illegal o) → o ≡ Some i
 spells None i e = absurd (search rules)
 spells (Some j) i e = (let same : j ≡ i = cc in ap Some same)

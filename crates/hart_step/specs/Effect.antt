@@ -1,4 +1,4 @@
--- What an instruction without a fault does.
+-- The effect of an instruction without a fault.
 use Rattle.std.specs.Prelude.{ℕ, ◌+◌, ◌*◌, ◌^◌, Bool, true, false, not, ◌&&◌, if◌then◌else◌}
 use Rattle.mem_store.specs.Memory.{Memory, number_at}
 use Rattle.mem_store.specs.Access.{written}
@@ -13,7 +13,7 @@ use Rattle.hart_step.specs.Values.{wrap, register_result, immediate_form, shift_
 use Rattle.hart_step.specs.Fault.{even}
 use Rattle.hart_step.specs.declared.hart.HartState.TheVariants.{Exited}
 
--- what one hart's step sees: the hart, the memory and all reservations
+-- the state that one hart's step depends on: the hart, the memory and all reservations
 pub record Site : Type 0 where
   pub hart : HartValue
   pub memory : Memory
@@ -31,7 +31,7 @@ site_of h m r = site (hart_of h) m (marks r)
 abbrev pub goes_on : Site → Registers → ℕ → Site
 goes_on s x pc = record s { hart = record s.hart { registers = x; pc = pc } }
 
--- the hart stops with a status; its registers and pc stay
+-- the hart exits with a status; its registers and pc stay
 abbrev pub exits : Site → ℕ → Site
 exits s status = record s { hart = record s.hart { state = Exited status } }
 
@@ -47,8 +47,8 @@ stores s h n address value =
       reserved = ended s.reserved h (word_of address);
     }
 
--- a store-conditional by hart h: where it succeeds it stores and puts 0 into rd, else it puts 1 there. Both ways the
--- hart's reservation is over (Unprivileged ISA, "Load-Reserved/Store-Conditional Instructions")
+-- a store-conditional by hart h: on success it stores and rd gets 0, else 1; either way the hart's
+-- reservation ends (Unprivileged ISA, "Load-Reserved/Store-Conditional Instructions")
 abbrev pub conditional : Bool → Site → ℕ → Registers → ℕ → ℕ → ℕ → ℕ → Site
 conditional true s h x pc rd address value =
     let t = stores s h 4 address value in
@@ -56,14 +56,14 @@ conditional true s h x pc rd address value =
 conditional false s h x pc rd address value =
     goes_on (record s { reserved = without_mark s.reserved h }) (put x rd 1) (next pc)
 
--- an AMO by hart h: the word that was there into rd, the operation's result into memory
+-- an AMO by hart h: the old word into rd, the operation's result into memory
 abbrev pub amo : Site → ℕ → Registers → ℕ → ℕ → ℕ → (ℕ → ℕ) → Site
 amo s h x pc rd address operation =
     let old = number_at s.memory.bytes 4 address in
     goes_on (stores s h 4 address (operation old)) (put x rd old) (next pc)
 
--- the effect of an instruction of hart h, which has registers x and stands at pc; where `refuse` holds a
--- store-conditional does not succeed
+-- the effect of an instruction of hart h, which has registers x and is at pc; if `refuse` holds, a
+-- store-conditional fails
 abbrev pub effect : Instr → Site → ℕ → Bool → Registers → ℕ → Site
 effect (Lui rd imm) s h refuse x pc = goes_on s (put x rd (imm * 2 ^ 12)) (next pc)
 effect (Auipc rd imm) s h refuse x pc = goes_on s (put x rd (wrap (pc + imm * 2 ^ 12))) (next pc)

@@ -1,5 +1,5 @@
--- Situations for examples of steps: a program at 0x00010000 and a word of data at 0x00011000, over memory of all rights
--- below 0x00012000.
+-- Sites for examples of steps: a program at 0x00010000 and a word of data at 0x00011000, over
+-- memory with all rights below 0x00012000.
 use Rattle.std.specs.Prelude.{ℕ, ◌+◌, ◌==◌, nat_lt, false, List, [], ◌∷◌, Some, None, if◌then◌else◌}
 -- for examples of runs, in crates that do not use the table themselves
 unfoldable pub use Rattle.isa_table.specs.Decoded.{decoded}
@@ -40,13 +40,13 @@ register s r = s.hart.registers r
 abbrev pub data_of : Site → ℕ
 data_of s = number_at s.memory.bytes 4 0x00011000
 
--- hart h, with the registers of hart 0, executes the word at an address; then hart 0 goes on from where it was
+-- hart h, with the registers of hart 0, executes the word at an address; then hart 0 goes on
 abbrev pub meanwhile : ℕ → ℕ → Site → Site
 meanwhile h pc s =
     let t = stepped h false (record s { hart = record s.hart { pc = pc } }) in
     record t { hart = s.hart }
 
--- hart 0, for which x1 names the word of data, 8, and x2 is 9, has executed the LR of this program
+-- hart 0, with the address of the data word (8) in x1 and 9 in x2, has executed this program's LR
 abbrev pub reserving : Site
 reserving = stepped 0 false (before (
     0x1000A1AF ∷  -- 0x00010000: lr.w x3, (x1)

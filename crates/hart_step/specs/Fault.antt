@@ -1,4 +1,4 @@
--- Which fault an instruction has. Faults look at registers and rights, never at bytes.
+-- The fault of an instruction. Faults depend on registers and rights, never on bytes.
 use Rattle.std.specs.Prelude.{ℕ, ◌+◌, ◌-◌, ◌%◌, ◌==◌, Option, Some, None, if◌then◌else◌}
 use Rattle.mem_store.specs.Memory.{Memory, to_load, to_write, granted}
 use Rattle.mem_store.specs.declared.store.AccessFault.{AccessFault}
@@ -12,7 +12,7 @@ use Rattle.hart_step.specs.Values.{wrap, is_taken, load_size, store_size}
 use Rattle.hart_step.specs.declared.hart.Cause.{Cause}
 use Rattle.hart_step.specs.declared.hart.Cause.TheVariants.{FetchAccess, Illegal, LoadMisaligned, LoadAccess, StoreMisaligned, StoreAccess, JumpMisaligned, BadCall, Break}
 
--- a load of n bytes: misaligned comes before access
+-- a load of n bytes: misaligned is checked before access
 abbrev pub load_fault : Memory → ℕ → ℕ → Option Cause
 load_fault m n address =
     if address % n == 0 then (if granted to_load m n address then None else Some LoadAccess) else Some LoadMisaligned
@@ -26,15 +26,15 @@ store_fault m n address =
 abbrev pub jump_fault : ℕ → Option Cause
 jump_fault target = if target % 4 == 0 then None else Some JumpMisaligned
 
--- the address with its lowest bit cleared, where JALR goes
+-- the address with bit 0 cleared, the target of JALR
 abbrev pub even : ℕ → ℕ
 even address = address - address % 2
 
--- ECALL is the exit call where register 17, a7, is 93
+-- ECALL is the exit call if register 17, a7, is 93
 abbrev pub call_fault : ℕ → Option Cause
 call_fault number = if number == 93 then None else Some BadCall
 
--- the fault of an instruction, of registers x and an address pc, if it has one
+-- the fault of an instruction with registers x at address pc, if any
 abbrev pub fault : Instr → Memory → Registers → ℕ → Option Cause
 fault (Lui rd imm) m x pc = None
 fault (Auipc rd imm) m x pc = None
@@ -54,17 +54,17 @@ fault (LoadReserved aq rl rd rs1) m x pc = load_fault m 4 (x rs1)
 fault (StoreConditional aq rl rd rs1 rs2) m x pc = store_fault m 4 (x rs1)
 fault (Amo op aq rl rd rs1 rs2) m x pc = store_fault m 4 (x rs1)
 
--- the cause of a hart where there is no instruction
+-- the cause of a hart at an address without an instruction
 abbrev pub fetch_cause_of : FetchFault → Cause
 fetch_cause_of fetch.Access = FetchAccess
 fetch_cause_of fetch.Illegal = Illegal
 
--- the cause that a refused load has
+-- the cause of a load that fails
 abbrev pub load_cause_of : AccessFault → Cause
 load_cause_of access.Misaligned = LoadMisaligned
 load_cause_of access.Access = LoadAccess
 
--- the cause that a refused store has
+-- the cause of a store that fails
 abbrev pub store_cause_of : AccessFault → Cause
 store_cause_of access.Misaligned = StoreMisaligned
 store_cause_of access.Access = StoreAccess

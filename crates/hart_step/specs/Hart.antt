@@ -13,7 +13,7 @@ pub record HartValue : Type 0 where
   pub pc : ℕ
   pub state : HartState
 
--- the registers that an array holds
+-- the registers of an array
 abbrev pub registers_of : List ℕ → Registers
 registers_of words r = slice_index words r
 
@@ -21,6 +21,6 @@ registers_of words r = slice_index words r
 abbrev pub hart_of : Hart → HartValue
 hart_of h = record { registers = registers_of h.registers; pc = h.pc; state = h.state }
 
--- register rd has a new value; register 0 ignores it (Unprivileged ISA, "Programmers' Model for Base Integer ISA")
+-- rd gets a value; x0 stays 0 (Unprivileged ISA, "Programmers' Model for Base Integer ISA")
 abbrev pub put : Registers → ℕ → ℕ → Registers
 put x rd value r = if r == rd && not (rd == 0) then value else x r

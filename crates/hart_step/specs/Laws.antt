@@ -3,7 +3,7 @@ use Rattle.std.specs.Prelude.{◌≡◌, ℕ, ◌%◌, false}
 use Rattle.mem_store.specs.Memory.{Memory, grants, to_write}
 use Rattle.hart_step.specs.Hart.{HartValue}
 
--- all rights are the same, and so is each byte that may not be written
+-- all rights are the same, and so is each byte that is not writable
 pub record Keeps (old new : Memory) : Type 0 where
   pub rights : new.rights ≡ old.rights
   pub bytes : (a : ℕ) → grants to_write (old.rights a) ≡ false → new.bytes a ≡ old.bytes a

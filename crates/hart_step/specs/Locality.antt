@@ -1,4 +1,4 @@
--- What a step depends on, and where it changes memory.
+-- The state that a step depends on, and the memory that it changes.
 use Rattle.std.specs.Prelude.{◌≡◌, ℕ, ◌+◌, ◌%◌, ◌<◌, ◌≤◌, Bool, true, false, ◌&&◌, nat_le, nat_lt, Option, Some, None}
 use Rattle.mem_store.specs.Access.{fetched}
 use Rattle.isa_table.specs.Decoded.{decoded}
@@ -14,11 +14,11 @@ use Rattle.hart_step.specs.declared.data_access.AccessKind.TheVariants as kinds
 use Rattle.hart_step.specs.declared.hart.HartState.{HartState}
 use Rattle.hart_step.specs.declared.hart.HartState.TheVariants.{Running, Exited, Faulted}
 
--- these bytes
+-- an access of these bytes
 abbrev pub access : AccessKind → ℕ → ℕ → Option Access
 access kind address size = Some (record { kind = kind; address = address; size = size })
 
--- the one access of data that an instruction has, if it has one
+-- the data access of an instruction, if any
 abbrev pub access_by : Instr → Registers → Option Access
 access_by (Lui rd imm) x = None
 access_by (Auipc rd imm) x = None
@@ -37,23 +37,23 @@ access_by (LoadReserved aq rl rd rs1) x = access kinds.LoadReserved (x rs1) 4
 access_by (StoreConditional aq rl rd rs1 rs2) x = access kinds.StoreConditional (x rs1) 4
 access_by (Amo op aq rl rd rs1 rs2) x = access kinds.Amo (x rs1) 4
 
--- that of an instruction, or of a word that is none
+-- the access of an instruction, or of a word that spells none
 abbrev pub access_if : Option Instr → Registers → Option Access
 access_if None x = None
 access_if (Some i) x = access_by i x
 
--- that of the word that was fetched, if it could be
+-- the access of a fetched word, if the fetch succeeded
 abbrev pub access_at : Option ℕ → Registers → Option Access
 access_at None x = None
 access_at (Some word) x = access_if (decoded word) x
 
--- a hart that has stopped has none
+-- the access of a hart in a state; a stopped hart has none
 abbrev pub access_in : HartState → Site → Option Access
 access_in Running s = access_at (fetched s.memory s.hart.pc) s.hart.registers
 access_in (Exited status) s = None
 access_in (Faulted cause) s = None
 
--- the access of data that the hart's next step has, if it has one
+-- the data access of the hart's next step, if any
 abbrev pub access_of : Site → Option Access
 access_of s = access_in s.hart.state s
 
@@ -67,8 +67,8 @@ abbrev pub IsInOneWord : Option Access → Type 0
 IsInOneWord None = Unit {0}
 IsInOneWord (Some c) = c.address % 4 + c.size ≤ 4
 
--- two sites are the same in all that a step of hart h looks at: the hart, the rights, its own reservation, the word that
--- it fetches and the bytes of its access
+-- two sites agree in all that a step of hart h depends on: the hart, the rights, its own
+-- reservation, the word that it fetches and the bytes of its access
 pub record Agrees (h : ℕ) (s t : Site) : Type 0 where
   pub hart : s.hart ≡ t.hart
   pub rights : s.memory.rights ≡ t.memory.rights
@@ -76,8 +76,8 @@ pub record Agrees (h : ℕ) (s t : Site) : Type 0 where
   pub fetched : (k : ℕ) → k < 4 → s.memory.bytes (s.hart.pc + k) ≡ t.memory.bytes (s.hart.pc + k)
   pub accessed : (a : ℕ) → is_inside (access_of s) a ≡ true → s.memory.bytes a ≡ t.memory.bytes a
 
--- two sites become new ones in the same way: the harts are the same, the bytes of the access too, no other byte has
--- changed, and nor has any right; a reservation that was the same in both is the same in both
+-- two sites change alike: the new harts are the same, and so are the bytes of the access; no other
+-- byte and no right has changed; a reservation that was the same in both is the same in both
 pub record ChangesAlike (c : Option Access) (s t new_s new_t : Site) : Type 0 where
   pub hart : new_s.hart ≡ new_t.hart
   pub rights : (new_s.memory.rights ≡ s.memory.rights) × (new_t.memory.rights ≡ t.memory.rights)
@@ -86,6 +86,6 @@ pub record ChangesAlike (c : Option Access) (s t new_s new_t : Site) : Type 0 wh
       → (new_s.memory.bytes a ≡ s.memory.bytes a) × (new_t.memory.bytes a ≡ t.memory.bytes a)
   pub reserved : (k : ℕ) → s.reserved k ≡ t.reserved k → new_s.reserved k ≡ new_t.reserved k
 
--- a step of hart h makes the same of both sites
+-- a step of hart h changes both sites alike
 abbrev pub StepsAlike : ℕ → Bool → Site → Site → Type 0
 StepsAlike h refuse s t = ChangesAlike (access_of s) s t (stepped h refuse s) (stepped h refuse t)

@@ -15,17 +15,17 @@ use Rattle.hart_step.specs.declared.hart.Cause.TheVariants.{FetchAccess, Illegal
 abbrev pub faults : Site → Cause → Site
 faults s cause = record s { hart = record s.hart { state = Faulted cause } }
 
--- what is done, unless there is a cause not to
+-- the faulted site if there is a cause, else the other one
 abbrev pub unless : Option Cause → Site → Site → Site
 unless None s done = done
 unless (Some cause) s done = faults s cause
 
--- an instruction, or a word that is none
+-- the effect of an instruction, or the fault of a word that spells none
 abbrev pub executed : Option Instr → Site → ℕ → Bool → Registers → ℕ → Site
 executed None s h refuse x pc = faults s Illegal
 executed (Some i) s h refuse x pc = unless (fault i s.memory x pc) s (effect i s h refuse x pc)
 
--- the word that was fetched, if it could be
+-- the effect of a fetched word, or the fault if the fetch failed
 abbrev pub at_word : Option ℕ → Site → ℕ → Bool → Registers → ℕ → Site
 at_word None s h refuse x pc = faults s FetchAccess
 at_word (Some word) s h refuse x pc = executed (decoded word) s h refuse x pc
@@ -36,6 +36,6 @@ by_state Running s h refuse = at_word (fetched s.memory s.hart.pc) s h refuse s.
 by_state (Exited status) s h refuse = s
 by_state (Faulted cause) s h refuse = s
 
--- what a step of hart h makes of its site
+-- the site after a step of hart h
 unfoldable pub stepped : ℕ → Bool → Site → Site
 stepped h refuse s = by_state s.hart.state s h refuse

@@ -1,4 +1,4 @@
--- What the instructions compute. Numbers are words below 2 ^ 32; sums are modulo 2 ^ 32.
+-- The values that instructions compute. Numbers are words below 2 ^ 32; sums are modulo 2 ^ 32.
 use Rattle.std.specs.Prelude.{ℕ, zero, suc, ◌+◌, ◌-◌, ◌*◌, ◌/◌, ◌%◌, ◌^◌, Bool, not, ◌==◌, nat_lt, if◌then◌else◌}
 use Rattle.isa_table.specs.Ranges.{sign_extend}
 use Rattle.isa_table.specs.declared.mnemonic.BranchOp.{BranchOp}
@@ -20,7 +20,7 @@ use Rattle.isa_table.specs.declared.mnemonic.AmoOp.TheVariants.{Amoswap, Amoadd,
 abbrev pub wrap : ℕ → ℕ
 wrap x = x % 2 ^ 32
 
--- the sum over the lowest n binary digits of what `digit` makes of a's and b's
+-- the sum over the lowest n binary digits of `digit` of a's and b's
 unfoldable pub bitwise : ℕ → (ℕ → ℕ → ℕ) → ℕ → ℕ → ℕ
 bitwise zero digit a b = 0
 bitwise (suc n) digit a b = digit (a % 2) (b % 2) + 2 * bitwise n digit (a / 2) (b / 2)
@@ -33,15 +33,15 @@ both a b = a * b
 abbrev pub either : ℕ → ℕ → ℕ
 either a b = a + b - a * b
 
--- one of two binary digits alone
+-- exactly one of two binary digits
 abbrev pub one_of : ℕ → ℕ → ℕ
 one_of a b = if a == b then 0 else 1
 
--- a is below b, read as signed words: adding 2 ^ 31 moves the negative numbers below the others
+-- a is below b as signed words: adding 2 ^ 31 moves the negative numbers below the others
 abbrev pub signed_lt : ℕ → ℕ → Bool
 signed_lt a b = nat_lt ((a + 2 ^ 31) % 2 ^ 32) ((b + 2 ^ 31) % 2 ^ 32)
 
--- a shift to the right that fills up with the sign: the floor of the signed number by 2 ^ s
+-- an arithmetic right shift: the floor of the signed number by 2 ^ s
 abbrev pub arithmetic_shift : ℕ → ℕ → ℕ
 arithmetic_shift a s = a / 2 ^ s + (if nat_lt a (2 ^ 31) then 0 else 2 ^ 32 - 2 ^ (32 - s))
 
@@ -86,7 +86,7 @@ is_taken Bge a b = not (signed_lt a b)
 is_taken Bltu a b = nat_lt a b
 is_taken Bgeu a b = not (nat_lt a b)
 
--- how many bytes a load reads
+-- the number of bytes that a load reads
 abbrev pub load_size : LoadOp → ℕ
 load_size Lb = 1
 load_size Lh = 2
@@ -94,7 +94,7 @@ load_size Lw = 4
 load_size Lbu = 1
 load_size Lhu = 2
 
--- the word that a load makes of the number that it reads (Unprivileged ISA, "Load and Store Instructions")
+-- the word that a load makes of the number read (Unprivileged ISA, "Load and Store Instructions")
 abbrev pub extended : LoadOp → ℕ → ℕ
 extended Lb number = sign_extend 8 number
 extended Lh number = sign_extend 16 number
@@ -102,13 +102,13 @@ extended Lw number = number
 extended Lbu number = number
 extended Lhu number = number
 
--- how many bytes a store writes
+-- the number of bytes that a store writes
 abbrev pub store_size : StoreOp → ℕ
 store_size Sb = 1
 store_size Sh = 2
 store_size Sw = 4
 
--- what an AMO stores, of the word that was there and the register's value (Unprivileged ISA, "Atomic Memory Operations")
+-- the word that an AMO stores (Unprivileged ISA, "Atomic Memory Operations")
 abbrev pub amo_result : AmoOp → ℕ → ℕ → ℕ
 amo_result Amoswap old b = b
 amo_result Amoadd old b = wrap (old + b)

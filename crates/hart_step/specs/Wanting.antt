@@ -1,4 +1,4 @@
--- Which steps store: only they may want memory of the host.
+-- The steps that store: only they may allocate memory of the host.
 use Rattle.std.specs.Prelude.{◌≡◌, ℕ, ◌+◌, Bool, true, not, ◌&&◌, Some, None}
 use Rattle.mem_store.specs.Access.{fetched}
 use Rattle.hart_reservations.specs.Marks.{names}
@@ -11,8 +11,8 @@ use Rattle.hart_step.specs.Fault.{store_fault}
 use Rattle.hart_step.specs.Effect.{Site}
 use Rattle.hart_step.specs.declared.hart.HartState.TheVariants.{Running}
 
--- an instruction of hart h, which has registers x, stores: it is a store or an AMO without a fault, or a store-conditional
--- without a fault that succeeds
+-- an instruction of hart h, which has registers x, stores: a store or an AMO without a fault, or a
+-- store-conditional without a fault that succeeds
 abbrev pub Stores : Instr → Site → ℕ → Bool → Registers → Type 0
 Stores (Store op rs1 rs2 imm) s h refuse x = store_fault s.memory (store_size op) (wrap (x rs1 + imm)) ≡ None
 Stores (Amo op aq rl rd rs1 rs2) s h refuse x = store_fault s.memory 4 (x rs1) ≡ None

@@ -1,4 +1,4 @@
-//! The instructions' accesses of memory, with their faults.
+//! The memory accesses of instructions, with their faults.
 ghost use Rattle.std.specs.Prelude.{◌≡◌, ◌+◌, ◌<◌, ◌%◌, ◌^◌, ℕ, None, Some, IfOk, IfErr, OnOk, OnErr, IsTrue};
 ghost use Rattle.mem_store.specs.Memory.{number_at};
 ghost use Rattle.mem_store.specs.Access.{written, Stores};
@@ -13,7 +13,7 @@ use isa_table::mnemonic::{LoadOp, StoreOp};
 use mem_store::{AccessFault, Store, StoreFault};
 use std::alloc::AllocError;
 
-/// The word of a byte that is extended by its sign.
+// A byte, sign-extended to a word.
 fn extend8(byte: u8) -> u32
     ensures { result ≡ extended LoadOp.Lb byte }
 {
@@ -24,7 +24,7 @@ fn extend8(byte: u8) -> u32
     }
 }
 
-/// The word of two bytes that are extended by their sign.
+// Two bytes, sign-extended to a word.
 fn extend16(half: u16) -> u32
     ensures { result ≡ extended LoadOp.Lh half }
 {
@@ -44,7 +44,7 @@ fn load_cause(fault: AccessFault) -> Cause
     }
 }
 
-/// What a load puts into its register, or its fault.
+/// The value that a load puts into its register, or its fault.
 #[inline]
 pub fn load<S: Store>(store: &S, op: LoadOp, address: u32) -> Result<u32, Cause>
     ensures ok { OnOk result (load_fault (S.memory store.now) (load_size op) address ≡ None) }
@@ -63,7 +63,7 @@ pub fn load<S: Store>(store: &S, op: LoadOp, address: u32) -> Result<u32, Cause>
     loaded.map_err(load_cause)
 }
 
-/// Stores the low bytes of a value.
+// Stores the low bytes of a value.
 #[inline]
 fn store_bytes<S: Store>(
     store: &mut S,
@@ -81,8 +81,9 @@ fn store_bytes<S: Store>(
     }
 }
 
-/// Stores the low bytes of a value for a hart, which ends the others' reservations of the word, or gives the fault.
-/// After a fault, or where the host refused memory, nothing has changed. It is refused only where there is no fault.
+/// Stores the low bytes of a value for a hart and ends the other harts' reservations of the word,
+/// or gives the fault. After a fault, or when out of memory, nothing has changed. A store that
+/// faults is never out of memory.
 #[inline]
 pub fn store_value<S: Store>(
     hart: usize,

@@ -1,4 +1,4 @@
-//! The access of data that an instruction has.
+//! The data access of an instruction.
 ghost use Rattle.std.specs.Prelude.{◌≡◌, ◌+◌};
 ghost use Rattle.hart_step.specs.Hart.{registers_of};
 ghost use Rattle.hart_step.specs.Values.{wrap, load_size, store_size};
@@ -10,7 +10,7 @@ use isa_table::fields::{Immediate12, Reg};
 use isa_table::instr::Instr;
 use isa_table::mnemonic::{LoadOp, StoreOp};
 
-/// What an instruction does with the bytes that it accesses.
+/// The kind of an instruction's access.
 #[derive(Clone, Copy, PartialEq, Eq)]
 pub enum AccessKind {
     /// A load reads them.
@@ -19,31 +19,32 @@ pub enum AccessKind {
     Store,
     /// LR reads them and reserves their word.
     LoadReserved,
-    /// SC writes them where it succeeds.
+    /// SC writes them if it succeeds.
     StoreConditional,
     /// An AMO reads and writes them.
     Amo,
 }
 
-/// Bytes of memory that an instruction accesses together.
+/// The bytes of memory that an instruction accesses together.
 #[derive(Clone, Copy, PartialEq, Eq)]
 pub struct Access {
-    /// What is done with them.
+    /// The kind of the access.
     pub kind: AccessKind,
     /// The first address.
     pub address: u32,
-    /// How many they are: 1, 2 or 4.
+    /// The size in bytes: 1, 2 or 4.
     pub size: u32,
 }
 
-/// The address that a load or a store names. Unprivileged ISA, "Load and Store Instructions".
+/// The address of a load or a store, rs1 + immediate. Unprivileged ISA, "Load and Store
+/// Instructions".
 pub fn effective_address(hart: &Hart, rs1: Reg, imm: Immediate12) -> u32
     ensures { result ≡ wrap (registers_of hart.now.registers rs1 + imm) }
 {
     get(hart, rs1).wrapping_add(imm.word())
 }
 
-/// How many bytes a load reads.
+// The number of bytes that a load reads.
 fn load_size(op: LoadOp) -> u32
     ensures { result ≡ load_size op }
 {
@@ -54,7 +55,7 @@ fn load_size(op: LoadOp) -> u32
     }
 }
 
-/// How many bytes a store writes.
+// The number of bytes that a store writes.
 fn store_size(op: StoreOp) -> u32
     ensures { result ≡ store_size op }
 {
@@ -65,8 +66,8 @@ fn store_size(op: StoreOp) -> u32
     }
 }
 
-/// The one access of data that an instruction of a hart has, if it has one: also where the access is a fault, and where
-/// a store-conditional does not succeed.
+/// The one data access of an instruction of a hart, if it has one; also for an access that faults,
+/// and for a store-conditional that fails.
 pub fn access_by(hart: &Hart, instr: Instr) -> Option<Access>
     ensures { result ≡ access_by instr (registers_of hart.now.registers) }
 {

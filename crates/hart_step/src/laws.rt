@@ -1,4 +1,4 @@
-//! What each step keeps, whatever the instruction.
+//! Laws: what each step keeps, for every instruction.
 ghost use Rattle.std.specs.Prelude.{ℕ, Bool};
 ghost use Rattle.hart_step.specs.Hart.{hart_of};
 ghost use Rattle.hart_step.specs.Effect.{Site};
@@ -7,22 +7,22 @@ ghost use Rattle.hart_step.specs.Laws.{Keeps, IsAligned, HasZero};
 
 use crate::hart::Hart;
 
-/// A step keeps all rights, and each byte that may not be written.
+/// A step keeps all rights, and each byte that is not writable.
 pub fn step_keeps_unwritable()
     ensures { (h : ℕ) (refuse : Bool) (s : Site) → Keeps s.memory (stepped h refuse s).memory }
 {}
 
-/// A hart whose `pc` is a multiple of 4 has such a `pc` after a step: a jump elsewhere is a fault.
+/// If `pc` is a multiple of 4 before a step, it is after it: a jump elsewhere is a fault.
 pub fn step_keeps_alignment()
     ensures { (h : ℕ) (refuse : Bool) (s : Site) → IsAligned s.hart → IsAligned (stepped h refuse s).hart }
 {}
 
-/// A hart whose `x0` is 0 has 0 there after a step.
+/// If `x0` is 0 before a step, it is after it.
 pub fn step_keeps_zero()
     ensures { (h : ℕ) (refuse : Bool) (s : Site) → HasZero s.hart → HasZero (stepped h refuse s).hart }
 {}
 
-/// In every hart that can be made `x0` reads 0.
+/// In every hart `x0` is 0.
 pub fn every_hart_has_zero(hart: &Hart)
     ensures { HasZero (hart_of hart.now) }
 {}

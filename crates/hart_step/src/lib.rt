@@ -1,4 +1,4 @@
-//! One step of one hart.
+//! One step of one hart, over any memory.
 #![tactic(auto)]
 
 pub use data_access::{Access, AccessKind, access_by};

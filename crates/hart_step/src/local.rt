@@ -1,4 +1,4 @@
-//! What an instruction does to its hart alone.
+//! The effect of instructions that change only their hart.
 ghost use Rattle.std.specs.Prelude.{◌≡◌, ◌%◌, ℕ, Bool, None, Some, IsTrue, if◌then◌else◌};
 ghost use Rattle.mem_store.specs.Memory.{Memory};
 ghost use Rattle.hart_reservations.specs.Marks.{Marks};
@@ -14,7 +14,7 @@ use crate::values::{immediate_result, is_taken, register_result, shift_result};
 use isa_table::fields::Reg;
 use isa_table::instr::Instr;
 
-/// A jump that links. Unprivileged ISA, "Unconditional Jumps".
+// A jump with link. Unprivileged ISA, "Unconditional Jumps".
 fn jump(hart: &mut Hart, rd: Reg, target: u32)
     ensures { (m : Memory) (r : Marks) → let s = site (hart_of hart.old) m r in
         site (hart_of hart.new) m r ≡ unless (jump_fault target) s
@@ -28,7 +28,7 @@ fn jump(hart: &mut Hart, rd: Reg, target: u32)
     give_and_go(hart, rd, link, target);
 }
 
-/// A branch. Unprivileged ISA, "Conditional Branches".
+// A branch. Unprivileged ISA, "Conditional Branches".
 fn branch(hart: &mut Hart, taken: bool, target: u32)
     ensures { (m : Memory) (r : Marks) → let s = site (hart_of hart.old) m r in
         site (hart_of hart.new) m r ≡ unless (if taken then jump_fault target else None) s
@@ -43,7 +43,8 @@ fn branch(hart: &mut Hart, taken: bool, target: u32)
     }
 }
 
-/// Whether an instruction looks at no memory and no reservation: register operations, jumps, branches and FENCE.
+/// Whether an instruction uses neither memory nor reservations: register operations, jumps,
+/// branches and FENCE.
 #[inline]
 pub fn is_local(instr: Instr) -> bool
     ensures { result ≡ is_local instr }
@@ -68,8 +69,9 @@ pub fn is_local(instr: Instr) -> bool
     }
 }
 
-/// A local instruction of a running hart, whatever memory and reservations there are.
-// Else the compiler leaves it a call with a jump of its own: a step of an addition then takes 66 instructions of the host, and not 53.
+/// A local instruction of a running hart; memory and reservations do not matter.
+// Without the attribute the compiler makes it a call with a jump of its own: a step of an addition
+// then takes 66 host instructions instead of 53.
 #[inline(always)]
 pub fn execute_local(hart: &mut Hart, instr: Instr)
     requires { IsTrue (is_local instr) }

@@ -1,4 +1,4 @@
-//! The instructions that touch memory, each with its fault.
+//! The instructions that access memory, each with its fault.
 ghost use Rattle.std.specs.Prelude.{◌≡◌, ◌+◌, ◌<◌, ◌%◌, ◌^◌, ◌&&◌, not, true, ℕ, None, Some, Option, OnOk, OnErr, IsTrue};
 ghost use Rattle.mem_store.specs.Memory.{number_at};
 ghost use Rattle.hart_reservations.specs.Marks.{Marks, with_mark, names, ended};
@@ -20,7 +20,7 @@ use isa_table::mnemonic::{AmoOp, LoadOp, StoreOp};
 use mem_store::{AccessFault, Store};
 use std::alloc::AllocError;
 
-/// The registers that an instruction with three of them names.
+/// The operands of an instruction with three registers.
 #[derive(Clone, Copy)]
 pub struct Operands {
     pub rd: Reg,
@@ -71,7 +71,8 @@ pub fn execute_store<S: Store>(
     Ok(())
 }
 
-/// LR.W: loads a word and reserves it for the hart. Unprivileged ISA, "Load-Reserved/Store-Conditional Instructions".
+/// LR.W: loads a word and reserves it for the hart. Unprivileged ISA,
+/// "Load-Reserved/Store-Conditional Instructions".
 #[inline]
 pub fn load_reserved<S: Store>(
     hart: &mut Hart,
@@ -98,7 +99,7 @@ pub fn load_reserved<S: Store>(
     }
 }
 
-/// The fault of a store that was refused, or of an AMO whose word cannot be loaded.
+// The fault of a store that fails, or of an AMO whose word cannot be loaded.
 fn store_cause(fault: AccessFault) -> Cause
     ensures { result ≡ store_cause_of fault }
 {
@@ -108,9 +109,10 @@ fn store_cause(fault: AccessFault) -> Cause
     }
 }
 
-/// SC.W: stores a word if the hart still has it reserved and `refuse` does not hold; `rd` gets 0, or 1 where nothing
-/// is stored. Both ways the reservation is over, but a fault leaves it. Alignment and the right to write are looked at
-/// also where nothing is stored. Unprivileged ISA, "Load-Reserved/Store-Conditional Instructions".
+/// SC.W: stores a word if the hart still has it reserved and `refuse` is false; `rd` gets 0, or 1
+/// if nothing is stored. Either way the reservation ends, but a fault keeps it. Alignment and the
+/// right to write are checked even if nothing is stored. Unprivileged ISA,
+/// "Load-Reserved/Store-Conditional Instructions".
 #[inline]
 pub fn store_conditional<S: Store>(
     hart: &mut Hart,
@@ -155,8 +157,8 @@ pub fn store_conditional<S: Store>(
     Ok(())
 }
 
-/// An AMO: `rd` gets the word that was there, and memory the operation's result, with no step of another hart between.
-/// Unprivileged ISA, "Atomic Memory Operations".
+/// An AMO: `rd` gets the old word, memory the operation's result, with no step of another hart
+/// between. Unprivileged ISA, "Atomic Memory Operations".
 #[inline]
 pub fn execute_amo<S: Store>(
     hart: &mut Hart,

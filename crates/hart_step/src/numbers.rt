@@ -1,4 +1,4 @@
-//! What the order and the shift of signed words mean.
+//! Laws: the order and the shift of signed words, over the integers.
 ghost use Rattle.std.specs.Prelude.{◌≡◌, ℕ, ◌<◌, ◌^◌, int_lt};
 ghost use Rattle.isa_table.specs.Signed.{signed_of};
 ghost use Rattle.hart_step.specs.Values.{signed_lt, arithmetic_shift};
@@ -11,7 +11,8 @@ pub fn signed_order_is_that_of_integers()
         → signed_lt a b ≡ int_lt (signed_of a) (signed_of b) }
 {}
 
-/// A shift to the right that fills up with the sign gives a word, which stands for the integer's floor by a power of 2.
+/// An arithmetic right shift gives a word; its integer is the floor of the quotient by the power of
+/// 2.
 #[tactic(auto, using(crate::proofs::SignedLemmas::shift_is))]
 pub fn arithmetic_shift_is_floor_division()
     ensures { (a places : ℕ) → a < 2 ^ 32 → places < 32 → (arithmetic_shift a places < 2 ^ 32)

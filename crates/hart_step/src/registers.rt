@@ -1,4 +1,4 @@
-//! The registers of a hart, and where it goes on.
+//! The registers of a hart, and its pc.
 ghost use Rattle.std.specs.Prelude.{◌≡◌, ◌+◌, ◌<◌, ℕ};
 ghost use Rattle.hart_step.specs.Hart.{hart_of, registers_of, put};
 ghost use Rattle.hart_step.specs.Values.{wrap};
@@ -14,7 +14,7 @@ pub fn get(hart: &Hart, register: Reg) -> u32
     hart.registers[register.number() as usize]
 }
 
-/// Gives a register a value; `x0` ignores it.
+// Sets a register; a write to `x0` is ignored.
 #[tactic(auto, using(crate::proofs::HartLemmas::zero_written))]
 fn set(hart: &mut Hart, register: Reg, value: u32)
     ensures registers { registers_of hart.new.registers
@@ -27,7 +27,7 @@ fn set(hart: &mut Hart, register: Reg, value: u32)
     }
 }
 
-/// Gives a register a value and goes on at an address.
+/// Sets a register, and pc to an address.
 pub fn give_and_go(hart: &mut Hart, register: Reg, value: u32, pc: u32)
     ensures { hart_of hart.new ≡ record (hart_of hart.old) {
       registers = put (registers_of hart.old.registers) register value;
@@ -38,7 +38,7 @@ pub fn give_and_go(hart: &mut Hart, register: Reg, value: u32, pc: u32)
     hart.pc = pc;
 }
 
-/// Gives a register a value and goes on with the next instruction.
+/// Sets a register, and pc to the next instruction.
 pub fn give(hart: &mut Hart, register: Reg, value: u32)
     ensures { hart_of hart.new ≡ record (hart_of hart.old) {
       registers = put (registers_of hart.old.registers) register value;
@@ -49,7 +49,7 @@ pub fn give(hart: &mut Hart, register: Reg, value: u32)
     give_and_go(hart, register, value, next);
 }
 
-/// Goes on with the next instruction.
+/// Sets pc to the next instruction.
 pub fn advance(hart: &mut Hart)
     ensures { hart_of hart.new ≡ record (hart_of hart.old) { pc = wrap (hart.old.pc + 4) } }
 {

@@ -23,16 +23,16 @@ use isa_table::instr::Instr;
 use mem_store::{FetchFault, Store};
 use std::alloc::AllocError;
 
-/// The register that the exit call's number is in, `a7`.
+// The register of the exit call's number, `a7`.
 const CALL_NUMBER: usize = 17;
 
-/// The register that the exit status is in, `a0`.
+// The register of the exit status, `a0`.
 const CALL_STATUS: usize = 10;
 
-/// The number of the exit call.
+// The number of the exit call.
 const EXIT: u32 = 93;
 
-/// ECALL: the exit call, or a fault.
+// ECALL: the exit call, or a fault.
 fn environment_call(hart: &mut Hart)
     ensures { (m : Memory) (r : Marks) → let s = site (hart_of hart.old) m r in
         site (hart_of hart.new) m r ≡ unless (call_fault (registers_of hart.old.registers 17)) s
@@ -45,7 +45,8 @@ fn environment_call(hart: &mut Hart)
     };
 }
 
-/// One instruction of a running hart: its local half, or what it does with memory and reservations. Only the memory of the host may refuse, and then nothing has changed.
+// One instruction of a running hart: its local half, or its effect on memory and reservations.
+// Fails only when out of memory; then nothing has changed.
 #[inline]
 fn execute<S: Store>(
     hart: &mut Hart,
@@ -106,7 +107,7 @@ fn execute<S: Store>(
     Ok(())
 }
 
-/// The fault of a hart where there is no instruction.
+// The fault of a hart at an address without an instruction.
 fn fetch_cause(fault: FetchFault) -> Cause
     ensures { result ≡ fetch_cause_of fault }
 {
@@ -116,7 +117,7 @@ fn fetch_cause(fault: FetchFault) -> Cause
     }
 }
 
-/// A step of a hart that runs: what stands at its `pc`, or the fault of a hart where there is no instruction.
+// A step of a running hart: the instruction at its `pc`, or the fault if there is none.
 #[inline]
 fn running_step<S: Store>(
     hart: &mut Hart,
@@ -143,10 +144,11 @@ fn running_step<S: Store>(
     }
 }
 
-/// One event of the machine: a step of hart `id` over the memory and the reservations that all harts share. A hart that
-/// has stopped changes nothing. Where `refuse` holds, a store-conditional does not succeed.
+/// One event of the machine: a step of hart `id` over the memory and the reservations that all
+/// harts share. A hart that has stopped changes nothing. If `refuse` holds, a store-conditional
+/// fails.
 ///
-/// Only the memory of the host may refuse, and then nothing has changed.
+/// Fails only when out of memory; then nothing has changed.
 #[tactic(auto, unfolding(crate::specs::Step::stepped))]
 pub fn step_hart<S: Store>(
     hart: &mut Hart,
@@ -160,8 +162,8 @@ pub fn step_hart<S: Store>(
         ≡ stepped id refuse (site_of hart.old (S.memory store.old) reserve.old)) }
     ensures err { OnErr result (IsTrue S.grows × (site_of hart.new (S.memory store.new) reserve.new
         ≡ site_of hart.old (S.memory store.old) reserve.old)) }
-    // Memory is wanted only for a store: the hart runs, its word is a store, an AMO, or a store-conditional that succeeds,
-    // and nothing faults.
+    // Memory is allocated only for a store: the hart runs, its word is a store, an AMO, or a
+    // store-conditional that succeeds, and nothing faults.
     ensures stores { OnErr result
         (StepStores id refuse (site_of hart.old (S.memory store.old) reserve.old)) }
 {

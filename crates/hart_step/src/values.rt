@@ -1,17 +1,17 @@
-//! What the instructions compute of words.
+//! The values that instructions compute.
 ghost use Rattle.std.specs.Prelude.{◌≡◌, ◌<◌, ◌%◌, ◌^◌, ℕ};
 ghost use Rattle.hart_step.specs.Values.{signed_lt, arithmetic_shift, flag, register_result, immediate_form, shift_form, is_taken, amo_result};
 
 use isa_table::mnemonic::{AmoOp, BranchOp, ImmediateOp, RegisterOp, ShiftOp};
 
-/// Whether `a` is below `b`, read as signed words.
+// Whether `a` is below `b` as signed words.
 fn is_below_signed(a: u32, b: u32) -> bool
     ensures { result ≡ signed_lt a b }
 {
     a.wrapping_add(0x8000_0000) < b.wrapping_add(0x8000_0000)
 }
 
-/// A shift to the right that fills up with the sign.
+// An arithmetic right shift.
 #[tactic(auto, using(crate::proofs::Words::high_ones, crate::proofs::Words::shift_room))]
 fn shift_right_signed(a: u32, places: u32) -> u32
     requires { places < 32 }
@@ -24,7 +24,7 @@ fn shift_right_signed(a: u32, places: u32) -> u32
     }
 }
 
-/// What a register-register operation gives.
+/// The result of a register-register operation.
 #[tactic(auto, using(crate::proofs::Words::xor_is, crate::proofs::Words::and_is, crate::proofs::Words::or_is))]
 pub fn register_result(op: RegisterOp, a: u32, b: u32) -> u32
     ensures { result ≡ register_result op a b }
@@ -43,7 +43,7 @@ pub fn register_result(op: RegisterOp, a: u32, b: u32) -> u32
     }
 }
 
-/// What an operation with an immediate gives.
+/// The result of an operation with an immediate.
 #[tactic(auto, using(crate::proofs::Words::xor_is, crate::proofs::Words::and_is, crate::proofs::Words::or_is))]
 pub fn immediate_result(op: ImmediateOp, a: u32, immediate: u32) -> u32
     ensures { result ≡ register_result (immediate_form op) a immediate }
@@ -58,7 +58,7 @@ pub fn immediate_result(op: ImmediateOp, a: u32, immediate: u32) -> u32
     }
 }
 
-/// What a shift by an immediate gives.
+/// The result of a shift by an immediate.
 pub fn shift_result(op: ShiftOp, a: u32, places: u32) -> u32
     requires { places < 32 }
     ensures { result ≡ register_result (shift_form op) a places }
@@ -84,7 +84,7 @@ pub fn is_taken(op: BranchOp, a: u32, b: u32) -> bool
     }
 }
 
-/// What an AMO stores, of the word that was there and the register's value.
+/// The word that an AMO stores, given the old word and the register's value.
 #[tactic(auto, using(crate::proofs::Words::xor_is, crate::proofs::Words::and_is, crate::proofs::Words::or_is))]
 pub fn amo_result(op: AmoOp, old: u32, operand: u32) -> u32
     ensures { result ≡ amo_result op old operand }

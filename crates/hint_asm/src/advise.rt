@@ -1,4 +1,4 @@
-//! The advice on a fault of a source.
+//! The explanation of a source's fault.
 
 use crate::diagnose::statement_fault;
 use crate::found::{Among, Found};
@@ -11,10 +11,10 @@ use asm_parse::{Fault, FaultKind};
 use hint_text::{Sentence, Value, line_at, nearest, push_line, push_mark, push_sentence};
 use std::alloc::{AllocError, Allocator};
 
-// A name of fewer edits than these may be the one that is meant.
+// A name with a smaller edit distance may be the intended one.
 const EDITS: usize = 3;
 
-/// A source with the path by which it was named.
+/// A source with its path as it was given.
 #[derive(Clone, Copy)]
 pub struct SourceText<'a> {
     /// The path.
@@ -23,8 +23,9 @@ pub struct SourceText<'a> {
     pub text: &'a str,
 }
 
-/// The advice on a fault of sources, as whole lines: the source's path, the line's number, what is wrong and what to write; the line itself; and a mark
-/// under the part that is meant. Nothing where the fault's line isn't there.
+/// The explanation of a fault of sources, as whole lines: the source's path, the line's number,
+/// what is wrong and what to write; the line itself; and a mark under the part in question. Empty
+/// if the fault's line doesn't exist.
 pub fn asm_advice<A: Allocator + Copy>(
     alloc: A,
     sources: &[SourceText<'_>],
@@ -41,7 +42,7 @@ pub fn asm_advice<A: Allocator + Copy>(
     Ok(text)
 }
 
-// What is wrong with a line of sources, where its fault is of this kind.
+// What is wrong with a line of sources, given the kind of its fault.
 fn found_in<'a, A: Allocator + Copy>(
     alloc: A,
     sources: &[SourceText<'a>],
@@ -56,7 +57,7 @@ fn found_in<'a, A: Allocator + Copy>(
     }
 }
 
-// What was found, with the name that is maybe meant.
+// What was found, with the name that may be intended.
 fn with_nearest<'a, A: Allocator + Copy>(
     alloc: A,
     found: Found<'a>,
@@ -73,7 +74,7 @@ fn with_nearest<'a, A: Allocator + Copy>(
     Ok(Some(Found { sentence, ..found }))
 }
 
-// The names among which one may be meant by a name.
+// The names among which the intended one may be.
 fn names_among<'a, A: Allocator + Copy>(
     alloc: A,
     among: Among,
@@ -87,7 +88,6 @@ fn names_among<'a, A: Allocator + Copy>(
     Ok(names)
 }
 
-// The names of rows.
 fn names_in<A: Allocator>(alloc: A, rows: &[Row]) -> Result<Vec<&'static str, A>, AllocError> {
     let mut names = Vec::new(alloc);
     'rows: for row in rows {
@@ -96,7 +96,6 @@ fn names_in<A: Allocator>(alloc: A, rows: &[Row]) -> Result<Vec<&'static str, A>
     Ok(names)
 }
 
-// The names of labels.
 fn names_of<'a, A: Allocator>(
     alloc: A,
     labels: &[Label<'a>],
@@ -141,7 +140,7 @@ fn push_shown<A: Allocator>(
     }
 }
 
-// Adds the line with the mark under what was found in another one.
+// Appends a line with the mark under what was found in another one.
 fn push_marks<A: Allocator>(
     text: &mut String<A>,
     line: &str,
@@ -155,7 +154,7 @@ fn push_marks<A: Allocator>(
     text.push('\n')
 }
 
-// What is wrong with a line, where its fault is of this kind.
+// What is wrong with a line, given the kind of its fault.
 fn line_fault<'a, A: Allocator>(
     kind: FaultKind,
     line: &'a str,
@@ -203,7 +202,7 @@ fn token_fault<'a>(line: &'a str, fault: TextFault) -> Option<Found<'a>> {
     })
 }
 
-// The letters, digits and signs of names from a place on.
+// The letters, digits and signs of names from an offset on.
 fn word_at(line: &str, at: usize) -> &str {
     let bytes = line.as_bytes();
     let (_, rest) = bytes.split_at(at.min(bytes.len()));

@@ -1,4 +1,4 @@
-//! What is wrong with a statement, by the kind of its fault.
+//! What is wrong with a statement, given the kind of its fault.
 
 use crate::found::{Among, Found};
 use crate::labels::{Label, is_defined};
@@ -16,7 +16,7 @@ use asm_lex::Kind;
 use asm_parse::FaultKind;
 use hint_text::{Form, Sentence, told_of};
 
-// Whether some name of rows is this one but for small letters.
+// Whether some name of rows is this one in lower case.
 fn is_in_capitals(rows: &[Row], name: &str) -> bool {
     'rows: for row in rows {
         if row
@@ -30,7 +30,7 @@ fn is_in_capitals(rows: &[Row], name: &str) -> bool {
     false
 }
 
-// What is said of others' instructions and directives.
+// What is known of other assemblers' instructions and directives.
 fn foreign(name: &str) -> Option<&'static str> {
     if name.starts_with(".") {
         told_of(&FOREIGN_DIRECTIVES, name)
@@ -39,7 +39,7 @@ fn foreign(name: &str) -> Option<&'static str> {
     }
 }
 
-// What is wrong with the name that a statement begins with.
+// What is wrong with the first name of a statement.
 fn head_fault<'a>(head: &Word<'a>, rest: &[Word<'a>]) -> Option<Found<'a>> {
     let name = head.text;
     if !head.is(Kind::Name) {
@@ -63,7 +63,7 @@ fn head_fault<'a>(head: &Word<'a>, rest: &[Word<'a>]) -> Option<Found<'a>> {
     Some(Found::none_of(Among::Heads, head, form, NEAR_INSTRUCTION))
 }
 
-// What is wrong with a directive, or with what stands in `.bss`.
+// What is wrong with a directive, or with a statement in `.bss`.
 fn directive_fault<'a>(head: &Word<'a>) -> Found<'a> {
     let name = head.text;
     if shape_of(name).is_some() {
@@ -110,7 +110,7 @@ fn local_fault<'a>(operands: &[Word<'a>]) -> Option<Found<'a>> {
     None
 }
 
-// What is said of an instruction that goes too far, where one can.
+// The sentence for an instruction whose target is too far, if it has one.
 fn too_far(name: &str) -> Option<Form> {
     match shape_of(name)? {
         Shape::Branch | Shape::Zero => Some(BRANCH_TOO_FAR),
@@ -119,7 +119,7 @@ fn too_far(name: &str) -> Option<Form> {
     }
 }
 
-// What is said of an address that is no multiple of what it should be.
+// The sentence for a misaligned address.
 fn align_form(name: &str) -> Form {
     match name {
         ".align" | ".p2align" => ALIGNMENT,
@@ -127,7 +127,7 @@ fn align_form(name: &str) -> Form {
     }
 }
 
-/// What is wrong with a statement without its labels, where its fault is of this kind.
+/// What is wrong with a statement without its labels, given the kind of its fault.
 pub(crate) fn statement_fault<'a>(
     kind: FaultKind,
     statement: &[Word<'a>],

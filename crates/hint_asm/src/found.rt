@@ -1,9 +1,9 @@
-//! What was found in a line.
+//! What was found wrong in a line.
 
 use crate::statement::Word;
 use hint_text::{Form, Sentence};
 
-/// Among which names the one that is meant may be.
+/// The names among which the intended one may be.
 #[derive(Clone, Copy)]
 pub(crate) enum Among {
     /// Those of instructions and directives.
@@ -11,7 +11,7 @@ pub(crate) enum Among {
     Labels,
 }
 
-/// A name that is none, and how it is said which one is maybe meant: of both.
+/// An unknown name, and the sentence with the nearest one.
 #[derive(Clone, Copy)]
 pub(crate) struct Near<'a> {
     pub(crate) among: Among,
@@ -22,11 +22,11 @@ pub(crate) struct Near<'a> {
 /// What is wrong with a part of a line.
 #[derive(Clone, Copy)]
 pub(crate) struct Found<'a> {
-    /// Where the part begins, in bytes from the line's start.
+    /// The part's first byte, as an offset in the line.
     pub(crate) start: usize,
-    /// How many characters it has.
+    /// Its length in characters.
     pub(crate) len: usize,
-    /// What is said where no name is near.
+    /// The sentence if no name is near.
     pub(crate) sentence: Sentence<'a>,
     pub(crate) near: Option<Near<'a>>,
 }
@@ -42,12 +42,12 @@ impl<'a> Found<'a> {
         }
     }
 
-    /// What is wrong with a word that says itself what its sentence is on.
+    /// What is wrong with a word that is the first value of its sentence.
     pub(crate) fn on(word: &Word<'a>, form: Form) -> Found<'a> {
         Found::at(word, Sentence::of(form, word.text))
     }
 
-    /// What is said of a word that is none of some names, and with the one that is near, where there is one.
+    /// What is wrong with an unknown name, and the sentence with the nearest one, if there is one.
     pub(crate) fn none_of(among: Among, word: &Word<'a>, form: Form, near: Form) -> Found<'a> {
         Found {
             near: Some(Near {

@@ -69,7 +69,7 @@ pub(crate) fn is_defined(labels: &[Label<'_>], name: &str) -> bool {
     false
 }
 
-// The first label of a name that another one has too.
+// The first label whose name another one has too.
 fn first_of_two<'a>(labels: &[Label<'a>], name: &str) -> Option<Label<'a>> {
     let mut first = None;
     'labels: for label in labels {
@@ -83,7 +83,7 @@ fn first_of_two<'a>(labels: &[Label<'a>], name: &str) -> Option<Label<'a>> {
     None
 }
 
-// What is wrong with a label, where another one has its name.
+// What is wrong with a label, if another one has its name.
 fn label_fault<'a>(word: &Word<'a>, labels: &[Label<'a>]) -> Option<Found<'a>> {
     let first = first_of_two(labels, word.name())?;
     let values = [

@@ -1,5 +1,5 @@
-//! What is wrong with an assembler source, where, and what to write instead, for a person. The assembler's own line says the kind and the line; this
-//! looks at the line again, shows it with a mark under what the kind means, and says it in a sentence.
+//! Explains a fault of an assembler source: the line with a mark, and what to write. The
+//! assembler's own line has the kind and the line number; this crate looks at that line again.
 #![tactic(auto)]
 
 pub use advise::{SourceText, asm_advice};

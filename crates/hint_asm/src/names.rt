@@ -1,4 +1,5 @@
-//! Names of registers, and names of other assemblers and of other extensions with what to write here.
+//! Names of registers, and names of other assemblers and of other extensions with what to write
+//! here.
 
 /// The names of registers.
 pub(crate) const REGISTERS: [&str; 65] = [
@@ -9,7 +10,8 @@ pub(crate) const REGISTERS: [&str; 65] = [
     "a1", "a2", "a3", "a4", "a5", "a6", "a7",
 ];
 
-/// Instructions that are none of RV32I and A, or that others name otherwise, with what they are or what to write.
+/// Instructions outside RV32I and A, or with other names elsewhere, with what they are or what to
+/// write.
 pub(crate) const FOREIGN_INSTRUCTIONS: [(&[&str], &str); 9] = [
     (
         &[

@@ -16,7 +16,6 @@ pub(crate) fn is_register(name: &str) -> bool {
     has_name(&REGISTERS, name)
 }
 
-// Whether a name is one of some.
 fn has_name(names: &[&str], name: &str) -> bool {
     names.contains(&name)
 }
@@ -34,7 +33,7 @@ fn begins_operand(word: &Word<'_>) -> bool {
     )
 }
 
-// A sign that others write for a comment or for a character.
+// A sign that other assemblers use for a comment or a character.
 fn foreign_sign<'a>(operands: &[Word<'a>]) -> Option<Found<'a>> {
     let mut after_slash = false;
     'words: for word in operands {
@@ -61,7 +60,7 @@ fn without_comma<'a>(operands: &[Word<'a>]) -> Option<Found<'a>> {
     None
 }
 
-// How many operands stand between the commas.
+// Number of operands, by the commas.
 fn count_of(operands: &[Word<'_>]) -> usize {
     if operands.is_empty() {
         return 0;
@@ -75,7 +74,7 @@ fn count_of(operands: &[Word<'_>]) -> usize {
     count
 }
 
-// Whether an instruction takes so many operands.
+// Whether an instruction takes this number of operands.
 fn takes(row: &Row, count: usize) -> bool {
     match row.shape {
         Shape::Directive => true,
@@ -86,7 +85,7 @@ fn takes(row: &Row, count: usize) -> bool {
     }
 }
 
-// Another number of operands than an instruction takes.
+// A wrong number of operands.
 fn count_fault<'a>(name: &Word<'a>, row: &Row, given: usize) -> Option<Found<'a>> {
     if takes(row, given) {
         return None;
@@ -95,7 +94,7 @@ fn count_fault<'a>(name: &Word<'a>, row: &Row, given: usize) -> Option<Found<'a>
     Some(Found::at(name, sentence))
 }
 
-// What to write in place of a load or a store of this by a name.
+// What to write instead of a load or a store by name.
 fn by_name_form(name: &str, value: &str) -> Form {
     if name.starts_with("l") {
         LOAD_BY_NAME
@@ -106,7 +105,7 @@ fn by_name_form(name: &str, value: &str) -> Form {
     }
 }
 
-// Whether a name stands where a load or a store takes an address, and not where a register is meant.
+// Whether there is a name in place of a load's or a store's address, where no register is intended.
 fn by_name<'a>(name: &Word<'a>, shape: Shape, operands: &[Word<'a>]) -> Option<Found<'a>> {
     let [value, comma, symbol] = operands else {
         return None;
@@ -120,7 +119,7 @@ fn by_name<'a>(name: &Word<'a>, shape: Shape, operands: &[Word<'a>]) -> Option<F
     Some(Found::at(symbol, sentence))
 }
 
-// Whether an operand has the form that is wanted.
+// Whether an operand has the expected form.
 fn fits(wanted: Operand, first: &Word<'_>, len: usize) -> bool {
     match wanted {
         Operand::Register => len == 1 && first.is(Kind::Name),
@@ -151,7 +150,7 @@ fn part_fault<'a>(
     Some(Found::at(first, Sentence::of_three(WANTED, name.text, takes, wanted)))
 }
 
-// The first operand of another form than is wanted.
+// The first operand of an unexpected form.
 fn misfit<'a>(
     name: &Word<'a>,
     takes: &'static str,
@@ -168,7 +167,8 @@ fn misfit<'a>(
     None
 }
 
-// The first operand of another form, where they are as many as the instruction takes: `jal` and `jalr` may leave the first out.
+// The first operand of an unexpected form, if their number is right: `jal` and `jalr` may leave the
+// first out.
 fn form_fault<'a>(
     name: &Word<'a>,
     row: &Row,
@@ -182,7 +182,7 @@ fn form_fault<'a>(
     }
 }
 
-// What is said where nothing else is found: what the name takes.
+// The sentence if nothing else is found: what the name takes.
 fn any_fault<'a>(name: &Word<'a>, row: &Row) -> Found<'a> {
     match name.text {
         ".ascii" | ".asciz" | ".string" => Found::on(name, STRINGS),
@@ -190,7 +190,7 @@ fn any_fault<'a>(name: &Word<'a>, row: &Row) -> Found<'a> {
     }
 }
 
-/// What is wrong with the operands of a statement that are not as many, or not of the forms, that its name takes.
+/// What is wrong with the operands of a statement whose number or forms its name doesn't take.
 pub(crate) fn operand_fault<'a>(name: &Word<'a>, operands: &[Word<'a>]) -> Option<Found<'a>> {
     let row = row_of(name.text)?;
     let given = count_of(operands);
@@ -202,7 +202,7 @@ pub(crate) fn operand_fault<'a>(name: &Word<'a>, operands: &[Word<'a>]) -> Optio
         .or(Some(any_fault(name, row)))
 }
 
-/// The first name in a register's place that is none.
+/// The first unknown name in a register's place.
 pub(crate) fn register_fault<'a>(operands: &[Word<'a>]) -> Option<Found<'a>> {
     // `%lo`, its parenthesis and its name are no registers.
     let mut passed = 0u8;
@@ -222,7 +222,7 @@ pub(crate) fn register_fault<'a>(operands: &[Word<'a>]) -> Option<Found<'a>> {
     None
 }
 
-// The first register whose name this is but for capitals or a `$`.
+// The first register with this name but for capitals or a `$`.
 fn register_like<'a>(registers: &[&'a str], name: &str) -> Option<&'a str> {
     let plain = name.strip_prefix("$").unwrap_or(name);
     'registers: for register in registers {

@@ -34,7 +34,7 @@ fn first_outside<'a>(operands: &[Word<'a>], range: Range) -> Option<Word<'a>> {
     None
 }
 
-// What to say of a number out of a range.
+// The sentence for a number out of a range.
 fn range_sentence<'a>(instruction: &'a str, shape: Shape, range: Range) -> Sentence<'a> {
     match shape {
         Shape::Immediate | Shape::Memory => Sentence::of(TOO_LARGE_IMMEDIATE, instruction),

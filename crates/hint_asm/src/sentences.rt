@@ -1,10 +1,10 @@
-//! The sentences: what is wrong, and what to write. Where not said otherwise, the first value of a sentence is the word that is wrong or the name that its
-//! statement begins with.
+//! The sentences: what is wrong, and what to write. By default the first value of a sentence is the
+//! wrong word, or the name that its statement begins with.
 
 use hint_text::Form;
 use hint_text::Part::{First, Second, Third, Words};
 
-/// What stands before a sentence: a source's path, and as the third value the line's number.
+/// The text before a sentence: a source's path, and as the third value the line's number.
 pub(crate) const HEAD: Form = &[First, Words(":"), Third, Words(":")];
 
 /// A byte that no token begins with.
@@ -12,7 +12,7 @@ pub(crate) const BAD_BYTE: Form = &[Words(
     "this character can't stand here: outside of comments a source is printable ASCII",
 )];
 
-/// A word that begins with a digit and is no number.
+/// A word that begins with a digit but is no number.
 pub(crate) const BAD_NUMBER: Form = &[
     First,
     Words(
@@ -33,13 +33,13 @@ pub(crate) const CHARACTER: Form = &[Words(
     "there are no character constants: write the number, as 65 or 0x41 for A",
 )];
 
-/// A statement begins with something else than a name.
+/// A statement that begins with no name.
 pub(crate) const NO_HEAD: Form = &[
     First,
     Words(" begins no statement: write an instruction, a directive, or a label with a colon"),
 ];
 
-/// A name of another extension or of others' assemblers, and what is said of it.
+/// A name of another extension or assembler, and what is known of it.
 pub(crate) const FOREIGN: Form = &[First, Words(" "), Second];
 
 /// A name in capitals.
@@ -56,13 +56,13 @@ pub(crate) const LABEL_WITHOUT_COLON: Form = &[
     Words(":"),
 ];
 
-/// No instruction has this name.
+/// An unknown instruction.
 pub(crate) const NO_INSTRUCTION: Form = &[
     First,
     Words(" is no instruction of RV32I or A, and no pseudo-instruction"),
 ];
 
-/// No instruction has this name, and maybe this other one is meant.
+/// An unknown instruction, and a near one.
 pub(crate) const NEAR_INSTRUCTION: Form = &[
     First,
     Words(" is no instruction: is "),
@@ -70,13 +70,13 @@ pub(crate) const NEAR_INSTRUCTION: Form = &[
     Words(" meant?"),
 ];
 
-/// No directive has this name.
+/// An unknown directive.
 pub(crate) const NO_DIRECTIVE: Form = &[
     First,
     Words(" is no directive here: docs/ASSEMBLER.md lists them"),
 ];
 
-/// No directive has this name, and maybe this other one is meant.
+/// An unknown directive, and a near one.
 pub(crate) const NEAR_DIRECTIVE: Form = &[
     First,
     Words(" is no directive here: is "),
@@ -136,7 +136,7 @@ pub(crate) const NO_COMMA: Form = &[
     Words("; a second statement wants a line of its own, or a ; before it"),
 ];
 
-/// Another number of operands: the instruction, what it takes, and how many are given.
+/// A wrong number of operands: the instruction, what it takes, and the number given.
 pub(crate) const COUNT: Form = &[
     First,
     Words(" takes "),
@@ -146,7 +146,7 @@ pub(crate) const COUNT: Form = &[
     Words(" operands are given"),
 ];
 
-/// An operand of another sort: the instruction, what it takes, and what is wanted here.
+/// An operand of another kind: the instruction, what it takes, and what is expected here.
 pub(crate) const WANTED: Form = &[
     Words("here "),
     First,
@@ -183,7 +183,7 @@ pub(crate) const NO_REGISTER: Form = &[
     ),
 ];
 
-/// A register that another assembler writes otherwise, and its name.
+/// A register with another name in other assemblers, and its name here.
 pub(crate) const REGISTER_BY: Form = &[First, Words(" is no register: write "), Second];
 
 /// A number out of a range: the instruction, and the range's ends.
@@ -196,7 +196,7 @@ pub(crate) const OUT_OF_RANGE: Form = &[
     Words(" here"),
 ];
 
-/// A number of `addi` that wants two instructions.
+/// A number of `addi` that takes two instructions.
 pub(crate) const TOO_LARGE_IMMEDIATE: Form = &[
     First,
     Words(
@@ -204,7 +204,7 @@ pub(crate) const TOO_LARGE_IMMEDIATE: Form = &[
     ),
 ];
 
-/// A name that is nowhere defined.
+/// An undefined name.
 pub(crate) const UNDEFINED: Form = &[
     First,
     Words(" is nowhere defined: write "),
@@ -212,7 +212,7 @@ pub(crate) const UNDEFINED: Form = &[
     Words(": before what it names"),
 ];
 
-/// A name that is nowhere defined, and the one that is maybe meant.
+/// An undefined name, and the nearest label.
 pub(crate) const NEAR_LABEL: Form = &[
     First,
     Words(" is nowhere defined: is "),
@@ -220,7 +220,7 @@ pub(crate) const NEAR_LABEL: Form = &[
     Words(" meant?"),
 ];
 
-/// A local label that doesn't follow: its digits.
+/// A local label that isn't defined after this place: its digits.
 pub(crate) const NONE_AHEAD: Form = &[
     Words("no "),
     First,
@@ -229,7 +229,7 @@ pub(crate) const NONE_AHEAD: Form = &[
     Words("b is the last one before"),
 ];
 
-/// A local label that doesn't stand before: its digits.
+/// A local label that isn't defined before this place: its digits.
 pub(crate) const NONE_BEFORE: Form = &[
     Words("no "),
     First,
@@ -238,7 +238,7 @@ pub(crate) const NONE_BEFORE: Form = &[
     Words("f is the next one"),
 ];
 
-/// A label that stands there already: its name, and the path and the line where it stands.
+/// A label that is already defined: its name, and the path and line of its definition.
 pub(crate) const TWICE: Form = &[
     First,
     Words(" is defined at "),
@@ -264,7 +264,7 @@ pub(crate) const JUMP_TOO_FAR: Form = &[
     Words(" reaches 1 MiB back or ahead, to even addresses: write la t0, label and jr t0"),
 ];
 
-/// An instruction at no multiple of 4.
+/// An instruction at an address that isn't a multiple of 4.
 pub(crate) const UNALIGNED: Form = &[Words(
     "an instruction stands at a multiple of 4: write .align 2 before it",
 )];

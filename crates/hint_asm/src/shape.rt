@@ -1,6 +1,6 @@
 //! The operands that each instruction takes.
 
-/// What an operand is.
+/// A kind of operand.
 #[derive(Clone, Copy, PartialEq, Eq)]
 pub(crate) enum Operand {
     Register,
@@ -20,7 +20,7 @@ pub(crate) enum Operand {
 }
 
 impl Operand {
-    /// How documents write it.
+    /// Its name in documents.
     pub(crate) fn name(self) -> &'static str {
         match self {
             Operand::Register => "a register",
@@ -36,7 +36,7 @@ impl Operand {
     }
 }
 
-/// The operands of instructions that are written alike.
+/// The operands of instructions with the same syntax.
 #[derive(Clone, Copy, PartialEq, Eq)]
 pub(crate) enum Shape {
     Upper,
@@ -61,42 +61,43 @@ pub(crate) enum Shape {
     Directive,
 }
 
-/// From where to where the numbers of instructions or directives go.
+/// The range of the numbers of instructions or directives.
 #[derive(Clone, Copy)]
 pub(crate) struct Range {
     pub(crate) from: i64,
     pub(crate) to: i64,
 }
 
-// The numbers of 32 bits, with a sign or without.
+// The numbers of 32 bits, signed or unsigned.
 const WORDS: Option<Range> = Some(Range {
     from: -2147483648,
     to: 4294967295,
 });
 
-// The numbers of 12 bits with a sign.
+// The signed numbers of 12 bits.
 const IMMEDIATES: Option<Range> = Some(Range {
     from: -2048,
     to: 2047,
 });
 
-/// Instructions or directives that are written alike.
+/// Instructions or directives with the same syntax.
 #[derive(Clone, Copy)]
 pub(crate) struct Row {
     pub(crate) shape: Shape,
     pub(crate) names: &'static [&'static str],
-    /// Their operands as documents write them.
+    /// Their operands in documents' notation.
     pub(crate) takes: &'static str,
-    /// Their operands in order; none of fences and directives, whose number is not fixed.
+    /// Their operands in order; none for fences, and for directives, whose number of operands
+    /// varies.
     pub(crate) operands: &'static [Operand],
-    /// The range of their numbers; none of those that take none, and of labels.
+    /// The range of their numbers; `None` for those that take none, and for labels.
     pub(crate) range: Option<Range>,
 }
 
-// What an atomic instruction's name may end with.
+// The endings of an atomic instruction's name.
 const SUFFIXES: [&str; 3] = [".aqrl", ".aq", ".rl"];
 
-// A suffix of an atomic instruction's name is left off.
+// An atomic instruction's name without its ending.
 fn plain_name(name: &str) -> &str {
     'suffixes: for suffix in SUFFIXES {
         if let Some(front) = name.strip_suffix(suffix) {
@@ -116,7 +117,7 @@ fn row_in<'r>(rows: &'r [Row], name: &str) -> Option<&'r Row> {
     None
 }
 
-/// The rows of directives for a name with a point in front, and those of instructions for others.
+/// The rows of directives for a name that begins with a point, else those of instructions.
 pub(crate) fn rows_for(name: &str) -> &'static [Row] {
     if name.starts_with(".") {
         &DIRECTIVES
@@ -125,18 +126,17 @@ pub(crate) fn rows_for(name: &str) -> &'static [Row] {
     }
 }
 
-/// The row of an instruction, or of a directive that is known; none of another name.
+/// The row of an instruction or of a known directive; `None` for another name.
 pub(crate) fn row_of(name: &str) -> Option<&'static Row> {
     row_in(rows_for(name), plain_name(name))
 }
 
-/// The shape of an instruction or of a directive; none of another name.
+/// The shape of an instruction or of a directive; `None` for another name.
 pub(crate) fn shape_of(name: &str) -> Option<Shape> {
     let row = row_of(name)?;
     Some(row.shape)
 }
 
-// The instructions.
 const INSTRUCTIONS: [Row; 19] = [
     Row {
         shape: Shape::Upper,
@@ -291,7 +291,6 @@ const INSTRUCTIONS: [Row; 19] = [
     },
 ];
 
-// The directives.
 const DIRECTIVES: [Row; 8] = [
     Row {
         shape: Shape::Nothing,

@@ -18,20 +18,20 @@ impl<'a> Word<'a> {
         self.kind == kind
     }
 
-    /// Its text where it is a name, else nothing.
+    /// Its text if it is a name, else an empty one.
     pub(crate) fn name(&self) -> &'a str {
         if self.is(Kind::Name) { self.text } else { "" }
     }
 }
 
-/// The tokens of a line up to the first that is none.
+/// The tokens of a line up to the first bytes that are none.
 #[derive(Drop)]
 pub(crate) struct LineWords<'a, A: Allocator> {
     pub(crate) words: Vec<Word<'a>, A>,
     pub(crate) fault: Option<TextFault>,
 }
 
-/// Cuts a line into its tokens.
+/// Splits a line into its tokens.
 pub(crate) fn read_words<'a, A: Allocator + Copy>(
     alloc: A,
     line: &'a str,
@@ -47,7 +47,6 @@ pub(crate) fn read_words<'a, A: Allocator + Copy>(
     })
 }
 
-// A token of a line with its text.
 fn word_of<'a>(line: &'a str, token: &Token) -> Word<'a> {
     Word {
         kind: token.kind,
@@ -56,7 +55,7 @@ fn word_of<'a>(line: &'a str, token: &Token) -> Word<'a> {
     }
 }
 
-/// The words behind the labels at the front.
+/// The words after the labels at the front.
 pub(crate) fn behind_labels<'w, 'a>(words: &'w [Word<'a>]) -> &'w [Word<'a>] {
     let mut rest = words;
     'labels: for _ in 0..words.len() {

@@ -1,4 +1,4 @@
-//! The debugger for a person at a terminal: what is shown beside its answers.
+//! What the debugger shows at a terminal beside its answers.
 #![tactic(auto)]
 
 pub use greeting::GREETING;

@@ -1,4 +1,4 @@
-//! What is told of a line that was typed.
+//! The hints on a typed line.
 
 use debug_text::{Command, read_command};
 use hint_fault::segment_at;
@@ -8,7 +8,7 @@ use image::{Rights, Segment};
 use isa_names::Word;
 use std::alloc::{AllocError, Allocator};
 
-// What each command takes.
+// The operands of each command.
 const TAKES: [(&[&str], &str); 7] = [
     (&["where", "go", "rgo", "quit"], "stands alone"),
     (&["goto"], "takes a decimal number of choices, as goto 7"),
@@ -28,7 +28,7 @@ const TAKES: [(&[&str], &str); 7] = [
     ),
 ];
 
-// A command, and what it takes.
+// A command and its operands.
 const COMMAND_TAKES: Form = &[First, Words(" "), Second, Words("\n")];
 
 // Another word than a command.
@@ -41,13 +41,12 @@ fn word_of(line: &str, number: usize) -> Option<&str> {
     line.split(' ').filter(|word| !word.is_empty()).nth(number)
 }
 
-// Whether an address was typed in decimal that looks like hexadecimal: with zeros in front, or with eight digits.
+// Whether a decimal address looks hexadecimal: with leading zeros, or with eight digits.
 fn looks_hexadecimal(operand: &str) -> bool {
     !operand.starts_with("0x")
         && (operand.len() >= 8 || (operand.starts_with("0") && operand.len() > 1))
 }
 
-// The address that a command takes.
 fn address_of(command: Command) -> Option<u32> {
     match command {
         Command::Break(address) | Command::Watch(address) | Command::Mem { address, .. } => {
@@ -57,7 +56,7 @@ fn address_of(command: Command) -> Option<u32> {
     }
 }
 
-// Adds that an address was read as decimal, where it was and looks hexadecimal.
+// Appends that an address was read as decimal, if it was and looks hexadecimal.
 fn push_decimal<A: Allocator>(
     text: &mut String<A>,
     operand: &str,
@@ -73,7 +72,7 @@ fn push_decimal<A: Allocator>(
     )
 }
 
-// Whether an address may be executed.
+// Whether an address is executable.
 fn is_code<A: Allocator>(segments: &[Segment<A>], address: u32) -> bool {
     match segment_at(segments, address) {
         Some(segment) => segment.rights.grants(Rights::EXECUTE),
@@ -81,7 +80,7 @@ fn is_code<A: Allocator>(segments: &[Segment<A>], address: u32) -> bool {
     }
 }
 
-// Adds why no hart can come to a breakpoint.
+// Appends why no hart can reach a breakpoint.
 fn push_unreached<A: Allocator>(
     text: &mut String<A>,
     segments: &[Segment<A>],
@@ -103,8 +102,9 @@ fn push_unreached<A: Allocator>(
     }
 }
 
-/// What is told of a line, as whole lines: that an address was read as decimal though it looks hexadecimal, that no hart can come to a breakpoint, or, where
-/// it is no command, that something else was typed than they are; nothing of others.
+/// The hints on a line, as whole lines: that an address was read as decimal though it looks
+/// hexadecimal, that no hart can reach a breakpoint, or, if it is no command, what the commands
+/// are; empty for other lines.
 pub fn line_advice<A: Allocator + Copy>(
     alloc: A,
     segments: &[Segment<A>],
@@ -118,7 +118,7 @@ pub fn line_advice<A: Allocator + Copy>(
     Ok(text)
 }
 
-// Adds what is told of a line that was read as a command.
+// Appends the hints on a line that is a command.
 fn push_read<A: Allocator>(
     text: &mut String<A>,
     segments: &[Segment<A>],
@@ -134,7 +134,7 @@ fn push_read<A: Allocator>(
     }
 }
 
-// What is told of a line that is no command, and begins with this word.
+// The hint on a line that is no command, by its first word.
 fn unread<'a>(name: &'a str) -> Sentence<'a> {
     match told_of(&TAKES, name) {
         Some(takes) => Sentence::of_two(COMMAND_TAKES, name, takes),

@@ -1,4 +1,4 @@
-//! What comes next.
+//! The next step.
 
 use debug_session::Debugger;
 use elf_read::Symbol;
@@ -7,8 +7,8 @@ use hint_fault::{push_instruction, push_standing};
 use mem_store::Store;
 use std::alloc::{AllocError, Allocator};
 
-/// The line of what comes next at a debugger's position: the hart, where it stands, by the label before too, and its instruction; that it has
-/// stopped; or that no choice is left.
+/// The line of the next step at a debugger's position: the hart, its place, with the label before
+/// it, and its instruction; that it has stopped; or that no choice is left.
 pub fn next_text<A: Allocator + Copy>(
     alloc: A,
     debugger: &Debugger<A>,
@@ -22,7 +22,7 @@ pub fn next_text<A: Allocator + Copy>(
     Ok(text)
 }
 
-// Adds the line of what comes next, where it is this hart.
+// Appends the line of the next step of this hart.
 fn push_next<A: Allocator + Copy>(
     text: &mut String<A>,
     debugger: &Debugger<A>,
@@ -39,7 +39,7 @@ fn push_next<A: Allocator + Copy>(
     push_doing(text, hart, machine.store().fetch(hart.pc))
 }
 
-// Adds what a hart does at this word.
+// Appends the instruction of a hart at this word.
 fn push_doing<A: Allocator>(
     text: &mut String<A>,
     hart: &Hart,

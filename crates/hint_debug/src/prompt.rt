@@ -5,9 +5,9 @@ use std::fmt;
 /// The prompt at a position, shown as `3 of 26> `.
 #[derive(Clone, Copy)]
 pub struct Prompt {
-    /// How many choices are done.
+    /// Number of choices done.
     pub position: usize,
-    /// How many there are.
+    /// Number of choices.
     pub length: usize,
 }
 

@@ -1,4 +1,4 @@
-//! What a step has stored into a watched word.
+//! The store of a step to a watched word.
 
 ghost use Rattle.std.specs.Prelude.{◌≡◌, ◌-◌, ◌%◌, IfOk, IfSome, OnOk};
 ghost use Rattle.debug_session.specs.Session.{session, world_at};
@@ -9,7 +9,7 @@ use isa_names::Word;
 use std::alloc::Allocator;
 use std::fmt;
 
-/// A step that has changed a watched word, shown as a line without its end.
+/// A step that has changed a watched word, shown as a line without LF.
 #[derive(Clone, Copy)]
 pub struct StoredWord {
     /// The hart that took the step.
@@ -18,7 +18,7 @@ pub struct StoredWord {
     pub address: u32,
     /// The word before the step.
     pub before: u32,
-    /// The word behind it.
+    /// The word after it.
     pub after: u32,
 }
 
@@ -30,15 +30,15 @@ impl fmt::Display for StoredWord {
     }
 }
 
-/// The address that an answer names whose first line is `watch` and eight hexadecimal digits.
+/// The address in an answer whose first line is `watch` and eight hexadecimal digits.
 pub fn watched_word(answer: &str) -> Option<u32> {
     let line = answer.lines().next()?;
     let digits = line.strip_prefix("watch ")?;
     u32::from_str_radix(digits, 16).ok()
 }
 
-/// What the step before a debugger's position has done to a word; none at the start. The position is what it was; where memory is refused it may be
-/// one less.
+/// The change of a word by the step before a debugger's position; `None` at the start. The position
+/// stays; if out of memory, it may be one less.
 pub fn word_before<A: Allocator + Copy>(
     alloc: A,
     debugger: &mut Debugger<A>,

@@ -8,7 +8,7 @@ abbrev pub is_nearer : Option SymbolValue → SymbolValue → ℕ → Bool
 is_nearer None symbol address = nat_le symbol.address address
 is_nearer (Some best) symbol address = nat_le symbol.address address && nat_lt best.address symbol.address
 
--- the first of the symbols with the greatest address that is not above an address; of them and another one, where that is there
+-- the first of the symbols with the greatest address that is at most a given one, or another one
 abbrev pub label_before : Option SymbolValue → List SymbolValue → ℕ → Option SymbolValue
 label_before best [] address = best
 label_before best (symbol ∷ symbols) address =

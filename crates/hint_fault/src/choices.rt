@@ -1,14 +1,14 @@
 //! Items of choice texts and histories.
 
-// An item is shown up to so many bytes.
+// The greatest number of bytes of an item that are shown.
 const MOST_SHOWN: usize = 24;
 
-// Whether a byte stands between items.
+// Whether a byte separates items.
 fn is_blank(byte: u8) -> bool {
     matches!(byte, b' ' | b'\t' | b'\n' | b'\r')
 }
 
-/// The item that begins at a byte, up to 24 bytes of it; `?` where it is no text.
+/// The item at an offset, at most 24 bytes of it; `?` if it isn't UTF-8.
 pub fn item_at(text: &[u8], offset: usize) -> &str {
     let (_, rest) = text.split_at(offset.min(text.len()));
     let len = rest

@@ -1,9 +1,9 @@
-//! Files that are no program: what each is, and what to do.
+//! Explains files that aren't programs: what each is, and what to do.
 
 use elf_read::elf::E_TYPE;
 use image::ElfFault;
 
-// Text, as an assembler source is.
+// Text, such as an assembler source.
 const SOURCE: &str =
     "this is text, as an assembler source is: make a program of it first, by rvcons asm --out prog.elf prog.s";
 
@@ -13,11 +13,11 @@ const HEX_WORDS: &str = "this is text of hexadecimal words: write --hex before i
 // A library of object files.
 const ARCHIVE: &str = "this is a library of object files: link it, as docs/C.md shows";
 
-// No ELF file.
+// Not an ELF file.
 const NO_ELF: &str =
     "this is no ELF file: make one by rvcons asm --out prog.elf prog.s, or from C as docs/C.md shows";
 
-// A beginning of a file.
+// A truncated file.
 const CUT_OFF: &str = "the file ends before its parts do: it is cut off or damaged";
 
 // A file for 64 bits.
@@ -62,27 +62,27 @@ const BAD_SEGMENTS: &str =
 const TOO_LARGE: &str =
     "its segments have more than 16777216 bytes together: make its arrays or its stack smaller";
 
-// A file that wants a dynamic linker.
+// A file that needs a dynamic linker.
 const DYNAMIC: &str = "this file wants a dynamic linker, and there is none: link with -static";
 
-// An entry at no multiple of 4.
+// A misaligned entry.
 const ODD_ENTRY: &str =
     "its entry is no multiple of 4: write .align 2 before _start, and compile without compressed code";
 
-// So many bytes are looked at to tell what a file is.
+// The number of bytes by which a file is recognized.
 const LOOKED_AT: usize = 512;
 
-// Whether a byte may stand in text: what is printable, or a blank.
+// Whether a byte is one of a text: printable, or a blank.
 fn is_of_text(byte: u8) -> bool {
     matches!(byte, b'\t' | b'\n' | b'\r' | 32..=126 | 0x80..)
 }
 
-// Whether a byte may stand in text of hexadecimal digits.
+// Whether a byte is one of a text of hexadecimal digits.
 fn is_of_hex(byte: u8) -> bool {
     byte.is_ascii_hexdigit() || matches!(byte, b' ' | b'\t' | b'\n' | b'\r')
 }
 
-// What bytes are by their texts: some of hexadecimal digits, another one, or none.
+// Kinds of bytes: hexadecimal text, other text, or no text.
 #[derive(Clone, Copy)]
 enum TextKind {
     Hex,
@@ -90,7 +90,6 @@ enum TextKind {
     None,
 }
 
-// What kind of text bytes are.
 fn text_kind(bytes: &[u8]) -> TextKind {
     let mut kind = if bytes.is_empty() {
         TextKind::None
@@ -108,7 +107,7 @@ fn text_kind(bytes: &[u8]) -> TextKind {
     kind
 }
 
-// What bytes are that begin with no ELF header.
+// What a file without an ELF header is.
 fn other_file(bytes: &[u8], else_words: &'static str) -> &'static str {
     if bytes.starts_with(b"!<arch>") {
         return ARCHIVE;
@@ -130,8 +129,8 @@ fn other_type(bytes: &[u8]) -> &'static str {
     }
 }
 
-/// What a file is that is refused by this fault, of whose bytes at least a beginning is given: a sentence on what to do, without a line's end. None for want
-/// of memory.
+/// What a file with this fault is, given at least a beginning of its bytes: a sentence on what to
+/// do, without LF. `None` for out of memory.
 pub fn file_words(fault: ElfFault, bytes: &[u8]) -> Option<&'static str> {
     match fault {
         ElfFault::Short => Some(other_file(bytes, CUT_OFF)),

@@ -1,4 +1,4 @@
-//! What the faults of harts mean.
+//! Explains the faults of harts.
 
 use crate::places::{push_instruction, push_standing, rwx, segment_at};
 use crate::sentences::{
@@ -16,27 +16,28 @@ use mem_flat::FlatStore;
 use mem_store::Store;
 use std::alloc::{AllocError, Allocator};
 
-// So many harts are told of at most: the others mostly met the same.
+// The greatest number of explained harts: the others mostly have the same fault.
 const MOST_HARTS: usize = 4;
 
-// sp of a hart is x2, a7 is x17.
+// The indices of sp (x2) and a7 (x17).
 const SP: usize = 2;
 
 const A7: usize = 17;
 
-// What a hart met.
+// A hart's fault and its circumstances.
 #[derive(Clone, Copy)]
 struct Met<'a> {
     hart: &'a Hart,
     cause: Cause,
-    // The word at pc, where it may be executed.
+    // The word at pc, if it is executable.
     word: Option<u32>,
-    // The access of data of the instruction, where it has one.
+    // The data access of the instruction, if it has one.
     access: Option<Access>,
 }
 
-/// What the faults of the harts of a machine mean, as whole lines: where the hart stands, what it was to do, which address it used and where
-/// that is, and a sentence on it. Of more than four such harts the first four are told of. Nothing where none has a fault.
+/// Explains the faults of a machine's harts, as whole lines: the place of the hart, its
+/// instruction, the address that it used and its segment, and a sentence on it. Of more than four
+/// faulted harts the first four are explained. Empty if no hart has a fault.
 pub fn harts_advice<A: Allocator + Copy>(
     alloc: A,
     image: &Image<A>,
@@ -57,7 +58,7 @@ pub fn harts_advice<A: Allocator + Copy>(
     Ok(text)
 }
 
-// Why a hart has faulted, where it has.
+// The cause of a hart's fault, if it has one.
 fn cause_of(hart: &Hart) -> Option<Cause> {
     match hart.state {
         HartState::Faulted(cause) => Some(cause),
@@ -65,7 +66,7 @@ fn cause_of(hart: &Hart) -> Option<Cause> {
     }
 }
 
-// What a hart met at this word.
+// The circumstances of a hart's fault at this word.
 fn met_by(hart: &Hart, cause: Cause, word: Option<u32>) -> Met<'_> {
     let access = access_of(hart, word);
     Met {
@@ -76,7 +77,7 @@ fn met_by(hart: &Hart, cause: Cause, word: Option<u32>) -> Met<'_> {
     }
 }
 
-// The access of data of a word's instruction, where there is one.
+// The data access of a word's instruction, if it has one.
 fn access_of(hart: &Hart, word: Option<u32>) -> Option<Access> {
     let instr = decode(word?)?;
     access_by(hart, instr)
@@ -100,7 +101,7 @@ fn push_hart<A: Allocator>(
     text.push('\n')
 }
 
-// Adds the address that an access uses, and the segment that it is in.
+// Appends the address that an access uses, and its segment.
 fn push_access<A: Allocator>(
     text: &mut String<A>,
     segments: &[Segment<A>],
@@ -148,7 +149,7 @@ fn meaning_of<A: Allocator>(segments: &[Segment<A>], met: &Met<'_>) -> Sentence<
     Sentence::of(form, "")
 }
 
-// The bytes of an access, where there is one, else those of a word.
+// The bytes of an access if there is one, else those of a word.
 fn size_of_access(access: Option<Access>) -> u32 {
     match access {
         Some(access) => access.size,
@@ -156,7 +157,7 @@ fn size_of_access(access: Option<Access>) -> u32 {
     }
 }
 
-// Whether an address may be executed.
+// Whether an address is executable.
 fn is_code<A: Allocator>(segments: &[Segment<A>], address: u32) -> bool {
     match segment_at(segments, address) {
         Some(segment) => segment.rights.grants(Rights::EXECUTE),
@@ -164,7 +165,7 @@ fn is_code<A: Allocator>(segments: &[Segment<A>], address: u32) -> bool {
     }
 }
 
-// Why no instruction can be taken from an address.
+// Why no instruction can be fetched from an address.
 fn fetch_form<A: Allocator>(segments: &[Segment<A>], pc: u32) -> Form {
     if pc > 0 && is_code(segments, pc - 1) {
         PAST_LAST
@@ -177,7 +178,7 @@ fn fetch_form<A: Allocator>(segments: &[Segment<A>], pc: u32) -> Form {
     }
 }
 
-// What a word is that is no instruction.
+// What a word that isn't an instruction is.
 fn word_form(word: Option<u32>) -> Form {
     match word {
         Some(0) => ZEROS,
@@ -186,12 +187,12 @@ fn word_form(word: Option<u32>) -> Form {
     }
 }
 
-// Whether an address is what sp gives where no stack was set: up to 64 KiB below 0, or above.
+// Whether an address is one that sp gives if no stack was set: up to 64 KiB below 0, or above.
 fn is_near_zero(address: u32) -> bool {
     address >= 0xffff_0000 || address < 0x0000_1000
 }
 
-// Why an access of data is refused.
+// Why a data access faults.
 fn access_form<A: Allocator>(segments: &[Segment<A>], met: &Met<'_>, wanted: Rights) -> Form {
     let Some(access) = met.access else {
         return UNMAPPED;
@@ -202,7 +203,7 @@ fn access_form<A: Allocator>(segments: &[Segment<A>], met: &Met<'_>, wanted: Rig
     }
 }
 
-// Why an access to a segment with these rights is refused.
+// Why an access to a segment with these rights faults.
 fn rights_form(rights: Rights, wanted: Rights) -> Form {
     if rights.grants(wanted) {
         ACROSS
@@ -213,7 +214,7 @@ fn rights_form(rights: Rights, wanted: Rights) -> Form {
     }
 }
 
-// What is said of an access to an address in no segment.
+// The sentence for an access to an address in no segment.
 fn nowhere_form(met: &Met<'_>, address: u32) -> Form {
     if is_near_zero(address) && is_near_zero(met.hart.registers[SP]) && uses_sp(met.word) {
         NO_STACK
@@ -222,7 +223,7 @@ fn nowhere_form(met: &Met<'_>, address: u32) -> Form {
     }
 }
 
-// Whether an instruction's address is by sp.
+// Whether an instruction's address is relative to sp.
 fn uses_sp(word: Option<u32>) -> bool {
     match word {
         Some(word) => word / 0x8000 % 32 == SP as u32,

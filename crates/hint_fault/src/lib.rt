@@ -1,4 +1,4 @@
-//! What faults mean, for a person: of files that are no program, of choice texts, of the number of harts, and of instructions.
+//! Explains faults of files, choice texts, numbers of harts and instructions.
 #![tactic(auto)]
 
 pub use choices::item_at;

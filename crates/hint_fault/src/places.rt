@@ -1,4 +1,4 @@
-//! Places in a program: by the label before, and by the segment.
+//! Places in a program: by the label before them, and by their segment.
 
 ghost use Rattle.std.specs.Prelude.{◌≡◌, None, option_map};
 ghost use Rattle.hint_fault.specs.Places.{is_nearer, label_before, segment_at};
@@ -9,7 +9,7 @@ use isa_disasm::Line;
 use isa_names::Word;
 use std::alloc::{AllocError, Allocator};
 
-// Whether a symbol is at or below an address, and above the one that was the nearest so far.
+// Whether a symbol is at or below an address, and above the nearest one so far.
 fn is_nearer<A: Allocator>(best: Option<&Symbol<A>>, symbol: &Symbol<A>, address: u32) -> bool
     ensures { result ≡ is_nearer (option_map (λ s. s.now) best.entry) symbol.now address }
 {
@@ -22,7 +22,8 @@ fn is_nearer<A: Allocator>(best: Option<&Symbol<A>>, symbol: &Symbol<A>, address
     }
 }
 
-/// The symbol with the greatest address that is not above an address, of several the first; none where each is above.
+/// The symbol with the greatest address that is at most a given one, the first of several; `None`
+/// if each is above.
 pub fn label_before<A: Allocator>(symbols: &[Symbol<A>], address: u32) -> Option<&Symbol<A>>
     ensures { option_map (λ s. s.now) result ≡ label_before None symbols.now address }
 {
@@ -47,7 +48,8 @@ pub fn segment_at<A: Allocator>(segments: &[Segment<A>], address: u32) -> Option
     None
 }
 
-// Adds an address, by the label before it and how many bytes it is behind that, as `wait+8`; by its digits where there is no label.
+// Appends an address as the label before it and the offset in bytes, `wait+8`; as digits if there
+// is no label.
 fn push_place<A: Allocator>(
     text: &mut String<A>,
     symbols: &[Symbol<A>],
@@ -64,7 +66,8 @@ fn push_place<A: Allocator>(
     }
 }
 
-/// Adds where a hart stands, as `hart 0 at 00010004, wait+8`: by the label before too, where there is one.
+/// Appends the place of a hart, as `hart 0 at 00010004, wait+8`: with the label before it, if there
+/// is one.
 pub fn push_standing<A: Allocator>(
     text: &mut String<A>,
     symbols: &[Symbol<A>],
@@ -76,7 +79,7 @@ pub fn push_standing<A: Allocator>(
     push_place(text, symbols, pc)
 }
 
-/// Adds an instruction at an address behind what stands there.
+/// Appends the instruction at an address.
 pub fn push_instruction<A: Allocator>(
     text: &mut String<A>,
     address: u32,
@@ -86,7 +89,7 @@ pub fn push_instruction<A: Allocator>(
     write!(text, ": {line}")
 }
 
-/// Rights as `rwx`, with a dash for each that isn't given.
+/// Rights as `rwx`, with a dash for each missing one.
 pub(crate) fn rwx(rights: Rights) -> &'static str {
     let (read, write) = (rights.grants(Rights::READ), rights.grants(Rights::WRITE));
     match (read, write, rights.grants(Rights::EXECUTE)) {

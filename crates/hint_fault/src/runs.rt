@@ -1,15 +1,15 @@
-//! Runs that are done once more to tell what their faults mean.
+//! Runs a program again to explain its faults.
 
 use crate::harts::harts_advice;
 use elf_read::{Symbol, symbols};
 use image::Image;
-use machine::Machine;
+use machine::{Inputs, Machine};
 use mem_flat::FlatStore;
 use program_open::{ProgramForm, read_program};
 use sched_run::run_choices;
 use std::alloc::Allocator;
 
-/// The symbols of a file; none where it has no table, a bad one, or memory is refused.
+/// The symbols of a file; none if it has no valid table, or out of memory.
 pub fn symbols_or_none<A: Allocator + Copy>(alloc: A, file: &[u8]) -> Vec<Symbol<A>, A> {
     match symbols(alloc, file) {
         Ok(symbols) => symbols,
@@ -17,7 +17,7 @@ pub fn symbols_or_none<A: Allocator + Copy>(alloc: A, file: &[u8]) -> Vec<Symbol
     }
 }
 
-/// What the faults mean with which a machine of a program has stopped. None where memory is refused.
+/// Explains the faults with which a program's machine has stopped. `None` if out of memory.
 pub fn ends_advice<A: Allocator + Copy>(
     alloc: A,
     image: &Image<A>,
@@ -28,7 +28,8 @@ pub fn ends_advice<A: Allocator + Copy>(
     harts_advice(alloc, image, &symbols, machine).ok()
 }
 
-/// What the faults mean with which a run of a program ends, under a choice text. None where there is no such run, or memory is refused.
+/// Explains the faults with which a program's run under a choice text ends. `None` if there is no
+/// such run, or out of memory.
 pub fn run_advice<A: Allocator + Copy>(
     alloc: A,
     form: ProgramForm,
@@ -37,11 +38,9 @@ pub fn run_advice<A: Allocator + Copy>(
     choices: &[u8],
 ) -> Option<String<A>> {
     let image: Image<A> = read_program(alloc, form, program).ok()?;
-    let mut machine: Machine<FlatStore<A>, A> = match Machine::start(alloc, &image, inputs) {
-        Ok(machine) => machine,
-        Err(_) => return None,
-    };
-    match run_choices(&mut machine, choices, inputs.len() as u32) {
+    let inputs = Inputs::new(inputs).ok()?;
+    let mut machine: Machine<FlatStore<A>, A> = Machine::start(alloc, &image, &inputs).ok()?;
+    match run_choices(&mut machine, choices, inputs.harts()) {
         Ok(_) => ends_advice(alloc, &image, program, &machine),
         Err(_) => None,
     }

@@ -18,7 +18,7 @@ pub(crate) const NOWHERE_TO_FETCH: Form = &[Words(
     "no segment is there: a register that was jumped to held no address of code",
 )];
 
-/// An address in a segment that may not be executed.
+/// An address in a segment that isn't executable.
 pub(crate) const NOT_EXECUTABLE: Form = &[Words(
     "this segment may not be executed: data was jumped to",
 )];
@@ -45,7 +45,7 @@ pub(crate) const MISALIGNED: Form = &[
     Words(": write .align 2 before the data, and look at how the address is made"),
 ];
 
-/// An address by sp, where sp is 0 or small.
+/// An address relative to sp, where sp is 0 or small.
 pub(crate) const NO_STACK: Form = &[Words(
     "sp is 0 or just below it: no stack was set. Write la sp, and the end of a .zero of .bss, before the first use",
 )];
@@ -55,12 +55,12 @@ pub(crate) const UNMAPPED: Form = &[Words(
     "no segment is there: the address was made wrong, or an index is too large",
 )];
 
-/// An address in a segment that may not be written.
+/// An address in a segment that isn't writable.
 pub(crate) const NOT_WRITABLE: Form = &[Words(
     "this segment may not be written: put the data into .data or .bss",
 )];
 
-/// An address in a segment that may not be read.
+/// An address in a segment that isn't readable.
 pub(crate) const NOT_READABLE: Form = &[Words("this segment may not be read")];
 
 /// The access passes its segment's end.
@@ -73,7 +73,7 @@ pub(crate) const ODD_JUMP: Form = &[Words(
     "it jumps to an address that is no multiple of 4, and instructions stand at such ones alone",
 )];
 
-/// An ECALL with this in a7.
+/// An ECALL with this number in a7.
 pub(crate) const CALL: Form = &[
     Words("a7 is "),
     First,

@@ -1,4 +1,4 @@
-//! What the faults of a run under a history mean, for a person.
+//! Explains the faults of a run under a history.
 #![tactic(auto)]
 
 pub use runs::history_advice;

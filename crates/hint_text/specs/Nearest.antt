@@ -3,11 +3,11 @@ use Rattle.std.specs.Prelude.{ℕ, List, [], ◌∷◌, Option, Some, length, na
 use Rattle.std.specs.Str.{chars}
 use Rattle.strsim.specs.Edits.{levenshtein_row}
 
--- how many characters have to be added, left out or changed to make one text of another
+-- the edit distance: characters to add, leave out or change to make one text of another
 abbrev pub edits : List ℕ → List ℕ → ℕ
 edits text name = levenshtein_row nat_eq (chars text) (chars name) (length (chars name))
 
--- the first of the names that the fewest edits lead to, where these are fewer than a bound; else another text
+-- the first name with the least edit distance, if that is below a bound; else another text
 abbrev pub nearest_below : List ℕ → Option (List ℕ) → ℕ → List (List ℕ) → Option (List ℕ)
 nearest_below text best bound [] = best
 nearest_below text best bound (name ∷ names) =

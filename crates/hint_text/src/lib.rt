@@ -1,4 +1,5 @@
-//! What words for a person share: the line that is meant, the mark under a part of it, the nearest of some names, and tables of sentences.
+//! What explanations share: the line in question, the mark under a part of it, the nearest name,
+//! sentences; the faults of a command line.
 #![tactic(auto)]
 
 pub use mark::push_mark;

@@ -9,7 +9,8 @@ use std::alloc::{AllocError, Allocator};
 // The sign of a mark.
 const SIGN: char = '^';
 
-// Adds what stands under a byte before the mark: a tab under a tab, nothing under a byte that goes on with a character, else a space.
+// Appends the padding under one byte of a line: a tab under a tab, nothing under a UTF-8
+// continuation byte, else a space.
 fn push_pad<A: Allocator>(text: &mut String<A>, byte: u8) -> Result<(), AllocError>
     ensures { OnOk result (string_bytes text.new ≡ string_bytes text.old ++ pad byte) }
 {
@@ -20,7 +21,7 @@ fn push_pad<A: Allocator>(text: &mut String<A>, byte: u8) -> Result<(), AllocErr
     }
 }
 
-// Adds what stands under bytes before the mark.
+// Appends the padding under bytes of a line.
 fn push_pads<A: Allocator>(text: &mut String<A>, bytes: &[u8]) -> Result<(), AllocError>
     ensures { OnOk result (string_bytes text.new ≡ string_bytes text.old ++ flat_map pad bytes.now) }
 {
@@ -30,7 +31,8 @@ fn push_pads<A: Allocator>(text: &mut String<A>, bytes: &[u8]) -> Result<(), All
     Ok(())
 }
 
-/// Adds what stands under a line to mark what begins at the byte `start`: as much room as the line has before it, with tabs under tabs, and then `^`.
+/// Appends a line that marks what begins at the byte `start` of another one: padding as wide as
+/// that line before it, with tabs under tabs, and then `^`.
 pub fn push_mark<A: Allocator>(
     text: &mut String<A>,
     line: &str,

@@ -1,4 +1,4 @@
-//! The nearest of some names.
+//! The nearest name.
 
 ghost use Rattle.std.specs.Prelude.{◌≡◌, None, IfOk, map, option_map};
 ghost use Rattle.hint_text.specs.Nearest.{nearest_below};
@@ -6,8 +6,7 @@ ghost use Rattle.hint_text.specs.Nearest.{nearest_below};
 use std::alloc::{AllocError, Allocator};
 use strsim::levenshtein;
 
-/// The name that the fewest edits of a character lead to from a text, of those that fewer than `bound` edits lead to; the first of them. None where as
-/// many or more lead to each.
+/// The first of the names with the least edit distance to a text, if that is below `bound`.
 pub fn nearest<'a, A: Allocator + Copy>(
     alloc: A,
     names: &[&'a str],

@@ -1,4 +1,5 @@
-//! Commands with their options and an example, and names of others with what to write.
+//! The commands with their options and an example, and names of other tools with what to write
+//! here.
 
 /// A command.
 #[derive(Clone, Copy)]
@@ -107,7 +108,7 @@ pub(crate) const COMMANDS: [Row; 12] = [
     },
 ];
 
-/// Names of options that a command doesn't have, with what to write.
+/// Options that a command doesn't have, with what to write.
 pub(crate) const OTHER_OPTIONS: [(&[&str], &str); 14] = [
     (
         &["--seed", "--seeds", "--random"],
@@ -167,7 +168,7 @@ pub(crate) const OTHER_OPTIONS: [(&[&str], &str); 14] = [
     ),
 ];
 
-/// Names of commands that are not here, with what to write.
+/// Commands that don't exist, with what to write.
 pub(crate) const OTHER_COMMANDS: [(&[&str], &str); 9] = [
     (&["assemble", "as", "build", "compile"], "asm"),
     (&["disasm", "objdump", "dump", "disassemble"], "list"),

@@ -1,4 +1,4 @@
-//! The advice on a command line.
+//! The hints on a command line.
 
 use crate::names::nearest;
 use crate::options::{COMMANDS, OTHER_COMMANDS, OTHER_OPTIONS, Row};
@@ -7,15 +7,15 @@ use crate::sentence::{Form, Sentence, push_sentence};
 use crate::table::told_of;
 use std::alloc::{AllocError, Allocator};
 
-// A name of fewer edits than these may be the one that is meant.
+// A name with a smaller edit distance may be the intended one.
 const EDITS: usize = 3;
 
-// No command stands there.
+// No command is given.
 const NO_COMMAND: Form = &[Words(
     "a command stands first, as rvcons run prog.elf --inputs 7,9 --choices turns.choices\n",
 )];
 
-// A command of another tool, and what is called so here.
+// A command of another tool, and its name here.
 const CALLED: Form = &[
     First,
     Words(" is called "),
@@ -25,7 +25,7 @@ const CALLED: Form = &[
     Words(" --help\n"),
 ];
 
-// A command that is near.
+// A command is near.
 const MEANT: Form = &[Words("is "), First, Words(" meant?\n")];
 
 // No command is near.
@@ -33,13 +33,13 @@ const THE_COMMANDS: Form = &[Words(
     "the commands are asm, list, info, run, debug, threads, replay, lib, campaign, schedule, shrink and trace; a file stands behind the command\n",
 )];
 
-// Nothing.
+// No hint.
 const NOTHING: Form = &[];
 
-// What is said of an option of another tool.
+// The hint on an option of another tool.
 const TOLD: Form = &[First, Words("\n")];
 
-// An option that is near, and an example.
+// An option is near, with an example.
 const MEANT_AS: Form = &[
     Words("is "),
     First,
@@ -54,18 +54,18 @@ const AS: Form = &[Words("as "), First, Words("\n")];
 /// What is wrong with a command line.
 #[derive(Clone, Copy)]
 pub enum Mistake {
-    /// No command stands there.
+    /// No command is given.
     NoCommand,
-    /// The command is none.
+    /// The command doesn't exist.
     Command,
-    /// An option is none of the command's, or a word is too much.
+    /// The command doesn't have an option, or a word is too much.
     Option,
-    /// Something else, as a missing option or a missing value.
+    /// Another fault, such as a missing option or value.
     Other,
 }
 
-/// What is told of a command line, whose first word is the program's name, as whole lines: what stands for a name of another tool, the nearest name, or
-/// an example of the command.
+/// The hints on a command line, whose first word is the program's name, as whole lines: what to
+/// write for a name of another tool, the nearest name, or an example of the command.
 pub fn order_advice<A: Allocator + Copy>(
     alloc: A,
     mistake: Mistake,
@@ -77,7 +77,7 @@ pub fn order_advice<A: Allocator + Copy>(
     Ok(text)
 }
 
-// What is told of a command line.
+// The hint on a command line.
 fn order_sentence<'a, A: Allocator + Copy>(
     alloc: A,
     mistake: Mistake,
@@ -92,7 +92,7 @@ fn order_sentence<'a, A: Allocator + Copy>(
     }
 }
 
-// The first row with a name.
+// The first row with this name.
 fn row_in<'a>(rows: &'a [Row], name: &str) -> Option<&'a Row> {
     'rows: for row in rows {
         if row.name == name {
@@ -128,12 +128,12 @@ fn near_command<A: Allocator + Copy>(
     nearest(alloc, &known, name, EDITS)
 }
 
-// The command that another tool calls so.
+// The command that has this name in another tool.
 fn other_command(name: &str) -> Option<&'static str> {
     told_of(&OTHER_COMMANDS, name)
 }
 
-// What stands for a command that is none.
+// The hint on a command that doesn't exist.
 fn command_sentence<'a, A: Allocator + Copy>(
     alloc: A,
     name: &'a str,
@@ -155,17 +155,16 @@ fn example_of(name: &str) -> Sentence<'static> {
     }
 }
 
-// The word without what stands behind `=`.
+// The word up to `=`.
 fn option_name(word: &str) -> &str {
     word.split('=').next().unwrap_or(word)
 }
 
-// Whether a name is one of some.
 fn is_one_of(names: &[&str], name: &str) -> bool {
     names.contains(&name)
 }
 
-// The first option of some words that a command doesn't have.
+// The first option among words that a command doesn't have.
 fn other_option<'a>(options: &[&str], words: &[&'a str]) -> Option<&'a str> {
     'words: for word in words {
         let name = option_name(*word);
@@ -176,7 +175,7 @@ fn other_option<'a>(options: &[&str], words: &[&'a str]) -> Option<&'a str> {
     None
 }
 
-// What stands for an option that a command doesn't have.
+// The hint on an option that a command doesn't have.
 fn option_sentence<'a, A: Allocator + Copy>(
     alloc: A,
     command: &str,
@@ -191,12 +190,12 @@ fn option_sentence<'a, A: Allocator + Copy>(
     }
 }
 
-// What stands for an option of another tool.
+// The hint on an option of another tool.
 fn meaning_of(name: &str) -> Option<&'static str> {
     told_of(&OTHER_OPTIONS, name)
 }
 
-// What stands for a name of an option that is none of a command's.
+// The hint on the name of an option that a command doesn't have.
 fn name_sentence<'a, A: Allocator + Copy>(
     alloc: A,
     row: &'static Row,

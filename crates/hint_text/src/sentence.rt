@@ -1,4 +1,4 @@
-//! Sentences that are said of something.
+//! Sentences with values.
 
 use std::alloc::{AllocError, Allocator};
 
@@ -15,10 +15,10 @@ pub enum Part {
     Third,
 }
 
-/// The form of a sentence: its words, and where its values stand.
+/// The form of a sentence: its words, and the places of its values.
 pub type Form = &'static [Part];
 
-/// What a sentence says of.
+/// A value of a sentence.
 #[derive(Clone, Copy)]
 pub enum Value<'a> {
     /// A text as it is.
@@ -56,7 +56,7 @@ impl<'a> Sentence<'a> {
     }
 }
 
-/// Adds a sentence, without a line's end.
+/// Appends a sentence, without LF.
 pub fn push_sentence<A: Allocator>(
     text: &mut String<A>,
     sentence: &Sentence<'_>,

@@ -2,12 +2,12 @@
 
 use std::alloc::{AllocError, Allocator};
 
-/// The line of this number, from 1, without its end.
+/// The line with this number, from 1, without its end.
 pub fn line_at(text: &str, number: usize) -> Option<&str> {
     text.lines().nth(number.saturating_sub(1))
 }
 
-/// Adds a line as a terminal may be shown it: a control character but a tab is a `?`.
+/// Appends a line that is safe for a terminal: each control character but tab becomes `?`.
 pub fn push_line<A: Allocator>(text: &mut String<A>, line: &str) -> Result<(), AllocError> {
     'characters: for character in line.chars() {
         let is_shown = character == '\t' || !character.is_control();

@@ -1,6 +1,6 @@
 //! Tables of sentences.
 
-/// What the first row with a name says.
+/// The text of the first row with this name.
 pub fn told_of<'a>(rows: &[(&[&str], &'a str)], name: &str) -> Option<&'a str> {
     'rows: for (names, told) in rows {
         if names.contains(&name) {

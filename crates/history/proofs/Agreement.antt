@@ -1,4 +1,4 @@
--- Reading finds what the grammar says, and nothing else.
+-- Reading gives exactly what the grammar says.
 use Rattle.std.proofs.Common.{◌≡◌, ℕ, ◌+◌, ◌^◌, ◌<◌, ◌≤◌, inl, inr, Bool, true, false, List, ◌∷◌, ◌++◌, length, drop, Option, Some, None, Ok, Err, refl, arith, ap, sym, ◌∙◌, append_assoc, subst, ltb-true, ltb-false}
 use Rattle.std.specs.Prelude.{nat_lt, if◌then◌else◌}
 use Rattle.std.specs.List.{All}
@@ -84,7 +84,7 @@ pub spoils_of : (harts : ℕ) (text : List ℕ) (fault : HistoryFault) → harts
 spoils_of harts text fault few e =
     texts.spoils_of NamesEntry (λ e. e.hart < harts) BadEntry NoHart (entry_of harts) (item_told harts few) text fault e
 
--- a text that is read names harts that are there
+-- a text that is read names harts that exist
 pub hart_within : (harts : ℕ) (text : List ℕ) (entries : List Entry) → Spells harts text entries → All (λ e. e.hart < harts) entries
 hart_within harts text entries spelled = texts.all_there NamesEntry (λ e. e.hart < harts) text entries spelled
 

@@ -13,7 +13,7 @@ use Rattle.history.specs.declared.entry.Entry.{Entry}
 use Rattle.history.specs.Grammar.{NamesEntry}
 use Rattle.history.specs.Reading.{before_plus, after_plus, entry_by, entry_of}
 
--- no `+` stands in digits
+-- digits have no `+`
 no_plus : (digits : List ℕ) → IsNumber digits → HasNone 43 digits
 no_plus digits number = digits_have_none 43 digits (lit< tt) number.numeral.1
 
@@ -23,14 +23,14 @@ before_plus-named digits rest number = before_byte-there 43 digits rest (no_plus
 pub after_plus-named : (digits rest : List ℕ) → IsNumber digits → after_plus (digits ++ 43 ∷ rest) ≡ rest
 after_plus-named digits rest number = ap (drop 1) (from_byte-there 43 digits rest (no_plus digits number))
 
--- where bytes stand behind the first `+`, there is one
+-- if there are bytes after the first `+`, there is one
 pub plus_between : (front : List ℕ) → 0 < length (after_plus front) → front ≡ before_plus front ++ 43 ∷ after_plus front
 plus_between front some = elim (from_byte_is 43 front) [
   | inl none ↦ absurd (omega (arith, some, ap (λ rest. length (drop 1 rest)) none))
   | inr there ↦ sym (parts_make 43 front) ∙ ap (λ rest. before_plus front ++ rest) there
 ]
 
--- the last byte behind a `+` is the last of the number there
+-- the last byte after a `+` is the last of the number there
 last_behind : (front digits : List ℕ) → 0 < length digits
     → get_or (front ++ 43 ∷ digits) (length (front ++ 43 ∷ digits) - 1) 0 ≡ get_or digits (length digits - 1) 0
 last_behind front digits some =
@@ -41,7 +41,7 @@ has_mark-entry : (front digits : List ℕ) → IsNumber digits → has_mark (fro
 has_mark-entry front digits number =
     ap (λ b. b == 33) (last_behind front digits number.numeral.0) ∙ has_mark-number digits number
 
--- the mark of an item that names an entry is the entry's, and before it stand both numbers
+-- the mark of an item that names an entry is the entry's, and before it are both numbers
 pub named_parts : (item : List ℕ) (e : Entry) → (n : NamesEntry item e)
     → (has_mark item ≡ e.refuse) × (unmarked item ≡ n.hart_digits ++ 43 ∷ n.local_digits)
 named_parts item e n = by e.refuse n.text

@@ -1,5 +1,5 @@
--- History texts as a reader knows them: which texts spell a history, and which item spoils one. `Reading`
--- computes the same; `proofs/Agreement.antt` ties the two.
+-- The grammar of history texts: which texts spell a history, and which item spoils a text.
+-- `Reading` computes the same; `proofs/Agreement.antt` proves that the two agree.
 use Rattle.std.specs.Prelude.{◌≡◌, ℕ, ◌<◌, ◌^◌, List, ◌∷◌, ◌++◌}
 use Rattle.std.specs.Str.Parse.{digits_value}
 use Rattle.text_items.specs.Numbers.{IsNumber, mark_of}
@@ -19,11 +19,11 @@ pub record NamesEntry (item : List ℕ) (e : Entry) : Type 0 where
   pub local : digits_value 10 local_digits ≡ e.local
   pub small : e.local < 2 ^ 32
 
--- the text is items with blanks between and around them, which name these entries of so many harts
+-- items with blanks between and around them, which denote these entries of the harts
 abbrev pub Spells : ℕ → List ℕ → List Entry → Type 0
 Spells harts text entries = texts.Spells NamesEntry (λ e. e.hart < harts) text entries
 
--- the text, which begins at an offset, has a bad item after good ones only: one that names no entry,
--- or an entry of a hart that isn't there
+-- the text, which begins at an offset, has a bad item after good ones only: one that denotes no
+-- entry, or an entry of a hart that doesn't exist
 abbrev pub Spoils : ℕ → ℕ → List ℕ → HistoryFault → Type 0
 Spoils harts at text fault = texts.Spoils NamesEntry (λ e. e.hart < harts) BadEntry NoHart at text fault

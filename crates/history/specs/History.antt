@@ -7,11 +7,11 @@ use Rattle.history.specs.declared.entry.Entry.{Entry}
 abbrev pub choice : ℕ → Bool → Choice
 choice hart refuse = record { hart = hart; refuse = refuse }
 
--- the entry of a hart, with so many local steps
+-- the entry of a hart, with this number of local steps
 abbrev pub entry : ℕ → ℕ → Bool → Entry
 entry hart local refuse = record { hart = hart; local = local; refuse = refuse }
 
--- an entry is as many plain choices of its hart as it has local steps, and then one with its mark
+-- an entry is a plain choice of its hart for each local step, and then one with its mark
 abbrev pub choices_of : Entry → List Choice
 choices_of e = replicate e.local (choice e.hart false) ++ choice e.hart e.refuse ∷ []
 

@@ -5,7 +5,7 @@ use Rattle.text_items.specs.Numbers.{mark_of}
 use Rattle.text_items.specs.Printing.{text_of}
 use Rattle.history.specs.declared.entry.Entry.{Entry}
 
--- the hart's number in decimal, `+`, the count of local steps, and `!` where the store-conditional is refused
+-- hart number in decimal, `+`, number of local steps, and `!` if the SC is refused
 abbrev pub item_text : Entry → List ℕ
 item_text e = decimal e.hart ++ 43 ∷ (decimal e.local ++ mark_of e.refuse)
 

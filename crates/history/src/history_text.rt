@@ -1,5 +1,5 @@
-//! History texts: `1+3 0+0!` lets hart 1 take three local steps and then one more, and then hart 0 one with its
-//! store-conditional refused.
+//! History texts: in `1+3 0+0!` hart 1 takes three local steps and one more, then hart 0 one whose
+//! store-conditional is refused.
 
 ghost use Rattle.std.specs.Prelude.{◌≡◌, ◌<◌, ◌≢◌, drop, IfOk, IfErr};
 ghost use Rattle.std.specs.List.{All};
@@ -11,22 +11,22 @@ use std::alloc::Allocator;
 use text_items::{CAP, next_item, number, split_at_byte, split_mark};
 use thiserror::Error;
 
-/// Why a text gives no history: the first bad item's byte offset, or want of memory.
+/// Why a text gives no history: the byte offset of the first bad item, or out of memory.
 #[derive(Clone, Copy, Debug, PartialEq, Eq, Error)]
 pub enum HistoryFault {
-    /// The item that begins at this offset isn't two numbers without leading zeros with `+` between them, with or without
-    /// `!`, or its second number is above 2^32 - 1.
+    /// The item at this offset isn't two numbers without leading zeros with `+` between them and
+    /// optionally `!` after them, or its second number is above 2^32 - 1.
     #[error("history fault BadEntry at {0}")]
     BadEntry(usize),
-    /// The item that begins at this offset names a hart that isn't there.
+    /// The item at this offset names a hart that doesn't exist.
     #[error("history fault NoHart at {0}")]
     NoHart(usize),
-    /// Memory for the list was refused.
+    /// Out of memory.
     #[error("out of memory")]
     Memory,
 }
 
-// What stands behind the first byte.
+// All bytes but the first.
 fn behind_first(rest: &[u8]) -> &[u8]
     ensures { result.now ≡ drop 1 rest.now }
 {
@@ -36,7 +36,7 @@ fn behind_first(rest: &[u8]) -> &[u8]
     }
 }
 
-// The entry that an item at an offset names.
+// The entry of an item at an offset.
 fn read_entry(item: &[u8], at: usize, harts: u32) -> Result<Entry, HistoryFault>
     ensures { result ≡ entry_of harts at item.now }
 {
@@ -61,9 +61,10 @@ fn read_entry(item: &[u8], at: usize, harts: u32) -> Result<Entry, HistoryFault>
     })
 }
 
-/// Reads a history text for so many harts: items between blanks (space, tab, LF, CR), each a hart's number, `+` and the
-/// count of its local steps, in decimal without leading zeros, with `!` after it where the store-conditional of the step
-/// after them is refused. The empty text gives the empty history. The first bad item decides the fault.
+/// Reads a history text: items between blanks (space, tab, LF, CR). An item is a hart's number, `+`
+/// and the number of its local steps, in decimal without leading zeros, then `!` if the
+/// store-conditional of the step after them is refused. The empty text gives the empty history. The
+/// fault is that of the first bad item.
 pub fn read_history<A: Allocator + Copy>(
     alloc: A,
     text: &[u8],

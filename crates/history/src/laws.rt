@@ -8,7 +8,7 @@ ghost use Rattle.history.specs.Grammar.{Spells};
 ghost use Rattle.history.specs.Printing.{history_text};
 ghost use Rattle.history.specs.Reading.{entries_of};
 
-/// Reading gives the history that a text spells, and none where it spells none.
+/// Reading gives the history that a text spells, and none if it spells none.
 pub fn history_is_read_as_spelled()
     ensures { (harts : ℕ) (text : List ℕ) (entries : List Entry) → harts < 2 ^ 32
         → (entries_of harts text ≡ Ok entries) ↔ Spells harts text entries }
@@ -20,8 +20,8 @@ pub fn one_history()
         → Spells harts text one → Spells harts text other → one ≡ other }
 {}
 
-/// Reading what was printed gives the history, where each of its entries names one of so many harts and its count of
-/// local steps is one of 32 bits.
+/// Reading what was printed gives the history, if each of its entries names one of the harts and
+/// its number of local steps fits in 32 bits.
 pub fn printed_history_is_read()
     ensures { (harts : ℕ) (entries : List Entry) → harts < 2 ^ 32
         → All (λ e. e.hart < harts) entries → All (λ e. e.local < 2 ^ 32) entries

@@ -1,5 +1,4 @@
-//! Histories: what harts on threads of their own did, in an order in which it can be done again. An entry is a hart's steps
-//! on its own registers, and then one step on what the harts share.
+//! Histories of harts on threads: their texts, and the choices that they stand for.
 #![tactic(auto)]
 
 pub use entry::Entry;

@@ -1,4 +1,4 @@
-//! History texts, printed.
+//! Prints history texts.
 
 ghost use Rattle.std.specs.Prelude.{◌≡◌, ℕ, ◌<◌, ◌^◌, Some, IfOk, string_bytes};
 ghost use Rattle.std.specs.List.{All};
@@ -27,7 +27,8 @@ impl fmt::Display for EntryItem {
     }
 }
 
-/// Prints entries as a history text: one space between items and LF at the end, or nothing for no entries.
+/// Prints entries as a history text: one space between items and LF at the end, or nothing for no
+/// entries.
 pub fn print_history<A: Allocator + Copy>(
     alloc: A,
     entries: &[Entry],

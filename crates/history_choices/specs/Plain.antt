@@ -3,6 +3,6 @@ use Rattle.machine.specs.declared.choice.Choice.{Choice}
 use Rattle.history.specs.declared.entry.Entry.{Entry}
 use Rattle.history.specs.History.{entry}
 
--- that of its hart, with no local steps, and its mark
+-- an entry of its hart without local steps, and with its mark
 abbrev pub plain_entry : Choice → Entry
 plain_entry c = entry c.hart 0 c.refuse

@@ -1,4 +1,4 @@
-//! Lists of choices as histories.
+//! A list of choices as a history.
 #![tactic(auto)]
 
 ghost use Rattle.std.specs.Prelude.{◌≡◌, IfOk, map};
@@ -12,7 +12,8 @@ pub use text::choices_text;
 
 mod text;
 
-/// Choices as a history: an entry without local steps for each, which therefore stands for these choices.
+/// Choices as a history: one entry without local steps per choice, so that it stands for these
+/// choices.
 pub fn history_of<A: Allocator>(alloc: A, choices: &[Choice]) -> Result<Vec<Entry, A>, AllocError>
     ensures entries { IfOk result (λ history. history.items ≡ map plain_entry choices.now) }
     ensures choices { IfOk result (λ history. expanded history.items ≡ choices.now) }
@@ -21,7 +22,7 @@ pub fn history_of<A: Allocator>(alloc: A, choices: &[Choice]) -> Result<Vec<Entr
     Ok(history)
 }
 
-/// An entry for each choice.
+// An entry for each choice.
 fn entries_of<A: Allocator>(alloc: A, choices: &[Choice]) -> Result<Vec<Entry, A>, AllocError>
     ensures { IfOk result (λ history. history.items ≡ map plain_entry choices.now) }
 {

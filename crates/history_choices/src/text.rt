@@ -24,7 +24,7 @@ impl fmt::Display for ChoiceItem {
     }
 }
 
-/// The text of the history that `history_of` makes of choices, without a list of its entries.
+/// The text of `history_of` these choices, made without a list of entries.
 pub fn choices_text<A: Allocator + Copy>(
     alloc: A,
     choices: &[Choice],

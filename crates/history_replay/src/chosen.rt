@@ -7,7 +7,7 @@ use history::Entry;
 use machine::Choice;
 use std::alloc::{AllocError, Allocator};
 
-/// A choice of each hart that a history chooses: all that a judge asks of its choices.
+/// One choice of each hart that a history chooses. A judge needs no more of its choices.
 pub fn chosen_harts<A: Allocator>(alloc: A, history: &[Entry]) -> Result<Vec<Choice, A>, AllocError>
     ensures { IfOk result (λ chosen. ChooseAlike chosen.items (expanded history.now)) }
 {
@@ -18,14 +18,13 @@ pub fn chosen_harts<A: Allocator>(alloc: A, history: &[Entry]) -> Result<Vec<Cho
     Ok(chosen)
 }
 
-// Whether a hart is chosen.
 fn is_chosen(choices: &[Choice], hart: u32) -> bool
     ensures { result ≡ is_chosen choices.now hart }
 {
     choices.iter().any(|choice| choice.hart == hart)
 }
 
-// Adds a choice of a hart, unless one is there.
+// Appends a choice of a hart, unless there is one.
 #[tactic(auto, using(crate::proofs::ChosenLemmas::added, crate::proofs::ChosenLemmas::there))]
 fn add_hart<A: Allocator>(chosen: &mut Vec<Choice, A>, hart: u32) -> Result<(), AllocError>
     ensures { IfOk result (λ _. (k : ℕ) → is_chosen chosen.new.items k

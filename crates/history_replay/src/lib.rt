@@ -1,4 +1,4 @@
-//! Histories done again on a machine, entry by entry.
+//! Replays a history on a machine, entry by entry.
 #![tactic(auto)]
 
 pub use chosen::chosen_harts;

@@ -1,5 +1,5 @@
-//! A history done again: an entry's local steps in a loop, and then its last step. The list of choices that it stands for is
-//! never held, so an entry of 2^32 - 1 local steps wants no memory.
+//! Replays a history: an entry's local steps in a loop, then its last step. The list of choices
+//! that it stands for is never held, so an entry of 2^32 - 1 local steps takes no memory.
 ghost use Rattle.std.specs.Prelude.{◌≡◌, ◌<◌, length};
 ghost use Rattle.std.specs.List.{All};
 ghost use Rattle.machine.specs.World.{step, run};
@@ -11,7 +11,7 @@ use machine::{Choice, Machine};
 use mem_flat::FlatStore;
 use std::alloc::Allocator;
 
-/// The run of the choices that a history stands for. It wants no memory.
+/// Runs the choices that a history stands for. Allocates nothing.
 #[tactic(auto, using(crate::proofs::ReplayLemmas::entries_more, crate::proofs::ReplayLemmas::entries_none))]
 pub fn replay_history<A: Allocator>(machine: &mut Machine<FlatStore<A>, A>, history: &[Entry])
     requires { All (λ e. e.hart < length (state machine.old).harts) history.now }
@@ -43,7 +43,7 @@ fn replay_entry<A: Allocator>(machine: &mut Machine<FlatStore<A>, A>, entry: Ent
     take_step(machine, last);
 }
 
-// One step, which over a flat store wants no memory.
+// One step. Over a flat store it allocates nothing.
 #[inline]
 fn take_step<A: Allocator>(machine: &mut Machine<FlatStore<A>, A>, choice: Choice)
     requires { choice.hart < length (state machine.old).harts }

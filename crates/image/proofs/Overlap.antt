@@ -1,4 +1,4 @@
--- two segments share an address exactly where, sorted by base, they do not stand in a row
+-- two segments share an address exactly if, sorted by base, they do not stand in a row
 use Rattle.std.proofs.Common.{◌≡◌, ℕ, suc, ◌+◌, ◌<◌, ◌≤◌, true, false, not, cond, List, [], ◌∷◌, length, arith, ◌∙◌, sym, ap, refl, inl, inr, filter, IsPermutation}
 use Rattle.std.proofs.lemmas.Bool.{cases_lt, cases_Bool}
 use Rattle.std.proofs.lemmas.Bool.Decides.{same_from_decides, nat_tests}
@@ -11,7 +11,7 @@ use Rattle.std.specs.List.Sorted.{IsNonDecreasingBy}
 use Rattle.image.specs.declared.span.Span.{Span}
 use Rattle.image.specs.Spans.{has_address, Shares, is_filled, overlaps, any_overlap, stands_in_row}
 
--- of segments in a row no two have an address, and none has_address one that is lower
+-- of segments in a row no two share an address, and none has a lower one
 row_counts : (x end : ℕ) (ss : List Span) → stands_in_row end ss ≡ true → (x < end → length (filter (has_address x) ss) ≡ 0) × (length (filter (has_address x) ss) ≤ 1)
 row_counts x end [] e = (λ _. refl, omega arith)
 row_counts x end (s ∷ ss) e =
@@ -39,7 +39,7 @@ apart_from_row ss e shares = omega (arith, (row_counts shares.0 0 ss e).1)
 lower : (s : Span) (ss : List Span) → IsNonDecreasingBy (λ (t : Span). t.base) (s ∷ ss) → IsNonDecreasingBy (λ (t : Span). t.base) ss
 lower s ss up = λ i j d le lt. up (suc i) (suc j) d (omega arith) (omega arith)
 
--- of sorted segments that do not stand in a row two share an address
+-- of sorted segments that do not stand in a row, two share an address
 shared_from : (s : Span) (ss : List Span) → IsNonDecreasingBy (λ (t : Span). t.base) (s ∷ ss) → All (λ (t : Span). 0 < t.size) (s ∷ ss) → stands_in_row (s.base + s.size) ss ≡ false → Shares (s ∷ ss)
 shared_from s [] up full e = cc
 shared_from s (t ∷ ts) up full e = elim (cases_lt t.base (s.base + s.size)) [
@@ -122,7 +122,7 @@ sorted_shares : (row : List Span) → IsNonDecreasingBy (λ (t : Span). t.base) 
 sorted_shares [] up full e = cc
 sorted_shares (s ∷ ss) up full e = shared_from s ss up full (grind (arith, nat_tests))
 
--- the sorted segments that are not empty stand in a row exactly where no two segments share an address
+-- sorted segments that are not empty stand in a row exactly if no two share an address
 pub row_decides : (ss row : List Span) → IsPermutation (filter is_filled ss) row → IsNonDecreasingBy (λ (t : Span). t.base) row → not (stands_in_row 0 row) ≡ any_overlap ss
 row_decides ss row moved up = same_from_decides {P = Shares ss} (not (stands_in_row 0 row)) (any_overlap ss) (
   (λ e. let r : Shares row = sorted_shares row up (All-permutation (λ (t : Span). 0 < t.size) (filter is_filled ss) row moved (all_filled ss)) (grind (arith, nat_tests)) in

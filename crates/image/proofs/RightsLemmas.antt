@@ -48,7 +48,7 @@ lowered_to_the_end ss items n len is at_end whole =
     let all : items ≡ map with_low_rights ss = is ∙ ap (λ k. lowered k ss) (at_end ∙ same) ∙ lowered_all ss in
     rw (whole, same) (ap (λ t. take (length ss) (t ++ drop (length ss) ss)) all ∙ none_behind ss)
 
--- the low three bits alone are below 8
+-- the low three bits are a number below 8
 pub low : (n : ℕ) → ltb (n % 8) 8 ≡ true
 low n = grind (arith, nat_tests)
 
@@ -56,7 +56,7 @@ pub low_have_low : (ss : List SegmentValue) → HaveLowRights (map with_low_righ
 low_have_low [] = refl
 low_have_low (s ∷ ss) = rw (low s.rights, low_have_low ss) refl
 
--- the checks see nothing of the rights
+-- the spans do not depend on the rights
 pub same_spans : (ss : List SegmentValue) → map span_of (map with_low_rights ss) ≡ map span_of ss
 same_spans [] = refl
 same_spans (s ∷ ss) = ap (λ t. span_of s ∷ t) (same_spans ss)

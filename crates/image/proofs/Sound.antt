@@ -1,4 +1,4 @@
--- what passes the checks passes them without its empty segments
+-- segments that pass the checks also pass them without the empty ones
 use Rattle.std.proofs.Common.{◌≡◌, ℕ, zero, suc, ◌+◌, ◌%◌, ◌^◌, ◌<◌, ◌≤◌, Bool, true, false, not, ◌&&◌, ltb, List, [], ◌∷◌, length, get_or, arith, rules, refl, inl, inr, sum_by, filter, map, Option, Some, None, IsTrue, ◌∙◌}
 use Rattle.std.proofs.lemmas.Bool.{cases_Bool}
 use Rattle.std.proofs.lemmas.Bool.Decides.{nat_tests}
@@ -69,7 +69,7 @@ all_mapped (p ∷ ps) = elim (cases_Bool (is_mapped p)) [
   | inr empty ↦ rw empty (all_mapped ps)
 ]
 
--- segments that are mapped, whose spans are the filled ones of spans that pass
+-- segments that are not empty, whose spans are the filled ones of spans that pass
 pub sound_from : (entry : ℕ) (ps : List SegmentValue) (ss : List Span) → list_all is_mapped ps ≡ true → map span_of ps ≡ filter is_filled ss → space_fault ss ≡ None → entry % 4 ≡ 0 → IsSound entry ps
 unfolding is_sound
 sound_from entry ps ss full same pass aligned =
@@ -80,7 +80,7 @@ pub new_is_sound : (entry : ℕ) (ps : List SegmentValue) → space_fault (map s
 new_is_sound entry ps pass aligned = sound_from entry (map with_low_rights (filter is_mapped ps)) (map span_of ps)
     (same_mapped (filter is_mapped ps) ∙ all_mapped ps) (same_spans (filter is_mapped ps) ∙ mapped_spans ps) pass aligned
 
--- what a sound image's segments pass
+-- the checks that a sound image's segments pass
 pub space_from_sound : (entry : ℕ) (ss : List SegmentValue) → IsSound entry ss → (list_all is_mapped ss ≡ true) × (space_fault (map span_of ss) ≡ None)
 unfolding is_sound
 space_from_sound entry ss h = elim (cases_Bool (list_all is_mapped ss)) [
@@ -98,7 +98,7 @@ space_from_sound entry ss h = elim (cases_Bool (list_all is_mapped ss)) [
     none_from None e = refl
     none_from (Some fault) e = absurd (search rules)
 
--- no two of them share an address
+-- no two segments of a sound image share an address
 pub apart_from_sound : (entry : ℕ) (ss : List SegmentValue) → IsSound entry ss → any_overlap (map span_of ss) ≡ false
 unfolding space_fault
 apart_from_sound entry ss h =
@@ -113,7 +113,7 @@ extent_of (t ∷ ss) zero s over past inside is =
     let h : (t.base + t.size ≤ 2 ^ 32) × (length t.bytes ≤ t.size) = (grind (arith, nat_tests), grind (arith, nat_tests)) in rw is h
 extent_of (t ∷ ss) (suc i) s over past inside is = extent_of ss i s (grind (arith, nat_tests)) (grind (arith, nat_tests)) (omega arith) is
 
--- each ends by the last address, and has no more file bytes than its size
+-- each ends within the address space and has no more file bytes than its size
 pub extent_from_sound : (entry : ℕ) (ss : List SegmentValue) (i : ℕ) (s : SegmentValue) → IsSound entry ss → i < length ss → s ≡ get_or ss i s → (s.base + s.size ≤ 2 ^ 32) × (length s.bytes ≤ s.size)
 unfolding space_fault
 extent_from_sound entry ss i s h inside is =

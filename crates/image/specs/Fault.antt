@@ -1,9 +1,9 @@
--- The checks of a file: their numbers, and which of two refuses first.
+-- The checks of a file: their numbers, and which of two comes first.
 use Rattle.std.specs.Prelude.{ℕ, Bool, true, false, Option, Some, None}
 use Rattle.image.specs.declared.fault.ElfFault.{ElfFault}
 use Rattle.image.specs.declared.fault.ElfFault.TheVariants as faults
 
--- the number of a check; want of memory is none
+-- the number of a check; out of memory has none
 abbrev pub number_of : ElfFault → Option ℕ
 number_of faults.Short = Some 1
 number_of faults.Magic = Some 2
@@ -23,7 +23,7 @@ number_of faults.Dynamic = Some 15
 number_of faults.EntryAlign = Some 16
 number_of faults.Memory = None
 
--- the fault where a test finds one, else what the checks after it say
+-- the fault if the test holds, else the result of the later checks
 abbrev pub fault_if : Bool → ElfFault → Option ElfFault → Option ElfFault
 fault_if true fault later = Some fault
 fault_if false fault later = later

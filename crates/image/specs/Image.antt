@@ -14,20 +14,20 @@ pub record ImageValue : Type 0 where
   pub entry : ℕ
   pub segments : List SegmentValue
 
--- what the checks see of a segment
+-- the span of a segment, which the checks of places read
 abbrev pub span_of : SegmentValue → Span
 span_of s = record { base = s.base; size = s.size; file_size = length s.bytes }
 
--- whether a segment has an address
+-- whether a segment is not empty
 abbrev pub is_mapped : SegmentValue → Bool
 is_mapped s = nat_lt 0 s.size
 
--- no segment is empty, no check of where they stand refuses them, and the entry is a multiple of 4
+-- no segment is empty, the checks of their places pass, and the entry is a multiple of 4
 unfoldable pub is_sound : ℕ → List SegmentValue → Bool
 is_sound entry segments =
     entry % 4 == 0 && list_all is_mapped segments && is_none (space_fault (map span_of segments))
 
--- a segment with the low three bits of its rights: the bits above them say nothing
+-- a segment with the low three bits of its rights: the others have no meaning
 abbrev pub with_low_rights : SegmentValue → SegmentValue
 with_low_rights s = record s { rights = s.rights % 8 }
 
@@ -39,11 +39,11 @@ has_low_rights s = nat_lt s.rights 8
 abbrev pub HaveLowRights : List SegmentValue → Type 0
 HaveLowRights segments = list_all has_low_rights segments ≡ true
 
--- what each image keeps of its entry and its segments
+-- the invariant of an image's entry and segments
 abbrev pub IsSound : ℕ → List SegmentValue → Type 0
 IsSound entry segments = IsTrue (is_sound entry segments)
 
--- the first check that refuses an entry and segments, empty ones too
+-- the first check that an entry and segments fail, empty ones included
 unfoldable pub image_fault : ℕ → List SegmentValue → Option ElfFault
 image_fault entry segments =
     first_fault (space_fault (map span_of segments)) (
@@ -55,14 +55,14 @@ abbrev pub fault_or : Option ElfFault → ImageValue → Result ImageValue ElfFa
 fault_or (Some fault) image = Err fault
 fault_or None image = Ok image
 
--- the first check that refuses an entry and segments, else the image of the segments that are not empty, each with the low
--- three bits of its rights
+-- the first check that an entry and segments fail, else the image of the segments that are not
+-- empty, each with the low three bits of its rights
 unfoldable pub image_or_fault : ℕ → List SegmentValue → Result ImageValue ElfFault
 image_or_fault entry segments =
     fault_or (image_fault entry segments)
     (record { entry = entry; segments = map with_low_rights (filter is_mapped segments) })
 
--- a fault is the expected answer; want of memory may stand in any answer's place
+-- a fault is the expected answer; any answer may be out of memory instead
 abbrev pub Fails : ElfFault → Result ImageValue ElfFault → Type 0
 Fails faults.Short expected = expected ≡ Err faults.Short
 Fails faults.Magic expected = expected ≡ Err faults.Magic
@@ -82,7 +82,7 @@ Fails faults.Dynamic expected = expected ≡ Err faults.Dynamic
 Fails faults.EntryAlign expected = expected ≡ Err faults.EntryAlign
 Fails faults.Memory expected = Unit {0}
 
--- an answer is the expected one, or want of memory
+-- an answer is the expected one, or out of memory
 abbrev pub Gives : Result ImageValue ElfFault → Result ImageValue ElfFault → Type 0
 Gives (Ok image) expected = expected ≡ Ok image
 Gives (Err fault) expected = Fails fault expected

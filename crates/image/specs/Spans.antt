@@ -1,4 +1,4 @@
--- Where segments may stand.
+-- The places of segments.
 use Rattle.std.specs.Prelude.{ℕ, ◌+◌, ◌^◌, ◌≤◌, Bool, true, false, ◌&&◌, ◌||◌, nat_lt, nat_le, List, [], ◌∷◌, Option, None, sum_by, filter, length}
 use Rattle.std.specs.List.{list_any}
 use Rattle.image.specs.Fault.{fault_if}
@@ -6,11 +6,11 @@ use Rattle.image.specs.declared.fault.ElfFault.{ElfFault}
 use Rattle.image.specs.declared.fault.ElfFault.TheVariants as faults
 use Rattle.image.specs.declared.span.Span.{Span}
 
--- the most bytes that the segments of an image have together: 2^24
+-- the limit of an image: the largest sum of its segments' sizes, 2^24
 abbrev pub image_limit : ℕ
 image_limit = 0x0100_0000
 
--- whether a segment has an address
+-- whether an address is in a segment
 abbrev pub has_address : ℕ → Span → Bool
 has_address x s = nat_le s.base x && nat_lt x (s.base + s.size)
 
@@ -18,7 +18,7 @@ has_address x s = nat_le s.base x && nat_lt x (s.base + s.size)
 abbrev pub Shares : List Span → Type 0
 Shares spans = (x : ℕ) × (2 ≤ length (filter (has_address x) spans))
 
--- whether a segment has an address at all
+-- whether a segment is not empty
 abbrev pub is_filled : Span → Bool
 is_filled s = nat_lt 0 s.size
 
@@ -32,15 +32,15 @@ abbrev pub any_overlap : List Span → Bool
 any_overlap [] = false
 any_overlap (s ∷ ss) = list_any (overlaps s) ss || any_overlap ss
 
--- whether the file gives more bytes than the segment's size
+-- whether a segment has more file bytes than its size
 abbrev pub is_over_mem : Span → Bool
 is_over_mem s = nat_lt s.size s.file_size
 
--- whether a segment ends above the last address
+-- whether a segment ends past the last address
 abbrev pub is_past_end : Span → Bool
 is_past_end s = nat_lt (2 ^ 32) (s.base + s.size)
 
--- the first check of where segments stand that refuses them
+-- the first check of the segments' places that fails
 unfoldable pub space_fault : List Span → Option ElfFault
 space_fault ss =
     fault_if (list_any is_over_mem ss) faults.FileOverMem (
@@ -49,7 +49,7 @@ space_fault ss =
     fault_if (nat_lt image_limit (sum_by (λ s. s.size) ss)) faults.TooLarge
     None)))
 
--- whether each segment begins at or after the end of the one before it, the first at or after an address
+-- whether each segment begins at or after the end of the previous one, the first at or after `end`
 abbrev pub stands_in_row : ℕ → List Span → Bool
 stands_in_row end [] = true
 stands_in_row end (s ∷ ss) = nat_le end s.base && stands_in_row (s.base + s.size) ss

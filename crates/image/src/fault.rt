@@ -1,10 +1,10 @@
-//! Why a file or an image is refused.
+//! The faults of files and images.
 ghost use Rattle.std.specs.Prelude.{◌≡◌};
 ghost use Rattle.image.specs.Fault.{number_of};
 
 use thiserror::Error;
 
-/// The first check that refuses a file or an image, in the order of the checks; or want of memory.
+/// The first check that a file or an image fails, in the order of the checks; or out of memory.
 #[derive(Clone, Copy, Debug, PartialEq, Eq, Error)]
 pub enum ElfFault {
     /// The file has less than 52 bytes.
@@ -19,28 +19,29 @@ pub enum ElfFault {
     /// The file's numbers are not little-endian.
     #[error("elf fault 4 Encoding")]
     Encoding,
-    /// One of the two versions is not 1.
+    /// e_ident's version or e_version is not 1.
     #[error("elf fault 5 Version")]
     Version,
-    /// The file is no executable: e_type is not 2.
+    /// The file is not an executable: e_type is not ET_EXEC.
     #[error("elf fault 6 FileType")]
     FileType,
     /// The file is not for RISC-V.
     #[error("elf fault 7 Machine")]
     Machine,
-    /// The file has compressed instructions, by e_flags.
+    /// The file has compressed instructions: e_flags has EF_RISCV_RVC.
     #[error("elf fault 8 Compressed")]
     Compressed,
-    /// e_ehsize is not 52, or there are program headers and e_phentsize is not 32, or e_phnum is 65535.
+    /// e_ehsize is not 52, or there are program headers and e_phentsize is not 32, or e_phnum is
+    /// 65535.
     #[error("elf fault 9 HeaderSize")]
     HeaderSize,
-    /// The program headers, or bytes of a segment, pass the file's end.
+    /// The program headers, or bytes of a segment, lie past the end of the file.
     #[error("elf fault 10 OutsideFile")]
     OutsideFile,
     /// A segment has more file bytes than its size.
     #[error("elf fault 11 FileOverMem")]
     FileOverMem,
-    /// A segment ends above the last address.
+    /// A segment ends past the last address.
     #[error("elf fault 12 PastEnd")]
     PastEnd,
     /// Two segments share an address.
@@ -49,19 +50,19 @@ pub enum ElfFault {
     /// The sizes of all segments add up to more than `IMAGE_LIMIT`.
     #[error("elf fault 14 TooLarge")]
     TooLarge,
-    /// The file asks for a dynamic linker, by a header PT_DYNAMIC or PT_INTERP.
+    /// The file needs a dynamic linker: it has a header PT_DYNAMIC or PT_INTERP.
     #[error("elf fault 15 Dynamic")]
     Dynamic,
-    /// The entry is no multiple of 4.
+    /// The entry is not a multiple of 4.
     #[error("elf fault 16 EntryAlign")]
     EntryAlign,
-    /// The host refused memory.
+    /// Out of memory.
     #[error("out of memory")]
     Memory,
 }
 
 impl ElfFault {
-    /// The number of the check that refused, from 1 on; want of memory has none.
+    /// The number of the failed check, from 1 on; `None` for out of memory.
     pub fn number(&self) -> Option<u8>
         ensures { result ≡ number_of self.now }
     {

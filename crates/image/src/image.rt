@@ -9,11 +9,11 @@ use crate::span::Span;
 use std::alloc::{AllocError, Allocator};
 use std::marker::Model;
 
-/// Where a program begins, and its segments.
+/// A program's entry and its segments.
 ///
-/// No segment is empty or has more file bytes than its size; no two share an address; none ends above the last
-/// address; their sizes add up to at most `IMAGE_LIMIT`; the entry is a multiple of 4. Rights have no bit but the low three, so
-/// that images with the same rights are the same.
+/// No segment is empty or has more file bytes than its size. No two segments share an address, and
+/// none ends past the last address. Their sizes add up to at most `IMAGE_LIMIT`. The entry is a
+/// multiple of 4. Rights have only the low three bits, so images with the same rights are equal.
 #[derive(Drop)]
 pub struct Image<A: Allocator> {
     entry: u32,
@@ -31,9 +31,11 @@ impl<A: Allocator> Model for Image<A> {
 }
 
 impl<A: Allocator + Copy> Image<A> {
-    /// Makes an image of an entry and segments, of which it leaves out the empty ones. Of rights it keeps the low three bits.
+    /// Makes an image of an entry and segments. Empty segments are dropped, and of the rights the
+    /// low three bits are kept.
     ///
-    /// The checks come in the order of `ElfFault`, and see the empty segments too.
+    /// The fault is the first check that fails, in the order of `ElfFault`; empty segments are
+    /// checked too.
     #[tactic(auto, using(crate::proofs::Sound::new_is_sound, crate::proofs::RightsLemmas::low_have_low), unfolding(crate::specs::Image::image_or_fault, crate::specs::Image::image_fault))]
     pub fn new(alloc: A, entry: u32, segments: Vec<Segment<A>, A>) -> Result<Image<A>, ElfFault>
         ensures { Gives result (image_or_fault entry segments.items) }
@@ -62,19 +64,20 @@ impl<A: Allocator> Image<A> {
         self.entry
     }
 
-    /// The segments, in the order in which they were given.
+    /// The segments, in the order in which they were given to `new`.
     pub fn segments(&self) -> &[Segment<A>]
         ensures value { result.now ≡ self.now.segments }
         ensures sound { IsSound self.now.entry self.now.segments }
         ensures rights { HaveLowRights self.now.segments }
     {
-        // Reading the entry tells the proof of `sound` which entry the segments were checked with.
+        // The proof of `sound` needs the entry that the segments were checked with; this reads it.
         let _ = &self.entry;
         &self.segments
     }
 }
 
-/// An image of an entry and segments that are known to be sound, as those of a file that has passed all checks.
+/// An image of an entry and segments that are known to be sound, such as those of a file that has
+/// passed all checks.
 pub fn image_of<A: Allocator>(entry: u32, segments: Vec<Segment<A>, A>) -> Image<A>
     requires sound { IsSound entry segments.items }
     requires rights { HaveLowRights segments.items }
@@ -83,7 +86,7 @@ pub fn image_of<A: Allocator>(entry: u32, segments: Vec<Segment<A>, A>) -> Image
     Image { entry, segments }
 }
 
-/// What the checks see of segments.
+// The spans of segments, for the checks.
 fn spans_of<A: Allocator + Copy>(
     alloc: A,
     segments: &[Segment<A>],
@@ -97,7 +100,7 @@ fn spans_of<A: Allocator + Copy>(
     Ok(spans)
 }
 
-/// The segments that are not empty.
+// The segments that are not empty.
 fn mapped_segments<A: Allocator>(segments: Vec<Segment<A>, A>) -> Vec<Segment<A>, A>
     ensures { result.items ≡ filter is_mapped segments.items }
 {
@@ -106,7 +109,7 @@ fn mapped_segments<A: Allocator>(segments: Vec<Segment<A>, A>) -> Vec<Segment<A>
     mapped
 }
 
-/// Segments with the low three bits of their rights.
+// The segments with the low three bits of their rights.
 fn low_rights<A: Allocator>(segments: Vec<Segment<A>, A>) -> Vec<Segment<A>, A>
     ensures { result.items ≡ map with_low_rights segments.items }
 {

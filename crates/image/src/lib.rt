@@ -1,4 +1,4 @@
-//! Images: where a program begins, and what stands in memory when it does.
+//! Program images: the entry, and the segments that stand in memory at the start.
 #![tactic(auto)]
 
 pub use fault::ElfFault;

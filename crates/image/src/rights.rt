@@ -4,7 +4,7 @@ ghost use Rattle.std.specs.Int.RustNames.{bit_and};
 
 use bitflags::{Flag, Flags, bitflag_items};
 
-/// What may be done with the bytes of a segment: the low bits of `p_flags` (System V ELF, "Program Header").
+/// The rights of a segment's bytes: the low bits of `p_flags` (System V ELF, "Program Header").
 #[derive(Clone, Copy, PartialEq, Eq)]
 pub struct Rights(u8);
 
@@ -39,24 +39,24 @@ impl Flags for Rights {
 }
 
 impl Rights {
-    /// All of them, to ask for any.
+    /// All rights, for an access that any right allows.
     pub const ANY: Rights = Rights(7);
 
-    /// The rights that a program header's flags give: the low three bits. Higher bits are ignored.
+    /// The rights of a program header's flags: the low three bits. Higher bits are ignored.
     pub fn of_flags(p_flags: u32) -> Rights
         ensures { result.0 ≡ p_flags % 8 }
     {
         Rights((p_flags % 8) as u8)
     }
 
-    /// Its low three bits alone: no other bit says anything.
+    /// The low three bits of the rights; no other bit has a meaning.
     pub(crate) fn low(self) -> Rights
         ensures { result.0 ≡ self.0 % 8 }
     {
         Rights(self.0 % 8)
     }
 
-    /// Whether one of the wanted rights is given.
+    /// Whether at least one of the wanted rights is given.
     #[inline]
     pub fn grants(&self, wanted: Rights) -> bool
         ensures { result ≡ not (bit_and self.now.0 wanted.0 == 0) }

@@ -7,16 +7,17 @@ use crate::span::Span;
 use std::alloc::Allocator;
 use std::marker::Model;
 
-/// A piece of memory: its first address, its size in bytes, its rights, and its first bytes. The others are 0.
+/// A segment: its first address, its size in bytes, its rights, and its first bytes. The others are
+/// 0.
 #[derive(Drop)]
 pub struct Segment<A: Allocator> {
     /// The first address (p_vaddr).
     pub base: u32,
-    /// How many addresses it has (p_memsz).
+    /// The size in bytes (p_memsz).
     pub size: u32,
-    /// What may be done with each of its bytes.
+    /// The rights of each of its bytes (p_flags).
     pub rights: Rights,
-    /// The bytes that the file gives (p_filesz of them).
+    /// The bytes from the file (p_filesz of them).
     pub bytes: Vec<u8, A>,
 }
 
@@ -34,7 +35,7 @@ impl<A: Allocator> Model for Segment<A> {
 }
 
 impl<A: Allocator> Segment<A> {
-    /// What the checks see of it.
+    /// The segment's span, for the checks.
     pub(crate) fn span(&self) -> Span
         ensures { result ≡ span_of self.now }
     {
@@ -45,7 +46,7 @@ impl<A: Allocator> Segment<A> {
         }
     }
 
-    /// Whether it has an address.
+    /// Whether the segment is not empty.
     pub(crate) fn is_mapped(&self) -> bool
         ensures { result ≡ is_mapped self.now }
     {

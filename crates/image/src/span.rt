@@ -1,12 +1,12 @@
-//! What the checks see of a segment.
+//! The span of a segment, which the checks of places read.
 
-/// Where a segment stands, its size, and how many bytes the file gives of it.
+/// The place of a segment, its size, and the number of its bytes in the file.
 #[derive(Clone, Copy, PartialEq, Eq)]
 pub struct Span {
     /// The first address (p_vaddr).
     pub base: u32,
-    /// How many addresses it has (p_memsz).
+    /// The size in bytes (p_memsz).
     pub size: u32,
-    /// How many bytes the file gives (p_filesz).
+    /// The number of bytes in the file (p_filesz).
     pub file_size: usize,
 }

@@ -42,14 +42,14 @@ pub(crate) fn rs2(word: u32) -> Reg
     Reg::new(((word >> 20) & 0x1f) as u8)
 }
 
-/// Bits 24 to 20, as a number of places.
+/// Bits 24 to 20, as a shift amount.
 pub(crate) fn shift_amount(word: u32) -> ShiftAmount
     ensures { result ≡ spec.rs2 word }
 {
     ShiftAmount::new(((word >> 20) & 0x1f) as u8)
 }
 
-/// The low four bits, of a word shifted down to them.
+/// The low four bits of a word.
 pub(crate) fn fence_set(word: u32) -> FenceSet
     ensures { result ≡ word % 2 ^ 4 }
 {
@@ -77,7 +77,7 @@ pub(crate) fn branch_offset(word: u32) -> BranchOffset
     BranchOffset::extend(branch_field(word))
 }
 
-/// The 13 bits of the offset of a branch.
+// The 13 bits of a branch offset.
 #[tactic(auto, using(isa_table::proofs::Or::places))]
 fn branch_field(word: u32) -> u32
     ensures { result ≡ spec.bits word 31 1 * 2 ^ 12 + spec.bits word 7 1 * 2 ^ 11
@@ -103,7 +103,7 @@ pub(crate) fn jump_offset(word: u32) -> JumpOffset
     JumpOffset::extend(jump_field(word))
 }
 
-/// The 21 bits of the offset of a jump.
+// The 21 bits of a jump offset.
 #[tactic(auto, using(isa_table::proofs::Or::places))]
 fn jump_field(word: u32) -> u32
     ensures { result ≡ spec.bits word 31 1 * 2 ^ 20 + spec.bits word 12 8 * 2 ^ 12

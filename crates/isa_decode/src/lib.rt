@@ -16,9 +16,9 @@ use fields::{
 use isa_table::{Instr, codes};
 use operations::{amo_op, branch_op, immediate_op, load_op, register_op, shift_op, store_op};
 
-/// The instruction that a word spells, or `None` where it spells none: words of other extensions,
-/// words with a wrong fixed bit, and LR with rs2 not 0.
-/// Unprivileged ISA, "RV32/64G Instruction Set Listings".
+/// The instruction that a word spells, or `None` if it spells none: words of other extensions,
+/// words with a wrong fixed bit, and LR with rs2 not 0. Unprivileged ISA, "RV32/64G Instruction Set
+/// Listings".
 pub fn decode(word: u32) -> Option<Instr>
     ensures spelled { (i : Instr) → (result ≡ Some i) ↔ Spells word i }
     ensures computed { result ≡ spec.decoded word }
@@ -26,7 +26,7 @@ pub fn decode(word: u32) -> Option<Instr>
     instr_at(word)
 }
 
-/// By the opcode.
+// Selects by the opcode.
 #[tactic(auto, unfolding(isa_table::specs::Decoded::decoded))]
 fn instr_at(word: u32) -> Option<Instr>
     ensures { result ≡ spec.decoded word }
@@ -78,7 +78,7 @@ fn instr_at(word: u32) -> Option<Instr>
     }
 }
 
-/// With the opcode of JALR.
+// Opcode of JALR.
 fn jalr_instr(word: u32) -> Option<Instr>
     ensures { result ≡ spec.jalr_at word }
 {
@@ -92,7 +92,7 @@ fn jalr_instr(word: u32) -> Option<Instr>
     }
 }
 
-/// With the opcode of FENCE.
+// Opcode of FENCE.
 fn fence_instr(word: u32) -> Option<Instr>
     ensures { result ≡ spec.fence_at word }
 {
@@ -108,7 +108,7 @@ fn fence_instr(word: u32) -> Option<Instr>
     }
 }
 
-/// With the opcode of the operations with an immediate, shifts among them.
+// Opcode of the operations with an immediate, shifts among them.
 fn immediate_instr(word: u32) -> Option<Instr>
     ensures { result ≡ spec.immediate_at word }
 {
@@ -133,7 +133,7 @@ fn immediate_instr(word: u32) -> Option<Instr>
     }
 }
 
-/// With the opcode of the A extension.
+// Opcode of the A extension.
 fn atomic_instr(word: u32) -> Option<Instr>
     ensures { result ≡ spec.atomic_at word }
 {
@@ -164,7 +164,7 @@ fn atomic_instr(word: u32) -> Option<Instr>
     }
 }
 
-/// With the opcode of ECALL and EBREAK.
+// Opcode of ECALL and EBREAK.
 fn system_instr(word: u32) -> Option<Instr>
     ensures { result ≡ spec.system_at word }
 {

@@ -38,7 +38,7 @@ next_word at place bytes room =
     let three : drop (place + 3) bytes ≡ slice_index bytes (place + 3) ∷ drop (place + 4) bytes = later 3 place bytes (omega arith) in
     rw (drop_one place bytes (omega arith)) (rw one (rw two (rw three refl)))
 
--- what stands behind an entry
+-- an entry and the text after it
 entry_joins : (text : List ℕ) (at word : ℕ) (rest : List ℕ) → (text ++ word_entry at word []) ++ rest ≡ text ++ word_entry at word rest
 entry_joins text at word rest = search (rules, common_steps)
 
@@ -59,7 +59,7 @@ one_word text longer all bytes base index word room is_word is_longer so_far =
     ∙ ap (λ l. text ++ l) (sym (next_word (base + 4 * index) (4 * index) bytes room))
     ∙ so_far))
 
--- what stands behind a byte's line
+-- a byte's line and the text after it
 byte_joins : (at byte : ℕ) (more rest : List ℕ) → byte_entry at byte more ++ rest ≡ byte_entry at byte (more ++ rest)
 byte_joins at byte more rest = search (rules, common_steps)
 
@@ -69,7 +69,7 @@ unfolding byte_lines
 lines_then at [] rest = refl
 lines_then at (b ∷ bytes) rest = byte_joins at b (byte_lines (at + 1) bytes []) rest ∙ ap (λ l. byte_entry at b l) (lines_then (at + 1) bytes rest)
 
--- a text, the lines of bytes, and what stands behind
+-- a text, the lines of bytes, and the text after them
 pub lines_join : (text rest : List ℕ) (at : ℕ) (bytes : List ℕ) → (text ++ byte_lines at bytes []) ++ rest ≡ text ++ byte_lines at bytes rest
 lines_join text rest at bytes =
     let e : (text ++ byte_lines at bytes []) ++ rest ≡ text ++ (byte_lines at bytes [] ++ rest) = search (rules, common_steps) in

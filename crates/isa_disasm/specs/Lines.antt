@@ -18,7 +18,7 @@ word_line word = codes ".word 0x" ++ word_text word
 abbrev pub upper_line : List ℕ → ℕ → ℕ → List ℕ
 upper_line name rd high = name ++ (codes " " ++ (abi rd ++ (codes ", 0x" ++ digits 16 false high)))
 
--- the address that an offset leads to
+-- the target address of an offset
 abbrev pub target_of : ℕ → ℕ → ℕ
 target_of at offset = (at + offset) % 2 ^ 32
 
@@ -72,7 +72,7 @@ atomic_line name aq rl rd rs2 rs1 =
 abbrev pub sets_line : ℕ → ℕ → List ℕ
 sets_line pred succ = codes "fence " ++ (set_name pred ++ (codes ", " ++ set_name succ))
 
--- a fence of two sets that aren't empty, in which all else is 0
+-- a fence of two sets that are not empty, in which all else is 0
 abbrev pub is_plain_fence : ℕ → ℕ → ℕ → ℕ → ℕ → Bool
 is_plain_fence mode pred succ rs1 rd = mode == 0 && not (pred == 0) && not (succ == 0) && rs1 == 0 && rd == 0
 
@@ -80,7 +80,7 @@ is_plain_fence mode pred succ rs1 rd = mode == 0 && not (pred == 0) && not (succ
 abbrev pub is_tso_fence : ℕ → ℕ → ℕ → ℕ → ℕ → Bool
 is_tso_fence mode pred succ rs1 rd = mode == 8 && pred == 3 && succ == 3 && rs1 == 0 && rd == 0
 
--- a fence; all but these have no text of their own
+-- a fence; any other has no text of its own
 abbrev pub fence_line : ℕ → ℕ → ℕ → ℕ → ℕ → ℕ → List ℕ
 fence_line word mode pred succ rs1 rd =
     if is_plain_fence mode pred succ rs1 rd then sets_line pred succ

@@ -1,4 +1,4 @@
--- The listing of an image: of each executable segment a head and its lines.
+-- The listing of an image: for each executable segment a head and its lines.
 use Rattle.std.specs.Prelude.{◌≡◌, ◌≤◌, ℕ, ◌+◌, ◌^◌, ◌-◌, ◌%◌, ◌==◌, ◌++◌, Bool, List, ◌∷◌, codes, length, replicate, filter, IsPermutation}
 use Rattle.std.specs.Borrow.{Bor}
 use Rattle.std.specs.List.{flat_map}
@@ -12,16 +12,16 @@ use Rattle.isa_disasm.specs.Listing.{lines_from}
 abbrev pub is_executable : SegmentValue → Bool
 is_executable s = s.rights % 2 == 1
 
--- the bytes of a segment: those of the file, and then zeros up to its size
+-- the bytes of a segment: those of the file, then zeros up to its size
 abbrev pub contents_of : SegmentValue → List ℕ
 contents_of s = s.bytes ++ replicate (s.size - length s.bytes) 0
 
--- a segment ends by the last address, and the file gives no more than its size
+-- a segment ends within the address space, and its bytes of the file are at most its size
 pub record HasRoom (s : SegmentValue) : Type 0 where
   pub end : s.base + s.size ≤ 2 ^ 32
   pub held : length s.bytes ≤ s.size
 
--- what a reference refers to
+-- the value that a reference refers to
 abbrev pub now_of : Bor SegmentValue → SegmentValue
 now_of r = r.now
 

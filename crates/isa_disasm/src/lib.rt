@@ -1,11 +1,11 @@
-//! Listings: words as the canonical lines of the assembler's language.
+//! Instruction words and images as canonical assembly lines.
 #![tactic(auto)]
 
-pub use image::list_image;
+pub use image_lines::list_image;
 pub use line::{Line, line_of};
 pub use lines::push_listing;
 
-mod image;
+mod image_lines;
 mod line;
 mod lines;
 mod shapes;

@@ -14,12 +14,13 @@ use isa_table::{FenceSet, Instr, Mnemonic, Order};
 use std::alloc::{AllocError, Allocator};
 use std::fmt;
 
-/// A word at an address (in bytes), shown as its canonical line in the assembler's language: the instruction that the
-/// word spells, with the addresses that branches and jumps lead to; `.word` where it spells none, and for fences that
-/// the language has no text for. Registers have their names by role, x8 being `s0`. There is no line end.
+/// A word at an address (in bytes), displayed as its canonical assembly line, without a line end.
+/// The line is the instruction that the word spells, with the target addresses of branches and
+/// jumps. It is `.word` if the word spells none or a fence without a text of its own. Registers
+/// have their ABI names; x8 is `s0`.
 #[derive(Clone, Copy)]
 pub struct Line {
-    /// Where the word stands.
+    /// The address of the word.
     pub address: u32,
     /// The word.
     pub word: u32,
@@ -37,7 +38,7 @@ impl fmt::Display for Line {
     }
 }
 
-// The line of an instruction at an address, which the word spells.
+// The line of the instruction that the word spells.
 fn write_instr<W: fmt::Write>(
     f: &mut fmt::Formatter<W>,
     address: u32,
@@ -101,7 +102,7 @@ fn write_instr<W: fmt::Write>(
     }
 }
 
-// The line of a fence without registers.
+// The line of a fence whose rd and rs1 are x0.
 fn write_fence<W: fmt::Write>(
     f: &mut fmt::Formatter<W>,
     word: u32,
@@ -119,7 +120,8 @@ fn write_fence<W: fmt::Write>(
     }
 }
 
-/// The canonical line of a word at an address (in bytes), without a line end.
+/// The canonical line of a word at an address (in bytes), without a line end. Fails when out of
+/// memory.
 pub fn line_of<A: Allocator>(alloc: A, address: u32, word: u32) -> Result<String<A>, AllocError>
     ensures { IfOk result (λ text. string_bytes text ≡ line_text address word) }
 {

@@ -7,7 +7,7 @@ use crate::line::Line;
 use isa_names::{Byte, Word};
 use std::alloc::{AllocError, Allocator};
 
-/// The word of the four bytes at a place, the lowest first.
+// The little-endian word of the four bytes at a place.
 fn word_at(bytes: &[u8], place: usize) -> u32
     requires { place + 3 < length bytes.now }
     ensures { result ≡ word_of_bytes (slice_index bytes.now place) (slice_index bytes.now (place + 1))
@@ -21,7 +21,7 @@ fn word_at(bytes: &[u8], place: usize) -> u32
     ])
 }
 
-/// Adds the lines of the words that bytes from an aligned address on begin with, of each four bytes one.
+// Appends a line for each whole word of the bytes. The base is aligned.
 #[tactic(auto, using(crate::proofs::ListingLemmas::next_word))]
 fn push_words<A: Allocator>(text: &mut String<A>, base: u64, bytes: &[u8]) -> Result<(), AllocError>
     requires room { base + length bytes.now ≤ 2 ^ 32 }
@@ -40,7 +40,7 @@ fn push_words<A: Allocator>(text: &mut String<A>, base: u64, bytes: &[u8]) -> Re
     Ok(())
 }
 
-/// Adds the lines of bytes that are in no aligned word.
+// Appends a line for each byte; none of them is in an aligned word.
 #[tactic(auto, unfolding(crate::specs::Listing::byte_lines))]
 fn push_bytes<A: Allocator>(text: &mut String<A>, base: u64, bytes: &[u8]) -> Result<(), AllocError>
     requires room { base + length bytes.now ≤ 2 ^ 32 }
@@ -54,7 +54,8 @@ fn push_bytes<A: Allocator>(text: &mut String<A>, base: u64, bytes: &[u8]) -> Re
     Ok(())
 }
 
-/// Adds the lines of bytes from an aligned address on: one for each word, and one for each byte behind the last whole word.
+/// Appends the lines of bytes at an aligned address: one for each word, then one for each byte
+/// after the last whole word. Fails when out of memory.
 #[tactic(auto, using(crate::proofs::ListingLemmas::tail_is_bytes))]
 pub fn push_listing<A: Allocator>(
     text: &mut String<A>,
@@ -71,7 +72,7 @@ pub fn push_listing<A: Allocator>(
     push_bytes(text, base + whole as u64, tail)
 }
 
-/// Adds the lines of bytes from any address on.
+/// Appends the lines of bytes at any address. Fails when out of memory.
 #[tactic(auto, using(crate::proofs::ListingLemmas::parts_join), unfolding(crate::specs::Listing::lines_from))]
 pub fn push_lines<A: Allocator>(
     text: &mut String<A>,

@@ -9,7 +9,7 @@ use isa_names::{FenceAccesses, RegisterName, Word};
 use isa_table::{FenceSet, Immediate12, Order, Reg, ShiftAmount, UpperImmediate};
 use std::fmt;
 
-/// A word that has no other text.
+/// A `.word` line.
 pub fn write_word<W: fmt::Write>(f: &mut fmt::Formatter<W>, word: u32) -> fmt::Result
     ensures { DisplaysOnOk W.write_str_gives f.old result (Some (word_line word)) f.new }
 {
@@ -113,7 +113,7 @@ pub fn write_register<W: fmt::Write>(
     write!(f, "{name} {rd}, {rs1}, {rs2}")
 }
 
-/// An order, shown by its suffix.
+// An ordering, displayed as its suffix.
 #[derive(Clone, Copy)]
 struct Suffix(Order);
 

@@ -1,4 +1,4 @@
-//! The formats: where the fields of a word stand. Unprivileged ISA, "Base Instruction Formats" and
+//! The formats: the places of a word's fields. Unprivileged ISA, "Base Instruction Formats" and
 //! "Immediate Encoding Variants".
 ghost use Rattle.std.specs.Prelude.{◌≡◌, ◌+◌, ◌*◌, ◌/◌, ◌%◌, ◌^◌, ◌<◌};
 ghost use Rattle.isa_table.specs.Ranges.{IsSignedWord};
@@ -6,7 +6,7 @@ ghost use Rattle.isa_table.specs.Spells.{bit};
 
 use isa_table::{BranchOffset, FenceSet, Immediate12, JumpOffset, Reg, UpperImmediate, codes};
 
-/// The word of the fields of the R format.
+/// The word with these fields of the R format.
 #[tactic(auto, using(isa_table::proofs::Or::places))]
 pub(crate) fn joined(funct7: u32, rs2: u32, rs1: u32, funct3: u32, rd: u32, opcode: u32) -> u32
     requires funct7 { funct7 < 2 ^ 7 }
@@ -127,7 +127,7 @@ pub(crate) fn j_word(offset: JumpOffset, rd: Reg, opcode: u32) -> u32
     jump_field(offset) << 12 | u32::from(rd.number()) << 7 | opcode
 }
 
-/// The bits 31 to 12 of a jump.
+// Bits 31 to 12 of a jump.
 #[tactic(auto, using(isa_table::proofs::Or::places))]
 fn jump_field(offset: u32) -> u32
     ensures { result ≡ offset / 2 ^ 12 % 2 ^ 8 + offset / 2 ^ 11 % 2 * 2 ^ 8
@@ -155,7 +155,7 @@ pub(crate) fn fence_word(mode: FenceSet, pred: FenceSet, succ: FenceSet, rs1: Re
         | codes::OPCODE_FENCE
 }
 
-/// The bits 31 to 25 of an instruction of the A extension.
+/// Bits 31 to 25 of an instruction of the A extension.
 #[tactic(auto, using(isa_table::proofs::Or::places))]
 pub(crate) fn atomic_funct7(funct5: u32, aq: bool, rl: bool) -> u32
     requires { funct5 < 2 ^ 5 }

@@ -79,7 +79,7 @@ pub fn encode(instr: &Instr) -> u32
     }
 }
 
-/// The word of a shift by an immediate.
+// The word of a shift by an immediate.
 fn shift_word(op: ShiftOp, amount: ShiftAmount, rs1: Reg, rd: Reg) -> u32
     ensures value { result ≡ code OPCODE_IMMEDIATE (table.shift_funct3 op) (table.shift_funct7 op)
         + rd * 2 ^ 7 + rs1 * 2 ^ 15 + amount * 2 ^ 20 }
@@ -95,7 +95,7 @@ fn shift_word(op: ShiftOp, amount: ShiftAmount, rs1: Reg, rd: Reg) -> u32
     )
 }
 
-/// The word of an operation on two registers.
+// The word of an operation on two registers.
 fn register_word(op: RegisterOp, rs2: Reg, rs1: Reg, rd: Reg) -> u32
     ensures value { result
         ≡ code OPCODE_REGISTER (table.register_funct3 op) (table.register_funct7 op)
@@ -106,7 +106,7 @@ fn register_word(op: RegisterOp, rs2: Reg, rs1: Reg, rd: Reg) -> u32
     r_word(funct7, rs2, rs1, funct3, rd, OPCODE_REGISTER)
 }
 
-/// The word of an instruction of the A extension.
+// The word of an instruction of the A extension.
 fn atomic_word(funct5: u32, aq: bool, rl: bool, rs2: Reg, rs1: Reg, rd: Reg) -> u32
     requires { funct5 < 2 ^ 5 }
     ensures value { result ≡ atomic_code funct5 + rd * 2 ^ 7 + rs1 * 2 ^ 15 + rs2 * 2 ^ 20

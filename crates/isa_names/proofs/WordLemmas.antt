@@ -8,7 +8,7 @@ use Rattle.std.proofs.lemmas.Grind.{common_steps}
 use Rattle.std.specs.Fmt.{digits, digits_onto, digit_glyph, padded_integral, char_count, format_spec}
 use Rattle.isa_names.specs.Digits.{hex_onto, word_text, byte_text}
 
--- one more of the same, in front or behind
+-- one more of the same, in front or after
 more_same : (k x : ℕ) (acc : List ℕ) → replicate k x ++ (x ∷ acc) ≡ x ∷ (replicate k x ++ acc)
 more_same zero x acc = refl
 more_same (suc k) x acc = ap (λ l. x ∷ l) (more_same k x acc)
@@ -53,7 +53,7 @@ pads (suc k) (suc i) n acc pos le lt = ⊎_elim
     ∙ ap (λ ds. replicate (length acc + suc k - length ds) 48 ++ ds) (sym (more_digits i n acc more)))
     (cases_lt n 16)
 
--- at least so many digits, as a hole with a width gives them
+-- at least this many digits, as a hole with a width gives them
 padded_form : (width : ℕ) (ds : List ℕ) → padded_integral (format_spec 32 0 4 width (2 ^ 64 - 1)) false [] ds ≡ replicate (width - length ds) 48 ++ ds
 unfolding padded_integral char_count
 padded_form width ds = search (rules, common_steps)

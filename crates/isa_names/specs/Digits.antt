@@ -2,7 +2,7 @@
 use Rattle.std.specs.Prelude.{ℕ, zero, suc, ◌/◌, ◌%◌, List, [], ◌∷◌, false}
 use Rattle.std.specs.Fmt.{digit_glyph}
 
--- the last k hexadecimal digits of n, with zeros in front, and then a text
+-- the last k hexadecimal digits of n, with leading zeros, and then a text
 abbrev pub hex_onto : ℕ → ℕ → List ℕ → List ℕ
 hex_onto zero n text = text
 hex_onto (suc k) n text = hex_onto k (n / 16) (digit_glyph false (n % 16) ∷ text)

@@ -13,7 +13,7 @@ abi_names =
 unfoldable pub abi : ℕ → List ℕ
 abi register = get_or abi_names register []
 
--- a letter, where the set has the bit of this worth
+-- a letter, if the set has the bit of this weight
 abbrev pub letter : ℕ → ℕ → ℕ → List ℕ
 letter byte set worth = if set / worth % 2 == 1 then byte ∷ [] else []
 

@@ -6,7 +6,8 @@ ghost use Rattle.isa_names.specs.Names.{set_name};
 use isa_table::FenceSet;
 use std::fmt;
 
-/// The letters of a set, in the order `iorw`: device input, device output, read, write. The empty set has none.
+/// The letters of a set, in the order `iorw`: device input, device output, read, write. The empty
+/// set has none.
 #[tactic(auto, unfolding(crate::specs::Names::set_name))]
 pub fn accesses_name(set: FenceSet) -> &'static str
     ensures { result.now ≡ set_name set }
@@ -32,7 +33,7 @@ pub fn accesses_name(set: FenceSet) -> &'static str
     }
 }
 
-/// A set of accesses, shown by its letters.
+/// A set of accesses, displayed as its letters.
 #[derive(Clone, Copy)]
 pub struct FenceAccesses(pub FenceSet);
 

@@ -1,4 +1,5 @@
-//! The names of registers and of the sets of a fence, as assemblers write them; words and bytes as hexadecimal digits.
+//! The names of registers and of fence sets, as assemblers write them; words and bytes as
+//! hexadecimal digits.
 #![tactic(auto)]
 
 pub use fence::{FenceAccesses, accesses_name};

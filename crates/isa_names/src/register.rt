@@ -6,7 +6,7 @@ ghost use Rattle.isa_names.specs.Names.{abi};
 use isa_table::Reg;
 use std::fmt;
 
-/// The name of a register by its role: `zero`, `ra`, `sp` and so on. x8 is `s0`.
+/// The ABI name of a register: `zero`, `ra`, `sp` and so on. x8 is `s0`.
 #[tactic(auto, unfolding(crate::specs::Names::abi))]
 pub fn abi_name(register: Reg) -> &'static str
     ensures { result.now ≡ abi register }
@@ -48,7 +48,7 @@ pub fn abi_name(register: Reg) -> &'static str
     }
 }
 
-/// A register, shown by its name.
+/// A register, displayed as its ABI name.
 #[derive(Clone, Copy)]
 pub struct RegisterName(pub Reg);
 

@@ -1,4 +1,4 @@
-//! Words and bytes as they are printed.
+//! Words and bytes as hexadecimal digits.
 
 ghost use Rattle.std.specs.Prelude.{◌≡◌, ◌<◌, Some, false};
 ghost use Rattle.std.specs.Fmt.{digit_glyph};
@@ -18,7 +18,7 @@ fn digit_of(number: u32) -> u8
     }
 }
 
-// The digits of a word.
+// The eight digits of a word.
 #[tactic(auto, using(crate::proofs::WordLemmas::digit_step), unfolding(crate::specs::Digits::word_text))]
 fn digits_of(word: u32) -> [u8; 8]
     ensures { result ≡ word_text word }
@@ -32,7 +32,7 @@ fn digits_of(word: u32) -> [u8; 8]
     digits
 }
 
-// A text of ASCII bytes.
+// ASCII bytes as a text.
 fn ascii(bytes: &[u8]) -> &str
     requires { IsAscii bytes.now }
     ensures { result.now ≡ bytes.now }
@@ -41,7 +41,7 @@ fn ascii(bytes: &[u8]) -> &str
     unsafe { str::from_utf8_unchecked(bytes) }
 }
 
-/// A word or an address, shown as eight lower-case hexadecimal digits.
+/// A word or an address, displayed as eight lower-case hexadecimal digits.
 #[derive(Clone, Copy)]
 pub struct Word(pub u32);
 
@@ -54,7 +54,7 @@ impl fmt::Display for Word {
     }
 }
 
-/// A byte, shown as two lower-case hexadecimal digits.
+/// A byte, displayed as two lower-case hexadecimal digits.
 #[derive(Clone, Copy)]
 pub struct Byte(pub u8);
 

@@ -1,5 +1,5 @@
--- The instruction of a word as the decoder goes: by opcode, then by the other codes.
--- `Spells` has the manual's words; the law `decoded_is_spelled` ties the two.
+-- The instruction of a word, in the decoder's order: by opcode, then by the other codes. `Spells`
+-- has the manual's words; the law `decoded_is_spelled` ties the two.
 use Rattle.std.specs.Prelude.{ℕ, ◌+◌, ◌*◌, ◌/◌, ◌%◌, ◌^◌, ◌==◌, ◌||◌}
 use Rattle.std.specs.Prelude.{Option, Some, None, if◌then◌else◌, Bool, option_map}
 use Rattle.isa_table.specs.Ranges.{sign_extend}
@@ -27,7 +27,7 @@ use Rattle.isa_table.specs.declared.mnemonic.AmoOp.TheVariants.{Amoswap, Amoadd,
 use Rattle.isa_table.specs.declared.mnemonic.AmoOp.TheVariants.{Amoor}
 use Rattle.isa_table.specs.declared.mnemonic.AmoOp.TheVariants.{Amomin, Amomax, Amominu, Amomaxu}
 
--- so many bits of a word, from a place on
+-- this many bits of a word, from a place on
 abbrev pub bits : ℕ → ℕ → ℕ → ℕ
 bits word place width = word / 2 ^ place % 2 ^ width
 

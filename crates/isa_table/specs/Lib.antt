@@ -1,4 +1,4 @@
--- The words of the contracts.
+-- The definitions of the contracts.
 pub mod Ranges
 pub mod Table
 pub mod Spells

@@ -73,7 +73,7 @@ name_of (Amo Amomax) = codes "amomax.w"
 name_of (Amo Amominu) = codes "amominu.w"
 name_of (Amo Amomaxu) = codes "amomaxu.w"
 
--- the first of the mnemonics that has such a name
+-- the first of the mnemonics that has this name
 unfoldable pub first_with_name : List Mnemonic → List ℕ → Option Mnemonic
 first_with_name [] name = None
 first_with_name (m ∷ ms) name = if bytes_eq (name_of m) name then Some m else first_with_name ms name

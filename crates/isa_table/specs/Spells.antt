@@ -1,4 +1,4 @@
--- Which word spells which instruction, in the manual's words: the fixed bits of its row, and each
+-- The words that spell each instruction, as the manual puts it: the fixed bits of its row, and each
 -- operand in its fields.
 -- Unprivileged ISA, "Base Instruction Formats" and "Immediate Encoding Variants".
 use Rattle.std.specs.Prelude.{ℕ, ◌≡◌, ◌+◌, ◌*◌, ◌/◌, ◌%◌, ◌^◌, ◌<◌, ◌==◌, if◌then◌else◌, List, []}
@@ -70,7 +70,7 @@ operands (Amo op aq rl rd rs1 rs2) =
     (operand.Aq, bit aq) ∷ (operand.Rl, bit rl) ∷
     (operand.Rd, rd) ∷ (operand.Rs1, rs1) ∷ (operand.Rs2, rs2) ∷ []
 
--- a number for each name of an operand, so that names can be compared
+-- a number for each operand, by which operands are compared
 abbrev pub place_of : Operand → ℕ
 place_of operand.Rd = 0
 place_of operand.Rs1 = 1
@@ -83,7 +83,7 @@ place_of operand.Succ = 7
 place_of operand.Aq = 8
 place_of operand.Rl = 9
 
--- the value that stands under a name
+-- the value of an operand, by its name
 abbrev pub value_of : Operand → List (Operand × ℕ) → ℕ
 value_of name [] = 0
 value_of name (o ∷ os) = if place_of name == place_of o.0 then o.1 else value_of name os
@@ -110,7 +110,7 @@ InRange (LoadReserved aq rl rd rs1) = (rd < 2 ^ 5) × (rs1 < 2 ^ 5)
 InRange (StoreConditional aq rl rd rs1 rs2) = (rd < 2 ^ 5) × (rs1 < 2 ^ 5) × (rs2 < 2 ^ 5)
 InRange (Amo op aq rl rd rs1 rs2) = (rd < 2 ^ 5) × (rs1 < 2 ^ 5) × (rs2 < 2 ^ 5)
 
--- what a field adds to the word: the operand's bits that it holds, at their place
+-- what a field adds to the word: its bits of the operand, at their place
 abbrev pub part_of : Instr → Field → ℕ
 part_of i f = value_of f.operand (operands i) / 2 ^ f.low % 2 ^ f.width * 2 ^ f.place
 

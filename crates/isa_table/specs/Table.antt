@@ -32,7 +32,7 @@ use Rattle.isa_table.specs.declared.table.Row.{Row}
 use Rattle.isa_table.specs.declared.table.Operand.{Operand}
 use Rattle.isa_table.specs.declared.table.Operand.TheVariants as operand
 
--- a row of the table: the word with zeros for the operands, and where the operands stand
+-- a row of the table: the word with zeros for the operands, and the fields of the operands
 pub record Encoding : Type 0 where
   pub mnemonic : Mnemonic
   pub fixed : ℕ
@@ -64,7 +64,7 @@ aq = field operand.Aq 0 26 1
 abbrev pub rl : Field
 rl = field operand.Rl 0 25 1
 
--- so many bits of the immediate, from bit `low` on, stand from bit `place` on
+-- this many bits of the immediate, from bit `low` on, stand from bit `place` on
 abbrev pub imm : ℕ → ℕ → ℕ → Field
 imm low place width = field operand.Immediate low place width
 
@@ -222,7 +222,7 @@ fixed_of LoadReserved = atomic_code 0b00010
 fixed_of StoreConditional = atomic_code 0b00011
 fixed_of (Amo op) = atomic_code (amo_funct5 op)
 
--- where the operands of a mnemonic stand
+-- the fields of a mnemonic's operands
 abbrev pub fields_of : Mnemonic → List Field
 fields_of Lui = u_format
 fields_of Auipc = u_format
@@ -304,7 +304,7 @@ mnemonics =
 abbrev pub rows : List Encoding
 rows = map row_of mnemonics
 
--- a row of the program, without where its fields lie in memory
+-- a row of the code, without the address of its fields in memory
 abbrev pub encoding : Row → Encoding
 encoding r = record { mnemonic = r.mnemonic; fixed = r.fixed; fields = r.fields.now }
 
@@ -312,7 +312,7 @@ encoding r = record { mnemonic = r.mnemonic; fixed = r.fixed; fields = r.fields.
 abbrev pub is_apart : Field → Field → Bool
 is_apart f g = nat_le (f.place + f.width) g.place || nat_le (g.place + g.width) f.place
 
--- of each two fields of the list, neither shares a bit with the other
+-- no two fields of the list share a bit
 abbrev pub are_apart : List Field → Bool
 are_apart [] = true
 are_apart (f ∷ fs) = list_all (is_apart f) fs && are_apart fs

@@ -1,4 +1,4 @@
--- The instruction that the text of a vector names.
+-- The instruction of a vector's text.
 use Rattle.std.specs.Prelude.{ℕ, ◌/◌, ◌%◌, ◌^◌, ◌==◌}
 use Rattle.isa_table.specs.declared.mnemonic.Mnemonic.{Mnemonic}
 use Rattle.isa_table.specs.declared.mnemonic.Mnemonic.TheVariants as mnemonic
@@ -30,6 +30,6 @@ instr_with mnemonic.StoreConditional rd rs1 rs2 imm =
     StoreConditional (imm / 2 == 1) (imm % 2 == 1) rd rs1 rs2
 instr_with (mnemonic.Amo op) rd rs1 rs2 imm = Amo op (imm / 2 == 1) (imm % 2 == 1) rd rs1 rs2
 
--- the instruction that the text of a vector names
+-- the instruction of a vector's text
 abbrev pub instr_of : Vector → Instr
 instr_of v = instr_with v.mnemonic v.rd v.rs1 v.rs2 v.imm

@@ -1,4 +1,4 @@
-//! The codes that the code has are those of the definitions, which have the manual's numerals.
+//! Law: the constants of the code equal those of the definitions, which have the manual's numerals.
 ghost use Rattle.std.specs.Prelude.{◌≡◌};
 ghost use Rattle.isa_table.specs.declared.codes.TheConstants.{OPCODE_LUI, OPCODE_AUIPC, OPCODE_JAL, OPCODE_JALR, OPCODE_BRANCH, OPCODE_LOAD, OPCODE_STORE, OPCODE_IMMEDIATE, OPCODE_REGISTER, OPCODE_FENCE, OPCODE_SYSTEM, OPCODE_ATOMIC};
 ghost use Rattle.isa_table.specs.declared.codes.TheConstants.{FUNCT3_JALR, FUNCT3_BEQ, FUNCT3_BNE, FUNCT3_BLT, FUNCT3_BGE, FUNCT3_BLTU, FUNCT3_BGEU, FUNCT3_LB, FUNCT3_LH, FUNCT3_LW, FUNCT3_LBU, FUNCT3_LHU, FUNCT3_SB, FUNCT3_SH, FUNCT3_SW, FUNCT3_ADDI, FUNCT3_SLTI, FUNCT3_SLTIU, FUNCT3_XORI, FUNCT3_ORI, FUNCT3_ANDI, FUNCT3_SLLI, FUNCT3_SRLI, FUNCT3_ADD, FUNCT3_SLL, FUNCT3_SLT, FUNCT3_SLTU, FUNCT3_XOR, FUNCT3_SRL, FUNCT3_OR, FUNCT3_AND, FUNCT3_FENCE, FUNCT3_WORD};
@@ -6,7 +6,8 @@ ghost use Rattle.isa_table.specs.declared.codes.TheConstants.{FUNCT7_BASE, FUNCT
 ghost use Rattle.isa_table.specs.declared.codes.TheConstants.{FUNCT5_LR, FUNCT5_SC, FUNCT5_AMOSWAP, FUNCT5_AMOADD, FUNCT5_AMOXOR, FUNCT5_AMOAND, FUNCT5_AMOOR, FUNCT5_AMOMIN, FUNCT5_AMOMAX, FUNCT5_AMOMINU, FUNCT5_AMOMAXU};
 ghost use Rattle.isa_table.specs.declared.codes.TheConstants.{WORD_ECALL, WORD_EBREAK};
 
-/// Each opcode, funct3, funct7, funct5 and whole word is the manual's. Unprivileged ISA, "RV32/64G Instruction Set Listings".
+/// Each opcode, funct3, funct7, funct5 and whole word is the manual's. Unprivileged ISA, "RV32/64G
+/// Instruction Set Listings".
 pub fn codes_are_the_manuals()
     ensures opcodes { (OPCODE_LUI ≡ 0x37) × (OPCODE_AUIPC ≡ 0x17) × (OPCODE_JAL ≡ 0x6f) ×
         (OPCODE_JALR ≡ 0x67) × (OPCODE_BRANCH ≡ 0x63) × (OPCODE_LOAD ≡ 0x03) ×

@@ -96,7 +96,7 @@ pub const FUNCT3_FENCE: u32 = 0;
 pub const FUNCT3_WORD: u32 = 2;
 
 // ---- funct7, bits 31 to 25
-/// Register operations and shifts but those of `FUNCT7_ALTERNATE`.
+/// Register operations and shifts, except those of `FUNCT7_ALTERNATE`.
 pub const FUNCT7_BASE: u32 = 0x00;
 /// SUB, SRA and SRAI.
 pub const FUNCT7_ALTERNATE: u32 = 0x20;

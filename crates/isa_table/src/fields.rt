@@ -34,7 +34,7 @@ impl Reg {
     /// `t1`: a temporary register.
     pub const TEMPORARY_1: Reg = Reg { number: 6 };
 
-    /// The register of a number below 32.
+    /// The register with this number, below 32.
     pub fn new(number: u8) -> Self
         requires { number < 2 ^ 5 }
         ensures { result ≡ number }
@@ -51,7 +51,7 @@ impl Reg {
     }
 }
 
-/// By how many places to shift, 0 to 31.
+/// A shift amount, 0 to 31.
 #[derive(Clone, Copy, PartialEq, Eq)]
 pub struct ShiftAmount {
     count: u8,
@@ -68,7 +68,7 @@ impl Model for ShiftAmount {
 }
 
 impl ShiftAmount {
-    /// So many places, below 32.
+    /// The shift amount of this count, below 32.
     pub fn new(count: u8) -> Self
         requires { count < 2 ^ 5 }
         ensures { result ≡ count }
@@ -85,8 +85,8 @@ impl ShiftAmount {
     }
 }
 
-/// What an instruction of the A extension orders, as its bits aq and rl say.
-/// A extension, "Specifying Ordering of Atomic Instructions".
+/// The ordering bits of an instruction of the A extension, aq and rl. A extension, "Specifying
+/// Ordering of Atomic Instructions".
 #[derive(Clone, Copy, PartialEq, Eq)]
 pub struct Order {
     /// Acquire: later accesses of the hart come after this one.
@@ -96,25 +96,25 @@ pub struct Order {
 }
 
 impl Order {
-    /// Nothing.
+    /// No ordering.
     pub const NONE: Order = Order {
         aq: false,
         rl: false,
     };
 
-    /// Acquire alone.
+    /// Acquire only.
     pub const ACQUIRE: Order = Order {
         aq: true,
         rl: false,
     };
 
-    /// Release alone.
+    /// Release only.
     pub const RELEASE: Order = Order {
         aq: false,
         rl: true,
     };
 
-    /// Both.
+    /// Acquire and release.
     pub const BOTH: Order = Order { aq: true, rl: true };
 }
 
@@ -136,7 +136,7 @@ impl Model for FenceSet {
 }
 
 impl FenceSet {
-    /// The set of these bits, below 16.
+    /// The set with these bits, below 16.
     pub fn new(bits: u8) -> Self
         requires { bits < 2 ^ 4 }
         ensures { result ≡ bits }
@@ -153,7 +153,7 @@ impl FenceSet {
     }
 }
 
-/// The immediate of LUI and AUIPC: the bits 31 to 12 of the word that it stands for.
+/// The immediate of LUI and AUIPC: bits 31 to 12 of the word that it stands for.
 #[derive(Clone, Copy, PartialEq, Eq)]
 pub struct UpperImmediate {
     high: u32,
@@ -170,7 +170,7 @@ impl Model for UpperImmediate {
 }
 
 impl UpperImmediate {
-    /// The immediate of these 20 bits, below 2^20.
+    /// The immediate with these 20 bits, below 2^20.
     pub fn new(high: u32) -> Self
         requires { high < 2 ^ 20 }
         ensures { result ≡ high }
@@ -187,7 +187,7 @@ impl UpperImmediate {
     }
 }
 
-/// An immediate of 12 bits, -2048 to 2047, held as the 32-bit word that it is sign-extended to.
+/// A 12-bit immediate, -2048 to 2047, held as the 32-bit word that it is sign-extended to.
 #[derive(Clone, Copy, PartialEq, Eq)]
 pub struct Immediate12 {
     word: u32,

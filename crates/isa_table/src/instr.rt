@@ -10,7 +10,7 @@ use crate::mnemonic::{
 };
 
 /// An instruction of RV32IA with its operands, each in range by its type.
-/// `rd` is the register that gets the result, `rs1` and `rs2` are the sources.
+/// `rd` is the destination register; `rs1` and `rs2` are the sources.
 #[derive(Clone, Copy, PartialEq, Eq)]
 pub enum Instr {
     /// LUI: rd gets the immediate's 20 bits with twelve zeros below. "Integer Register-Immediate
@@ -25,32 +25,32 @@ pub enum Instr {
         rd: Reg,
         imm: UpperImmediate,
     },
-    /// JAL: a jump by the offset; rd gets the address after the jump. "Unconditional Jumps".
+    /// JAL: jumps by the offset; rd gets the address after the jump. "Unconditional Jumps".
     Jal {
         rd: Reg,
         offset: JumpOffset,
     },
-    /// JALR: a jump to the even address at or below rs1 and the immediate. "Unconditional Jumps".
+    /// JALR: jumps to rs1 + immediate, with bit 0 cleared. "Unconditional Jumps".
     Jalr {
         rd: Reg,
         rs1: Reg,
         imm: Immediate12,
     },
-    /// A jump by the offset where the test holds. "Conditional Branches".
+    /// Jumps by the offset if the test holds. "Conditional Branches".
     Branch {
         op: BranchOp,
         rs1: Reg,
         rs2: Reg,
         offset: BranchOffset,
     },
-    /// rd gets what stands at rs1 and the immediate. "Load and Store Instructions".
+    /// rd gets the value at address rs1 + immediate. "Load and Store Instructions".
     Load {
         op: LoadOp,
         rd: Reg,
         rs1: Reg,
         imm: Immediate12,
     },
-    /// rs2 goes to rs1 and the immediate. "Load and Store Instructions".
+    /// Writes rs2 at address rs1 + immediate. "Load and Store Instructions".
     Store {
         op: StoreOp,
         rs1: Reg,
@@ -91,7 +91,7 @@ pub enum Instr {
     Ecall,
     /// EBREAK. "Environment Call and Breakpoints".
     Ebreak,
-    /// LR.W: rd gets the word at rs1, which is then reserved; `aq` and `rl` are acquire and
+    /// LR.W: rd gets the word at address rs1, which is then reserved; `aq` and `rl` are acquire and
     /// release. A extension, "Load-Reserved/Store-Conditional Instructions".
     LoadReserved {
         aq: bool,
@@ -99,8 +99,8 @@ pub enum Instr {
         rd: Reg,
         rs1: Reg,
     },
-    /// SC.W: rs2 goes to rs1 where the word is reserved; rd gets 0 then, else 1.
-    /// A extension, "Load-Reserved/Store-Conditional Instructions".
+    /// SC.W: writes rs2 at address rs1 if that word is reserved; rd gets 0 if it does, else 1. A
+    /// extension, "Load-Reserved/Store-Conditional Instructions".
     StoreConditional {
         aq: bool,
         rl: bool,
@@ -108,8 +108,8 @@ pub enum Instr {
         rs1: Reg,
         rs2: Reg,
     },
-    /// rd gets the word at rs1, to which the operation of it and rs2 goes. A extension, "Atomic
-    /// Memory Operations".
+    /// rd gets the word at address rs1; the result of the operation on it and rs2 is written there.
+    /// A extension, "Atomic Memory Operations".
     Amo {
         op: AmoOp,
         aq: bool,

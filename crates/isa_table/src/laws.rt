@@ -15,7 +15,7 @@ pub fn one_instruction()
     ensures { (word : ℕ) (i j : Instr) → Spells word i → Spells word j → i ≡ j }
 {}
 
-/// A word decodes to the instruction that it spells, and to none where it spells none.
+/// A word decodes to the instruction that it spells, and to `None` if it spells none.
 pub fn decoded_is_spelled()
     ensures { (word : ℕ) (i : Instr) → word < 2 ^ 32 → (decoded word ≡ Some i) ↔ Spells word i }
 {}
@@ -25,19 +25,19 @@ pub fn each_mnemonic_has_a_row()
     ensures { (m : Mnemonic) → (k : ℕ) × (slice_get rows k ≡ Some (row_of m)) }
 {}
 
-/// In each row the fields lie inside the word, apart from one another and from the fixed bits that
-/// are set.
+/// In each row the fields lie inside the word and overlap neither one another nor a fixed bit that
+/// is set.
 pub fn fields_apart()
     ensures { IsTrue (list_all has_fields_apart rows) }
 {}
 
-/// The definitions give each word of another assembler the instruction of its text.
+/// By the definitions, the word of each vector is the instruction of its text.
 #[tactic(auto, unfolding(crate::specs::Decoded::decoded))]
 pub fn vectors_met()
     ensures { map (λ v. decoded v.word) VECTORS ≡ map (λ v. Some (instr_of v)) VECTORS }
 {}
 
-/// The definitions give no instruction to a word of the unassigned ones.
+/// By the definitions, no word of `UNASSIGNED` is an instruction.
 #[tactic(auto, unfolding(crate::specs::Decoded::decoded))]
 pub fn unassigned_met()
     ensures { map decoded UNASSIGNED ≡ map (λ w. None) UNASSIGNED }

@@ -8,21 +8,21 @@ use crate::table::{Row, rows};
 /// A conditional branch, by its test of the registers rs1 and rs2. "Conditional Branches".
 #[derive(Clone, Copy, PartialEq, Eq)]
 pub enum BranchOp {
-    /// Taken where rs1 and rs2 are equal.
+    /// Taken if rs1 and rs2 are equal.
     Beq,
-    /// Taken where they differ.
+    /// Taken if they differ.
     Bne,
-    /// Taken where rs1 is less, both signed.
+    /// Taken if rs1 is less, both signed.
     Blt,
-    /// Taken where rs1 is not less, both signed.
+    /// Taken if rs1 is not less, both signed.
     Bge,
-    /// Taken where rs1 is less, both unsigned.
+    /// Taken if rs1 is less, both unsigned.
     Bltu,
-    /// Taken where rs1 is not less, both unsigned.
+    /// Taken if rs1 is not less, both unsigned.
     Bgeu,
 }
 
-/// A load, by what it brings to rd. "Load and Store Instructions".
+/// A load, by the value that rd gets. "Load and Store Instructions".
 #[derive(Clone, Copy, PartialEq, Eq)]
 pub enum LoadOp {
     /// A byte, sign-extended.
@@ -48,15 +48,15 @@ pub enum StoreOp {
     Sw,
 }
 
-/// An operation on rs1 and an immediate of 12 bits, by what rd gets.
-/// "Integer Register-Immediate Instructions".
+/// An operation on rs1 and a 12-bit immediate, by the value that rd gets. "Integer
+/// Register-Immediate Instructions".
 #[derive(Clone, Copy, PartialEq, Eq)]
 pub enum ImmediateOp {
     /// The sum.
     Addi,
-    /// 1 where rs1 is less than the immediate, both signed, else 0.
+    /// 1 if rs1 is less than the immediate, both signed, else 0.
     Slti,
-    /// 1 where rs1 is less than the extended immediate, both unsigned, else 0.
+    /// 1 if rs1 is less than the sign-extended immediate, both unsigned, else 0.
     Sltiu,
     /// Bitwise exclusive or.
     Xori,
@@ -69,32 +69,32 @@ pub enum ImmediateOp {
 /// A shift of rs1 by an immediate. "Integer Register-Immediate Instructions".
 #[derive(Clone, Copy, PartialEq, Eq)]
 pub enum ShiftOp {
-    /// To the left.
+    /// Left.
     Slli,
-    /// To the right, zeros coming in.
+    /// Right, logical: zeros are shifted in.
     Srli,
-    /// To the right, copies of the sign bit coming in.
+    /// Right, arithmetic: copies of the sign bit are shifted in.
     Srai,
 }
 
-/// An operation on rs1 and rs2, by what rd gets. "Integer Register-Register Operations".
+/// An operation on rs1 and rs2, by the value that rd gets. "Integer Register-Register Operations".
 #[derive(Clone, Copy, PartialEq, Eq)]
 pub enum RegisterOp {
     /// The sum.
     Add,
-    /// rs1 less rs2.
+    /// rs1 minus rs2.
     Sub,
-    /// rs1 shifted to the left by the low five bits of rs2.
+    /// rs1 shifted left by the low five bits of rs2.
     Sll,
-    /// 1 where rs1 is less than rs2, both signed, else 0.
+    /// 1 if rs1 is less than rs2, both signed, else 0.
     Slt,
-    /// 1 where rs1 is less than rs2, both unsigned, else 0.
+    /// 1 if rs1 is less than rs2, both unsigned, else 0.
     Sltu,
     /// Bitwise exclusive or.
     Xor,
-    /// rs1 shifted to the right by the low five bits of rs2, zeros coming in.
+    /// rs1 shifted right by the low five bits of rs2; zeros are shifted in.
     Srl,
-    /// rs1 shifted to the right by the low five bits of rs2, copies of its sign bit coming in.
+    /// rs1 shifted right by the low five bits of rs2; copies of its sign bit are shifted in.
     Sra,
     /// Bitwise or.
     Or,
@@ -102,8 +102,8 @@ pub enum RegisterOp {
     And,
 }
 
-/// An atomic memory operation, by what it writes, from the word that rd gets and rs2.
-/// A extension, "Atomic Memory Operations".
+/// An atomic memory operation, by the value that it writes, given rs2 and the word that rd gets. A
+/// extension, "Atomic Memory Operations".
 #[derive(Clone, Copy, PartialEq, Eq)]
 pub enum AmoOp {
     /// rs2 itself.
@@ -154,7 +154,7 @@ impl Mnemonic {
     ghost use Rattle.isa_table.specs.Names.{name_of};
     ghost use Rattle.isa_table.specs.declared.mnemonic.Mnemonic.{Mnemonic};
 
-    /// The mnemonic as an assembler source has it, in lower case: `beq`, `amoadd.w`.
+    /// The mnemonic in lower case, as in assembler sources: `beq`, `amoadd.w`.
     pub fn name(self) -> &'static str
         ensures { result.now ≡ name_of self }
     {
@@ -213,8 +213,8 @@ impl Mnemonic {
         }
     }
 
-    /// The mnemonic of such a name, or `None` where no mnemonic has it. A suffix `.aq`, `.rl` or
-    /// `.aqrl` is no part of a name.
+    /// The mnemonic with this name, or `None` if there is none. The suffixes `.aq`, `.rl` and
+    /// `.aqrl` are not part of a name.
     pub fn of_name(name: &str) -> Option<Mnemonic>
         ensures { (m : Mnemonic) → (result ≡ Some m) ↔ (name.now ≡ name_of m) }
     {
@@ -222,7 +222,7 @@ impl Mnemonic {
     }
 }
 
-// The mnemonic of the first of the rows whose mnemonic has such a name.
+// The mnemonic of the first row whose mnemonic has this name.
 #[tactic(auto, unfolding(crate::specs::Names::first_with_name))]
 fn first_named(rows: &[Row], name: &str) -> Option<Mnemonic>
     ensures { result ≡ first_with_name (map (λ row. row.mnemonic) rows.now) name.now }

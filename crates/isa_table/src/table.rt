@@ -6,24 +6,24 @@ use crate::mnemonic::{
     AmoOp, BranchOp, ImmediateOp, LoadOp, Mnemonic, RegisterOp, ShiftOp, StoreOp,
 };
 
-/// What a field of a word holds.
+/// The operand that a field of a word holds.
 #[derive(Clone, Copy, PartialEq, Eq)]
 pub enum Operand {
-    /// The register that gets the result.
+    /// The destination register.
     Rd,
     /// The first source register.
     Rs1,
     /// The second source register.
     Rs2,
-    /// The immediate: of the U format its upper 20 bits, else the word that it is extended to.
+    /// The immediate: in the U format its upper 20 bits, else the word that it is extended to.
     Immediate,
-    /// The number of places of a shift by an immediate.
+    /// The shift amount of a shift by an immediate.
     Amount,
     /// The mode of a fence, fm.
     Mode,
-    /// The accesses before a fence: I, O, R, W from the high bit.
+    /// The predecessor set of a fence: I, O, R, W from the high bit.
     Pred,
-    /// The accesses after a fence: I, O, R, W from the high bit.
+    /// The successor set of a fence: I, O, R, W from the high bit.
     Succ,
     /// Acquire.
     Aq,
@@ -31,28 +31,28 @@ pub enum Operand {
     Rl,
 }
 
-/// A field: `width` bits of an operand, from its bit `low` on, stand in the word from bit `place`
-/// on. A split immediate has several fields.
+/// A field: bits `low` to `low + width - 1` of an operand stand in the word from bit `place` on. A
+/// split immediate has several fields.
 #[derive(Clone, Copy, PartialEq, Eq)]
 pub struct Field {
-    /// Whose bits these are.
+    /// The operand that the bits belong to.
     pub operand: Operand,
-    /// The operand's lowest bit that stands here.
+    /// The operand's lowest bit in this field.
     pub low: u32,
-    /// The lowest bit of the word that the field takes.
+    /// The word's lowest bit in this field.
     pub place: u32,
-    /// How many bits.
+    /// The number of bits.
     pub width: u32,
 }
 
-/// A row: the word with zeros for the operands, and where the operands stand.
+/// A row: the word with zeros for the operands, and the fields of the operands.
 #[derive(Clone, Copy)]
 pub struct Row {
-    /// Whose row this is.
+    /// The mnemonic that the row encodes.
     pub mnemonic: Mnemonic,
     /// The word with zeros for the operands.
     pub fixed: u32,
-    /// The fields of the operands, none overlapping another or a fixed bit that is set.
+    /// The fields of the operands; none overlaps another or a fixed bit that is set.
     pub fields: &'static [Field],
 }
 

@@ -1,4 +1,4 @@
-//! Vectors: words that GNU as 2.40 made, and what their texts say.
+//! Test vectors: words assembled by GNU as 2.40, and the instructions of their texts.
 ghost use Rattle.std.specs.Prelude.{◌≡◌};
 
 use crate::mnemonic::{
@@ -18,9 +18,9 @@ pub struct Vector {
     pub rs1: u8,
     /// The register rs2, 0 to 31.
     pub rs2: u8,
-    /// The immediate or offset as a 32-bit word, the upper 20 bits or the shift amount as written.
-    /// For a fence fm, the set before and the set after, four bits each. For the A extension 2 for
-    /// aq and 1 for rl.
+    /// The immediate or offset as a 32-bit word; the upper 20 bits or the shift amount as written.
+    /// For a fence: fm, predecessor set and successor set, four bits each. For the A extension: 2
+    /// for aq plus 1 for rl.
     pub imm: u32,
 }
 
@@ -47,9 +47,9 @@ macro_rules! row {
     };
 }
 
-/// Words that GNU as made of the texts beside them (`-march=rv32ia -mabi=ilp32`). The operands are
-/// read off the texts, and for `.insn`, which spells what has no text of its own, off the manual's
-/// format.
+/// Words that GNU as assembled from the texts beside them (`-march=rv32ia -mabi=ilp32`). The
+/// operands are read from the texts; for `.insn`, which spells words without a text of their own,
+/// from the manual's format.
 #[rattlefmt::skip]
 pub const VECTORS: [Vector; 248] = [
     row!(0x0000_0013, Immediate(ImmediateOp::Addi),   0,  0,  0, 0x0000_0000), // addi zero, zero, 0
@@ -302,8 +302,8 @@ pub const VECTORS: [Vector; 248] = [
     row!(0xe762_a2af, Amo(AmoOp::Amomaxu),            5,  5, 22, 0x0000_0003), // amomaxu.w.aqrl t0, s6, (t0)
 ];
 
-/// Words that no instruction of RV32IA has: made by GNU as for the named extension, or with one bit
-/// wrong.
+/// Words that spell no instruction of RV32IA: assembled by GNU as for the named extension, or with
+/// one wrong bit.
 #[rattlefmt::skip]
 pub const UNASSIGNED: [u32; 58] = [
     0x0205_1513, // slli a0, a0, 32 (rv64i)

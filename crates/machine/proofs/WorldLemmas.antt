@@ -1,4 +1,4 @@
--- Runs and the harts of a start, one more at a time.
+-- Runs and the harts of a start, one by one.
 use Rattle.std.proofs.Common.{◌≡◌, ℕ, suc, ◌+◌, ◌<◌, List, [], ◌∷◌, ◌++◌, length, get_or, take, map, ◌∙◌, ap, ap₂, sym, refl, arith}
 use Rattle.std.proofs.lemmas.List.{take_more, length-take-le, map-append}
 use Rattle.hart_step.specs.Hart.{hart_of}

@@ -1,4 +1,4 @@
--- Which harts are chosen.
+-- The harts that are chosen.
 use Rattle.std.specs.Prelude.{◌≡◌, ℕ, ◌==◌, Bool, List}
 use Rattle.std.specs.List.{list_any}
 use Rattle.machine.specs.declared.choice.Choice.{Choice}

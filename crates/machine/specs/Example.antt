@@ -5,13 +5,13 @@ use Rattle.machine.specs.World.{World, run}
 use Rattle.machine.specs.Start.{started}
 use Rattle.machine.specs.declared.choice.Choice.{Choice}
 
--- the bytes of words, the lowest byte of each first
+-- the bytes of words, little-endian
 abbrev pub bytes_of : List ℕ → List ℕ
 bytes_of [] = []
 bytes_of (w ∷ words) =
     w % 256 ∷ w / 2 ^ 8 % 256 ∷ w / 2 ^ 16 % 256 ∷ w / 2 ^ 24 % 256 ∷ bytes_of words
 
--- words as a program at 0x00010000, in one segment of 8192 bytes that has all rights
+-- words as a program at 0x00010000, in one segment of 8192 bytes with all rights
 abbrev pub image_of : List ℕ → ImageValue
 image_of words = record {
   entry = 0x00010000;
@@ -28,11 +28,11 @@ store_and_load = image_of (
     0x00000073 ∷  -- ecall
     [])
 
--- the choice of a hart, with no refusal
+-- the choice of a hart, without a refusal
 abbrev pub choice_of : ℕ → Choice
 choice_of h = record { hart = h; refuse = false }
 
--- the run in which hart 0, with input 7, stores first, and hart 1, with input 9, stores before hart 0 loads
+-- hart 0 (input 7) stores, then hart 1 (input 9) stores, and only then hart 0 loads
 abbrev pub after_both : World
 after_both = run (started store_and_load (7 ∷ 9 ∷ []))
     (map choice_of (0 ∷ 0 ∷ 1 ∷ 1 ∷ 0 ∷ 0 ∷ 0 ∷ 1 ∷ 1 ∷ 1 ∷ []))

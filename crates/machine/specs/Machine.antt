@@ -1,4 +1,4 @@
--- The world that a machine is in.
+-- The world of a machine.
 use Rattle.std.specs.Prelude.{map}
 use Rattle.mem_store.specs.Memory.{Memory}
 use Rattle.hart_reservations.specs.Reserve.{marks}
@@ -6,7 +6,7 @@ use Rattle.hart_step.specs.Hart.{hart_of}
 use Rattle.machine.specs.World.{World}
 use Rattle.machine.specs.declared.machine.Machine.{Machine}
 
--- the world of a machine; `memory` tells what its store holds
+-- the world of a machine; `memory` gives the memory of its store
 abbrev pub world : {S Z : Type 0} → (S → Memory) → Machine S Z → World
 world memory m = record {
   harts = map hart_of m.harts.items;

@@ -13,11 +13,11 @@ pub record World : Type 0 where
   pub memory : Memory
   pub reserved : Marks
 
--- the world in which hart h has come to a site
+-- the world after hart h has come to a site
 abbrev pub placed : World → ℕ → Site → World
 placed w h s = record { harts = slice_set w.harts h s.hart; memory = s.memory; reserved = s.reserved }
 
--- the step of the hart that a choice names, if it is there
+-- the step of the chosen hart, if it exists
 abbrev pub step_of : World → Choice → Option HartValue → World
 step_of w c None = w
 step_of w c (Some h) = placed w c.hart (stepped c.hart c.refuse (site h w.memory w.reserved))
@@ -26,7 +26,7 @@ step_of w c (Some h) = placed w c.hart (stepped c.hart c.refuse (site h w.memory
 unfoldable pub step : World → Choice → World
 step w c = step_of w c (slice_get w.harts c.hart)
 
--- one event after another
+-- the events of choices, in order
 unfoldable pub run : World → List Choice → World
 run w [] = w
 run w (c ∷ choices) = run (step w c) choices

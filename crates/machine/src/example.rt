@@ -1,4 +1,4 @@
-//! An example of a run, in which the definitions give what the manual says.
+//! Law: an example of a run, in which the definitions give what the manual states.
 ghost use Rattle.std.specs.Prelude.{◌≡◌, List, [], ◌∷◌, map};
 ghost use Rattle.machine.specs.Example.{after_both};
 ghost use Rattle.hart_step.specs.declared.hart.HartState.TheVariants.{Exited};

@@ -1,4 +1,4 @@
-//! What holds in every run.
+//! Laws of every run.
 ghost use Rattle.std.specs.Prelude.{◌≡◌, ℕ, ◌%◌, List, ◌++◌, length};
 ghost use Rattle.std.specs.List.{All};
 ghost use Rattle.image.specs.Image.{ImageValue};
@@ -12,29 +12,30 @@ use crate::machine::Machine;
 use mem_store::Store;
 use std::alloc::Allocator;
 
-/// Choices after choices: the run of both together is the run of the later ones from where the earlier ones lead.
+/// The run of choices and then more choices is the run of the latter from the world that the former
+/// lead to.
 pub fn run_goes_on()
     ensures { (w : World) (choices more : List Choice)
         → run w (choices ++ more) ≡ run (run w choices) more }
 {}
 
-/// No run changes how many harts there are.
+/// No run changes the number of harts.
 pub fn run_keeps_harts()
     ensures { (w : World) (choices : List Choice)
         → length (run w choices).harts ≡ length w.harts }
 {}
 
-/// No run changes a right, or a byte that may not be written.
+/// No run changes a right, or a byte that is not writable.
 pub fn run_keeps_unwritable()
     ensures { (w : World) (choices : List Choice) → Keeps w.memory (run w choices).memory }
 {}
 
-/// In every machine that can be made `x0` reads 0 in each hart, whatever harts were put into it.
+/// In every machine `x0` of each hart is 0, whatever harts were put into it.
 pub fn every_machine_has_zero<S: Store, A: Allocator>(machine: &Machine<S, A>)
     ensures { All HasZero (world S.memory machine.now).harts }
 {}
 
-/// In every run of a program `x0` reads 0 in each hart.
+/// In every run of a program `x0` of each hart is 0.
 pub fn run_keeps_zero()
     ensures { (image : ImageValue) (inputs : List ℕ) (choices : List Choice)
         → All HasZero (run (started image inputs) choices).harts }

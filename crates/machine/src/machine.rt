@@ -1,4 +1,4 @@
-//! What a machine consists of.
+//! The state of a machine.
 ghost use Rattle.std.specs.Prelude.{◌≤◌, vec_len};
 ghost use Rattle.hart_reservations.specs.Limit.{most_harts};
 
@@ -6,8 +6,8 @@ use hart_reservations::Reserve;
 use hart_step::Hart;
 use std::alloc::Allocator;
 
-/// Harts that share a memory and its reservations. Each event is one step of one hart, and all harts see its effect
-/// before the next: sequential consistency.
+/// Harts that share a memory and its reservations. Each event is one step of one hart, and its
+/// effect is visible to all harts before the next event: memory is sequentially consistent.
 #[derive(Drop)]
 pub struct Machine<S, A: Allocator> {
     pub(crate) harts: Vec<Hart, A>,

@@ -13,15 +13,15 @@ use hart_step::{Hart, step_hart};
 use mem_store::Store;
 use std::alloc::{AllocError, Allocator};
 
-/// The host refused memory in a run.
+/// A run that ended early: out of memory.
 #[derive(Clone, Copy, PartialEq, Eq)]
 pub struct Stopped {
-    /// How many choices were done before.
+    /// The number of choices that were done.
     pub done: usize,
 }
 
 impl<S: Store, A: Allocator> Machine<S, A> {
-    /// How many harts there are: 1 to `MAX_HARTS` in a machine that was started.
+    /// The number of harts: 1 to `MAX_HARTS` in a machine that was started.
     pub fn harts(&self) -> usize
         ensures { result ≡ length (world S.memory self.now).harts }
     {
@@ -36,7 +36,7 @@ impl<S: Store, A: Allocator> Machine<S, A> {
         &self.harts[number]
     }
 
-    /// All harts, in order.
+    /// All harts, in the order of their numbers.
     pub fn ends(&self) -> &[Hart]
         ensures { map hart_of result.now ≡ (world S.memory self.now).harts }
     {
@@ -57,7 +57,8 @@ impl<S: Store, A: Allocator> Machine<S, A> {
         &self.reserve
     }
 
-    /// Puts a hart into a slot; all else stays. For who knows where steps have led a hart, and need not take them again.
+    /// Replaces a hart; nothing else changes. For callers that know where steps lead a hart and
+    /// need not take them again.
     pub fn put_hart(&mut self, number: usize, hart: Hart)
         requires { number < length (world S.memory self.old).harts }
         ensures { world S.memory self.new ≡ record (world S.memory self.old) {
@@ -67,13 +68,14 @@ impl<S: Store, A: Allocator> Machine<S, A> {
         self.harts[number] = hart;
     }
 
-    /// One event: the chosen hart takes its step. Only the memory of the host may refuse, and then nothing has changed.
+    /// One event: the chosen hart takes its step. Fails only when out of memory; then nothing has
+    /// changed.
     pub fn step(&mut self, choice: Choice) -> Result<(), AllocError>
         requires { choice.hart < length (world S.memory self.old).harts }
         ensures ok { OnOk result (world S.memory self.new ≡ step (world S.memory self.old) choice) }
         ensures err { OnErr result (world S.memory self.new ≡ world S.memory self.old) }
         ensures refused { OnErr result (IsTrue S.grows) }
-        // Memory is wanted only where the chosen hart's step stores.
+        // Memory is allocated only if the chosen hart's step stores.
         ensures stores { OnErr result (ChoiceStores (world S.memory self.old) choice) }
         ensures harts { length (world S.memory self.new).harts
             ≡ length (world S.memory self.old).harts }
@@ -88,8 +90,8 @@ impl<S: Store, A: Allocator> Machine<S, A> {
         )
     }
 
-    /// One event after another. Only the memory of the host may refuse; then the machine stands after the choices that
-    /// were done.
+    /// The events of choices, in order. Fails only when out of memory; then the machine is in the
+    /// state after the choices that were done.
     #[tactic(auto, using(crate::proofs::WorldLemmas::run_more, crate::proofs::WorldLemmas::run_none, crate::proofs::StepLemmas::next_stores))]
     pub fn run(&mut self, choices: &[Choice]) -> Result<(), Stopped>
         requires { All (λ c. c.hart < length (world S.memory self.old).harts) choices.now }

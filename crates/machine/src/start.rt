@@ -1,47 +1,20 @@
-//! How a machine starts.
-ghost use Rattle.std.specs.Prelude.{◌≡◌, ◌≢◌, ℕ, ◌<◌, ◌≤◌, length, map, IfOk, MatchResult, vec_len};
+//! The start of a machine.
+ghost use Rattle.std.specs.Prelude.{◌≡◌, ◌≤◌, length, map, IfOk, vec_len};
 ghost use Rattle.hart_step.specs.Hart.{hart_of};
 ghost use Rattle.machine.specs.Machine.{world};
-ghost use Rattle.machine.specs.Start.{first_hart, first_harts, started, IsStartable, Refuses};
+ghost use Rattle.machine.specs.Start.{first_hart, first_harts, started};
 ghost use Rattle.hart_reservations.specs.Limit.{most_harts as most};
 
+use crate::inputs::Inputs;
 use crate::machine::Machine;
-use hart_reservations::{MAX_HARTS, Reserve};
+use hart_reservations::Reserve;
 use hart_step::{Hart, HartState};
 use image::Image;
 use mem_store::FromImage;
 use std::alloc::{AllocError, Allocator};
-use thiserror::Error;
 
-/// Why a machine cannot start.
-#[derive(Clone, Copy, Debug, PartialEq, Eq, Error)]
-pub enum StartFault {
-    /// No input is given, so there would be no hart.
-    #[error("start fault 1 NoHarts")]
-    NoHarts,
-    /// More than `MAX_HARTS` inputs are given.
-    #[error("start fault 2 TooManyHarts")]
-    TooManyHarts,
-    /// The host refused memory.
-    #[error("out of memory")]
-    Memory,
-}
-
-/// Whether there can be a hart for each input: 1 to `MAX_HARTS` inputs.
-pub fn check_inputs(inputs: &[u32]) -> Result<(), StartFault>
-    ensures { MatchResult result (λ _. IsStartable inputs.now)
-        (λ fault. Refuses inputs.now fault × (fault ≢ StartFault.Memory)) }
-{
-    if inputs.is_empty() {
-        return Err(StartFault::NoHarts);
-    }
-    if inputs.len() > MAX_HARTS {
-        return Err(StartFault::TooManyHarts);
-    }
-    Ok(())
-}
-
-/// A hart at the entry: `a0` is its number, `a1` its input, `a2` the number of harts, all other registers are 0.
+// A hart at the entry: `a0` is its number, `a1` its input, `a2` the number of harts; all other
+// registers are 0.
 fn start_hart(entry: u32, number: u32, input: u32, harts: u32) -> Hart
     ensures { hart_of result ≡ first_hart entry harts number input }
 {
@@ -75,36 +48,24 @@ fn start_harts<A: Allocator>(
 }
 
 impl<S: FromImage<A>, A: Allocator + Copy> Machine<S, A> {
-    /// A machine at the beginning of a program, with a hart for each input: 1 to `MAX_HARTS` inputs.
+    /// A machine at the start of a program, with a hart for each input. Fails when out of memory.
     #[tactic(auto, unfolding(crate::specs::Start::started))]
     pub fn start<B: Allocator>(
         alloc: A,
         image: &Image<B>,
-        inputs: &[u32],
-    ) -> Result<Self, StartFault>
-        ensures { MatchResult result
-            (λ m. (0 < length inputs.now) × (length inputs.now ≤ most)
-            × (world S.memory m ≡ started image.now inputs.now))
-            (λ fault. Refuses inputs.now fault) }
+        inputs: &Inputs,
+    ) -> Result<Self, AllocError>
+        ensures begun { IfOk result (λ m. world S.memory m ≡ started image.now inputs.now) }
+        ensures harts { IfOk result (λ m. length (world S.memory m).harts ≡ length inputs.now) }
     {
-        match check_inputs(inputs) {
-            Ok(()) => {}
-            Err(fault) => return Err(fault),
-        }
-        let Ok(harts) = start_harts(alloc, image.entry(), inputs) else {
-            return Err(StartFault::Memory);
-        };
-        let Ok(store) = S::from_image(alloc, image) else {
-            return Err(StartFault::Memory);
-        };
         Ok(Machine {
-            harts,
-            store,
+            harts: start_harts(alloc, image.entry(), inputs.words())?,
+            store: S::from_image(alloc, image)?,
             reserve: Reserve::new(),
         })
     }
 
-    /// Another machine in the same state; from then on neither sees the other's steps.
+    /// A copy of the machine; later steps of one do not change the other. Fails when out of memory.
     pub fn copy(&self, alloc: A) -> Result<Self, AllocError>
         ensures { IfOk result (λ m. world S.memory m ≡ world S.memory self.now) }
     {

@@ -125,7 +125,7 @@ filled_in_range : (ss : List SegmentValue) → ((k : ℕ) (s : SegmentValue) →
 filled_in_range [] h = All-nil InRange
 filled_in_range (s ∷ ss) h = All-cons InRange (filled s) (map filled ss) (h 0 s (omega arith) refl) (filled_in_range ss (λ k t low is. h (suc k) t (omega arith) is))
 
--- sorted blocks of a sound image stand in order
+-- sorted blocks of a sound image are in order
 pub sorted_order : (entry : ℕ) (ss bs ys : List SegmentValue) → IsSound entry ss → bs ≡ map filled ss → IsPermutation bs ys → IsNonDecreasingBy (λ (b : SegmentValue). b.base) ys → IsInOrder ys
 sorted_order entry ss bs ys is_sound made moved up =
     let spans : List Span = map span_of (map filled ss) in

@@ -94,13 +94,13 @@ slice_there [] m b inside is = absurd (omega arith)
 slice_there (c ∷ bs) zero b inside is = ap Some (sym is)
 slice_there (c ∷ bs) (suc m) b inside is = slice_there bs m b (omega arith) is
 
--- what the search answers where a block has the address
+-- the result of the search if a block contains the address
 pub stands_there : (bs : List SegmentValue) (x m base size : ℕ) (b : SegmentValue) → m < length bs → b ≡ get_or bs m b → base ≡ b.base → size ≡ b.size → base ≤ x → x - base < size
     → StandsAt bs x 1 m (x - base)
 stands_there bs x m base size b inside is base_is size_is above low =
     (inside, λ c e. (let same : Some b ≡ Some c = sym (slice_there bs m b inside is) ∙ e in let s : b ≡ c = search rules in rw (← s) (omega arith, omega arith)))
 
--- where an access stands in a block that was read
+-- the place of an access in a block that was read
 pub inside_block : (bs : List SegmentValue) (a n i o : ℕ) (b : SegmentValue) → StandsAt bs a n i o → b ≡ get_or bs i b → IsInside b a n o
 inside_block bs a n i o b stands is = stands.1 b (slice_there bs i b stands.0 is)
 

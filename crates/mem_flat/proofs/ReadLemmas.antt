@@ -43,7 +43,7 @@ module _ (bs : List SegmentValue) (a n i o : ℕ) (b : SegmentValue) (order : Is
       let offset : a + k - b.base ≡ o + k = omega (arith, inside) in
       ap (λ s. byte_in s (a + k)) (block_here k low) ∙ ap (slice_index b.bytes) offset
 
--- an access that stands in a block is granted where the block's rights grant it
+-- an access in a block is granted if the block's rights grant it
 pub granted_here : (bs : List SegmentValue) (a n i o wanted : ℕ) (b : SegmentValue) → IsInOrder bs → StandsAt bs a (suc n) i o → b ≡ get_or bs i b
     → granted wanted (segments_memory bs) (suc n) a ≡ grants wanted (Some b.rights)
 granted_here bs a n i o wanted b order stands is =
@@ -58,7 +58,7 @@ pub number_here : (bs : List SegmentValue) (a n i o : ℕ) (b : SegmentValue) �
     → number_at (segments_memory bs).bytes n a ≡ number_of n (λ k. slice_index b.bytes (o + k))
 number_here bs a n i o b order stands is = number_same n (λ k. (segments_memory bs).bytes (a + k)) (λ k. slice_index b.bytes (o + k)) (byte_here bs a n i o b order stands is)
 
--- one byte that stands in a block
+-- one byte in a block
 pub rights_one : (bs : List SegmentValue) (a i o : ℕ) (b : SegmentValue) → IsInOrder bs → StandsAt bs a 1 i o → b ≡ get_or bs i b → (segments_memory bs).rights a ≡ Some b.rights
 rights_one bs a i o b order stands is = let e : a + 0 ≡ a = omega arith in rw e at (rights_here bs a 1 i o b order stands is 0 (omega arith))
 
@@ -111,12 +111,12 @@ all_below_fails (suc n) k p low h = elim (cases_eq k n) [
   | inr ne ↦ rw (all_below_fails n k p (omega arith) h) refl
 ]
 
--- a byte that was not given is not granted
+-- a byte without a result is not granted
 pub missing_one : {P : Type 0} (Q : ℕ → Type 0) (r : Option ℕ) → MatchOption r P Q → is_some r ≡ false → P
 missing_one Q None h e = h
 missing_one Q (Some v) h e = absurd (search rules)
 
--- what a test says of each number
+-- a test of each number
 pub all_below_each : (n k : ℕ) (p : ℕ → Bool) → all_below n p ≡ true → k < n → p k ≡ true
 all_below_each n k p h low = elim (cases_Bool (p k)) [
   | inl yes_ ↦ yes_

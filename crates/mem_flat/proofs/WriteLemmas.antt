@@ -17,7 +17,7 @@ pub length-spelled : (n : ℕ) (xs : List ℕ) (o v : ℕ) → length (spelled n
 length-spelled zero xs o v = refl
 length-spelled (suc n) xs o v = length-set (spelled n xs o v) (o + n) (v / 256 ^ n % 256) ∙ length-spelled n xs o v
 
--- what is read where bytes were written
+-- a read of written bytes
 pub spelled_in : (n : ℕ) (xs : List ℕ) (o v k : ℕ) → o + n ≤ length xs → k < n → get_or (spelled n xs o v) (o + k) 0 ≡ v / 256 ^ k % 256
 spelled_in zero xs o v k room low = absurd (omega arith)
 spelled_in (suc n) xs o v k room low = elim (cases_Bool (eqb k n)) [
@@ -28,7 +28,7 @@ spelled_in (suc n) xs o v k room low = elim (cases_Bool (eqb k n)) [
       get_or-set_other (spelled n xs o v) (o + n) (o + k) (v / 256 ^ n % 256) 0 (λ e. ne (omega arith)) ∙ spelled_in n xs o v k (omega arith) (omega arith))
 ]
 
--- what is read elsewhere
+-- a read of other bytes
 pub spelled_out : (n : ℕ) (xs : List ℕ) (o v j : ℕ) → (o ≤ j → o + n ≤ j) → get_or (spelled n xs o v) j 0 ≡ get_or xs j 0
 spelled_out zero xs o v j out = refl
 spelled_out (suc n) xs o v j out =
@@ -130,7 +130,7 @@ module _ (bs : List SegmentValue) (a n i o v : ℕ) (b d : SegmentValue) (order 
       ap (λ f. record { rights = f; bytes = λ x. byte_in (segment_at (set bs i d) x) x }) rights
       ∙ ap (λ f. record { rights = λ x. rights_in (segment_at bs x); bytes = f }) bytes
 
--- a number that was stored where the block may be written
+-- a number that was stored into a writable block
 pub puts_here : (bs : List SegmentValue) (a n i o v : ℕ) (b d : SegmentValue) (g : Bool) → IsInOrder bs → StandsAt bs a (suc n) i o → b ≡ get_or bs i b → length b.bytes ≡ b.size → d ≡ block_after (suc n) b o v
     → g ≡ grants 2 (Some b.rights) → g ≡ true → Puts (suc n) a v (segments_memory bs) (segments_memory (set bs i d)) true
 puts_here bs a n i o v b d g order stands is long new test hit = (granted_here bs a n i o 2 b order stands is ∙ sym test ∙ hit, memory_after bs a (suc n) i o v b d order stands is long new)

@@ -7,7 +7,7 @@ use image::{Rights, Segment};
 use std::alloc::{AllocError, Allocator};
 use std::marker::Model;
 
-/// All bytes of one segment, where they stand, and their rights.
+/// All bytes of one segment, their base, and their rights.
 #[derive(Drop)]
 pub struct Block<A: Allocator> {
     base: u32,
@@ -32,7 +32,7 @@ impl<A: Allocator> Model for Block<A> {
 }
 
 impl<A: Allocator> Block<A> {
-    /// The block of a segment.
+    /// The block of a segment. Fails when out of memory.
     pub fn of_segment<B: Allocator>(alloc: A, segment: &Segment<B>) -> Result<Block<A>, AllocError>
         requires in_range { segment.now.base + segment.now.size ≤ 2 ^ 32 }
         requires fits { length segment.now.bytes ≤ segment.now.size }
@@ -48,7 +48,7 @@ impl<A: Allocator> Block<A> {
         })
     }
 
-    /// Another block with the same bytes.
+    /// A copy of the block. Fails when out of memory.
     pub fn copy(&self, alloc: A) -> Result<Block<A>, AllocError>
         ensures { IfOk result (λ b. b ≡ self.now) }
     {
@@ -67,7 +67,7 @@ impl<A: Allocator> Block<A> {
         self.base
     }
 
-    /// How many addresses it has.
+    /// The size in bytes.
     #[inline]
     pub fn size(&self) -> usize
         ensures value { result ≡ self.now.size }
@@ -78,7 +78,7 @@ impl<A: Allocator> Block<A> {
         self.bytes.len()
     }
 
-    /// Whether one of the wanted rights is given.
+    /// Whether the block has one of the wanted rights.
     #[inline]
     pub fn grants(&self, wanted: Rights) -> bool
         ensures { result ≡ grants wanted.0 (Some self.now.rights) }
@@ -95,7 +95,7 @@ impl<A: Allocator> Block<A> {
         self.bytes[offset]
     }
 
-    /// The two bytes from an offset on, as a number.
+    /// The two bytes from an offset on, little-endian.
     #[inline]
     pub fn read16(&self, offset: usize) -> u16
         requires { offset + 2 ≤ self.now.size }
@@ -104,7 +104,7 @@ impl<A: Allocator> Block<A> {
         u16::from_le_bytes([self.bytes[offset], self.bytes[offset + 1]])
     }
 
-    /// The four bytes from an offset on, as a number.
+    /// The four bytes from an offset on, little-endian.
     #[inline]
     pub fn read32(&self, offset: usize) -> u32
         requires { offset + 4 ≤ self.now.size }
@@ -118,7 +118,7 @@ impl<A: Allocator> Block<A> {
         ])
     }
 
-    /// Puts a byte at an offset.
+    /// Writes a byte at an offset.
     #[inline]
     pub fn write8(&mut self, offset: usize, value: u8)
         requires { offset < self.old.size }
@@ -128,7 +128,7 @@ impl<A: Allocator> Block<A> {
         self.bytes[offset] = value;
     }
 
-    /// Puts a number into the two bytes from an offset on.
+    /// Writes a number into the two bytes from an offset on, little-endian.
     #[inline]
     pub fn write16(&mut self, offset: usize, value: u16)
         requires { offset + 2 ≤ self.old.size }
@@ -141,7 +141,7 @@ impl<A: Allocator> Block<A> {
         bytes[offset + 1] = b1;
     }
 
-    /// Puts a number into the four bytes from an offset on.
+    /// Writes a number into the four bytes from an offset on, little-endian.
     #[inline]
     pub fn write32(&mut self, offset: usize, value: u32)
         requires { offset + 4 ≤ self.old.size }

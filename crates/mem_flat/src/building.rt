@@ -8,7 +8,7 @@ use crate::block::Block;
 use image::Image;
 use std::alloc::{AllocError, Allocator};
 
-/// The blocks of an image, by rising base.
+/// The blocks of an image, sorted by base. Fails when out of memory.
 pub fn blocks_of<A: Allocator + Copy, B: Allocator>(
     alloc: A,
     image: &Image<B>,
@@ -21,7 +21,7 @@ pub fn blocks_of<A: Allocator + Copy, B: Allocator>(
     Ok(blocks)
 }
 
-/// The blocks of an image's segments.
+// The blocks of an image's segments, in their order.
 fn filled_blocks<A: Allocator + Copy, B: Allocator>(
     alloc: A,
     image: &Image<B>,
@@ -37,7 +37,7 @@ fn filled_blocks<A: Allocator + Copy, B: Allocator>(
     Ok(blocks)
 }
 
-/// Other blocks with the same bytes.
+/// Copies of blocks. Fails when out of memory.
 pub fn copies_of<A: Allocator + Copy>(
     alloc: A,
     blocks: &[Block<A>],

@@ -1,4 +1,4 @@
-//! A memory that keeps each segment in one piece, and the instructions of the program's words decoded.
+//! A memory that keeps each segment in one piece, and the program's words decoded once.
 #![tactic(auto)]
 
 pub use code::Code;

@@ -19,7 +19,7 @@ pub fn peek<A: Allocator>(blocks: &[Block<A>], address: u32) -> Option<u8>
     Some(blocks[i].byte(offset))
 }
 
-/// The byte at an address, where it has one of the wanted rights.
+/// The byte at an address, if it has one of the wanted rights.
 pub fn read8<A: Allocator>(blocks: &[Block<A>], address: u32, wanted: Rights) -> Option<u8>
     requires { IsInOrder blocks.now }
     ensures { MatchOption result
@@ -36,7 +36,7 @@ pub fn read8<A: Allocator>(blocks: &[Block<A>], address: u32, wanted: Rights) ->
     }
 }
 
-/// The two bytes from an address on, where each has one of the wanted rights.
+/// The two bytes from an address on, if each has one of the wanted rights.
 #[inline]
 pub fn read16<A: Allocator>(blocks: &[Block<A>], address: u32, wanted: Rights) -> Option<u16>
     requires order { IsInOrder blocks.now }
@@ -56,7 +56,7 @@ pub fn read16<A: Allocator>(blocks: &[Block<A>], address: u32, wanted: Rights) -
     }
 }
 
-/// What `read16` says, of bytes that may stand in any block.
+// `read16` for bytes that may be in any block.
 #[inline(never)]
 fn read16_by_halves<A: Allocator>(blocks: &[Block<A>], address: u32, wanted: Rights) -> Option<u16>
     requires order { IsInOrder blocks.now }
@@ -76,7 +76,7 @@ fn read16_by_halves<A: Allocator>(blocks: &[Block<A>], address: u32, wanted: Rig
     }
 }
 
-/// The four bytes from an address on, where each has one of the wanted rights.
+/// The four bytes from an address on, if each has one of the wanted rights.
 #[inline]
 pub fn read32<A: Allocator>(blocks: &[Block<A>], address: u32, wanted: Rights) -> Option<u32>
     requires order { IsInOrder blocks.now }
@@ -96,7 +96,8 @@ pub fn read32<A: Allocator>(blocks: &[Block<A>], address: u32, wanted: Rights) -
     }
 }
 
-/// What `read32` says, if the last block has the four bytes and gives the right.
+/// `read32` if the four bytes are in the last block, else `None`. On `None` the caller searches all
+/// blocks.
 #[inline]
 pub fn read32_in_last<A: Allocator>(
     blocks: &[Block<A>],
@@ -116,7 +117,7 @@ pub fn read32_in_last<A: Allocator>(
     }
 }
 
-/// What `read32` says, of bytes that may stand in any block.
+// `read32` for bytes that may be in any block.
 #[inline(never)]
 fn read32_by_halves<A: Allocator>(blocks: &[Block<A>], address: u32, wanted: Rights) -> Option<u32>
     requires order { IsInOrder blocks.now }
@@ -136,7 +137,7 @@ fn read32_by_halves<A: Allocator>(blocks: &[Block<A>], address: u32, wanted: Rig
     }
 }
 
-/// What `read16` says, byte by byte.
+// `read16`, byte by byte.
 fn gather16<A: Allocator>(blocks: &[Block<A>], address: u32, wanted: Rights) -> Option<u16>
     requires order { IsInOrder blocks.now }
     requires in_range { address + 2 ≤ 2 ^ 32 }
@@ -147,7 +148,7 @@ fn gather16<A: Allocator>(blocks: &[Block<A>], address: u32, wanted: Rights) -> 
     Some(u16::from_le_bytes([b0, b1]))
 }
 
-/// What `read32` says, byte by byte.
+// `read32`, byte by byte.
 fn gather32<A: Allocator>(blocks: &[Block<A>], address: u32, wanted: Rights) -> Option<u32>
     requires order { IsInOrder blocks.now }
     requires in_range { address + 4 ≤ 2 ^ 32 }
@@ -160,7 +161,7 @@ fn gather32<A: Allocator>(blocks: &[Block<A>], address: u32, wanted: Rights) -> 
     Some(u32::from_le_bytes([b0, b1, b2, b3]))
 }
 
-/// Whether each of the four bytes from an address on may be written.
+/// Whether each of the four bytes from an address on is writable.
 pub fn may_write32<A: Allocator>(blocks: &[Block<A>], address: u32) -> bool
     requires order { IsInOrder blocks.now }
     requires in_range { address + 4 ≤ 2 ^ 32 }
@@ -175,7 +176,7 @@ pub fn may_write32<A: Allocator>(blocks: &[Block<A>], address: u32) -> bool
     }
 }
 
-/// Whether each of the bytes from an address on may be written, byte by byte.
+/// Whether each of `count` bytes from an address on is writable, byte by byte.
 pub fn may_write<A: Allocator>(blocks: &[Block<A>], address: u32, count: u32) -> bool
     requires order { IsInOrder blocks.now }
     requires in_range { address + count ≤ 2 ^ 32 }

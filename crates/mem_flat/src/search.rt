@@ -6,7 +6,8 @@ ghost use Rattle.mem_flat.specs.Blocks.{IsInOrder, StandsAt};
 use crate::block::Block;
 use std::alloc::Allocator;
 
-/// The block that has an address, by halves: its place in the list, and the address's offset in it.
+/// The block that contains an address, by binary search: its index, and the offset of the address
+/// in it.
 pub fn find<A: Allocator>(blocks: &[Block<A>], address: u32) -> Option<(usize, usize)>
     requires { IsInOrder blocks.now }
     ensures { MatchOption result (segment_at blocks.now address ≡ None)
@@ -29,8 +30,8 @@ pub fn find<A: Allocator>(blocks: &[Block<A>], address: u32) -> Option<(usize, u
     None
 }
 
-/// The last block, if it has all bytes of an access, as `find` says it. Data mostly stands above code, so it is looked at before
-/// the others.
+/// The last block, if it contains all bytes of an access, in the form of `find`. Data is mostly
+/// above code, so it is tried first.
 #[inline]
 pub fn in_last<A: Allocator>(
     blocks: &[Block<A>],
@@ -56,8 +57,8 @@ pub fn in_last<A: Allocator>(
     Some((last, offset))
 }
 
-/// The block that has all bytes of an access, as `find` says it; none where no block has them all.
-/// No clause says when it is none, since each access that gets none goes byte by byte, to the same answer.
+/// The block that contains all bytes of an access, in the form of `find`. On `None` the caller goes
+/// on byte by byte; the result is the same.
 pub fn place<A: Allocator>(
     blocks: &[Block<A>],
     address: u32,

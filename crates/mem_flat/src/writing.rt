@@ -11,7 +11,7 @@ use crate::search::{find, in_last, place};
 use image::Rights;
 use std::alloc::Allocator;
 
-/// Puts a byte at an address, where it may be written; says whether it did.
+/// Writes a byte at an address if it is writable; returns whether it was.
 pub fn put8<A: Allocator>(blocks: &mut [Block<A>], address: u32, value: u8) -> bool
     requires { IsInOrder blocks.old }
     ensures order { IsInOrder blocks.new }
@@ -29,7 +29,8 @@ pub fn put8<A: Allocator>(blocks: &mut [Block<A>], address: u32, value: u8) -> b
     true
 }
 
-/// Puts a number into the two bytes from an address on, where each may be written; says whether it did.
+/// Writes a number into the two bytes from an address on if each is writable; returns whether they
+/// were.
 #[inline]
 pub fn put16<A: Allocator>(blocks: &mut [Block<A>], address: u32, value: u16) -> bool
     requires order { IsInOrder blocks.old }
@@ -49,7 +50,7 @@ pub fn put16<A: Allocator>(blocks: &mut [Block<A>], address: u32, value: u16) ->
     true
 }
 
-/// What `put16` says, of bytes that may stand in any block.
+// `put16` for bytes that may be in any block.
 #[inline(never)]
 fn put16_by_halves<A: Allocator>(blocks: &mut [Block<A>], address: u32, value: u16) -> bool
     requires order { IsInOrder blocks.old }
@@ -69,7 +70,8 @@ fn put16_by_halves<A: Allocator>(blocks: &mut [Block<A>], address: u32, value: u
     true
 }
 
-/// Puts a number into the four bytes from an address on, where each may be written; says whether it did.
+/// Writes a number into the four bytes from an address on if each is writable; returns whether they
+/// were.
 #[inline]
 pub fn put32<A: Allocator>(blocks: &mut [Block<A>], address: u32, value: u32) -> bool
     requires order { IsInOrder blocks.old }
@@ -89,7 +91,7 @@ pub fn put32<A: Allocator>(blocks: &mut [Block<A>], address: u32, value: u32) ->
     true
 }
 
-/// What `put32` says, of bytes that may stand in any block.
+// `put32` for bytes that may be in any block.
 #[inline(never)]
 fn put32_by_halves<A: Allocator>(blocks: &mut [Block<A>], address: u32, value: u32) -> bool
     requires order { IsInOrder blocks.old }
@@ -109,7 +111,7 @@ fn put32_by_halves<A: Allocator>(blocks: &mut [Block<A>], address: u32, value: u
     true
 }
 
-/// What `put16` says, byte by byte.
+// `put16`, byte by byte.
 fn scatter16<A: Allocator>(blocks: &mut [Block<A>], address: u32, value: u16) -> bool
     requires order { IsInOrder blocks.old }
     requires in_range { address + 2 ≤ 2 ^ 32 }
@@ -126,7 +128,7 @@ fn scatter16<A: Allocator>(blocks: &mut [Block<A>], address: u32, value: u16) ->
     true
 }
 
-/// What `put32` says, byte by byte.
+// `put32`, byte by byte.
 fn scatter32<A: Allocator>(blocks: &mut [Block<A>], address: u32, value: u32) -> bool
     requires order { IsInOrder blocks.old }
     requires in_range { address + 4 ≤ 2 ^ 32 }

@@ -1,4 +1,4 @@
--- what pages hold at an access that lies in one of them
+-- the bytes of pages at an access within one of them
 use Rattle.std.proofs.Common.{◌≡◌, ℕ, zero, suc, ◌+◌, ◌/◌, ◌%◌, ◌^◌, ◌<◌, ◌≤◌, Bool, true, false, cond, List, length, get_or, arith, Some, None, ◌∙◌, sym, ap, refl}
 use Rattle.std.specs.List.{slice_get, slice_index}
 use Rattle.std.specs.declared.rc.Rc.{Rc}
@@ -58,7 +58,7 @@ module _ (d : DirectoryValue) (rights : List (List Span)) (pages : List Page) (a
       let granted_is : granted wanted (pages_memory d rights pages) n a ≡ false = granted_near p n wanted is_p room ∙ sym test ∙ miss in
       sym (ap (λ t. cond t (Some (number_at (pages_memory d rights pages).bytes n a)) None) granted_is)
 
--- no access is granted where its first byte's page is absent
+-- no access is granted if its first byte's page is absent
 pub granted_nowhere : (d : DirectoryValue) (rights : List (List Span)) (pages : List Page) (a n wanted : ℕ) → place_of d (a / 4096) ≡ None
     → granted wanted (pages_memory d rights pages) (suc n) a ≡ false
 granted_nowhere d rights pages a n wanted none =
@@ -81,7 +81,7 @@ fetched_past d rights pages a in_range past =
     let fails : granted 1 (pages_memory d rights pages) 4 a ≡ false = all_below_fails 4 3 (λ k. grants 1 ((pages_memory d rights pages).rights (a + k))) (omega arith) last in
     ap (λ t. cond t (Some (number_at (pages_memory d rights pages).bytes 4 a)) None) fails
 
--- the same of a store, whose parts are read one after the other
+-- the same of a store, whose parts are read in order
 module _ {Z : Type 0} (s : PageStore Z) (a k : ℕ) (l : Layout Z) (same : l ≡ s.layout.value) (place : Some k ≡ place_of l.directory (a / 4096)) (inside : k < length l.directory.owners) where
   pub at_place : place_of s.layout.value.directory (a / 4096) ≡ Some k
   at_place = sym (place ∙ ap (λ (m : Layout Z). place_of m.directory (a / 4096)) same)

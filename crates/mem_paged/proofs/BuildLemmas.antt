@@ -57,12 +57,12 @@ page_added {Z} d rights pages n r b new from to even_rights even_pages empty zer
     ap (λ (l : List (List Span)). pages_memory (with_page d n) l (pages ++ b ∷ [])) (map-append (λ (p : PageRights Z). p.spans.items) rights (r ∷ []))
     ∙ added d (spans_of rights) pages n r.spans.items b new from to (length-map rights (λ (p : PageRights Z). p.spans.items) ∙ even_rights) even_pages none zeros
 
--- a run that lies in one page
+-- a run in one page
 module _ (d : DirectoryValue) (rights : List (List Span)) (pages : List Page) (k a n i v : ℕ) (bytes : List ℕ) (s : Span) (ss : List Span) (q q' : Page) (at : place_of d (a / 4096) ≡ Some k)
     (is_p : slice_get rights k ≡ Some ss) (is_q : slice_get pages k ≡ Some q) (in_p : k < length rights) (in_q : k < length pages) (room : a % 4096 + n ≤ 4096)
     (from : s.from ≡ a % 4096) (to : s.to ≡ a % 4096 + n) (right : s.rights.0 ≡ v)
     (new_q : (o : ℕ) → slice_index q'.bytes o ≡ byte_of_run (a % 4096) n bytes i (slice_index q.bytes o) o) where
-  -- an address of the page is in the run where its offset is in the span
+  -- an address of the page is in the run if its offset is in the span
   same_test : (x : ℕ) → x / 4096 ≡ a / 4096 → in_run (a % 4096) n (x % 4096) ≡ in_run a n x
   same_test x e = elim (cases_Bool (in_run a n x)) [
     | inl here ↦ (let low : a ≤ x = search rules in let high : x < a + n = search rules in
@@ -99,7 +99,7 @@ module _ (d : DirectoryValue) (rights : List (List Span)) (pages : List Page) (k
         ∙ sym (ap (λ (b : Bool). cond b (Some v) (right_in (kept_at rights (place_of d (x / 4096))) (x % 4096))) (no_other x ne))
   ]
 
-  -- the byte of the run that stands at an address
+  -- the byte of the run at an address
   same_place : (x : ℕ) → x / 4096 ≡ a / 4096 → in_run a n x ≡ true → i + (x % 4096 - a % 4096) ≡ i + (x - a)
   same_place x e here = let low : a ≤ x = search rules in omega arith
 
@@ -141,7 +141,7 @@ run_mapped {Z} d rights pages k a n i v bytes s p p' q q' place is_p is_q in_p i
     (map-set (λ (r : PageRights Z). r.spans.items) rights k p' ∙ ap (λ (ss : List Span). set (spans_of rights) k ss) new_p)
     ∙ put_over d (spans_of rights) pages k a n i v bytes s p.spans.items q q' place is_p is_q inside in_q room from to right new_q
 
--- ---- bytes that are put one after the other
+-- ---- bytes that are put in order
 pub none_put : (a i : ℕ) (bytes : List ℕ) (old o : ℕ) → old ≡ byte_of_run a 0 bytes i old o
 none_put a i bytes old o =
     let t : in_run a 0 o ≡ false = grind (arith, nat_tests) in

@@ -1,4 +1,4 @@
--- where pages are kept, before and after one more
+-- the places of pages, before and after one more
 use Rattle.std.proofs.Common.{◌≡◌, ℕ, zero, suc, ◌+◌, ◌-◌, ◌<◌, ◌≤◌, true, false, eqb, ltb, List, [], ◌∷◌, ◌++◌, length, set, arith, Option, Some, None, rules, ◌∙◌, sym, ap, refl, inl, inr}
 use Rattle.std.proofs.lemmas.Bool.{cases_Bool, cases_eq, cases_lt}
 use Rattle.std.proofs.lemmas.Bool.Decides.{nat_tests}
@@ -51,7 +51,7 @@ pub owner_of : (owners : List ℕ) (n k : ℕ) (place : Option ℕ) → place_if
 owner_of owners n k None e = absurd (search rules)
 owner_of owners n k (Some j) e = let both = owned_by k j n (slice_get owners j) e in rw (← both.0) both.1
 
--- where another page is kept, after one more owner
+-- the place of another page, after one more owner
 place_kept : (owners : List ℕ) (n m : ℕ) (o : Option ℕ) → (m ≡ n → ⊥) → place_if (owners ++ n ∷ []) m o ≡ place_if owners m o
 place_kept owners n m None ne = refl
 place_kept owners n m (Some j) ne = elim (cases_lt j (length owners)) [
@@ -71,7 +71,7 @@ module _ (d : DirectoryValue) (n : ℕ) (from : d.first ≤ n) (to : n < d.first
       let is : eqb n n ≡ true = search rules in
       rw (low, get-set_same d.index (n - d.first) (length d.owners) (omega arith), get-pushed d.owners n, is)
 
-  -- and the others are where they were
+  -- and the others keep their places
   pub place-others : (m : ℕ) → (m ≡ n → ⊥) → place_of (with_page d n) m ≡ place_of d m
   place-others m ne = elim (cases_Bool (ltb m d.first)) [
     | inl low ↦ rw low refl
@@ -81,7 +81,7 @@ module _ (d : DirectoryValue) (n : ℕ) (from : d.first ≤ n) (to : n < d.first
         ∙ place_kept d.owners n m (slice_get d.index (m - d.first)) ne))
   ]
 
--- what is kept at a place that has an owner stays where one more is pushed
+-- an item at a place with an owner stays when one more is pushed
 pub kept-push : {X : Type 0} (d : DirectoryValue) (m : ℕ) (xs : List X) (y : X) → length xs ≡ length d.owners → kept_at (xs ++ y ∷ []) (place_of d m) ≡ kept_at xs (place_of d m)
 kept-push d m xs y len = at_place (place_of d m) refl
   where
@@ -91,7 +91,7 @@ kept-push d m xs y len = at_place (place_of d m) refl
         let low : k < length d.owners = slice_get_within d.owners k m (owner_of d.owners m k (proposed d m) e) in
         get-push xs y k (omega (arith, low, len))
 
--- what is kept for a page stays where another page's is replaced
+-- the item of a page stays when another page's is replaced
 pub kept-set_other : {X : Type 0} (d : DirectoryValue) (n m k : ℕ) (xs : List X) (y : X) → (m ≡ n → ⊥) → place_of d n ≡ Some k → kept_at (set xs k y) (place_of d m) ≡ kept_at xs (place_of d m)
 kept-set_other d n m k xs y ne has = at_place (place_of d m) refl
   where

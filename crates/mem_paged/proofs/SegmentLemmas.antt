@@ -1,4 +1,4 @@
--- the memory of segments, one after the other, and the pages that they want
+-- the memory of segments, in order, and the pages that they need
 use Rattle.std.proofs.Common.{◌≡◌, ℕ, min, max, ◌+◌, ◌-◌, ◌*◌, ◌/◌, ◌^◌, ◌<◌, ◌≤◌, Bool, true, false, ◌&&◌, leb, ltb, List, [], ◌∷◌, take, drop, length, get_or, arith, rules, Option, ◌∙◌, sym, ap, ap₂, refl, inl, inr}
 use Rattle.std.proofs.lemmas.Bool.{cases_Bool}
 use Rattle.std.proofs.lemmas.Bool.Decides.{nat_tests}
@@ -19,7 +19,7 @@ use Rattle.mem_paged.specs.Runs.{in_run, with_run}
 pub same_memory : (m n : Memory) → ((x : ℕ) → m.rights x ≡ n.rights x) → ((x : ℕ) → m.bytes x ≡ n.bytes x) → m ≡ n
 same_memory m n e f = ap₂ (λ (r : ℕ → Option ℕ) (b : ℕ → ℕ). record { rights = r; bytes = b }) (fun_ext e) (fun_ext f)
 
--- no segment, and one more before the others
+-- no segment, and one before the others
 pub no_segments : segments_memory [] ≡ unmapped
 unfolding segments_memory
 no_segments = refl
@@ -30,7 +30,7 @@ segments-cons s ss = same_memory _ _
     (λ x. elim (cases_Bool (has_address x (span_of s))) [ inl here ↦ rw here refl | inr off ↦ rw off refl ])
     (λ x. elim (cases_Bool (has_address x (span_of s))) [ inl here ↦ rw here refl | inr off ↦ rw off refl ])
 
--- the memory of the last segments, one more of them
+-- the memory of the last segments, with one more
 pub segments-more : (ss : List SegmentValue) (i : ℕ) (s : SegmentValue) (m n : Memory) → i < length ss → s ≡ get_or ss (length ss - 1 - i) s → m ≡ segments_memory (drop (length ss - i) ss)
     → n ≡ over s m → n ≡ segments_memory (drop (length ss - (i + 1)) ss)
 segments-more ss i s m n inside is was new =
@@ -64,7 +64,7 @@ run_over s m i c = same_memory _ _
       | inr off ↦ (let h : has_in s (i + c) x ≡ has_in s i x = grind (arith, nat_tests) in rw (off, h) refl)
     ])
 
--- the same where the segment is seen through its fields
+-- the same for a segment given by its fields
 pub run_over_seen : (s t : SegmentValue) (m n : Memory) (i c : ℕ) (bytes : List ℕ) → t ≡ s → bytes ≡ t.bytes → n ≡ over (beginning s i) m
     → with_run n (t.base + i) c t.rights bytes i ≡ over (beginning s (i + c)) m
 run_over_seen s t m n i c bytes seen is was =

@@ -33,7 +33,7 @@ get-take (suc n) [] k h = refl
 get-take (suc n) (x ∷ xs) zero h = refl
 get-take (suc n) (x ∷ xs) (suc k) h = get-take n xs k (omega arith)
 
--- an aligned number lies in one page
+-- an aligned number is in one page
 pub in_one_page : (number : Number) (a : ℕ) → a % width_of number ≡ 0 → a % 4096 + width_of number ≤ 4096
 in_one_page (Byte v) a e = omega arith
 in_one_page (Half v) a e = omega arith
@@ -63,7 +63,7 @@ module _ (d : DirectoryValue) (rights : List (List Span)) (pages : List Page) (n
         ]))
   ]))
 
--- the same of a store, whose parts are read one after the other
+-- the same of a store, whose parts are read in order
 module _ {Z : Type 0} (s : PageStore Z) (a k : ℕ) (l : Layout Z) (same : l ≡ s.layout.value) (place : Some k ≡ place_of l.directory (a / 4096)) (inside : k < length l.directory.owners) where
   pub may_store : (number : Number) (w : ℕ) (g : Bool) (m : Layout Z) (p : PageRights Z) → a % width_of number ≡ 0 → w ≡ width_of number → m ≡ s.layout.value → p ≡ get_or m.rights.items k p
       → g ≡ all_below w (λ j. grants 2 (right_at p.spans.items (a % 4096 + j))) → g ≡ granted 2 (memory_of s) (width_of number) a
@@ -82,7 +82,7 @@ module _ {Z : Type 0} (s : PageStore Z) (a k : ℕ) (l : Layout Z) (same : l ≡
   pub after_refusal : (new : List Page) → new ≡ pages_of s.table.chunks.items → pages_memory s.layout.value.directory (spans_of s.layout.value.rights.items) new ≡ memory_of s
   after_refusal new kept = ap (pages_memory s.layout.value.directory (spans_of s.layout.value.rights.items)) kept
 
--- pages with others behind them
+-- pages with others after them
 module _ (d : DirectoryValue) (rights : List (List Span)) (pages new : List Page) (n : ℕ) (len : n ≡ length d.owners) (begins : take n new ≡ pages) where
   kept-begun : (m : ℕ) (place : Option ℕ) → place_of d m ≡ place → kept_at new place ≡ kept_at pages place
   kept-begun m None e = refl

@@ -28,7 +28,7 @@ get-right (x ∷ xs) ys n (suc i) len h =
     let same : i - (n - 1) ≡ suc i - n = omega arith in
     get-right xs ys (n - 1) i (omega arith) (omega arith) ∙ ap (slice_get ys) same
 
--- ---- pieces of 64 elements, one after the other
+-- ---- pieces of 64 elements, in order
 module _ {X A : Type 0} (f : X → List A) (whole : (x : X) → length (f x) ≡ 64) where
   -- element k is in piece (k / 64), at (k % 64)
   pub get-pieces : (xs : List X) (k : ℕ) (x : X) → slice_get xs (k / 64) ≡ Some x → slice_get (flat_map f xs) k ≡ slice_get (f x) (k % 64)
@@ -172,7 +172,7 @@ chunk_more {Z} chunks after q c pages rest part i was is_rest is_part has is_q i
 pub all_chunks : {Z : Type 0} (chunks : List (Rc (Chunk Z) Z)) (pages : List (Rc Page Z)) (n : ℕ) → pages_of chunks ≡ values_of (take n pages) → length pages ≤ n → pages_of chunks ≡ values_of pages
 all_chunks {Z} chunks pages n is long = is ∙ ap (λ (ps : List (Rc Page Z)). values_of ps) (take_all n pages long)
 
--- pages, and others behind them
+-- pages, and others after them
 pub begins_first : {Z : Type 0} (pages all : List (Rc Page Z)) → values_of all ≡ values_of pages → take (length pages) (values_of all) ≡ values_of pages
 begins_first {Z} pages all same =
     ap (take (length pages)) same ∙ take_all (length pages) (values_of pages) (omega (arith, length-map pages (λ (p : Rc Page Z). p.value)))
@@ -186,7 +186,7 @@ begins_more {Z} pages all after q n len long is begins =
     ∙ take-append-le (length pages) (values_of all) (q.value ∷ []) room
     ∙ begins
 
--- a table of pages that were wrapped, with others behind them
+-- a table of pages that were wrapped, with others after them
 pub table_begins : {Z : Type 0} (pages : List Page) (shared seen all seen_all : List (Rc Page Z)) (chunks : List (Rc (Chunk Z) Z)) → values_of shared ≡ pages → seen ≡ shared
     → take (length seen) (values_of all) ≡ values_of seen → seen_all ≡ all → pages_of chunks ≡ values_of seen_all → take (length pages) (pages_of chunks) ≡ pages
 table_begins {Z} pages shared seen all seen_all chunks wrapped is begins is_all has =

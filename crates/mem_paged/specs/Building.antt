@@ -7,7 +7,7 @@ use Rattle.mem_store.specs.Memory.{Memory}
 use Rattle.mem_paged.specs.Pages.{spans_of, pages_memory}
 use Rattle.mem_paged.specs.declared.building.Building.{Building}
 
--- the memory of pages that are being filled
+-- the memory of pages while they are filled
 abbrev pub built : {Z : Type 0} → Building Z → Memory
 built b = pages_memory b.directory (spans_of b.rights.items) b.pages.items
 
@@ -17,7 +17,7 @@ pub record IsEven {Z : Type 0} (b : Building Z) : Type 0 where
   pub pages : vec_len b.pages ≡ length b.directory.owners
   pub in_range : b.directory.first + length b.directory.index ≤ 2 ^ 20
 
--- nothing is mapped
+-- no byte is mapped
 abbrev pub unmapped : Memory
 unmapped = record { rights = λ a. None; bytes = λ a. 0 }
 
@@ -28,6 +28,6 @@ over s m = record {
   bytes = λ a. if has_address a (span_of s) then slice_index s.bytes (a - s.base) else m.bytes a;
 }
 
--- the pages from number `first` to `first + count - 1` have all addresses of a segment
+-- the pages from number `first` to `first + count - 1` contain all addresses of a segment
 abbrev pub IsCovered : ℕ → ℕ → SegmentValue → Type 0
 IsCovered first count s = (first * 4096 ≤ s.base) × (s.base + s.size ≤ (first + count) * 4096)

@@ -1,15 +1,15 @@
--- Numbers as they are stored.
+-- Numbers to store.
 use Rattle.std.specs.Prelude.{ℕ}
 use Rattle.mem_paged.specs.declared.number.Number.{Number}
 use Rattle.mem_paged.specs.declared.number.Number.TheVariants.{Byte, Half, Word}
 
--- how many bytes a number has
+-- the width of a number in bytes
 abbrev pub width_of : Number → ℕ
 width_of (Byte value) = 1
 width_of (Half value) = 2
 width_of (Word value) = 4
 
--- which number it is
+-- the value of a number
 abbrev pub value_of : Number → ℕ
 value_of (Byte value) = value
 value_of (Half value) = value

@@ -6,20 +6,20 @@ use Rattle.mem_paged.specs.declared.page.Page.{Page}
 use Rattle.mem_paged.specs.declared.page_rights.Span.{Span}
 use Rattle.mem_paged.specs.declared.page_rights.PageRights.{PageRights}
 
--- whether a span has an offset
+-- whether a span contains an offset
 abbrev pub has_offset : ℕ → Span → Bool
 has_offset offset s = nat_le s.from offset && nat_lt offset s.to
 
--- whether a span has some bytes, and all of the n from an offset on
+-- whether n is not 0 and a span contains all n bytes from an offset on
 abbrev pub has_all : ℕ → ℕ → Span → Bool
 has_all offset n s = nat_lt 0 n && nat_le s.from offset && nat_le (offset + n) s.to
 
--- the rights of a page's byte at an offset as a sum of 1, 2 and 4, if it is mapped: those of the first span that has it
+-- the rights at an offset, a sum of 1, 2 and 4, if mapped: those of the first span that contains it
 abbrev pub right_at : List Span → ℕ → Option ℕ
 right_at [] offset = None
 right_at (s ∷ ss) offset = if has_offset offset s then Some s.rights.0 else right_at ss offset
 
--- the same, where there may be no page
+-- the same for a page that may not exist
 abbrev pub right_in : Option (List Span) → ℕ → Option ℕ
 right_in None offset = None
 right_in (Some ss) offset = right_at ss offset
@@ -28,12 +28,12 @@ right_in (Some ss) offset = right_at ss offset
 abbrev pub spans_of : {Z : Type 0} → List (PageRights Z) → List (List Span)
 spans_of {Z} rights = map (λ (r : PageRights Z). r.spans.items) rights
 
--- a page's byte at an offset, 0 where there is no page
+-- a page's byte at an offset, 0 if there is no page
 abbrev pub byte_in : Option Page → ℕ → ℕ
 byte_in None offset = 0
 byte_in (Some p) offset = slice_index p.bytes offset
 
--- what is kept at a place, if there is a place
+-- the item at a place, if there is a place
 abbrev pub kept_at : {X : Type 0} → List X → Option ℕ → Option X
 kept_at xs None = None
 kept_at xs (Some k) = slice_get xs k

@@ -5,7 +5,7 @@ use Rattle.std.specs.declared.rc.Rc.{Rc}
 use Rattle.mem_paged.specs.declared.page.Page.{Page}
 use Rattle.mem_paged.specs.declared.chunk.Chunk.{Chunk}
 
--- the values behind shared pointers
+-- the values of shared pointers
 abbrev pub values_of : {X Z : Type 0} → List (Rc X Z) → List X
 values_of {X} {Z} items = map (λ (p : Rc X Z). p.value) items
 
@@ -13,6 +13,6 @@ values_of {X} {Z} items = map (λ (p : Rc X Z). p.value) items
 abbrev pub pages_in : {Z : Type 0} → Chunk Z → List Page
 pages_in c = values_of c.pages.items
 
--- the pages of chunks, one chunk after the other
+-- the pages of chunks, in order
 unfoldable pub pages_of : {Z : Type 0} → List (Rc (Chunk Z) Z) → List Page
 pages_of {Z} chunks = flat_map (λ (c : Chunk Z). pages_in c) (values_of chunks)

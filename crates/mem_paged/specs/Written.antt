@@ -1,9 +1,9 @@
--- What a write into one of some pages leaves.
+-- The pages after a write into one of them.
 use Rattle.std.specs.Prelude.{◌≡◌, ℕ, List, Some, Result, Ok, Err, length, slice_get, slice_set}
 use Rattle.mem_flat.specs.Blocks.{spelled}
 use Rattle.mem_paged.specs.declared.page.Page.{Page}
 
--- page k gave way to one whose n bytes from an offset on spell the low digits of a value, and whose others are as they were
+-- page k has changed: n bytes from an offset on spell a value's low digits, the rest is the same
 pub record IsWritten (n k offset value : ℕ) (old new : List Page) : Type 0 where
   pub old_page : Page
   pub new_page : Page
@@ -12,7 +12,7 @@ pub record IsWritten (n k offset value : ℕ) (old new : List Page) : Type 0 whe
   pub spells : new_page.bytes ≡ spelled n old_page.bytes offset value
   pub pages : new ≡ slice_set old k new_page
 
--- a write of n bytes into page k: what it answers, and the pages after it
+-- a write of n bytes into page k: its result, and the pages after it
 abbrev pub Writes : {E : Type 0} → ℕ → ℕ → ℕ → ℕ → List Page → List Page → Result (Unit {0}) E → Type 0
 Writes n k offset value old new (Ok _) = IsWritten n k offset value old new
 Writes n k offset value old new (Err _) = new ≡ old

@@ -1,11 +1,12 @@
-//! Pages that nobody shares yet.
+//! Pages that are not shared yet.
 
 use crate::directory::Directory;
 use crate::page::Page;
 use crate::page_rights::PageRights;
 use std::alloc::Allocator;
 
-/// The pages of an image while they are filled: where they are kept, and by place the rights of their bytes and these.
+/// The pages of an image while they are filled: their directory, and at each place the rights of a
+/// page and its bytes.
 #[derive(Drop)]
 pub struct Building<A: Allocator + Copy> {
     pub alloc: A,

@@ -5,10 +5,10 @@ use crate::page::Page;
 use std::alloc::Allocator;
 use std::rc::Rc;
 
-/// How many pages a chunk has.
+/// The number of pages in a chunk.
 pub const CHUNK_PAGES: usize = 64;
 
-/// So many pages in order, each of which others may share.
+/// `CHUNK_PAGES` pages in order, each of which may be shared.
 #[derive(Drop)]
 pub struct Chunk<A: Allocator> {
     pub pages: Vec<Rc<Page, A>, A>,

@@ -1,14 +1,15 @@
-//! Where pages are kept.
+//! The places of pages.
 ghost use Rattle.std.specs.Prelude.{◌≡◌, ◌+◌, ◌<◌, ◌≤◌, [], length, IfOk, IfSome, OnOk};
 ghost use Rattle.mem_paged.specs.Directory.{place_of, with_page};
 
 use std::alloc::{AllocError, Allocator};
 use std::marker::Model;
 
-/// Which pages there are, by their numbers (address / 4096), and the place at which each is kept.
+/// The existing pages, by number (address / 4096), and the place of each.
 ///
-/// `index` proposes a place for each page from `first` on, and a proposal counts only where the place's owner is that page:
-/// so no two pages have one place, and an entry that was never set needs no mark.
+/// `index` proposes a place for each page from `first` on. A proposal counts only if the place's
+/// owner is that page. So no two pages have one place, and an entry that was never set needs no
+/// mark.
 #[derive(Drop)]
 pub struct Directory<A: Allocator> {
     first: u32,
@@ -29,7 +30,8 @@ impl<A: Allocator> Model for Directory<A> {
 }
 
 impl<A: Allocator + Copy> Directory<A> {
-    /// No page yet, and room for the `count` pages from `first` on.
+    /// A directory without pages, with room for the `count` pages from `first` on. Fails when out
+    /// of memory.
     pub fn new(alloc: A, first: u32, count: u32) -> Result<Directory<A>, AllocError>
         ensures { IfOk result (λ d. (d.first ≡ first) × (length d.index ≡ count) × (d.owners ≡ [])) }
     {
@@ -42,7 +44,7 @@ impl<A: Allocator + Copy> Directory<A> {
 }
 
 impl<A: Allocator> Directory<A> {
-    /// Where a page is kept, if it is there.
+    /// The place of a page, if the page exists.
     #[inline]
     pub fn place(&self, number: u32) -> Option<usize>
         ensures value { result ≡ place_of self.now number }
@@ -56,7 +58,7 @@ impl<A: Allocator> Directory<A> {
         if owner == number { Some(place) } else { None }
     }
 
-    /// Adds a page at the next place.
+    /// Adds a page at the next place. Fails when out of memory.
     pub fn add(&mut self, number: u32) -> Result<usize, AllocError>
         requires from { self.old.first ≤ number }
         requires to { number < self.old.first + length self.old.index }

@@ -1,4 +1,4 @@
-//! How pages are filled.
+//! Fills pages.
 ghost use Rattle.std.specs.Prelude.{◌≡◌, ◌<◌, ◌≤◌, ◌+◌, ◌^◌, ◌/◌, ◌%◌, ◌*◌, None, Some, IfOk, OnOk, All, length};
 ghost use Rattle.mem_store.specs.Image.{image_memory};
 ghost use Rattle.mem_paged.specs.Directory.{place_of};
@@ -12,7 +12,7 @@ use crate::page_rights::{PageRights, Span};
 use image::{Image, Rights, Segment};
 use std::alloc::{AllocError, Allocator};
 
-/// How many of the bytes that are left are in the page of an address.
+// The number of the remaining bytes that are in the page of an address.
 fn run_of(address: u32, left: u32) -> u32
     requires { 0 < left }
     ensures some { 0 < result }
@@ -23,7 +23,7 @@ fn run_of(address: u32, left: u32) -> u32
 }
 
 impl<A: Allocator + Copy> Building<A> {
-    /// No page yet, and room for the `count` pages from `first` on.
+    // No pages, with room for the `count` pages from `first` on.
     fn new(alloc: A, first: u32, count: u32) -> Result<Building<A>, AllocError>
         requires { first + count ≤ 2 ^ 20 }
         ensures even { IfOk result (λ b. IsEven b × (built b ≡ unmapped)) }
@@ -38,7 +38,7 @@ impl<A: Allocator + Copy> Building<A> {
         })
     }
 
-    /// One page more, in which nothing is mapped.
+    // Adds a page in which no byte is mapped.
     fn add_page(&mut self, number: u32) -> Result<usize, AllocError>
         requires even { IsEven self.old }
         requires from { self.old.directory.first ≤ number }
@@ -60,7 +60,7 @@ impl<A: Allocator + Copy> Building<A> {
         Ok(place)
     }
 
-    /// Where a page is kept, which is added if it isn't there.
+    // The place of a page, which is added if it does not exist.
     fn page(&mut self, number: u32) -> Result<usize, AllocError>
         requires even { IsEven self.old }
         requires from { self.old.directory.first ≤ number }
@@ -77,7 +77,8 @@ impl<A: Allocator + Copy> Building<A> {
         }
     }
 
-    /// Maps bytes in a page: `count` of them, from the `first` on, from an address on.
+    // Maps `count` bytes at an address in the page at a place; the source starts at its byte
+    // `first`.
     fn set(
         &mut self,
         place: usize,
@@ -109,7 +110,7 @@ impl<A: Allocator + Copy> Building<A> {
         Ok(())
     }
 
-    /// Maps bytes that lie in one page: `count` of them, from the `first` on, from an address on.
+    // Maps `count` bytes at an address, all in one page; the source starts at its byte `first`.
     fn put(
         &mut self,
         address: u32,
@@ -135,7 +136,7 @@ impl<A: Allocator + Copy> Building<A> {
         Ok(())
     }
 
-    /// Puts a segment over what there is, page by page.
+    // Maps a segment over the present pages, page by page.
     fn add<B: Allocator>(&mut self, segment: &Segment<B>) -> Result<(), AllocError>
         requires even { IsEven self.old }
         requires covered { IsCovered self.old.directory.first
@@ -157,7 +158,7 @@ impl<A: Allocator + Copy> Building<A> {
     }
 }
 
-/// The lowest page that has an address of some segments, and how many there are from it to the highest.
+// The lowest page of some segments, and the number of pages from it to the highest.
 fn range_of<A: Allocator>(segments: &[Segment<A>]) -> (u32, u32)
     requires { All (λ s. s.base + s.size ≤ 2 ^ 32) segments.now }
     ensures in_range { result.0 + result.1 ≤ 2 ^ 20 }
@@ -174,7 +175,8 @@ fn range_of<A: Allocator>(segments: &[Segment<A>]) -> (u32, u32)
     (first, end.saturating_sub(first))
 }
 
-/// The pages of an image. The first segment is put last, over the others.
+/// The pages of an image. The first segment is mapped last, over the others. Fails when out of
+/// memory.
 pub fn filled<A: Allocator + Copy, B: Allocator>(
     alloc: A,
     image: &Image<B>,

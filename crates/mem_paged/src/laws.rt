@@ -1,4 +1,4 @@
-//! What holds of each memory that can be copied.
+//! Laws of each memory that can be copied.
 ghost use Rattle.std.specs.Prelude.{◌≡◌, IfOk};
 ghost use Rattle.mem_store.specs.Access.{Stores};
 ghost use Rattle.mem_paged.specs.Number.{width_of, value_of};
@@ -19,7 +19,8 @@ pub fn store_number<S: Store>(store: &mut S, address: u32, number: Number) -> Re
     }
 }
 
-/// A copy never changes with its original: it has what it had, whatever is stored into the original.
+/// A copy does not change with its original: it keeps its bytes, whatever is stored into the
+/// original.
 pub fn store_into_original<A: Allocator, S: FromImage<A>>(
     alloc: A,
     store: &mut S,
@@ -35,7 +36,7 @@ pub fn store_into_original<A: Allocator, S: FromImage<A>>(
     Ok((copy, stored))
 }
 
-/// An original never changes with its copy: it has what it had, whatever is stored into the copy.
+/// An original does not change with its copy: it keeps its bytes, whatever is stored into the copy.
 pub fn store_into_copy<A: Allocator, S: FromImage<A>>(
     alloc: A,
     store: &mut S,

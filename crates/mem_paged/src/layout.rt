@@ -1,11 +1,12 @@
-//! What the copies of a memory never change.
+//! The part of a memory that stores never change.
 ghost use Rattle.std.specs.Prelude.{◌≡◌, ◌+◌, ◌^◌, ◌≤◌, vec_len, length};
 
 use crate::directory::Directory;
 use crate::page_rights::PageRights;
 use std::alloc::Allocator;
 
-/// Where the pages of a memory are kept, and the rights of their bytes, by place and span. It never changes, so all copies share one.
+/// The places of a memory's pages, and the rights of their bytes by place and span. It never
+/// changes, so all copies share it.
 #[derive(Drop)]
 pub struct Layout<A: Allocator> {
     pub directory: Directory<A>,

@@ -1,4 +1,4 @@
-//! Memory that is kept by pages, which copies share until one of them is written.
+//! A memory of pages, which copies share until one of them is written.
 #![tactic(auto)]
 
 pub use laws::{store_into_copy, store_into_original, store_number};

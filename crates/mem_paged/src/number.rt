@@ -1,7 +1,7 @@
-//! Numbers as they are stored.
+//! Numbers to store.
 ghost use Rattle.std.specs.Prelude.{◌≡◌};
 
-/// A number of one, two or four bytes, which stand with the lowest first.
+/// A number of one, two or four bytes, little-endian in memory.
 #[derive(Clone, Copy, PartialEq, Eq)]
 pub enum Number {
     /// One byte.
@@ -15,7 +15,7 @@ pub enum Number {
 impl Number {
     ghost use Rattle.mem_paged.specs.Number.{width_of};
 
-    /// How many bytes it has.
+    /// The width in bytes.
     #[inline]
     pub fn width(self) -> u32
         ensures { result ≡ width_of self }

@@ -7,19 +7,19 @@ ghost use Rattle.mem_paged.specs.Runs.{byte_of_run};
 
 use crate::number::Number;
 
-/// How many addresses a page has.
+/// The size of a page in bytes.
 pub const PAGE_SIZE: usize = 4096;
 
-/// How many pages the 32-bit addresses have.
+/// The number of pages in the 32-bit address space.
 pub const PAGES: u32 = 0x10_0000;
 
-/// The bytes of a page, 0 where nothing is mapped.
+/// The bytes of a page, 0 where no byte is mapped.
 #[derive(Clone, Copy, Drop)]
 pub struct Page {
     pub bytes: [u8; PAGE_SIZE],
 }
 
-/// A byte, or 0 behind the last.
+// A byte, or 0 past the last.
 fn byte_or_zero(bytes: &[u8], i: usize) -> u8
     ensures { result ≡ slice_index bytes.now i }
 {
@@ -30,7 +30,7 @@ fn byte_or_zero(bytes: &[u8], i: usize) -> u8
 }
 
 impl Page {
-    /// The two bytes from an offset on, as a number.
+    /// The two bytes from an offset on, little-endian.
     #[inline]
     pub fn read16(&self, at: usize) -> u16
         requires { at + 2 ≤ 4096 }
@@ -39,7 +39,7 @@ impl Page {
         u16::from_le_bytes([self.bytes[at], self.bytes[at + 1]])
     }
 
-    /// The four bytes from an offset on, as a number.
+    /// The four bytes from an offset on, little-endian.
     #[inline]
     pub fn read32(&self, at: usize) -> u32
         requires { at + 4 ≤ 4096 }
@@ -53,7 +53,7 @@ impl Page {
         ])
     }
 
-    /// Puts a number into the bytes from an offset on.
+    /// Writes a number into the bytes from an offset on.
     #[inline]
     pub fn write(&mut self, at: usize, number: Number)
         requires { at + width_of number ≤ 4096 }
@@ -77,7 +77,8 @@ impl Page {
         }
     }
 
-    /// Puts `count` bytes from the `first` on into those from an offset on; 0 behind the last.
+    /// Copies `count` bytes, from byte `first` of the source on, to an offset; 0 past the source's
+    /// last.
     pub fn fill(&mut self, at: usize, bytes: &[u8], first: usize, count: usize)
         requires room { at + count ≤ 4096 }
         requires small { first + count ≤ 2 ^ 32 }

@@ -6,7 +6,8 @@ ghost use Rattle.mem_paged.specs.Pages.{has_offset, has_all, right_at};
 use image::Rights;
 use std::alloc::{AllocError, Allocator};
 
-/// Bytes of a page that are mapped with the same rights: those at the offsets from `from` up to but not `to`.
+/// Bytes of a page that are mapped with the same rights: those at offsets from `from` up to but not
+/// including `to`.
 #[derive(Clone, Copy)]
 pub struct Span {
     pub from: usize,
@@ -14,14 +15,15 @@ pub struct Span {
     pub rights: Rights,
 }
 
-/// The rights of a page's bytes, by spans: the first span that has an offset decides. Where none has it, nothing is mapped.
+/// The rights of a page's bytes, by spans: the first span that contains an offset decides. An
+/// offset in no span is not mapped.
 #[derive(Drop)]
 pub struct PageRights<A: Allocator> {
     pub spans: Vec<Span, A>,
 }
 
 impl Span {
-    /// Whether it has an offset.
+    // Whether the span contains an offset.
     #[inline]
     fn has_offset(&self, at: usize) -> bool
         ensures { result ≡ has_offset at self.now }
@@ -29,7 +31,7 @@ impl Span {
         self.from <= at && at < self.to
     }
 
-    /// Whether it has some bytes, and all of the `count` from an offset on.
+    // Whether `count` is not 0 and the span contains all `count` bytes from an offset on.
     #[inline]
     fn has_all(&self, at: usize, count: usize) -> bool
         requires { at + count ≤ 4096 }
@@ -39,7 +41,7 @@ impl Span {
     }
 }
 
-/// The rights that the first span gives which has an offset.
+// The rights of the first span that contains an offset.
 #[inline]
 fn first_right(spans: &[Span], at: usize) -> Option<Rights>
     ensures { option_map (λ r. r.0) result ≡ right_at spans.now at }
@@ -53,7 +55,7 @@ fn first_right(spans: &[Span], at: usize) -> Option<Rights>
 }
 
 impl<A: Allocator> PageRights<A> {
-    /// Puts a span before the others.
+    /// Adds a span before the others. Fails when out of memory.
     pub fn put(&mut self, span: Span) -> Result<(), AllocError>
         ensures { OnOk result (self.new.spans.items ≡ span ∷ self.old.spans.items) }
     {
@@ -80,8 +82,8 @@ impl<A: Allocator> PageRights<A> {
         }
     }
 
-    /// Whether each of the bytes from an offset on has one of the wanted rights. It looks once where the first span has them
-    /// all, as it does where one segment has the page.
+    /// Whether each of `count` bytes from an offset on has one of the wanted rights. If the first
+    /// span contains them all, one test decides; so it is where one segment has the page.
     #[inline]
     pub fn grants(&self, at: usize, count: usize, wanted: Rights) -> bool
         requires { at + count ≤ 4096 }
@@ -97,7 +99,7 @@ impl<A: Allocator> PageRights<A> {
         span.rights.grants(wanted)
     }
 
-    /// What `grants` says, byte by byte.
+    // `grants`, byte by byte.
     fn each_grants(&self, at: usize, count: usize, wanted: Rights) -> bool
         requires { at + count ≤ 4096 }
         ensures { result ≡ all_below count (λ k.

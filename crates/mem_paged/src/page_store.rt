@@ -10,8 +10,9 @@ use mem_flat::Code;
 use std::alloc::Allocator;
 use std::rc::Rc;
 
-/// A memory whose copies share its pages, the chunks of its table of pages, and the instructions of the program's words, decoded once. A store into a page that is shared, itself
-/// or by its chunk, copies that page and that chunk first, which may be refused.
+/// A memory whose copies share its pages, the chunks of its table of pages, and the decoded words
+/// of the program. A store into a shared page, or a page in a shared chunk, first copies that page
+/// and that chunk, which fails when out of memory.
 #[derive(Drop)]
 pub struct PageStore<A: Allocator + Copy> {
     pub(crate) alloc: A,

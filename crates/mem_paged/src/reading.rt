@@ -26,7 +26,7 @@ impl<A: Allocator> Table<A> {
 }
 
 impl<A: Allocator + Copy> PageStore<A> {
-    /// The byte at an address, whatever its rights, or none where nothing is mapped.
+    /// The byte at an address, whatever its rights, or `None` if it is not mapped.
     pub fn byte(&self, address: u32) -> Option<u8>
         ensures { result ≡ peeked (memory_of self.now) address }
     {
@@ -36,7 +36,7 @@ impl<A: Allocator + Copy> PageStore<A> {
         Some(self.table.page(place).bytes[at])
     }
 
-    /// The byte at an address, where it has one of the wanted rights.
+    /// The byte at an address, if it has one of the wanted rights.
     pub fn read8(&self, address: u32, wanted: Rights) -> Option<u8>
         ensures { MatchOption result
             (grants wanted.0 ((memory_of self.now).rights address) ≡ false)
@@ -51,7 +51,7 @@ impl<A: Allocator + Copy> PageStore<A> {
         Some(self.table.page(place).bytes[at])
     }
 
-    /// Two bytes in one page as a number, where each has one of the wanted rights.
+    /// Two bytes in one page, little-endian, if each has one of the wanted rights.
     #[inline]
     pub fn read16(&self, address: u32, wanted: Rights) -> Option<u16>
         requires { address % 2 ≡ 0 }
@@ -65,7 +65,7 @@ impl<A: Allocator + Copy> PageStore<A> {
         Some(self.table.page(place).read16(at))
     }
 
-    /// Four bytes in one page as a number, where each has one of the wanted rights.
+    /// Four bytes in one page, little-endian, if each has one of the wanted rights.
     #[inline]
     pub fn read32(&self, address: u32, wanted: Rights) -> Option<u32>
         requires { address % 4 ≡ 0 }
@@ -79,7 +79,7 @@ impl<A: Allocator + Copy> PageStore<A> {
         Some(self.table.page(place).read32(at))
     }
 
-    /// What `read32` says, byte by byte, so that they may stand in two pages.
+    /// `read32`, byte by byte, for bytes that may be in two pages.
     pub fn gather32(&self, address: u32, wanted: Rights) -> Option<u32>
         requires { address + 4 ≤ 2 ^ 32 }
         ensures { result ≡ number_if wanted.0 (memory_of self.now) 4 address }
@@ -91,7 +91,7 @@ impl<A: Allocator + Copy> PageStore<A> {
         Some(u32::from_le_bytes([b0, b1, b2, b3]))
     }
 
-    /// Whether each of four bytes in one page may be written.
+    /// Whether each of four bytes in one page is writable.
     pub fn may_write32(&self, address: u32) -> bool
         requires { address % 4 ≡ 0 }
         ensures { result ≡ granted to_write (memory_of self.now) 4 address }

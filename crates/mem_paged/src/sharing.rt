@@ -1,4 +1,4 @@
-//! Values that are shared.
+//! Shared values.
 ghost use Rattle.std.specs.Prelude.{◌≡◌, IfOk, vec_len, length};
 ghost use Rattle.mem_paged.specs.Table.{pages_in, pages_of, values_of};
 
@@ -8,7 +8,7 @@ use crate::table::Table;
 use std::alloc::{AllocError, Allocator};
 use std::rc::Rc;
 
-/// The same values, shared.
+/// The same values, shared. Fails when out of memory.
 pub fn share<T: Drop, A: Allocator + Copy>(
     alloc: A,
     items: &[Rc<T, A>],
@@ -23,7 +23,7 @@ pub fn share<T: Drop, A: Allocator + Copy>(
     Ok(copies)
 }
 
-/// A chunk of pages, which it shares.
+/// A chunk that shares these pages. Fails when out of memory.
 pub fn chunk_of<A: Allocator + Copy>(
     alloc: A,
     pages: &[Rc<Page, A>],
@@ -36,7 +36,7 @@ pub fn chunk_of<A: Allocator + Copy>(
 }
 
 impl<A: Allocator + Copy> Chunk<A> {
-    /// Another chunk of the same pages, which both share.
+    /// A copy of the chunk that shares its pages. Fails when out of memory.
     pub fn copy(&self, alloc: A) -> Result<Chunk<A>, AllocError>
         ensures { IfOk result (λ c. pages_in c ≡ pages_in self.now) }
     {
@@ -46,7 +46,7 @@ impl<A: Allocator + Copy> Chunk<A> {
 }
 
 impl<A: Allocator + Copy> Table<A> {
-    /// Another table of the same pages, which share all chunks.
+    /// A copy of the table that shares its chunks. Fails when out of memory.
     pub fn copy(&self, alloc: A) -> Result<Table<A>, AllocError>
         ensures pages { IfOk result (λ t.
             pages_of t.chunks.items ≡ pages_of self.now.chunks.items) }

@@ -1,4 +1,4 @@
-//! Pages that were filled, made to be shared.
+//! Makes filled pages shareable.
 ghost use Rattle.std.specs.Prelude.{◌≡◌, ◌+◌, ◌*◌, ◌/◌, ◌%◌, ◌≤◌, IfOk, take, vec_len, length};
 ghost use Rattle.mem_flat.specs.Kept.{IsCodeOf};
 ghost use Rattle.mem_paged.specs.Building.{built, IsEven};
@@ -16,7 +16,7 @@ use mem_flat::Code;
 use std::alloc::{AllocError, Allocator};
 use std::rc::Rc;
 
-/// Each page by itself, to be shared.
+// Wraps each page, to be shared.
 fn wrapped<A: Allocator + Copy>(alloc: A, pages: &[Page]) -> Result<Vec<Rc<Page, A>, A>, AllocError>
     ensures values { IfOk result (λ ps. values_of ps.items ≡ pages.now) }
     ensures len { IfOk result (λ ps. vec_len ps ≡ length pages.now) }
@@ -28,7 +28,7 @@ fn wrapped<A: Allocator + Copy>(alloc: A, pages: &[Page]) -> Result<Vec<Rc<Page,
     Ok(shared)
 }
 
-/// Pages, and behind them one blank page as often as fills their last chunk; it is never looked at.
+// Wraps pages, and fills their last chunk with one blank page, repeated; it is never read.
 fn padded<A: Allocator + Copy>(
     alloc: A,
     pages: &[Rc<Page, A>],
@@ -50,7 +50,7 @@ fn padded<A: Allocator + Copy>(
     Ok(all)
 }
 
-/// Pages by chunks.
+// Pages by chunks.
 fn chunks_of<A: Allocator + Copy>(
     alloc: A,
     pages: &[Rc<Page, A>],
@@ -69,7 +69,7 @@ fn chunks_of<A: Allocator + Copy>(
     Ok(chunks)
 }
 
-/// A table of pages that were filled, and of blank ones behind them.
+// A table of filled pages, and of blank ones after them.
 fn table_of<A: Allocator + Copy>(alloc: A, pages: &[Page]) -> Result<Table<A>, AllocError>
     ensures begins { IfOk result (λ t.
         take (length pages.now) (pages_of t.chunks.items) ≡ pages.now) }
@@ -81,7 +81,7 @@ fn table_of<A: Allocator + Copy>(alloc: A, pages: &[Page]) -> Result<Table<A>, A
     Ok(Table { chunks })
 }
 
-/// A store of pages that were filled, with the code of their memory.
+/// A store of filled pages, with the code of their memory. Fails when out of memory.
 pub fn store_of<A: Allocator + Copy>(
     alloc: A,
     building: Building<A>,

@@ -17,7 +17,7 @@ use mem_store::StoreFault;
 use std::alloc::{AllocError, Allocator};
 use std::rc::Rc;
 
-/// Writes a number in a page. Where others share the page, it is copied first, and they keep theirs.
+// Writes a number in a page. A shared page is copied first; the other owners keep theirs.
 fn write<A: Allocator>(
     alloc: A,
     page: &mut Rc<Page, A>,
@@ -41,7 +41,7 @@ fn write<A: Allocator>(
 }
 
 impl<A: Allocator> Chunk<A> {
-    /// Writes a number in one of the pages, which is copied first where others share it.
+    // Writes a number in one of the pages, which is copied first if it is shared.
     fn write(&mut self, alloc: A, index: usize, at: usize, number: Number) -> Result<(), AllocError>
         requires index { index < 64 }
         requires room { at + width_of number ≤ 4096 }
@@ -55,7 +55,8 @@ impl<A: Allocator> Chunk<A> {
     }
 }
 
-/// Writes a number in one of a chunk's pages. Where others share the chunk, it is copied first, and they keep theirs.
+// Writes a number in one of a chunk's pages. A shared chunk is copied first; the other owners keep
+// theirs.
 fn write_chunk<A: Allocator + Copy>(
     alloc: A,
     chunk: &mut Rc<Chunk<A>, A>,
@@ -78,8 +79,8 @@ fn write_chunk<A: Allocator + Copy>(
 }
 
 impl<A: Allocator + Copy> Table<A> {
-    /// Writes a number in the page at a place. That page and its chunk are copied first where others share them, and where
-    /// either can't be copied nothing has changed.
+    /// Writes a number in the page at a place. That page and its chunk are copied first if they are
+    /// shared. When out of memory nothing has changed.
     pub fn write(
         &mut self,
         alloc: A,
@@ -108,7 +109,7 @@ impl<A: Allocator + Copy> Table<A> {
 }
 
 impl<A: Allocator + Copy> PageStore<A> {
-    /// Stores a number at an address that is a multiple of its width, so in one page.
+    /// Stores a number at an address that is a multiple of its width; such a number is in one page.
     #[inline]
     pub fn put(&mut self, address: u32, number: Number) -> Result<(), StoreFault>
         requires { address % width_of number ≡ 0 }

@@ -1,19 +1,19 @@
 -- Memory as contracts see it: a map from addresses to a byte and its rights.
 use Rattle.std.specs.Prelude.{ℕ, suc, zero, ◌+◌, ◌-◌, ◌*◌, ◌/◌, ◌%◌, ◌^◌, Bool, true, false, not, ◌&&◌, ◌==◌, nat_le, nat_lt, if◌then◌else◌, Option, Some, None, bit_and}
 
--- the rights of each mapped address, and the byte of each address, which is 0 where none is mapped
+-- the rights of each mapped address, and the byte of each address, which is 0 if it is not mapped
 pub record Memory : Type 0 where
   pub rights : ℕ → Option ℕ
   pub bytes : ℕ → ℕ
 
--- rights are sums of 1 to execute, 2 to write and 4 to read, as the low bits of p_flags (System V ELF, "Program Header")
+-- rights: 1 to execute, 2 to write, 4 to read, as in p_flags (System V ELF, "Program Header")
 abbrev pub to_execute : ℕ
 to_execute = 1
 
 abbrev pub to_write : ℕ
 to_write = 2
 
--- any right grants a load
+-- a load needs any right
 abbrev pub to_load : ℕ
 to_load = 7
 
@@ -31,16 +31,16 @@ all_below (suc n) test = all_below n test && test n
 abbrev pub granted : ℕ → Memory → ℕ → ℕ → Bool
 granted wanted m n address = all_below n (λ k. grants wanted (m.rights (address + k)))
 
--- n bytes as a number, the lowest first (Unprivileged ISA, "RV32I": memory is little-endian)
+-- n bytes as a number, little-endian (Unprivileged ISA, "RV32I")
 abbrev pub number_of : ℕ → (ℕ → ℕ) → ℕ
 number_of zero byte = 0
 number_of (suc n) byte = number_of n byte + byte n * 256 ^ n
 
--- the number that the n bytes from an address on spell
+-- the number in the n bytes from an address on
 abbrev pub number_at : (ℕ → ℕ) → ℕ → ℕ → ℕ
 number_at bytes n address = number_of n (λ k. bytes (address + k))
 
--- the bytes, of which the n from an address on now spell the low digits of a value
+-- the bytes in which the n from an address on spell the low digits of a value
 abbrev pub stored : ℕ → ℕ → ℕ → (ℕ → ℕ) → ℕ → ℕ
 stored n address value bytes a =
     if nat_le address a && nat_lt a (address + n) then value / 256 ^ (a - address) % 256 else bytes a

@@ -1,4 +1,4 @@
-//! What holds of each memory that can be copied.
+//! Law of each memory that can be copied.
 ghost use Rattle.std.specs.Prelude.{◌≡◌, IfOk};
 ghost use Rattle.mem_store.specs.Access.{Stores};
 
@@ -6,7 +6,8 @@ use crate::from_image::FromImage;
 use crate::store::StoreFault;
 use std::alloc::{AllocError, Allocator};
 
-/// A copy never changes with its original: one that is taken before a store has what was there before it.
+/// A copy does not change with its original: a copy taken before a store has the bytes from before
+/// it.
 pub fn copy_before_store<A: Allocator, S: FromImage<A>>(
     alloc: A,
     store: &mut S,

@@ -1,4 +1,4 @@
-//! Memory as a map from address to byte and rights, however it is kept.
+//! Memory as a map from address to byte and rights, for any implementation.
 #![tactic(auto)]
 
 pub use from_image::FromImage;

@@ -14,11 +14,11 @@ use Rattle.object_library.specs.Rules.{KeepsAdoptCommit, EndsAfter, EveryRun, is
 use Rattle.object_library.proofs.Runs.{same_runs, equal_runs, wider_ends}
 use Rattle.object_library.proofs.Shape.{on, shaped_memory}
 use Rattle.object_library.proofs.Harts.{hart_at, turn}
-use Rattle.object_adopt_law.proofs.Flat.{flat}
-use Rattle.object_adopt_law.proofs.Instructions.{Point, At1, At2, At3, At4, At5, At6, At7, At8, At9, At10, At11, At12, At13, At14, At15, At16, At17, At18, At19, At20, At21, At22, At23, At24, At25, At26, At27, At28, At29, At30, place, code, stand}
-use Rattle.object_adopt_law.proofs.Object.{View, New}
-use Rattle.object_adopt_law.proofs.Chain.{Program, Ghosts, Inv, Result, FactsAt, obj, view_at, world, quiet}
-use Rattle.object_adopt_law.proofs.Rule.{Closed, End, chain_agrees, chain_ends, small_value, small_good}
+use Rattle.object_adopt.proofs.Flat.{flat}
+use Rattle.object_adopt.proofs.Instructions.{Point, At1, At2, At3, At4, At5, At6, At7, At8, At9, At10, At11, At12, At13, At14, At15, At16, At17, At18, At19, At20, At21, At22, At23, At24, At25, At26, At27, At28, At29, At30, place, code, stand}
+use Rattle.object_adopt.proofs.Object.{View, New}
+use Rattle.object_adopt.proofs.Chain.{Program, Ghosts, Inv, Result, FactsAt, obj, view_at, world, quiet}
+use Rattle.object_adopt.proofs.Rule.{Closed, End, chain_agrees, chain_ends, small_value, small_good}
 
 data Rest : Type 0 where
   At0 At31 At32 At33 Out : Rest

@@ -1,1 +1,11 @@
+pub mod Flat
+pub mod Records
+pub mod Instructions
+pub mod Object
+pub mod Chain
+pub mod Moves
+pub mod Rule
+pub mod TextWords
+pub mod Lone
 pub mod Alone
+pub mod Four

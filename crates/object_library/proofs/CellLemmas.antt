@@ -1,4 +1,5 @@
--- What the loops of a comparison have seen, that it is all, and that a run sees no more of an image.
+-- What the loops of a comparison have seen, that it is all, and that a run sees no more of an
+-- image.
 use Rattle.std.proofs.Common.{◌≡◌, ◌≢◌, ℕ, zero, suc, ◌+◌, ◌-◌, ◌*◌, ◌/◌, ◌%◌, ◌^◌, ◌<◌, ◌≤◌, Bool, true, false, ◌&&◌, ◌||◌, nat_le, nat_lt, List, [], ◌∷◌, length, get_or, take, Option, Some, None, refl, sym, ap, ◌∙◌, ◌⊎◌, inl, inr, arith, subst}
 use Rattle.std.proofs.Math.Nat.{zero-div}
 use Rattle.std.proofs.lemmas.List.Folds.{list_any_more}
@@ -48,7 +49,7 @@ nowhere (s ∷ ss) a e = go (has_address a (span_of s)) refl e (nowhere ss a)
 inside_or_not : (b n a : ℕ) → (b ≤ a × a < b + n) ⊎ ((nat_le b a && nat_lt a (b + n)) ≡ false)
 inside_or_not b n a = grind arith
 
--- the two maps are one, where they agree on all that stands in either
+-- two maps are equal if they agree at each address in either
 pub everywhere : (ss : List SegmentValue) (words : List ℕ) (zeros : ℕ) → AgreeOn (cell ss) (known words zeros) 0x10000 (4 * length words) →
     AgreeOn (cell ss) (known words zeros) 0x11000 zeros → AgreeWhereCovered (cell ss) (known words zeros) ss → (a : ℕ) → cell ss a ≡ known words zeros a
 everywhere ss words zeros text zeroed own a = go (is_covered ss a) refl (inside_or_not 0x10000 (4 * length words) a) (inside_or_not 0x11000 zeros a)

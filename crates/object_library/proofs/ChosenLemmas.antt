@@ -70,7 +70,7 @@ same_bool true y f g = sym (f refl)
 same_bool false true f g = g refl
 same_bool false false f g = refl
 
--- the same verdict, where the same harts are chosen
+-- the same verdict, if the same harts are chosen
 pub same_verdict : (kind : Kind) (inputs : List ℕ) (a b : List Choice) (harts : List HartValue) → ChooseAlike a b
     → verdict_of kind inputs a harts ≡ verdict_of kind inputs b harts
 same_verdict kind inputs a b harts alike =

@@ -14,7 +14,7 @@ use Rattle.machine.specs.declared.choice.Choice.{Choice}
 use Rattle.object_library.specs.Counts.{own, refusals}
 use Rattle.object_library.proofs.Shape.{on}
 
--- what stands past the last hart
+-- the item past the last hart
 abbrev pub nobody : HartValue
 nobody = record { registers = λ r. 0; pc = 0; state = Running }
 

@@ -21,7 +21,7 @@ one_more (w ∷ ws) (suc i) d lt =
 pub bytes_more : (ws : List ℕ) (i d : ℕ) → i < length ws → bytes_of (take (i + 1) ws) ≡ bytes_of (take i ws) ++ four (get_or ws i d)
 bytes_more ws i d lt = let e : i + 1 ≡ suc i = omega arith in rw e (one_more ws i d lt)
 
--- no check refuses the segments of an object
+-- the segments of an object pass all checks
 pub is_sound : (kind : Kind) → image_or_fault 0x00010000 (image_of kind).segments ≡ Ok (image_of kind)
 unfolding image_or_fault image_fault space_fault
 is_sound Swap = refl

@@ -1,4 +1,5 @@
--- What holds in every run of an image holds in every run of one that is the same; and a bound may be larger.
+-- What holds in every run of an image holds in every run of one that is the same; and a bound may
+-- be larger.
 use Rattle.std.proofs.Common.{◌≡◌, ◌≤◌, ℕ, List, length, sym, subst, arith}
 use Rattle.image.specs.Image.{ImageValue}
 use Rattle.hart_step.specs.Hart.{HartValue}
@@ -17,7 +18,7 @@ module _ (IsMeant : ℕ → Type 0) (Rule : List ℕ → List Choice → List Ha
   pub equal_runs : m ≡ n → EveryRun IsMeant n Rule → EveryRun IsMeant m Rule
   equal_runs same every = subst (λ (i : ImageValue). EveryRun IsMeant i Rule) (sym same) every
 
--- who has exited after so many choices of its own has exited after more
+-- a hart that has exited after some choices of its own has exited after more
 pub wider_ends : (IsMeant : ℕ → Type 0) (m : ImageValue) (exact wide : ℕ → ℕ → ℕ) → ((n r : ℕ) → exact n r ≤ wide n r) → EveryRun IsMeant m (EndsAfter exact)
     → EveryRun IsMeant m (EndsAfter wide)
 wider_ends IsMeant m exact wide less every inputs choices meant fits there h d lt many =

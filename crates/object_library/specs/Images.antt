@@ -1,4 +1,4 @@
--- The programs of the consensus objects: their words, and the images that they make.
+-- The programs of the consensus objects: their words, and their images.
 use Rattle.std.specs.Prelude.{◌≡◌, ℕ, ◌+◌, ◌-◌, ◌*◌, ◌/◌, ◌%◌, ◌^◌, List, [], ◌∷◌, length, Option, Some, None, slice_index}
 use Rattle.image.specs.Image.{ImageValue}
 use Rattle.image.specs.Segment.{SegmentValue}
@@ -7,13 +7,13 @@ use Rattle.hart_reservations.specs.Limit.{most_harts}
 use Rattle.object_library.specs.declared.kind.Kind.{Kind}
 use Rattle.object_library.specs.declared.kind.Kind.TheVariants.{Swap, Add, LrSc, AdoptCommit, Rounds}
 
--- the bytes of words, the lowest byte of each first
+-- the bytes of words, little-endian
 abbrev pub bytes_of : List ℕ → List ℕ
 bytes_of [] = []
 bytes_of (w ∷ words) =
     w % 256 ∷ w / 2 ^ 8 % 256 ∷ w / 2 ^ 16 % 256 ∷ w / 2 ^ 24 % 256 ∷ bytes_of words
 
--- an object's image: its text at 0x00010000, to be read and executed, and so many zeros at 0x00011000, to be read and written
+-- an object's image: executable text at 0x00010000, and this many writable zeros at 0x00011000
 abbrev pub object_image : List ℕ → ℕ → ImageValue
 object_image words zeros = record {
   entry = 0x00010000;
@@ -21,8 +21,8 @@ object_image words zeros = record {
       ∷ record { base = 0x00011000; size = zeros; rights = 6; bytes = [] } ∷ [];
 }
 
--- the race by one atomic instruction, of which `word` is the word: who changes the first word from 0 has won, and
--- each hart's input stands in a word of its own after it
+-- the race by one atomic instruction, `word`: the hart that changes the first word from 0 wins, and
+-- each hart's input is in a word of its own after it
 abbrev pub race_words : ℕ → List ℕ
 race_words word =
     0x00011437 ∷  -- lui s0, 0x11
@@ -50,7 +50,7 @@ swap_words = race_words 0x086423AF
 abbrev pub add_words : List ℕ
 add_words = race_words 0x006423AF
 
--- the first word is 0, or the number of the hart that has won and 1
+-- the first word is 0, or 1 plus the number of the winner
 abbrev pub lrsc_words : List ℕ
 lrsc_words =
     0x00011437 ∷  -- lui s0, 0x11
@@ -71,7 +71,7 @@ lrsc_words =
     0x00000073 ∷  -- ecall
     []
 
--- a record of four words a hart: its value, whether it is present, its mark (1 adopt, 2 commit), and one unused
+-- each hart's record: value, whether it is present, mark (1 adopt, 2 commit), one unused word
 abbrev pub adopt_words : List ℕ
 adopt_words =
     0x00011437 ∷  -- lui s0, 0x11
@@ -110,8 +110,8 @@ adopt_words =
     0x00000073 ∷  -- ecall
     []
 
--- four objects of adopt-commit one after another: who commits in one goes on to the end with its value, who adopts goes on to the next
--- object with it, 512 bytes behind; register 21, s5, counts the objects that are left
+-- four adopt-commit objects in succession: a hart that commits goes to the end with its value; one
+-- that adopts goes on to the next object with it, 512 bytes on; s5 counts the objects left
 abbrev pub rounds_words : List ℕ
 rounds_words =
     0x00011437 ∷  -- lui s0, 0x11
@@ -168,11 +168,11 @@ swap_image = race_image 0x086423AF
 abbrev pub add_image : ImageValue
 add_image = race_image 0x006423AF
 
--- the race by load-reserved and store-conditional, for so many harts
+-- the race by load-reserved and store-conditional, for this many harts
 abbrev pub lrsc_image : ℕ → ImageValue
 lrsc_image slots = object_image lrsc_words (4 + 4 * slots)
 
--- adopt-commit by loads and stores, for so many harts
+-- adopt-commit by loads and stores, for this many harts
 abbrev pub adopt_image : ℕ → ImageValue
 adopt_image slots = object_image adopt_words (16 * slots)
 
@@ -189,7 +189,7 @@ words_of LrSc = lrsc_words
 words_of AdoptCommit = adopt_words
 words_of Rounds = rounds_words
 
--- how many bytes of data an object has
+-- the number of an object's data bytes
 abbrev pub zeros_of : Kind → ℕ
 zeros_of Swap = 12
 zeros_of Add = 12
@@ -202,7 +202,7 @@ abbrev pub image_of : Kind → ImageValue
 image_of kind = object_image (words_of kind) (zeros_of kind)
 
 -- ---- the same image, whatever its segments
--- the byte at an address and its rights, of the segment that has it
+-- the byte at an address of a segment, and its rights, if there is a segment
 abbrev pub cell_in : Option SegmentValue → ℕ → Option (ℕ × ℕ)
 cell_in None a = None
 cell_in (Some s) a = Some (slice_index s.bytes (a - s.base), s.rights)

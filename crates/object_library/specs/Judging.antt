@@ -1,4 +1,4 @@
--- The tests that a judge makes of harts. `Rules` says what they decide.
+-- The tests of a judge. `Rules` has the properties that they decide.
 use Rattle.std.specs.Prelude.{ℕ, Bool, true, false, not, ◌&&◌, ◌||◌, ◌==◌, List, [], ◌∷◌, Option, Some, None, slice_get, if◌then◌else◌}
 use Rattle.std.specs.List.{list_all, list_any}
 use Rattle.hart_step.specs.Hart.{HartValue}
@@ -14,11 +14,11 @@ abbrev pub holds : Option ℕ → ℕ → Bool
 holds None value = false
 holds (Some number) value = number == value
 
--- whether a value is the input of a hart that was chosen
+-- whether a value is the input of a chosen hart
 abbrev pub is_proposed : List ℕ → List Choice → ℕ → Bool
 is_proposed inputs choices value = list_any (λ c. holds (slice_get inputs c.hart) value) choices
 
--- whether there are two equal numbers, or none twice
+-- whether there are two equal numbers, or neither exists
 abbrev pub is_like : Option ℕ → Option ℕ → Bool
 is_like None None = true
 is_like None (Some b) = false
@@ -30,7 +30,7 @@ abbrev pub first_hart : List Choice → ℕ
 first_hart [] = 0
 first_hart (c ∷ choices) = c.hart
 
--- whether all harts that were chosen have the first one's input
+-- whether all chosen harts have the first one's input
 abbrev pub are_alike : List ℕ → List Choice → Bool
 are_alike inputs choices =
     list_all (λ d. is_like (slice_get inputs (first_hart choices)) (slice_get inputs d.hart)) choices
@@ -39,14 +39,14 @@ are_alike inputs choices =
 abbrev pub agrees : HartValue → HartValue → Bool
 agrees h k = not (is_exited k.state) || (value_of h == value_of k)
 
--- whether a hart, if it has exited, has a value that was proposed and that all others have, and has decided
+-- whether a hart, if it has exited, has decided on a proposed value that all others have
 abbrev pub decides : List ℕ → List Choice → List HartValue → HartValue → Bool
 decides inputs choices harts h =
     not (is_exited h.state)
     || ((is_proposed inputs choices (value_of h) && (flag_of h == 1)) && list_all (agrees h) harts)
 
--- whether a hart, if it has exited, has a value that was proposed, and commits, where all others have its value, or else
--- adopts, which it may do where the harts that were chosen have different inputs
+-- whether a hart, if it has exited, has a proposed value and either commits, and all others have
+-- its value, or adopts, and the chosen harts have different inputs
 abbrev pub adopts_or_commits : Bool → List ℕ → List Choice → List HartValue → HartValue → Bool
 adopts_or_commits alike inputs choices harts h =
     not (is_exited h.state)
@@ -57,16 +57,16 @@ adopts_or_commits alike inputs choices harts h =
 abbrev pub each_sound : (HartValue → Bool) → List HartValue → Bool
 each_sound test harts = list_all (λ h. not (is_faulted h.state) && test h) harts
 
--- whether consensus is kept
+-- whether the harts satisfy consensus
 abbrev pub is_consensus : List ℕ → List Choice → List HartValue → Bool
 is_consensus inputs choices harts = each_sound (decides inputs choices harts) harts
 
--- whether adopt-commit is kept
+-- whether the harts satisfy adopt-commit
 abbrev pub is_adopt_commit : List ℕ → List Choice → List HartValue → Bool
 is_adopt_commit inputs choices harts =
     each_sound (adopts_or_commits (are_alike inputs choices) inputs choices harts) harts
 
--- whether the rule of a kind is kept
+-- whether the rule of a kind holds
 abbrev pub is_kept : Kind → List ℕ → List Choice → List HartValue → Bool
 is_kept Swap inputs choices harts = is_consensus inputs choices harts
 is_kept Add inputs choices harts = is_consensus inputs choices harts
@@ -74,6 +74,6 @@ is_kept LrSc inputs choices harts = is_consensus inputs choices harts
 is_kept AdoptCommit inputs choices harts = is_adopt_commit inputs choices harts
 is_kept Rounds inputs choices harts = is_adopt_commit inputs choices harts
 
--- what a judge says of harts
+-- the verdict on harts
 abbrev pub verdict_of : Kind → List ℕ → List Choice → List HartValue → Verdict
 verdict_of kind inputs choices harts = if is_kept kind inputs choices harts then verdict.Kept else verdict.Broken

@@ -1,9 +1,9 @@
--- The text of each object.
+-- The source of each object.
 use Rattle.std.specs.Prelude.{ℕ, List, [], ◌∷◌, ◌++◌, codes}
 use Rattle.object_library.specs.declared.kind.Kind.{Kind}
 use Rattle.object_library.specs.declared.kind.Kind.TheVariants.{Swap, Add, LrSc, AdoptCommit, Rounds}
 
--- lines, each with LF at its end
+-- lines, each ended by LF
 abbrev pub text_of : List (List ℕ) → List ℕ
 text_of [] = []
 text_of (line ∷ lines) = line ++ (10 ∷ text_of lines)
@@ -108,7 +108,7 @@ adopt_commit_lines =
     codes ".zero 512" ∷
     []
 
--- four objects of adopt-commit one after another
+-- four adopt-commit objects in succession
 abbrev pub rounds_lines : List (List ℕ)
 rounds_lines =
     codes ".globl _start" ∷
@@ -164,7 +164,7 @@ rounds_lines =
     codes ".zero 2048" ∷
     []
 
--- the text of an object
+-- the source of an object
 abbrev pub source_of : Kind → List ℕ
 source_of Swap = text_of (race_lines (codes "amoswap.w t2, t1, (s0)"))
 source_of Add = text_of (race_lines (codes "amoadd.w t2, t1, (s0)"))

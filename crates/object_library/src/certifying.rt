@@ -1,4 +1,4 @@
-//! Recognition: whether an image is an object's.
+//! Recognition of an object's image.
 ghost use Rattle.std.specs.Prelude.{◌≡◌, ◌≢◌, ℕ, ◌+◌, ◌*◌, ◌^◌, ◌≤◌, length, slice_index, true, false};
 ghost use Rattle.image.specs.Image.{IsSound};
 ghost use Rattle.object_library.specs.Images.{cell, image_of, IsSame};
@@ -10,8 +10,8 @@ use bitflags::Flags;
 use image::{Image, Rights, Segment};
 use std::alloc::Allocator;
 
-/// Whether an image is an object's: the same entry, and at each address the same byte with the same rights, whatever its
-/// segments are.
+/// Whether an image is an object's: the same entry, and at each address the same byte with the same
+/// rights, whatever its segments are.
 pub fn certify<A: Allocator>(kind: Kind, image: &Image<A>) -> bool
     ensures same { result ≡ true → IsSame image.now (image_of kind) }
     ensures other { result ≡ false → IsSame image.now (image_of kind) → ⊥ }
@@ -19,7 +19,7 @@ pub fn certify<A: Allocator>(kind: Kind, image: &Image<A>) -> bool
     matches_object(image, words(kind), zeros(kind))
 }
 
-/// Whether an image has the entry and the map of an object of these words and so many zeros.
+// Whether an image has the entry and the bytes of an object with these words and this many zeros.
 #[tactic(auto, using(crate::proofs::CellLemmas::everywhere, crate::proofs::CellLemmas::in_range_if_sound))]
 fn matches_object<A: Allocator>(image: &Image<A>, words: &[u32], zeros: u32) -> bool
     requires short { length words.now ≤ 1024 }
@@ -40,7 +40,7 @@ fn matches_object<A: Allocator>(image: &Image<A>, words: &[u32], zeros: u32) -> 
     agrees_everywhere(segments, words, zeros)
 }
 
-/// Whether segments and an object agree wherever one of the segments stands.
+// Whether segments and an object agree at each address of the segments.
 fn agrees_everywhere<A: Allocator>(segments: &[Segment<A>], words: &[u32], zeros: u32) -> bool
     requires short { length words.now ≤ 1024 }
     requires few { zeros ≤ 4096 }
@@ -57,7 +57,7 @@ fn agrees_everywhere<A: Allocator>(segments: &[Segment<A>], words: &[u32], zeros
     true
 }
 
-/// Whether segments and an object agree at `size` addresses from `base` on.
+// Whether segments and an object agree at `size` addresses from `base` on.
 fn agrees_on<A: Allocator>(
     segments: &[Segment<A>],
     words: &[u32],
@@ -83,7 +83,7 @@ fn agrees_on<A: Allocator>(
     true
 }
 
-/// Whether two cells are the same.
+// Whether two cells are equal.
 fn is_same_cell(a: Option<(u8, u8)>, b: Option<(u8, u8)>) -> bool
     ensures yes { result ≡ true → a ≡ b }
     ensures no { result ≡ false → a ≢ b }
@@ -95,7 +95,7 @@ fn is_same_cell(a: Option<(u8, u8)>, b: Option<(u8, u8)>) -> bool
     }
 }
 
-/// The byte at an address and its rights, if a segment has it.
+// The byte at an address and its rights, if it is in a segment.
 fn cell_at<A: Allocator>(segments: &[Segment<A>], address: u32) -> Option<(u8, u8)>
     ensures { result ≡ cell segments.now address }
 {
@@ -110,7 +110,7 @@ fn cell_at<A: Allocator>(segments: &[Segment<A>], address: u32) -> Option<(u8, u
     None
 }
 
-/// The byte at an offset of a segment.
+// The byte at an offset of a segment.
 fn byte_at<A: Allocator>(segment: &Segment<A>, offset: u32) -> u8
     ensures { result ≡ slice_index segment.now.bytes offset }
 {
@@ -122,14 +122,14 @@ fn byte_at<A: Allocator>(segment: &Segment<A>, offset: u32) -> u8
     }
 }
 
-/// Rights as a number.
+// Rights as a number.
 fn bits_of(rights: Rights) -> u8
     ensures { result ≡ rights.0 }
 {
     rights.bits()
 }
 
-/// The byte that an object has at an address, and its rights.
+// The byte of an object at an address, and its rights, if any.
 fn known_cell(words: &[u32], zeros: u32, address: u32) -> Option<(u8, u8)>
     requires short { length words.now ≤ 1024 }
     requires few { zeros ≤ 4096 }

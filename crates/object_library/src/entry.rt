@@ -1,4 +1,4 @@
-//! What the library has of each kind, in one table.
+//! The library's table of kinds.
 
 ghost use Rattle.std.specs.Prelude.{◌≡◌};
 ghost use Rattle.object_library.specs.Images.{words_of, zeros_of};
@@ -10,16 +10,16 @@ use crate::text::{ADD, ADOPT_COMMIT, LRSC, ROUNDS, SWAP};
 use crate::texts::{ADD_SOURCE, ADOPT_COMMIT_SOURCE, LRSC_SOURCE, ROUNDS_SOURCE, SWAP_SOURCE};
 use hart_reservations::MAX_HARTS;
 
-/// What the library has of a kind.
+/// The library's entry of a kind.
 #[derive(Clone, Copy)]
 pub(crate) struct Entry {
-    /// The name that a command line has for it.
+    /// Its name on the command line.
     pub(crate) name: &'static str,
-    /// Its text, as an assembler reads it.
+    /// Its assembler source.
     pub(crate) source: &'static str,
     /// The words of its text.
     pub(crate) words: &'static [u32],
-    /// How many bytes of data it has.
+    /// The number of its data bytes.
     pub(crate) zeros: u32,
 }
 
@@ -36,7 +36,7 @@ pub(crate) fn entry_of(kind: Kind) -> Entry
             name: "swap",
             source: SWAP_SOURCE,
             words: &SWAP,
-            // the word that is raced for, and the inputs of two harts
+            // the contended word, and the inputs of two harts
             zeros: 12,
         },
         Kind::Add => Entry {
@@ -49,7 +49,7 @@ pub(crate) fn entry_of(kind: Kind) -> Entry
             name: "lrsc",
             source: LRSC_SOURCE,
             words: &LRSC,
-            // the word that is raced for, and the input of each hart
+            // the contended word, and the input of each hart
             zeros: 4 + 4 * slots,
         },
         Kind::AdoptCommit => Entry {
@@ -63,27 +63,27 @@ pub(crate) fn entry_of(kind: Kind) -> Entry
             name: "rounds",
             source: ROUNDS_SOURCE,
             words: &ROUNDS,
-            // four objects, of which each has 512 bytes for the records of 32 harts
+            // four objects, each with 512 bytes for the records of 32 harts
             zeros: 4 * 512,
         },
     }
 }
 
-/// The text of an object, one statement a line.
+/// The assembler source of an object, one statement a line.
 pub fn source(kind: Kind) -> &'static str
     ensures { result.now ≡ source_of kind }
 {
     entry_of(kind).source
 }
 
-/// The words of an object's text, which stand at 0x00010000 one after another.
+/// The words of an object's text, at 0x00010000.
 pub fn words(kind: Kind) -> &'static [u32]
     ensures { result.now ≡ words_of kind }
 {
     entry_of(kind).words
 }
 
-/// How many bytes of data an object has, which stand at 0x00011000 and are 0 at first.
+/// The number of an object's data bytes, at 0x00011000; they are 0 at the start.
 pub fn zeros(kind: Kind) -> u32
     ensures { result ≡ zeros_of kind }
 {

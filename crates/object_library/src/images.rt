@@ -7,7 +7,7 @@ use crate::kind::Kind;
 use image::{Image, Rights, Segment};
 use std::alloc::{AllocError, Allocator};
 
-/// The bytes of words, the lowest byte of each first.
+// The bytes of words, little-endian.
 #[tactic(auto, using(crate::proofs::ImageLemmas::bytes_more))]
 fn bytes<A: Allocator>(alloc: A, words: &[u32]) -> Result<Vec<u8, A>, AllocError>
     requires { length words.now ≤ 1024 }
@@ -20,7 +20,7 @@ fn bytes<A: Allocator>(alloc: A, words: &[u32]) -> Result<Vec<u8, A>, AllocError
     Ok(bytes)
 }
 
-/// The segments of an object of these words and so many zeros.
+// The segments of an object with these words and this many zeros.
 fn segments<A: Allocator + Copy>(
     alloc: A,
     words: &[u32],
@@ -45,8 +45,8 @@ fn segments<A: Allocator + Copy>(
     Ok(segments)
 }
 
-/// The image of an object: its text at 0x00010000, to be read and executed, and its data at 0x00011000, to be read and
-/// written.
+/// The image of an object: its text at 0x00010000, readable and executable, and its data at
+/// 0x00011000, readable and writable. Fails when out of memory.
 #[tactic(auto, using(crate::proofs::ImageLemmas::image_made))]
 pub fn make_image<A: Allocator + Copy>(alloc: A, kind: Kind) -> Result<Image<A>, AllocError>
     ensures { IfOk result (λ image. image ≡ image_of kind) }
@@ -54,7 +54,7 @@ pub fn make_image<A: Allocator + Copy>(alloc: A, kind: Kind) -> Result<Image<A>,
     let segments = segments(alloc, words(kind), zeros(kind))?;
     match Image::new(alloc, 0x0001_0000, segments) {
         Ok(image) => Ok(image),
-        // The segments are sound, so it is memory that was refused.
+        // The segments are sound, so the fault is out of memory.
         Err(_) => Err(AllocError),
     }
 }

@@ -1,4 +1,4 @@
-//! Verdicts: whether the harts of a run keep their object's rule.
+//! Verdicts: whether the harts of a run satisfy their object's rule.
 ghost use Rattle.std.specs.Prelude.{◌≡◌, ◌||◌, ◌&&◌, ◌==◌, not, Bool, true, false, map, slice_get};
 ghost use Rattle.std.specs.List.{list_all};
 ghost use Rattle.hart_step.specs.Hart.{hart_of};
@@ -11,7 +11,7 @@ use crate::verdict::Verdict;
 use hart_step::{Hart, HartState};
 use machine::Choice;
 
-/// Whether harts keep the rule of a kind, by their inputs and the choices of their run.
+/// Whether harts satisfy the rule of a kind, given their inputs and the choices of their run.
 #[tactic(auto, using(crate::proofs::JudgeLemmas::kept_if, crate::proofs::JudgeLemmas::broken_if))]
 pub fn judge(kind: Kind, inputs: &[u32], choices: &[Choice], harts: &[Hart]) -> Verdict
     ensures kept { result ≡ verdict.Kept → Keeps kind inputs.now choices.now (map hart_of harts.now) }
@@ -25,7 +25,7 @@ pub fn judge(kind: Kind, inputs: &[u32], choices: &[Choice], harts: &[Hart]) -> 
     }
 }
 
-/// Whether the rule of a kind is kept.
+// Whether the rule of a kind holds.
 fn keeps(kind: Kind, inputs: &[u32], choices: &[Choice], harts: &[Hart]) -> bool
     ensures { result ≡ is_kept kind inputs.now choices.now (map hart_of harts.now) }
 {
@@ -35,7 +35,7 @@ fn keeps(kind: Kind, inputs: &[u32], choices: &[Choice], harts: &[Hart]) -> bool
     }
 }
 
-/// Whether consensus is kept.
+// Whether the harts satisfy consensus.
 #[tactic(auto, using(crate::proofs::JudgeLemmas::passed_one_more, crate::proofs::JudgeLemmas::fails_at, crate::proofs::JudgeLemmas::passes_all))]
 fn is_consensus(inputs: &[u32], choices: &[Choice], harts: &[Hart]) -> bool
     ensures { result ≡ is_consensus inputs.now choices.now (map hart_of harts.now) }
@@ -48,7 +48,7 @@ fn is_consensus(inputs: &[u32], choices: &[Choice], harts: &[Hart]) -> bool
     true
 }
 
-/// Whether adopt-commit is kept.
+// Whether the harts satisfy adopt-commit.
 #[tactic(auto, using(crate::proofs::JudgeLemmas::passed_one_more, crate::proofs::JudgeLemmas::fails_at, crate::proofs::JudgeLemmas::passes_all))]
 fn is_adopt_commit(inputs: &[u32], choices: &[Choice], harts: &[Hart]) -> bool
     ensures { result ≡ is_adopt_commit inputs.now choices.now (map hart_of harts.now) }
@@ -62,7 +62,8 @@ fn is_adopt_commit(inputs: &[u32], choices: &[Choice], harts: &[Hart]) -> bool
     true
 }
 
-/// Whether a hart, if it has exited, has decided on a value that was proposed and that all others have.
+// Whether a hart, if it has exited, has decided on a value that was proposed and that all others
+// have.
 fn decides(inputs: &[u32], choices: &[Choice], harts: &[Hart], hart: &Hart) -> bool
     ensures { result ≡ decides inputs.now choices.now (map hart_of harts.now) (hart_of hart.now) }
 {
@@ -72,8 +73,8 @@ fn decides(inputs: &[u32], choices: &[Choice], harts: &[Hart], hart: &Hart) -> b
             && all_agree(hart, harts))
 }
 
-/// Whether a hart, if it has exited, has a value that was proposed, and commits, where all others have its value, or else
-/// adopts, which it may do where the harts that were chosen have different inputs.
+// Whether a hart, if it has exited, has a proposed value and either commits, and all others have
+// its value, or adopts, and the chosen harts have different inputs.
 fn adopts_or_commits(
     alike: bool,
     inputs: &[u32],
@@ -89,7 +90,7 @@ fn adopts_or_commits(
                 || (hart.registers[11] == 0 && !alike)))
 }
 
-/// Whether all harts that have exited have the value of this one.
+// Whether all harts that have exited have the value of this one.
 #[tactic(auto, using(crate::proofs::JudgeLemmas::passed_one_more, crate::proofs::JudgeLemmas::fails_at, crate::proofs::JudgeLemmas::passes_all))]
 fn all_agree(hart: &Hart, harts: &[Hart]) -> bool
     ensures { result ≡ list_all (agrees (hart_of hart.now)) (map hart_of harts.now) }
@@ -102,14 +103,14 @@ fn all_agree(hart: &Hart, harts: &[Hart]) -> bool
     true
 }
 
-/// Whether another hart, if it has exited, has the value of this one.
+// Whether another hart, if it has exited, has the value of this one.
 fn agrees(hart: &Hart, other: &Hart) -> bool
     ensures { result ≡ agrees (hart_of hart.now) (hart_of other.now) }
 {
     !has_exited(other) || hart.registers[10] == other.registers[10]
 }
 
-/// Whether a hart has exited.
+// Whether a hart has exited.
 fn has_exited(hart: &Hart) -> bool
     ensures { result ≡ is_exited hart.now.state }
 {
@@ -119,7 +120,7 @@ fn has_exited(hart: &Hart) -> bool
     }
 }
 
-/// Whether a hart has faulted.
+// Whether a hart has faulted.
 fn has_faulted(hart: &Hart) -> bool
     ensures { result ≡ is_faulted hart.now.state }
 {
@@ -129,14 +130,14 @@ fn has_faulted(hart: &Hart) -> bool
     }
 }
 
-/// Whether a value is the input of a hart that was chosen.
+// Whether a value is the input of a chosen hart.
 fn is_proposed(inputs: &[u32], choices: &[Choice], value: u32) -> bool
     ensures { result ≡ is_proposed inputs.now choices.now value }
 {
     choices.iter().any(|c| is_input(inputs, c.hart, value))
 }
 
-/// Whether a value is the input of a hart.
+// Whether a value is the input of a hart.
 fn is_input(inputs: &[u32], hart: u32, value: u32) -> bool
     ensures { result ≡ holds (slice_get inputs.now hart) value }
 {
@@ -146,14 +147,14 @@ fn is_input(inputs: &[u32], hart: u32, value: u32) -> bool
     }
 }
 
-/// Whether all harts that were chosen have the first one's input.
+// Whether all chosen harts have the first one's input.
 fn are_alike(inputs: &[u32], choices: &[Choice]) -> bool
     ensures { result ≡ are_alike inputs.now choices.now }
 {
     all_like(inputs, first_hart(choices), choices)
 }
 
-/// The hart that was chosen first, or 0.
+// The hart that was chosen first, or 0.
 fn first_hart(choices: &[Choice]) -> u32
     ensures { result ≡ first_hart choices.now }
 {
@@ -163,14 +164,14 @@ fn first_hart(choices: &[Choice]) -> u32
     }
 }
 
-/// Whether all harts that were chosen have the input of this one.
+// Whether all chosen harts have the input of this one.
 fn all_like(inputs: &[u32], hart: u32, choices: &[Choice]) -> bool
     ensures { result ≡ list_all (λ d. is_like (slice_get inputs.now hart) (slice_get inputs.now d.hart)) choices.now }
 {
     choices.iter().all(|c| is_like(inputs, hart, c.hart))
 }
 
-/// Whether two harts have the same input, or both none.
+// Whether two harts have the same input, or neither has one.
 fn is_like(inputs: &[u32], hart: u32, other: u32) -> bool
     ensures { result ≡ is_like (slice_get inputs.now hart) (slice_get inputs.now other) }
 {

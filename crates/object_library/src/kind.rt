@@ -5,22 +5,22 @@ ghost use Rattle.object_library.specs.Names.{name_of};
 
 use crate::entry::entry_of;
 
-/// A consensus object: harts that run its program come out with one value of those that they went in with.
+/// A consensus object: each hart that runs its program exits with one of the harts' inputs.
 #[derive(Clone, Copy, PartialEq, Eq)]
 pub enum Kind {
     /// Consensus of two harts by `amoswap.w`.
     Swap,
     /// Consensus of two harts by `amoadd.w`.
     Add,
-    /// Consensus of all harts by `lr.w` and `sc.w`.
+    /// Consensus of any number of harts by `lr.w` and `sc.w`.
     LrSc,
-    /// Adopt-commit of all harts by loads and stores.
+    /// Adopt-commit of any number of harts by loads and stores.
     AdoptCommit,
-    /// Adopt-commit four times over, by loads and stores.
+    /// Four adopt-commit objects in succession, by loads and stores.
     Rounds,
 }
 
-/// The names of all kinds, as a text of help or an error lists them.
+/// The names of all kinds, as help and error texts list them.
 pub const KIND_NAMES: &str = "swap, add, lrsc, adopt or rounds";
 
 impl Kind {
@@ -33,14 +33,14 @@ impl Kind {
         Kind::Rounds,
     ];
 
-    /// The name that a command line has for the kind.
+    /// The kind's name on the command line.
     pub fn name(self) -> &'static str
         ensures { result.now ≡ name_of self }
     {
         entry_of(self).name
     }
 
-    /// The kind of such a name, or `None` where no kind has it.
+    /// The kind with this name, or `None` if there is none.
     pub fn of_name(name: &str) -> Option<Kind>
         ensures { (kind : Kind) → (result ≡ Some kind) ↔ (name.now ≡ name_of kind) }
     {

@@ -1,4 +1,4 @@
-//! The consensus objects: their kinds, texts, images and rules.
+//! The consensus objects: kinds, sources, images and rules, and the recognition of an image.
 #![tactic(auto)]
 
 pub use certifying::certify;

@@ -10,7 +10,7 @@ use isa_decode::decode;
 use isa_table::Instr;
 use std::alloc::{AllocError, Allocator};
 
-/// The instructions that words spell.
+// The instructions of words.
 #[tactic(auto, using(crate::proofs::TableLemmas::passes))]
 fn decoded_words<A: Allocator>(alloc: A, words: &[u32]) -> Result<Vec<Instr, A>, AllocError>
     requires { list_all (λ w. is_some (decoded w)) words.now ≡ true }
@@ -26,7 +26,8 @@ fn decoded_words<A: Allocator>(alloc: A, words: &[u32]) -> Result<Vec<Instr, A>,
     Ok(table)
 }
 
-/// The instructions of an object, in order; instruction i stands at 0x00010000 + 4i.
+/// The instructions of an object, in order; instruction i is at 0x00010000 + 4i. Fails when out of
+/// memory.
 #[tactic(auto, using(crate::proofs::TableLemmas::all_decode))]
 pub fn table<A: Allocator>(alloc: A, kind: Kind) -> Result<Vec<Instr, A>, AllocError>
     ensures { IfOk result (λ table. map (λ i. Some i) table.items ≡ map decoded (words_of kind)) }

@@ -1,4 +1,4 @@
-//! The machine code of the objects: the words of each text, which stand at 0x00010000 one after another.
+//! The machine code of the objects: the words of each text, at 0x00010000.
 
 /// Of Swap.
 pub(crate) const SWAP: [u32; 15] = [

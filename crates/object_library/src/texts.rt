@@ -1,4 +1,4 @@
-//! The sources of the objects, as an assembler reads them.
+//! The assembler sources of the objects.
 
 /// Consensus of two harts by a swap.
 pub const SWAP_SOURCE: &str = ".globl _start
@@ -46,7 +46,8 @@ ecall
 .zero 12
 ";
 
-/// Consensus by load-reserved and store-conditional: the first word is 0, or the number of the hart that has won and 1.
+/// Consensus by load-reserved and store-conditional: the first word is 0, or 1 plus the number of
+/// the winner.
 pub const LRSC_SOURCE: &str = ".globl _start
 _start:
 lui s0, 0x11
@@ -71,8 +72,8 @@ ecall
 .zero 132
 ";
 
-/// Adopt-commit by loads and stores: a record of 16 bytes a hart, with its value, whether it is present, its mark (1 adopt,
-/// 2 commit), and one unused.
+/// Adopt-commit by loads and stores. Each hart has a record of 16 bytes: its value, whether it is
+/// present, its mark (1 adopt, 2 commit), and one unused word.
 pub const ADOPT_COMMIT_SOURCE: &str = ".globl _start
 _start:
 lui s0, 0x11
@@ -118,8 +119,8 @@ ecall
 .zero 512
 ";
 
-/// Four objects of adopt-commit one after another, with 512 bytes of records each: who commits in one is done, who adopts goes on
-/// to the next with its value.
+/// Four adopt-commit objects in succession, with 512 bytes of records each. A hart that commits in
+/// one is done; one that adopts goes on to the next with its value.
 pub const ROUNDS_SOURCE: &str = ".globl _start
 _start:
 lui s0, 0x11

@@ -1,10 +1,10 @@
-//! What a judge says.
+//! The verdict of a judge.
 
 ghost use Rattle.object_library.specs.Names.{verdict_name};
 
 use std::fmt;
 
-/// Whether a rule is kept. Shown as `kept` or `broken`.
+/// Whether a rule holds. Displayed as `kept` or `broken`.
 #[derive(Clone, Copy, Debug, PartialEq, Eq, Hash)]
 pub enum Verdict {
     /// Each clause of the rule holds.

@@ -1,4 +1,4 @@
--- What is expected of a run, and the status that tells whether it did so.
+-- What is expected of a run, and its exit status.
 use Rattle.std.specs.Prelude.{ℕ, nat_lt, Bool, true, false, ◌||◌, List, Option, Some, None, if◌then◌else◌}
 use Rattle.hart_step.specs.Hart.{HartValue}
 use Rattle.machine.specs.declared.choice.Choice.{Choice}
@@ -38,7 +38,7 @@ abbrev pub fails : Exit → Outcome → Bool
 fails exit outcome =
     breaks outcome.verdict || (faults outcome.verdict outcome.faulted || hangs exit (nat_lt 0 outcome.running))
 
--- the status of runs, by whether a rule is broken in one of them, and whether one of them has failed
+-- the status of runs, given whether a rule is broken in one, and whether one has failed
 abbrev pub status_by : Bool → Bool → Status
 status_by broken failed = if broken then status.Broken else (if failed then status.Faulted else status.Done)
 

@@ -8,7 +8,7 @@ use Rattle.outcome.specs.declared.run_outcome.End.{End}
 use Rattle.outcome.specs.declared.run_outcome.End.TheVariants as end
 use Rattle.outcome.specs.declared.run_outcome.Outcome.{Outcome}
 
--- 1 where a hart in this state ended so, else 0
+-- 1 if a hart in this state ended in this way, else 0
 abbrev pub counts : End → HartState → ℕ
 counts end.Exited (Exited status) = 1
 counts end.Exited Running = 0
@@ -20,7 +20,7 @@ counts end.Running Running = 1
 counts end.Running (Exited status) = 0
 counts end.Running (Faulted cause) = 0
 
--- how many harts ended so
+-- number of harts that ended in this way
 abbrev pub counted : End → List HartValue → ℕ
 counted wanted [] = 0
 counted wanted (hart ∷ harts) = counts wanted hart.state + counted wanted harts
@@ -29,7 +29,7 @@ counted wanted (hart ∷ harts) = counts wanted hart.state + counted wanted hart
 abbrev pub some_run : List HartValue → Bool
 some_run harts = nat_lt 0 (counted end.Running harts)
 
--- how a run ended that left these harts, with the verdict on it
+-- the outcome of a run that left these harts, with the verdict on it
 abbrev pub outcome_of : Option Verdict → List HartValue → Outcome
 outcome_of verdict harts = record {
   exited = counted end.Exited harts;

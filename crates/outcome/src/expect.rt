@@ -15,19 +15,19 @@ use object_library::{Kind, Verdict, judge};
 use sched_run::Chosen;
 use std::alloc::{AllocError, Allocator};
 
-/// Whether a run may leave a hart that runs.
+/// Whether a run may leave a hart running.
 #[derive(Clone, Copy, PartialEq, Eq)]
 pub enum Exit {
-    /// It may: the steps may have been too few.
+    /// It may: the number of steps may have been too small.
     May,
-    /// Each hart must exit: a run that leaves one that runs has failed.
+    /// Each hart must exit: a run that leaves one running has failed.
     Must,
 }
 
 /// What is expected of a run.
 #[derive(Clone, Copy, PartialEq, Eq)]
 pub struct Expect {
-    /// The kind whose rule must be kept. Without one no hart may fault.
+    /// The kind whose rule must be kept. Without one, no hart may fault.
     pub rule: Option<Kind>,
     /// Whether a hart may still run at the end.
     pub exit: Exit,
@@ -36,7 +36,8 @@ pub struct Expect {
 impl Expect {
     ghost use Rattle.outcome.specs.Expect.{fails, judged, status_of};
 
-    /// How a run ended, by its inputs, the harts that its choices chose, and the harts that it left. Refused for want of memory alone.
+    /// How a run ended, by its inputs, the harts that its choices chose, and the harts that it
+    /// left. The only error is out of memory.
     pub fn judge<A: Allocator>(
         self,
         alloc: A,
@@ -52,7 +53,8 @@ impl Expect {
         Ok(Outcome::of(verdict, harts))
     }
 
-    /// Whether a run has failed: its rule is broken, or without a rule a hart has faulted, or each hart must exit and one still runs.
+    /// Whether a run has failed: its rule is broken, or without a rule a hart has faulted, or each
+    /// hart must exit and one still runs.
     pub fn fails(self, outcome: Outcome) -> bool
         ensures { result ≡ fails self.exit outcome }
     {
@@ -61,7 +63,8 @@ impl Expect {
             || hangs(self.exit, outcome.running > 0)
     }
 
-    /// The status of a run: `Broken` where its rule is broken, else `Faulted` where it has failed, else `Done`.
+    /// The status of a run: `Broken` if its rule is broken, else `Faulted` if it has failed, else
+    /// `Done`.
     pub fn status(self, outcome: Outcome) -> Status
         ensures { result ≡ status_of self.exit outcome }
     {
@@ -78,7 +81,8 @@ impl Outcome {
     }
 }
 
-/// The status of one or more runs, by whether a rule is broken in one of them, and whether one of them has failed.
+/// The status of one or more runs, given whether a rule is broken in one of them, and whether one
+/// of them has failed.
 pub fn status_by(broken: bool, failed: bool) -> Status
     ensures { result ≡ status_by broken failed }
 {
@@ -91,7 +95,7 @@ pub fn status_by(broken: bool, failed: bool) -> Status
     }
 }
 
-// The verdict on harts, where there is a rule, by which of them were chosen.
+// The verdict on harts, if there is a rule, by which of them were chosen.
 fn verdict_after<A: Allocator>(
     alloc: A,
     rule: Option<Kind>,
@@ -121,7 +125,7 @@ fn breaks(verdict: Option<Verdict>) -> bool
     }
 }
 
-// Whether no rule is judged, and of the harts so many have faulted.
+// Whether there is no rule, and harts have faulted.
 fn faults(verdict: Option<Verdict>, faulted: usize) -> bool
     ensures { result ≡ faults verdict faulted }
 {
@@ -131,7 +135,7 @@ fn faults(verdict: Option<Verdict>, faulted: usize) -> bool
     }
 }
 
-// Whether each hart must exit, and some still run.
+// Whether each hart must exit, and some hart still runs.
 fn hangs(exit: Exit, running: bool) -> bool
     ensures { result ≡ hangs exit running }
 {

@@ -1,4 +1,4 @@
-//! How a run ended, what is expected of it, and the status that tells whether it did as expected.
+//! How a run ended, what is expected of it, and its exit status.
 #![tactic(auto)]
 
 pub use expect::{Exit, Expect, status_by};

@@ -7,12 +7,12 @@ ghost use Rattle.outcome.specs.Outcome.{counted, counts, outcome_of, some_run};
 use hart_step::{Hart, HartState};
 use object_library::Verdict;
 
-/// A way in which a run may leave a hart.
+/// A way for a hart to end.
 #[derive(Clone, Copy, PartialEq, Eq)]
 pub enum End {
     /// The hart has exited.
     Exited,
-    /// An instruction of its own stopped the hart.
+    /// The hart was stopped by its own instruction.
     Faulted,
     /// The hart still runs.
     Running,
@@ -23,7 +23,7 @@ pub enum End {
 pub struct Outcome {
     /// Number of harts that have exited.
     pub exited: usize,
-    /// Number of harts that an instruction of their own stopped.
+    /// Number of harts that were stopped by their own instruction.
     pub faulted: usize,
     /// Number of harts that still run.
     pub running: usize,
@@ -32,7 +32,7 @@ pub struct Outcome {
 }
 
 impl Outcome {
-    /// How a run ended that left these harts, with the verdict on it.
+    /// The outcome of a run that left these harts, with the verdict on it.
     pub fn of(verdict: Option<Verdict>, harts: &[Hart]) -> Outcome
         ensures { result ≡ outcome_of verdict (map hart_of harts.now) }
     {
@@ -45,7 +45,7 @@ impl Outcome {
     }
 }
 
-// 1 where a hart in this state ended so, else 0.
+// 1 if a hart in this state ended in this way, else 0.
 fn counts(wanted: End, state: HartState) -> usize
     ensures value { result ≡ counts wanted state }
     ensures small { result ≤ 1 }
@@ -58,7 +58,7 @@ fn counts(wanted: End, state: HartState) -> usize
     }
 }
 
-/// Number of harts that ended so.
+/// Number of harts that ended in this way.
 pub fn count_ends(wanted: End, harts: &[Hart]) -> usize
     ensures { result ≡ counted wanted (map hart_of harts.now) }
 {

@@ -1,4 +1,4 @@
--- What a command answers, and what of it stands on a sink.
+-- The answer of a command, and what a sink has of it.
 use Rattle.std.specs.Prelude.{◌≡◌, ℕ, List, take, Option, String, string_bytes}
 use Rattle.std.specs.Io.KnownBytes.{Appends}
 use Rattle.std.specs.declared.result.Result.{Result}
@@ -6,11 +6,11 @@ use Rattle.std.specs.declared.result.Result.TheVariants.{Ok, Err}
 use Rattle.byte_io.specs.declared.status.Status.{Status}
 use Rattle.program_open.specs.declared.command_fault.CommandFault.{CommandFault}
 
--- the text that is written and the status, or why there is none
+-- the text that is written and the status, or the fault
 abbrev pub Answer : Type 0
 Answer = Result (List ℕ × Status) CommandFault
 
--- an answer whose text is held
+-- the value of an answer that the code holds
 abbrev pub answer_of : {A : Type 0} → Result (String A × Status) CommandFault → Answer
 answer_of (Ok answer) = Ok (string_bytes answer.0, answer.1)
 answer_of (Err why) = Err why

@@ -1,8 +1,8 @@
 -- The faults of a command, from those of its parts.
 use Rattle.image.specs.declared.fault.ElfFault.{ElfFault}
 use Rattle.image.specs.declared.fault.ElfFault.TheVariants as elf
-use Rattle.machine.specs.declared.start.StartFault.{StartFault}
-use Rattle.machine.specs.declared.start.StartFault.TheVariants as start
+use Rattle.machine.specs.declared.inputs.StartFault.{StartFault}
+use Rattle.machine.specs.declared.inputs.StartFault.TheVariants as start
 use Rattle.sched_text.specs.declared.choice_text.ChoiceFault.{ChoiceFault}
 use Rattle.sched_text.specs.declared.choice_text.ChoiceFault.TheVariants as choice
 use Rattle.program_open.specs.declared.hex.HexFault.{HexFault}
@@ -13,7 +13,7 @@ use Rattle.program_open.specs.declared.command_fault.CommandFault.TheVariants as
 use Rattle.byte_io.specs.declared.status.Status.{Status}
 use Rattle.byte_io.specs.declared.status.Status.TheVariants as status
 
--- the status that a command ends with where it gives no answer
+-- the exit status of a command with this fault
 abbrev pub status_of_fault : CommandFault → Status
 status_of_fault fault.Memory = status.NoMemory
 status_of_fault why = status.Refused
@@ -29,11 +29,10 @@ abbrev pub fault_of_elf : ElfFault → CommandFault
 fault_of_elf elf.Memory = fault.Memory
 fault_of_elf why = fault.Elf why
 
--- a machine that can't be started
+-- a fault of the inputs with which no machine can start
 abbrev pub fault_of_start : StartFault → CommandFault
 fault_of_start start.NoHarts = fault.NoHarts
 fault_of_start start.TooManyHarts = fault.TooManyHarts
-fault_of_start start.Memory = fault.Memory
 
 -- a fault of the choice text
 abbrev pub fault_of_choices : ChoiceFault → CommandFault
@@ -41,15 +40,15 @@ fault_of_choices (choice.BadChoice offset) = fault.BadChoice offset
 fault_of_choices (choice.NoHart offset) = fault.NoHart offset
 fault_of_choices choice.Memory = fault.Memory
 
--- no fault of a device, and no want of memory: what was read is refused, or what became of it
+-- a fault of what was read or of its run, not of a device and not out of memory
 abbrev pub IsRefusal : CommandFault → Type 0
 IsRefusal (fault.Read input) = ⊥
 IsRefusal fault.Write = ⊥
 IsRefusal fault.Memory = ⊥
 IsRefusal why = Unit {0}
 
--- of a fact of each device, of file, choices, history and sink, that of the one that a fault names;
--- a fault of threads, their stamps or logs is none
+-- given a fact for each device (file, choices, history, sink), the fact for the one that a fault
+-- names; a fault of threads, their stamps or logs is impossible
 abbrev pub IfNames : CommandFault → Type 0 → Type 0 → Type 0 → Type 0 → Type 0
 IfNames (fault.Read input.File) file choices history sink = file
 IfNames (fault.Read input.Choices) file choices history sink = choices
@@ -62,7 +61,7 @@ IfNames fault.Unmatched file choices history sink = ⊥
 IfNames fault.OutOfOrder file choices history sink = ⊥
 IfNames why file choices history sink = Unit {0}
 
--- want of memory, or the sink, whose count of failures has risen
+-- out of memory, or the sink, whose number of failures has risen
 abbrev pub IfHalts : CommandFault → Type 0 → Type 0
 IfHalts fault.Memory risen = Unit {0}
 IfHalts fault.Write risen = risen

@@ -3,15 +3,15 @@ use Rattle.std.specs.Prelude.{ℕ, ◌/◌, ◌%◌, List, [], ◌∷◌, ◌++�
 use Rattle.image.specs.Image.{ImageValue}
 use Rattle.image.specs.Segment.{SegmentValue}
 
--- where the words begin, which is also the entry
+-- the address of the first word, which is also the entry
 abbrev pub hex_base : ℕ
 hex_base = 0x0001_0000
 
--- the size of the segment in bytes, whatever the number of words
+-- the size of the segment in bytes, for any number of words
 abbrev pub hex_size : ℕ
 hex_size = 8192
 
--- the four bytes of a word, the lowest first
+-- the four bytes of a word, little-endian
 abbrev pub word_bytes : ℕ → List ℕ
 word_bytes word = word % 256 ∷ word / 256 % 256 ∷ word / 65536 % 256 ∷ word / 16777216 % 256 ∷ []
 

@@ -6,7 +6,7 @@ use Rattle.text_items.specs.Items.{Item, items_from}
 use Rattle.program_open.specs.declared.hex.HexFault.{HexFault}
 use Rattle.program_open.specs.declared.hex.HexFault.TheVariants.{BadWord, TooMany}
 
--- the most words of a text
+-- the greatest number of words
 abbrev pub most_words : ℕ
 most_words = 2048
 
@@ -16,12 +16,12 @@ hex_digit_of b = if nat_le 48 b && nat_le b 57 then Some (b - 48)
     else (if nat_le 65 b && nat_le b 70 then Some (b - 65 + 10)
     else (if nat_le 97 b && nat_le b 102 then Some (b - 97 + 10) else None))
 
--- the number that hexadecimal digits write when they follow those of n
+-- the number of hexadecimal digits that follow those of n
 abbrev pub hex_after : ℕ → List ℕ → Option ℕ
 hex_after n [] = Some n
 hex_after n (b ∷ bs) = elim (hex_digit_of b) [ None ↦ None | Some d ↦ hex_after (16 * n + d) bs ]
 
--- the word that eight hexadecimal digits write
+-- the word of eight hexadecimal digits
 abbrev pub word_of : List ℕ → Option ℕ
 word_of text = if length text == 8 then hex_after 0 text else None
 
@@ -35,7 +35,7 @@ abbrev pub word_then : Option ℕ → ℕ → Result (List ℕ) HexFault → Res
 word_then None number rest = Err (BadWord number)
 word_then (Some word) number rest = followed_by (word ∷ []) rest
 
--- the words of items that are numbered from a number on, or the first one's fault
+-- the words of items that are numbered from a number on, or the first fault
 abbrev pub words_named : ℕ → List Item → Result (List ℕ) HexFault
 words_named number [] = Ok []
 words_named number (item ∷ items) = if number == most_words then Err (TooMany most_words)

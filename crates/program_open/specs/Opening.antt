@@ -1,4 +1,4 @@
--- What a run begins with: the image of a program and the choices that a text spells, or the first fault of what was read.
+-- An opened run: a program's image and the choices of a text, or the first fault.
 use Rattle.std.specs.Prelude.{ℕ, ◌==◌, nat_lt, List, if◌then◌else◌}
 use Rattle.std.specs.declared.result.Result.{Result}
 use Rattle.std.specs.declared.result.Result.TheVariants.{Ok, Err}
@@ -13,7 +13,7 @@ use Rattle.program_open.specs.declared.program.ProgramForm.{ProgramForm}
 use Rattle.program_open.specs.declared.command_fault.CommandFault.{CommandFault}
 use Rattle.program_open.specs.declared.command_fault.CommandFault.TheVariants as fault
 
--- an image with its choices, or why there is no run
+-- an image with its choices, or the fault
 abbrev pub Opened : Type 0
 Opened = Result (ImageValue × List Choice) CommandFault
 
@@ -22,7 +22,7 @@ abbrev pub with_choices : ImageValue → Result (List Choice) ChoiceFault → Op
 with_choices image (Ok choices) = Ok (image, choices)
 with_choices image (Err why) = Err (fault_of_choices why)
 
--- once the program is read, the inputs are counted, and only then what follows decides
+-- after the program is read, the number of inputs is checked, and only then the rest decides
 abbrev pub after_program : {T : Type 0} → ℕ → (ImageValue → Result T CommandFault)
     → Result ImageValue CommandFault → Result T CommandFault
 after_program harts next (Ok image) =
@@ -30,7 +30,7 @@ after_program harts next (Ok image) =
     else (if nat_lt most_harts harts then Err fault.TooManyHarts else next image)
 after_program harts next (Err why) = Err why
 
--- what a run of a program and a choice text begins with, for so many inputs
+-- a run of a program and a choice text with this number of inputs, opened
 unfoldable pub opening : ProgramForm → ℕ → List ℕ → List ℕ → Opened
 opening form harts program text = after_program harts
     (λ image. with_choices image (choices_of harts text)) (program_of form program)

@@ -1,4 +1,4 @@
--- The image of a program in one of the forms that are read, or why there is none.
+-- The image of a program in one of its forms, or its fault.
 use Rattle.std.specs.Prelude.{ℕ, List}
 use Rattle.std.specs.declared.result.Result.{Result}
 use Rattle.std.specs.declared.result.Result.TheVariants.{Ok, Err}
@@ -13,7 +13,7 @@ use Rattle.program_open.specs.declared.program.ProgramForm.{ProgramForm}
 use Rattle.program_open.specs.declared.program.ProgramForm.TheVariants as form
 use Rattle.program_open.specs.declared.command_fault.CommandFault.{CommandFault}
 
--- the image of words, if they are read
+-- the image of words, if they are valid
 abbrev pub image_of_hex : Result (List ℕ) HexFault → Result ImageValue CommandFault
 image_of_hex (Ok words) = Ok (hex_image_of words)
 image_of_hex (Err why) = Err (fault_of_hex why)

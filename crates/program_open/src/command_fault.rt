@@ -22,51 +22,52 @@ pub enum Input {
     History,
 }
 
-/// Why a command gives no answer. The text of each is what stands after `rvcons: ` on standard
-/// error, but that the program puts the path of an input that can't be read.
+/// Why a command gives no answer. The text of each is printed after `rvcons: ` on standard error;
+/// for an input that can't be read the program prints its path instead.
 #[derive(Clone, Copy, Debug, PartialEq, Eq, Error)]
 pub enum CommandFault {
     /// This item of the hexadecimal program, from 0, isn't a word.
     #[error("hex fault BadWord at {0}")]
     BadWord(usize),
-    /// The hexadecimal program has more items than words are taken.
+    /// The hexadecimal program has more than `MOST_WORDS` words; this item, from 0, is the first
+    /// too many.
     #[error("hex fault TooMany at {0}")]
     TooMany(usize),
-    /// The file is refused by this check of the loader's.
+    /// The loader rejects the file.
     #[error("{0}")]
     Elf(ElfFault),
     /// No input is given, so there would be no hart.
     #[error("start fault 1 NoHarts")]
     NoHarts,
-    /// More inputs are given than there may be harts.
+    /// More inputs are given than a machine has harts.
     #[error("start fault 2 TooManyHarts")]
     TooManyHarts,
     /// The item at this offset of the choice text isn't a choice.
     #[error("choice fault BadChoice at {0}")]
     BadChoice(usize),
-    /// The item at this offset of the choice text names a hart that isn't there.
+    /// The item at this offset of the choice text names a hart that doesn't exist.
     #[error("choice fault NoHart at {0}")]
     NoHart(usize),
     /// The item at this offset of the history text isn't an entry.
     #[error("history fault BadEntry at {0}")]
     BadEntry(usize),
-    /// The item at this offset of the history text names a hart that isn't there.
+    /// The item at this offset of the history text names a hart that doesn't exist.
     #[error("history fault NoHart at {0}")]
     NoHartOfEntry(usize),
-    /// The run that is to be shrunk doesn't fail: under a rule it is kept, and without one no hart
-    /// has faulted; and where each hart must exit, it doesn't hang.
+    /// The run to shrink doesn't fail: under a rule it is kept, without one no hart has faulted,
+    /// and if each hart must exit, it doesn't hang.
     #[error("shrink fault NothingFails")]
     NothingFails,
     /// The host refused a thread.
     #[error("thread refused")]
     ThreadRefused,
-    /// A hart was not where its own thread had left it.
+    /// A hart was not in the state in which its own thread had left it.
     #[error("stale")]
     Stale,
-    /// A step of a thread would have needed a stamp of `u64::MAX` or above.
+    /// A thread's step would have needed a stamp of `u64::MAX` or above.
     #[error("stamps exhausted")]
     StampsExhausted,
-    /// An access stands in a hart's log and not in its bank's, or the other way round. No run leads
+    /// An access is in a hart's log but not in its bank's, or the other way round. No run leads
     /// here.
     #[error("merge fault Unmatched")]
     Unmatched,
@@ -79,13 +80,13 @@ pub enum CommandFault {
     /// The output can't be written.
     #[error("cannot write -")]
     Write,
-    /// Memory was refused.
+    /// Out of memory.
     #[error("out of memory")]
     Memory,
 }
 
 impl CommandFault {
-    /// The status that a command ends with.
+    /// The exit status of a command with this fault.
     pub fn status(self) -> Status
         ensures { result ≡ status_of_fault self }
     {
@@ -142,7 +143,6 @@ impl From<StartFault> for CommandFault {
         match fault {
             StartFault::NoHarts => CommandFault::NoHarts,
             StartFault::TooManyHarts => CommandFault::TooManyHarts,
-            StartFault::Memory => CommandFault::Memory,
         }
     }
 }

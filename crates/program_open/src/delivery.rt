@@ -1,4 +1,4 @@
-//! Answers that are made whole before they are written.
+//! Writes answers that are made whole first.
 
 ghost use Rattle.std.specs.Prelude.{◌≡◌, ◌-◌, ◌^◌, ◌<◌, Err, IfOk, IfErr};
 ghost use Rattle.std.specs.Io.KnownBytes.{Appends, Keeps};
@@ -13,7 +13,7 @@ use std::alloc::Allocator;
 pub fn write_text<K: Sink>(sink: &mut K, text: &[u8]) -> Result<(), CommandFault>
     requires { K.failures sink.old < 2 ^ 64 - 1 }
     ensures written { IfOk result (λ _. Appends (K.held sink.old) (K.held sink.new) text.now) }
-    // Only the sink can fail; then a beginning of the text stands there.
+    // Only the sink can fail; it then has a beginning of the text.
     ensures fault { IfErr result (λ fault. fault ≡ CommandFault.Write) }
     ensures begun { IfErr result (λ _. Begins text.now (K.held sink.old) (K.held sink.new)) }
     ensures count { CountsFailure result (K.failures sink.old) (K.failures sink.new) }
@@ -24,8 +24,8 @@ pub fn write_text<K: Sink>(sink: &mut K, text: &[u8]) -> Result<(), CommandFault
     }
 }
 
-/// Writes the text of a command's answer, and gives its status. A refused answer is passed on, and
-/// nothing is written.
+/// Writes the text of a command's answer, and returns its status. For a fault nothing is written,
+/// and the fault is returned.
 pub fn deliver<A: Allocator, K: Sink>(
     sink: &mut K,
     answer: Result<(String<A>, Status), CommandFault>,
@@ -34,11 +34,11 @@ pub fn deliver<A: Allocator, K: Sink>(
     // The whole text was appended, and this is the answer's status.
     ensures done { IfOk result (λ status.
         Prints (answer_of answer) status (K.held sink.old) (K.held sink.new)) }
-    // Why there is no answer, and nothing is written.
+    // The answer is a fault, and nothing is written.
     ensures refused { IfErr answer (λ why. result ≡ Err why) }
     ensures unwritten { IfErr answer (λ _. Keeps (K.held sink.old) (K.held sink.new)) }
     ensures untouched { IfErr answer (λ _. K.failures sink.new ≡ K.failures sink.old) }
-    // Of an answer only the sink can fail; then a beginning of the text stands there.
+    // With an answer only the sink can fail; it then has a beginning of the text.
     ensures fault { IfOk answer (λ _. IfErr result (λ fault. fault ≡ CommandFault.Write)) }
     ensures begun { IfOk answer (λ _. IfErr result (λ _.
         BeginsToPrint (answer_of answer) (K.held sink.old) (K.held sink.new))) }

@@ -7,22 +7,22 @@ use std::alloc::Allocator;
 use text_items::next_item;
 use thiserror::Error;
 
-/// The most words of a text.
+/// The greatest number of words.
 pub const MOST_WORDS: usize = 2048;
 
-// The digits of a word.
+// Number of digits of a word.
 const DIGITS: usize = 8;
 
-/// Why a text gives no words: the number of the item that decides, counted from 0, or want of memory.
+/// Why a text gives no words: the number of the first bad item, counted from 0, or out of memory.
 #[derive(Clone, Copy, Debug, PartialEq, Eq, Error)]
 pub enum HexFault {
     /// This item isn't eight hexadecimal digits.
     #[error("hex fault BadWord at {0}")]
     BadWord(usize),
-    /// This item comes after `MOST_WORDS` words, whatever it holds.
+    /// This item comes after `MOST_WORDS` words, whatever it is.
     #[error("hex fault TooMany at {0}")]
     TooMany(usize),
-    /// Memory for the words was refused.
+    /// Out of memory.
     #[error("out of memory")]
     Memory,
 }
@@ -57,8 +57,8 @@ fn read_word(item: &[u8]) -> Option<u32>
     Some(word)
 }
 
-/// Reads words of eight hexadecimal digits of either case, between blanks (space, tab, LF, CR), at most `MOST_WORDS`.
-/// The first bad item decides the fault.
+/// Reads at most `MOST_WORDS` words of eight hexadecimal digits of either case, between blanks
+/// (space, tab, LF, CR). The fault is that of the first bad item.
 pub fn read_hex<A: Allocator + Copy>(alloc: A, bytes: &[u8]) -> Result<Vec<u32, A>, HexFault>
     ensures ok { IfOk result (λ words. words_of bytes.now ≡ Ok words.items) }
     ensures err { IfErr result (λ fault. fault ≢ HexFault.Memory → words_of bytes.now ≡ Err fault) }

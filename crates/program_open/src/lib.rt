@@ -1,5 +1,5 @@
-//! A program's bytes, as hexadecimal words or as an ELF file, to its image; how a run begins; the
-//! faults of all commands, and how their answers are written.
+//! Opens a program and a run: bytes to image, the faults of all commands, and how their answers are
+//! written.
 #![tactic(auto)]
 
 pub use command_fault::{CommandFault, Input};

@@ -1,11 +1,12 @@
-//! Where a program of words stands, and how many words it may have.
+//! The limits of programs of words.
 ghost use Rattle.std.specs.Prelude.{◌≡◌};
 ghost use Rattle.program_open.specs.HexImage.{hex_base, hex_size};
 ghost use Rattle.program_open.specs.HexText.{most_words};
 ghost use Rattle.program_open.specs.declared.hex.TheConstants.{MOST_WORDS};
 ghost use Rattle.program_open.specs.declared.hex_program.TheConstants.{HEX_BASE, HEX_SIZE};
 
-/// 2048 words at most stand in a segment of 8192 bytes at 0x00010000: the code's numbers are the definitions'.
+/// At most 2048 words, in a segment of 8192 bytes at 0x00010000: the code's constants are the
+/// definitions'.
 pub fn hex_programs_have_their_place()
     ensures base { HEX_BASE ≡ hex_base }
     ensures size { HEX_SIZE ≡ hex_size }

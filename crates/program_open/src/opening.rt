@@ -1,4 +1,5 @@
-//! How a run begins: the program, the number of inputs and the choice text, checked once, in this order.
+//! Opens a run: the program, the number of inputs and the choice text are checked once, in this
+//! order.
 
 ghost use Rattle.std.specs.Prelude.{◌≡◌, ◌≢◌, ◌^◌, ◌-◌, ◌<◌, ℕ, List, Ok, Err, IfOk, IfErr, IfSome, length};
 ghost use Rattle.std.specs.List.{All};
@@ -13,21 +14,23 @@ use crate::command_fault::{CommandFault, Input};
 use crate::program::{ProgramForm, read_image};
 use byte_io::{ReadFault, Source, read_all};
 use image::Image;
-use machine::{Choice, check_inputs};
+use machine::{Choice, Inputs};
 use sched_text::read_choices;
 use std::alloc::Allocator;
 
-/// What a run begins with, its choices unread.
+/// An opened run before its choices are read.
 #[derive(Drop)]
 pub struct OpenText<A: Allocator> {
     /// The program's image.
     pub image: Image<A>,
-    /// The bytes of the choice text, whatever they say.
+    /// The harts' inputs.
+    pub inputs: Inputs,
+    /// The bytes of the choice text, unchecked.
     pub text: Vec<u8, A>,
 }
 
-/// Reads a program in this form to its end, counts the inputs, and takes in the choice text to its end, which may say anything. The
-/// first that is refused decides, and what comes after it is not read.
+/// Reads a program in this form to its end, checks the number of inputs, and reads the bytes of the
+/// choice text to their end. The first fault is returned, and what comes after it is not read.
 #[tactic(auto, unfolding(crate::specs::Opening::opening))]
 pub fn open_text<A: Allocator + Copy, P: Source, C: Source>(
     alloc: A,
@@ -38,7 +41,7 @@ pub fn open_text<A: Allocator + Copy, P: Source, C: Source>(
 ) -> Result<OpenText<A>, CommandFault>
     requires program_counts { P.failures program.old < 2 ^ 64 - 1 }
     requires choices_count { C.failures choices.old < 2 ^ 64 - 1 }
-    ensures takes { IfOk result (λ _. IsStartable inputs.now) }
+    ensures inputs { IfOk result (λ run. (run.inputs ≡ inputs.now) × IsStartable inputs.now) }
     ensures image { IfOk result (λ run.
         IfSome (P.left program.old) (λ p. program_of form p ≡ Ok run.image)) }
     ensures opened { IfOk result (λ run.
@@ -48,11 +51,11 @@ pub fn open_text<A: Allocator + Copy, P: Source, C: Source>(
     ensures refused { IfErr result (λ fault. IsRefusal fault
         → IfSome (P.left program.old) (λ p. IfSome (C.left choices.old) (λ c.
         opening form (length inputs.now) p c ≡ Err fault))) }
-    // A device is named only where it failed.
+    // A device is named only if it failed.
     ensures read { IfErr result (λ fault. IfNames fault
         (P.failures program.old < P.failures program.new)
         (C.failures choices.old < C.failures choices.new) ⊥ ⊥) }
-    // A fault of the program, and that of the number of inputs, come before one of the device that the choices are read from.
+    // A fault of the program or of the number of inputs comes before one of the choices' device.
     ensures program_first { result ≡ Err (CommandFault.Read Input.Choices)
         → IfSome (P.left program.old) (λ p. (image : ImageValue) × (program_of form p ≡ Ok image)) }
     ensures inputs_first { result ≡ Err (CommandFault.Read Input.Choices) → IsStartable inputs.now }
@@ -61,28 +64,35 @@ pub fn open_text<A: Allocator + Copy, P: Source, C: Source>(
         Ok(image) => image,
         Err(fault) => return Err(fault),
     };
-    match check_inputs(inputs) {
-        Ok(()) => {}
+    let inputs = match Inputs::new(inputs) {
+        Ok(inputs) => inputs,
         Err(fault) => return Err(CommandFault::from(fault)),
-    }
+    };
     match read_all(alloc, choices) {
-        Ok(text) => Ok(OpenText { image, text }),
+        Ok(text) => Ok(OpenText {
+            image,
+            inputs,
+            text,
+        }),
         Err(ReadFault::Device) => Err(CommandFault::Read(Input::Choices)),
         Err(ReadFault::Memory) => Err(CommandFault::Memory),
     }
 }
 
-/// What a run begins with.
+/// An opened run.
 #[derive(Drop)]
 pub struct OpenRun<A: Allocator> {
     /// The program's image.
     pub image: Image<A>,
-    /// The choices, each of a hart that is there.
+    /// The harts' inputs.
+    pub inputs: Inputs,
+    /// The choices, each of a hart that exists.
     pub choices: Vec<Choice, A>,
 }
 
-/// Reads a program in this form to its end, counts the inputs, and reads the choice text to its end. The first that is refused
-/// decides, and what comes after it is not read. For who needs the list of the choices.
+/// Reads a program in this form to its end, checks the number of inputs, and reads the choice text
+/// to its end. The first fault is returned, and what comes after it is not read. For commands that
+/// need the choices as a list.
 pub fn open_run<A: Allocator + Copy, P: Source, C: Source>(
     alloc: A,
     form: ProgramForm,
@@ -92,8 +102,8 @@ pub fn open_run<A: Allocator + Copy, P: Source, C: Source>(
 ) -> Result<OpenRun<A>, CommandFault>
     requires program_counts { P.failures program.old < 2 ^ 64 - 1 }
     requires choices_count { C.failures choices.old < 2 ^ 64 - 1 }
-    ensures takes { IfOk result (λ _. IsStartable inputs.now) }
-    ensures within { IfOk result (λ run. All (λ c. c.hart < length inputs.now) run.choices.items) }
+    ensures inputs { IfOk result (λ run. (run.inputs ≡ inputs.now) × IsStartable inputs.now) }
+    ensures within { IfOk result (λ run. All (λ c. c.hart < length run.inputs) run.choices.items) }
     ensures image { IfOk result (λ run.
         IfSome (P.left program.old) (λ p. program_of form p ≡ Ok run.image)) }
     ensures opened { IfOk result (λ run.
@@ -102,11 +112,11 @@ pub fn open_run<A: Allocator + Copy, P: Source, C: Source>(
     ensures refused { IfErr result (λ fault. IsRefusal fault
         → IfSome (P.left program.old) (λ p. IfSome (C.left choices.old) (λ c.
         opening form (length inputs.now) p c ≡ Err fault))) }
-    // A device is named only where it failed.
+    // A device is named only if it failed.
     ensures read { IfErr result (λ fault. IfNames fault
         (P.failures program.old < P.failures program.new)
         (C.failures choices.old < C.failures choices.new) ⊥ ⊥) }
-    // A fault of the program, and that of the number of inputs, come before one of the device that the choices are read from.
+    // A fault of the program or of the number of inputs comes before one of the choices' device.
     ensures program_first { result ≡ Err (CommandFault.Read Input.Choices)
         → IfSome (P.left program.old) (λ p. (image : ImageValue) × (program_of form p ≡ Ok image)) }
     ensures inputs_first { result ≡ Err (CommandFault.Read Input.Choices) → IsStartable inputs.now }
@@ -115,9 +125,10 @@ pub fn open_run<A: Allocator + Copy, P: Source, C: Source>(
         Ok(run) => run,
         Err(fault) => return Err(fault),
     };
-    match read_choices(alloc, &run.text, inputs.len() as u32) {
+    match read_choices(alloc, &run.text, run.inputs.harts()) {
         Ok(choices) => Ok(OpenRun {
             image: run.image,
+            inputs: run.inputs,
             choices,
         }),
         Err(fault) => Err(CommandFault::from(fault)),

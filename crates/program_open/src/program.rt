@@ -12,16 +12,16 @@ use elf_read::load;
 use image::Image;
 use std::alloc::Allocator;
 
-/// How a program is written.
+/// The form of a program.
 #[derive(Clone, Copy, PartialEq, Eq)]
 pub enum ProgramForm {
-    /// Words in hexadecimal, which begin one segment.
+    /// Words in hexadecimal, at the beginning of one segment.
     Hex,
     /// An ELF file.
     Elf,
 }
 
-/// The image of a program that is written in this form, or why there is none.
+/// The image of a program in this form, or its fault.
 pub fn read_program<A: Allocator + Copy>(
     alloc: A,
     form: ProgramForm,
@@ -37,8 +37,8 @@ pub fn read_program<A: Allocator + Copy>(
     }
 }
 
-/// Reads a program in this form to its end and makes its image, or says why there is none. The bytes are given back, so
-/// that they are not held while the image is used.
+/// Reads a program in this form to its end and makes its image. The bytes are freed before the
+/// image is used.
 pub fn read_image<A: Allocator + Copy, P: Source>(
     alloc: A,
     form: ProgramForm,

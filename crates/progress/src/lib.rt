@@ -1,17 +1,17 @@
-//! Who is told how far a command is that takes long.
+//! The trait by which a long command reports how far it is.
 #![tactic(auto)]
 
-/// Who is told how far a command is. What is told changes no answer; who has nothing to say of a kind of command leaves its method out.
+/// Receives the progress of a command. It changes no answer. Methods for other kinds of commands
+/// can be left out.
 pub trait Progress {
-    /// So many seeds of a campaign are done, and so many of them are bad: their rule is broken, or without a rule a hart was stopped by its
-    /// instruction.
+    /// `_done` seeds of a campaign are done, and the runs of `_bad` of them have failed.
     fn seeds_done(&mut self, _done: u64, _bad: u64) {}
 
-    /// So many choices of a run are done, of so many in all. The last time all are.
+    /// `_done` of `_all` choices of a run are done. In the last call all are.
     fn choices_done(&mut self, _done: u64, _all: u64) {}
 }
 
-/// Tells nobody.
+/// Ignores all reports.
 #[derive(Clone, Copy)]
 pub struct Unheard;
 

@@ -1,4 +1,4 @@
-//! The simulator's program.
+//! The whole program.
 #![tactic(auto)]
 
 use byte_io::Status;
@@ -31,7 +31,8 @@ fn main(rt: HostRuntime) -> ExitCode {
     ExitCode::from(obey(&rt, audience, talk).code())
 }
 
-// Does what the command line orders. Progress, and what a fault means, is told to a person; `talk` is whom the debugger talks with.
+// Runs the command of the command line. A person sees progress and explanations of faults; `talk`
+// is the audience of the debugger.
 fn obey<R: Files + AllocGlobal + Print + Eprint + Env + Threads + Wait + Sync + Input>(
     rt: &R,
     audience: Audience,

@@ -1,4 +1,5 @@
-//! The program of the command `run` alone. It stands on fewer crates than the whole program, so it is proved and built sooner.
+//! The program of the command `run` alone. It depends on fewer crates than the whole program, so it
+//! is proved and built sooner.
 #![tactic(auto)]
 
 use byte_io::Status;
@@ -19,7 +20,7 @@ fn main(rt: HostRuntime) -> ExitCode {
     ExitCode::from(obey(&rt, audience).code())
 }
 
-// Does the `run` that the command line orders. What a fault means is told to a person.
+// Runs the `run` of the command line. A person sees explanations of faults.
 fn obey<R: Files + AllocGlobal + Print + Eprint + Env>(rt: &R, audience: Audience) -> Status {
     let arguments = match read_arguments(rt) {
         Ok(arguments) => arguments,

@@ -89,7 +89,7 @@ next-there : (d : Drawing) → d.hart < d.harts → (next_choice d).hart < d.har
 unfolding next_choice
 next-there d there = in_burst-there d there
 
--- each choice that is drawn names a hart that is there
+-- each choice that is drawn names a hart that exists
 drawn_within : (steps : ℕ) (d : Drawing) → d.hart < d.harts → All (λ c. c.hart < d.harts) (choices_drawn steps d)
 unfolding choices_drawn
 drawn_within zero d there = All-nil (λ (c : Choice). c.hart < d.harts)
@@ -107,7 +107,7 @@ drawn-suc : (n : ℕ) (d : Drawing) → choices_drawn (suc n) d ≡ next_choice 
 unfolding choices_drawn
 drawn-suc n d = refl
 
--- the next choice, and those behind it
+-- the next choice, and those after it
 pub drawn-next : (n : ℕ) (d e : Drawing) (c : Choice) → c ≡ next_choice d → e ≡ after_choice d
     → choices_drawn (n + 1) d ≡ c ∷ choices_drawn n e
 drawn-next n d e c choice state =
@@ -130,7 +130,7 @@ next-hart d = refl
 goes_on : (n : ℕ) (d : Drawing) → suc (suc n) ≤ (in_burst d).left → in_burst (after_choice d) ≡ after_choice d
 goes_on n d more = same (after_choice d) (λ none. absurd (omega (arith, more, none, after-left d)))
 
--- so many choices of a burst, of which as many are left, are of its hart
+-- the next n choices of a burst with as many left are of its hart
 pub of_one_hart : (n : ℕ) (d : Drawing) → n ≤ (in_burst d).left → All (λ c. c.hart ≡ (in_burst d).hart) (choices_drawn n d)
 unfolding choices_drawn
 of_one_hart zero d few = All-nil (λ (c : Choice). c.hart ≡ (in_burst d).hart)

@@ -1,4 +1,4 @@
--- Each choice of a schedule is of a hart that is there.
+-- Each choice of a schedule is of a hart that exists.
 use Rattle.std.proofs.Common.{◌≡◌, ℕ, zero, suc, ◌+◌, ◌%◌, ◌<◌, true, ap, map, mod-lt, sym, ◌∙◌}
 use Rattle.std.proofs.lemmas.Bool.{ltb-true}
 use Rattle.std.proofs.lemmas.List.Elements.{All-nil, All-cons}

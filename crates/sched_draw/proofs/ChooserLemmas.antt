@@ -8,7 +8,8 @@ use Rattle.sched_run.specs.Harts.{Harts, with_hart}
 use Rattle.sched_run.proofs.ChosenLemmas.{choice_chosen}
 use Rattle.sched_draw.specs.Schedules.{RanOver}
 
--- of all choices those that were taken, whose run has led from a world to another, come before those that are left
+-- of all choices those that were taken, whose run has led from a world to another, come before
+-- those that are left
 pub record SoFar (all left : List Choice) (old now : World) (chosen : Harts) : Type 0 where
   pub done : List Choice
   pub order : all ≡ done ++ left

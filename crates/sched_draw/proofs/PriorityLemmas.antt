@@ -191,7 +191,7 @@ first-next : (harts : List HartValue) (h : ℕ) (order : List ℕ) → runs hart
     → first_running harts (h ∷ order) ≡ first_running harts order
 first-next harts h order stopped = ap (λ b. if b then h else first_running harts order) stopped
 
--- a hart that runs is behind one that doesn't
+-- a hart that runs is after one that doesn't
 behind : (harts : List HartValue) (h : ℕ) (order : List ℕ) (k : ℕ) → Contains (h ∷ order) k → runs harts h ≡ false → runs harts k ≡ true
     → Contains order k
 behind harts h order k (zero, below, is) stopped going = absurd (true≢false (sym going ∙ ap (runs harts) (sym is) ∙ stopped))
@@ -330,7 +330,7 @@ drawn-suc : (refusals : Refusals) (place n : ℕ) (d : Drawing) (w : World)
 unfolding choices_drawn
 drawn-suc refusals place n d w = refl
 
--- the next choice of a run, and those behind it
+-- the next choice of a run, and those after it
 pub drawn-next : (refusals : Refusals) (place n : ℕ) (d e : Drawing) (w : World) (harts : List HartValue) (c : Choice) → w.harts ≡ harts
     → c ≡ next_choice refusals harts d → e ≡ after_choice place harts d
     → choices_drawn refusals place (n + 1) d w ≡ c ∷ choices_drawn refusals (place + 1) n e (step w c)

@@ -1,4 +1,4 @@
--- Schedules in bursts: a hart is drawn, then how many choices in a row are its own.
+-- Schedules in bursts: a hart is drawn, then the number of its choices in a row.
 use Rattle.std.specs.Prelude.{ℕ, zero, suc, ◌+◌, ◌-◌, ◌*◌, ◌%◌, ◌==◌, List, [], ◌∷◌, if◌then◌else◌}
 use Rattle.rand_pcg.specs.Lcg.{Lcg}
 use Rattle.rand_pcg.specs.Pcg.{pcg32}
@@ -7,8 +7,8 @@ use Rattle.sched_draw.specs.Seeds.{generator_of}
 use Rattle.sched_draw.specs.Refusing.{is_refused}
 use Rattle.sched_draw.specs.declared.refusals.Refusals.{Refusals}
 
--- where a drawing stands: of how many harts it is, how long bursts are in the mean and which choices refuse; the burst's hart, how many of its
--- choices are left, and the generator of the words to come
+-- the state of drawing: the number of harts, the mean length of bursts and the refusals; the hart
+-- of the burst, the number of its choices left, and the generator of the next words
 pub record Drawing : Type 0 where
   pub harts : ℕ
   pub mean : ℕ
@@ -17,13 +17,13 @@ pub record Drawing : Type 0 where
   pub left : ℕ
   pub generator : Lcg
 
--- the drawing that a seed starts: no burst has begun
+-- the state at a seed: no burst has begun
 unfoldable pub drawing_of : ℕ → ℕ → Refusals → ℕ → Drawing
 drawing_of harts mean refusals seed =
     record { harts = harts; mean = mean; refusals = refusals; hart = 0; left = 0; generator = generator_of seed }
 
--- a new burst: its hart is a word's remainder by the number of harts, its length, 1 to twice the mean less 1, is 1 more than the next word's
--- remainder by the greatest length
+-- a new burst: its hart is a word's remainder by the number of harts; its length, 1 to 2 * mean -
+-- 1, is 1 more than the next word's remainder by the greatest length
 unfoldable pub burst_drawn : Drawing → Drawing
 burst_drawn d = record d {
   hart = (pcg32 d.generator).0 % d.harts;
@@ -31,25 +31,25 @@ burst_drawn d = record d {
   generator = (pcg32 (pcg32 d.generator).1).1;
 }
 
--- the burst of the next choice: a new one where none is left
+-- the burst of the next choice: a new one if none is left
 unfoldable pub in_burst : Drawing → Drawing
 in_burst d = if d.left == 0 then burst_drawn d else d
 
--- the next choice is of the burst's hart, and its store-conditional is refused where a word is one that refuses
+-- the next choice is of the burst's hart, and refused if a word is one that refuses
 unfoldable pub next_choice : Drawing → Choice
 next_choice d =
     record { hart = (in_burst d).hart; refuse = is_refused d.refusals (pcg32 (in_burst d).generator).0 }
 
--- where the drawing stands behind it
+-- the state after it
 unfoldable pub after_choice : Drawing → Drawing
 after_choice d =
     record (in_burst d) { left = (in_burst d).left - 1; generator = (pcg32 (in_burst d).generator).1 }
 
--- so many next choices
+-- the next n choices
 unfoldable pub choices_drawn : ℕ → Drawing → List Choice
 choices_drawn zero d = []
 choices_drawn (suc steps) d = next_choice d ∷ choices_drawn steps (after_choice d)
 
--- so many steps in bursts that a seed draws: the last burst ends with them
+-- the choices of n steps in bursts that a seed draws: the last burst ends with them
 abbrev pub burst_choices : Refusals → ℕ → ℕ → ℕ → ℕ → List Choice
 burst_choices refusals harts mean steps seed = choices_drawn steps (drawing_of harts mean refusals seed)

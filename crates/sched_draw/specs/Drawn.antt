@@ -1,7 +1,7 @@
--- What drawn priorities stand for.
+-- The state of drawing by priorities.
 use Rattle.sched_draw.specs.Priorities.{Drawing}
 use Rattle.sched_draw.specs.declared.priorities.Priorities.{Priorities}
 
--- where the drawing stands
+-- the code's state as a `Drawing`
 abbrev pub drawing : {Z : Type 0} → Priorities Z → Drawing
 drawing p = record { order = p.order.items; points = p.points.items; generator = p.generator }

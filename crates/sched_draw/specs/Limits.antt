@@ -1,11 +1,11 @@
--- The limits of what a drawn schedule is drawn by.
+-- The limits of the parameters of drawn schedules.
 use Rattle.std.specs.Prelude.{ℕ}
 
 -- the least chance is one in 2^16: the upper half of a word has as many values
 abbrev pub most_one_in : ℕ
 most_one_in = 65_536
 
--- the greatest mean of the bursts' lengths, 2^31: the longest burst is then one choice less than 2^32
+-- the greatest mean length of bursts, 2^31: the longest burst then has 2^32 - 1 choices
 abbrev pub most_mean : ℕ
 most_mean = 2_147_483_648
 

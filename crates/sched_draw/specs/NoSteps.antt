@@ -1,4 +1,4 @@
--- No choice is drawn for no steps.
+-- No choice is drawn for 0 steps.
 use Rattle.std.specs.Prelude.{◌≡◌, ℕ, [], refl}
 use Rattle.rand_core.specs.Steps.{first_words}
 use Rattle.rand_pcg.specs.Lcg.{Lcg}

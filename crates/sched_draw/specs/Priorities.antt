@@ -1,6 +1,7 @@
--- Schedules by priorities: the harts have a random order, and the first of it that runs goes on; at change points it falls to the bottom.
--- After Burckhardt, Kothari, Musuvathi and Nagarakatte, "A Randomized Scheduler with Probabilistic Guarantees of Finding Bugs", ASPLOS 2010.
--- A choice is a function of the seed, of its place and of the states of the harts up to there: the schedule is one of a run, and not of a seed alone.
+-- Schedules by priorities: the harts have a random order, and the first of it that runs is chosen;
+-- at change points it falls to the end. After Burckhardt, Kothari, Musuvathi and Nagarakatte, "A
+-- Randomized Scheduler with Probabilistic Guarantees of Finding Bugs", ASPLOS 2010. A choice is a
+-- function of the seed, its step and the harts' states so far, so the schedule belongs to a run.
 use Rattle.std.specs.Prelude.{◌≡◌, ℕ, zero, suc, ◌+◌, ◌-◌, ◌%◌, ◌==◌, not, Bool, true, false, List, [], ◌∷◌, ◌++◌, Option, Some, None, length, filter, insert, slice_get, if◌then◌else◌}
 use Rattle.std.specs.List.{list_any}
 use Rattle.rand_pcg.specs.Lcg.{Lcg}
@@ -14,13 +15,13 @@ use Rattle.sched_draw.specs.Seeds.{generator_of}
 use Rattle.sched_draw.specs.Refusing.{is_refused}
 use Rattle.sched_draw.specs.declared.refusals.Refusals.{Refusals}
 
--- where a drawing stands: the harts, the one that goes first at the head; the places of the change points; and the generator of the words to come
+-- the state of drawing: harts by priority, change points, and the generator of the next words
 pub record Drawing : Type 0 where
   pub order : List ℕ
   pub points : List ℕ
   pub generator : Lcg
 
--- a hart joins the order, at the place that a word's remainder names: before each of those that are there, or behind them all
+-- a hart joins the order at a drawn place: before one of those in it, or after all
 unfoldable pub with_hart : ℕ → Drawing → Drawing
 with_hart hart d = record {
   order = insert d.order ((pcg32 d.generator).0 % (length d.order + 1)) hart;
@@ -28,7 +29,7 @@ with_hart hart d = record {
   generator = (pcg32 d.generator).1;
 }
 
--- so many harts join, from hart 0 on
+-- n harts join, from hart 0 on
 unfoldable pub with_harts : ℕ → Drawing → Drawing
 with_harts zero d = d
 with_harts (suc harts) d = with_hart harts (with_harts harts d)
@@ -41,12 +42,12 @@ with_point steps d = record {
   generator = (pcg32 d.generator).1;
 }
 
--- so many change points
+-- n change points
 unfoldable pub with_points : ℕ → ℕ → Drawing → Drawing
 with_points steps zero d = d
 with_points steps (suc points) d = with_point steps (with_points steps points d)
 
--- the drawing that a seed starts: the order of the harts is drawn, and then one change point less than the depth
+-- the state at a seed: the order of the harts is drawn, then `depth - 1` change points
 unfoldable pub drawing_of : ℕ → ℕ → ℕ → ℕ → Drawing
 drawing_of harts depth steps seed =
     with_points steps (depth - 1) (with_harts harts (record { order = []; points = []; generator = generator_of seed }))
@@ -61,21 +62,21 @@ abbrev pub goes : Option HartValue → Bool
 goes None = false
 goes (Some hart) = is_running hart.state
 
--- whether a hart is there and runs
+-- whether a hart exists and runs
 abbrev pub runs : List HartValue → ℕ → Bool
 runs harts number = goes (slice_get harts number)
 
--- the first hart of an order that runs; hart 0 where none does
+-- the first hart of an order that runs; hart 0 if none does
 abbrev pub first_running : List HartValue → List ℕ → ℕ
 first_running harts [] = 0
 first_running harts (number ∷ order) = if runs harts number then number else first_running harts order
 
--- the next choice is of the first hart that runs, and its store-conditional is refused where a word is one that refuses
+-- the next choice is of the first hart that runs, and refused if a word is one that refuses
 unfoldable pub next_choice : Refusals → List HartValue → Drawing → Choice
 next_choice refusals harts d =
     record { hart = first_running harts d.order; refuse = is_refused refusals (pcg32 d.generator).0 }
 
--- a hart falls to the bottom of an order
+-- a hart moved to the end of an order
 abbrev pub fallen : ℕ → List ℕ → List ℕ
 fallen hart order = filter (λ other. not (other == hart)) order ++ hart ∷ []
 
@@ -83,11 +84,11 @@ fallen hart order = filter (λ other. not (other == hart)) order ++ hart ∷ []
 abbrev pub is_point : ℕ → List ℕ → Bool
 is_point place points = list_any (λ point. point == place) points
 
--- the order behind a choice of a hart
+-- the order after a choice of a hart
 abbrev pub order_after : ℕ → ℕ → Drawing → List ℕ
 order_after place hart d = if is_point place d.points then fallen hart d.order else d.order
 
--- the drawing behind the choice at a place
+-- the state after the choice at a step
 unfoldable pub after_choice : ℕ → List HartValue → Drawing → Drawing
 after_choice place harts d = record {
   order = order_after place (first_running harts d.order) d;
@@ -95,14 +96,14 @@ after_choice place harts d = record {
   generator = (pcg32 d.generator).1;
 }
 
--- so many choices, from a place on, of a run from a world: each is made where those before it have led
+-- the next n choices of a run from a world and a step on, each made in the world before it
 unfoldable pub choices_drawn : Refusals → ℕ → ℕ → Drawing → World → List Choice
 choices_drawn refusals place zero d world = []
 choices_drawn refusals place (suc steps) d world =
     next_choice refusals world.harts d
     ∷ choices_drawn refusals (place + 1) steps (after_choice place world.harts d) (step world (next_choice refusals world.harts d))
 
--- the choices of a run of so many steps from a world, by the priorities that a seed draws
+-- the choices of a run of n steps from a world, by the priorities that a seed draws
 abbrev pub priority_choices : World → ℕ → ℕ → Refusals → ℕ → ℕ → List Choice
 priority_choices world harts depth refusals steps seed = choices_drawn refusals 0 steps (drawing_of harts depth steps seed) world
 

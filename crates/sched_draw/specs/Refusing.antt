@@ -1,4 +1,4 @@
--- Which choices of a drawn schedule refuse a store-conditional, and schedules drawn evenly with such refusals.
+-- Which choices of a drawn schedule refuse an SC, and even schedules with such refusals.
 use Rattle.std.specs.Prelude.{◌≡◌, ℕ, ◌/◌, ◌%◌, ◌==◌, Bool, false, List, map}
 use Rattle.rand_core.specs.Steps.{first_words}
 use Rattle.rand_pcg.specs.Lcg.{Lcg}
@@ -8,24 +8,24 @@ use Rattle.sched_draw.specs.Seeds.{generator_of}
 use Rattle.sched_draw.specs.declared.refusals.Refusals.{Refusals}
 use Rattle.sched_draw.specs.declared.refusals.Refusals.TheVariants.{Never, OneIn}
 
--- whether a drawn word refuses a store-conditional: where its upper half is a multiple of the number that the chance is one in
+-- whether a drawn word refuses an SC: its upper half is a multiple of n, for one in n
 unfoldable pub is_refused : Refusals → ℕ → Bool
 is_refused Never word = false
 is_refused (OneIn chance) word = word / 65536 % chance.one_in == 0
 
--- refusals with the chance of one in so many
+-- refusals with a chance of one in n
 abbrev pub IsOneIn : ℕ → Refusals → Type 0
 IsOneIn n Never = ⊥
 IsOneIn n (OneIn chance) = chance.one_in ≡ n
 
--- the choice that a drawn word stands for: its hart is the word's remainder by the number of harts
+-- the choice of a drawn word: its hart is the word's remainder by the number of harts
 unfoldable pub choice_of_word : Refusals → ℕ → ℕ → Choice
 choice_of_word refusals harts word = record { hart = word % harts; refuse = is_refused refusals word }
 
--- the choices that the next words of a generator stand for
+-- the choices of the next words of a generator
 unfoldable pub choices_drawn : Refusals → ℕ → ℕ → Lcg → List Choice
 choices_drawn refusals harts steps generator = map (choice_of_word refusals harts) (first_words pcg32 steps generator)
 
--- so many steps that the generator of a seed draws, a word each
+-- the choices of n steps that the generator of a seed draws, one word each
 abbrev pub even_choices : Refusals → ℕ → ℕ → ℕ → List Choice
 even_choices refusals harts steps seed = choices_drawn refusals harts steps (generator_of seed)

@@ -15,8 +15,8 @@ use Rattle.sched_draw.specs.declared.schedule.Draw.{Draw}
 use Rattle.sched_draw.specs.declared.schedule.Schedule.{Schedule}
 use Rattle.sched_draw.specs.declared.schedule.Schedule.TheVariants.{Turns, Only, Seeded}
 
--- so many choices of so many harts that a seed draws for a run from a world, by the order of the
--- harts and the refusals
+-- the choices that a seed draws for a run from a world, given the order of the harts and the
+-- refusals
 abbrev pub ordered_choices : Order → Refusals → World → ℕ → ℕ → ℕ → List Choice
 ordered_choices Even refusals world harts steps seed = even_choices refusals harts steps seed
 ordered_choices (Bursts mean) refusals world harts steps seed =
@@ -24,36 +24,36 @@ ordered_choices (Bursts mean) refusals world harts steps seed =
 ordered_choices (Priorities depth) refusals world harts steps seed =
     priority_choices world harts depth.number refusals steps seed
 
--- and so by how it draws them
+-- the same, given how the seed draws
 unfoldable pub drawn_choices : Draw → World → ℕ → ℕ → ℕ → List Choice
 drawn_choices draw world harts steps seed =
     ordered_choices draw.order draw.refusals world harts steps seed
 
--- so many choices of so many harts that a schedule gives for a run from a world
+-- the choices that a schedule gives for a run from a world
 abbrev pub choices_of : Schedule → World → ℕ → ℕ → List Choice
 choices_of Turns world harts steps = turns harts steps
 choices_of (Only hart) world harts steps = alone hart steps
 choices_of (Seeded seed draw) world harts steps = drawn_choices draw world harts steps seed
 
--- whether an order depends on how the harts of a run stand
+-- whether an order depends on the harts' states in a run
 abbrev pub follows : Order → Bool
 follows Even = false
 follows (Bursts mean) = false
 follows (Priorities depth) = true
 
--- whether the choices of a schedule depend on the run that they are of
+-- whether the choices of a schedule depend on the run
 abbrev pub follows_run : Schedule → Bool
 follows_run Turns = false
 follows_run (Only hart) = false
 follows_run (Seeded seed draw) = follows draw.order
 
--- whether a schedule is one of so many harts: there are some, and the one that is named is one of them
+-- whether a schedule is for n harts: there is at least one, and the named one exists
 abbrev pub is_of_harts : Schedule → ℕ → Bool
 is_of_harts Turns harts = nat_lt 0 harts
 is_of_harts (Only hart) harts = nat_lt hart harts
 is_of_harts (Seeded seed draw) harts = nat_lt 0 harts
 
--- the run over a list of choices leads from a world to a world, and these are the harts that it
+-- the run over a list of choices leads from one world to another, and these are the harts that it
 -- chooses
 abbrev pub RanOver : List Choice → World → World → Harts → Type 0
 RanOver choices old new chosen = (new ≡ run old choices) × ((k : ℕ) → chosen k ≡ is_chosen choices k)

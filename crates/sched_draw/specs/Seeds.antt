@@ -6,19 +6,19 @@ use Rattle.rand_pcg.specs.Lcg.{Lcg}
 use Rattle.rand_pcg.specs.Pcg.{pcg32, pcg32_of_seed}
 use Rattle.machine.specs.declared.choice.Choice.{Choice}
 
--- the choice that a drawn word stands for: its hart is the word's remainder by the number of harts, and its
--- store-conditional is refused where the lowest four bits of the word's upper half are 0
+-- the choice of a drawn word: its hart is the word's remainder by the number of harts, and its SC
+-- is refused if the lowest four bits of the word's upper half are 0
 unfoldable pub choice_of_word : ℕ → ℕ → Choice
 choice_of_word harts word = record { hart = word % harts; refuse = word / 65536 % 16 == 0 }
 
--- the choices that the next words of a generator stand for
+-- the choices of the next words of a generator
 unfoldable pub choices_drawn : ℕ → ℕ → Lcg → List Choice
 choices_drawn harts steps generator = map (choice_of_word harts) (first_words pcg32 steps generator)
 
--- the generator that a seed starts
+-- the generator at a seed
 unfoldable pub generator_of : ℕ → Lcg
 generator_of seed = pcg32_of_seed (pcg32_seed 16 seed)
 
--- so many steps that the generator of a seed draws, a word each
+-- the choices of n steps that the generator of a seed draws, one word each
 abbrev pub seeded_choices : ℕ → ℕ → ℕ → List Choice
 seeded_choices harts steps seed = choices_drawn harts steps (generator_of seed)

@@ -1,4 +1,4 @@
--- Schedules that nothing draws: the harts by turns, and one hart alone.
+-- Schedules without draws: the harts in turn, and one hart alone.
 use Rattle.std.specs.Prelude.{ℕ, ◌%◌, false, List, map}
 use Rattle.std.specs.List.{range_with_len}
 use Rattle.machine.specs.declared.choice.Choice.{Choice}
@@ -7,18 +7,18 @@ use Rattle.machine.specs.declared.choice.Choice.{Choice}
 abbrev pub plain_choice : ℕ → Choice
 plain_choice hart = record { hart = hart; refuse = false }
 
--- so many steps of the harts by turns, from a step on: step i is of hart i mod harts
+-- n steps of the harts in turn, from a step on: step i is of hart i mod harts
 abbrev pub turns_from : ℕ → ℕ → ℕ → List Choice
 turns_from step harts steps = map (λ i. plain_choice (i % harts)) (range_with_len step steps)
 
--- so many steps of the harts by turns, from hart 0 on
+-- n steps of the harts in turn, from hart 0 on
 abbrev pub turns : ℕ → ℕ → List Choice
 turns harts steps = turns_from 0 harts steps
 
--- so many steps of one hart, from a step on
+-- n steps of one hart, from a step on
 abbrev pub alone_from : ℕ → ℕ → ℕ → List Choice
 alone_from step hart steps = map (λ i. plain_choice hart) (range_with_len step steps)
 
--- so many steps of one hart
+-- n steps of one hart
 abbrev pub alone : ℕ → ℕ → List Choice
 alone hart steps = alone_from 0 hart steps

@@ -1,4 +1,4 @@
-//! Choices in bursts, drawn one at a time.
+//! Schedules in bursts, drawn one choice at a time.
 
 ghost use Rattle.std.specs.Prelude.{◌≡◌, ℕ, ◌+◌, ◌-◌, ◌*◌, ◌%◌, ◌<◌, ◌≤◌};
 ghost use Rattle.sched_draw.specs.Limits.{most_mean};
@@ -14,7 +14,7 @@ use rand_core::utils::NextWord;
 use rand_pcg::Lcg64Xsh32;
 use std::marker::Model;
 
-/// Choices in bursts that are drawn from a seed. A contract sees where the drawing stands.
+/// The state of drawing choices in bursts from a seed.
 #[derive(Drop)]
 pub(crate) struct Bursts {
     harts: u32,
@@ -41,8 +41,7 @@ impl Model for Bursts {
 }
 
 impl Bursts {
-    /// The drawing that a seed starts, of bursts of so many harts and of this mean length, whose
-    /// choices refuse so.
+    /// The state at a seed, with bursts of this mean length and these refusals.
     #[tactic(auto, unfolding(crate::specs::Bursts::drawing_of))]
     pub(crate) fn new(harts: u32, mean: Mean, refusals: Refusals, seed: u64) -> Bursts
         requires { 0 < harts }
@@ -59,7 +58,7 @@ impl Bursts {
         }
     }
 
-    // Draws a burst where none is left: its hart by one word, its length by the next.
+    // Draws a burst if none is left: one word for its hart, the next for its length.
     #[tactic(auto, unfolding(crate::specs::Bursts::burst_drawn))]
     fn begin_burst(&mut self)
         ensures state { self.new ≡ in_burst self.old }
@@ -73,8 +72,8 @@ impl Bursts {
         }
     }
 
-    // Draws the next choice: one word says whether its store-conditional is refused, and where a burst
-    // begins two words before it name the hart and the length.
+    // Draws the next choice. One word decides whether its store-conditional is refused; if a burst
+    // begins, two words before it give the hart and the length.
     fn next_choice(&mut self) -> Choice
         ensures choice { result ≡ next_choice self.old }
         ensures state { self.new ≡ after_choice self.old }

@@ -3,7 +3,7 @@
 ghost use Rattle.std.specs.Prelude.{◌≡◌, ◌<◌, ◌≤◌, ◌⊎◌, MatchOption};
 ghost use Rattle.sched_draw.specs.Limits.{most_one_in};
 
-/// The least chance is one in so many: as many as there are upper halves of a word.
+/// The least chance is one in this: an upper half of a word has as many values.
 pub const MOST_ONE_IN: u32 = 65_536;
 
 /// The chance that a choice refuses its store-conditional: one in 1 to `MOST_ONE_IN`.
@@ -14,7 +14,7 @@ pub struct Chance {
 }
 
 impl Chance {
-    /// A chance of one in so many: `None` just where that would be 0 or greater than `MOST_ONE_IN`.
+    /// A chance of one in `one_in`; `None` exactly if that is 0 or greater than `MOST_ONE_IN`.
     pub fn new(one_in: u32) -> Option<Chance>
         ensures { MatchOption result ((one_in ≡ 0) ⊎ (most_one_in < one_in)) (λ chance. chance.one_in ≡ one_in) }
     {
@@ -24,7 +24,7 @@ impl Chance {
         Some(Chance { one_in })
     }
 
-    /// One in how many.
+    /// The chance is one in this.
     pub fn one_in(self) -> u32
         ensures is { result ≡ self.one_in }
         ensures some { 0 < result }

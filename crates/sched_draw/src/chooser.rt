@@ -1,4 +1,4 @@
-//! Where the choices of a run come from, one at a time.
+//! The sources of a run's choices, one choice at a time.
 
 ghost use Rattle.std.specs.Prelude.{◌≡◌, ◌+◌, ◌<◌, ℕ, List, [], ◌∷◌, IfOk, length, map};
 ghost use Rattle.hart_step.specs.Hart.{hart_of};
@@ -9,15 +9,15 @@ use hart_step::Hart;
 use machine::Choice;
 use std::alloc::AllocError;
 
-/// Where the choices of a run come from. Each is asked for when its step comes.
+/// A source of a run's choices. Each is asked for when its step comes.
 pub trait Chooser: Drop {
-    /// So many choices of a run that goes on from a world, the first of them at a step.
+    /// The next choices, from a step and a world on.
     ghost choices: { Self → ℕ → ℕ → World → List Choice };
 
-    /// Whether it chooses from so many harts.
+    /// Whether it chooses among this number of harts.
     ghost IsFor: { Self → ℕ → Type 0 };
 
-    /// The choice at a step, where the harts stand so. Refused for want of memory alone.
+    /// The choice at a step, given the harts' states. The only error is out of memory.
     fn next(&mut self, step: u64, harts: &[Hart]) -> Result<Choice, AllocError>
         requires { IsFor self.old (length harts.now) }
         ensures chooses { IfOk result (λ choice. (n : ℕ) (w : World) → w.harts ≡ map hart_of harts.now
@@ -25,16 +25,16 @@ pub trait Chooser: Drop {
         ensures within { IfOk result (λ choice. choice.hart < length harts.now) }
         ensures stays { IfOk result (λ _. IsFor self.new (length harts.now)) };
 
-    /// No choice of no steps.
+    /// No choices for 0 steps.
     ghost none: { (c : Self) (step : ℕ) (w : World) → choices c step 0 w ≡ [] };
 }
 
-/// Where choices come from that are the same in each run.
+/// A source of choices that are the same in each run.
 pub trait Drawer: Drop {
-    /// So many choices, the first of them at a step.
+    /// The next choices, from a step on.
     ghost drawn: { Self → ℕ → ℕ → List Choice };
 
-    /// From how many harts it draws.
+    /// Number of harts that it draws from.
     ghost harts: { Self → ℕ };
 
     /// The choice at a step.
@@ -43,7 +43,7 @@ pub trait Drawer: Drop {
         ensures within { result.hart < harts self.old }
         ensures stays { harts self.new ≡ harts self.old };
 
-    /// No choice of no steps.
+    /// No choices for 0 steps.
     ghost none: { (d : Self) (step : ℕ) → drawn d step 0 ≡ [] };
 }
 

@@ -1,4 +1,4 @@
-//! Choices that are drawn from all harts, a word each.
+//! Choices drawn evenly from all harts, one word each.
 
 ghost use Rattle.std.specs.Prelude.{◌≡◌, ◌<◌, ◌%◌};
 ghost use Rattle.sched_draw.specs.Seeds.{generator_of};
@@ -18,14 +18,14 @@ pub fn seeded_generator(seed: u64) -> Lcg64Xsh32
     Lcg64Xsh32::seed_from_u64(seed)
 }
 
-// The hart that a word stands for: its remainder by the number of harts, which is not 0.
+// The hart of a word: the remainder by the number of harts, which is not 0.
 #[inline(always)]
 fn hart_of_word(word: u32, harts: u32) -> u32
     requires { 0 < harts }
     ensures { result ≡ word % harts }
 {
-    // By a power of two that is a mask: a division by a number that the compiler doesn't know takes
-    // ten times as long, and the next step waits for it.
+    // For a power of two this is a mask. A division by a number that the compiler doesn't know
+    // takes ten times as long, and the next step waits for it.
     match harts {
         2 => word % 2,
         4 => word % 4,
@@ -36,8 +36,8 @@ fn hart_of_word(word: u32, harts: u32) -> u32
     }
 }
 
-/// Each choice is drawn from all harts, and one in 16 refuses its store-conditional: where
-/// `(word div 65536) mod 16` is 0.
+/// Draws each choice from all harts; one in 16 refuses its store-conditional: if `(word div 65536)
+/// mod 16` is 0.
 #[derive(Drop)]
 pub(crate) struct Usual {
     harts: u32,
@@ -46,7 +46,7 @@ pub(crate) struct Usual {
 }
 
 impl Usual {
-    /// The drawing that a seed starts, of so many harts.
+    /// The state at a seed.
     pub(crate) fn new(harts: u32, seed: u64) -> Usual
         requires { 0 < harts }
         ensures harts { result.harts ≡ harts }
@@ -79,7 +79,7 @@ impl Drawer for Usual {
     }
 }
 
-/// Each choice is drawn from all harts, and refuses its store-conditional where the refusals say so of
+/// Draws each choice from all harts; it refuses its store-conditional if the refusals say so for
 /// its word.
 #[derive(Drop)]
 pub(crate) struct Even {
@@ -90,7 +90,7 @@ pub(crate) struct Even {
 }
 
 impl Even {
-    /// The drawing that a seed starts, of so many harts, whose choices refuse so.
+    /// The state at a seed, with these refusals.
     pub(crate) fn new(harts: u32, refusals: Refusals, seed: u64) -> Even
         requires { 0 < harts }
         ensures harts { result.harts ≡ harts }

@@ -13,8 +13,8 @@ ghost use Rattle.sched_draw.specs.declared.order.Order.TheVariants as orders;
 ghost use Rattle.sched_draw.specs.declared.refusals.Refusals.{Refusals};
 ghost use Rattle.sched_draw.specs.declared.refusals.Refusals.TheVariants as refusing;
 
-/// The usual refusals are those of a plain seed: a word refuses where the lowest four bits of its upper half are 0, and the choices
-/// that are drawn evenly are the seed's.
+/// The usual refusals are those of a plain seed: a word refuses if the lowest four bits of its
+/// upper half are 0, and the choices that are drawn evenly are the seed's.
 pub fn usual_refusals()
     ensures words { (refusals : Refusals) (word : ℕ) → IsOneIn 16 refusals → is_refused refusals word ≡ (word / 65536 % 16 == 0) }
     ensures choices { (refusals : Refusals) (harts steps seed : ℕ) → IsOneIn 16 refusals
@@ -24,52 +24,54 @@ pub fn usual_refusals()
         ≡ seeded_choices harts steps seed }
 {}
 
-/// Where nothing is ever refused, no word and no choice refuses.
+/// With `Never` no word and no choice refuses.
 pub fn never_refuses()
     ensures words { (word : ℕ) → is_refused refusing.Never word ≡ false }
     ensures choices { (harts steps seed : ℕ) → All (λ c. c.refuse ≡ false) (even_choices refusing.Never harts steps seed) }
 {}
 
-/// Where one in 1 is refused, each word and each choice refuses.
+/// With one in 1 every word and every choice refuses.
 pub fn one_in_1_refuses_each()
     ensures words { (refusals : Refusals) (word : ℕ) → IsOneIn 1 refusals → is_refused refusals word ≡ true }
     ensures choices { (refusals : Refusals) (harts steps seed : ℕ) → IsOneIn 1 refusals
         → All (λ c. c.refuse ≡ true) (even_choices refusals harts steps seed) }
 {}
 
-/// A burst is of one hart: as many next choices as are left of it all name its hart.
+/// A burst is of one hart: the next choices, as many as are left of it, all name its hart.
 pub fn a_burst_is_of_one_hart()
     ensures { (steps : ℕ) (d : bursts.Drawing) → steps ≤ (bursts.in_burst d).left
         → All (λ c. c.hart ≡ (bursts.in_burst d).hart) (bursts.choices_drawn steps d) }
 {}
 
-/// A burst that begins is of a hart that is there, and has 1 to `2 * mean - 1` choices.
+/// A burst that begins is of an existing hart, and has 1 to `2 * mean - 1` choices.
 pub fn a_burst_begins_within_its_bounds()
     ensures there { (d : bursts.Drawing) → 0 < d.harts → (bursts.burst_drawn d).hart < d.harts }
     ensures some { (d : bursts.Drawing) → 0 < (bursts.burst_drawn d).left }
     ensures most { (d : bursts.Drawing) → 0 < d.mean → (bursts.burst_drawn d).left ≤ 2 * d.mean - 1 }
 {}
 
-/// The order that a seed draws has each hart, and no other number; as it is as long as there are harts, it has each once.
+/// The order that a seed draws has each hart, and no other number; as it is as long as the number
+/// of harts, it has each once.
 pub fn each_hart_has_a_place()
     ensures count { (harts depth steps seed : ℕ) → length (drawing_of harts depth steps seed).order ≡ harts }
     ensures each { (harts depth steps seed hart : ℕ) → hart < harts → Contains (drawing_of harts depth steps seed).order hart }
     ensures there { (harts depth steps seed : ℕ) → All (λ h. h < harts) (drawing_of harts depth steps seed).order }
 {}
 
-/// A seed draws one change point less than the depth, each at a place of the run.
+/// A seed draws `depth - 1` change points, each at a step of the run.
 pub fn change_points_are_places()
     ensures count { (harts depth steps seed : ℕ) → length (drawing_of harts depth steps seed).points ≡ depth - 1 }
     ensures there { (harts depth steps seed : ℕ) → 0 < steps → All (λ p. p < steps) (drawing_of harts depth steps seed).points }
 {}
 
-/// A hart that has stopped is never chosen while another runs.
+/// A stopped hart is never chosen while another runs.
 pub fn a_stopped_hart_waits()
     ensures { (world : World) (refusals : Refusals) (depth steps seed : ℕ)
         → NeverWaits world (priority_choices world (length world.harts) depth refusals steps seed) }
 {}
 
-/// A hart that falls at a change point is at the bottom: the next choice, wherever the harts stand by then, is not of it while another runs.
+/// A hart that falls at a change point is last: the next choice, whatever the harts' states by
+/// then, is not of it while another runs.
 pub fn a_change_point_lets_a_hart_fall()
     ensures { (refusals : Refusals) (place other : ℕ) (harts later : List HartValue) (d : Drawing) → is_point place d.points ≡ true
         → Contains d.order other → other ≢ (next_choice refusals harts d).hart → runs later other ≡ true

@@ -1,5 +1,5 @@
-//! Schedules: which hart goes next, and which store-conditionals are refused; their choices as lists,
-//! and a machine's runs over them.
+//! Schedules: which hart takes each step, and which store-conditionals are refused; their choices
+//! as lists, and a machine's runs over them.
 #![tactic(auto)]
 
 pub use chance::{Chance, MOST_ONE_IN};

@@ -1,4 +1,4 @@
-//! The choices of a schedule, as a list.
+//! The choices of a schedule as a list.
 
 ghost use Rattle.std.specs.Prelude.{◌≡◌, ◌<◌, true, false, IfOk, length};
 ghost use Rattle.machine.specs.Machine.{world};
@@ -16,8 +16,8 @@ use machine::{Choice, Machine};
 use mem_store::Store;
 use std::alloc::{AllocError, Allocator};
 
-/// So many choices of a schedule that is the same in each run, of so many harts. Refused for want of
-/// memory alone.
+/// The first `steps` choices of a schedule that is the same in each run. The only error is out of
+/// memory.
 pub fn list_schedule<A: Allocator>(
     alloc: A,
     schedule: Schedule,
@@ -35,7 +35,7 @@ pub fn list_schedule<A: Allocator>(
     }
 }
 
-// The same of choices that a seed draws.
+// As `list_schedule`, for choices that a seed draws.
 #[tactic(auto, unfolding(crate::specs::Schedules::drawn_choices))]
 fn list_of_seed<A: Allocator>(
     alloc: A,
@@ -54,12 +54,12 @@ fn list_of_seed<A: Allocator>(
         Order::Bursts(mean) => {
             list_drawn(alloc, Bursts::new(harts, mean, refusals, seed), steps)
         }
-        // These are not the same in each run.
+        // These depend on the run.
         Order::Priorities(_) => unreachable!(),
     }
 }
 
-// So many choices of a drawer.
+// The next choices of a drawer.
 fn list_drawn<D: Drawer, A: Allocator>(
     alloc: A,
     drawer: D,
@@ -75,8 +75,8 @@ fn list_drawn<D: Drawer, A: Allocator>(
     Ok(choices)
 }
 
-/// So many choices of a schedule in the run of a machine of so many harts. Where they depend on the
-/// run, the machine has done it. Refused for want of memory alone.
+/// The choices of a schedule in a machine's run. If they depend on the run, the machine has done
+/// it. The only error is out of memory.
 #[tactic(auto, unfolding(crate::specs::Schedules::drawn_choices))]
 pub fn list_run<S: Store, A: Allocator + Copy>(
     alloc: A,
@@ -104,7 +104,7 @@ pub fn list_run<S: Store, A: Allocator + Copy>(
     list_by(alloc, machine, chooser, steps)
 }
 
-// So many choices of a machine's run, each made when its step comes.
+// The choices of a machine's run, each made when its step comes.
 fn list_by<S: Store, A: Allocator, C: Chooser>(
     alloc: A,
     machine: &mut Machine<S, A>,

@@ -1,15 +1,15 @@
-//! In which order the harts of a drawn schedule go.
+//! The order in which a drawn schedule chooses harts.
 
 ghost use Rattle.std.specs.Prelude.{◌≡◌, ◌<◌, ◌≤◌, ◌⊎◌, MatchOption};
 ghost use Rattle.sched_draw.specs.Limits.{most_depth, most_mean};
 
-/// The greatest mean of the bursts' lengths: the longest burst is then one choice less than 2^32.
+/// The greatest mean length of bursts: the longest burst then has 2^32 - 1 choices.
 pub const MOST_MEAN: u32 = 2_147_483_648;
 
-/// The greatest depth: a schedule has fewer change points.
+/// The greatest depth. A schedule has one change point less than its depth.
 pub const MOST_DEPTH: u32 = 1_000;
 
-/// How many choices a burst has in the mean: 1 to `MOST_MEAN`.
+/// The mean length of bursts in choices: 1 to `MOST_MEAN`.
 #[derive(Clone, Copy, Drop)]
 pub struct Mean {
     choices: u32,
@@ -17,7 +17,7 @@ pub struct Mean {
 }
 
 impl Mean {
-    /// A mean of so many choices: `None` just where it would be 0 or greater than `MOST_MEAN`.
+    /// A mean of `choices`; `None` exactly if that is 0 or greater than `MOST_MEAN`.
     pub fn new(choices: u32) -> Option<Mean>
         ensures { MatchOption result ((choices ≡ 0) ⊎ (most_mean < choices)) (λ mean. mean.choices ≡ choices) }
     {
@@ -27,7 +27,7 @@ impl Mean {
         Some(Mean { choices })
     }
 
-    /// How many choices.
+    /// The mean as a number of choices.
     pub fn choices(self) -> u32
         ensures is { result ≡ self.choices }
         ensures some { 0 < result }
@@ -37,7 +37,7 @@ impl Mean {
     }
 }
 
-/// How deep a schedule by priorities looks, 1 to `MOST_DEPTH`: it has one change point less.
+/// The depth of a schedule by priorities, 1 to `MOST_DEPTH`: it has one change point less.
 #[derive(Clone, Copy, Drop)]
 pub struct Depth {
     number: u32,
@@ -45,7 +45,7 @@ pub struct Depth {
 }
 
 impl Depth {
-    /// A depth: `None` just where it would be 0 or greater than `MOST_DEPTH`.
+    /// A depth; `None` exactly if the number is 0 or greater than `MOST_DEPTH`.
     pub fn new(number: u32) -> Option<Depth>
         ensures { MatchOption result ((number ≡ 0) ⊎ (most_depth < number)) (λ depth. depth.number ≡ number) }
     {
@@ -65,22 +65,22 @@ impl Depth {
     }
 }
 
-/// Which hart a seed draws for each choice.
+/// How a seed draws the hart of each choice.
 #[derive(Clone, Copy, Drop)]
 pub enum Order {
-    /// Each is drawn from all harts.
+    /// From all harts, for each choice.
     Even,
     /// In bursts of one hart, of this mean length.
     Bursts(Mean),
-    /// By priorities, of this depth: they depend on which harts have stopped, so they are those of a
-    /// run.
+    /// By priorities, of this depth. Such choices depend on which harts have stopped, so they are
+    /// those of a run.
     Priorities(Depth),
 }
 
 impl Order {
     ghost use Rattle.sched_draw.specs.Schedules.{follows};
 
-    /// Whether it depends on how the harts of a run stand.
+    /// Whether the choices depend on the harts' states in a run.
     pub fn follows(self) -> bool
         ensures { result ≡ follows self }
     {

@@ -1,4 +1,4 @@
-//! Choices by priorities, drawn one at a time.
+//! Schedules by priorities, drawn one choice at a time.
 
 ghost use Rattle.std.specs.Prelude.{◌≡◌, ◌-◌, ◌<◌, IfOk, map};
 ghost use Rattle.hart_step.specs.Hart.{hart_of};
@@ -20,17 +20,17 @@ use rand_core::utils::NextWord;
 use rand_pcg::Lcg64Xsh32;
 use std::alloc::{AllocError, Allocator};
 
-/// The harts by priorities that are drawn from a seed. A contract sees where the drawing stands.
+/// The state of drawing choices by priorities from a seed.
 #[derive(Drop)]
 pub(crate) struct Priorities<A: Allocator> {
-    // The harts, the one that goes first at the head.
+    // The harts, highest priority first.
     order: Vec<u32, A>,
-    // The places at which the hart that was chosen falls to the bottom.
+    // The steps at which the chosen hart falls to the lowest priority.
     points: Vec<u64, A>,
     generator: Lcg64Xsh32,
 }
 
-// Whether a hart is there and runs.
+// Whether a hart exists and runs.
 fn runs(harts: &[Hart], number: u32) -> bool
     ensures { result ≡ runs (map hart_of harts.now) number }
 {
@@ -40,7 +40,7 @@ fn runs(harts: &[Hart], number: u32) -> bool
     }
 }
 
-// The first hart of an order that runs; hart 0 where none does.
+// The first hart of an order that runs; hart 0 if none does.
 fn first_running(order: &[u32], harts: &[Hart]) -> u32
     ensures { result ≡ first_running (map hart_of harts.now) order.now }
 {
@@ -52,7 +52,7 @@ fn first_running(order: &[u32], harts: &[Hart]) -> u32
     0
 }
 
-// A hart falls to the bottom of an order.
+// Moves a hart to the end of an order.
 fn let_fall<A: Allocator>(order: &mut Vec<u32, A>, hart: u32) -> Result<(), AllocError>
     ensures { IfOk result (λ _. order.new.items ≡ fallen hart order.old.items) }
 {
@@ -62,8 +62,8 @@ fn let_fall<A: Allocator>(order: &mut Vec<u32, A>, hart: u32) -> Result<(), Allo
 }
 
 impl<A: Allocator + Copy> Priorities<A> {
-    /// The drawing that a seed starts: the order of so many harts, and one change point less than the
-    /// depth, each at one of so many places.
+    /// The state at a seed: the order of the harts, and one change point less than the depth, each
+    /// at one of `steps` steps.
     pub(crate) fn new(
         alloc: A,
         harts: u32,
@@ -87,7 +87,7 @@ impl<A: Allocator + Copy> Priorities<A> {
 }
 
 impl<A: Allocator> Priorities<A> {
-    // Gives a hart its place among those that have one.
+    // Inserts a hart at a drawn place in the order.
     fn draw_place(&mut self, hart: u32) -> Result<(), AllocError>
         ensures { IfOk result (λ _. drawing self.new ≡ with_hart hart (drawing self.old)) }
     {
@@ -97,7 +97,7 @@ impl<A: Allocator> Priorities<A> {
         Ok(())
     }
 
-    // Gives each of so many harts its place.
+    // Inserts all harts at drawn places.
     fn draw_order(&mut self, harts: u32) -> Result<(), AllocError>
         ensures { IfOk result (λ _. drawing self.new ≡ with_harts harts (drawing self.old)) }
     {
@@ -117,7 +117,7 @@ impl<A: Allocator> Priorities<A> {
         Ok(())
     }
 
-    // Draws so many change points.
+    // Draws `points` change points.
     fn draw_points(&mut self, points: u32, steps: u64) -> Result<(), AllocError>
         requires { 0 < steps }
         ensures { IfOk result (λ _. drawing self.new ≡ with_points steps points (drawing self.old)) }
@@ -128,7 +128,7 @@ impl<A: Allocator> Priorities<A> {
         Ok(())
     }
 
-    // At a change point lets a hart fall to the bottom.
+    // At a change point, moves the hart to the end of the order.
     fn pass(&mut self, place: u64, hart: u32) -> Result<(), AllocError>
         ensures { IfOk result (λ _. drawing self.new
             ≡ record (drawing self.old) { order = order_after place hart (drawing self.old) }) }
@@ -139,8 +139,9 @@ impl<A: Allocator> Priorities<A> {
         Ok(())
     }
 
-    // Draws the choice at a place, where the harts stand so: the first in the order that runs. One word
-    // says whether its store-conditional is refused; at a change point the hart then falls to the bottom.
+    // Draws the choice at a step, given the harts' states: the first hart of the order that runs.
+    // One word decides whether its store-conditional is refused; at a change point the hart then
+    // falls to the end of the order.
     fn next_choice(
         &mut self,
         place: u64,
@@ -162,17 +163,17 @@ impl<A: Allocator> Priorities<A> {
     }
 }
 
-/// Choices by priorities, of which these refuse their store-conditional.
+/// A source of choices by priorities, with these refusals.
 #[derive(Drop)]
 pub(crate) struct ByPriorities<A: Allocator> {
-    // Boxed, since its order is handed on by address: beside it the refusals would be read from memory
-    // at each step, which takes 7 instructions of the host more.
+    // Boxed, since its order is passed by address: beside it the refusals would be read from memory
+    // at each step, which takes 7 more host instructions.
     priorities: Box<Priorities<A>, A>,
     refusals: Refusals,
 }
 
 impl<A: Allocator + Copy> ByPriorities<A> {
-    /// What a seed draws for a run of so many steps of so many harts, of this depth.
+    /// The state at a seed, for a run of `steps` steps with this depth.
     pub(crate) fn new(
         alloc: A,
         harts: u32,
@@ -185,7 +186,7 @@ impl<A: Allocator + Copy> ByPriorities<A> {
             ≡ priority_choices w harts depth.number refusals steps seed) }
         ensures there { IfOk result (λ p. All (λ h. h < harts) p.priorities.value.order.items) }
     {
-        // A change point is at one of the steps: where there are none, it is as for one.
+        // A change point is at one of the steps; for 0 steps they are drawn as for one.
         let priorities = Priorities::new(alloc, harts, depth, steps.max(1), seed)?;
         Ok(ByPriorities {
             priorities: Box::new(alloc, priorities)?,
@@ -201,6 +202,7 @@ impl<A: Allocator> Chooser for ByPriorities<A> {
 
     ghost none = { λ p step w. no_priorities p.refusals step (drawing p.priorities.value) w };
 
+    #[inline(always)]
     fn next(&mut self, step: u64, harts: &[Hart]) -> Result<Choice, AllocError> {
         let choice = self.priorities.next_choice(step, harts, self.refusals)?;
         Ok(choice)

@@ -8,14 +8,14 @@ use crate::chance::Chance;
 /// Which choices of a drawn schedule refuse a store-conditional.
 #[derive(Clone, Copy, Drop)]
 pub enum Refusals {
-    /// None.
+    /// None of them.
     Never,
-    /// Each with this chance.
+    /// Each of them with this chance.
     OneIn(Chance),
 }
 
 impl Refusals {
-    /// One in 16, as where nothing else is asked for.
+    /// One in 16, the default.
     pub fn usual() -> Refusals
         ensures { IsOneIn 16 result }
     {
@@ -33,7 +33,8 @@ impl Refusals {
         }
     }
 
-    /// Whether a drawn word refuses a store-conditional: where its upper half is a multiple of the number that the chance is one in.
+    /// Whether a drawn word refuses a store-conditional: if its upper half is a multiple of n, for
+    /// a chance of one in n.
     #[tactic(auto, unfolding(crate::specs::Refusing::is_refused))]
     pub fn refuses(self, word: u32) -> bool
         ensures { result ≡ is_refused self word }
@@ -45,8 +46,8 @@ impl Refusals {
     }
 }
 
-// Whether a number is a multiple of the one that a chance is one in. By the usual 16 that is a mask: a division by a number that the
-// compiler doesn't know takes ten times as long.
+// Whether a number is a multiple of n, for a chance of one in n. For the usual 16 this is a mask: a
+// division by a number that the compiler doesn't know takes ten times as long.
 fn is_multiple(number: u32, chance: Chance) -> bool
     ensures { result ≡ (number % chance.one_in == 0) }
 {

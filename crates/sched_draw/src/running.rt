@@ -1,4 +1,4 @@
-//! A machine's run over the choices of a schedule.
+//! A machine's run under a schedule.
 
 ghost use Rattle.std.specs.Prelude.{◌≡◌, ◌<◌, ◌≤◌, true, IfOk, length};
 ghost use Rattle.sched_run.specs.Chosen.{harts_of};
@@ -18,9 +18,9 @@ use mem_store::Store;
 use sched_run::Chosen;
 use std::alloc::{AllocError, Allocator};
 
-/// Runs a machine of so many harts over so many choices of a schedule, and answers which harts were
-/// chosen. Each choice is made when its step comes, so the list is never held. Refused for want of
-/// memory alone; the machine has then done a part of the run.
+/// Runs a machine under a schedule, and returns which harts were chosen. Each choice is made when
+/// its step comes, so the list is never held. The only error is out of memory; the machine has then
+/// done a part of the run.
 pub fn run_schedule<S: Store, A: Allocator + Copy>(
     alloc: A,
     machine: &mut Machine<S, A>,
@@ -41,8 +41,9 @@ pub fn run_schedule<S: Store, A: Allocator + Copy>(
     }
 }
 
-// The same over choices that a seed draws. With the usual refusals even choices have a drawer of their
-// own, since a step of theirs takes 13 instructions of the host less than one for any refusals.
+// As `run_schedule`, for choices that a seed draws. Even choices with the usual refusals have a
+// drawer of their own, since a step of theirs takes 13 host instructions less than one for any
+// refusals.
 #[tactic(auto, unfolding(crate::specs::Schedules::drawn_choices))]
 fn run_drawn<S: Store, A: Allocator + Copy>(
     alloc: A,
@@ -79,7 +80,7 @@ fn run_drawn<S: Store, A: Allocator + Copy>(
     }
 }
 
-// Runs a machine over so many choices, each made when its step comes.
+// Runs a machine over a chooser's choices, each made when its step comes.
 fn run_by<S: Store, A: Allocator, C: Chooser>(
     machine: &mut Machine<S, A>,
     chooser: C,

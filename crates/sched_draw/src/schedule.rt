@@ -11,7 +11,7 @@ use crate::refusals::Refusals;
 pub struct Draw {
     /// Which hart each choice is of.
     pub order: Order,
-    /// Which choices refuse a store-conditional.
+    /// Which choices refuse their store-conditional.
     pub refusals: Refusals,
 }
 
@@ -19,7 +19,7 @@ impl Draw {
     ghost use Rattle.sched_draw.specs.Refusing.{IsOneIn};
     ghost use Rattle.sched_draw.specs.declared.order.Order.TheVariants.{Even};
 
-    /// Evenly and with one refusal in 16, as where nothing else is asked for.
+    /// Even, with one refusal in 16: the default.
     pub fn usual() -> Draw
         ensures order { result.order ≡ Even }
         ensures refusals { IsOneIn 16 result.refusals }
@@ -31,12 +31,12 @@ impl Draw {
     }
 }
 
-/// Which hart goes next.
+/// A schedule.
 #[derive(Clone, Copy, Drop)]
 pub enum Schedule {
-    /// The harts by turns, from hart 0 on; no store-conditional is refused.
+    /// The harts in turn, from hart 0 on; no store-conditional is refused.
     Turns,
-    /// The hart of this number alone, from 0; no store-conditional is refused.
+    /// This hart alone, numbered from 0; no store-conditional is refused.
     Only(u32),
     /// Drawn from a seed.
     Seeded {
@@ -48,7 +48,7 @@ pub enum Schedule {
 }
 
 impl Schedule {
-    /// Whether its choices depend on the run that they are of.
+    /// Whether the choices depend on the run.
     pub fn follows_run(self) -> bool
         ensures { result ≡ follows_run self }
     {
@@ -58,7 +58,8 @@ impl Schedule {
         }
     }
 
-    /// Whether it is one of so many harts: there are some, and the one that is named is one of them.
+    /// Whether it is a schedule for this number of harts: there is at least one, and the named one
+    /// exists.
     pub fn is_of_harts(self, harts: u32) -> bool
         ensures { result ≡ is_of_harts self harts }
     {

@@ -1,11 +1,11 @@
-//! Schedules that nothing draws: the harts by turns, and one hart alone.
+//! Schedules without draws: the harts in turn, and one hart alone.
 
 ghost use Rattle.std.specs.Prelude.{◌≡◌, ◌<◌, refl};
 
 use crate::chooser::Drawer;
 use machine::Choice;
 
-/// The harts by turns: hart `i mod harts` takes step `i`, and no store-conditional is refused.
+/// The harts in turn: hart `i mod harts` takes step `i`, and no store-conditional is refused.
 #[derive(Drop)]
 pub(crate) struct Turns {
     harts: u32,
@@ -13,7 +13,7 @@ pub(crate) struct Turns {
 }
 
 impl Turns {
-    /// Turns of so many harts.
+    /// Turns of `harts` harts.
     pub(crate) fn new(harts: u32) -> Turns
         requires { 0 < harts }
         ensures { result.harts ≡ harts }
@@ -49,7 +49,7 @@ pub(crate) struct Alone {
 }
 
 impl Alone {
-    /// The hart of this number, of so many.
+    /// A hart alone, of `harts` harts.
     pub(crate) fn new(hart: u32, harts: u32) -> Alone
         requires { hart < harts }
         ensures hart { result.hart ≡ hart }

@@ -26,7 +26,7 @@ and-none : (x : Bool) → (x && false) ≡ false
 and-none true = refl
 and-none false = refl
 
--- ---- one choice more
+-- ---- one more choice
 pub added : (old new : List Choice) (c : Choice) (marked : Bool) → marked ≡ true → new ≡ old ++ c ∷ []
     → (k : ℕ) → is_chosen new k ≡ (is_chosen old k || (marked && (c.hart == k)))
 added old new c marked is e k =
@@ -51,7 +51,7 @@ same_mark [] i d e inside = absurd (omega (arith, inside))
 same_mark (m ∷ marks) zero d e inside = refl
 same_mark (m ∷ marks) (suc i) d e inside = same_mark marks i d e (omega (arith, inside))
 
--- one mark more was looked at
+-- one more mark was read
 pub one_more_mark : (marks : List Bool) (i : ℕ) (d : Bool) (old new : List Choice) → i < length marks
     → ((k : ℕ) → is_chosen new k ≡ (is_chosen old k || (get_or marks i d && (i == k))))
     → ((k : ℕ) → is_chosen old k ≡ (ltb k i && marked_at marks k))
@@ -77,7 +77,7 @@ beyond [] k past = refl
 beyond (m ∷ marks) zero past = absurd (omega (arith, past))
 beyond (m ∷ marks) (suc k) past = beyond marks k (omega (arith, past))
 
--- all marks were looked at
+-- all marks were read
 pub all_marked : (marks : List Bool) (choices : List Choice) (i : ℕ) → length marks ≤ i
     → ((k : ℕ) → is_chosen choices k ≡ (ltb k i && marked_at marks k)) → (k : ℕ) → is_chosen choices k ≡ marked_at marks k
 all_marked marks choices i past so_far k = so_far k ∙ by (ltb k i) refl
@@ -86,7 +86,7 @@ all_marked marks choices i past so_far k = so_far k ∙ by (ltb k i) refl
     by true e = refl
     by false e = sym (beyond marks k (omega (arith, past, ltb-false k i e)))
 
--- ---- one choice more, by harts
+-- ---- one more choice, by harts
 turned : (h k : ℕ) → (k == h) ≡ (h == k)
 turned h k = by (k == h) refl
   where

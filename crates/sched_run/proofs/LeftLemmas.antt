@@ -1,4 +1,5 @@
--- What is left of a choice text, one choice less and one item less, and the items that are one digit or two.
+-- What is left of a choice text, one choice less and one item less, and the items that are one
+-- digit or two.
 use Rattle.std.proofs.Common.{◌≡◌, ℕ, suc, ◌+◌, ◌*◌, ◌<◌, ◌^◌, ◌==◌, true, false, List, [], ◌∷◌, length, drop, get_or, Ok, Err, refl, arith, ap, sym, ◌∙◌, ne_eqb}
 use Rattle.std.specs.Prelude.{replicate}
 use Rattle.std.specs.declared.result.Result.{Result}
@@ -65,7 +66,7 @@ digit_left harts hart text old new none still first =
     ∙ once_less (plain hart) 1 0 (runs_after harts text new.from) (omega arith)
     ∙ ap (λ n. followed_by (plain hart ∷ []) (expanded_after (replicate n new.choice) (runs_after harts text new.from))) (sym still)
 
--- the first item from an offset on is read, and the items behind it
+-- the first item from an offset on is read, and those after it
 pub first_read : (harts from begin end behind : ℕ) (text : List ℕ) (r : Result Run ChoiceFault) → IsFirstItem from text begin end
     → run_of harts begin (span_of begin end text) ≡ r → items_from end text ≡ items_from behind text
     → runs_after harts text from ≡ value_then r (runs_after harts text behind)
@@ -102,7 +103,7 @@ digit_plain hart few =
     let return : ((hart + 48) == 13) ≡ false = ne_eqb (hart + 48) 13 (λ e. omega (arith, e, few)) in
     rw (space, tab, feed, return) refl
 
--- a byte that is no blank, and a blank behind it
+-- a byte that isn't a blank, and a blank after it
 byte_item : (from byte : ℕ) (text : List ℕ) → from + 1 < length text → get_or text from 0 ≡ byte → is_blank byte ≡ false
     → is_blank (get_or text (from + 1) 0) ≡ true
     → items_from from text ≡ record { at = from; text = byte ∷ [] } ∷ items_from (from + 2) text
@@ -118,7 +119,7 @@ byte_item from byte text inside is plain blank =
     ∙ ap (λ k. record { at = from; text = byte ∷ [] } ∷ items_of_parts k (slice_split is_blank behind)) far
     ∙ ap (λ k. record { at = from; text = byte ∷ [] } ∷ items_of_parts (from + 2) (slice_split is_blank (drop k text))) two
 
--- a digit of a hart that is there, and a blank behind it
+-- a digit of a hart that exists, and a blank after it
 pub digit_first : (harts from hart : ℕ) (text : List ℕ) → harts < 2 ^ 32 → from + 1 < length text → get_or text from 0 ≡ hart + 48 → hart < 10
     → hart < harts → is_blank (get_or text (from + 1) 0) ≡ true
     → runs_after harts text from ≡ value_then (Ok (run (plain hart) 1)) (runs_after harts text (from + 2))
@@ -144,7 +145,7 @@ two_digits_named tens ones some low high =
       count = refl;
     }
 
--- two bytes that are no blanks, and a blank behind them
+-- two bytes that aren't blanks, and a blank after them
 two_byte_item : (from a b : ℕ) (text : List ℕ) → from + 2 < length text → get_or text from 0 ≡ a → get_or text (from + 1) 0 ≡ b
     → is_blank a ≡ false → is_blank b ≡ false → is_blank (get_or text (from + 2) 0) ≡ true
     → items_from from text ≡ record { at = from; text = a ∷ b ∷ [] } ∷ items_from (from + 3) text
@@ -165,7 +166,7 @@ two_byte_item from a b text inside is_a is_b plain_a plain_b blank =
     ∙ ap (λ k. record { at = from; text = a ∷ b ∷ [] } ∷ items_of_parts k (slice_split is_blank behind)) far
     ∙ ap (λ k. record { at = from; text = a ∷ b ∷ [] } ∷ items_of_parts (from + 3) (slice_split is_blank (drop k text))) three
 
--- two digits of a hart that is there, and a blank behind them
+-- two digits of a hart that exists, and a blank after them
 pub two_digits_first : (harts from tens ones : ℕ) (text : List ℕ) → harts < 2 ^ 32 → from + 2 < length text
     → get_or text from 0 ≡ tens + 48 → get_or text (from + 1) 0 ≡ ones + 48 → 0 < tens → tens < 10 → ones < 10
     → 10 * tens + ones < harts → is_blank (get_or text (from + 2) 0) ≡ true

@@ -12,7 +12,8 @@ use Rattle.sched_run.specs.Harts.{Harts, with_hart}
 use Rattle.sched_run.specs.Leads.{LeadsTo}
 use Rattle.sched_run.proofs.ChosenLemmas.{choice_chosen}
 
--- the choices that were taken, which a text begins with and whose run has led to this world, and those that are left
+-- the choices that were taken, which a text begins with and whose run has led to this world, and
+-- those that are left
 pub record SoFar (harts : ℕ) (text : List ℕ) (left : Result (List Choice) ChoiceFault) (old now : World) (chosen : Harts) : Type 0 where
   pub done : List Choice
   pub read : choices_of harts text ≡ followed_by done left

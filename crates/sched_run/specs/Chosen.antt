@@ -1,4 +1,4 @@
--- The harts that the array of marks tells of.
+-- The harts that the array of marks stands for.
 use Rattle.sched_run.specs.Harts.{Harts, marked_at}
 use Rattle.sched_run.specs.declared.chosen.Chosen.{Chosen}
 

@@ -9,6 +9,6 @@ Harts = ℕ → Bool
 abbrev pub with_hart : Harts → ℕ → Harts
 with_hart harts h = λ k. if k == h then true else harts k
 
--- an array's entry for a hart; past its end no hart was chosen
+-- an array's entry for a hart; false past its end
 abbrev pub marked_at : List Bool → Harts
 marked_at marks k = slice_index_or marks k false

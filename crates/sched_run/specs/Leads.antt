@@ -1,4 +1,4 @@
--- What it means that a choice text was run.
+-- The run of a choice text.
 use Rattle.std.specs.Prelude.{◌≡◌, ℕ, List, Ok}
 use Rattle.machine.specs.World.{World, run}
 use Rattle.machine.specs.Chosen.{is_chosen}
@@ -6,7 +6,7 @@ use Rattle.machine.specs.declared.choice.Choice.{Choice}
 use Rattle.sched_text.specs.Reading.{choices_of}
 use Rattle.sched_run.specs.Harts.{Harts}
 
--- a text spells, for so many harts, choices whose run leads from one world to another; these harts are those that they choose
+-- a text spells choices whose run leads from one world to another, and chooses these harts
 pub record LeadsTo (harts : ℕ) (text : List ℕ) (old new : World) (chosen : Harts) : Type 0 where
   pub choices : List Choice
   pub read : choices_of harts text ≡ Ok choices

@@ -1,4 +1,4 @@
--- What is left of a choice text of which some choices were read.
+-- The choices of a text that are still to be read.
 use Rattle.std.specs.Prelude.{ℕ, ◌+◌, ◌-◌, ◌*◌, ◌^◌, false, List, length, replicate}
 use Rattle.std.specs.declared.result.Result.{Result}
 use Rattle.machine.specs.declared.choice.Choice.{Choice}
@@ -13,14 +13,14 @@ use Rattle.sched_run.specs.declared.reading.Reading.{Reading}
 abbrev pub plain : ℕ → Choice
 plain hart = record { hart = hart; refuse = false }
 
--- the runs that the items from an offset on name, for so many harts, or the first fault
+-- the runs that the items from an offset on denote, or the first fault
 abbrev pub runs_after : ℕ → List ℕ → ℕ → Result (List Run) ChoiceFault
 runs_after harts text from = values_named (run_of harts) (items_from from text)
 
--- the choices that are left: those of the item before that weren't read yet, and those of the items behind it
+-- the choices that are left: those of the previous item, then those of the items after it
 abbrev pub left_of : ℕ → List ℕ → Reading → Result (List Choice) ChoiceFault
 left_of harts text r = expanded_after (replicate r.more r.choice) (runs_after harts text r.from)
 
--- no more choices than so many can be left
+-- an upper bound on the number of choices that are left
 abbrev pub most_left : List ℕ → Reading → ℕ
 most_left text r = (length text - r.from) * 2 ^ 32 + r.more

@@ -3,6 +3,6 @@ use Rattle.std.specs.Prelude.{◌≡◌, ℕ, List, Ok}
 use Rattle.machine.specs.declared.choice.Choice.{Choice}
 use Rattle.sched_text.specs.Reading.{choices_of}
 
--- a text spells choices for so many harts
+-- a text spells choices for this number of harts
 abbrev pub IsSpelled : ℕ → List ℕ → Type 0
 IsSpelled harts text = (choices : List Choice) × (choices_of harts text ≡ Ok choices)

@@ -1,4 +1,4 @@
-//! The first fault of a choice text that may take long to run.
+//! The first fault of a choice text, found before the run.
 ghost use Rattle.std.specs.Prelude.{◌≡◌, ◌<◌, ℕ, Err, IfNone, IfSome, length, slice_index};
 ghost use Rattle.sched_text.specs.Reading.{choices_of};
 ghost use Rattle.sched_run.specs.Spelled.{IsSpelled};
@@ -7,11 +7,12 @@ use memchr::memchr;
 use sched_text::{ChoiceFault, read_run};
 use text_items::next_item;
 
-/// The first fault of a text that has counts, if there is one: a few bytes of it may stand for minutes of steps, so it is looked through
-/// before it is run. Of a text without counts, which is about as fast run as looked through, no fault is told.
+/// The first fault of a text with counts, if there is one. A few bytes of such a text may stand for
+/// minutes of steps, so it is checked before it is run. A text without counts runs about as fast as
+/// it is checked, and gives `None`.
 pub fn early_fault(text: &[u8], harts: u32) -> Option<ChoiceFault>
     ensures fault { IfSome result (λ fault. choices_of harts text.now ≡ Err fault) }
-    // Where a `*` stands in the text, none is told only where it spells choices.
+    // `None` for a text with a `*` means that it spells choices.
     ensures looked { IfNone result ((k : ℕ) → k < length text.now → slice_index text.now k ≡ 42
         → IsSpelled harts text.now) }
 {

@@ -6,7 +6,7 @@ use hart_reservations::MAX_HARTS;
 use machine::Choice;
 use std::alloc::{AllocError, Allocator};
 
-/// Which harts were chosen. It takes no memory of the host.
+/// Which harts were chosen. Allocates nothing.
 #[derive(Clone, Copy, Drop)]
 pub struct Chosen {
     marks: [bool; MAX_HARTS],
@@ -28,7 +28,7 @@ impl Chosen {
         }
     }
 
-    /// A hart was chosen, again or for the first time.
+    /// Marks a hart as chosen.
     pub fn add(&mut self, hart: usize)
         requires { hart < most_harts }
         ensures { harts_of self.new ≡ with_hart (harts_of self.old) hart }
@@ -36,7 +36,8 @@ impl Chosen {
         self.marks[hart] = true;
     }
 
-    /// A choice of each hart that was chosen, in order: all that a judge asks of a list of choices.
+    /// One choice of each hart that was chosen, in order of the harts. A judge needs no more of a
+    /// list of choices.
     pub fn choices<A: Allocator>(&self, alloc: A) -> Result<Vec<Choice, A>, AllocError>
         ensures { IfOk result (λ choices. (k : ℕ)
             → is_chosen choices.items k ≡ harts_of self.now k) }
@@ -49,7 +50,7 @@ impl Chosen {
     }
 }
 
-// Adds a choice of a hart, where it is marked.
+// Appends a choice of a hart, if it is marked.
 #[tactic(auto, using(crate::proofs::ChosenLemmas::added, crate::proofs::ChosenLemmas::unmarked))]
 fn push_marked<A: Allocator>(
     choices: &mut Vec<Choice, A>,

@@ -1,4 +1,4 @@
-//! Choice texts run on a machine, choice by choice.
+//! Runs a choice text on a machine, choice by choice.
 #![tactic(auto)]
 
 pub use checking::early_fault;

@@ -1,5 +1,5 @@
-//! The choices of a text, one after another. The list that the text spells is never held, so a text of a few bytes that spells
-//! thousands of millions of them wants no memory.
+//! Reads the choices of a text, one after another. The list that the text spells is never held, so
+//! a text of a few bytes that spells thousands of millions of choices takes no memory.
 ghost use Rattle.std.specs.Prelude.{◌≡◌, ◌+◌, ◌<◌, ◌≤◌, ◌^◌, ℕ, [], ◌∷◌, true, false, Ok, Err, List, IfNone, IfSome, MatchOption, length};
 ghost use Rattle.text_items.specs.Items.{items_from};
 ghost use Rattle.text_items.specs.Reading.{followed_by, value_then};
@@ -11,21 +11,21 @@ use machine::Choice;
 use sched_text::{ChoiceFault, read_run};
 use text_items::{is_blank, next_item};
 
-/// Where the reading of a choice text stands.
+/// The state of reading a choice text.
 #[derive(Drop)]
 pub struct Reading {
-    // Where the next item is looked for.
+    // Offset at which the next item is searched.
     from: usize,
-    // The choice of the item before.
+    // The choice of the previous item.
     choice: Choice,
-    // How often that choice was not read yet.
+    // Number of its choices that are still to be returned.
     more: u32,
-    /// Why there was no next choice: none where the text had ended.
+    /// Why there was no next choice; `None` at the end of the text.
     pub fault: Option<ChoiceFault>,
 }
 
 impl Reading {
-    /// Nothing is read.
+    /// At the start of a text.
     pub fn begin() -> Self
         ensures at_front { (harts : ℕ) (text : List ℕ) → left_of harts text result ≡ choices_of harts text }
         ensures within { result.from ≡ 0 }
@@ -42,7 +42,7 @@ impl Reading {
         }
     }
 
-    /// The next choice that the text spells for so many harts, if there is one.
+    /// The next choice that the text spells, if there is one.
     #[inline]
     pub fn next(&mut self, text: &[u8], harts: u32) -> Option<Choice>
         requires within { self.old.from ≤ length text.now }
@@ -60,7 +60,8 @@ impl Reading {
         if self.more > 0 {
             return Some(self.again());
         }
-        // Most items of most texts are so, and need no loop and no slices. Nothing is left of them, so only the place is written.
+        // Most items of most texts are one digit: no loop, no slices. None of their choices is left
+        // over, so only the offset is written.
         if let Some(hart) = digit_at(text, self.from, harts) {
             self.from += 2;
             return Some(Choice {
@@ -75,7 +76,7 @@ impl Reading {
         }
     }
 
-    // The choice of the item before, once more.
+    // The choice of the previous item once more.
     #[inline]
     fn again(&mut self) -> Choice
         requires { 0 < self.old.more }
@@ -90,7 +91,7 @@ impl Reading {
         self.choice
     }
 
-    // Reads the next item, of any shape. It tells whether there is one that names a run.
+    // Reads the next item, of any shape. Returns whether there is one that names a run.
     #[inline(never)]
     #[cold]
     fn read_item(&mut self, text: &[u8], harts: u32) -> bool
@@ -106,7 +107,7 @@ impl Reading {
             (left_of harts text.now self.old ≡ Ok [])
             (λ fault. left_of harts text.now self.old ≡ Err fault) }
     {
-        // The harts from 10 on.
+        // Harts from 10 on.
         if let Some(hart) = two_digits_at(text, self.from, harts) {
             self.from += 3;
             self.choice = Choice {
@@ -119,7 +120,7 @@ impl Reading {
         self.read_any_item(text, harts)
     }
 
-    // The same, by the reader of all items.
+    // As `read_item`, by the reader of all items.
     fn read_any_item(&mut self, text: &[u8], harts: u32) -> bool
         requires none_left { self.old.more ≡ 0 }
         requires within { self.old.from ≤ length text.now }
@@ -152,7 +153,7 @@ impl Reading {
     }
 }
 
-// The hart, of so many, that an item names which is one digit and stands at an offset, before a blank.
+// The hart of an item of one digit at an offset, if a blank follows and the hart is below `harts`.
 #[inline]
 fn digit_at(text: &[u8], from: usize, harts: u32) -> Option<u32>
     requires { from ≤ length text.now }
@@ -173,7 +174,7 @@ fn digit_at(text: &[u8], from: usize, harts: u32) -> Option<u32>
     }
 }
 
-// The same of two digits.
+// As `digit_at`, for two digits.
 #[inline]
 fn two_digits_at(text: &[u8], from: usize, harts: u32) -> Option<u32>
     requires { from ≤ length text.now }
@@ -195,7 +196,7 @@ fn two_digits_at(text: &[u8], from: usize, harts: u32) -> Option<u32>
     if hart < harts { Some(hart) } else { None }
 }
 
-// The offset behind a blank, if one stands there: the same items follow.
+// The offset after a blank, if there is one; the items that follow are the same.
 fn behind_blank(text: &[u8], at: usize) -> usize
     requires { at ≤ length text.now }
     ensures within { result ≤ length text.now }

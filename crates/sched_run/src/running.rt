@@ -1,4 +1,4 @@
-//! A choice text run on a machine.
+//! Runs a choice text on a machine.
 ghost use Rattle.std.specs.Prelude.{◌≡◌, ◌<◌, ◌≤◌, Err, IfOk, IfErr, length};
 ghost use Rattle.hart_reservations.specs.Limit.{most_harts};
 ghost use Rattle.machine.specs.World.{step};
@@ -14,8 +14,8 @@ use mem_flat::FlatStore;
 use sched_text::ChoiceFault;
 use std::alloc::Allocator;
 
-/// Runs the choices that a text spells for the harts of a machine, and answers which of them were chosen. It wants no memory. The
-/// first bad item decides the fault; the machine has then done the items before it.
+/// Runs the choices that a text spells on a machine, and returns which harts were chosen. Allocates
+/// nothing. The fault is that of the first bad item; the machine has then done the items before it.
 pub fn run_choices<A: Allocator>(
     machine: &mut Machine<FlatStore<A>, A>,
     text: &[u8],
@@ -29,7 +29,7 @@ pub fn run_choices<A: Allocator>(
 {
     let mut chosen = Chosen::new();
     let mut reading = Reading::begin();
-    // Steps are taken at this one place, so that the compiler puts the step's code here and makes no call of it.
+    // The only call of `take_step`, so that the compiler inlines the step.
     'choices: while let Some(choice) = reading.next(text, harts) {
         chosen.add(choice.hart as usize);
         take_step(machine, choice);
@@ -40,7 +40,7 @@ pub fn run_choices<A: Allocator>(
     }
 }
 
-// One step, which over a flat store wants no memory.
+// One step. Over a flat store it allocates nothing.
 #[inline]
 fn take_step<A: Allocator>(machine: &mut Machine<FlatStore<A>, A>, choice: Choice)
     requires { choice.hart < length (state machine.old).harts }

@@ -1,4 +1,4 @@
--- Reading finds what the grammar says, and nothing else.
+-- Reading gives exactly what the grammar says.
 use Rattle.std.proofs.Common.{◌≡◌, ℕ, ◌^◌, ◌<◌, ◌≤◌, inl, inr, Bool, true, false, List, [], ◌++◌, Option, Some, None, Ok, Err, refl, arith, ap, sym, ◌∙◌, append_assoc, append-nil, subst, ltb-true, ltb-false}
 use Rattle.std.specs.Prelude.{nat_lt, if◌then◌else◌}
 use Rattle.std.specs.List.{All}
@@ -83,7 +83,7 @@ spoils_of harts text fault few e = by (values_of (run_of harts) text) refl e
     by (Ok runs) read same = absurd (cc)
     by (Err other) read same = runs_spoiled harts text fault few (read ∙ let e = same in cc)
 
--- a text that is read names harts that are there
+-- a text that is read names harts that exist
 pub hart_within : (harts : ℕ) (text : List ℕ) (choices : List Choice) → Spells harts text choices → All (λ c. c.hart < harts) choices
 hart_within harts text choices spelled =
     subst (All (λ (c : Choice). c.hart < harts)) (sym spelled.in_order)

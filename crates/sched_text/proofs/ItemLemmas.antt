@@ -42,7 +42,7 @@ count_in_told star digits is (Some k) some = by (nat_lt 0 k) refl (nat_lt k 1677
         let least = counts.3 in
         omega (arith, some.1, none, value, least)
 
--- bytes that are none, or begin with `*`, are counted as is said
+-- the count of bytes that are empty, or begin with `*`
 pub count_told : (counted : List ℕ) → (counted ≡ []) ⊎ (counted ≡ 42 ∷ drop 1 counted) → CountTold counted (count_of counted)
 count_told [] form = refl
 count_told (star ∷ digits) (inl none) = absurd (cc)
@@ -65,7 +65,7 @@ counted_form (star ∷ digits) n counts = inr (ap (λ b. b ∷ digits) counts.0)
 
 -- ---- the hart and the mark
 
--- digits and a mark behind them are found again
+-- digits and a mark after them are found again
 marked_parts : (digits : List ℕ) (refuse : Bool) → IsNumber digits
     → (has_mark (digits ++ mark_of refuse) ≡ refuse) × (unmarked (digits ++ mark_of refuse) ≡ digits)
 marked_parts digits true number =

@@ -17,7 +17,7 @@ use Rattle.sched_text.specs.Grammar.{Counts, NamesRun, SpellsRuns, Spells}
 use Rattle.sched_text.specs.Printing.{item_text, choices_text, count_text, run_text, runs_text}
 use Rattle.sched_text.proofs.ExpandLemmas.{IsCounted, longest-expanded, longest-counted, longest-all}
 
--- ---- a list, an item a choice
+-- ---- a list, one item per choice
 abbrev is_once : ℕ → Run → Type 0
 is_once harts r = (r.choice.hart < harts) × (r.count ≡ 1)
 
@@ -73,7 +73,7 @@ pub spells_printed : (text : List ℕ) (choices : List Choice) → text ≡ choi
     → (harts : ℕ) → harts < 2 ^ 32 → All (λ c. c.hart < harts) choices → Spells harts text choices
 spells_printed text choices e harts few within = subst (λ t. Spells harts t choices) (sym e) (text_spells harts choices few within)
 
--- ---- a list, an item a run
+-- ---- a list, one item per run
 abbrev fits_text : ℕ → Run → Type 0
 fits_text harts r = (r.choice.hart < harts) × IsCounted r
 
@@ -115,7 +115,7 @@ spells_runs text choices e harts few within = subst (λ t. Spells harts t choice
 
 -- ---- printing, choice by choice
 
--- the text of so many of a choice, and then the longest runs of a list
+-- the text of n of a choice, and then the longest runs of a list
 abbrev pub text_from : Choice → ℕ → List Choice → List ℕ
 text_from c n choices = text_of run_text (runs_from c n choices)
 

@@ -1,5 +1,5 @@
--- Choice texts as a reader knows them: which texts spell a list, and which item spoils one. `Reading`
--- computes the same; `proofs/Agreement.antt` ties the two.
+-- The grammar of choice texts: which texts spell a list, and which item spoils a text. `Reading`
+-- computes the same; `proofs/Agreement.antt` proves that the two agree.
 use Rattle.std.specs.Prelude.{◌≡◌, ℕ, ◌<◌, ◌≤◌, List, [], ◌∷◌, ◌++◌}
 use Rattle.std.specs.Str.Parse.{digits_value}
 use Rattle.machine.specs.declared.choice.Choice.{Choice}
@@ -10,12 +10,12 @@ use Rattle.sched_text.specs.declared.choice_text.ChoiceFault.{ChoiceFault}
 use Rattle.sched_text.specs.declared.choice_text.ChoiceFault.TheVariants.{BadChoice, NoHart}
 use Rattle.sched_text.specs.Runs.{expanded}
 
--- nothing behind a choice says once, and `*` with a number from 1 to 16777216 says so many times
+-- nothing after a choice is a count of 1; `*` and a number from 1 to 16777216 is that count
 abbrev pub Counts : List ℕ → ℕ → Type 0
 Counts [] n = n ≡ 1
 Counts (b ∷ digits) n = (b ≡ 42) × IsNumber digits × (digits_value 10 digits ≡ n) × (1 ≤ n) × (n ≤ 16777216)
 
--- the item is a hart's number, the mark, if there is one, and how often the choice stands
+-- the item is a hart's number, the mark, if there is one, and the count
 pub record NamesRun (item : List ℕ) (r : Run) : Type 0 where
   pub digits : List ℕ
   pub counted : List ℕ
@@ -24,7 +24,7 @@ pub record NamesRun (item : List ℕ) (r : Run) : Type 0 where
   pub value : digits_value 10 digits ≡ r.choice.hart
   pub count : Counts counted r.count
 
--- the text is items with blanks between and around them, which name these runs of choices of so many harts
+-- items with blanks between and around them, which denote these runs of choices of the harts
 abbrev pub SpellsRuns : ℕ → List ℕ → List Run → Type 0
 SpellsRuns harts text runs = texts.Spells NamesRun (λ r. r.choice.hart < harts) text runs
 
@@ -34,7 +34,7 @@ pub record Spells (harts : ℕ) (text : List ℕ) (choices : List Choice) : Type
   pub spelled : SpellsRuns harts text runs
   pub in_order : choices ≡ expanded runs
 
--- the text, which begins at an offset, has a bad item after good ones only: one that names no run, or a run of a hart
--- that isn't there
+-- the text, which begins at an offset, has a bad item after good ones only: one that denotes no
+-- run, or a run of a hart that doesn't exist
 abbrev pub Spoils : ℕ → ℕ → List ℕ → ChoiceFault → Type 0
 Spoils harts at text fault = texts.Spoils NamesRun (λ r. r.choice.hart < harts) BadChoice NoHart at text fault

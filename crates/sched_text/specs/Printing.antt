@@ -7,7 +7,7 @@ use Rattle.text_items.specs.Printing.{text_of}
 use Rattle.sched_text.specs.declared.run.Run.{Run}
 use Rattle.sched_text.specs.Runs.{longest_runs}
 
--- the hart's number in decimal, and `!` where its store-conditional is refused
+-- the hart's number in decimal, and `!` if its store-conditional is refused
 abbrev pub item_text : Choice → List ℕ
 item_text c = decimal c.hart ++ mark_of c.refuse
 
@@ -15,7 +15,7 @@ item_text c = decimal c.hart ++ mark_of c.refuse
 abbrev pub choices_text : List Choice → List ℕ
 choices_text choices = text_of item_text choices
 
--- `*` and how often a choice stands, where that isn't once
+-- `*` and the count of a choice, if that isn't 1
 abbrev pub count_text : ℕ → List ℕ
 count_text n = if n == 1 then [] else 42 ∷ decimal n
 

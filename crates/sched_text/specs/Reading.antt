@@ -15,19 +15,19 @@ abbrev pub count_in : Option ℕ → Option ℕ
 count_in None = None
 count_in (Some n) = if nat_lt 0 n && nat_lt n 16777217 then Some n else None
 
--- how often a choice stands, by what begins at the `*`
+-- the count of a choice, by the part that begins with `*`
 abbrev pub count_of : List ℕ → Option ℕ
 count_of [] = Some 1
 count_of (star ∷ digits) = count_in (number_of digits)
 
--- the run of a hart's choices, if there are the number, the count and the hart
+-- the run of a hart's choices, if number and count are valid and the hart exists
 abbrev pub run_by : Option ℕ → Option ℕ → ℕ → ℕ → Bool → Result Run ChoiceFault
 run_by None count harts at refuse = Err (BadChoice at)
 run_by (Some hart) None harts at refuse = Err (BadChoice at)
 run_by (Some hart) (Some count) harts at refuse =
     if nat_lt hart harts then Ok (run (record { hart = hart; refuse = refuse }) count) else Err (NoHart at)
 
--- the run that an item names, for so many harts
+-- the run that an item denotes, for this number of harts
 abbrev pub run_of : ℕ → ℕ → List ℕ → Result Run ChoiceFault
 run_of harts at item =
     run_by (number_of (unmarked (before_byte 42 item))) (count_of (from_byte 42 item)) harts at (has_mark (before_byte 42 item))
@@ -37,6 +37,6 @@ abbrev pub expanded_after : List Choice → Result (List Run) ChoiceFault → Re
 expanded_after choices (Ok runs) = Ok (choices ++ expanded runs)
 expanded_after choices (Err fault) = Err fault
 
--- the choices of a text for so many harts
+-- the choices of a text for this number of harts
 abbrev pub choices_of : ℕ → List ℕ → Result (List Choice) ChoiceFault
 choices_of harts text = expanded_after [] (values_of (run_of harts) text)

@@ -1,9 +1,9 @@
--- Equal choices, one after another.
+-- Runs of equal choices.
 use Rattle.std.specs.Prelude.{ℕ, ◌+◌, ◌==◌, ◌&&◌, nat_lt, Bool, true, false, not, List, [], ◌∷◌, ◌++◌, replicate, if◌then◌else◌}
 use Rattle.machine.specs.declared.choice.Choice.{Choice}
 use Rattle.sched_text.specs.declared.run.Run.{Run}
 
--- a choice, so many times
+-- n times a choice
 abbrev pub run : Choice → ℕ → Run
 run choice count = record { choice = choice; count = count }
 
@@ -24,7 +24,7 @@ same_mark false b = not b
 abbrev pub same_choice : Choice → Choice → Bool
 same_choice c d = c.hart == d.hart && same_mark c.refuse d.refuse
 
--- so many of a choice, and then the longest runs of a list, of at most 16777216 choices each
+-- n of a choice, then the longest runs of a list, of at most 16777216 choices each
 unfoldable pub runs_from : Choice → ℕ → List Choice → List Run
 runs_from c n [] = run c n ∷ []
 runs_from c n (d ∷ choices) =

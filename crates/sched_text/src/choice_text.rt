@@ -1,5 +1,5 @@
-//! Choice texts: `0 1*3 0!` lets hart 0, then three times hart 1, then hart 0 again take a step, the last with its
-//! store-conditional refused.
+//! Choice texts: in `0 1*3 0!` hart 0 takes a step, then hart 1 three, then hart 0 another, whose
+//! store-conditional is refused.
 
 ghost use Rattle.std.specs.Prelude.{◌≡◌, ◌+◌, ◌++◌, ◌∷◌, [], ◌<◌, ◌≢◌, IfOk, IfErr, IfSome, OnOk};
 ghost use Rattle.std.specs.List.{All};
@@ -13,22 +13,22 @@ use std::alloc::{AllocError, Allocator};
 use text_items::{next_item, number, split_at_byte, split_mark};
 use thiserror::Error;
 
-/// Why a text gives no choices: the first bad item's byte offset, or want of memory.
+/// Why a text gives no choices: the byte offset of the first bad item, or out of memory.
 #[derive(Clone, Copy, Debug, PartialEq, Eq, Error)]
 pub enum ChoiceFault {
-    /// The item that begins at this offset isn't a number without leading zeros, with or without `!`, and with or without
-    /// `*` and a count behind it.
+    /// The item at this offset isn't a number without leading zeros, optionally followed by `!`,
+    /// and by `*` and a count.
     #[error("choice fault BadChoice at {0}")]
     BadChoice(usize),
-    /// The item that begins at this offset names a hart that isn't there.
+    /// The item at this offset names a hart that doesn't exist.
     #[error("choice fault NoHart at {0}")]
     NoHart(usize),
-    /// Memory for the list was refused.
+    /// Out of memory.
     #[error("out of memory")]
     Memory,
 }
 
-// How often an item's choice stands, by what begins at its `*`: once, where nothing is there.
+// The number of an item's choices, from the part that begins with `*`; 1 if that is empty.
 fn read_count(counted: &[u8]) -> Option<u32>
     ensures { result ≡ count_of counted.now }
 {
@@ -41,7 +41,7 @@ fn read_count(counted: &[u8]) -> Option<u32>
     }
 }
 
-// The hart, of so many, that a single digit names.
+// The hart that a single digit names, if it is below `harts`.
 #[inline]
 fn read_digit(item: &[u8], harts: u32) -> Option<u32>
     ensures digit { IfSome result (λ hart. (item.now ≡ (hart + 48) ∷ []) × (hart < 10)) }
@@ -57,12 +57,13 @@ fn read_digit(item: &[u8], harts: u32) -> Option<u32>
     Some(hart)
 }
 
-/// The run that an item at an offset names, for so many harts. For who goes through a text item by item, and holds no list.
+/// The run that an item at an offset names. For callers that go through a text item by item,
+/// without a list.
 #[inline]
 pub fn read_run(item: &[u8], at: usize, harts: u32) -> Result<Run, ChoiceFault>
     ensures { result ≡ run_of harts at item.now }
 {
-    // Most items of most texts are so, and need no loop.
+    // Most items of most texts are one digit and need no loop.
     if let Some(hart) = read_digit(item, harts) {
         let choice = Choice {
             hart,
@@ -73,7 +74,7 @@ pub fn read_run(item: &[u8], at: usize, harts: u32) -> Result<Run, ChoiceFault>
     read_any_run(item, at, harts)
 }
 
-// The same, of any shape.
+// As `read_run`, for items of any shape.
 #[inline(never)]
 #[cold]
 fn read_any_run(item: &[u8], at: usize, harts: u32) -> Result<Run, ChoiceFault>
@@ -97,7 +98,7 @@ fn read_any_run(item: &[u8], at: usize, harts: u32) -> Result<Run, ChoiceFault>
     Ok(Run { choice, count })
 }
 
-// Appends a run's choices to a list. After a refusal the list has some of them.
+// Appends a run's choices to a list. If out of memory, the list has some of them.
 fn push_run<A: Allocator>(choices: &mut Vec<Choice, A>, run: Run) -> Result<(), AllocError>
     ensures { OnOk result (choices.new.items ≡ choices.old.items ++ equal_choices run) }
 {
@@ -107,10 +108,10 @@ fn push_run<A: Allocator>(choices: &mut Vec<Choice, A>, run: Run) -> Result<(), 
     Ok(())
 }
 
-/// Reads a choice text for so many harts: items between blanks (space, tab, LF, CR), each a hart's number in decimal
-/// without leading zeros, with `!` after it where the step's store-conditional is refused, and with `*` and a count from 1 to
-/// `MOST_EQUAL` after that where the choice stands more than once. The empty text gives no choices. The first bad item decides
-/// the fault; a count that is none is BadChoice, whatever the hart.
+/// Reads a choice text: items between blanks (space, tab, LF, CR). An item is a hart's number in
+/// decimal without leading zeros, then `!` if the step's store-conditional is refused, then `*` and
+/// a count from 1 to `MOST_EQUAL` if the choice is repeated. The empty text gives no choices. The
+/// fault is that of the first bad item; a bad count is `BadChoice`, whatever the hart.
 pub fn read_choices<A: Allocator + Copy>(
     alloc: A,
     text: &[u8],

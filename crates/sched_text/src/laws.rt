@@ -8,7 +8,7 @@ ghost use Rattle.sched_text.specs.Grammar.{Spells};
 ghost use Rattle.sched_text.specs.Printing.{choices_text, runs_text};
 ghost use Rattle.sched_text.specs.Reading.{choices_of};
 
-/// Reading gives the list that a text spells, and no list where it spells none.
+/// Reading gives the list that a text spells, and no list if it spells none.
 pub fn read_as_spelled()
     ensures { (harts : ℕ) (text : List ℕ) (choices : List Choice) → harts < 2 ^ 32
         → (choices_of harts text ≡ Ok choices) ↔ Spells harts text choices }
@@ -20,13 +20,13 @@ pub fn one_list()
         → Spells harts text one → Spells harts text other → one ≡ other }
 {}
 
-/// Reading what was printed gives the list, where each of its choices names one of so many harts.
+/// Reading what was printed gives the list, if each of its choices names one of the harts.
 pub fn printed_is_read()
     ensures { (harts : ℕ) (choices : List Choice) → harts < 2 ^ 32
         → All (λ c. c.hart < harts) choices → choices_of harts (choices_text choices) ≡ Ok choices }
 {}
 
-/// Reading what was printed by runs gives the list, where each of its choices names one of so many harts.
+/// Reading what was printed by runs gives the list, if each of its choices names one of the harts.
 pub fn printed_runs_are_read()
     ensures { (harts : ℕ) (choices : List Choice) → harts < 2 ^ 32
         → All (λ c. c.hart < harts) choices → choices_of harts (runs_text choices) ≡ Ok choices }

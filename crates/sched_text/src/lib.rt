@@ -1,4 +1,4 @@
-//! Choice texts: the schedule of a run, as a person writes it.
+//! Reads and prints choice texts: the schedule of a run, as a person writes it.
 #![tactic(auto)]
 
 pub use choice_text::{ChoiceFault, read_choices, read_run};

@@ -1,4 +1,4 @@
-//! Choice texts, printed.
+//! Prints choice texts.
 
 ghost use Rattle.std.specs.Prelude.{◌≡◌, ℕ, ◌<◌, ◌^◌, ◌&&◌, nat_lt, true, Some, IfOk, string_bytes};
 ghost use Rattle.std.specs.List.{All};
@@ -47,7 +47,8 @@ impl fmt::Display for RunItem {
     }
 }
 
-/// Prints choices as a choice text, an item a choice: one space between items and LF at the end, or nothing for no choices.
+/// Prints choices as a choice text, one item per choice: one space between items and LF at the end,
+/// or nothing for no choices.
 pub fn print_choices<A: Allocator + Copy>(
     alloc: A,
     choices: &[Choice],
@@ -70,7 +71,7 @@ pub fn print_choices<A: Allocator + Copy>(
     Ok(text)
 }
 
-// Whether a choice makes a run one longer.
+// Whether a choice extends a run.
 fn goes_on(run: Run, choice: Choice) -> bool
     ensures same { result ≡ same_choice run.choice choice && nat_lt run.count 16777216 }
     ensures room { result ≡ true → run.count < 16777216 }
@@ -78,8 +79,9 @@ fn goes_on(run: Run, choice: Choice) -> bool
     run.choice.hart == choice.hart && run.choice.refuse == choice.refuse && run.count < MOST_EQUAL
 }
 
-/// Prints choices as a choice text, an item a run: from the front the longest run of at most `MOST_EQUAL` equal choices, with
-/// `*` and its length where that is above 1; one space between items and LF at the end, or nothing for no choices.
+/// Prints choices as a choice text, one item per run: from the front, the longest run of at most
+/// `MOST_EQUAL` equal choices, with `*` and its length if that is above 1; one space between items
+/// and LF at the end, or nothing for no choices.
 pub fn print_runs<A: Allocator + Copy>(
     alloc: A,
     choices: &[Choice],

@@ -1,15 +1,15 @@
-//! Equal choices, one after another.
+//! Runs of equal choices.
 
 use machine::Choice;
 
-/// How many equal choices an item stands for at most.
+/// The greatest count of an item.
 pub const MOST_EQUAL: u32 = 16_777_216;
 
-/// So many equal choices.
+/// A number of equal choices.
 #[derive(Clone, Copy, PartialEq, Eq)]
 pub struct Run {
     /// The choice.
     pub choice: Choice,
-    /// How often it stands: 1 to `MOST_EQUAL` in a text.
+    /// Number of equal choices: 1 to `MOST_EQUAL` in a text.
     pub count: u32,
 }

@@ -1,4 +1,4 @@
--- Lists with choices left out and marks taken away.
+-- Lists with choices left out and marks removed.
 use Rattle.std.proofs.Common.{◌≡◌, ℕ, zero, suc, ◌+◌, ◌-◌, ◌≤◌, List, [], ◌∷◌, ◌++◌, map, take, drop, refl, sym, subst, ◌∙◌, inl, inr, arith}
 use Rattle.machine.specs.declared.choice.Choice.{Choice}
 use Rattle.shrink_list.specs.Less.{IsSofter, IsLess}

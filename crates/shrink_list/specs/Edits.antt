@@ -1,4 +1,4 @@
--- A list of choices after an edit of a part: from one number up to another, the first choice being number 0.
+-- A list of choices after an edit of a part: from one index up to another, counted from 0.
 use Rattle.std.specs.Prelude.{ℕ, ◌-◌, false, List, ◌++◌, map, take, drop}
 use Rattle.machine.specs.declared.choice.Choice.{Choice}
 use Rattle.shrink_list.specs.declared.edits.Edit.{Edit}
@@ -12,7 +12,7 @@ without_mark c = record { hart = c.hart; refuse = false }
 abbrev pub left_out : ℕ → ℕ → List Choice → List Choice
 left_out from to choices = take from choices ++ drop to choices
 
--- the list with the part's marks taken away
+-- the list without the part's marks
 abbrev pub marks_taken : ℕ → ℕ → List Choice → List Choice
 marks_taken from to choices =
     take from choices ++ (map without_mark (take (to - from) (drop from choices)) ++ drop to choices)

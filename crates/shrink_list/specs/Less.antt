@@ -1,12 +1,12 @@
--- When a list of choices is another with choices left out and marks taken away.
+-- A list of choices that is another with choices left out and marks removed.
 use Rattle.std.specs.Prelude.{◌≡◌, ◌⊎◌, ℕ, ◌+◌, Bool, true, false, List, [], ◌∷◌}
 use Rattle.machine.specs.declared.choice.Choice.{Choice}
 
--- a choice is of the hart of another, and has a mark only where that one has it
+-- a choice is of the same hart as another, and has a mark only if that one has
 abbrev pub IsSofter : Choice → Choice → Type 0
 IsSofter c given = (c.hart ≡ given.hart) × (c.refuse ≡ true → given.refuse ≡ true)
 
--- a list is another with choices left out and marks taken away: each of its choices is one of the other's, in the same order
+-- each choice of a list is one of the other's, in the same order, maybe without its mark
 unfoldable pub IsLess : List Choice → List Choice → Type 0
 IsLess [] given = Unit {0}
 IsLess (c ∷ choices) [] = ⊥
@@ -17,7 +17,7 @@ abbrev pub weight_of : Bool → ℕ
 weight_of true = 2
 weight_of false = 1
 
--- how many choices and marks there are
+-- the number of choices and marks
 unfoldable pub weight : List Choice → ℕ
 weight [] = 0
 weight (c ∷ choices) = weight_of c.refuse + weight choices

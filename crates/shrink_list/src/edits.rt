@@ -5,16 +5,16 @@ ghost use Rattle.shrink_list.specs.Edits.{without_mark, left_out, marks_taken, e
 use machine::Choice;
 use std::alloc::{AllocError, Allocator};
 
-/// What is done to a part of a list.
+/// A change to a part of a list.
 #[derive(Clone, Copy)]
 pub(crate) enum Edit {
     /// Its choices are left out.
     LeaveOut,
-    /// The marks of its choices are taken away.
+    /// The marks of its choices are removed.
     TakeMarks,
 }
 
-// A list without the choices from one number up to another.
+// A list without the choices from one index up to another.
 fn left_out<A: Allocator>(
     alloc: A,
     choices: &[Choice],
@@ -31,7 +31,7 @@ fn left_out<A: Allocator>(
     Ok(list)
 }
 
-// Appends choices without their marks. After a refusal some of them are there.
+// Appends choices without their marks. If out of memory, some of them are appended.
 fn push_without_marks<A: Allocator>(
     list: &mut Vec<Choice, A>,
     part: &[Choice],
@@ -47,7 +47,7 @@ fn push_without_marks<A: Allocator>(
     Ok(())
 }
 
-// A list in which the marks from one number up to another are taken away.
+// A list without the marks from one index up to another.
 fn marks_taken<A: Allocator>(
     alloc: A,
     choices: &[Choice],
@@ -65,7 +65,7 @@ fn marks_taken<A: Allocator>(
     Ok(list)
 }
 
-/// A list after an edit of the part from one number up to another.
+/// A list after an edit of the part from one index up to another.
 pub(crate) fn edited<A: Allocator>(
     alloc: A,
     choices: &[Choice],

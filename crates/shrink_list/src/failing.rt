@@ -5,12 +5,12 @@ ghost use Rattle.machine.specs.declared.choice.Choice.{Choice};
 use machine::Choice;
 use std::alloc::AllocError;
 
-/// A test of lists of choices: each of them fails or doesn't.
+/// A test of lists of choices: each fails or doesn't.
 pub trait Failing {
     /// What it means that a list fails.
     ghost fails: { Self → List Choice → Type 0 };
 
-    /// Whether a list fails. A test may want memory.
+    /// Whether a list fails. A test may need memory.
     fn is_failing(&self, choices: &[Choice]) -> Result<bool, AllocError>
         ensures failed { result ≡ Ok true → fails self.now choices.now }
         ensures passed { result ≡ Ok false → fails self.now choices.now → ⊥ };

@@ -1,15 +1,15 @@
-//! Who is told how far a shrinking is.
+//! The trait by which a shrinking reports its progress.
 
-/// Who is told how far a shrinking is. What is told changes no answer.
+/// Receives the progress of a shrinking. It changes no answer.
 pub trait ChoicesLeft {
-    /// So many choices are left.
+    /// `left` choices are left.
     fn choices_left(&mut self, left: usize);
 
-    /// So many choices are needed, and the list is minimal: told once, at the end.
+    /// The list is minimal, with `needed` choices: called once, at the end.
     fn choices_needed(&mut self, needed: usize);
 }
 
-/// Tells nobody.
+/// Ignores all reports.
 #[derive(Clone, Copy)]
 pub struct Unheard;
 

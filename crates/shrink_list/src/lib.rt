@@ -1,4 +1,5 @@
-//! A failing list of choices made shorter, until no choice and no mark can go, over any test of such lists.
+//! Shrinks a failing list of choices until no choice and no refusal can be left out, over any test
+//! of lists.
 #![tactic(auto)]
 
 pub use failing::Failing;

@@ -1,4 +1,4 @@
-//! The last pass, which proves that nothing more can go.
+//! The last pass, which proves the list minimal.
 ghost use Rattle.std.specs.Prelude.{◌≡◌, ◌<◌, Ok, None, IfOk, IfSome, length};
 ghost use Rattle.shrink_list.specs.Less.{IsLess};
 ghost use Rattle.shrink_list.specs.Minimal.{IsMinimal, IsNeeded, Lessens};
@@ -9,7 +9,7 @@ use crate::hearing::ChoicesLeft;
 use machine::Choice;
 use std::alloc::{AllocError, Allocator};
 
-// The list without one choice of it, or else without that choice's mark, where it still fails.
+// The list without one of its choices, or else without that choice's mark, if it still fails.
 fn smaller_at<A: Allocator + Copy, F: Failing>(
     alloc: A,
     test: &F,
@@ -35,7 +35,7 @@ fn smaller_at<A: Allocator + Copy, F: Failing>(
     Ok(None)
 }
 
-// The list without the first choice or mark without which it still fails; None where each is needed.
+// The list without the first choice or mark that isn't needed; `None` if each is needed.
 fn first_smaller<A: Allocator + Copy, F: Failing>(
     alloc: A,
     test: &F,
@@ -53,7 +53,7 @@ fn first_smaller<A: Allocator + Copy, F: Failing>(
     Ok(None)
 }
 
-/// Takes away one choice or mark after another, until each that is left is needed.
+/// Removes one choice or mark after another, until each one left is needed.
 #[tactic(auto, using(crate::proofs::LessLemmas::less_trans, crate::proofs::LessLemmas::less_same))]
 pub(crate) fn make_minimal<A: Allocator + Copy, F: Failing, L: ChoicesLeft>(
     alloc: A,

@@ -1,4 +1,5 @@
-//! Large parts of a list left out, so that little is left for the last pass. Nothing here has to be minimal.
+//! Removes large parts of a list, so that little is left for the last pass. The result need not be
+//! minimal.
 ghost use Rattle.std.specs.Prelude.{◌≤◌, ◌<◌, IfOk, length, take};
 ghost use Rattle.shrink_list.specs.Less.{IsLess};
 
@@ -8,7 +9,8 @@ use crate::hearing::ChoicesLeft;
 use machine::Choice;
 use std::alloc::{AllocError, Allocator};
 
-/// How many choices from the front fail: the fewest, where each longer beginning of a failing one fails too.
+/// The length of a failing beginning: the shortest, if each longer beginning of a failing one fails
+/// too.
 pub(crate) fn failing_beginning<F: Failing>(
     test: &F,
     choices: &[Choice],
@@ -30,7 +32,7 @@ pub(crate) fn failing_beginning<F: Failing>(
     Ok(most)
 }
 
-// Whether an edit may change a part: a mark can be taken only where there is one.
+// Whether an edit may change a part: marks can be removed only if there are some.
 fn may_change(part: &[Choice], edit: Edit) -> bool {
     match edit {
         Edit::LeaveOut => true,
@@ -38,7 +40,7 @@ fn may_change(part: &[Choice], edit: Edit) -> bool {
     }
 }
 
-// The list after an edit of a part, where it still fails, and else the list itself.
+// The list after an edit of a part if it still fails, else the list itself.
 #[tactic(auto, using(crate::proofs::LessLemmas::less_edited, crate::proofs::LessLemmas::less_same))]
 fn try_edit<A: Allocator + Copy, F: Failing>(
     alloc: A,
@@ -65,7 +67,8 @@ fn try_edit<A: Allocator + Copy, F: Failing>(
     Ok(choices)
 }
 
-// Goes through the parts of a size, from the last one to the first, and edits each where the list still fails.
+// Goes through the parts of a size, from the last to the first, and edits each if the list then
+// still fails.
 #[tactic(auto, using(crate::proofs::LessLemmas::less_trans, crate::proofs::LessLemmas::less_same))]
 fn edit_parts<A: Allocator + Copy, F: Failing>(
     alloc: A,

@@ -1,4 +1,5 @@
-//! A failing list made minimal. Zeller and Hildebrandt, "Simplifying and Isolating Failure-Inducing Input", 2002.
+//! Makes a failing list minimal. Zeller and Hildebrandt, "Simplifying and Isolating
+//! Failure-Inducing Input", 2002.
 ghost use Rattle.std.specs.Prelude.{IfOk};
 ghost use Rattle.shrink_list.specs.Less.{IsLess};
 ghost use Rattle.shrink_list.specs.Minimal.{IsMinimal};
@@ -11,9 +12,9 @@ use crate::passes::{failing_beginning, thin_out};
 use machine::Choice;
 use std::alloc::{AllocError, Allocator};
 
-/// Of a list that fails, a list that still fails: some of the given choices in their order, some without their mark. It is
-/// minimal: without any one of its choices, and without any one of its marks, it fails no more. What stands behind the failure is
-/// cut first, then halves of the list, quarters and so on.
+/// Given a failing list, a failing list of some of its choices in their order, some without their
+/// mark. It is minimal: without any one of its choices, or any one of its marks, it no longer
+/// fails. First everything after the failure is cut, then halves of the list, quarters and so on.
 #[tactic(auto, using(crate::proofs::LessLemmas::less_trans, crate::proofs::LessLemmas::less_take))]
 pub fn shrink_choices<A: Allocator + Copy, F: Failing, L: ChoicesLeft>(
     alloc: A,

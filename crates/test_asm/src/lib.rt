@@ -1,4 +1,4 @@
-//! Tests of programs and their listings: `assembler`, `listing` and `round_trip`.
+//! Tests of `asm_assemble`, `isa_disasm` and `asm_round_trip`.
 #![tactic(auto)]
 
 #[cfg(test)]

@@ -1,4 +1,4 @@
-//! What no clause says: that the sources of the library have the words that GNU as has for them.
+//! Properties without a clause: the sources of the library assemble to the words of GNU as.
 use crate::program_tests::are_words;
 use asm_assemble::{TEXT_BASE, assemble};
 use asm_parse::AsmFault;
@@ -48,7 +48,7 @@ ecall
 .zero 12
 ";
 
-// As GNU as has them.
+// By GNU as.
 const SWAP_WORDS: [u32; 15] = [
     0x0001_1437,
     0x0025_1293,
@@ -67,7 +67,7 @@ const SWAP_WORDS: [u32; 15] = [
     0x0000_0073,
 ];
 
-// As GNU as has them.
+// By GNU as.
 const ADD_WORDS: [u32; 15] = [
     0x0001_1437,
     0x0025_1293,
@@ -208,7 +208,7 @@ ecall
 .zero 2048
 ";
 
-// As GNU as has them.
+// By GNU as.
 const LRSC_WORDS: [u32; 16] = [
     0x0001_1437,
     0x0025_1293,
@@ -228,7 +228,7 @@ const LRSC_WORDS: [u32; 16] = [
     0x0000_0073,
 ];
 
-// As GNU as has them.
+// By GNU as.
 const ADOPT_WORDS: [u32; 34] = [
     0x0001_1437,
     0x0045_1493,
@@ -266,7 +266,7 @@ const ADOPT_WORDS: [u32; 34] = [
     0x0000_0073,
 ];
 
-// As GNU as has them.
+// By GNU as.
 const ROUNDS_WORDS: [u32; 40] = [
     0x0001_1437,
     0x0040_0a93,
@@ -310,7 +310,8 @@ const ROUNDS_WORDS: [u32; 40] = [
     0x0000_0073,
 ];
 
-// A source of the library: its words, and how many zeros stand behind them. It has no data, and begins at the text's base.
+// A source of the library: its words, and the number of zeros after them. It has no data, and its
+// entry is the text's base.
 struct Library {
     name: &'static str,
     source: &'static str,

@@ -1,10 +1,12 @@
-//! What no clause says: lines that another assembler takes for their words, listings written out by hand, and refused memory.
+//! Properties without a clause: lines that GNU as assembles to their words, listings written by
+//! hand, and out of memory.
 use isa_disasm::{line_of, list_image, push_listing};
 use std::alloc::{AllocError, Allocator, Global};
 use test_images::{PROGRAM_START, Part, image_of};
 use test_refusing::Refusing;
 
-// Texts at 0x00010000 and the words that GNU as made of them (`-march=rv32ia -mabi=ilp32`): each mnemonic, and each suffix, once.
+// Texts at 0x00010000 and the words that GNU as assembled from them (`-march=rv32ia -mabi=ilp32`):
+// each mnemonic, and each suffix, once.
 #[rattlefmt::skip]
 const LINES: [(u32, &str); 85] = [
         (0x0000_0013, "addi zero, zero, 0"),
@@ -94,7 +96,7 @@ const LINES: [(u32, &str); 85] = [
         (0xe762_a2af, "amomaxu.w.aqrl t0, s6, (t0)"),
 ];
 
-// Whether a word at an address has this line; None where memory is refused.
+// Whether a word at an address has this line; `None` when out of memory.
 fn has_line(alloc: Global, address: u32, word: u32, wanted: &str) -> Option<bool> {
     let text = line_of(alloc, address, word).ok()?;
     Some(text.as_str() == wanted)
@@ -117,10 +119,10 @@ const EDGES: [(u32, u32, &str); 22] = [
     (0x0001_0000, 0x0864_a3af, "amoswap.w t2, t1, (s1)"),
     (0x0001_0000, 0x1004_a3af, "lr.w t2, (s1)"),
     (0x0001_0000, 0x1864_ae2f, "sc.w t3, t1, (s1)"),
-    // Targets are modulo 2^32, upwards and downwards.
+    // Targets are modulo 2^32, in both directions.
     (0x0000_0000, 0xffff_f06f, "jal zero, 0xfffffffe"),
     (0xffff_fffc, 0x0040_04ef, "jal s1, 0x00000000"),
-    // The ends of the immediates.
+    // The limits of the immediates.
     (0x0001_0000, 0x8000_0513, "addi a0, zero, -2048"),
     (0x0001_0000, 0x7ff0_0513, "addi a0, zero, 2047"),
     (0x0001_0000, 0x01f5_1513, "slli a0, a0, 31"),
@@ -154,7 +156,7 @@ jal zero, 0x00010008  # 00010004 0040006f
 .byte 0xff  # 00010009
 ";
 
-// The listing of these bytes.
+// The listing of `TEN_BYTES`.
 fn listing_of_ten(alloc: Global) -> Result<String<Global>, AllocError> {
     let mut text = String::new(alloc);
     push_listing(&mut text, 0x0001_0000, &TEN_BYTES)?;
@@ -168,19 +170,19 @@ fn words_are_followed_by_single_bytes(rt: HostRuntime) -> Result<(), AllocError>
     Ok(())
 }
 
-// The listing of an image of segments.
+// The listing of an image with these segments.
 fn listing_of<A: Allocator + Copy>(alloc: A, parts: &[Part]) -> Result<String<A>, AllocError> {
     let image = image_of(alloc, PROGRAM_START, parts)?;
     list_image(alloc, &image)
 }
 
-// Whether an image of segments has this listing; None where memory is refused.
+// Whether an image with these segments has this listing; `None` when out of memory.
 fn is_listed(alloc: Global, parts: &[Part], wanted: &str) -> Option<bool> {
     let text = listing_of(alloc, parts).ok()?;
     Some(text.as_str() == wanted)
 }
 
-// Segments that may be executed, and their listings.
+// Executable segments, and their listings.
 #[rattlefmt::skip]
 const UNALIGNED: [(Part, &str); 5] = [
     (Part { base: 0x0001_0000, size: 0, flags: 1, bytes: &[] }, ""),
@@ -247,7 +249,7 @@ fn executable_segments_are_listed_by_base(rt: HostRuntime) {
     assert!(rt; is_listed(rt.alloc(), &TWO_TEXTS, IMAGE_LISTING) == Some(true));
 }
 
-// Whether a line is made, or want of memory is told.
+// Whether a line is made, or out of memory is reported.
 fn is_line_told(heap: &Refusing<Global>) -> bool {
     match line_of(heap, 0x0001_0018, 0x0003_8a63) {
         Ok(text) => text.as_str() == "beq t2, zero, 0x0001002c",
@@ -270,7 +272,7 @@ fn each_refused_request_of_a_line_is_told(rt: HostRuntime) -> Result<(), u64> {
     Err(100)
 }
 
-// Whether an image is listed, or want of memory is told.
+// Whether an image is listed, or out of memory is reported.
 fn is_image_told(heap: &Refusing<Global>) -> bool {
     match listing_of(heap, &TWO_TEXTS) {
         Ok(text) => text.as_str() == IMAGE_LISTING,

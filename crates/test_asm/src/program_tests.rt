@@ -1,5 +1,5 @@
-//! What no clause says: words that the tables of the manual and GNU as give, each fault at its boundary, and
-//! refused memory.
+//! Properties without a clause: words from the manual's tables and from GNU as, each fault at its
+//! limit, and out of memory.
 use asm_assemble::{Program, Symbol, TEXT_BASE, assemble};
 use asm_parse::{AsmFault, Section};
 use std::alloc::Global;
@@ -8,7 +8,7 @@ use test_refusing::Refusing;
 // A source, and the words of its text.
 type Words = (&'static str, &'static [u32]);
 
-/// Whether bytes are those of these words.
+/// Whether bytes are those of these words, little-endian.
 pub(crate) fn are_words(bytes: &[u8], words: &[u32]) -> bool {
     let mut rest = bytes;
     for word in words {
@@ -28,7 +28,7 @@ fn has_words(alloc: Global, source: &str, words: &[u32]) -> bool {
     }
 }
 
-// Whether each source has its words; else the first one that hasn't.
+// Whether each source has its words; else the first one that has not.
 fn each_has_words(alloc: Global, rows: &[Words]) -> Result<(), &'static str> {
     for (source, words) in rows {
         if !has_words(alloc, source, words) {
@@ -38,7 +38,7 @@ fn each_has_words(alloc: Global, rows: &[Words]) -> Result<(), &'static str> {
     Ok(())
 }
 
-// The words that GNU as 2.40 and its linker give, without relaxation, with text at 0x10000.
+// The words of GNU as 2.40 and its linker, without relaxation, with text at 0x10000.
 const PSEUDO_INSTRUCTIONS: [Words; 33] = [
     ("nop", &[0x0000_0013]),
     ("mv a0, a1", &[0x0005_8513]),
@@ -83,7 +83,8 @@ fn each_pseudo_instruction_has_its_words(rt: HostRuntime) -> Result<(), &'static
     each_has_words(rt.alloc(), &PSEUDO_INSTRUCTIONS)
 }
 
-// `la` and `call` of the scope's rows, the carry of `%hi` and `%lo`, and local labels, as GNU as has them.
+// `la` and `call` of the rows in the scope, the carry of `%hi` and `%lo`, and local labels, by GNU
+// as.
 const REFERENCES: [Words; 6] = [
     ("la a0, x\n.data\nx: .word 1", &[0x0000_1517, 0x0005_0513]),
     ("call f\nf:", &[0x0000_0097, 0x0080_80e7]),
@@ -177,7 +178,7 @@ fn text_is_filled_with_nops(rt: HostRuntime) {
     assert!(rt; has_words(rt.alloc(), ".byte 5\n.align 3\nret", &FILLED));
 }
 
-// The number, source and line of the fault of sources; zeros where there is none.
+// The number, source and line of the fault of sources; zeros if there is none.
 fn fault_of(alloc: Global, sources: &[&str]) -> (u8, usize, usize) {
     match assemble(alloc, sources) {
         Ok(_program) => (0, 0, 0),
@@ -186,10 +187,10 @@ fn fault_of(alloc: Global, sources: &[&str]) -> (u8, usize, usize) {
     }
 }
 
-// A source, and its fault by its number and its line, from 1; a number of 0 says that the source is taken.
+// A source, and the number of its fault (0 for none) and its line, from 1.
 type Faulty = (&'static str, u8, usize);
 
-// Whether each source has its fault; else the first one that hasn't.
+// Whether each source has its fault; else the first one that has not.
 fn each_has_fault(alloc: Global, rows: &[Faulty]) -> Result<(), &'static str> {
     for (source, number, line) in rows {
         if fault_of(alloc, [*source].as_slice()) != (*number, 0, *line) {
@@ -220,7 +221,7 @@ fn texts_and_heads_have_their_faults(rt: HostRuntime) -> Result<(), &'static str
     each_has_fault(rt.alloc(), &TEXTS)
 }
 
-// Immediates at the ends of their ranges.
+// Immediates at the limits of their ranges.
 const IMMEDIATES: [Faulty; 30] = [
     ("addi a0, a0, -2049", 5, 1),
     ("addi a0, a0, -2048", 0, 0),
@@ -259,7 +260,7 @@ fn immediates_have_their_range(rt: HostRuntime) -> Result<(), &'static str> {
     each_has_fault(rt.alloc(), &IMMEDIATES)
 }
 
-// Numbers at the ends of their ranges.
+// Numbers at the limits of their ranges.
 const NUMBERS: [Faulty; 14] = [
     ("li a0, -2147483648", 0, 0),
     ("li a0, -2147483649", 5, 1),
@@ -299,7 +300,7 @@ fn names_are_defined_once(rt: HostRuntime) -> Result<(), &'static str> {
     each_has_fault(rt.alloc(), &NAMES)
 }
 
-// Targets at the ends of their reach.
+// Targets at the limits of their ranges.
 const REACHES: [Faulty; 12] = [
     ("beq a0, a1, x\n.zero 4096\nx:", 8, 1),
     ("beq a0, a1, x\n.zero 4088\nx:", 0, 0),
@@ -320,7 +321,7 @@ fn branches_and_jumps_have_their_reach(rt: HostRuntime) -> Result<(), &'static s
     each_has_fault(rt.alloc(), &REACHES)
 }
 
-// What sections take.
+// The statements that sections accept.
 const SECTIONS: [Faulty; 6] = [
     (".bss\n.word 1", 9, 2),
     (".bss\n.zero 1", 0, 0),
@@ -352,7 +353,7 @@ const LIMITS: [Faulty; 17] = [
     ("nop\n.bss\n.zero 16777212", 0, 0),
     ("nop\n.bss\n.zero 16777213", 11, 3),
     (".byte 1\n.bss\n.zero 16777215", 0, 0),
-    // Zeros begin at a multiple of 4: what lies before it counts.
+    // Zeros begin at a multiple of 4: the bytes skipped before them count.
     (".data\n.byte 1\n.bss\n.zero 16777212", 0, 0),
     (".data\n.byte 1\n.bss\n.zero 16777213", 11, 4),
 ];
@@ -362,8 +363,8 @@ fn addresses_and_sizes_have_their_limit(rt: HostRuntime) -> Result<(), &'static 
     each_has_fault(rt.alloc(), &LIMITS)
 }
 
-// Two sources, and the number, source and line of their fault. Reading comes before placing, placing before valuing; in a phase the
-// earliest statement decides.
+// Two sources, and the number, source and line of their fault. Parsing comes before placing,
+// placing before evaluation; in a phase the first statement with a fault counts.
 const PHASES: [([&str; 2], u8, usize, usize); 9] = [
     (["j nowhere\na:\na:", "foo"], 2, 1, 1),
     (["j nowhere\na:", "a:"], 7, 1, 1),
@@ -385,7 +386,7 @@ fn the_first_phase_with_a_fault_decides(rt: HostRuntime) {
     }
 }
 
-// Each source begins in the text, data stands behind all text, zeros behind all data.
+// Each source starts in the text; data comes after all text, zeros after all data.
 const TWO_SOURCES: [&str; 2] = [
     ".globl _start, no\nx: nop\n.data\nd: .byte 7\n.bss\nz: .zero 5",
     "_start: nop\n.data\ne: .byte 8",
@@ -468,7 +469,7 @@ fn symbols_keep_their_order(rt: HostRuntime) {
 const EACH_PHASE: &str =
     ".globl a\na: nop\n1: j 1b\nj 1f\n1: la a0, a\n.align 3\n.data\nb: .word 1, a\n.zero 3\n.ascii \"x\"";
 
-// Whether 12 bytes of data are made, or want of memory is told.
+// Whether 12 bytes of data are made, or out of memory is reported.
 fn is_told(heap: &Refusing<Global>) -> bool {
     match assemble(heap, [EACH_PHASE].as_slice()) {
         Ok(program) => program.bytes().len() == 12,

@@ -1,12 +1,12 @@
-//! What no clause says: that a listing is made where memory suffices, and refused memory.
+//! Properties without a clause: a listing is made if memory suffices, and out of memory.
 use asm_assemble::{Program, assemble};
 use asm_parse::AsmFault;
 use asm_round_trip::{list, list_source};
 use std::alloc::{AllocError, Global};
 use test_refusing::Refusing;
 
-// A line of each shape, a word that is no instruction, two bytes behind the last word; data and a symbol, which a
-// listing leaves out.
+// A line of each shape, a word that spells no instruction, two bytes after the last word; data and
+// a symbol, which a listing leaves out.
 const SOURCE: &str = "
 _start: addi a0, zero, -1
 1:  lw a1, -4(sp)
@@ -61,7 +61,7 @@ fn is_text_of(alloc: Global, listing: &str, program: &Program<Global>) -> Result
     Ok(again.text() == program.text() && again.bytes().is_empty())
 }
 
-// Whether the source has its listing, and that comes back to its text.
+// Whether the source has its listing, and the listing assembles to its text.
 fn comes_back(alloc: Global) -> Result<bool, AsmFault> {
     let program = assemble(alloc, [SOURCE].as_slice())?;
     let listing = list_source(alloc, &program)?;
@@ -74,7 +74,7 @@ fn a_listing_assembles_to_its_text(rt: HostRuntime) {
     assert!(rt; comes_back(rt.alloc()) == Ok(true));
 }
 
-// Whether a source is listed, or want of memory is told.
+// Whether a source is listed, or out of memory is reported.
 fn is_source_told(heap: &Refusing<Global>) -> bool {
     let Ok(program) = assemble(heap, ["ecall"].as_slice()) else {
         return heap.refused();
@@ -104,7 +104,7 @@ fn each_refused_request_of_a_source_is_told(rt: HostRuntime) -> Result<(), u64> 
 const FIVE_BYTES_LISTING: &str =
     "addi zero, zero, 0  # 00010000 00000013\n.byte 0x01  # 00010004\n";
 
-// Whether a program is listed, or want of memory is told.
+// Whether a program is listed, or out of memory is reported.
 fn is_list_told(heap: &Refusing<Global>) -> bool {
     let Ok(program) = assemble(heap, ["nop\n.byte 1"].as_slice()) else {
         return heap.refused();

@@ -1,4 +1,4 @@
--- Logs of one program, as merging wants them.
+-- Logs of one program, as `merge` requires them.
 use Rattle.std.proofs.Common.{◌≡◌, ℕ, zero, suc, ◌%◌, List, [], ◌∷◌, Some, length, sym, ap, subst, ◌∙◌}
 use Rattle.std.specs.Prelude.{slice_get}
 use Rattle.image.specs.Image.{ImageValue}

@@ -1,4 +1,4 @@
-//! Runs over banks that are merged, and done again choice by choice.
+//! Runs over banks that are merged, and replayed choice by choice.
 use crate::merging::{Lack, merged_with};
 use bank_hart_log::HartLog;
 use bank_laws::LoggedAccess;
@@ -8,7 +8,7 @@ use bank_threads::{Banked, run_banked};
 use hart_reservations::Reserve;
 use hart_step::{Hart, HartState};
 use image::Image;
-use machine::{Choice, Machine};
+use machine::{Choice, Inputs, Machine};
 use mem_flat::FlatStore;
 use mem_store::Store;
 use std::alloc::Allocator;
@@ -17,7 +17,7 @@ use std::thread::Threads;
 use test_programs::{Program, plan_of, program_image};
 use thread_gate::{Gate, Plan};
 
-/// A run over banks, and the choices that it is.
+/// A run over banks, and its choices.
 #[derive(Drop)]
 pub struct Merged<'a, A: Allocator> {
     /// The logs of harts and banks.
@@ -26,12 +26,12 @@ pub struct Merged<'a, A: Allocator> {
     pub choices: Vec<Choice, A>,
 }
 
-/// Runs a program with a hart for each input, and merges what that leaves.
+/// Runs a program with a hart for each input, and merges the logs.
 pub fn run_merged<'a, A: Allocator + Copy + Send + Sync, G: Gate + Sync, R: Threads + Wait + Sync>(
     rt: &R,
     alloc: A,
     image: &'a Image<A>,
-    inputs: &'a [u32],
+    inputs: &'a Inputs,
     budget: u32,
     plan: &'a Plan<A>,
     gate: &G,
@@ -40,7 +40,7 @@ pub fn run_merged<'a, A: Allocator + Copy + Send + Sync, G: Gate + Sync, R: Thre
     let choices = merged_with(
         alloc,
         image,
-        inputs,
+        inputs.words(),
         budget,
         plan,
         &banked.logs,
@@ -49,11 +49,11 @@ pub fn run_merged<'a, A: Allocator + Copy + Send + Sync, G: Gate + Sync, R: Thre
     Ok(Merged { banked, choices })
 }
 
-/// The machine to which choices lead.
+/// The machine after choices.
 pub fn machine_after<A: Allocator + Copy>(
     alloc: A,
     image: &Image<A>,
-    inputs: &[u32],
+    inputs: &Inputs,
     choices: &[Choice],
 ) -> Result<Machine<FlatStore<A>, A>, Lack> {
     let Ok(machine) = Machine::start(alloc, image, inputs) else {
@@ -68,7 +68,7 @@ pub fn machine_after<A: Allocator + Copy>(
     Ok(machine)
 }
 
-// Whether harts are those to which logs lead.
+// Whether harts are those at the end of logs.
 fn are_ends<A: Allocator>(harts: &[Hart], logs: &[HartLog<A>]) -> bool {
     if harts.len() != logs.len() {
         return false;
@@ -81,7 +81,7 @@ fn are_ends<A: Allocator>(harts: &[Hart], logs: &[HartLog<A>]) -> bool {
     true
 }
 
-// The reservations that logs of harts and banks tell.
+// The reservations by the logs of harts and banks.
 fn reservations_of<A: Allocator + Copy>(alloc: A, banked: &Banked<A>) -> Result<Reserve, Lack> {
     let mut marks = Vec::new(alloc);
     for bank in &banked.banks {
@@ -101,7 +101,8 @@ fn reservations_of<A: Allocator + Copy>(alloc: A, banked: &Banked<A>) -> Result<
     Ok(joined(&marks, &named))
 }
 
-// Whether a machine has, at the word of an access, the bank's bytes, and the hart's reservation if it has one there.
+// Whether a machine has, at the word of an access, the bank's bytes, and the hart's reservation if
+// it has one there.
 fn has_word<A: Allocator>(
     machine: &Machine<FlatStore<A>, A>,
     reserved: &Reserve,
@@ -117,7 +118,7 @@ fn has_word<A: Allocator>(
         && machine.reserve().holds(hart, word) == reserved.holds(hart, word)
 }
 
-// Whether it does so at all words that were accessed.
+// Whether it has them at all words that were accessed.
 fn has_words<A: Allocator>(
     machine: &Machine<FlatStore<A>, A>,
     reserved: &Reserve,
@@ -133,7 +134,7 @@ fn has_words<A: Allocator>(
     true
 }
 
-/// Merged choices, and the harts with which their run ends.
+/// Merged choices, and the harts at the end of their run.
 #[derive(Drop)]
 pub struct Done<A: Allocator> {
     /// The choices.
@@ -142,7 +143,7 @@ pub struct Done<A: Allocator> {
     pub harts: Vec<Hart, A>,
 }
 
-/// Runs a program, merges what that leaves, does the choices again and looks whether they end as the logs do.
+/// Runs a program, merges its logs, replays the choices and checks that they end as the logs do.
 pub fn checked<A: Allocator + Copy + Send + Sync, G: Gate + Sync, R: Threads + Wait + Sync>(
     rt: &R,
     alloc: A,
@@ -155,8 +156,9 @@ pub fn checked<A: Allocator + Copy + Send + Sync, G: Gate + Sync, R: Threads + W
     let (Ok(image), Ok(plan)) = (program_image(alloc, program), plan_of(alloc, pairs)) else {
         return Err(Lack::Memory);
     };
-    let Merged { banked, choices } = run_merged(rt, alloc, &image, inputs, budget, &plan, gate)?;
-    let machine = machine_after(alloc, &image, inputs, &choices)?;
+    let inputs = Inputs::new(inputs)?;
+    let Merged { banked, choices } = run_merged(rt, alloc, &image, &inputs, budget, &plan, gate)?;
+    let machine = machine_after(alloc, &image, &inputs, &choices)?;
     if !are_ends(machine.ends(), &banked.logs) {
         return Err(Lack::Ends);
     }
@@ -170,7 +172,7 @@ pub fn checked<A: Allocator + Copy + Send + Sync, G: Gate + Sync, R: Threads + W
     Ok(Done { choices, harts })
 }
 
-/// What all harts exited with, if they did so with one value.
+/// The exit status of all harts, if it is the same.
 pub fn one_value(harts: &[Hart]) -> Option<u32> {
     let mut value = None;
     for hart in harts {

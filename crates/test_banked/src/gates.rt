@@ -6,7 +6,7 @@ use thread_gate::Gate;
 // How long a hart waits.
 const TURNS: u32 = 10_000_000;
 
-/// Holds a hart before each of its segments until the others have come to so many of theirs.
+/// Holds a hart before each of its segments until the others have reached a number of theirs.
 #[derive(Drop)]
 pub struct Holding {
     held: u32,
@@ -15,7 +15,7 @@ pub struct Holding {
 }
 
 impl Holding {
-    /// Holds this hart until the others have come to `enough` segments.
+    /// Holds this hart until the others have reached `enough` segments.
     pub fn new(held: u32, enough: u64) -> Holding {
         Holding {
             held,
@@ -40,12 +40,12 @@ impl Gate for Holding {
     }
 }
 
-/// Where two harts meet.
+/// A place where two harts meet.
 #[derive(Clone, Copy)]
 pub enum Place {
     /// Before their first segment, where no lock is held.
     Segment,
-    /// In the access of each to the bank behind that of its number, where its lock is held.
+    /// During each one's access to the bank after that of its number, where its lock is held.
     Bank,
 }
 
@@ -58,7 +58,7 @@ pub struct Meeting {
 }
 
 impl Meeting {
-    /// Nobody has come there yet.
+    /// No hart has come there yet.
     pub fn new(place: Place) -> Meeting {
         Meeting {
             place,
@@ -67,12 +67,12 @@ impl Meeting {
         }
     }
 
-    /// How many harts have met the other one.
+    /// Number of harts that have met the other one.
     pub fn met(&self) -> u64 {
         self.met.load(Ordering::SeqCst)
     }
 
-    // Waits for the other hart, the first time that this one comes.
+    // Waits for the other hart, when this one comes for the first time.
     fn meet(&self, hart: u32) {
         if hart >= 2 || self.came[hart as usize].swap(1, Ordering::SeqCst) == 1 {
             return;

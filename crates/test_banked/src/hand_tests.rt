@@ -1,4 +1,4 @@
-//! Logs that are filled by hand: stamps, and what is merged and what isn't.
+//! Logs filled by hand: stamps, and which logs are merged.
 use crate::merging::{Lack, by_hand};
 use crate::programs::{ADDITIONS, STORES};
 use bank_hart_log::HartLog;
@@ -40,7 +40,7 @@ pub fn segment(stamp: u64, data_access: Option<LoggedAccess>) -> LogSegment {
     }
 }
 
-// The last stamp that there is.
+// The last stamp.
 const LAST: u64 = u64::MAX - 1;
 
 // The last stamp of a hart, those of banks, and the next one.
@@ -60,7 +60,8 @@ fn stamps_follow(rt: HostRuntime) {
     }
 }
 
-// What a program's one hart logs by two segments, each a stamp and an access, the accesses of its banks, and why both are not merged.
+// The two segments of a program's one hart, each a stamp and an access; the accesses of its banks;
+// and why they aren't merged.
 struct Row {
     name: &'static str,
     program: Program,
@@ -137,7 +138,7 @@ const ROWS: [Row; 8] = [
     },
 ];
 
-// How many choices a row's logs are merged to.
+// Number of choices of a row's merged logs.
 fn count_merged<A: Allocator + Copy>(alloc: A, row: &Row) -> Result<usize, Lack> {
     let Ok(image) = program_image(alloc, row.program) else {
         return Err(Lack::Memory);
@@ -166,13 +167,13 @@ const AT_LAST: LoggedAccess = LoggedAccess {
     ..FIRST
 };
 
-// Whether a hart behind the last stamp has no next one.
+// Whether a hart after the last stamp has no next one.
 fn hart_has_no_next<A: Allocator + Copy>(alloc: A, image: &Image<A>) -> bool {
     let mut log = HartLog::new(alloc, image, &[7], 0);
     log.add(segment(LAST, Some(AT_LAST))).is_ok() && next_stamp(log.last_stamp(), &[]).is_none()
 }
 
-// Whether a hart has none that accesses a bank behind it.
+// Whether there is no next stamp for a hart that accesses a bank after the last one.
 fn bank_has_no_next<A: Allocator + Copy>(alloc: A, image: &Image<A>) -> bool {
     let mut bank = Bank::new(alloc, image, &[7], 0);
     bank.add(AT_LAST).is_ok() && next_stamp(0, &[bank.last_stamp()]).is_none()

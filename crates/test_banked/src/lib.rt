@@ -1,4 +1,5 @@
-//! Tests of memory in banks: logs of harts and of banks, runs that leave them, and the runs that they are.
+//! Tests of `bank_hart_log`, `bank_merge`, `bank_reservations`, `history_choices`, `bank_worker`
+//! and `bank_threads`.
 #![tactic(auto)]
 
 #[cfg(test)]

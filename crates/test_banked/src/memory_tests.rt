@@ -1,5 +1,5 @@
-//! Where the host refuses memory, that is told, nothing has changed, and the same call is right once memory is back. And what choices are as
-//! histories.
+//! Tests that out of memory is reported, nothing has changed then, and the same call succeeds once
+//! memory is back. Also choices as histories.
 ghost use Rattle.bank_merge.specs.Logs.{AreOfOne};
 
 use crate::checked::{checked, one_value};
@@ -80,7 +80,8 @@ fn choices_are_their_history(rt: HostRuntime) {
     assert!(rt; is_their_history(rt.alloc()) == Ok(true));
 }
 
-// Adds a segment to a new log. Each of these calls tells whether it was right, and none where memory was refused and all is as before.
+// Adds a segment to a new log. Each of these calls returns whether its result is right, and `None`
+// if it was out of memory and nothing has changed.
 fn add_segment<A: Allocator>(log: &mut HartLog<A>) -> Option<bool> {
     match log.add(segment(1, Some(FIRST))) {
         Ok(()) => Some(log.segments().len() == 1 && log.slot().pc == PROGRAM_START + 4),
@@ -115,7 +116,6 @@ fn merge_both<A: Allocator + Copy>(alloc: A, hand: &ByHand<A>) -> Option<bool>
     }
 }
 
-// Makes a history.
 fn make_history<A: Allocator>(alloc: A) -> Option<bool> {
     match history_of(alloc, &CHOICES) {
         Ok(history) => Some(history.len() == 4),
@@ -141,7 +141,8 @@ fn run_object<A: Allocator + Copy + Send + Sync, R: Threads + Wait + Sync>(
     }
 }
 
-// What is told of a call that was refused memory, by the call that is made again. Once memory is back, that must be right.
+// The result of a call that was refused memory, by the same call again. Once memory is back, it
+// must succeed.
 fn told_by<A: Allocator>(alloc: A, again: Option<bool>) -> Result<bool, AllocError> {
     match again {
         Some(true) => Err(AllocError),
@@ -156,7 +157,7 @@ fn told_by<A: Allocator>(alloc: A, again: Option<bool>) -> Result<bool, AllocErr
     }
 }
 
-// A segment is added to the log of a hart, twice where memory is refused.
+// Adds a segment to the log of a hart, again if out of memory.
 fn ask_segment<A: Allocator + Copy>(alloc: A, image: &Image<A>) -> Result<bool, AllocError> {
     let mut log = HartLog::new(alloc, image, &[7], 0);
     match add_segment(&mut log) {
@@ -165,7 +166,7 @@ fn ask_segment<A: Allocator + Copy>(alloc: A, image: &Image<A>) -> Result<bool, 
     }
 }
 
-// An access is added to a bank.
+// Adds an access to a bank.
 fn ask_access<A: Allocator + Copy>(alloc: A, image: &Image<A>) -> Result<bool, AllocError> {
     let mut bank = Bank::new(alloc, image, &[7], 0);
     match add_access(&mut bank) {
@@ -174,7 +175,7 @@ fn ask_access<A: Allocator + Copy>(alloc: A, image: &Image<A>) -> Result<bool, A
     }
 }
 
-// Logs are merged.
+// Merges logs.
 fn ask_merging<A: Allocator + Copy>(alloc: A, image: &Image<A>) -> Result<bool, AllocError> {
     let first = segment(1, Some(FIRST));
     let second = segment(2, Some(SECOND));
@@ -187,7 +188,7 @@ fn ask_merging<A: Allocator + Copy>(alloc: A, image: &Image<A>) -> Result<bool, 
     }
 }
 
-// A history is made.
+// Makes a history.
 fn ask_history<A: Allocator + Copy>(alloc: A) -> Result<bool, AllocError> {
     match make_history(alloc) {
         Some(is_right) => Ok(is_right),
@@ -195,7 +196,7 @@ fn ask_history<A: Allocator + Copy>(alloc: A) -> Result<bool, AllocError> {
     }
 }
 
-// A run is made.
+// Runs an object.
 fn ask_run<A: Allocator + Copy + Send + Sync, R: Threads + Wait + Sync>(
     rt: &R,
     alloc: A,
@@ -239,16 +240,16 @@ fn each_call_tells_want_of_memory(rt: HostRuntime) {
     }
 }
 
-// What is wrong with a run whose request behind so many is refused.
+// What is wrong with a call whose request after a number of others is refused.
 #[derive(Clone, Copy, PartialEq, Eq)]
 enum Wrong {
-    // Want of memory isn't told, or is told where there was none.
+    // Out of memory isn't reported, or is reported where no request was refused.
     Behind(u64),
-    // Memory is asked for without end.
+    // The call requests memory without end.
     Endless,
 }
 
-// What is wrong with a run whose requests are refused in turn, until none is left to refuse.
+// What is wrong with a call whose requests are refused in turn, until none is left to refuse.
 fn wrong_in_runs<R: Threads + Wait + Sync>(
     rt: &R,
     host: Global,

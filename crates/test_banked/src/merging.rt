@@ -1,4 +1,4 @@
-//! Logs of one program, merged.
+//! Merges logs of one program.
 ghost use Rattle.std.specs.Prelude.{◌≤◌, length, IfOk};
 ghost use Rattle.bank_merge.specs.Logs.{AreOfOne};
 
@@ -9,27 +9,29 @@ use bank_merge::{MergeFault, merge};
 use bank_order::LogSegment;
 use bank_threads::{RunFault, are_of_banks, are_of_harts};
 use image::Image;
-use machine::Choice;
+use machine::{Choice, StartFault};
 use std::alloc::Allocator;
 use test_images::PROGRAM_START;
 use thread_gate::Plan;
 
-/// What logs or their run are found to lack.
+/// What logs or their run lack.
 #[derive(Clone, Copy, PartialEq, Eq)]
 pub enum Lack {
-    /// Memory was refused beside these calls.
+    /// Memory, in another call.
     Memory,
+    /// There is no hart for each input.
+    Start(StartFault),
     /// A run has left no logs.
     Logs(RunFault),
-    /// A segment isn't taken.
+    /// A segment is refused.
     Segment(bank_hart_log::AddFault),
-    /// An access isn't taken.
+    /// An access is refused.
     Access(bank_memory::AddFault),
-    /// The logs are not of the program.
+    /// The logs aren't those of the program.
     Program,
-    /// They are not merged.
+    /// They aren't merged.
     Merged(MergeFault),
-    /// The merged choices can't be done.
+    /// The merged choices can't be replayed.
     Again,
     /// They end with other harts than the logs.
     Ends,
@@ -38,7 +40,7 @@ pub enum Lack {
 }
 
 impl Lack {
-    /// Whether memory was refused.
+    /// Whether it is out of memory.
     pub fn is_of_memory(self) -> bool {
         match self {
             Lack::Logs(fault) => fault == RunFault::Memory,
@@ -46,8 +48,14 @@ impl Lack {
             Lack::Access(fault) => fault == bank_memory::AddFault::Memory,
             Lack::Merged(fault) => fault == MergeFault::Memory,
             Lack::Memory => true,
-            Lack::Program | Lack::Again | Lack::Ends | Lack::Words => false,
+            Lack::Start(_) | Lack::Program | Lack::Again | Lack::Ends | Lack::Words => false,
         }
+    }
+}
+
+impl From<StartFault> for Lack {
+    fn from(fault: StartFault) -> Lack {
+        Lack::Start(fault)
     }
 }
 
@@ -75,7 +83,7 @@ impl From<MergeFault> for Lack {
     }
 }
 
-/// Merges logs of harts and banks, once they are seen to be those of a run.
+/// Merges logs of harts and banks, once they are checked to be those of a run.
 pub fn merged_with<A: Allocator + Copy>(
     alloc: A,
     image: &Image<A>,
@@ -97,7 +105,7 @@ pub fn merged_with<A: Allocator + Copy>(
     }
 }
 
-// Adds those of some accesses that are to a bank's words.
+// Adds those accesses that are to a bank's words.
 fn fill<A: Allocator + Clone>(bank: &mut Bank<A>, accesses: &[LoggedAccess]) -> Result<(), Lack> {
     for access in accesses {
         if access.word / 4 % BANKS == bank.number() {
@@ -127,7 +135,7 @@ pub fn banks_of<'a, A: Allocator + Copy>(
     Ok(banks)
 }
 
-/// Logs that were filled by hand.
+/// Logs filled by hand.
 #[derive(Drop)]
 pub struct ByHand<'a, A: Allocator> {
     /// The log of the one hart.

@@ -1,4 +1,5 @@
-//! The library's objects on threads over banks, under plans of any kind: each run is merged, and ends as its logs, with its rule kept.
+//! The library's objects on threads over banks, under drawn plans: each run is merged, and ends as
+//! its logs, with its rule kept.
 use crate::checked::checked;
 use crate::merging::Lack;
 use hart_step::HartState;
@@ -18,13 +19,13 @@ const OBJECTS: [(Kind, &[u32]); 5] = [
     (Kind::Rounds, &[2, 2, 5]),
 ];
 
-// How many runs each object has.
+// Number of runs of each object.
 const RUNS: u32 = 1000;
 
 // More choices than a hart of any object needs.
 const BUDGET: u32 = 500;
 
-// Pairs that follow from a number, of harts that may not be there, and of low numbers.
+// Pairs drawn from a number, of harts that may not exist, and of low numbers.
 fn pairs_of(number: u32) -> [(u32, u32); 4] {
     let mut pairs = [(0, 0); 4];
     let mut drawn = number;
@@ -35,7 +36,7 @@ fn pairs_of(number: u32) -> [(u32, u32); 4] {
     pairs
 }
 
-// Runs an object; its verdict, if all its harts have stopped.
+// Runs an object; returns its verdict, if all its harts have stopped.
 fn verdict_of<A: Allocator + Copy + Send + Sync, R: Threads + Wait + Sync>(
     rt: &R,
     alloc: A,

@@ -1,4 +1,4 @@
-//! Runs over banks that are merged and done again, and harts that meet.
+//! Runs over banks that are merged and replayed, and harts that meet.
 use crate::checked::{checked, one_value};
 use crate::gates::{Meeting, Place};
 use crate::merging::Lack;
@@ -14,7 +14,7 @@ const LR_SC: Program = Program::Object(Kind::LrSc);
 
 const SWAP: Program = Program::Object(Kind::Swap);
 
-// A program, its inputs, the budget, the plan, and the values of which one is left, if harts exit.
+// A program, its inputs, the budget, the plan, and the possible exit statuses, if harts exit.
 const ROWS: [(Program, &[u32], u32, &[(u32, u32)], &[Option<u32>]); 8] = [
     (STORE_OVER_NEXT, &[7, 9], 7, &[], &[Some(5)]),
     (STORE_OVER_NEXT, &[7, 9, 11], 6, &[], &[None]),
@@ -38,7 +38,7 @@ const ROWS: [(Program, &[u32], u32, &[(u32, u32)], &[Option<u32>]); 8] = [
     (RESERVE_AND_STORE, &[7, 9, 11], 2, &[], &[None]),
 ];
 
-// The one value with which all harts of a run exit, if there is one.
+// The exit status of all harts of a run, if it is the same.
 fn value_of<A: Allocator + Copy + Send + Sync, R: Threads + Wait + Sync>(
     rt: &R,
     alloc: A,
@@ -51,7 +51,7 @@ fn value_of<A: Allocator + Copy + Send + Sync, R: Threads + Wait + Sync>(
     Ok(one_value(&done.harts))
 }
 
-// Whether a value is one of those wanted.
+// Whether a value is one of those expected.
 fn is_wanted(found: Result<Option<u32>, Lack>, values: &[Option<u32>]) -> bool {
     match found {
         Ok(value) => values.contains(&value),
@@ -69,7 +69,7 @@ fn many_harts_are_one_run(rt: HostRuntime) {
     }
 }
 
-// How many harts of Swap meet at a place, in a run that is merged and ends as its logs.
+// Number of harts of Swap that meet at a place, in a run that is merged and ends as its logs.
 fn count_met<A: Allocator + Copy + Send + Sync, R: Threads + Wait + Sync>(
     rt: &R,
     alloc: A,
@@ -85,7 +85,8 @@ fn two_harts_meet(rt: HostRuntime) {
     assert!(rt; count_met(&rt, rt.alloc(), Place::Segment) == Ok(2));
 }
 
-// Each hart holds the lock of its bank until the other one holds its own: one lock round all banks would not let them meet.
+// Each hart holds the lock of its bank until the other one holds its own: with one lock for all
+// banks they would not meet.
 #[test]
 fn two_banks_meet(rt: HostRuntime) {
     assert!(rt; count_met(&rt, rt.alloc(), Place::Bank) == Ok(2));

@@ -1,4 +1,5 @@
-//! Stamps that are used up, which no run of threads can lead to: a bank's word was accessed with a late stamp before a hart begins.
+//! Exhausted stamps, which no run of threads reaches: a bank's word was accessed with a late stamp
+//! before a hart begins.
 use crate::programs::STORES;
 use bank_laws::{LoggedAccess, LoggedKind};
 use bank_worker::{Job, StepFault, work};
@@ -21,7 +22,7 @@ fn load_at(stamp: u64) -> LoggedAccess {
     }
 }
 
-// Why a hart of stores ends early, where its word was accessed with a stamp before it begins.
+// Why a hart of stores ends early, if its word was accessed with this stamp before it begins.
 fn fault_behind<A: Allocator + Copy, R: Wait>(
     rt: &R,
     alloc: A,
@@ -38,7 +39,8 @@ fn fault_behind<A: Allocator + Copy, R: Wait>(
     Ok(work(rt, alloc, &job, &OpenGate, 0).err())
 }
 
-// The stamp of the access before, the hart's budget, and why it ends early. The last stamp that there is, is u64::MAX - 1.
+// The stamp of the access before, the hart's budget, and why it ends early. The last stamp is
+// `u64::MAX - 1`.
 const ROWS: [(u64, u32, Option<StepFault>); 5] = [
     (0, 2, None),
     (u64::MAX - 3, 2, None),

@@ -1,4 +1,4 @@
-//! Swap of two harts over banks, one after the other: the worked run of `docs/BANKS.md`.
+//! Swap of two harts over banks, one after the other: the example of `docs/BANKS.md`.
 use crate::checked::{Merged, machine_after, run_merged};
 use crate::gates::Holding;
 use crate::merging::{Lack, banks_of, merged_with};
@@ -8,7 +8,7 @@ use bank_memory::Bank;
 use bank_merge::MergeFault;
 use hart_step::{Hart, HartState};
 use image::Image;
-use machine::Choice;
+use machine::{Choice, Inputs};
 use object_library::Kind;
 use sched_text::print_runs;
 use std::alloc::{AllocError, Allocator};
@@ -17,11 +17,11 @@ use std::thread::Threads;
 use test_programs::{Program, plan_of, program_image};
 use thread_gate::Plan;
 
-const INPUTS: [u32; 2] = [7, 9];
+const WORDS: [u32; 2] = [7, 9];
 
 const BUDGET: u32 = 100;
 
-// A segment as it is compared: its stamp, its local steps, and the bank of its last step's word.
+// A segment for comparison: its stamp, its local steps, and the bank of its last step's word.
 type Step = (u64, u32, Option<u32>);
 
 // What each hart does.
@@ -35,7 +35,7 @@ const STEPS: [&[Step]; 2] = [
     &[(1, 3, Some(2)), (2, 1, Some(0)), (3, 4, None)],
 ];
 
-// The choices of that.
+// The choices of these steps.
 const CHOICES: &str = "0*4 1*6 0*2 1*5 0*9\n";
 
 // Runs hart 1 up to its last step, which touches nothing, and then hart 0.
@@ -43,13 +43,13 @@ fn run_swap<'a, A: Allocator + Copy + Send + Sync, R: Threads + Wait + Sync>(
     rt: &R,
     alloc: A,
     image: &'a Image<A>,
+    inputs: &'a Inputs,
     plan: &'a Plan<A>,
 ) -> Result<Merged<'a, A>, Lack> {
     let gate = Holding::new(0, 3);
-    run_merged(rt, alloc, image, &INPUTS, BUDGET, plan, &gate)
+    run_merged(rt, alloc, image, inputs, BUDGET, plan, &gate)
 }
 
-// Whether a log has these steps.
 fn has_steps<A: Allocator>(log: &HartLog<A>, steps: &[Step]) -> bool {
     if log.segments().len() != steps.len() {
         return false;
@@ -63,7 +63,6 @@ fn has_steps<A: Allocator>(log: &HartLog<A>, steps: &[Step]) -> bool {
     true
 }
 
-// Whether the harts' logs have their steps.
 fn have_steps<A: Allocator>(logs: &[HartLog<A>]) -> bool {
     if logs.len() != STEPS.len() {
         return false;
@@ -76,7 +75,7 @@ fn have_steps<A: Allocator>(logs: &[HartLog<A>]) -> bool {
     true
 }
 
-// Whether choices are those, as a text.
+// Whether choices are those of the text.
 fn are_choices<A: Allocator + Copy>(alloc: A, choices: &[Choice]) -> Result<bool, AllocError> {
     let text = print_runs(alloc, choices)?;
     Ok(text.as_str() == CHOICES)
@@ -87,7 +86,7 @@ fn has_ended(hart: &Hart) -> bool {
     hart.state == HartState::Exited(9) && hart.registers[11] == 1
 }
 
-// What of the run isn't as the page has it, if anything.
+// The difference of the run from the page, if any.
 fn found_wrong<A: Allocator + Copy + Send + Sync, R: Threads + Wait + Sync>(
     rt: &R,
     alloc: A,
@@ -96,14 +95,15 @@ fn found_wrong<A: Allocator + Copy + Send + Sync, R: Threads + Wait + Sync>(
     let (Ok(image), Ok(plan)) = (program_image(alloc, program), plan_of(alloc, &[])) else {
         return Err(Lack::Memory);
     };
-    let Merged { banked, choices } = run_swap(rt, alloc, &image, &plan)?;
+    let inputs = Inputs::new(&WORDS)?;
+    let Merged { banked, choices } = run_swap(rt, alloc, &image, &inputs, &plan)?;
     if !have_steps(&banked.logs) {
         return Err(Lack::Words);
     }
     if are_choices(alloc, &choices) != Ok(true) {
         return Err(Lack::Again);
     }
-    let machine = machine_after(alloc, &image, &INPUTS, &choices)?;
+    let machine = machine_after(alloc, &image, &inputs, &choices)?;
     if machine.ends().len() == 2 && machine.ends().iter().all(has_ended) {
         Ok(())
     } else {
@@ -135,7 +135,7 @@ fn accesses_without<A: Allocator + Copy>(
     Some(accesses)
 }
 
-// How many choices the run is merged to, without the last accesses of bank 0.
+// Number of choices of the merged run, without the last accesses of bank 0.
 fn merged_without<A: Allocator + Copy + Send + Sync, R: Threads + Wait + Sync>(
     rt: &R,
     alloc: A,
@@ -145,12 +145,13 @@ fn merged_without<A: Allocator + Copy + Send + Sync, R: Threads + Wait + Sync>(
     let (Ok(image), Ok(plan)) = (program_image(alloc, program), plan_of(alloc, &[])) else {
         return Err(Lack::Memory);
     };
-    let Merged { banked, .. } = run_swap(rt, alloc, &image, &plan)?;
+    let inputs = Inputs::new(&WORDS)?;
+    let Merged { banked, .. } = run_swap(rt, alloc, &image, &inputs, &plan)?;
     let Some(accesses) = accesses_without(alloc, &banked.banks, dropped) else {
         return Err(Lack::Memory);
     };
-    let banks = banks_of(alloc, &image, &INPUTS, &accesses)?;
-    let choices = merged_with(alloc, &image, &INPUTS, BUDGET, &plan, &banked.logs, &banks)?;
+    let banks = banks_of(alloc, &image, &WORDS, &accesses)?;
+    let choices = merged_with(alloc, &image, &WORDS, BUDGET, &plan, &banked.logs, &banks)?;
     Ok(choices.len())
 }
 

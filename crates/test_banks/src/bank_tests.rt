@@ -1,4 +1,4 @@
-//! A bank takes what it has, and only that.
+//! A bank logs accesses that find what it has, and no others.
 use crate::worked::{FIRST, OTHER, TWO_WORDS, WORD, access};
 use bank_laws::{LoggedAccess, LoggedKind};
 use bank_memory::{AddFault, Bank, next_stamp};
@@ -6,7 +6,7 @@ use bank_order::{LogSegment, is_rising};
 use std::alloc::{AllocError, Global};
 use test_images::image_of;
 
-// Adds accesses, and tells whether each was taken.
+// Adds accesses, and returns whether each was logged.
 fn are_taken(bank: &mut Bank<Global>, accesses: &[LoggedAccess]) -> bool {
     'accesses: for access in accesses {
         if bank.add(*access).is_err() {

@@ -1,4 +1,4 @@
-//! Tests of memory in banks: `banks` and `segment_order`.
+//! Tests of `bank_memory` and `bank_order`.
 #![tactic(auto)]
 
 #[cfg(test)]

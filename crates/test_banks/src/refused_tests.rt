@@ -1,4 +1,4 @@
-//! Where the host refuses memory, an access is not taken.
+//! If the host refuses memory, an access isn't logged.
 use crate::worked::{FIRST, OTHER, TWO_WORDS, WORD, access};
 use bank_laws::LoggedKind;
 use bank_memory::{AddFault, Bank};
@@ -6,7 +6,7 @@ use std::alloc::{AllocError, Allocator, Global};
 use test_images::image_of;
 use test_refusing::{Call, tried};
 
-// An access is added.
+// Adds an access.
 #[derive(Clone, Copy)]
 struct Adding;
 

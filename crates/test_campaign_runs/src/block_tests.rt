@@ -6,18 +6,13 @@ use crate::plain_runs::plain_ending;
 use crate::plans::{Order, Plan, answered, campaign_of, program_of};
 use campaign_runs::{Block, HartResult, Report, SeedEnd, Seeds, run_block};
 use image::Image;
-use machine::{StartFault, check_inputs};
+use machine::Inputs;
 use object_library::Kind;
 use outcome::Exit;
 use program_open::CommandFault;
-use std::alloc::Global;
+use std::alloc::{AllocError, Global};
 use std::thread::Threads;
 use test_images::{CONDITIONAL, writable_program};
-
-// The program.
-fn program(alloc: Global) -> Result<Image<Global>, StartFault> {
-    writable_program(alloc, &CONDITIONAL).map_err(|_| StartFault::Memory)
-}
 
 // Runs of so many steps, told apart by what harts left.
 fn plan_of(first: u64, count: u64, steps: u32) -> Plan {
@@ -37,17 +32,19 @@ fn ends_of<R: Threads + Sync>(
     alloc: Global,
     inputs: &[u32],
     plan: Plan,
-) -> Result<Vec<SeedEnd<Global>, Global>, StartFault> {
-    let image = program(alloc)?;
-    check_inputs(inputs)?;
+) -> Result<Vec<SeedEnd<Global>, Global>, AllocError> {
+    let image = writable_program(alloc, &CONDITIONAL)?;
+    let Ok(inputs) = Inputs::new(inputs) else {
+        return Err(AllocError);
+    };
     let Some(campaign) = campaign_of(plan, Report::Outcomes) else {
-        return Err(StartFault::Memory);
+        return Err(AllocError);
     };
     let block = Block {
         first: campaign.first,
         count: campaign.count,
     };
-    run_block(rt, alloc, &image, inputs, campaign, block).map_err(|_| StartFault::Memory)
+    run_block(rt, alloc, &image, &inputs, campaign, block)
 }
 
 // The inputs of four harts.
@@ -79,14 +76,14 @@ fn count_plain(alloc: Global, image: &Image<Global>, ends: &[SeedEnd<Global>]) -
 
 // How many runs of threads there are of the last seeds, and how many of them are those of plain
 // machines.
-fn count_runs<R: Threads + Sync>(rt: &R, alloc: Global) -> Result<(usize, u64), StartFault> {
+fn count_runs<R: Threads + Sync>(rt: &R, alloc: Global) -> Result<(usize, u64), AllocError> {
     let ends = ends_of(rt, alloc, &FOUR, plan_of(FIRST, 3000, 30))?;
-    let image = program(alloc)?;
+    let image = writable_program(alloc, &CONDITIONAL)?;
     Ok((ends.len(), count_plain(alloc, &image, ends.as_slice())))
 }
 
 #[test]
-fn threads_run_what_plain_machines_run(rt: HostRuntime) -> Result<(), StartFault> {
+fn threads_run_what_plain_machines_run(rt: HostRuntime) -> Result<(), AllocError> {
     let (runs, plain) = count_runs(&rt, rt.alloc())?;
     assert!(rt; runs == 3000);
     assert!(rt; plain == 3000, "run {plain}");
@@ -102,7 +99,7 @@ fn is_at_start(end: &SeedEnd<Global>) -> bool {
 }
 
 // Whether the runs of two seeds without a step are at the start.
-fn are_at_start<R: Threads + Sync>(rt: &R, alloc: Global) -> Result<bool, StartFault> {
+fn are_at_start<R: Threads + Sync>(rt: &R, alloc: Global) -> Result<bool, AllocError> {
     let ends = ends_of(rt, alloc, &[7, 9], plan_of(5, 2, 0))?;
     match ends.as_slice() {
         [one, other] => Ok(is_at_start(one) && is_at_start(other)),
@@ -130,7 +127,7 @@ fn count_of<R: Threads + Sync>(
 }
 
 // Inputs, how many seeds are run, and how many runs there are.
-struct Inputs {
+struct Counted {
     inputs: &'static [u32],
     count: u64,
     runs: Result<usize, CommandFault>,
@@ -138,18 +135,18 @@ struct Inputs {
 
 // The inputs are checked also where no seed is run.
 #[rattlefmt::skip]
-const INPUTS: [Inputs; 6] = [
-    Inputs { inputs: &[], count: 0, runs: Err(CommandFault::NoHarts) },
-    Inputs { inputs: &[0; 100], count: 0, runs: Err(CommandFault::TooManyHarts) },
-    Inputs { inputs: &[7], count: 0, runs: Ok(0) },
-    Inputs { inputs: &[], count: 3, runs: Err(CommandFault::NoHarts) },
-    Inputs { inputs: &[0; 100], count: 3, runs: Err(CommandFault::TooManyHarts) },
-    Inputs { inputs: &[7], count: 3, runs: Ok(3) },
+const COUNTED: [Counted; 6] = [
+    Counted { inputs: &[], count: 0, runs: Err(CommandFault::NoHarts) },
+    Counted { inputs: &[0; 100], count: 0, runs: Err(CommandFault::TooManyHarts) },
+    Counted { inputs: &[7], count: 0, runs: Ok(0) },
+    Counted { inputs: &[], count: 3, runs: Err(CommandFault::NoHarts) },
+    Counted { inputs: &[0; 100], count: 3, runs: Err(CommandFault::TooManyHarts) },
+    Counted { inputs: &[7], count: 3, runs: Ok(3) },
 ];
 
 #[test]
 fn inputs_are_checked_first(rt: HostRuntime) {
-    for row in &INPUTS {
+    for row in &COUNTED {
         assert!(rt;
             count_of(&rt, rt.alloc(), row.inputs, row.count) == Some(row.runs),
             "{} inputs",
@@ -184,12 +181,11 @@ fn left_behind<'a>(
 fn are_blocks_whole<R: Threads + Sync>(rt: &R, alloc: Global, count: u64) -> Option<bool>
     requires { count ≤ 5000 }
 {
-    let image = program(alloc).ok()?;
-    let inputs = [7, 9];
-    check_inputs(&inputs).ok()?;
+    let image = writable_program(alloc, &CONDITIONAL).ok()?;
+    let inputs = Inputs::new(&[7, 9]).ok()?;
     let plan = plan_of(5, count, 8);
     let campaign = campaign_of(plan, Report::Outcomes)?;
-    let whole = ends_of(rt, alloc, &inputs, plan).ok()?;
+    let whole = ends_of(rt, alloc, inputs.words(), plan).ok()?;
     let mut left = whole.as_slice();
     let mut seeds = Seeds::new(5, count);
     for _ in 0..10 {

@@ -5,7 +5,7 @@ use crate::plans::{Order, draw_of};
 use campaign_runs::{Ending, HartResult};
 use hart_step::{Hart, HartState};
 use image::Image;
-use machine::{Choice, Machine};
+use machine::{Choice, Inputs, Machine};
 use mem_flat::FlatStore;
 use outcome::Outcome;
 use sched_draw::{Schedule, list_schedule};
@@ -83,12 +83,10 @@ pub(crate) fn plain_ending(
     steps: u32,
     seed: u64,
 ) -> Option<Ending<Global>> {
-    if inputs.is_empty() || inputs.len() > 32 {
-        return None;
-    }
-    let choices = choices_of(alloc, order, inputs.len() as u32, steps, seed)?;
+    let inputs = Inputs::new(inputs).ok()?;
+    let choices = choices_of(alloc, order, inputs.harts(), steps, seed)?;
     let mut machine: Machine<FlatStore<Global>, Global> = Machine::start(
-        alloc, image, inputs,
+        alloc, image, &inputs,
     ).ok()?;
     if !are_stepped(&mut machine, choices.as_slice()) {
         return None;

@@ -1,7 +1,9 @@
 //! What no clause says of the first machine of a campaign and of one seed's run: that they are had
 //! where memory is left, with each request refused in turn.
 use crate::plans::{Order, draw_of};
-use campaign_runs::{Campaign, Report, first_machine, run_seed};
+use campaign_runs::{Campaign, Report, run_seed};
+use machine::{Inputs, Machine};
+use mem_flat::FlatStore;
 use object_library::Kind;
 use outcome::{Exit, Expect};
 use sched_draw::Draw;
@@ -35,8 +37,11 @@ impl Call for OneSeed {
             return Ok(false);
         };
         let image = writable_program(host, &CONDITIONAL)?;
-        let start = first_machine(alloc, &image, &[7, 9])?;
-        let end = run_seed(alloc, &start, &[7, 9], campaign_with(draw), 5)?;
+        let Ok(inputs) = Inputs::new(&[7, 9]) else {
+            return Ok(false);
+        };
+        let start: Machine<FlatStore<A>, A> = Machine::start(alloc, &image, &inputs)?;
+        let end = run_seed(alloc, &start, &inputs, campaign_with(draw), 5)?;
         Ok(end.seed == 5 && end.ending.results.len() == 2)
     }
 }

@@ -1,4 +1,5 @@
-//! What no clause says: a file that is shown and run by campaigns, with devices that work and that fail.
+//! Tests what no clause says: a file that is shown and run by campaigns, with devices that work and
+//! that fail.
 use cmd_campaign::campaign_engine;
 use cmd_run::{
     CommandFault, Exit, Expect, Failing, FileView, FullSink, Input, MemorySink, MemorySource,
@@ -25,14 +26,14 @@ const FACTS: &str = "entry 00010000\nsegment 00010000 8 r-x\nsymbols none\nlibra
 const LISTING: &str =
     "# segment 00010000 8\naddi a7, zero, 93  # 00010000 05d00893\necall  # 00010004 00000073\n";
 
-// What is shown of the file, how many reads of it pass, and how that ends. Nine reads are ample.
+// A view of the file, the number of reads that pass, and the result. Nine reads are ample.
 const SHOWN: [(FileView, u64, Result<Status, CommandFault>, &str); 3] = [
     (FileView::Facts, 9, Ok(Status::Done), FACTS),
     (FileView::Listing, 9, Ok(Status::Done), LISTING),
     (FileView::Facts, 0, Err(CommandFault::Read(Input::File)), ""),
 ];
 
-// How a view of the file ends that is written, and whether this is written.
+// The result of a written view of the file, and whether this is written.
 fn shown(
     alloc: Global,
     view: FileView,
@@ -56,7 +57,7 @@ fn a_file_is_shown(rt: HostRuntime) {
     }
 }
 
-// How a view of the file ends that a full sink should take.
+// The result of a view of the file that a full sink should take.
 fn shown_in_vain(alloc: Global) -> Result<Status, CommandFault> {
     let mut file = MemorySource::new(&EXITS);
     let answer = file_engine(alloc, FileView::Facts, &mut file);
@@ -68,7 +69,7 @@ fn a_full_sink_is_told(rt: HostRuntime) {
     assert!(rt; shown_in_vain(rt.alloc()) == Err(CommandFault::Write));
 }
 
-// Whether the file's run ends so.
+// Whether the file's run ends in this way.
 fn is_run(alloc: Global, text: &str) -> bool {
     let mut program = MemorySource::new(&EXITS);
     let mut choices = MemorySource::new(b"0 0");
@@ -93,7 +94,7 @@ fn a_file_is_run(rt: HostRuntime) {
     assert!(rt; is_run(rt.alloc(), "hart 0 exited a0 00000000 a1 00000007\n"));
 }
 
-// A campaign of the file, how it ends, and what it writes.
+// A campaign of the file, its result, and what it writes.
 struct Campaign {
     inputs: &'static [u32],
     first: u32,
@@ -110,7 +111,7 @@ const CAMPAIGNS: [Campaign; 2] = [
     Campaign { inputs: &[], first: 0, count: 0, steps: 0, ending: Err(CommandFault::NoHarts), text: "" },
 ];
 
-// Whether a campaign ends as wanted.
+// Whether a campaign ends as expected.
 fn is_campaign(rt: &(impl Threads + Sync), alloc: Global, row: &Campaign) -> bool {
     let campaign = plain_campaign(u64::from(row.first), u64::from(row.count), row.steps, None);
     let mut program = MemorySource::new(&EXITS);

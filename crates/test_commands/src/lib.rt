@@ -1,4 +1,5 @@
-//! Tests of the engines and of what they stand on: devices, programs, printed ends, the command line, replays, schedules.
+//! Tests of `byte_io`, `program_open`, `ends`, `cmd_run`, `cmd_campaign`, `cmd_replay`,
+//! `cmd_schedule`, `cli_args`, `cli_orders` and `cli_objects`.
 #![tactic(auto)]
 
 #[cfg(test)]

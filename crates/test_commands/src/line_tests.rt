@@ -1,4 +1,4 @@
-//! What no clause says: worked lines and lists.
+//! Tests what no clause says: example lines and lists.
 use cli_args::{LineFault, RunOrder, read_inputs, read_number};
 use cli_objects::read_object;
 use cli_orders::{
@@ -8,7 +8,7 @@ use cli_orders::{
 use object_library::{KIND_NAMES, Kind};
 use std::alloc::Global;
 
-// Texts, and the inputs that they spell; none where they are refused.
+// Texts, and their inputs; `None` if invalid.
 const INPUTS: [(&str, Option<&[u32]>); 16] = [
     ("7,9", Some(&[7, 9])),
     ("0", Some(&[0])),
@@ -28,7 +28,7 @@ const INPUTS: [(&str, Option<&[u32]>); 16] = [
     ("7;9", None),
 ];
 
-// Whether a text spells these inputs, or is refused where none are wanted.
+// Whether a text has these inputs, or is invalid if none are expected.
 fn has_inputs(alloc: Global, text: &str, wanted: Option<&[u32]>) -> bool {
     match read_inputs(alloc, text) {
         Ok(inputs) => match wanted {
@@ -47,7 +47,8 @@ fn inputs_are_read(rt: HostRuntime) {
     }
 }
 
-// The order that a line gives: its command, and what differs between lines of one command. The texts of each are those of its line.
+// The order that a line gives: its command, and what differs between lines of one command. The
+// texts of each are those of its line.
 #[derive(Clone, Copy)]
 enum Wanted {
     Asm,
@@ -119,7 +120,7 @@ fn is_threads(order: &ThreadsOrder) -> bool {
         && order.locks == Locks::Banks
 }
 
-// Whether an order of a file is the one that is wanted, with the line's texts.
+// Whether an order of a file is the expected one, with the line's texts.
 fn is_file_order(order: &Order, wanted: Wanted) -> bool {
     match (order, wanted) {
         (Order::List(order), Wanted::List) => order.file == "p",
@@ -129,7 +130,7 @@ fn is_file_order(order: &Order, wanted: Wanted) -> bool {
     }
 }
 
-// Whether an order is the one that is wanted, with the line's texts.
+// Whether an order is the expected one, with the line's texts.
 fn is_order(order: &Order, wanted: Wanted) -> bool {
     match order {
         Order::Run(order) => match wanted {
@@ -146,7 +147,7 @@ fn is_order(order: &Order, wanted: Wanted) -> bool {
     }
 }
 
-// Whether a line gives the order that is wanted.
+// Whether a line gives the expected order.
 fn gives(alloc: Global, words: &[&str], wanted: Wanted) -> bool {
     match read_line(alloc, words, KIND_NAMES) {
         Ok(order) => is_order(&order, wanted),
@@ -161,7 +162,7 @@ fn lines_are_read(rt: HostRuntime) {
     }
 }
 
-// A plan's text, how many pairs it holds, and one of them; or none where it is refused.
+// A plan's text, the number of its pairs, and one of them; or `None` if invalid.
 const PLANS: [(&str, Option<(usize, (u32, u32))>); 12] = [
     ("0:12", Some((1, (0, 12)))),
     ("0:12,1:3", Some((2, (1, 3)))),
@@ -177,7 +178,8 @@ const PLANS: [(&str, Option<(usize, (u32, u32))>); 12] = [
     ("0:4294967296", None),
 ];
 
-// Whether a text is a plan of so many pairs with this one among them, or is refused where none is wanted.
+// Whether a text is a plan of this number of pairs with this one among them, or is invalid if none
+// is expected.
 fn has_plan(alloc: Global, text: &str, wanted: Option<(usize, (u32, u32))>) -> bool {
     match read_plan(alloc, text) {
         Ok(plan) => match wanted {
@@ -196,7 +198,7 @@ fn plans_are_read(rt: HostRuntime) {
     }
 }
 
-// Names, and the objects that they name; none where they are refused.
+// Names, and their objects; `None` if invalid.
 const OBJECTS: [(&str, Option<Kind>); 8] = [
     ("swap", Some(Kind::Swap)),
     ("add", Some(Kind::Add)),
@@ -208,7 +210,7 @@ const OBJECTS: [(&str, Option<Kind>); 8] = [
     ("", None),
 ];
 
-// Whether a name is that of this object, or is refused where none is wanted.
+// Whether a name is that of this object, or is invalid if none is expected.
 fn has_object(text: &str, wanted: Option<Kind>) -> bool {
     match read_object(text) {
         Ok(kind) => wanted == Some(kind),
@@ -224,7 +226,7 @@ fn objects_are_read(rt: HostRuntime) {
     }
 }
 
-// Texts, the largest number that is taken, and the numbers that they spell; none where they are refused.
+// Texts, the maximum, and their numbers; `None` if invalid.
 const NUMBERS: [(&str, u64, Option<u64>); 9] = [
     ("0", 0, Some(0)),
     ("007", 7, Some(7)),
@@ -237,7 +239,7 @@ const NUMBERS: [(&str, u64, Option<u64>); 9] = [
     ("1 ", 9, None),
 ];
 
-// Whether a text spells this number, or is refused where none is wanted.
+// Whether a text has this number, or is invalid if none is expected.
 fn has_number(text: &str, most: u64, wanted: Option<u64>) -> bool {
     match read_number(text, most) {
         Ok(number) => wanted == Some(number),
@@ -253,18 +255,18 @@ fn numbers_are_read(rt: HostRuntime) {
     }
 }
 
-// How a line is refused.
+// How a line is rejected.
 #[derive(Clone, Copy, PartialEq)]
 enum Refusal {
-    // By a fault that clap tells.
+    // By a fault of clap.
     Fault,
-    // By a text of clap that is none.
+    // By a text of clap that isn't a fault.
     Help,
     // As one without a command.
     NoCommand,
 }
 
-// Lines that give no order, and how they are refused.
+// Lines that give no order, and how they are rejected.
 #[rattlefmt::skip]
 const REFUSED: [(&str, &[&str], Refusal); 11] = [
     ("another command", &["rvcons", "foo"], Refusal::Fault),
@@ -280,7 +282,7 @@ const REFUSED: [(&str, &[&str], Refusal); 11] = [
     ("version", &["rvcons", "--version"], Refusal::Help),
 ];
 
-// How a line is refused; none where it gives an order, or is refused otherwise.
+// How a line is rejected; `None` if it gives an order, or is rejected otherwise.
 fn refusal_of<'a>(alloc: Global, words: &'a [&'a str]) -> Option<Refusal> {
     match read_line(alloc, words, KIND_NAMES) {
         Err(LineFault::Told(error)) => Some(refusal_by_clap(error.use_stderr())),
@@ -290,7 +292,7 @@ fn refusal_of<'a>(alloc: Global, words: &'a [&'a str]) -> Option<Refusal> {
     }
 }
 
-// How clap refuses a line, by whether it is told on standard error.
+// How clap rejects a line, by whether its text is for standard error.
 fn refusal_by_clap(is_fault: bool) -> Refusal {
     if is_fault {
         Refusal::Fault

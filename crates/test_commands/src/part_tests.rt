@@ -1,4 +1,4 @@
-//! What no clause says: printed texts, words from another source, and failing devices.
+//! Tests what no clause says: printed texts, words from another source, and failing devices.
 use cmd_run::{
     CommandFault, DeviceFault, Exit, Expect, Failing, FullSink, HexFault, Input, MemorySink,
     MemorySource, ReadFault, ReaderSource, Status, WriterSink, ends_text, hex_image, read_all,
@@ -113,7 +113,7 @@ const UNJUDGED: Expect = Expect {
     exit: Exit::May,
 };
 
-// The harts of these ends, and their lines one behind the other.
+// The harts of these ends, and their lines one after the other.
 fn harts_and_lines(alloc: Global) -> Result<(Vec<Hart, Global>, String<Global>), AllocError> {
     let mut harts = Vec::new(alloc);
     let mut wanted = String::new(alloc);
@@ -124,7 +124,7 @@ fn harts_and_lines(alloc: Global) -> Result<(Vec<Hart, Global>, String<Global>),
     Ok((harts, wanted))
 }
 
-// Whether the harts' ends are printed so, and the status is that of a fault.
+// Whether the harts' ends are printed in this way, and the status is that of a fault.
 fn are_ends_printed(alloc: Global) -> Result<bool, AllocError> {
     let (harts, wanted) = harts_and_lines(alloc)?;
     let (text, status) = ends_text(alloc, UNJUDGED, &[], &[], harts.as_slice())?;
@@ -149,7 +149,7 @@ fn ends_are_printed(rt: HostRuntime) -> Result<(), AllocError> {
     Ok(())
 }
 
-// Texts of words, and the words or why they are refused.
+// Texts of words, and the words or the fault.
 #[rattlefmt::skip]
 const WORDS: [(&str, Result<&[u32], HexFault>); 9] = [
     ("", Ok(&[])),
@@ -163,7 +163,7 @@ const WORDS: [(&str, Result<&[u32], HexFault>); 9] = [
     ("00000013 00000013\u{c}", Err(HexFault::BadWord(1))),
 ];
 
-// Whether a text is read as wanted.
+// Whether a text is read as expected.
 fn has_words(alloc: Global, text: &str, wanted: Result<&[u32], HexFault>) -> bool {
     match read_hex(alloc, text.as_bytes()) {
         Ok(words) => match wanted {
@@ -181,7 +181,7 @@ fn words_are_read(rt: HostRuntime) {
     }
 }
 
-// How many words stand in a text, what stands behind them, and how many are read or why not.
+// Number of words in a text, the rest of the text, and the number read or the fault.
 const COUNTS: [(usize, &str, Result<usize, HexFault>); 4] = [
     (2048, "", Ok(2048)),
     (2048, "00000013", Err(HexFault::TooMany(2048))),
@@ -189,7 +189,7 @@ const COUNTS: [(usize, &str, Result<usize, HexFault>); 4] = [
     (2047, "x", Err(HexFault::BadWord(2047))),
 ];
 
-// So many words, and what stands behind them.
+// `count` words and the rest of a text.
 fn words_of(alloc: Global, count: usize, last: &str) -> Result<String<Global>, AllocError> {
     let mut text = String::new(alloc);
     for _ in 0..count {
@@ -199,7 +199,7 @@ fn words_of(alloc: Global, count: usize, last: &str) -> Result<String<Global>, A
     Ok(text)
 }
 
-// How many words are read of so many and what stands behind them.
+// Number of words read from `count` words and the rest of a text.
 fn count_of(alloc: Global, count: usize, last: &str) -> Result<usize, HexFault> {
     let Ok(text) = words_of(alloc, count, last) else {
         return Err(HexFault::Memory);
@@ -239,28 +239,28 @@ fn words_are_laid_out(rt: HostRuntime) {
 // Three pieces.
 static BYTES: [u8; 40_000] = [7; 40_000];
 
-// Whether all bytes are read of a source in memory that passes so many reads, or the fault.
+// Whether all bytes are read of a source in memory that passes a number of reads, or the fault.
 fn is_read(alloc: Global, passed: u64) -> Result<bool, ReadFault> {
     let mut source = Failing::new(MemorySource::new(&BYTES), passed);
     let read = read_all(alloc, &mut source)?;
     Ok(read.as_slice() == BYTES.as_slice())
 }
 
-// And of a source over a reader.
+// The same for a source over a reader.
 fn is_read_of_reader(alloc: Global) -> Result<bool, ReadFault> {
     let mut source = ReaderSource::new(BYTES.as_slice());
     let read = read_all(alloc, &mut source)?;
     Ok(read.as_slice() == BYTES.as_slice())
 }
 
-// Whether all bytes stand in a sink in memory after they were written.
+// Whether a sink in memory has all bytes after they were written.
 fn is_written(alloc: Global) -> Result<bool, DeviceFault> {
     let mut sink = MemorySink::new(alloc);
     write_all(&mut sink, &BYTES)?;
     Ok(sink.bytes() == BYTES.as_slice())
 }
 
-// What comes of writing all bytes to a writer.
+// The result of writing all bytes to a writer.
 fn written_to_writer(alloc: Global) -> Result<(), DeviceFault> {
     let mut sink = WriterSink::new(Vec::new(alloc));
     write_all(&mut sink, &BYTES)
@@ -274,14 +274,14 @@ fn devices_pass_bytes_on(rt: HostRuntime) {
     assert!(rt; written_to_writer(rt.alloc()) == Ok(()));
 }
 
-// Whether a sink that fails at once is told and has taken nothing.
+// Whether a sink that fails at once is reported and has taken nothing.
 fn is_failing_sink_told(alloc: Global) -> bool {
     let mut sink = Failing::new(MemorySink::new(alloc), 0);
     let written = write_all(&mut sink, &BYTES);
     written == Err(DeviceFault) && sink.device().bytes().is_empty()
 }
 
-// What comes of writing bytes to a full sink, and then of writing none.
+// The result of writing bytes to a full sink, and then of writing none.
 fn written_in_vain() -> (Result<(), DeviceFault>, Result<(), DeviceFault>) {
     let mut sink = FullSink::new();
     let written = write_all(&mut sink, &BYTES);
@@ -300,7 +300,7 @@ fn a_failing_device_is_told(rt: HostRuntime) {
     assert!(rt; written_in_vain() == (Err(DeviceFault), Ok(())));
 }
 
-// Why a run is refused, in its own words or in those of what it stands on.
+// The fault of a run, or of a part.
 #[derive(Clone, Copy)]
 enum Why {
     Run(CommandFault),
@@ -333,7 +333,6 @@ const FAULTS: [(Why, &str, u8); 10] = [
     (Why::Hex(HexFault::Memory), "out of memory", 5),
 ];
 
-// Whether a fault has this text.
 fn has_text(alloc: Global, fault: CommandFault, wanted: &str) -> Result<bool, AllocError> {
     let text = format!(in alloc; "{fault}")?;
     Ok(text.as_str() == wanted)

@@ -1,11 +1,12 @@
-//! What no clause says of replays: worked histories of the objects' files, and failing devices.
+//! Tests what no clause says of replays: example histories of the objects' files, and failing
+//! devices.
 use crate::object_files::object_file;
 use cmd_replay::replay_engine;
 use cmd_run::{CommandFault, Failing, FullSink, Input, MemorySink, MemorySource, Status, deliver};
 use object_library::Kind;
 use std::alloc::Global;
 
-// An object, the inputs, the rule, the history, and what is printed or why not.
+// An object, the inputs, the rule, the history, and what is printed or the fault.
 struct Worked {
     name: &'static str,
     kind: Kind,
@@ -15,7 +16,8 @@ struct Worked {
     answer: Result<(&'static str, Status), CommandFault>,
 }
 
-// The ends are those that another simulator printed of the same files, hart by hart and step by step.
+// The ends are those that another simulator printed for the same files, hart by hart and step by
+// step.
 #[rattlefmt::skip]
 static WORKED: [Worked; 16] = [
     Worked { name: "hart_1_alone_then_hart_0", kind: Kind::Swap, inputs: &[7, 9], rule: Some(Kind::Swap), history: "1+10 0+14",
@@ -52,7 +54,8 @@ static WORKED: [Worked; 16] = [
         answer: Err(CommandFault::TooManyHarts) },
 ];
 
-// Whether a replay of an object's file ends so: its end, or why it is refused, where nothing is printed; nothing where there is no file.
+// Whether a replay of an object's file has this end, or this fault, with nothing printed; `None` if
+// there is no file.
 fn is_worked(alloc: Global, row: &Worked) -> Option<bool> {
     let file = object_file(alloc, row.kind).ok()?;
     let mut program = MemorySource::new(&file);
@@ -76,14 +79,14 @@ fn worked_histories_are_printed(rt: HostRuntime) {
 
 const HISTORY: &[u8] = b"1+10 0+14";
 
-// How many reads of each input pass before it fails. Nine reads are ample.
+// Number of reads of each input before it fails. Nine reads are ample.
 #[derive(Clone, Copy)]
 struct Passed {
     program: u64,
     history: u64,
 }
 
-// Inputs that fail, and the fault that is told.
+// Inputs that fail, and the fault.
 #[rattlefmt::skip]
 const FAILING: [(&str, Passed, CommandFault); 4] = [
     ("the program", Passed { program: 0, history: 9 }, CommandFault::Read(Input::File)),
@@ -92,7 +95,7 @@ const FAILING: [(&str, Passed, CommandFault); 4] = [
     ("the history at its end", Passed { program: 9, history: 1 }, CommandFault::Read(Input::History)),
 ];
 
-// Whether this fault is told of a replay of a file where inputs fail, and nothing is printed.
+// Whether this is the fault of a replay of a file whose inputs fail, with nothing printed.
 fn is_fault(alloc: Global, file: &[u8], passed: Passed, fault: CommandFault) -> bool {
     let mut program = Failing::new(MemorySource::new(file), passed.program);
     let mut history = Failing::new(MemorySource::new(HISTORY), passed.history);
@@ -102,7 +105,7 @@ fn is_fault(alloc: Global, file: &[u8], passed: Passed, fault: CommandFault) -> 
     ending == Err(fault) && sink.bytes().is_empty()
 }
 
-// And of the file of Swap; nothing where there is no file.
+// The same for the file of Swap; `None` if there is no file.
 fn is_told(alloc: Global, passed: Passed, fault: CommandFault) -> Option<bool> {
     let file = object_file(alloc, Kind::Swap).ok()?;
     Some(is_fault(alloc, &file, passed, fault))
@@ -118,7 +121,7 @@ fn a_failing_input_is_named(rt: HostRuntime) {
     }
 }
 
-// How a replay ends that a full sink should take; nothing where there is no file.
+// The result of a replay that a full sink should take; `None` if there is no file.
 fn replayed_in_vain(alloc: Global) -> Option<Result<Status, CommandFault>> {
     let file = object_file(alloc, Kind::Swap).ok()?;
     let mut program = MemorySource::new(&file);

@@ -1,4 +1,4 @@
-//! What no clause says: the objects' files, run and put through campaigns under their rules.
+//! Tests what no clause says: the objects' files, run and put through campaigns under their rules.
 use crate::object_files::object_file;
 use cmd_campaign::{Finished, campaign_engine};
 use cmd_run::{
@@ -22,7 +22,7 @@ struct Worked {
     status: Status,
 }
 
-// The ends are those that another simulator printed of the same files.
+// The ends are those that another simulator printed for the same files.
 #[rattlefmt::skip]
 static WORKED: [Worked; 22] = [
     Worked { name: "hart_1_alone_then_hart_0", kind: Kind::Swap, inputs: &[7, 9], rule: Some(Kind::Swap),
@@ -91,7 +91,7 @@ static WORKED: [Worked; 22] = [
         text: "hart 0 exited a0 00000000 a1 00000001\nhart 1 exited a0 00000000 a1 00000000\nverdict broken\n", status: Status::Broken },
 ];
 
-// Whether the run of an object's file ends so; nothing where there is no file.
+// Whether the run of an object's file ends in this way; `None` if there is no file.
 fn is_worked(alloc: Global, row: &Worked) -> Option<bool> {
     let file = object_file(alloc, row.kind).ok()?;
     let mut program = MemorySource::new(&file);
@@ -130,7 +130,7 @@ const WRITTEN_OUT: [(&str, &str); 5] = [
     ("0*100", "0 0 0 0 0 0 0 0 0 0 0 0 0 0 0 0 0 0 0 0 0 0 0 0 0 0 0 0 0 0 0 0 0 0 0 0 0 0 0 0 0 0 0 0"),
 ];
 
-// What a run of an object prints under its rule.
+// The output of a run of an object under its rule.
 fn printed(
     alloc: Global,
     kind: Kind,
@@ -155,7 +155,7 @@ fn printed(
     (ending, sink)
 }
 
-// Whether runs under two texts end, and print the same; nothing where there is no file.
+// Whether runs under two texts end with the same output; `None` if there is no file.
 fn is_same(alloc: Global, kind: Kind, counted: &str, listed: &str) -> Option<bool> {
     let file = object_file(alloc, kind).ok()?;
     let (ending, sink) = printed(alloc, kind, &file, counted);
@@ -176,14 +176,14 @@ fn counts_are_the_choices_written_out(rt: HostRuntime) {
     }
 }
 
-// Texts with a bad item behind counts, and the fault.
+// Texts with a bad item after counts, and the fault.
 const BAD_ITEMS: [(&str, CommandFault); 3] = [
     ("0*100 x", CommandFault::BadChoice(6)),
     ("1*16777216 0*16777217", CommandFault::BadChoice(11)),
     ("0*20 1*20 2", CommandFault::NoHart(10)),
 ];
 
-// Whether this fault is told of a text, and nothing is printed; nothing where there is no file.
+// Whether this is the fault of a text, with nothing printed; `None` if there is no file.
 fn is_told(alloc: Global, text: &str, fault: CommandFault) -> Option<bool> {
     let file = object_file(alloc, Kind::Swap).ok()?;
     let (ending, sink) = printed(alloc, Kind::Swap, &file, text);
@@ -197,7 +197,7 @@ fn bad_item_after_counts_is_told_and_nothing_printed(rt: HostRuntime) {
     }
 }
 
-// The objects, and what is told of their files.
+// The objects, and the facts of their files.
 #[rattlefmt::skip]
 const FACTS: [(Kind, &str); 5] = [
     (Kind::Swap, "entry 00010000\nsegment 00010000 60 r-x\nsegment 00011000 12 rw-\nsymbols none\nlibrary swap\n"),
@@ -207,7 +207,7 @@ const FACTS: [(Kind, &str); 5] = [
     (Kind::Rounds, "entry 00010000\nsegment 00010000 160 r-x\nsegment 00011000 2048 rw-\nsymbols none\nlibrary rounds\n"),
 ];
 
-// Whether an object's file has these facts; nothing where there is no file.
+// Whether an object's file has these facts; `None` if there is no file.
 fn has_facts(alloc: Global, kind: Kind, text: &str) -> Option<bool> {
     let file = object_file(alloc, kind).ok()?;
     let mut program = MemorySource::new(&file);
@@ -248,7 +248,8 @@ struct Campaign {
     first_failure: Option<u64>,
 }
 
-// Four harts of LrSc agree under each seed, and three harts of Swap never keep its rule once the third has stored.
+// Four harts of LrSc agree under each seed, and three harts of Swap never keep its rule once the
+// third has stored.
 #[rattlefmt::skip]
 const CAMPAIGNS: [Campaign; 5] = [
     Campaign { kind: Kind::LrSc, inputs: &[4, 5, 6, 7], steps: 600, status: Status::Done, first_failure: None,
@@ -263,7 +264,7 @@ const CAMPAIGNS: [Campaign; 5] = [
         text: "seed 5 exited 0 faulted 0 running 3 kept\nseed 6 exited 0 faulted 0 running 3 kept\n" },
 ];
 
-// Whether a campaign ends so; nothing where there is no file.
+// Whether a campaign ends in this way; `None` if there is no file.
 fn is_campaign(rt: &(impl Threads + Sync), alloc: Global, row: &Campaign) -> Option<bool> {
     let file = object_file(alloc, row.kind).ok()?;
     let campaign = plain_campaign(5, 2, row.steps, Some(row.kind));

@@ -1,4 +1,4 @@
-//! What no clause says: worked programs, run to their printed ends.
+//! Tests what no clause says: example programs, run to their printed ends.
 use cmd_run::{
     CommandFault, Exit, Expect, Failing, FullSink, Input, MemorySink, MemorySource, ProgramForm,
     Status, deliver, run_engine,
@@ -6,7 +6,7 @@ use cmd_run::{
 use std::alloc::{Allocator, Global};
 use test_refusing::Refusing;
 
-// A program in hexadecimal, the inputs, the choices, and what is printed or why not.
+// A program in hexadecimal, the inputs, the choices, and what is printed or the fault.
 struct Worked {
     name: &'static str,
     program: &'static str,
@@ -217,7 +217,7 @@ const UNJUDGED: Expect = Expect {
     exit: Exit::May,
 };
 
-// Whether a run of two texts ends so: its end, or why it is refused, where nothing is printed.
+// Whether a run of two texts has this end, or this fault, with nothing printed.
 fn is_worked(alloc: Global, row: &Worked) -> bool {
     let mut program = MemorySource::new(row.program.as_bytes());
     let mut choices = MemorySource::new(row.choices.as_bytes());
@@ -251,7 +251,7 @@ const CHOICES: &[u8] = b"0 0 1 1 0 0 0 1 1 1";
 
 const ENDS: &str = "hart 0 exited a0 00000009 a1 00000007\nhart 1 exited a0 00000009 a1 00000009\n";
 
-// How many calls of each device pass before it fails.
+// Number of calls of each device before it fails.
 #[derive(Clone, Copy)]
 struct Passed {
     program: u64,
@@ -266,7 +266,7 @@ const ALL: Passed = Passed {
     sink: u64::MAX,
 };
 
-// How a run of the program ends, and what it prints.
+// The result of the program's run, and its output.
 fn ran<A: Allocator + Copy>(
     alloc: A,
     host: Global,
@@ -287,7 +287,7 @@ fn ran<A: Allocator + Copy>(
     (ending, sink)
 }
 
-// Whether the request behind so many was refused in a run; nothing where its answer is wrong.
+// Whether the request after `passed` others was refused in a run; `None` if its answer is wrong.
 fn is_refused(host: Global, passed: u64) -> Option<bool> {
     let heap = Refusing::new(host, passed);
     let (ending, sink) = ran(&heap, host, ALL);
@@ -312,7 +312,7 @@ fn a_run_survives_each_refused_request(rt: HostRuntime) {
     assert!(rt; false, "memory is asked for without end");
 }
 
-// Devices that fail, and the fault that is told.
+// Devices that fail, and the fault.
 #[rattlefmt::skip]
 const FAILING: [(&str, Passed, CommandFault); 5] = [
     ("the program", Passed { program: 0, ..ALL }, CommandFault::Read(Input::File)),
@@ -322,7 +322,7 @@ const FAILING: [(&str, Passed, CommandFault); 5] = [
     ("the sink", Passed { sink: 0, ..ALL }, CommandFault::Write),
 ];
 
-// Whether this fault is told where devices fail, and nothing is printed.
+// Whether this is the fault if devices fail, with nothing printed.
 fn is_told(alloc: Global, passed: Passed, fault: CommandFault) -> bool {
     let (ending, sink) = ran(alloc, alloc, passed);
     ending == Err(fault) && sink.device().bytes().is_empty()
@@ -335,7 +335,7 @@ fn a_failing_device_is_named(rt: HostRuntime) {
     }
 }
 
-// How a run ends that a full sink should take.
+// The result of a run that a full sink should take.
 fn ran_in_vain(alloc: Global) -> Result<Status, CommandFault> {
     let mut program = MemorySource::new(PROGRAM);
     let mut choices = MemorySource::new(CHOICES);

@@ -1,5 +1,5 @@
-//! What no clause says of schedules: worked ones, seeds whose texts run as their campaigns do, each
-//! request refused.
+//! Tests what no clause says of schedules: examples, seeds whose texts run as their campaigns do,
+//! each request refused.
 use crate::object_files::object_file;
 use cmd_campaign::{Finished, campaign_engine};
 use cmd_run::{Exit, Expect, MemorySink, MemorySource, ProgramForm, Status, run_engine};
@@ -16,7 +16,7 @@ const SEEDS: u64 = 1000;
 
 const STEPS: u32 = 40;
 
-// Who makes the choices of a list.
+// What makes the choices of a list.
 #[derive(Clone, Copy)]
 enum By {
     Turns,
@@ -25,7 +25,7 @@ enum By {
     Seed(u64),
 }
 
-// The text of a list, or why there is no plan of it; nothing where memory is refused.
+// The text of a list, or the fault of its plan; `None` if out of memory.
 fn scheduled<A: Allocator + Copy>(
     alloc: A,
     harts: u32,
@@ -52,7 +52,8 @@ fn scheduled<A: Allocator + Copy>(
     }
 }
 
-// A plan: harts, steps and who chooses; and the printed list, or why it is refused, where nothing is printed.
+// A plan: harts, steps and what makes the choices; and the printed list, or the fault, with nothing
+// printed.
 struct Worked {
     harts: u32,
     steps: u32,
@@ -60,7 +61,8 @@ struct Worked {
     answer: Result<&'static str, PlanFault>,
 }
 
-// The words of the seeds were drawn by a generator that was written apart from this one, from PCG's paper and `rand_core`'s rule.
+// The words of the seeds were drawn by a generator written independently, from PCG's paper and
+// `rand_core`'s rule.
 #[rattlefmt::skip]
 const WORKED: [Worked; 12] = [
     Worked { harts: 3, steps: 5, by: By::Turns, answer: Ok("0 1 2 0 1\n") },
@@ -77,7 +79,7 @@ const WORKED: [Worked; 12] = [
     Worked { harts: 32, steps: 0, by: By::Only(u32::MAX), answer: Err(PlanFault::NoHart) },
 ];
 
-// Whether a list is printed, or its plan is refused, as wanted.
+// Whether a list is printed, or its plan is invalid, as expected.
 fn is_worked(alloc: Global, row: &Worked) -> bool {
     match (scheduled(alloc, row.harts, row.steps, row.by), row.answer) {
         (Some(Ok(text)), Ok(wanted)) => text.as_str() == wanted,
@@ -93,7 +95,7 @@ fn schedules_are_printed_or_refused(rt: HostRuntime) {
     }
 }
 
-// The lines of a campaign of Swap's file over all seeds; nothing where it isn't done.
+// The lines of a campaign of Swap's file over all seeds; `None` if it fails.
 fn lines_of_campaign(
     rt: &(impl Threads + Sync),
     alloc: Global,
@@ -118,7 +120,7 @@ fn lines_of_campaign(
     if told == Ok(done) { Some(lines) } else { None }
 }
 
-// The ends of a run of a file under a text of choices; nothing where it isn't done.
+// The ends of a run of a file under a text of choices; `None` if it fails.
 fn ends_under(alloc: Global, file: &[u8], text: &[u8]) -> Option<String<Global>> {
     let mut program = MemorySource::new(file);
     let mut choices = MemorySource::new(text);
@@ -141,7 +143,7 @@ fn ends_under(alloc: Global, file: &[u8], text: &[u8]) -> Option<String<Global>>
     }
 }
 
-// How many harts have exited by these ends: of the words in ends `exited` alone has an x.
+// Number of exited harts in these ends: of the words in ends `exited` alone has an x.
 fn exited_in(ends: &[u8]) -> u32 {
     let mut exited = 0u32;
     for byte in ends {
@@ -152,14 +154,14 @@ fn exited_in(ends: &[u8]) -> u32 {
     exited
 }
 
-// How many harts have exited in a run of a file under the text of a seed; nothing where one of both isn't done.
+// Number of exited harts in a run of a file under the text of a seed; `None` if one of both fails.
 fn exited_under(alloc: Global, file: &[u8], seed: u64) -> Option<u32> {
     let text = scheduled(alloc, 2, STEPS, By::Seed(seed))?.ok()?;
     let ends = ends_under(alloc, file, text.as_bytes())?;
     Some(exited_in(ends.as_bytes()))
 }
 
-// Pushes the line of a seed after whose run so many harts have exited.
+// Appends the line of a seed whose run has `exited` exited harts.
 fn push_line(text: &mut String<Global>, seed: u64, exited: u32) -> Result<(), AllocError> {
     let running = 2 - exited.min(2);
     writeln!(
@@ -168,7 +170,7 @@ fn push_line(text: &mut String<Global>, seed: u64, exited: u32) -> Result<(), Al
     )
 }
 
-// The lines of runs under the texts of all seeds; nothing where one of them isn't done.
+// The lines of runs under the texts of all seeds; `None` if one of them fails.
 fn lines_of_texts(alloc: Global, file: &[u8]) -> Option<String<Global>> {
     let mut lines = String::new(alloc);
     for seed in 0..SEEDS {
@@ -186,13 +188,13 @@ fn is_same(rt: &(impl Threads + Sync), alloc: Global) -> Option<bool> {
     Some(lines.bytes() == wanted.as_bytes())
 }
 
-// A run under a seed's text ends with the counts that the campaign's line of this seed tells.
+// A run under a seed's text ends with the counts of the campaign's line of this seed.
 #[test]
 fn texts_of_seeds_run_as_their_campaigns_do(rt: HostRuntime) {
     assert!(rt; is_same(&rt, rt.alloc()) == Some(true));
 }
 
-// Whether the request behind so many was refused where a list of 30 steps is made; nothing where its
+// Whether the request after `passed` others was refused in making a list of 30 steps; `None` if its
 // answer is wrong.
 fn is_refused(host: Global, by: By, passed: u64) -> Option<bool> {
     let heap = Refusing::new(host, passed);
@@ -203,7 +205,7 @@ fn is_refused(host: Global, by: By, passed: u64) -> Option<bool> {
     Some(heap.refused())
 }
 
-// How many requests are made for a list; nothing where an answer is wrong, or where memory is asked for without end.
+// Number of requests for a list; `None` if an answer is wrong, or memory is requested without end.
 fn requests_of(host: Global, by: By) -> Option<u64> {
     for passed in 0..200u64 {
         if !is_refused(host, by, passed)? {

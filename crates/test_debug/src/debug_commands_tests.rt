@@ -1,8 +1,8 @@
 //! What no clause says: worked sessions, line by line, and refused memory.
 use debug_session::Debugger;
 use debug_text::{Answer, DebugFault, command};
-use hart_reservations::MAX_HARTS;
 use image::Image;
+use machine::Inputs;
 use program_open::{hex_image, read_hex};
 use sched_text::read_choices;
 use std::alloc::{AllocError, Allocator, Global};
@@ -197,12 +197,9 @@ fn begin<A: Allocator + Copy>(
     inputs: &[u32],
     choices: &str,
 ) -> Option<Debugger<A>> {
-    if inputs.len() > MAX_HARTS {
-        return None;
-    }
     let image = image_of(alloc, program)?;
-    let inputs = Vec::from_slice(alloc, inputs).ok()?;
-    let choices = read_choices(alloc, choices.as_bytes(), inputs.len() as u32).ok()?;
+    let inputs = Inputs::new(inputs).ok()?;
+    let choices = read_choices(alloc, choices.as_bytes(), inputs.harts()).ok()?;
     Debugger::new(alloc, image, inputs, choices).ok()
 }
 

@@ -1,8 +1,8 @@
-//! Calls on a memory, however it is kept, each with the answer that it must give.
+//! Calls of a memory, for any implementation, each with its expected result.
 
 use mem_store::{AccessFault, Store, StoreFault};
 
-/// A call: the address, what is stored there, and the answer.
+/// A call: the address, the value to store there, and the result.
 pub(crate) enum Call {
     Load8(u32, Result<u8, AccessFault>),
     Load16(u32, Result<u16, AccessFault>),
@@ -15,7 +15,7 @@ pub(crate) enum Call {
     Store32(u32, u32, Result<(), StoreFault>),
 }
 
-/// Makes a call, and says whether it gives its answer.
+// Makes a call; returns whether it gives its result.
 fn is_answered<S: Store>(store: &mut S, call: &Call) -> bool {
     match call {
         Call::Load8(address, wanted) => store.load8(*address) == *wanted,
@@ -30,7 +30,7 @@ fn is_answered<S: Store>(store: &mut S, call: &Call) -> bool {
     }
 }
 
-/// Makes calls one after the other, up to the first that does not give its answer, and tells how many do.
+/// Makes calls in order, up to the first that does not give its result; returns the number that do.
 pub(crate) fn count_answered<S: Store>(store: &mut S, calls: &[Call]) -> usize {
     for (number, call) in calls.iter().enumerate() {
         if !is_answered(store, call) {
@@ -40,7 +40,7 @@ pub(crate) fn count_answered<S: Store>(store: &mut S, calls: &[Call]) -> usize {
     calls.len()
 }
 
-/// Flags of a segment at 0 that begins with 5, and what they grant there.
+/// Flags of a segment at 0 that begins with 5, and the accesses that they allow there.
 pub(crate) struct Grants {
     pub(crate) flags: u32,
     pub(crate) loads: bool,
@@ -48,7 +48,7 @@ pub(crate) struct Grants {
     pub(crate) stores: bool,
 }
 
-/// Any right grants a load; a fetch wants 1 and a store 2.
+/// A load needs any right, a fetch 1, a store 2.
 #[rattlefmt::skip]
 pub(crate) const GRANTS: [Grants; 4] = [
     Grants { flags: 0, loads: false, fetches: false, stores: false },
@@ -57,7 +57,7 @@ pub(crate) const GRANTS: [Grants; 4] = [
     Grants { flags: 4, loads: true, fetches: false, stores: false },
 ];
 
-/// Whether a store grants at 0 what a row says. What it grants to store is stored.
+/// Whether a memory allows the accesses of a row at 0. An allowed store is made.
 pub(crate) fn has_grants<S: Store>(store: &mut S, row: &Grants) -> bool {
     store.load32(0).is_ok() == row.loads
         && store.fetch(0).is_some() == row.fetches

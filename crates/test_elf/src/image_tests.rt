@@ -1,4 +1,5 @@
-//! What no clause says: the checks on rows from outside, the printed texts, and that calls succeed.
+//! Properties without a clause: the checks on independent rows, the printed texts, and that calls
+//! succeed.
 
 use image::{ElfFault, Image, Rights, Segment};
 use std::alloc::{AllocError, Global};
@@ -21,7 +22,7 @@ fn segments_of(alloc: Global, parts: &[Part]) -> Result<Vec<Segment<Global>>, Al
     Ok(segments)
 }
 
-/// An image of an entry and of segments, and what refuses it.
+/// An image of an entry and segments, and its fault.
 struct Row {
     name: &'static str,
     entry: u32,
@@ -29,7 +30,7 @@ struct Row {
     fault: Option<ElfFault>,
 }
 
-/// The edge of each check.
+/// The limit of each check.
 #[rattlefmt::skip]
 const LIMITS: [Row; 12] = [
     Row { name: "nothing", entry: 0, parts: &[], fault: None },
@@ -46,7 +47,7 @@ const LIMITS: [Row; 12] = [
     Row { name: "entry 2", entry: 2, parts: &[(0x1000, 4, 4)], fault: Some(ElfFault::EntryAlign) },
 ];
 
-/// Two checks at once, for pairs of neighbours by their numbers in the order of the checks.
+/// Two failed checks, for pairs of neighbours in the order of the checks.
 #[rattlefmt::skip]
 const PAIRS: [Row; 3] = [
     Row { name: "11 before 12", entry: 2, parts: &[(0xffff_f000, 4097, 0), (0, 0, 1)], fault: Some(ElfFault::FileOverMem) },
@@ -54,7 +55,7 @@ const PAIRS: [Row; 3] = [
     Row { name: "14 before 16", entry: 2, parts: &[(0, 0x100_0001, 0)], fault: Some(ElfFault::TooLarge) },
 ];
 
-/// What refuses a row's image.
+// The fault of a row's image.
 fn fault_of(alloc: Global, row: &Row) -> Result<Option<ElfFault>, AllocError> {
     let segments = segments_of(alloc, row.parts)?;
     Ok(Image::new(alloc, row.entry, segments).err())
@@ -78,7 +79,7 @@ fn stands_at(segment: &Segment<Global>, base: u32, size: u32) -> bool {
     segment.base == base && segment.size == size
 }
 
-/// Whether an image has its entry and the segments that are not empty.
+// Whether an image has its entry and the segments that are not empty.
 fn is_kept(image: &Image<Global>) -> bool {
     match image.segments() {
         [one, other] => {
@@ -141,7 +142,7 @@ fn faults_are_named(rt: HostRuntime) {
     }
 }
 
-/// Flags, and which rights they are.
+/// Flags, and their rights.
 struct Flags {
     flags: u32,
     executes: bool,
@@ -149,7 +150,7 @@ struct Flags {
     reads: bool,
 }
 
-/// PF_X, PF_W and PF_R, and bits of the processor's that are ignored.
+/// PF_X, PF_W and PF_R, and processor-specific bits, which are ignored.
 #[rattlefmt::skip]
 const FLAGS: [Flags; 6] = [
     Flags { flags: 0, executes: false, writes: false, reads: false },

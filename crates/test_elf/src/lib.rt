@@ -1,4 +1,4 @@
-//! Tests of ELF files, images and memory: `loader`, `memory` and `pages`.
+//! Tests of `image`, `elf_read`, `mem_flat` and `mem_paged`.
 #![tactic(auto)]
 
 #[cfg(test)]

@@ -1,11 +1,12 @@
-//! What no clause says of files: the checks on rows by hand, that calls succeed, and many segments.
+//! Properties of files without a clause: the checks on rows written by hand, that calls succeed,
+//! and many segments.
 
 use crate::patching::{Patch, patched};
 use elf_read::load;
 use image::{ElfFault, Image, Rights, Segment};
 use std::alloc::{AllocError, Global};
 
-/// A file of 128 bytes: two segments side by side, with bytes 1 to 12 behind the headers.
+/// A file of 128 bytes: two adjacent segments, with bytes 1 to 12 after the headers.
 pub(crate) const WORDS: [u32; 32] = [
     0x464c_457f,
     0x0001_0101,
@@ -41,16 +42,16 @@ pub(crate) const WORDS: [u32; 32] = [
     0x0c0b_0a09,
 ];
 
-/// What refuses the file of `WORDS` with other words at some places.
+// The fault of the file of `WORDS` with other words at some places.
 fn fault_of(alloc: Global, patches: &[Patch]) -> Result<Option<ElfFault>, AllocError> {
     let file = patched(alloc, &WORDS, patches)?;
     Ok(load(alloc, &file).err())
 }
 
-/// A place, the word that stands there in place of another, and what refuses the file.
+/// A place, the word that replaces the one there, and the fault of the file.
 type WordRow = (usize, u32, Option<ElfFault>);
 
-/// For each check of the file's header what it refuses, and the nearest files that it takes.
+/// For each check of the file's header: files that fail it, and the nearest files that pass.
 const FILE_HEADERS: [WordRow; 38] = [
     (8, 0xffff_ffff, None),
     (0, 0x464c_457e, Some(ElfFault::Magic)),
@@ -92,7 +93,7 @@ const FILE_HEADERS: [WordRow; 38] = [
     (24, 0xffff_fffc, None),
 ];
 
-/// For each check of a program header what it refuses, and the nearest files that it takes.
+/// For each check of a program header: files that fail it, and the nearest files that pass.
 const PROGRAM_HEADERS: [WordRow; 20] = [
     (56, 120, None),
     (56, 121, Some(ElfFault::OutsideFile)),
@@ -116,7 +117,7 @@ const PROGRAM_HEADERS: [WordRow; 20] = [
     (84, 4, None),
 ];
 
-/// How many rows' files are refused as they must be, up to the first that is not.
+// The number of rows whose files have the expected fault, up to the first that has not.
 fn count_refused(alloc: Global, rows: &[WordRow]) -> Result<usize, AllocError> {
     for (number, (place, word, wanted)) in rows.iter().enumerate() {
         if fault_of(alloc, &[(*place, *word)])? != *wanted {
@@ -144,14 +145,14 @@ fn each_check_of_a_program_header_refuses_its_files_alone(
     Ok(())
 }
 
-/// The file of `WORDS` with other words at some places, and what refuses it.
+/// The file of `WORDS` with other words at some places, and its fault.
 struct Patched {
     name: &'static str,
     patches: &'static [Patch],
     fault: Option<ElfFault>,
 }
 
-/// Fields that count in some files alone.
+/// Fields that matter only in some files.
 #[rattlefmt::skip]
 const FIELDS: [Patched; 9] = [
     Patched { name: "no headers, and their size is 0", patches: &[(40, 52), (44, 0x0028_0000)], fault: None },
@@ -199,7 +200,7 @@ fn segments_are_measured_up_to_the_last_address(rt: HostRuntime) {
     }
 }
 
-/// Headers may lie over one another, and over what a segment is filled from.
+/// Headers may overlap one another, and the bytes of a segment.
 #[rattlefmt::skip]
 const SHARED_BYTES: [Patched; 4] = [
     Patched { name: "a program header in the file's header, and one behind it", patches: &[(28, 20)], fault: Some(ElfFault::Overlap) },
@@ -219,10 +220,10 @@ fn headers_may_share_bytes(rt: HostRuntime) {
     }
 }
 
-/// What makes of the file a header alone, without program headers. It loads.
+/// The patch that leaves only the file's header, without program headers. The file loads.
 const HEADER_ALONE: [Patch; 1] = [(44, 0x0028_0000)];
 
-/// What refuses a file without so many of its last bytes.
+// The fault of a file without this many of its last bytes.
 fn fault_without(
     alloc: Global,
     patches: &[Patch],
@@ -233,7 +234,7 @@ fn fault_without(
     Ok(load(alloc, &file).err())
 }
 
-/// Whether the file and the header alone, without so many bytes, are refused as they must be.
+// Whether the file and the header alone, without this many bytes, have the expected fault.
 fn is_prefix_refused(alloc: Global, removed: usize) -> Result<bool, AllocError> {
     let whole = fault_without(alloc, &[], removed)?;
     let header = fault_without(alloc, &HEADER_ALONE, removed)?;
@@ -254,7 +255,7 @@ fn each_prefix_is_refused(rt: HostRuntime) {
     }
 }
 
-/// What a segment has.
+/// The expected contents of a segment.
 struct Wanted {
     base: u32,
     size: u32,
@@ -283,7 +284,7 @@ fn has(segment: &Segment<Global>, wanted: &Wanted) -> bool {
         && segment.bytes.as_slice() == wanted.bytes
 }
 
-/// Whether an image has what the file of `WORDS` says.
+// Whether an image is that of the file of `WORDS`.
 fn is_of_words(image: &Image<Global>) -> bool {
     match image.segments() {
         [first, second] => {
@@ -308,7 +309,7 @@ fn an_image_has_what_the_file_says(rt: HostRuntime) {
     assert!(rt; is_loaded(rt.alloc()) == Ok(true));
 }
 
-/// Adds a program header of one byte at an address.
+// Appends a program header of one byte at an address.
 fn push_byte_header(file: &mut Vec<u8, Global>, address: u32) -> Result<(), AllocError> {
     for word in [1, 0, address, 0, 1, 1, 4, 1] {
         file.extend_from_slice(&word.to_le_bytes())?;
@@ -316,7 +317,7 @@ fn push_byte_header(file: &mut Vec<u8, Global>, address: u32) -> Result<(), Allo
     Ok(())
 }
 
-/// A file of 65,534 segments of one byte each, at falling addresses; the last is at `last`.
+// A file of 65,534 segments of one byte each, at falling addresses; the last is at `last`.
 fn many_segments(alloc: Global, last: u32) -> Result<Vec<u8, Global>, AllocError> {
     let mut file = patched(alloc, &WORDS, &[(44, 0x0028_fffe)])?;
     file.truncate(52);
@@ -331,7 +332,7 @@ fn many_segments(alloc: Global, last: u32) -> Result<Vec<u8, Global>, AllocError
     Ok(file)
 }
 
-/// How many segments such a file has.
+// The number of segments of such a file.
 fn count_of_many(alloc: Global, last: u32) -> Result<usize, ElfFault> {
     let Ok(file) = many_segments(alloc, last) else {
         return Err(ElfFault::Memory);

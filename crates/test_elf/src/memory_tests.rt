@@ -1,4 +1,4 @@
-//! What no clause says: that calls succeed, and answers on rows from outside.
+//! Properties without a clause: that calls succeed, and their results on independent rows.
 
 use crate::calls::{Call, GRANTS, Grants, count_answered, has_grants};
 use image::ElfFault;
@@ -7,13 +7,13 @@ use mem_store::{AccessFault, FromImage, Store, StoreFault};
 use std::alloc::Global;
 use test_images::{Part, checked_image};
 
-/// A store of segments.
+// A memory of segments.
 fn store_of(alloc: Global, parts: &[Part]) -> Result<FlatStore<Global>, ElfFault> {
     let image = checked_image(alloc, 0, parts)?;
     FlatStore::from_image(alloc, &image).map_err(|_| ElfFault::Memory)
 }
 
-/// Adjacent segments that part the word at 0x1004, given with the later one first, and a segment at the top.
+/// Adjacent segments that split the word at 0x1004, the later one first, and a segment at the top.
 #[rattlefmt::skip]
 const THREE_SEGMENTS: [Part; 3] = [
     Part { base: 0x1006, size: 0x0a, flags: 3, bytes: &[7, 8] },
@@ -21,13 +21,13 @@ const THREE_SEGMENTS: [Part; 3] = [
     Part { base: 0xffff_fff8, size: 8, flags: 7, bytes: &[9] },
 ];
 
-/// How many calls on the three segments give their answers, up to the first that does not.
+// The number of calls on the three segments that give their results, up to the first that does not.
 fn count_of_three(alloc: Global, calls: &[Call]) -> Result<usize, ElfFault> {
     let mut store = store_of(alloc, &THREE_SEGMENTS)?;
     Ok(count_answered(&mut store, calls))
 }
 
-// The word at 0x1004 has its first half where nothing may be executed.
+// The first half of the word at 0x1004 is not executable.
 static CROSSING: [Call; 13] = [
     Call::Load32(0x1000, Ok(0x0403_0201)),
     Call::Load32(0x1004, Ok(0x0807_0605)),
@@ -87,7 +87,7 @@ fn the_last_address_is_mapped(rt: HostRuntime) -> Result<(), ElfFault> {
     Ok(())
 }
 
-/// Whether a store of one segment with a row's flags grants what the row says.
+// Whether a memory of one segment with a row's flags allows the row's accesses.
 fn is_granted(alloc: Global, row: &Grants) -> Result<bool, ElfFault> {
     let part = Part {
         base: 0,
@@ -106,7 +106,7 @@ fn rights_grant_what_they_name(rt: HostRuntime) {
     }
 }
 
-/// Whether a copy has what was there before a store.
+// Whether a copy has the bytes from before a store.
 fn copy_is_kept(alloc: Global) -> Result<bool, ElfFault> {
     let mut store = store_of(alloc, &THREE_SEGMENTS)?;
     let copy = store.copy(alloc).map_err(|_| ElfFault::Memory)?;

@@ -1,4 +1,5 @@
-//! What no clause says of the checks' order: of two checks that refuse a file, the earlier one is told.
+//! Properties of the order of checks without a clause: of two failed checks, the earlier one is
+//! reported.
 
 use crate::loading_tests::WORDS;
 use crate::patching::patched;
@@ -9,10 +10,10 @@ use std::alloc::{AllocError, Global};
 /// A program header: type, offset, address, file size and memory size.
 type Header = [u32; 5];
 
-/// A place in the file's header, and the byte that stands there in place of another.
+/// A place in the file's header, and the byte that replaces the one there.
 type Byte = (usize, u8);
 
-/// What makes one check refuse a file, and what the check says.
+/// A change that makes one check fail, and its fault.
 enum Break {
     /// Bytes of the file's header.
     Bytes(ElfFault, &'static [Byte]),
@@ -45,7 +46,7 @@ impl Break {
     }
 }
 
-/// In the order of the checks.
+/// The changes in the order of the checks.
 #[rattlefmt::skip]
 const BREAKS: [Break; 21] = [
     Break::Bytes(ElfFault::Magic, &[(0, 0x7e)]),
@@ -82,7 +83,7 @@ fn push_header(file: &mut Vec<u8, Global>, header: &Header) -> Result<(), AllocE
     Ok(())
 }
 
-/// Adds program headers, and counts them where the file's header does.
+// Appends program headers, and counts them in the file's header.
 fn push_headers(file: &mut Vec<u8, Global>, headers: &[Header]) -> Result<(), AllocError> {
     for header in headers {
         push_header(file, header)?;
@@ -101,8 +102,8 @@ fn put_bytes(file: &mut Vec<u8, Global>, bytes: &[Byte]) {
     }
 }
 
-/// A file with one segment, and what two rows say. The second row's headers stand before the first row's, so that
-/// places do not decide.
+// A file with one segment, and the changes of two rows. The second row's headers come before the
+// first row's, so that places do not decide.
 fn file_of(alloc: Global, one: &Break, other: &Break) -> Result<Vec<u8, Global>, AllocError> {
     let mut file = patched(alloc, &WORDS, &[(44, 0x0028_0000)])?;
     file.truncate(52);
@@ -114,7 +115,8 @@ fn file_of(alloc: Global, one: &Break, other: &Break) -> Result<Vec<u8, Global>,
     Ok(file)
 }
 
-/// Whether of two rows the first one's fault is told, and of the file without its last byte of a header that it is short.
+// Whether the fault of the first of two rows is reported, and of the file without its last header
+// byte that it is short.
 fn is_told_first(alloc: Global, one: &Break, other: &Break) -> Result<bool, AllocError> {
     let mut file = file_of(alloc, one, other)?;
     let fault = load(alloc, &file).err();
@@ -122,7 +124,7 @@ fn is_told_first(alloc: Global, one: &Break, other: &Break) -> Result<bool, Allo
     Ok(fault == one.fault() && load(alloc, &file).err() == Some(ElfFault::Short))
 }
 
-/// Whether the fault of the row at a place is told before that of each later row.
+// Whether the fault of the row at a place is reported before that of each later row.
 fn is_told_before_later(alloc: Global, place: usize, one: &Break) -> Result<bool, AllocError> {
     for other in BREAKS.iter().skip(place.saturating_add(1)) {
         if !is_told_first(alloc, one, other)? {

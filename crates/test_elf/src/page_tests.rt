@@ -1,4 +1,5 @@
-//! What no clause says of a memory of pages: that calls succeed, what refused memory leaves, and answers on rows from outside.
+//! Properties of a memory of pages without a clause: that calls succeed, the state when out of
+//! memory, and results on independent rows.
 
 use crate::calls::{Call, GRANTS, Grants, count_answered, has_grants};
 use image::{ElfFault, Image};
@@ -8,26 +9,28 @@ use std::alloc::{AllocError, Allocator, Global};
 use test_images::{Part, checked_image};
 use test_refusing::Refusing;
 
-/// A store of segments.
+// A memory of segments.
 fn store_of(alloc: Global, parts: &[Part]) -> Result<PageStore<Global>, ElfFault> {
     let image = checked_image(alloc, 0, parts)?;
     PageStore::from_image(alloc, &image).map_err(|_| ElfFault::Memory)
 }
 
-/// How many calls on a store of segments give their answers, up to the first that does not.
+// The number of calls on a memory of segments that give their results, up to the first that does
+// not.
 fn count_on(alloc: Global, parts: &[Part], calls: &[Call]) -> Result<usize, ElfFault> {
     let mut store = store_of(alloc, parts)?;
     Ok(count_answered(&mut store, calls))
 }
 
-/// Segments that share the page from 0x11000 on: one reaches it from the page before, one has its next two bytes.
+/// Segments that share the page from 0x11000 on: one extends into it from the page before, one has
+/// its next two bytes.
 #[rattlefmt::skip]
 const SHARED_PAGE: [Part; 2] = [
     Part { base: 0x0001_0ffe, size: 4, flags: 6, bytes: &[1, 2, 3, 4] },
     Part { base: 0x0001_1002, size: 2, flags: 4, bytes: &[5, 6] },
 ];
 
-// Half of the word at 0x11000 may be written.
+// Half of the word at 0x11000 is writable.
 static ON_THE_SHARED_PAGE: [Call; 9] = [
     Call::Store32(0x0001_1000, 0, Err(StoreFault::Access)),
     Call::MayStore32(0x0001_1000, Err(AccessFault::Access)),
@@ -50,7 +53,7 @@ fn segments_share_a_page(rt: HostRuntime) -> Result<(), ElfFault> {
 #[rattlefmt::skip]
 const THREE_PAGES: [Part; 1] = [Part { base: 0x0000_1000, size: 0x3000, flags: 7, bytes: &[] }];
 
-// A fetch may begin anywhere, so it may lie in two pages.
+// A fetch may begin at any address, so it may be in two pages.
 static AT_THE_ENDS: [Call; 22] = [
     Call::Store8(0x0000_1fff, 0x11, Ok(())),
     Call::Store8(0x0000_2000, 0x22, Ok(())),
@@ -107,7 +110,7 @@ fn the_first_and_the_last_page_are_mapped(rt: HostRuntime) -> Result<(), ElfFaul
     Ok(())
 }
 
-/// Whether a store of one segment with a row's flags grants what the row says.
+// Whether a memory of one segment with a row's flags allows the row's accesses.
 fn is_granted(alloc: Global, row: &Grants) -> Result<bool, ElfFault> {
     let part = Part {
         base: 0,
@@ -126,11 +129,11 @@ fn rights_grant_what_they_name(rt: HostRuntime) {
     }
 }
 
-/// Two pages that may be written.
+/// Two writable pages.
 #[rattlefmt::skip]
 const TWO_PAGES: [Part; 1] = [Part { base: 0x0000_1000, size: 0x2000, flags: 6, bytes: &[] }];
 
-/// Numbers of each width, and where they are stored: at both ends of a page.
+/// Numbers of each width, and their addresses: at both ends of a page.
 const NUMBERS: [(u32, Number); 6] = [
     (0x0000_2000, Number::Byte(0xa1)),
     (0x0000_2fff, Number::Byte(0xa2)),
@@ -140,7 +143,7 @@ const NUMBERS: [(u32, Number); 6] = [
     (0x0000_2ffc, Number::Word(0xc8c7_c6c5)),
 ];
 
-/// Whether a number that is stored into a memory of zeros shows there, and not in a copy that was made before.
+// Whether a number stored into a memory of zeros is visible there, and not in a copy made before.
 fn is_copy_kept(
     alloc: Global,
     store: &mut PageStore<Global>,
@@ -152,7 +155,7 @@ fn is_copy_kept(
     Ok(stored == Ok(()) && copy.load32(word) == Ok(0) && store.load32(word) != Ok(0))
 }
 
-/// Whether a word that is stored into a copy shows there, and not in the original.
+// Whether a word stored into a copy is visible there, and not in the original.
 fn is_original_kept(
     alloc: Global,
     store: &mut PageStore<Global>,
@@ -163,7 +166,7 @@ fn is_original_kept(
     Ok(stored == Ok(()) && copy.load32(word) == Ok(7) && store.load32(word) == before)
 }
 
-/// Whether neither a copy nor its original changes with the other, where a number is stored.
+// Whether neither a copy nor its original changes when a number is stored into the other.
 fn are_apart(alloc: Global, address: u32, number: Number) -> Result<bool, ElfFault> {
     let mut store = store_of(alloc, &TWO_PAGES)?;
     let copy = is_copy_kept(alloc, &mut store, address, number);
@@ -181,7 +184,7 @@ fn neither_a_copy_nor_its_original_changes_with_the_other(rt: HostRuntime) {
     }
 }
 
-/// A store with one word that is 5 in each of two pages.
+// A memory with one word that is 5 in each of two pages.
 fn two_pages<A: Allocator + Copy>(
     alloc: A,
     image: &Image<Global>,
@@ -193,18 +196,18 @@ fn two_pages<A: Allocator + Copy>(
     Ok(store)
 }
 
-/// What came of a store into a copy.
+/// The outcome of a store into a copy.
 #[derive(Clone, Copy, PartialEq, Eq)]
 enum Outcome {
-    /// A request for memory was refused, and all is as it must be.
+    /// A request for memory was refused, and the rest is as expected.
     Refused,
-    /// None was, and all is as it must be.
+    /// No request was refused, and the rest is as expected.
     Stored,
     Wrong,
 }
 
 impl Outcome {
-    /// The outcome where a request was refused, if all else is as it must be.
+    // The outcome if a request was refused and the rest is as expected.
     fn of_refusal(heap: &Refusing<Global>, is_right: bool) -> Outcome {
         if heap.refused() && is_right {
             Outcome::Refused
@@ -217,14 +220,15 @@ impl Outcome {
 /// A memory under an allocator that refuses a request.
 type Scarce<'a> = PageStore<&'a Refusing<Global>>;
 
-/// Whether a refused store has left a copy and its original, and held nothing back: the next store finds the memory.
+// Whether a store that was out of memory has left a copy and its original unchanged, and a later
+// one succeeds.
 fn is_left<'a>(store: &Scarce<'a>, copy: &mut Scarce<'a>) -> bool {
     copy.load32(0x0000_2000) == Ok(5)
         && copy.store16(0x0000_2000, 6) == Ok(())
         && store.load32(0x0000_2000) == Ok(5)
 }
 
-/// Stores 6 over the 5 of a copy.
+// Stores 6 over the 5 of a copy.
 fn outcome_of_store<'a>(
     heap: &'a Refusing<Global>,
     store: &Scarce<'a>,
@@ -249,7 +253,7 @@ fn outcome_of_store<'a>(
     }
 }
 
-/// Copies a store, and stores into the copy.
+// Copies a memory, and stores into the copy.
 fn outcome_of_copy<'a>(heap: &'a Refusing<Global>, store: &Scarce<'a>) -> Outcome {
     match store.copy(heap) {
         Ok(mut copy) => outcome_of_store(heap, store, &mut copy),
@@ -257,7 +261,7 @@ fn outcome_of_copy<'a>(heap: &'a Refusing<Global>, store: &Scarce<'a>) -> Outcom
     }
 }
 
-/// Makes a store, copies it, and stores into the copy, where the request behind so many is refused.
+// Makes a memory, copies it, and stores into the copy; the request after `passed` ones is refused.
 fn outcome_of(alloc: Global, image: &Image<Global>, passed: u64) -> Outcome {
     let heap = Refusing::new(alloc, passed);
     match two_pages(&heap, image) {
@@ -278,11 +282,12 @@ fn a_store_that_is_refused_memory_changes_nothing(rt: HostRuntime) -> Result<(),
     Ok(())
 }
 
-/// 130 pages that may be written.
+/// 130 writable pages.
 #[rattlefmt::skip]
 const CHUNKS: [Part; 1] = [Part { base: 0x0010_0000, size: 0x8_2000, flags: 6, bytes: &[] }];
 
-/// A word in the first and the last page of each chunk of 130 pages from 0x100000 on, and what is stored there.
+/// A word in the first and the last page of each chunk of 130 pages from 0x100000 on, and the value
+/// to store there.
 const WORDS_BY_CHUNK: [(u32, u32); 6] = [
     (0x0010_0000, 1),
     (0x0013_f000, 2),
@@ -292,7 +297,7 @@ const WORDS_BY_CHUNK: [(u32, u32); 6] = [
     (0x0018_1ffc, 6),
 ];
 
-/// Stores the words, and tells whether each store succeeds.
+// Stores the words; returns whether each store succeeds.
 fn are_stored(store: &mut PageStore<Global>) -> bool {
     for (address, value) in &WORDS_BY_CHUNK {
         if store.store32(*address, *value) != Ok(()) {
@@ -305,15 +310,15 @@ fn are_stored(store: &mut PageStore<Global>) -> bool {
 /// Three memories of chunks.
 #[derive(Drop)]
 struct Copies {
-    /// A copy from before the words were stored.
+    /// A copy made before the words were stored.
     first: PageStore<Global>,
-    /// The one that they were stored into.
+    /// The memory that they were stored into.
     store: PageStore<Global>,
-    /// A copy from behind that.
+    /// A copy made after that.
     copy: PageStore<Global>,
 }
 
-/// Makes the three; none where memory or a store is refused.
+// Makes the three; `None` when out of memory, or if a store fails.
 fn copies_of(alloc: Global) -> Option<Copies> {
     let mut store = store_of(alloc, &CHUNKS).ok()?;
     let first = store.copy(alloc).ok()?;
@@ -324,7 +329,8 @@ fn copies_of(alloc: Global) -> Option<Copies> {
     Some(Copies { first, store, copy })
 }
 
-/// Whether a word stands in the store and not in the first copy, and one that is stored into the other copy only there.
+// Whether a word is in the memory and not in the first copy, and one stored into the other copy is
+// only there.
 fn is_word_apart(copies: &mut Copies, address: u32, value: u32) -> bool {
     copies.store.load32(address) == Ok(value)
         && copies.copy.store32(address, 7) == Ok(())
@@ -333,7 +339,7 @@ fn is_word_apart(copies: &mut Copies, address: u32, value: u32) -> bool {
         && copies.first.load32(address) == Ok(0)
 }
 
-/// Whether each word is so, and behind the last page nothing is.
+// Whether this holds for each word, and nothing is mapped after the last page.
 fn are_words_apart(copies: &mut Copies) -> bool {
     for (address, value) in &WORDS_BY_CHUNK {
         if !is_word_apart(copies, *address, *value) {
@@ -353,17 +359,17 @@ fn pages_of_each_chunk_are_apart(rt: HostRuntime) {
     assert!(rt; are_chunks_apart(rt.alloc()) == Some(true));
 }
 
-/// 65 pages that may be written.
+/// 65 writable pages.
 #[rattlefmt::skip]
 const A_CHUNK_AND_A_PAGE: [Part; 1] = [Part { base: 0x0010_0000, size: 0x4_1000, flags: 6, bytes: &[] }];
 
-/// Whether a store is made where the request behind so many is refused.
+// Whether a memory is made if the request after `passed` ones is refused.
 fn is_made(alloc: Global, image: &Image<Global>, passed: u64) -> bool {
     let heap = Refusing::new(alloc, passed);
     PageStore::from_image(&heap, image).is_ok()
 }
 
-/// How many requests a store takes; 0 where it takes 400 or more.
+// The number of requests of making a memory; 0 if there are 400 or more.
 fn requests_of(alloc: Global, image: &Image<Global>) -> u64 {
     for passed in 0..400u64 {
         if is_made(alloc, image, passed) {
@@ -373,12 +379,13 @@ fn requests_of(alloc: Global, image: &Image<Global>) -> u64 {
     0
 }
 
-/// Whether a store's first copy takes one request: of another copy the first one more is refused.
+// Whether a memory's first copy takes one request: the first request of another copy is then
+// refused.
 fn takes_one<'a>(heap: &'a Refusing<Global>, store: &Scarce<'a>) -> bool {
     store.copy(heap).is_ok() && !heap.refused() && store.copy(heap).is_err() && heap.refused()
 }
 
-/// Whether a copy takes one request behind those of the store.
+// Whether a copy takes one request after those of the memory.
 fn is_copied_by_one(alloc: Global) -> Result<bool, ElfFault> {
     let image = checked_image(alloc, 0, &A_CHUNK_AND_A_PAGE)?;
     let made = requests_of(alloc, &image);
@@ -394,7 +401,7 @@ fn a_copy_asks_for_memory_once(rt: HostRuntime) {
     assert!(rt; is_copied_by_one(rt.alloc()) == Ok(true));
 }
 
-/// The bytes of a segment that reaches over four pages, and is 0 behind them.
+/// The bytes of a segment that extends over four pages and ends with zeros.
 static SEVENS: [u8; 4100] = [7; 4100];
 
 static OVER_PAGES: [Call; 11] = [

@@ -1,11 +1,11 @@
-//! Files of words, of which some are replaced.
+//! Files of words, some of them replaced.
 
 use std::alloc::{AllocError, Global};
 
-/// A place in a file, and the word that stands there in place of another.
+/// A place in a file, and the word that replaces the one there.
 pub(crate) type Patch = (usize, u32);
 
-/// The word of a number in a file, or the one that a patch says.
+// The word at an index of a file, or the one that a patch gives.
 fn patched_word(number: usize, given: u32, patches: &[Patch]) -> u32 {
     let mut word = given;
     for (place, other) in patches {
@@ -16,7 +16,7 @@ fn patched_word(number: usize, given: u32, patches: &[Patch]) -> u32 {
     word
 }
 
-/// The file of some words, with other words at some places.
+/// The file of these words, with other words at some places.
 pub(crate) fn patched(
     alloc: Global,
     words: &[u32],

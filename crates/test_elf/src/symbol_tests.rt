@@ -1,10 +1,12 @@
-//! What no clause says of symbols: the rule on rows by hand, and that calls succeed.
+//! Properties of symbols without a clause: the rule on rows written by hand, and that calls
+//! succeed.
 
 use crate::patching::{Patch, patched};
 use elf_read::{SymFault, Symbol, load, symbols};
 use std::alloc::{AllocError, Global};
 
-/// A file of 232 bytes: a null section, a symbol table at 172 with three symbols, its names at 220; then 4 bytes.
+/// A file of 232 bytes: a null section, a symbol table at 172 with three symbols, its names at 220;
+/// then 4 bytes.
 const WORDS: [u32; 58] = [
     0x464c_457f,
     0x0001_0101,
@@ -66,7 +68,7 @@ const WORDS: [u32; 58] = [
     0, // the names, at 220
 ];
 
-/// A place, the word that stands there in place of another, and what refuses the symbols.
+/// A place, the word that replaces the one there, and the fault of the symbols.
 type WordRow = (usize, u32, Option<SymFault>);
 
 const RULES: [WordRow; 31] = [
@@ -103,13 +105,13 @@ const RULES: [WordRow; 31] = [
     (224, 0x7878_7878, Some(SymFault::BadTable)),
 ];
 
-/// What refuses the symbols of the file of `WORDS` with other words at some places.
+// The fault of the symbols of the file of `WORDS` with other words at some places.
 fn fault_of(alloc: Global, patches: &[Patch]) -> Result<Option<SymFault>, AllocError> {
     let file = patched(alloc, &WORDS, patches)?;
     Ok(symbols(alloc, &file).err())
 }
 
-/// How many rows' symbols are refused as they must be, up to the first that is not.
+// The number of rows whose symbols have the expected fault, up to the first that has not.
 fn count_refused(alloc: Global, rows: &[WordRow]) -> Result<usize, AllocError> {
     for (number, (place, word, wanted)) in rows.iter().enumerate() {
         if fault_of(alloc, &[(*place, *word)])? != *wanted {
@@ -126,7 +128,7 @@ fn each_rule_refuses_its_files_alone(rt: HostRuntime) -> Result<(), AllocError> 
     Ok(())
 }
 
-/// Lengths of beginnings of a file without sections, and what refuses their symbols.
+/// Lengths of prefixes of a file without sections, and the faults of their symbols.
 const LENGTHS: [(usize, SymFault); 3] = [
     (52, SymFault::NoTable),
     (51, SymFault::BadTable),
@@ -153,7 +155,7 @@ fn is_named(symbol: &Symbol<Global>, name: &str, address: u32) -> bool {
     symbol.name.as_str() == name && symbol.address == address
 }
 
-/// Whether these are the two symbols that have a name.
+// Whether these are the two named symbols.
 fn are_named(found: &[Symbol<Global>]) -> bool {
     match found {
         [first, second] => {
@@ -163,7 +165,7 @@ fn are_named(found: &[Symbol<Global>]) -> bool {
     }
 }
 
-/// Whether a file with other words at some places has these two symbols.
+// Whether a file with other words at some places has these two symbols.
 fn has_both(alloc: Global, patches: &[Patch]) -> Result<bool, SymFault> {
     let Ok(file) = patched(alloc, &WORDS, patches) else {
         return Err(SymFault::Memory);
@@ -179,14 +181,14 @@ fn named_symbols_come_in_the_tables_order(rt: HostRuntime) {
     assert!(rt; has_both(rt.alloc(), &[(48, 4), (176, 2)]) == Ok(true));
 }
 
-/// The file of `WORDS` with other words at some places, and how many symbols it has.
+/// The file of `WORDS` with other words at some places, and the number of its symbols.
 struct Counted {
     name: &'static str,
     patches: &'static [Patch],
     count: Result<usize, SymFault>,
 }
 
-/// The table, its names and the headers may lie over one another.
+/// The table, its names and the headers may overlap.
 #[rattlefmt::skip]
 const SHARED_BYTES: [Counted; 6] = [
     Counted { name: "names in the symbols", patches: &[(148, 172), (152, 48)], count: Ok(0) },
@@ -215,7 +217,7 @@ fn tables_may_share_bytes(rt: HostRuntime) {
     }
 }
 
-/// Whether a file with a bad table has no symbols, but loads.
+// Whether a file with an invalid table has no symbols, but loads.
 fn is_loaded_without_symbols(alloc: Global) -> Result<bool, AllocError> {
     let file = patched(alloc, &WORDS, &[(44, 0x0027_0000)])?;
     Ok(symbols(alloc, &file).err() == Some(SymFault::BadTable) && load(alloc, &file).err() == None)

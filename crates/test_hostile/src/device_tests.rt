@@ -1,5 +1,6 @@
-//! What no clause says of devices that fail: that each engine comes to its full answer where none does. Each device of each engine fails
-//! at its first call, then at its second, and so on, until it is not called so often.
+//! Tests what no clause says of failing devices: that each engine gives its full answer if none
+//! fails. Each device of each engine fails at its first call, then at its second, and so on, until
+//! it isn't called that often.
 use byte_io::{Failing, FullSink, MemorySink, MemorySource, Status};
 use cmd_asm::{AssemblyFault, assembled_file, listing_engine, write_file};
 use cmd_campaign::campaign_engine;
@@ -29,7 +30,7 @@ enum Engine {
     Debug,
 }
 
-// A device, by what it is for.
+// A device, by its use.
 #[derive(Clone, Copy, PartialEq, Eq)]
 enum Device {
     Program,
@@ -60,7 +61,7 @@ const ROWS: [Row; 10] = [
     Row { name: "debug", engine: Engine::Debug, devices: &[Device::Program, Device::Schedule, Device::Commands, Device::Output] },
 ];
 
-// The device that fails, and behind how many calls.
+// The device that fails, and the number of calls before that.
 #[derive(Clone, Copy)]
 struct Failure {
     device: Device,
@@ -68,7 +69,7 @@ struct Failure {
 }
 
 impl Failure {
-    // Behind how many calls a device fails: the others never do.
+    // Number of calls before a device fails: the others never do.
     fn calls(self, device: Device) -> u64 {
         if device == self.device {
             self.passed
@@ -78,17 +79,17 @@ impl Failure {
     }
 }
 
-// What came of it.
+// The outcome of a call.
 #[derive(Clone, Copy)]
 enum Outcome {
     // The full answer.
     Full,
-    // This device is named, and what was written is what may have been.
+    // The fault names this device, and what was written is what may have been.
     Failed(Device),
     Other,
 }
 
-// The outcome that an answer tells, or another one where it may not have written what it has.
+// The outcome of an answer, or another one if it wrote what it may not have.
 fn checked(outcome: Outcome, written: &[u8], full: &[u8]) -> Outcome {
     let may_be_written = match outcome {
         Outcome::Full => written == full,
@@ -130,7 +131,7 @@ const COMMANDS: &[u8] = b"where\nsteps 0 1\nback\nquit\n";
 
 const ANSWERS: &str = "step 0 of 2\n0 h0 00010000 addi a7, zero, 93\npast end\n";
 
-// What the answer of a run, a campaign or a view of a file tells.
+// The outcome of a run, a campaign or a view of a file.
 fn told(answer: Result<Status, CommandFault>) -> Outcome {
     match answer {
         Ok(Status::Done) => Outcome::Full,
@@ -301,7 +302,7 @@ fn use_engine<R: Threads + Sync>(
 // More calls than a device here has.
 const MOST: u64 = 100;
 
-// How often a device is called; none where it fails and something else came of it.
+// Number of a device's calls; `None` if it fails and the outcome is another.
 fn calls_of<R: Threads + Sync>(
     rt: &R,
     alloc: Global,
@@ -318,7 +319,7 @@ fn calls_of<R: Threads + Sync>(
     None
 }
 
-// Whether a device is called, and each failure of it is told.
+// Whether a device is called, and each failure of it is reported.
 fn is_told<R: Threads + Sync>(rt: &R, alloc: Global, engine: Engine, device: Device) -> bool {
     calls_of(rt, alloc, engine, device).is_some_and(|calls| calls > 0)
 }
@@ -336,7 +337,7 @@ fn each_call_of_each_device_fails(rt: HostRuntime) {
     }
 }
 
-// What a full sink is told as: by a view of a file.
+// The fault of a full sink: by a view of a file.
 fn full_view(alloc: Global, view: FileView) -> Result<Status, CommandFault> {
     let mut file = MemorySource::new(&EXITS);
     let answer = file_engine(alloc, view, &mut file);

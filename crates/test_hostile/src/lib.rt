@@ -1,4 +1,4 @@
-//! Tests of hostile use: devices that fail, and files of strangers.
+//! Tests of failing devices and of malformed files.
 #![tactic(auto)]
 
 #[cfg(test)]

@@ -1,5 +1,6 @@
-//! What no clause says of strangers' files: worked answers to each beginning of a file and to each of its bytes changed. That an answer
-//! is the definition's is proved; here it is also there, and the same by each way to it.
+//! Tests what no clause says of malformed files: example answers for each beginning of a file and
+//! for each of its bytes changed. That an answer is the definition's is proved; the tests are that
+//! there is one, and the same by each way to it.
 use byte_io::{MemorySink, MemorySource, Status};
 use cmd_asm::assembled_file;
 use cmd_run::{FileView, file_engine};
@@ -9,7 +10,8 @@ use object_library::{Kind, source};
 use program_open::{CommandFault, deliver};
 use std::alloc::{AllocError, Global};
 
-// The length of Swap's file; its headers end at the first place, and its symbol table begins at the second.
+// The length of Swap's file; its headers end at the first place, and its symbol table begins at the
+// second.
 const LENGTH: usize = 8576;
 
 const CONTENT: usize = 116;
@@ -25,7 +27,7 @@ fn swap_file(alloc: Global) -> Result<Vec<u8>, AllocError> {
     }
 }
 
-// The fault of a beginning of the file; none where it loads.
+// The fault of a beginning of the file; `None` if it loads.
 fn fault_of_beginning(length: usize) -> Option<ElfFault> {
     if length < 52 {
         Some(ElfFault::Short)
@@ -36,7 +38,7 @@ fn fault_of_beginning(length: usize) -> Option<ElfFault> {
     }
 }
 
-// The fault of its symbols; none where they are all there.
+// The fault of its symbols; `None` if they are all there.
 fn symbol_fault_of_beginning(length: usize) -> Option<SymFault> {
     if length < LENGTH {
         Some(SymFault::BadTable)
@@ -51,7 +53,7 @@ fn is_answered(alloc: Global, beginning: &[u8]) -> bool {
         && symbols(alloc, beginning).err() == symbol_fault_of_beginning(beginning.len())
 }
 
-// How many beginnings of a file have, the shortest first, up to the first that has not.
+// Number of beginnings of a file that have, the shortest first, up to the first that hasn't.
 fn count_answered(alloc: Global, file: &[u8]) -> usize {
     for length in 0..=file.len() {
         let (beginning, _) = file.split_at(length);
@@ -66,7 +68,7 @@ fn length_of_swap(alloc: Global) -> Result<usize, AllocError> {
     Ok(swap_file(alloc)?.len())
 }
 
-// How many of Swap's file have.
+// The same for Swap's file.
 fn count_of_swap(alloc: Global) -> Result<usize, AllocError> {
     let file = swap_file(alloc)?;
     Ok(count_answered(alloc, file.as_slice()))
@@ -80,7 +82,7 @@ fn each_beginning_has_its_answers(rt: HostRuntime) -> Result<(), AllocError> {
     Ok(())
 }
 
-// What `info` says of a file.
+// The answer of `info` for a file.
 fn facts(alloc: Global, file: &[u8]) -> (Result<Status, CommandFault>, MemorySink<Global>) {
     let mut program = MemorySource::new(file);
     let mut sink = MemorySink::new(alloc);
@@ -95,7 +97,7 @@ symbol 0001002c win\nsymbol 00010000 _start\nlibrary swap\n";
 const WITHOUT_TABLES: &str = "entry 00010000\nsegment 00010000 60 r-x\nsegment 00011000 12 rw-\n\
 symbols bad\nlibrary swap\n";
 
-// Lengths of beginnings, the longest first, with what `info` says of them.
+// Lengths of beginnings, the longest first, with the answers of `info`.
 const SHOWN: [(usize, Result<&'static str, ElfFault>); 8] = [
     (8576, Ok(WHOLE)),
     (8575, Ok(WITHOUT_TABLES)),
@@ -107,7 +109,7 @@ const SHOWN: [(usize, Result<&'static str, ElfFault>); 8] = [
     (0, Err(ElfFault::Short)),
 ];
 
-// Whether `info` says of a beginning of Swap's file what is wanted.
+// Whether `info` answers as expected for a beginning of Swap's file.
 fn is_shown(
     alloc: Global,
     length: usize,
@@ -132,10 +134,10 @@ fn info_shows_a_beginning_that_loads(rt: HostRuntime) {
     }
 }
 
-// What each byte of the file is changed to.
+// The values that each byte of the file is changed to.
 const BYTES: [u8; 8] = [0x00, 0x01, 0x02, 0x04, 0x10, 0x7f, 0x80, 0xff];
 
-// Puts another byte at a place of a file, and gives the one that stood there.
+// Replaces the byte at an offset of a file, and returns the one before.
 fn put(file: &mut Vec<u8>, place: usize, byte: u8) -> Option<u8> {
     let slot = file.get_mut(place)?;
     let kept = *slot;
@@ -143,7 +145,7 @@ fn put(file: &mut Vec<u8>, place: usize, byte: u8) -> Option<u8> {
     Some(kept)
 }
 
-// Whether `info` says of a file what `load` and `symbols` do.
+// Whether `info` answers for a file what `load` and `symbols` do.
 fn is_told_alike(alloc: Global, file: &[u8]) -> bool {
     let loaded = load(alloc, file).err();
     let found = symbols(alloc, file).err();
@@ -157,7 +159,7 @@ fn is_told_alike(alloc: Global, file: &[u8]) -> bool {
     }
 }
 
-// Whether a file with another byte at a place is told alike; the byte that stood there is put back.
+// Whether they agree for a file with another byte at an offset; the byte is restored.
 fn is_change_told(alloc: Global, file: &mut Vec<u8>, place: usize, byte: u8) -> bool {
     let Some(kept) = put(file, place, byte) else {
         return false;
@@ -166,7 +168,7 @@ fn is_change_told(alloc: Global, file: &mut Vec<u8>, place: usize, byte: u8) -> 
     put(file, place, kept).is_some() && is_told
 }
 
-// The same of each byte that is put at a place.
+// The same for each value at an offset.
 fn is_place_told(alloc: Global, file: &mut Vec<u8>, place: usize) -> bool {
     for byte in BYTES {
         if !is_change_told(alloc, file, place, byte) {
@@ -176,7 +178,8 @@ fn is_place_told(alloc: Global, file: &mut Vec<u8>, place: usize) -> bool {
     true
 }
 
-// The first place of Swap's file, from one place up to another, that is not told alike; the last one where all are.
+// The first offset of Swap's file, from one up to another, for which they disagree; the last one if
+// they never do.
 fn place_told(alloc: Global, first: usize, end: usize) -> Result<usize, AllocError> {
     let mut file = swap_file(alloc)?;
     for place in first..end {
@@ -196,7 +199,7 @@ fn a_changed_header_or_table_is_told_alike(rt: HostRuntime) -> Result<(), AllocE
     Ok(())
 }
 
-// Whether a file with another byte at a place loads; the byte that stood there is put back.
+// Whether a file with another byte at an offset loads; the byte is restored.
 fn is_change_loaded(alloc: Global, file: &mut Vec<u8>, place: usize, byte: u8) -> bool {
     let Some(kept) = put(file, place, byte) else {
         return false;
@@ -205,7 +208,7 @@ fn is_change_loaded(alloc: Global, file: &mut Vec<u8>, place: usize, byte: u8) -
     put(file, place, kept).is_some() && is_loaded
 }
 
-// The same of each byte that is put at a place; then the file has its symbols.
+// The same for each value at an offset; the file then has its symbols.
 fn is_place_loaded(alloc: Global, file: &mut Vec<u8>, place: usize) -> bool {
     for byte in BYTES {
         if !is_change_loaded(alloc, file, place, byte) {
@@ -215,7 +218,8 @@ fn is_place_loaded(alloc: Global, file: &mut Vec<u8>, place: usize) -> bool {
     symbols(alloc, file).is_ok()
 }
 
-// The first place of the content of Swap's file where a change does not load; the end where each does.
+// The first offset in the content of Swap's file where a change does not load; the end if each
+// does.
 fn place_loaded(alloc: Global) -> Result<usize, AllocError> {
     let mut file = swap_file(alloc)?;
     for place in CONTENT..TABLES {

@@ -1,9 +1,10 @@
-//! What no clause says: the names of the mnemonics, and that the built program gives the words of another assembler back.
+//! Properties without a clause: the names of the mnemonics, and that the built program decodes the
+//! words of another assembler.
 use isa_decode::decode;
 use isa_table::vectors::{Vector, unassigned, vectors};
 use isa_table::{Instr, Mnemonic};
 
-/// Each mnemonic as GNU as reads it, and a word that it made.
+// Each mnemonic as GNU as reads it, and a word assembled by GNU as.
 #[rattlefmt::skip]
 static NAMES: [(&str, u32); 51] = [
     ("addi", 0x0000_0013), ("beq", 0x0003_8a63), ("amoswap.w", 0x0864_a3af), ("lr.w", 0x1004_a3af),
@@ -22,7 +23,7 @@ static NAMES: [(&str, u32); 51] = [
     ("amomaxu.w", 0xe0f2_282f),
 ];
 
-/// rd, rs1, rs2 and the rest of the operands, as a vector has them.
+// rd, rs1, rs2 and the rest of the operands, as in a vector.
 fn operands(instr: Instr) -> (u8, u8, u8, u32) {
     match instr {
         Instr::Lui { rd, imm } | Instr::Auipc { rd, imm } => (rd.number(), 0, 0, imm.high()),
@@ -103,7 +104,7 @@ fn words_that_are_no_instruction(rt: HostRuntime) {
     }
 }
 
-// Whether a word's mnemonic has a name, and that name is its own.
+// Whether a word's mnemonic has this name, and the name is the mnemonic's own.
 fn is_named(name: &str, word: u32) -> bool {
     match decode(word) {
         Some(instr) => {

@@ -1,4 +1,4 @@
-//! What no clause says: that the built program gives the words of another assembler.
+//! Properties without a clause: the built program encodes to the words of another assembler.
 use isa_encode::encode;
 use isa_table::vectors::{Vector, vectors};
 use isa_table::{
@@ -6,7 +6,7 @@ use isa_table::{
     UpperImmediate,
 };
 
-/// The instruction of a vector's mnemonic and operands.
+// The instruction with a vector's mnemonic and operands.
 fn instr_of(vector: Vector) -> Option<Instr> {
     let (rd, rs1, rs2) = (reg(vector.rd)?, reg(vector.rs1)?, reg(vector.rs2)?);
     let imm = vector.imm;

@@ -2,14 +2,14 @@
 use isa_names::{Byte, Word};
 use std::alloc::{AllocError, Allocator};
 
-// Whether a word is printed so.
+// Whether a word is printed as this text.
 fn is_word<A: Allocator + Copy>(alloc: A, word: u32, wanted: &str) -> Result<bool, AllocError> {
     let word = Word(word);
     let text = format!(in alloc; "{word}")?;
     Ok(text.as_str() == wanted)
 }
 
-// Whether a byte is printed so.
+// Whether a byte is printed as this text.
 fn is_byte<A: Allocator + Copy>(alloc: A, byte: u8, wanted: &str) -> Result<bool, AllocError> {
     let byte = Byte(byte);
     let text = format!(in alloc; "{byte}")?;

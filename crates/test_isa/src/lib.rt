@@ -1,4 +1,4 @@
-//! Tests of words and instructions: `decoder`, `encoder`, `names_and_digits` and `names_and_digits`.
+//! Tests of `isa_decode`, `isa_encode` and `isa_names`.
 #![tactic(auto)]
 
 #[cfg(test)]

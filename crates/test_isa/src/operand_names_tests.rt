@@ -1,17 +1,17 @@
-//! The names of all registers and of some sets, as GNU as reads them.
+//! The names of all registers and of some fence sets, as GNU as reads them.
 use isa_names::{FenceAccesses, RegisterName};
 use isa_table::{FenceSet, Reg};
 use std::alloc::{AllocError, Allocator};
 
-// What is printed.
+// The item to print.
 #[derive(Clone, Copy)]
 enum Named {
     Register(Reg),
-    // A set by its bits, which are fewer than 16.
+    // A set by its bits, below 16.
     Set(u8),
 }
 
-// A name as it is printed.
+// The text printed.
 fn printed<A: Allocator + Copy>(alloc: A, named: Named) -> Result<String<A>, AllocError> {
     match named {
         Named::Register(register) => {
@@ -25,7 +25,7 @@ fn printed<A: Allocator + Copy>(alloc: A, named: Named) -> Result<String<A>, All
     }
 }
 
-// Whether a name is printed so.
+// Whether a name is printed as this text.
 fn is_printed<A: Allocator + Copy>(alloc: A, named: Named, wanted: &str) -> bool {
     match printed(alloc, named) {
         Ok(text) => text.as_str() == wanted,
@@ -50,7 +50,7 @@ fn registers_have_their_names(rt: HostRuntime) {
     }
 }
 
-// Names that are printed, and how.
+// Names and their printed texts.
 const NAMES: [(Named, &str); 9] = [
     (Named::Register(Reg::ZERO), "zero"),
     (Named::Register(Reg::RA), "ra"),

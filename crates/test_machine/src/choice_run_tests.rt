@@ -1,4 +1,5 @@
-//! What no clause says of the harts that a text chooses: that their list is had where memory is left, and each once.
+//! Tests what no clause says of the harts that a text chooses: that their list is made where memory
+//! suffices, with each once.
 use machine::Choice;
 use sched_run::Chosen;
 use std::alloc::{AllocError, Allocator, Global};
@@ -21,7 +22,7 @@ const THREE_HARTS: [Choice; 3] = [
     Choice { hart: 31, refuse: false },
 ];
 
-/// Whether the three are chosen, of which one was added twice.
+// Whether the three are chosen, of which one was added twice.
 fn are_three_chosen(alloc: Global) -> Result<bool, AllocError> {
     let mut chosen = Chosen::new();
     chosen.add(31);

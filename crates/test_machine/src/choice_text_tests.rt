@@ -1,4 +1,4 @@
-//! What no clause says: the worked texts, the faults' own texts, and refused memory.
+//! Tests what no clause says: example texts, the faults' texts, and refused memory.
 use machine::Choice;
 use sched_text::{ChoiceFault, read_choices};
 use std::alloc::{AllocError, Allocator, Global};
@@ -54,7 +54,7 @@ fn texts_are_read(rt: HostRuntime) {
     }
 }
 
-/// Texts of two harts, and what refuses them.
+/// Invalid texts of two harts, and their faults.
 const BAD_TEXTS: [(&'static str, ChoiceFault); 28] = [
     ("0 2", ChoiceFault::NoHart(2)),
     ("2 x", ChoiceFault::NoHart(0)),
@@ -97,7 +97,7 @@ fn bad_items_are_refused(rt: HostRuntime) {
     }
 }
 
-/// Whether the longest run and one choice more are read.
+// Whether the longest run and one choice more are read.
 fn is_longest_read(alloc: Global) -> Result<bool, ChoiceFault> {
     let choices = read_choices(alloc, b"1!*16777216 0", 2)?;
     Ok(

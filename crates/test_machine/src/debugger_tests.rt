@@ -1,6 +1,7 @@
-//! What no clause says: that a call is refused only where a request for memory was, and what stands after it.
+//! Tests what no clause says: that a call fails only where a request for memory was refused, and
+//! the state after it.
 use debug_session::{Debugger, MoveFault, Stop, byte_at};
-use machine::Choice;
+use machine::{Choice, Inputs};
 use progress::Progress;
 use std::alloc::{AllocError, Allocator, Global};
 use test_images::{STORES_INPUT, writable_program};
@@ -19,7 +20,7 @@ fn few_choices<A: Allocator + Copy>(alloc: A) -> Option<Vec<Choice, A>> {
     Vec::from_slice(alloc, &turns).ok()
 }
 
-// So many choices, of the two harts by turns.
+// `count` choices, of the two harts in turn.
 fn turns<A: Allocator + Copy>(alloc: A, count: u32) -> Option<Vec<Choice, A>> {
     let mut choices = Vec::new(alloc);
     for i in 0..count {
@@ -33,17 +34,18 @@ fn many_choices<A: Allocator + Copy>(alloc: A) -> Option<Vec<Choice, A>> {
     turns(alloc, 1000)
 }
 
-// A debugger of the program with two harts, of which each stores its own input, at the start of these choices.
+// A debugger of the program with two harts, each of which stores its own input, at the start of
+// these choices.
 fn begin<A: Allocator + Copy>(alloc: A, choices: Vec<Choice, A>) -> Option<Debugger<A>> {
     let image = writable_program(alloc, &STORES_INPUT).ok()?;
-    let inputs = Vec::from_slice(alloc, &[7, 9]).ok()?;
+    let inputs = Inputs::new(&[7, 9]).ok()?;
     if !choices.iter().all(|choice| choice.hart < 2) {
         return None;
     }
     Debugger::new(alloc, image, inputs, choices).ok()
 }
 
-// Where a debugger stands before a call.
+// The position of a debugger before a call.
 #[derive(Clone, Copy)]
 enum Place {
     // At position 3 of six choices.
@@ -69,7 +71,7 @@ impl Place {
     }
 }
 
-// A debugger at its place, with a breakpoint at the store and the stored word watched.
+// A debugger at its position, with a breakpoint at the store and the stored word watched.
 fn placed<A: Allocator + Copy>(alloc: A, place: Place) -> Option<Debugger<A>> {
     let choices = match place {
         Place::Near => few_choices(alloc)?,
@@ -82,7 +84,7 @@ fn placed<A: Allocator + Copy>(alloc: A, place: Place) -> Option<Debugger<A>> {
     Some(debugger)
 }
 
-// Where hart 0 stands.
+// The pc of hart 0.
 fn pc<A: Allocator + Copy>(debugger: &Debugger<A>) -> Option<u32> {
     Some(debugger.machine().ends().first()?.pc)
 }
@@ -99,7 +101,8 @@ enum Call {
     Steps,
 }
 
-// A call at a place, and what it shows: an address where hart 0 stands or that was stored to, or how many steps there are.
+// A call at a position, and its result: the pc of hart 0, an address that was stored to, or a
+// number of steps.
 struct Row {
     name: &'static str,
     place: Place,
@@ -127,7 +130,7 @@ fn word_of(stop: Option<Stop>) -> Option<u32> {
     }
 }
 
-// Makes a call, and answers what it shows; an error where memory is refused.
+// Makes a call, and returns its result; an error if out of memory.
 fn make<A: Allocator + Copy>(
     alloc: A,
     debugger: &mut Debugger<A>,
@@ -165,12 +168,12 @@ fn make<A: Allocator + Copy>(
     }
 }
 
-// What came of a call.
+// The outcome of a call.
 #[derive(Clone, Copy, PartialEq, Eq)]
 enum Outcome {
-    // A request was refused, and all is as it must be.
+    // A request was refused, and the state is as it must be.
     Refused,
-    // None was, and the call shows what it must.
+    // No request was refused, and the result is as it must be.
     Made,
     Wrong,
 }
@@ -178,7 +181,8 @@ enum Outcome {
 // A debugger under an allocator that refuses a request.
 type Scarce<'a> = Debugger<&'a Refusing<Global>>;
 
-// Whether a refused call has left a debugger as it was. The breakpoint and the watch are there: each search stops as before.
+// Whether a failed call has left a debugger as it was. The breakpoint and the watch are there: each
+// search stops as before.
 fn is_unchanged<'a>(heap: &'a Refusing<Global>, debugger: &mut Scarce<'a>, row: &Row) -> bool {
     debugger.position() == row.place.position()
         && debugger.cost() == row.place.cost()
@@ -205,7 +209,7 @@ fn outcome_of_call<'a>(
     }
 }
 
-// Makes a row's call at its place, where the request behind so many is refused.
+// Makes a row's call at its position, where the request after `passed` others is refused.
 fn outcome_of(host: Global, row: &Row, passed: u64) -> Outcome {
     let heap = Refusing::new(host, passed);
     match placed(&heap, row.place) {
@@ -215,7 +219,7 @@ fn outcome_of(host: Global, row: &Row, passed: u64) -> Outcome {
     }
 }
 
-// Makes a row's call with each request refused in turn, up to the one that is made or wrong.
+// Makes a row's call with each request refused in turn, until it succeeds or is wrong.
 fn last_outcome(host: Global, row: &Row) -> Outcome {
     for passed in 0..200u64 {
         let outcome = outcome_of(host, row, passed);
@@ -255,8 +259,8 @@ fn each_refused_request_of_a_start_refuses_it(rt: HostRuntime) {
     assert!(rt; tried(rt.alloc(), &Start).is_ok());
 }
 
-// A move through a thousand choices, what refuses it, and behind it the position, the cost, and the byte that the harts store: 7 by
-// the third choice, 9 by the fourth.
+// A move through a thousand choices, its fault, and the position after it, the cost, and the byte
+// that the harts store: 7 by the third choice, 9 by the fourth.
 struct Move {
     call: Call,
     fault: Option<MoveFault>,
@@ -283,7 +287,7 @@ static MOVES: [Move; 13] = [
     Move { call: Call::Goto(1001), fault: Some(MoveFault::PastEnd), position: 3, cost: 6, byte: 7 },
 ];
 
-// Makes a move, and tells whether it is as its row says.
+// Makes a move, and returns whether it is as its row says.
 fn is_moved(alloc: Global, debugger: &mut Debugger<Global>, row: &Move) -> bool {
     make(alloc, debugger, row.call).err() == row.fault
         && debugger.position() == row.position
@@ -291,7 +295,7 @@ fn is_moved(alloc: Global, debugger: &mut Debugger<Global>, row: &Move) -> bool 
         && byte_at(debugger.machine().store(), 0x11006) == row.byte
 }
 
-// How many moves are as their rows say, up to the first that is not.
+// Number of moves that are as their rows say, up to the first that isn't.
 fn count_moved(alloc: Global, debugger: &mut Debugger<Global>) -> usize {
     for (number, row) in MOVES.iter().enumerate() {
         if !is_moved(alloc, debugger, row) {
@@ -316,7 +320,7 @@ fn no_move_to_a_position_takes_more_than_255_steps(rt: HostRuntime) -> Result<()
     Ok(())
 }
 
-// How often it was told of choices, and what it was told last.
+// The number of reports of progress, and the last of them.
 #[derive(Clone, Copy, PartialEq, Eq)]
 struct Heard {
     times: u64,
@@ -332,7 +336,7 @@ impl Progress for Heard {
     }
 }
 
-// What is told of a start with so many choices; none where it is refused.
+// The reports of a start with `count` choices; `None` if it fails.
 fn heard_of<A: Allocator + Copy>(alloc: A, count: u32) -> Option<Heard> {
     let mut heard = Heard {
         times: 0,
@@ -341,7 +345,7 @@ fn heard_of<A: Allocator + Copy>(alloc: A, count: u32) -> Option<Heard> {
     };
     let choices = turns(alloc, count)?;
     let image = writable_program(alloc, &STORES_INPUT).ok()?;
-    let inputs = Vec::from_slice(alloc, &[7, 9]).ok()?;
+    let inputs = Inputs::new(&[7, 9]).ok()?;
     if !choices.iter().all(|choice| choice.hart < 2) {
         return None;
     }
@@ -349,7 +353,7 @@ fn heard_of<A: Allocator + Copy>(alloc: A, count: u32) -> Option<Heard> {
     if debugger.is_ok() { Some(heard) } else { None }
 }
 
-// Numbers of choices, and what is told of a start with them.
+// Numbers of choices, and the reports of a start with them.
 #[rattlefmt::skip]
 const STARTS: [(u32, Heard); 4] = [
     (0, Heard { times: 0, done: 0, all: 0 }),

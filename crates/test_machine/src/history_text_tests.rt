@@ -1,4 +1,4 @@
-//! What no clause says: the worked history texts, the faults' own texts, and refused memory.
+//! Tests what no clause says: example history texts, the faults' texts, and refused memory.
 use history::{Entry, HistoryFault, print_history, read_history};
 use std::alloc::{AllocError, Allocator, Global};
 use test_refusing::{Call, tried};
@@ -29,7 +29,7 @@ struct Worked {
     entries: &'static [Entry],
 }
 
-/// Texts that are read.
+/// Valid texts.
 #[rattlefmt::skip]
 const WORKED: [Worked; 5] = [
     Worked { text: "", entries: &[] },
@@ -51,7 +51,7 @@ fn history_texts_are_read(rt: HostRuntime) {
     }
 }
 
-/// Texts of two harts, and what refuses them.
+/// Invalid texts of two harts, and their faults.
 const BAD_TEXTS: [(&'static str, HistoryFault); 18] = [
     ("0", HistoryFault::BadEntry(0)),
     ("0+", HistoryFault::BadEntry(0)),

@@ -1,5 +1,5 @@
-//! Tests of runs: `choice_texts`, `choice_runs`, `sched_draw`, `histories`, `debugger` and
-//! `local_steps`.
+//! Tests of `machine`'s inputs, `sched_text`, `sched_run`, `sched_draw`, `history`, `debug_session` and
+//! `hart_local`.
 #![tactic(auto)]
 
 #[cfg(test)]
@@ -10,6 +10,8 @@ mod choice_text_tests;
 mod debugger_tests;
 #[cfg(test)]
 mod history_text_tests;
+#[cfg(test)]
+mod input_tests;
 #[cfg(test)]
 mod local_step_tests;
 #[cfg(test)]

@@ -1,4 +1,5 @@
-//! What no clause says of code and local steps: single rows of each instruction, seams, and refused memory.
+//! Tests what no clause says of code and local steps: single rows of each instruction, seams, and
+//! refused memory.
 use hart_local::{Class, Code, classify, local_steps};
 use hart_step::{Hart, HartState};
 use image::{Image, Rights, Segment};
@@ -9,7 +10,7 @@ use test_refusing::{Call, tried};
 
 const BASE: u32 = 0x10000;
 
-// A word of each instruction, as GNU as makes it.
+// A word of each instruction, as assembled by GNU as.
 const ROWS: [(u32, Class, &'static str); 51] = [
     (0x0000_0013, Class::Local, "addi"),
     (0x0003_8a63, Class::Local, "beq"),
@@ -67,7 +68,6 @@ const ROWS: [(u32, Class, &'static str); 51] = [
 /// A segment: its base, its rights and its bytes.
 type Piece<'a> = (u32, u32, &'a [u8]);
 
-/// An image of segments.
 fn image_of<A: Allocator + Copy>(alloc: A, pieces: &[Piece]) -> Option<Image<A>> {
     let mut segments = Vec::new(alloc);
     for (base, rights, bytes) in pieces {
@@ -90,14 +90,14 @@ fn hart_at(pc: u32) -> Hart {
     }
 }
 
-/// The class of a running hart's step at an address.
+// The class of a running hart's step at an address.
 fn class_at(alloc: Global, pieces: &[Piece], pc: u32) -> Option<Class> {
     let image = image_of(alloc, pieces)?;
     let code = Code::new(alloc, &image).ok()?;
     Some(classify(&hart_at(pc), &code))
 }
 
-/// Whether a word has its class where it is code, and is shared where it may be written or not be executed.
+// Whether a word has its class as code, and is shared if it is writable or not executable.
 fn has_class(alloc: Global, word: u32, class: Class) -> bool {
     let bytes = word.to_le_bytes();
     class_at(alloc, &[(BASE, 5, &bytes)], BASE) == Some(class)
@@ -112,7 +112,7 @@ fn each_instruction_has_its_class(rt: HostRuntime) {
     }
 }
 
-/// Where `addi x0, x0, 0` or a part of it stands, and the class of the step there.
+/// The place of `addi x0, x0, 0` or a part of it, and the class of the step there.
 struct Placed {
     name: &'static str,
     pieces: &'static [Piece<'static>],
@@ -147,7 +147,8 @@ static PROGRAM: [u8; 20] = [
     0x62, 0x00,
 ];
 
-/// A limit, the steps that are done under it, and what the hart comes to: its pc and what it has loaded into t0.
+/// A limit, the number of steps under it, and the hart after them: its pc and what it has loaded
+/// into t0.
 struct Limited {
     limit: u32,
     done: u32,
@@ -169,7 +170,7 @@ fn stops_at(code: &Code<Global>, row: &Limited) -> bool {
     done == row.done && hart.pc == row.pc && hart.registers[5] == row.loaded
 }
 
-/// Whether the program stops under a row's limit as the row says; none where memory is refused.
+// Whether the program stops under a row's limit as the row says; `None` if out of memory.
 fn is_limited(alloc: Global, row: &Limited) -> Option<bool> {
     let image = image_of(alloc, &[(BASE, 5, PROGRAM.as_slice())])?;
     let code = Code::new(alloc, &image).ok()?;

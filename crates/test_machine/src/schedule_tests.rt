@@ -1,4 +1,4 @@
-//! The worked schedules.
+//! Tests example schedules.
 use machine::Choice;
 use rand_core::utils::NextWord;
 use rand_pcg::Lcg64Xsh32;
@@ -25,7 +25,7 @@ macro_rules! refused {
     };
 }
 
-/// How choices are printed.
+/// A form of printed choices.
 #[derive(Clone, Copy)]
 enum Form {
     /// Each choice is an item.
@@ -34,7 +34,7 @@ enum Form {
     Runs,
 }
 
-/// Choices and how they are printed.
+/// Choices and their printed form.
 struct Printed {
     form: Form,
     choices: &'static [Choice],
@@ -51,7 +51,7 @@ const CHOICES: [Printed; 5] = [
     Printed { form: Form::Choices, choices: &[plain!(0), plain!(0)], text: "0 0\n" },
 ];
 
-/// Printed by runs: the worked lists.
+/// Lists printed by runs.
 #[rattlefmt::skip]
 const RUNS: [Printed; 6] = [
     Printed { form: Form::Runs, choices: &[], text: "" },
@@ -62,7 +62,7 @@ const RUNS: [Printed; 6] = [
     Printed { form: Form::Runs, choices: &[refused!(31), refused!(31)], text: "31!*2\n" },
 ];
 
-/// Whether choices are printed as a row says.
+// Whether choices are printed as in a row.
 fn is_printed<A: Allocator + Copy>(alloc: A, row: &Printed) -> Result<bool, AllocError> {
     let text = match row.form {
         Form::Choices => print_choices(alloc, row.choices)?,
@@ -85,7 +85,7 @@ fn runs_are_printed(rt: HostRuntime) {
     }
 }
 
-/// The choices of a schedule of so many harts, where it is one that has them in each run.
+// The choices of a schedule that is the same in each run.
 fn listed<A: Allocator>(
     alloc: A,
     schedule: Schedule,
@@ -98,7 +98,7 @@ fn listed<A: Allocator>(
     list_schedule(alloc, schedule, harts, steps)
 }
 
-/// Whether a run that is too long for one item has two.
+// Whether a run that is too long for one item is printed as two.
 fn is_run_cut(alloc: Global) -> Result<bool, AllocError> {
     let choices = listed(alloc, Schedule::Only(0), 1, 16_777_217)?;
     let text = print_runs(alloc, choices.as_slice())?;
@@ -136,7 +136,7 @@ static FIVE_CHOICES: Printed = Printed {
     text: "3 0! 7 2! 0\n",
 };
 
-/// Whether the printed text of five choices reads as their list.
+// Whether the printed text of five choices is read as their list.
 fn is_read_back(alloc: Global) -> Option<bool> {
     let text = print_choices(alloc, FIVE_CHOICES.choices).ok()?;
     let read = read_choices(alloc, text.as_bytes(), 8).ok()?;
@@ -148,7 +148,7 @@ fn a_printed_text_reads_as_its_list(rt: HostRuntime) {
     assert!(rt; is_read_back(rt.alloc()) == Some(true));
 }
 
-/// Three harts by turns for five steps.
+/// Three harts in turn for five steps.
 const TURNS: [Choice; 5] = [plain!(0), plain!(1), plain!(2), plain!(0), plain!(1)];
 
 /// One hart for three steps.
@@ -158,7 +158,7 @@ fn are_turns(alloc: Global) -> Result<bool, AllocError> {
     Ok(listed(alloc, Schedule::Turns, 3, 5)?.as_slice() == TURNS.as_slice())
 }
 
-/// Whether a hart alone for so many steps is these choices.
+// Whether `steps` steps of a hart alone are these choices.
 fn is_alone(alloc: Global, steps: u64, wanted: &[Choice]) -> Result<bool, AllocError> {
     Ok(listed(alloc, Schedule::Only(2), 3, steps)?.as_slice() == wanted)
 }
@@ -188,7 +188,8 @@ fn generator_gives_the_published_words(rt: HostRuntime) {
     }
 }
 
-/// Each choice is the word's remainder by the number of harts, refused where the word's bits 16 to 19 are 0.
+// Each choice is the word's remainder by the number of harts, refused where the word's bits 16 to
+// 19 are 0.
 fn choice_of(word: u32) -> Choice {
     Choice {
         hart: word % 3,
@@ -196,7 +197,7 @@ fn choice_of(word: u32) -> Choice {
     }
 }
 
-/// Whether choices are those of the words of a seed's generator.
+// Whether choices are those of the words of a seed's generator.
 fn are_of_words(choices: &[Choice], seed: u64) -> bool {
     let mut generator = seeded_generator(seed);
     for choice in choices {
@@ -207,7 +208,7 @@ fn are_of_words(choices: &[Choice], seed: u64) -> bool {
     true
 }
 
-// What a seed draws where nothing else is said.
+// The default schedule of a seed.
 fn seeded(seed: u64) -> Schedule {
     Schedule::Seeded {
         seed,
@@ -215,7 +216,7 @@ fn seeded(seed: u64) -> Schedule {
     }
 }
 
-/// Whether the 200 choices of a seed follow the words.
+// Whether the 200 choices of a seed follow the words.
 fn is_seeded(alloc: Global, seed: u64) -> Result<bool, AllocError> {
     let choices = listed(alloc, seeded(seed), 3, 200)?;
     Ok(choices.len() == 200 && are_of_words(choices.as_slice(), seed))
@@ -233,7 +234,7 @@ fn each_refused_request_is_told(rt: HostRuntime) {
     assert!(rt; tried(rt.alloc(), &FIVE_CHOICES).is_ok());
 }
 
-/// Whether nine steps of two harts of a schedule are refused with their first request.
+// Whether nine steps of two harts of a schedule fail if the first request is refused.
 fn is_refused(alloc: Global, schedule: Schedule) -> bool {
     let heap = Refusing::new(alloc, 0);
     listed(&heap, schedule, 2, 9).is_err() && heap.refused()

@@ -2,7 +2,7 @@
 //! hart as often and lead to the same state go on as one, and how many they are is counted.
 
 use hart_step::{Hart, HartState};
-use machine::{Choice, Machine, StartFault};
+use machine::{Choice, Inputs, Machine};
 use mem_flat::FlatStore;
 use mem_store::Store;
 use object_library::{Kind, Verdict, judge, make_image};
@@ -53,14 +53,10 @@ fn data_of<S: Store, A: Allocator>(alloc: A, store: &S) -> Result<Vec<u32, A>, A
 // The place before any choice.
 fn first_place<A: Allocator + Copy>(alloc: A, search: &Search) -> Result<Place<A>, AllocError> {
     let image = make_image(alloc, search.kind)?;
-    let started: Result<Machine<FlatStore<A>, A>, StartFault> = Machine::start(
-        alloc,
-        &image,
-        &search.inputs,
-    );
-    let Ok(machine) = started else {
+    let Ok(inputs) = Inputs::new(&search.inputs) else {
         return Err(AllocError);
     };
+    let machine: Machine<FlatStore<A>, A> = Machine::start(alloc, &image, &inputs)?;
     let data = data_of(alloc, machine.store())?;
     Ok(Place {
         machine,

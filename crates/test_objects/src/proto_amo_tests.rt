@@ -1,6 +1,6 @@
 //! Each call with ample memory, and with each of its requests refused in turn.
 
-use object_amo::{add_image, swap_image};
+use object_consensus::{add_image, swap_image};
 use object_library::{Kind, certify};
 use std::alloc::{AllocError, Allocator, Global};
 use test_refusing::{Call, tried};

@@ -1,7 +1,7 @@
 //! The call with ample memory, and with each of its requests refused in turn.
 
+use object_consensus::lrsc_image;
 use object_library::{Kind, certify};
-use object_lrsc::lrsc_image;
 use std::alloc::{AllocError, Allocator, Global};
 use test_refusing::{Call, tried};
 

@@ -2,8 +2,8 @@
 
 use crate::stepping::{PlainMachine, started, take_step, take_steps};
 use hart_step::{Hart, HartState};
+use object_adopt::rounds_image;
 use object_library::{Kind, certify};
-use object_rounds::rounds_image;
 use std::alloc::{AllocError, Allocator, Global};
 use test_refusing::{Call, tried};
 

@@ -1,6 +1,6 @@
 //! Machines of images, and steps of one hart.
 use image::Image;
-use machine::{Choice, Machine};
+use machine::{Choice, Inputs, Machine};
 use mem_flat::FlatStore;
 use std::alloc::{AllocError, Global};
 
@@ -13,10 +13,10 @@ pub(crate) fn started(
     image: &Image<Global>,
     inputs: &[u32],
 ) -> Result<PlainMachine, AllocError> {
-    match Machine::start(alloc, image, inputs) {
-        Ok(machine) => Ok(machine),
-        Err(_) => Err(AllocError),
-    }
+    let Ok(inputs) = Inputs::new(inputs) else {
+        return Err(AllocError);
+    };
+    Machine::start(alloc, image, &inputs)
 }
 
 /// Takes a hart's step, if there is such a hart.

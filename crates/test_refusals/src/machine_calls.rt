@@ -1,7 +1,7 @@
 //! Calls that make and copy machines, that let paged machines go on, and that make, read and print schedules and histories.
 use debug_session::byte_at;
 use history::{Entry, HistoryFault, print_history, read_history};
-use machine::{Choice, Machine};
+use machine::{Choice, Inputs, Machine};
 use mem_flat::FlatStore;
 use mem_paged::PageStore;
 use mem_store::FromImage;
@@ -115,10 +115,10 @@ const ENTRIES: [Entry; 2] = [
 // A machine with two harts, at its start.
 fn started<S: FromImage<A>, A: Allocator + Copy>(alloc: A) -> Result<Machine<S, A>, AllocError> {
     let image = writable_program(alloc, &STORES_INPUT)?;
-    match Machine::start(alloc, &image, &[7, 9]) {
-        Ok(machine) => Ok(machine),
-        Err(_) => Err(AllocError),
-    }
+    let Ok(inputs) = Inputs::new(&[7, 9]) else {
+        return Err(AllocError);
+    };
+    Machine::start(alloc, &image, &inputs)
 }
 
 fn is_started<A: Allocator + Copy>(alloc: A) -> Result<bool, AllocError> {

@@ -1,7 +1,7 @@
 //! Calls of a debugger, each at one place: how it is made, its moves, its breakpoints and its commands.
 use debug_session::{Debugger, MoveFault, Stop};
 use debug_text::{Answer, DebugFault, command};
-use machine::Choice;
+use machine::{Choice, Inputs};
 use std::alloc::{AllocError, Allocator, Global};
 use test_images::{STORES_INPUT, writable_program};
 use test_refusing::{Call, tried};
@@ -75,14 +75,13 @@ fn begin<A: Allocator + Copy>(
     choices: Vec<Choice, A>,
 ) -> Result<Debugger<A>, AllocError> {
     let image = writable_program(alloc, &STORES_INPUT)?;
-    let inputs = Vec::from_slice(alloc, &[7, 9])?;
+    let Ok(inputs) = Inputs::new(&[7, 9]) else {
+        return Err(AllocError);
+    };
     if !choices.iter().all(|choice| choice.hart < 2) {
         return Err(AllocError);
     }
-    match Debugger::new(alloc, image, inputs, choices) {
-        Ok(debugger) => Ok(debugger),
-        Err(_) => Err(AllocError),
-    }
+    Debugger::new(alloc, image, inputs, choices)
 }
 
 // Where a call is made: how many choices there are, behind how many, and what the move there has cost.

@@ -1,9 +1,8 @@
 //! Calls that make the objects' images and tables.
 use image::Image;
 use object_adopt::{adopt_image, rounds_image};
-use object_amo::{add_image, swap_image};
+use object_consensus::{add_image, lrsc_image, swap_image};
 use object_library::{Kind, certify, make_image, table, words};
-use object_lrsc::lrsc_image;
 use std::alloc::{AllocError, Allocator, Global};
 use test_refusing::{Call, tried};
 

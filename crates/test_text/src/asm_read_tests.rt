@@ -1,4 +1,4 @@
-//! What no clause says: worked texts, each fault, and refused memory.
+//! Properties without a clause: worked texts, each fault, and out of memory.
 use asm_parse::{
     AsmFault, Body, Directive, FaultKind, Immediate, Instruction, Section, Statement, Target,
     statements,
@@ -6,13 +6,13 @@ use asm_parse::{
 use std::alloc::{AllocError, Global};
 use test_refusing::Refusing;
 
-// How many statements a source has; None where it has a fault.
+// The number of statements of a source; `None` on a fault.
 fn count_of(alloc: Global, source: &str) -> Option<usize> {
     let all = statements(alloc, [source].as_slice()).ok()?;
     Some(all.len())
 }
 
-// Whether each of these sources has so many statements; else the first one that hasn't.
+// Whether each of these sources has this many statements; else the first one that has not.
 fn each_has(alloc: Global, sources: &[&'static str], count: usize) -> Result<(), &'static str> {
     for source in sources {
         if count_of(alloc, source) != Some(count) {
@@ -105,7 +105,7 @@ fn each_pseudo_instruction_is_taken(rt: HostRuntime) -> Result<(), &'static str>
     each_has(rt.alloc(), &PSEUDO_INSTRUCTIONS, 1)
 }
 
-// Directives that say something.
+// Directives with an effect.
 const DIRECTIVES: [&str; 18] = [
     ".text",
     ".data",
@@ -132,7 +132,7 @@ fn each_directive_is_taken(rt: HostRuntime) -> Result<(), &'static str> {
     each_has(rt.alloc(), &DIRECTIVES, 1)
 }
 
-// What says nothing.
+// Sources without statements.
 const SILENT: [&str; 9] = [
     "",
     "# a",
@@ -153,7 +153,8 @@ fn what_says_nothing_is_taken(rt: HostRuntime) -> Result<(), &'static str> {
 // Sources, and the number, source and line of their fault.
 type Faulty = (&'static [&'static str], (u8, usize, usize));
 
-// The number, source and line of the fault of sources; None where they have none, or memory is refused.
+// The number, source and line of the fault of sources; `None` if there is none, or when out of
+// memory.
 fn fault_of(alloc: Global, sources: &[&str]) -> Option<(u8, usize, usize)> {
     match statements(alloc, sources) {
         Err(AsmFault::At(fault)) => Some((fault.kind.number(), fault.source, fault.line)),
@@ -161,7 +162,7 @@ fn fault_of(alloc: Global, sources: &[&str]) -> Option<(u8, usize, usize)> {
     }
 }
 
-// Whether each of these rows has its fault; else the first source of the first one that hasn't.
+// Whether each of these rows has its fault; else the first source of the first one that has not.
 fn each_is_told(alloc: Global, rows: &[Faulty]) -> Result<(), &'static str> {
     for (sources, wanted) in rows {
         if fault_of(alloc, sources) != Some(*wanted) {
@@ -171,7 +172,7 @@ fn each_is_told(alloc: Global, rows: &[Faulty]) -> Result<(), &'static str> {
     Ok(())
 }
 
-// Faults beside others.
+// Faults among others.
 const FIRST_FAULTS: [Faulty; 15] = [
     (&["addi a0, a0, 4096\nfoo"], (2, 0, 2)),
     (&["addi a0, a0"], (3, 0, 1)),
@@ -195,7 +196,7 @@ fn the_lowest_fault_of_the_earliest_statement_is_told(rt: HostRuntime) -> Result
     each_is_told(rt.alloc(), &FIRST_FAULTS)
 }
 
-// Heads that say nothing.
+// Unknown heads.
 const HEADS: [Faulty; 8] = [
     (&["5"], (2, 0, 1)),
     (&["\"x\""], (2, 0, 1)),
@@ -261,7 +262,7 @@ fn wrong_operands_of_instructions_are_told(rt: HostRuntime) -> Result<(), &'stat
     each_is_told(rt.alloc(), &OPERANDS_OF_INSTRUCTIONS)
 }
 
-// Names and their registers' numbers, by the calling convention.
+// Register names and their numbers, by the ABI.
 #[rattlefmt::skip]
 const REGISTERS: [(&str, u8); 65] = [
     ("zero", 0), ("x0", 0),
@@ -299,7 +300,7 @@ const REGISTERS: [(&str, u8); 65] = [
     ("fp", 8),
 ];
 
-// Names of no register.
+// Names that are no register's.
 const NO_REGISTERS: [&str; 9] = ["x32", "x00", "x", "X1", "a8", "t7", "s12", "s", ""];
 
 // The source `lui NAME, 1`.
@@ -307,7 +308,7 @@ fn lui_of(alloc: Global, name: &str) -> Result<String<Global>, AllocError> {
     format!(in alloc; "lui {name}, 1")
 }
 
-// The number of the register that the first of some statements writes, where that is `lui`.
+// The register that the first of some statements writes, if that is `lui`.
 fn register_of(all: &[Statement<Global>]) -> Option<u8> {
     match all.first().map(|statement| &statement.body) {
         Some(Body::Instruction(Instruction::Lui { rd, .. })) => Some(rd.number()),
@@ -315,7 +316,7 @@ fn register_of(all: &[Statement<Global>]) -> Option<u8> {
     }
 }
 
-// The number of the register that `lui NAME, 1` writes; None where it is faulty or another statement.
+// The register that `lui NAME, 1` writes; `None` for a fault or another statement.
 fn number_of(alloc: Global, name: &str) -> Option<u8> {
     let source = lui_of(alloc, name).ok()?;
     let all = statements(alloc, [source.as_str()].as_slice()).ok()?;
@@ -329,7 +330,7 @@ fn registers_have_their_numbers(rt: HostRuntime) {
     }
 }
 
-// Whether `lui NAME, 1` is faulty; None where memory is refused.
+// Whether `lui NAME, 1` has a fault; `None` when out of memory.
 fn is_faulty(alloc: Global, name: &str) -> Option<bool> {
     let source = lui_of(alloc, name).ok()?;
     Some(fault_of(alloc, [source.as_str()].as_slice()).is_some())
@@ -361,12 +362,12 @@ fn is_nop(statement: &Statement<Global>) -> bool {
     )
 }
 
-// Whether a statement is a jump back to a local label.
+// Whether a statement is a backward jump to a local label.
 fn is_jump_back(statement: &Statement<Global>, wanted: &str) -> bool {
     matches!(&statement.body, Body::Instruction(Instruction::Jal { target: Target::Back(name), .. }) if name.as_str() == wanted)
 }
 
-// Whether these are the statements of three labels, `nop`, and a jump in line 3.
+// Whether these are the statements of three labels, `nop`, and a jump on line 3.
 fn are_labels_first(all: &[Statement<Global>]) -> bool {
     let [first, second, third, nop, jump] = all else {
         return false;
@@ -379,7 +380,7 @@ fn are_labels_first(all: &[Statement<Global>]) -> bool {
         && jump.line == 3
 }
 
-// Whether labels stand before their statement.
+// Whether labels come before their statement.
 fn labels_are_first(alloc: Global) -> Result<bool, AsmFault> {
     let all = statements(alloc, ["a: 1: b: nop\n\nj 1b"].as_slice())?;
     Ok(are_labels_first(&all))
@@ -390,7 +391,7 @@ fn labels_stand_before_their_statement(rt: HostRuntime) {
     assert!(rt; labels_are_first(rt.alloc()) == Ok(true) && FaultKind::Token.number() == 1);
 }
 
-// Whether these are three statements, and the second one, of the second source, chooses the text.
+// Whether there are three statements, and the second one, of the second source, selects the text.
 fn is_text_second(all: &[Statement<Global>]) -> bool {
     let [_, second, _] = all else {
         return false;
@@ -402,7 +403,7 @@ fn is_text_second(all: &[Statement<Global>]) -> bool {
     is_text && second.source == 1
 }
 
-// Whether a second source begins in the text, though the first one ends in the data.
+// Whether a second source starts in the text, though the first one ends in the data.
 fn second_begins_in_text(alloc: Global) -> Result<bool, AsmFault> {
     let all = statements(alloc, [".data", "nop"].as_slice())?;
     Ok(is_text_second(&all))
@@ -417,7 +418,7 @@ fn each_source_begins_in_text(rt: HostRuntime) {
 const SEVEN: &str =
     "a: nop\n.word 1, 2, 3, 4, 5, x\n.ascii \"abcdefghijkl\"\n.globl a, b\n.half 1\nj a";
 
-// Whether seven statements are read, or want of memory is told.
+// Whether seven statements are parsed, or out of memory is reported.
 fn is_told(heap: &Refusing<Global>) -> bool {
     match statements(heap, [SEVEN].as_slice()) {
         Ok(all) => all.len() == 7,

@@ -1,4 +1,4 @@
-//! What no clause says: worked texts, the faults' own texts, and refused memory.
+//! Properties without a clause: worked texts, the texts of the faults, and out of memory.
 use asm_lex::{Kind, Lexeme, Next, TextFault, next_lexeme, scan_text, tokens};
 use std::alloc::{AllocError, Global};
 use test_refusing::Refusing;
@@ -24,7 +24,7 @@ fn has_kinds(alloc: Global, text: &str, wanted: &[Kind]) -> bool {
     }
 }
 
-// Whether each text has tokens of its kinds; else the first one that hasn't.
+// Whether each text has tokens of its kinds; else the first one that has not.
 fn each_is_cut(alloc: Global, rows: &[Cut]) -> Result<(), &'static str> {
     for (text, wanted) in rows {
         if !has_kinds(alloc, text, wanted) {
@@ -34,7 +34,7 @@ fn each_is_cut(alloc: Global, rows: &[Cut]) -> Result<(), &'static str> {
     Ok(())
 }
 
-// Texts with each kind.
+// Texts with each kind of token.
 const TEXTS: [Cut; 10] = [
     ("", &[]),
     (" \t# end", &[]),
@@ -152,7 +152,7 @@ const FAULTS: [(&str, TextFault); 19] = [
     ("\" \u{1}", TextFault::OpenText(0)),
 ];
 
-// The fault of a text; None where it is taken.
+// The fault of a text; `None` if it has none.
 fn fault_of(alloc: Global, text: &str) -> Option<TextFault> {
     tokens(alloc, text).err()
 }
@@ -164,7 +164,7 @@ fn the_first_fault_is_told(rt: HostRuntime) {
     }
 }
 
-// A comment and a string with bytes of any kind.
+// A comment and a string with arbitrary bytes.
 const ANY_BYTES: [&str; 2] = ["# \u{e9}\r \u{1}", "\"\u{e9}\r \u{1}\""];
 
 #[test]
@@ -174,7 +174,7 @@ fn any_byte_may_stand_in_comments_and_strings(rt: HostRuntime) {
     }
 }
 
-// Whether the tokens before a fault are kept, with their places.
+// Whether the tokens before a fault are returned, with their places.
 fn are_kept(alloc: Global) -> Result<bool, AllocError> {
     let scan = scan_text(alloc, "a, 5 08 b")?;
     let spans = scan
@@ -200,13 +200,13 @@ fn long_text(alloc: Global, sign: char) -> Result<String<Global>, AllocError> {
     Ok(text)
 }
 
-// The fault of as many digits.
+// The fault of 100,000 digits.
 fn fault_of_digits(alloc: Global) -> Result<Option<TextFault>, AllocError> {
     let digits = long_text(alloc, '9')?;
     Ok(fault_of(alloc, &digits))
 }
 
-// How many tokens as many signs are; None where they have a fault.
+// The number of tokens of 100,000 signs; `None` on a fault.
 fn count_of_signs(alloc: Global) -> Result<Option<usize>, AllocError> {
     let signs = long_text(alloc, '(')?;
     Ok(tokens(alloc, &signs).ok().map(|all| all.len()))
@@ -219,7 +219,7 @@ fn long_texts_end(rt: HostRuntime) {
     assert!(rt; fault == Ok(Some(TextFault::BadNumber(0))) && count == Ok(Some(100_000)));
 }
 
-// Faults and their own texts.
+// Faults and their texts.
 const FAULT_TEXTS: [(TextFault, &str); 4] = [
     (TextFault::BadChar(0), "text fault BadChar at 0"),
     (TextFault::BadNumber(2), "text fault BadNumber at 2"),
@@ -227,7 +227,7 @@ const FAULT_TEXTS: [(TextFault, &str); 4] = [
     (TextFault::Memory, "out of memory"),
 ];
 
-// Whether a fault is shown so; None where memory is refused.
+// Whether a fault is displayed as this text; `None` when out of memory.
 fn is_shown(alloc: Global, fault: TextFault, wanted: &str) -> Option<bool> {
     let text = format!(in alloc; "{fault}").ok()?;
     Some(text.as_str() == wanted)
@@ -246,7 +246,7 @@ fn faults_have_texts(rt: HostRuntime) {
 // A text of 26 tokens.
 const LETTERS: &str = "a b c d e f g h i j k l m n o p q r s t u v w x y z";
 
-// Whether 26 tokens are read, or want of memory is told.
+// Whether 26 tokens are read, or out of memory is reported.
 fn is_told(heap: &Refusing<Global>) -> bool {
     match tokens(heap, LETTERS) {
         Ok(all) => all.len() == 26,
@@ -272,7 +272,7 @@ fn each_refused_request_is_told(rt: HostRuntime) -> Result<(), u64> {
 // A lexeme of each kind, and then a fault.
 const EACH_LEXEME: &str = "a 1 1b 1f \"b\" , ( ) + - % : ; @\n08";
 
-// Whether 15 tokens and the fault are read, or want of memory is told.
+// Whether 15 tokens and the fault are read, or out of memory is reported.
 fn is_scan_told(heap: &Refusing<Global>) -> bool {
     match scan_text(heap, EACH_LEXEME) {
         Ok(scan) => scan.tokens.len() == 15 && scan.fault == Some(TextFault::BadNumber(32)),
@@ -295,7 +295,7 @@ fn each_refused_request_of_a_scan_is_told(rt: HostRuntime) -> Result<(), u64> {
     Err(100)
 }
 
-// The lexemes of that text.
+// The lexemes of `EACH_LEXEME`.
 const LEXEMES: [Lexeme; 15] = [
     Lexeme::Name("a"),
     Lexeme::Number(1, "1"),
@@ -314,7 +314,7 @@ const LEXEMES: [Lexeme; 15] = [
     Lexeme::LineEnd,
 ];
 
-// Where the lexemes end, one behind the other; else where the first one stands that is another.
+// The end of consecutive lexemes; else the place of the first one that differs.
 fn end_of_lexemes() -> Result<usize, usize> {
     let mut at = 0;
     for wanted in &LEXEMES {

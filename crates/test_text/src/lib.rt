@@ -1,4 +1,4 @@
-//! Tests of the readers of assembler texts: `asm_text` and `asm_read`.
+//! Tests of `asm_lex` and `asm_parse`.
 #![tactic(auto)]
 
 #[cfg(test)]

@@ -1,4 +1,5 @@
 //! Programs for tests, and their books.
+use machine::Inputs;
 use object_library::Kind;
 use std::alloc::Allocator;
 use test_programs::{Program, program_image};
@@ -22,6 +23,6 @@ pub const STORE_AND_LOAD: [u32; 5] = [
 /// The book of a program with a hart for each input.
 pub fn book_of<A: Allocator + Copy>(alloc: A, program: Program, inputs: &[u32]) -> Option<Book<A>> {
     let image = program_image(alloc, program).ok()?;
-    let inputs = Vec::from_slice(alloc, inputs).ok()?;
+    let inputs = Inputs::new(inputs).ok()?;
     Book::new(alloc, image, inputs).ok()
 }

@@ -228,38 +228,6 @@ fn no_budget_leaves_the_opening_state(rt: HostRuntime) {
     assert!(rt; is_at_start(&rt, rt.alloc(), &IDLE) == Some(true));
 }
 
-// Inputs of which there are too few or too many.
-const REFUSED: [(&[u32], RunFault); 2] = [
-    (&[], RunFault::NoHarts),
-    (&[1; 33], RunFault::TooManyHarts),
-];
-
-// How a run is refused; None where it isn't.
-fn fault_of<R: Threads + Wait + Sync>(
-    rt: &R,
-    alloc: Global,
-    inputs: &[u32],
-    budget: u32,
-) -> Option<RunFault> {
-    let order = Order {
-        program: LR_SC,
-        inputs,
-        budget,
-        pairs: &[],
-    };
-    run(rt, alloc, &order, &OpenGate).err()
-}
-
-#[test]
-fn numbers_of_harts_are_refused(rt: HostRuntime) {
-    for (inputs, wanted) in &REFUSED {
-        for budget in [0, 100] {
-            let fault = fault_of(&rt, rt.alloc(), inputs, budget);
-            assert!(rt; fault == Some(*wanted), "budget {budget}");
-        }
-    }
-}
-
 // How long a hart waits for the other one.
 const TURNS: u32 = 10_000_000;
 

@@ -1,4 +1,5 @@
 //! Runs of threads for tests.
+use machine::Inputs;
 use std::alloc::Allocator;
 use std::sync::Wait;
 use std::thread::Threads;
@@ -25,7 +26,7 @@ pub fn run<A: Allocator + Copy + Send + Sync, G: Gate + Sync, R: Threads + Wait 
 ) -> Result<Book<A>, RunFault> {
     let (Ok(image), Ok(inputs), Ok(plan)) = (
         program_image(alloc, order.program),
-        Vec::from_slice(alloc, order.inputs),
+        Inputs::new(order.inputs),
         plan_of(alloc, order.pairs),
     ) else {
         return Err(RunFault::Memory);

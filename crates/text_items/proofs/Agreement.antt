@@ -1,4 +1,4 @@
--- Reading finds what the grammar says, and nothing else, where it does so for each item.
+-- Reading gives exactly what the grammar says, if it does so for each item.
 use Rattle.std.proofs.Common.{◌≡◌, ℕ, ◌+◌, ◌<◌, ◌⊎◌, inl, inr, Bool, true, false, List, [], ◌∷◌, ◌++◌, length, Ok, Err, refl, arith, ap, sym, ◌∙◌, cond, append-nil, append_assoc, subst}
 use Rattle.std.proofs.lemmas.List.Splits.{slice_split_at, slice_split_none, slice_split-cons_yes}
 use Rattle.std.proofs.lemmas.List.Elements.{All-nil, All-cons, All-append}
@@ -12,14 +12,14 @@ use Rattle.text_items.proofs.ItemLemmas.{part_is_item}
 abbrev plain : ℕ → Type 0
 plain b = is_blank b ≡ false
 
--- what reading an item tells of it
+-- the meaning of an item's result
 abbrev pub ItemTold : {A F : Type 0} → (List ℕ → A → Type 0) → (A → Type 0) → (ℕ → F) → (ℕ → F) → ℕ → List ℕ → Result A F → Type 0
 ItemTold {A} {F} Names There malformed unknown at item (Ok value) = Names item value × There value
 ItemTold {A} {F} Names There malformed unknown at item (Err fault) =
     ((fault ≡ malformed at) × ((value : A) → Names item value → ⊥))
     ⊎ ((fault ≡ unknown at) × ((value : A) × (Names item value) × (There value → ⊥)))
 
--- what reading a text tells of it
+-- the meaning of a text's result
 abbrev pub Told : {A F : Type 0} → (List ℕ → A → Type 0) → (A → Type 0) → (ℕ → F) → (ℕ → F) → ℕ → List ℕ → Result (List A) F → Type 0
 Told Names There malformed unknown at text (Ok values) = Spells Names There text values
 Told Names There malformed unknown at text (Err fault) = Spoils Names There malformed unknown at text fault
@@ -80,7 +80,7 @@ module _ {A F : Type 0} (Names : List ℕ → A → Type 0) (There : A → Type 
     part_in_front at (b ∷ bs) rest parts plain end told =
         item_in_front at (b ∷ bs) rest (read at (b ∷ bs)) _ (omega arith) plain end (item_told at (b ∷ bs)) told
 
-    -- reading tells of a text, before which bytes without blanks stand
+    -- the meaning for a text after bytes without blanks
     told_after : (front text : List ℕ) (at : ℕ) → All (λ b. is_blank b ≡ false) front
         → Told Names There malformed unknown at (front ++ text) (values_named read (items_of_parts at (onto_part front (slice_split is_blank text))))
     told_after front [] at plain =
@@ -106,7 +106,7 @@ module _ {A F : Type 0} (Names : List ℕ → A → Type 0) (There : A → Type 
             (subst (λ parts. Told Names There malformed unknown at ((front ++ b ∷ []) ++ bs) (values_named read (items_of_parts at parts))) (sym (onto_part-byte front b ps))
             (byte (All-append (λ b. is_blank b ≡ false) front (b ∷ []) plain (All-cons (λ b. is_blank b ≡ false) b [] h (All-nil (λ b. is_blank b ≡ false))))))
 
-    -- reading tells of each text
+    -- the result for each text has its meaning
     pub told : (text : List ℕ) → Told Names There malformed unknown 0 text (values_of read text)
     told text =
         subst (λ items. Told Names There malformed unknown 0 text (values_named read items)) (onto_part-none 0 (slice_split is_blank text))
@@ -118,7 +118,7 @@ module _ {A F : Type 0} (Names : List ℕ → A → Type 0) (There : A → Type 
     pub spoils_of : (text : List ℕ) (fault : F) → values_of read text ≡ Err fault → Spoils Names There malformed unknown 0 text fault
     spoils_of text fault e = subst (Told Names There malformed unknown 0 text) e (told text)
 
--- the values of a text that is read are there
+-- the values of a text that is read exist
 pub all_there : {A : Type 0} (Names : List ℕ → A → Type 0) (There : A → Type 0) (text : List ℕ) (values : List A)
     → Spells Names There text values → All There values
 all_there Names There _ _ Spells.nothing = All-nil There

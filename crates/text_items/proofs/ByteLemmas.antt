@@ -1,4 +1,4 @@
--- What stands before the first byte of a value, and from it on.
+-- The bytes before the first byte of a value, and those from it on.
 use Rattle.std.proofs.Common.{◌≡◌, ◌≢◌, ℕ, suc, ◌+◌, ◌<◌, ◌≤◌, Bool, true, false, not, cond, List, [], ◌∷◌, ◌++◌, length, take, drop, get_or, ⊎_elim, refl, arith, rules, ap, sym, ◌∙◌, ◌⊎◌, inl, inr, eqb-true, eq-eqb, ne_eqb, append-nil}
 use Rattle.std.proofs.lemmas.Bool.{cases_lt}
 use Rattle.std.proofs.lemmas.Grind.{common_steps}
@@ -11,7 +11,7 @@ use Rattle.std.specs.List.{position_or_len}
 use Rattle.std.specs.Str.Parse.{AllDigits}
 use Rattle.text_items.specs.Numbers.{before_byte, from_byte}
 
--- no byte of this value stands in the list
+-- the list has no byte of this value
 abbrev pub HasNone : ℕ → List ℕ → Type 0
 HasNone byte [] = Unit {0}
 HasNone byte (b ∷ bs) = (b ≢ byte) × HasNone byte bs

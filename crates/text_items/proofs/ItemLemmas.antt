@@ -64,7 +64,7 @@ pub part_is_item : (at : ℕ) (part : List ℕ) (parts : List (List ℕ)) → 0 
 part_is_item at [] parts lt = absurd (omega arith)
 part_is_item at (b ∷ bs) parts lt = refl
 
--- where no blank stands at the front, the bytes before the first blank are the first item
+-- if no blank is at the front, the bytes before the first blank are the first item
 pub first_item : (at : ℕ) (xs : List ℕ) → 0 < position_or_len is_blank xs
     → items_of_parts at (slice_split is_blank xs)
     ≡ record { at = at; text = take (position_or_len is_blank xs) xs }
@@ -110,7 +110,7 @@ begins_item x xs plain = by (is_blank x) plain
     by true h = absurd (cc)
     by false h = omega arith
 
--- where no byte stands between the blanks at the front and the next blank, the text has ended
+-- if no byte is between the blanks at the front and the next blank, the text has ended
 ended : (xs : List ℕ) → position_or_len is_blank (drop (prefix_len is_blank xs) xs) ≡ 0 → drop (prefix_len is_blank xs) xs ≡ []
 ended xs none = ⊎_elim goes_on stops (cases_lt (prefix_len is_blank xs) (length xs))
   where

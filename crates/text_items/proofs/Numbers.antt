@@ -1,4 +1,4 @@
--- What the tests of an item's digits and of its mark tell.
+-- What the tests of an item's digits and of its mark mean.
 use Rattle.std.proofs.Common.{◌≡◌, ℕ, ◌-◌, ◌^◌, ◌<◌, min, Bool, true, false, not, ◌&&◌, ◌||◌, List, [], ◌∷◌, ◌++◌, length, take, get_or, Option, Some, None, refl, arith, rules, ap, sym, ◌∙◌, append-nil, eqb-true, eq-eqb, ne_eqb, ltb-true, lt-ltb, length-append}
 use Rattle.std.proofs.lemmas.Grind.{common_steps}
 use Rattle.std.specs.Prelude.{◌==◌, nat_lt, slice_index, if◌then◌else◌}
@@ -18,7 +18,7 @@ both : (a b : Bool) → a && b ≡ true → (a ≡ true) × (b ≡ true)
 both true b h = (refl, h)
 both false b h = absurd (cc)
 
--- the test of a leading zero tells it
+-- the test of a leading zero is exact
 no_zero : (a b : Bool) → not a || b ≡ true → a ≡ true → b ≡ true
 no_zero true b h e = h
 no_zero false b h e = absurd (cc)
@@ -88,13 +88,13 @@ ends_so : (item : List ℕ) → get_or item (length item - 1) 0 ≡ 33 → item 
 ends_so [] e = absurd (cc)
 ends_so (x ∷ xs) e = grind (arith, common_steps)
 
--- an item whose last byte is `!` is what stands before it, and it
+-- an item whose last byte is `!` is the bytes before it, and it
 pub marked : (item : List ℕ) → has_mark item ≡ true → item ≡ before_mark item ++ 33 ∷ []
 marked item h =
     let last : get_or item (length item - 1) 0 ≡ 33 = eqb-true _ 33 h in
     ends_so item last
 
--- an item is what stands before its mark, and the mark
+-- an item is the bytes before its mark, and the mark
 pub item_is : (item : List ℕ) → item ≡ unmarked item ++ mark_of (has_mark item)
 item_is item = by (has_mark item) refl
   where

@@ -9,7 +9,7 @@ use Rattle.text_items.specs.Numbers.{IsNumber}
 use Rattle.text_items.specs.Spelling.{Spells, is_end}
 use Rattle.text_items.specs.Printing.{after_item, text_of}
 
--- a number in decimal begins with 0 only where it is 0
+-- a number in decimal begins with 0 only if it is 0
 no_leading_zero : (n : ℕ) → n < 2 ^ 64 → get_or (decimal n) 0 0 ≡ 48 → length (decimal n) ≡ 1
 no_leading_zero n small e = ⊎_elim some none (cases_lt 0 n)
   where

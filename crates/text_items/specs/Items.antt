@@ -1,4 +1,4 @@
--- The items of a text: what stands between blanks.
+-- The items of a text: the longest runs without blanks.
 use Rattle.std.specs.Prelude.{◌≡◌, ℕ, ◌+◌, ◌-◌, ◌<◌, ◌≤◌, ◌==◌, ◌||◌, Bool, List, [], ◌∷◌, length, take, drop}
 use Rattle.std.specs.List.{slice_split}
 
@@ -6,7 +6,7 @@ use Rattle.std.specs.List.{slice_split}
 abbrev pub is_blank : ℕ → Bool
 is_blank b = b == 32 || (b == 9 || (b == 10 || b == 13))
 
--- a longest run of bytes that are no blanks, and the offset where it begins
+-- a longest run of bytes that aren't blanks, and its offset
 pub record Item : Type 0 where
   pub at : ℕ
   pub text : List ℕ
@@ -26,7 +26,7 @@ items_from at text = items_of_parts at (slice_split is_blank (drop at text))
 abbrev pub span_of : ℕ → ℕ → List ℕ → List ℕ
 span_of begin end text = take (end - begin) (drop begin text)
 
--- the first item from an offset on stands between two offsets
+-- the first item from an offset on is between two offsets
 pub record IsFirstItem (from : ℕ) (text : List ℕ) (begin end : ℕ) : Type 0 where
   pub after_from : from ≤ begin
   pub nonempty : begin < end

@@ -1,7 +1,7 @@
 -- Texts of items as they are printed.
 use Rattle.std.specs.Prelude.{ℕ, List, [], ◌∷◌, ◌++◌}
 
--- what stands behind an item: a space before each further one, and LF at the end
+-- the text after an item: a space before each further item, and LF at the end
 abbrev pub after_item : {A : Type 0} → (A → List ℕ) → List A → List ℕ
 after_item item_text [] = 10 ∷ []
 after_item item_text (value ∷ values) = 32 ∷ (item_text value ++ after_item item_text values)

@@ -14,7 +14,7 @@ abbrev pub value_then : {A F : Type 0} → Result A F → Result (List A) F → 
 value_then (Ok value) rest = followed_by (value ∷ []) rest
 value_then (Err fault) rest = Err fault
 
--- the values that items name, or the fault of the first bad one; an item is read by its offset and its bytes
+-- the values that items denote, or the first bad item's fault; an item is its offset and bytes
 abbrev pub values_named : {A F : Type 0} → (ℕ → List ℕ → Result A F) → List Item → Result (List A) F
 values_named read [] = Ok []
 values_named read (item ∷ items) = value_then (read item.at item.text) (values_named read items)

@@ -1,15 +1,15 @@
--- Texts of items as a reader knows them: which texts spell a list of values, and which item spoils one. What an item
--- names, and which values are there, is for each kind of text to say.
+-- The grammar of texts of items: which texts spell a list of values, and which item spoils a text.
+-- What an item denotes, and which values exist, is a parameter for each kind of text.
 use Rattle.std.specs.Prelude.{◌≡◌, ℕ, ◌+◌, ◌<◌, Bool, true, false, List, [], ◌∷◌, ◌++◌, length}
 use Rattle.std.specs.List.{All}
 use Rattle.text_items.specs.Items.{is_blank}
 
--- an item may end before this rest of a text: at its end, or at a blank
+-- an item may end before this rest of a text: at the text's end, or at a blank
 abbrev pub is_end : List ℕ → Bool
 is_end [] = true
 is_end (b ∷ rest) = is_blank b
 
--- the text is items with blanks between and around them, which name these values, and all of them are there
+-- items with blanks between and around them, which denote these values, all of which exist
 pub data Spells {A : Type 0} (Names : List ℕ → A → Type 0) (There : A → Type 0) : List ℕ → List A → Type 0 where
   nothing : Spells Names There [] []
   blank : (b : ℕ) (text : List ℕ) (values : List A) → is_blank b ≡ true
@@ -18,8 +18,8 @@ pub data Spells {A : Type 0} (Names : List ℕ → A → Type 0) (There : A → 
       → Names text value → There value → is_end rest ≡ true
       → Spells Names There rest values → Spells Names There (text ++ rest) (value ∷ values)
 
--- the text, which begins at an offset, has a bad item after good ones only: one that names nothing, or one whose
--- value isn't there
+-- the text, which begins at an offset, has a bad item after good ones only: one that denotes
+-- nothing, or one whose value doesn't exist
 pub data Spoils {A F : Type 0} (Names : List ℕ → A → Type 0) (There : A → Type 0) (malformed unknown : ℕ → F)
     : ℕ → List ℕ → F → Type 0 where
   blank : (at b : ℕ) (text : List ℕ) (fault : F) → is_blank b ≡ true

@@ -1,4 +1,4 @@
-//! The items of a text: what stands between blanks.
+//! The items of a text: the longest runs without blanks.
 
 ghost use Rattle.std.specs.Prelude.{◌≡◌, ◌≤◌, [], true, length, drop, IfNone, IfSome};
 ghost use Rattle.std.specs.List.{prefix_len, position_or_len};
@@ -12,7 +12,8 @@ pub fn is_blank(byte: u8) -> bool
     matches!(byte, b' ' | b'\t' | b'\n' | b'\r')
 }
 
-// Whether the front is one blank, then one byte that is none, and then the end or a blank. Each byte above the space is none.
+// Whether the front is one blank, one other byte, and then the end or a blank. Only bytes up to the
+// space can be blanks.
 #[inline]
 fn is_short(rest: &[u8]) -> bool
     ensures blanks { result ≡ true → prefix_len is_blank rest.now ≡ 1 }
@@ -26,8 +27,8 @@ fn is_short(rest: &[u8]) -> bool
     }
 }
 
-/// Where the first item that begins at or after `from` begins and ends. An item is a longest run of bytes that are
-/// no blanks.
+/// The begin and end of the first item that begins at or after `from`. An item is a longest run of
+/// bytes that aren't blanks.
 #[inline]
 pub fn next_item(text: &[u8], from: usize) -> Option<(usize, usize)>
     requires { from ≤ length text.now }
@@ -35,7 +36,7 @@ pub fn next_item(text: &[u8], from: usize) -> Option<(usize, usize)>
     ensures some { IfSome result (λ span. IsFirstItem from text.now span.0 span.1) }
 {
     let (_, rest) = text.split_at(from);
-    // Most items of most texts are so, and need no loop.
+    // Most items of most texts have this shape and need no loop.
     if is_short(rest) {
         let begin = from + 1;
         return Some((begin, begin + 1));
@@ -43,7 +44,7 @@ pub fn next_item(text: &[u8], from: usize) -> Option<(usize, usize)>
     find_item(text, from)
 }
 
-// The same, of any shape.
+// As `next_item`, for items of any shape.
 #[inline(never)]
 #[cold]
 fn find_item(text: &[u8], from: usize) -> Option<(usize, usize)>
@@ -61,7 +62,7 @@ fn find_item(text: &[u8], from: usize) -> Option<(usize, usize)>
     Some((begin, end))
 }
 
-// How many blanks stand at the front.
+// Number of blanks at the front.
 fn blank_len(rest: &[u8]) -> usize
     ensures count { result ≡ prefix_len is_blank rest.now }
     ensures within { result ≤ length rest.now }
@@ -69,7 +70,7 @@ fn blank_len(rest: &[u8]) -> usize
     rest.iter().take_while(|byte| is_blank(**byte)).count()
 }
 
-// How many bytes stand before the first blank.
+// Number of bytes before the first blank.
 fn item_len(rest: &[u8]) -> usize
     ensures count { result ≡ position_or_len is_blank rest.now }
     ensures within { result ≤ length rest.now }

@@ -1,5 +1,5 @@
-//! Texts of items between blanks, each of which names a value: choice texts, history texts and hexadecimal programs are
-//! such texts.
+//! Texts of items between blanks, each of which denotes a value: choice texts, history texts and
+//! hexadecimal programs.
 #![tactic(auto)]
 
 pub use items::{is_blank, next_item};

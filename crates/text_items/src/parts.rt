@@ -1,13 +1,13 @@
-//! What an item consists of: decimal numbers, and the mark behind them.
+//! The parts of an item: decimal numbers and the mark after them.
 
 ghost use Rattle.std.specs.Prelude.{◌≡◌, ◌==◌, ◌≤◌, length};
 ghost use Rattle.std.specs.List.{position_or_len};
 ghost use Rattle.text_items.specs.Numbers.{number_of, has_mark, unmarked, before_byte, from_byte};
 
-/// From here on all numbers are read as this one: no hart and no count has so large a number.
+/// Numbers from here on are all read as this one: no hart's number and no count is this large.
 pub const CAP: u64 = 1 << 32;
 
-/// The number that one or more decimal digits without a leading zero write, at most `CAP`.
+/// The number of one or more decimal digits without a leading zero, `CAP` if it is larger.
 pub fn number(digits: &[u8]) -> Option<u64>
     ensures { result ≡ number_of digits.now }
 {
@@ -38,7 +38,7 @@ pub fn split_mark(item: &[u8]) -> (&[u8], bool)
     }
 }
 
-// How many bytes stand before the first that is this one.
+// Number of bytes before the first one with this value.
 fn place_of(item: &[u8], byte: u8) -> usize
     ensures count { result ≡ position_or_len (λ b. b == byte) item.now }
     ensures within { result ≤ length item.now }
@@ -46,7 +46,8 @@ fn place_of(item: &[u8], byte: u8) -> usize
     item.iter().take_while(|b| **b != byte).count()
 }
 
-/// What stands before the first byte of this value, and what stands from it on: nothing, where it isn't there.
+/// The bytes before the first byte of this value, and those from it on; the latter are empty if it
+/// isn't there.
 pub fn split_at_byte(item: &[u8], byte: u8) -> (&[u8], &[u8])
     ensures before { result.0.now ≡ before_byte byte item.now }
     ensures rest { result.1.now ≡ from_byte byte item.now }

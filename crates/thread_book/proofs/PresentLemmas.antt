@@ -18,7 +18,7 @@ use Rattle.thread_book.specs.Kept.{IsKept}
 use Rattle.thread_book.specs.Present.{IsCurrent, IsPresented}
 use Rattle.thread_book.proofs.RunLemmas.{run_entry, replayed-more, replayed-code}
 
--- the hart was put where its local steps led, and took one step
+-- the hart was replaced by the one after its local steps, and took one step
 pub entered : (w put after : World) (s t : SegmentState) → s ≡ t → slice_get w.harts t.hart ≡ Some (hart_of t.slot)
     → segments_memory t.code ≡ code_in w.memory → walk (segments_memory s.code) s.local (hart_of s.slot) ≡ Some (hart_of s.reached)
     → put ≡ with_hart w s.hart (hart_of s.reached) → after ≡ step put (choice s.hart s.refuse)

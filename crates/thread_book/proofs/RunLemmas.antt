@@ -1,4 +1,5 @@
--- What a history leads to, and one entry more of it: the hart where its local steps led, and then one step.
+-- The world that a history leads to, and one more entry of it: the hart after its local steps, and
+-- then one step.
 use Rattle.std.proofs.Common.{◌≡◌, ℕ, zero, suc, false, List, [], ◌∷◌, ◌++◌, length, Some, refl, ap, sym, ◌∙◌, append_assoc}
 use Rattle.std.specs.Prelude.{replicate, slice_get}
 use Rattle.std.proofs.lemmas.List.{append-nil}
@@ -59,7 +60,7 @@ locals_are : (h n : ℕ) → replicate n (choice h false) ≡ plain_choices h n
 locals_are h zero = refl
 locals_are h (suc n) = ap (λ (cs : List Choice). choice h false ∷ cs) (locals_are h n)
 
--- an entry is its hart where the local steps led, and then one step
+-- an entry is its hart after the local steps, and then one step
 pub run_entry : (w : World) (e : Entry) (v u : HartValue) → slice_get w.harts e.hart ≡ Some v
     → walk (code_in w.memory) e.local v ≡ Some u
     → run w (choices_of e) ≡ step (with_hart w e.hart u) (choice e.hart e.refuse)

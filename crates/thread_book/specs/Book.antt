@@ -1,4 +1,4 @@
--- What a book says, and the world that follows from it.
+-- A book, and the world that follows from it.
 use Rattle.std.specs.Prelude.{ℕ, List, Option, slice_get}
 use Rattle.image.specs.Image.{ImageValue}
 use Rattle.image.specs.Segment.{SegmentValue}
@@ -9,7 +9,7 @@ use Rattle.machine.specs.Start.{started}
 use Rattle.history.specs.declared.entry.Entry.{Entry}
 use Rattle.history.specs.History.{expanded}
 
--- the program, the harts' inputs, and what was done
+-- the program, the harts' inputs, and the history
 pub record BookValue : Type 0 where
   pub image : ImageValue
   pub inputs : List ℕ
@@ -23,7 +23,7 @@ replayed image inputs history = run (started image inputs) (expanded history)
 abbrev pub world_of : BookValue → World
 world_of b = replayed b.image b.inputs b.history
 
--- a hart of the book's world, if it is there
+-- a hart of the book's world, if it exists
 abbrev pub slot_of : BookValue → ℕ → Option HartValue
 slot_of b h = slice_get (world_of b).harts h
 

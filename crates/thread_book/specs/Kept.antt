@@ -1,4 +1,4 @@
--- What is true of the fields of each book.
+-- The invariant of each book's fields.
 use Rattle.std.specs.Prelude.{◌≡◌, ℕ, List}
 use Rattle.image.specs.Image.{ImageValue}
 use Rattle.image.specs.Segment.{SegmentValue}

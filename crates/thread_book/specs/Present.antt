@@ -1,4 +1,4 @@
--- Segments of a book, and what it takes and refuses.
+-- Segments of a book, and the segments that it takes or refuses.
 use Rattle.std.specs.Prelude.{◌≡◌, ℕ, ◌<◌, ◌≤◌, false, [], ◌∷◌, ◌++◌, length, Some}
 use Rattle.hart_step.specs.Hart.{hart_of}
 use Rattle.machine.specs.World.{run}
@@ -10,11 +10,11 @@ use Rattle.thread_book.specs.declared.fault.SegmentFault.TheVariants as segment
 use Rattle.thread_book.specs.declared.fault.PresentFault.{PresentFault}
 use Rattle.thread_book.specs.declared.fault.PresentFault.TheVariants as present
 
--- the book's hart and its code are what the segment began from
+-- the book's hart and its code are those that the segment began with
 abbrev pub IsCurrent : BookValue → SegmentState → Type 0
 IsCurrent b s = (slot_of b s.hart ≡ Some (hart_of s.slot)) × (s.code ≡ code_of b)
 
--- a segment of hart h that has done nothing since it was in the book
+-- an empty segment of hart h, as the hart is in the book
 pub record IsFresh (b : BookValue) (h : ℕ) (s : SegmentState) : Type 0 where
   pub hart : s.hart ≡ h
   pub current : IsCurrent b s
@@ -22,7 +22,7 @@ pub record IsFresh (b : BookValue) (h : ℕ) (s : SegmentState) : Type 0 where
   pub reached : s.reached ≡ s.slot
   pub refuse : s.refuse ≡ false
 
--- the book and the segment became new ones: one entry more, its choices done, and nothing done since
+-- the book has one more entry, with its choices done, and the segment is empty
 pub record IsPresented (b : BookValue) (s : SegmentState) (new_b : BookValue) (new_s : SegmentState) : Type 0 where
   pub there : s.hart < length b.inputs
   pub current : IsCurrent b s
@@ -30,12 +30,12 @@ pub record IsPresented (b : BookValue) (s : SegmentState) (new_b : BookValue) (n
   pub world : world_of new_b ≡ run (world_of b) (choices_of (entry s.hart s.local s.refuse))
   pub segment : IsFresh new_b s.hart new_s
 
--- why a book gives no segment of hart h
+-- the reason why a book gives no segment of hart h
 abbrev pub GivesNone : BookValue → ℕ → SegmentFault → Type 0
 GivesNone b h segment.NoHart = length b.inputs ≤ h
 GivesNone b h segment.Memory = h < length b.inputs
 
--- why a book does not take a segment
+-- the reason why a book does not take a segment
 abbrev pub Refuses : BookValue → SegmentState → PresentFault → Type 0
 Refuses b s present.NoHart = length b.inputs ≤ s.hart
 Refuses b s present.Stale = (s.hart < length b.inputs) × (IsCurrent b s → ⊥)

@@ -1,10 +1,10 @@
--- What a segment says.
+-- A segment as contracts see it.
 use Rattle.std.specs.Prelude.{ℕ, Bool, List}
 use Rattle.image.specs.Segment.{SegmentValue}
 use Rattle.hart_step.specs.declared.hart.Hart.{Hart}
 
--- a hart, the slot and the code that it began from, how many local steps it did, where they led, and whether a
--- store-conditional of the step behind them fails
+-- a hart, the slot and the code that it began with, the number of its local steps, the hart after
+-- them, and whether a store-conditional of the step after them fails
 pub record SegmentState : Type 0 where
   pub hart : ℕ
   pub slot : Hart

@@ -1,9 +1,7 @@
-//! What a book keeps, and its segments.
-ghost use Rattle.std.specs.Prelude.{◌≡◌, ◌<◌, ◌≤◌, [], length, Some, IfOk, IfErr, MatchResult};
+//! A book, and its segments.
+ghost use Rattle.std.specs.Prelude.{◌≡◌, ◌<◌, [], length, Some, IfOk, IfErr};
 ghost use Rattle.hart_step.specs.Hart.{hart_of};
-ghost use Rattle.machine.specs.Start.{Refuses};
 ghost use Rattle.machine.specs.State.{state};
-ghost use Rattle.hart_reservations.specs.Limit.{most_harts as most};
 ghost use Rattle.thread_book.specs.Book.{replayed, world_of, slot_of};
 ghost use Rattle.thread_book.specs.Present.{IsFresh, GivesNone};
 
@@ -13,18 +11,18 @@ use hart_local::Code;
 use hart_step::Hart;
 use history::Entry;
 use image::Image;
-use machine::{Machine, StartFault};
+use machine::{Inputs, Machine};
 use mem_flat::FlatStore;
-use std::alloc::Allocator;
+use std::alloc::{AllocError, Allocator};
 use std::marker::Model;
 use std::sync::Arc;
 
-/// A program, its harts' inputs, and the history of what the harts did; its machine is in the world to which the history's
-/// choices lead from the start.
+/// A program, its harts' inputs, the history of its harts, and a machine in the world that the
+/// history's choices lead to from the start.
 #[derive(Drop)]
 pub struct Book<A: Allocator> {
     pub(crate) image: Image<A>,
-    pub(crate) inputs: Vec<u32, A>,
+    pub(crate) inputs: Inputs,
     pub(crate) code: Arc<Code<A>, A>,
     pub(crate) machine: Machine<FlatStore<A>, A>,
     pub(crate) history: Vec<Entry, A>,
@@ -40,37 +38,25 @@ impl<A: Allocator> Model for Book<A> {
 
     ghost view = { λ b. record {
       image = b.image;
-      inputs = b.inputs.items;
+      inputs = b.inputs;
       history = b.history.items;
     } };
 
-    ghost invariant = { λ b. IsKept b.image b.inputs.items b.history.items
+    ghost invariant = { λ b. IsKept b.image b.inputs b.history.items
         (arc_value b.code) (state b.machine) };
 }
 
 impl<A: Allocator> Book<A> {
-    /// A book with an empty history, for a program with a hart for each input: 1 to `MAX_HARTS` inputs.
-    pub fn new(alloc: A, image: Image<A>, inputs: Vec<u32, A>) -> Result<Book<A>, StartFault>
+    /// A book with an empty history, for a program with a hart for each input. Fails when out of
+    /// memory.
+    pub fn new(alloc: A, image: Image<A>, inputs: Inputs) -> Result<Book<A>, AllocError>
     where
         A: Copy,
-        ensures { MatchResult result
-            (λ b. (0 < length inputs.items) × (length inputs.items ≤ most) × (b ≡ record {
-              image = image;
-              inputs = inputs.items;
-              history = [];
-            }))
-            (λ fault. Refuses inputs.items fault) }
+        ensures { IfOk result (λ b. b ≡ record { image = image; inputs = inputs; history = [] }) }
     {
-        let machine = match Machine::start(alloc, &image, &inputs) {
-            Ok(machine) => machine,
-            Err(fault) => return Err(fault),
-        };
-        let Ok(code) = Code::new(alloc, &image) else {
-            return Err(StartFault::Memory);
-        };
-        let Ok(code) = Arc::new(alloc, code) else {
-            return Err(StartFault::Memory);
-        };
+        let machine = Machine::start(alloc, &image, &inputs)?;
+        let code = Code::new(alloc, &image)?;
+        let code = Arc::new(alloc, code)?;
         Ok(Book {
             image,
             inputs,
@@ -87,14 +73,14 @@ impl<A: Allocator> Book<A> {
         &self.image
     }
 
-    /// The harts' inputs, one a hart.
-    pub fn inputs(&self) -> &[u32]
+    /// The harts' inputs.
+    pub fn inputs(&self) -> &Inputs
         ensures { result.now ≡ self.now.inputs }
     {
         &self.inputs
     }
 
-    /// What was done, in order.
+    /// The history: its entries in order.
     pub fn history(&self) -> &[Entry]
         ensures { result.now ≡ self.now.history }
     {
@@ -116,21 +102,15 @@ impl<A: Allocator> Book<A> {
         self.machine.hart(number)
     }
 
-    /// The image and the inputs that the book was made from, the machine, and the history that leads to its world.
-    pub fn into_parts(
-        self,
-    ) -> (
-        Image<A>,
-        Vec<u32, A>,
-        Machine<FlatStore<A>, A>,
-        Vec<Entry, A>,
-    )
+    /// The image and the inputs that the book was made of, the machine, and the history that leads
+    /// to its world.
+    pub fn into_parts(self) -> (Image<A>, Inputs, Machine<FlatStore<A>, A>, Vec<Entry, A>)
         ensures parts { self ≡ record {
           image = result.0;
-          inputs = result.1.items;
+          inputs = result.1;
           history = result.3.items;
         } }
-        ensures replay { state result.2 ≡ replayed result.0 result.1.items result.3.items }
+        ensures replay { state result.2 ≡ replayed result.0 result.1 result.3.items }
     {
         let Book {
             image,
@@ -143,13 +123,13 @@ impl<A: Allocator> Book<A> {
         (image, inputs, machine, history)
     }
 
-    /// A segment of a hart that has done nothing since it was last in the book.
+    /// An empty segment of a hart, as the hart is in the book.
     pub fn segment(&self, hart: u32) -> Result<Segment<A>, SegmentFault>
         ensures ok { IfOk result (λ s. IsFresh self.now hart s) }
         ensures there { IfOk result (λ _. hart < length self.now.inputs) }
         ensures fault { IfErr result (λ fault. GivesNone self.now hart fault) }
     {
-        if hart as usize >= self.inputs.len() {
+        if hart >= self.inputs.harts() {
             return Err(SegmentFault::NoHart);
         }
         let Ok(code) = Arc::try_clone(&self.code) else {

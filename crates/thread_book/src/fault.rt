@@ -1,27 +1,27 @@
-//! Why a book refuses.
+//! The faults of a book.
 use thiserror::Error;
 
-/// Why a book gives no segment.
+/// The reason why a book gives no segment.
 #[derive(Clone, Copy, Debug, PartialEq, Eq, Error)]
 pub enum SegmentFault {
-    /// There is no hart of this number.
+    /// The hart does not exist.
     #[error("segment fault NoHart")]
     NoHart,
-    /// The host refused memory.
+    /// Out of memory.
     #[error("out of memory")]
     Memory,
 }
 
-/// Why a segment is not taken into a book; then neither has changed.
+/// The reason why a book does not take a segment; neither has then changed.
 #[derive(Clone, Copy, Debug, PartialEq, Eq, Error)]
 pub enum PresentFault {
-    /// The book has no hart of the segment's number.
+    /// The book has no hart with the segment's number.
     #[error("present fault NoHart")]
     NoHart,
-    /// The book's hart or its code is not what the segment began from.
+    /// The book's hart or its code differs from those that the segment began with.
     #[error("present fault Stale")]
     Stale,
-    /// The host refused memory.
+    /// Out of memory.
     #[error("out of memory")]
     Memory,
 }

@@ -1,4 +1,4 @@
-//! A book of what harts did: their world, and the history that leads to it.
+//! A machine with the history that leads to its world, and the segments that it takes in.
 #![tactic(auto)]
 
 pub use book::Book;

@@ -1,4 +1,4 @@
-//! Segments taken into a book.
+//! A book takes segments in.
 ghost use Rattle.std.specs.Prelude.{◌≡◌, ◌<◌, Some, length, slice_get, OnOk, OnErr, IfErr, MatchBool};
 ghost use Rattle.mem_store.specs.Image.{segments_memory};
 ghost use Rattle.hart_step.specs.Hart.{hart_of};
@@ -17,7 +17,7 @@ use mem_flat::FlatStore;
 use std::alloc::Allocator;
 
 impl<A: Allocator> Book<A> {
-    /// Whether the book's hart and code are what a segment began from.
+    // Whether the book's hart and code are those that a segment began with.
     fn is_current(&self, segment: &Segment<A>) -> bool
         requires { segment.now.hart < length self.now.inputs }
         ensures { MatchBool result (IsCurrent self.now segment.now)
@@ -27,21 +27,21 @@ impl<A: Allocator> Book<A> {
         is_same_hart(segment.slot(), self.hart(number)) && is_same_code(&segment.code, &self.code)
     }
 
-    /// Takes a segment in: its local steps, and then one step of its hart, become an entry of the history, all at this
-    /// moment; then the segment is one that has done nothing since.
+    /// Takes a segment in: its local steps, and then one step of its hart, become one entry of the
+    /// history, all at this moment. The segment is then empty and current.
     pub fn present(&mut self, segment: &mut Segment<A>) -> Result<(), PresentFault>
         ensures ok { OnOk result (IsPresented self.old segment.old self.new segment.new) }
         ensures fault { IfErr result (λ fault. Refuses self.old segment.old fault) }
         ensures unchanged { OnErr result ((self.new ≡ self.old) × (segment.new ≡ segment.old)) }
     {
         let number = segment.hart() as usize;
-        if number >= self.inputs().len() {
+        if number >= self.inputs.harts() as usize {
             return Err(PresentFault::NoHart);
         }
         if !self.is_current(segment) {
             return Err(PresentFault::Stale);
         }
-        // The one call that may be refused comes before anything changes.
+        // The only call that can fail comes before any change.
         let Ok(()) = self.history.push(segment.entry()) else {
             return Err(PresentFault::Memory);
         };
@@ -51,7 +51,8 @@ impl<A: Allocator> Book<A> {
     }
 }
 
-/// Does the choices of a segment's entry: puts the hart where its local steps led, and lets it take one step.
+// Applies the choices of a segment's entry: replaces the hart by the one after its local steps, and
+// does one step of it.
 fn enter<A: Allocator>(machine: &mut Machine<FlatStore<A>, A>, segment: &Segment<A>)
     requires there { slice_get (state machine.old).harts segment.now.hart
         ≡ Some (hart_of segment.now.slot) }
@@ -65,7 +66,7 @@ fn enter<A: Allocator>(machine: &mut Machine<FlatStore<A>, A>, segment: &Segment
     };
     machine.put_hart(choice.hart as usize, segment.reached);
     let Ok(()) = machine.step(choice) else {
-        // A flat store wants no memory.
+        // A flat store never allocates on a store.
         unreachable!();
     };
 }

@@ -1,4 +1,4 @@
-//! Whether harts or code are the same.
+//! Equality of harts and of code.
 ghost use Rattle.std.specs.Prelude.{◌≡◌, MatchBool, length};
 ghost use Rattle.hart_step.specs.Hart.{hart_of, registers_of};
 
@@ -7,7 +7,7 @@ use hart_step::Hart;
 use image::Segment;
 use std::alloc::Allocator;
 
-/// Whether two arrays of one length hold the same words: then, and only then, they are the same registers.
+// Whether two arrays of one length have the same words: exactly then they are the same registers.
 fn is_same_words(ones: &[u32], others: &[u32]) -> bool
     requires { length ones.now ≡ length others.now }
     ensures { MatchBool result (registers_of ones.now ≡ registers_of others.now)
@@ -16,7 +16,7 @@ fn is_same_words(ones: &[u32], others: &[u32]) -> bool
     *ones == *others
 }
 
-/// Whether two harts are the same, word by word.
+/// Whether two harts are equal, word by word.
 pub fn is_same_hart(one: &Hart, other: &Hart) -> bool
     ensures { MatchBool result (hart_of one.now ≡ hart_of other.now)
         (hart_of one.now ≡ hart_of other.now → ⊥) }
@@ -26,7 +26,7 @@ pub fn is_same_hart(one: &Hart, other: &Hart) -> bool
         && one.state == other.state
 }
 
-/// Whether two segments of memory are the same, byte by byte.
+// Whether two segments of memory are equal, byte by byte.
 fn is_same_segment<A: Allocator, B: Allocator>(one: &Segment<A>, other: &Segment<B>) -> bool
     ensures { MatchBool result (one.now ≡ other.now) (one.now ≡ other.now → ⊥) }
 {
@@ -36,7 +36,7 @@ fn is_same_segment<A: Allocator, B: Allocator>(one: &Segment<A>, other: &Segment
         && one.bytes.as_slice() == other.bytes.as_slice()
 }
 
-/// Whether two codes are the same, byte by byte.
+/// Whether two codes are equal, byte by byte.
 pub fn is_same_code<A: Allocator, B: Allocator>(one: &Code<A>, other: &Code<B>) -> bool
     ensures { MatchBool result (one.now ≡ other.now) (one.now ≡ other.now → ⊥) }
 {

@@ -1,4 +1,4 @@
-//! Local steps of one hart, before they are in a book.
+//! The local steps of one hart that are not in a book yet.
 ghost use Rattle.std.specs.Prelude.{◌≡◌, ◌+◌, ◌<◌, ◌≤◌, false, Some};
 ghost use Rattle.mem_store.specs.Image.{segments_memory};
 ghost use Rattle.hart_step.specs.Hart.{hart_of};
@@ -13,7 +13,8 @@ use std::alloc::Allocator;
 use std::marker::Model;
 use std::sync::Arc;
 
-/// What a hart did since it was last in a book: local steps alone. It is no part of the book until it is presented.
+/// The local steps of a hart since its last entry in a book. They are no part of the book until the
+/// segment is presented.
 #[derive(Drop)]
 pub struct Segment<A: Allocator> {
     pub(crate) hart: u32,
@@ -55,14 +56,14 @@ impl<A: Allocator> Segment<A> {
         self.hart
     }
 
-    /// The hart in the book when the segment began.
+    /// The hart in the book at the segment's start.
     pub fn slot(&self) -> &Hart
         ensures { result.now ≡ self.now.slot }
     {
         &self.slot
     }
 
-    /// How many local steps the hart did since.
+    /// The number of local steps since.
     pub fn local(&self) -> u32
         ensures { result ≡ self.now.local }
     {
@@ -78,14 +79,14 @@ impl<A: Allocator> Segment<A> {
         &self.reached
     }
 
-    /// Whether a store-conditional of the step behind the local ones fails.
+    /// Whether a store-conditional of the step after the local ones fails.
     pub fn refuse(&self) -> bool
         ensures { result ≡ self.now.refuse }
     {
         self.refuse
     }
 
-    /// What a book enters of it.
+    /// The book's entry of the segment.
     pub(crate) fn entry(&self) -> Entry
         ensures { result ≡ entry self.now.hart self.now.local self.now.refuse }
     {
@@ -96,7 +97,7 @@ impl<A: Allocator> Segment<A> {
         }
     }
 
-    /// Begins again from a slot, with nothing done and nothing refused.
+    /// Restarts from a slot, without steps and without a refusal.
     pub(crate) fn restart(&mut self, slot: Hart)
         ensures { self.new ≡ record self.old {
           slot = slot;
@@ -111,15 +112,15 @@ impl<A: Allocator> Segment<A> {
         self.refuse = false;
     }
 
-    /// Says whether a store-conditional of the step behind the local ones fails.
+    /// Sets whether a store-conditional of the step after the local ones fails.
     pub fn set_refuse(&mut self, refuse: bool)
         ensures { self.new ≡ record self.old { refuse = refuse } }
     {
         self.refuse = refuse;
     }
 
-    /// Does local steps while the next one is local and their count is below `limit`; how many were done. It looks at the
-    /// code that the segment began from, and at nothing that harts share.
+    /// Does local steps while the next one is local and their number is below `limit`; returns the
+    /// number of new ones. It reads only the code that the segment began with, no shared state.
     pub fn advance(&mut self, limit: u32) -> u32
         ensures walked { walk (segments_memory self.old.code) result (hart_of self.old.reached)
             ≡ Some (hart_of self.new.reached) }

@@ -1,13 +1,13 @@
-//! What a caller does before each step of a hart that may touch what harts share, and in it.
+//! The gate: a caller's code before, and in, each step of a hart that may access shared state.
 
-/// Is asked by each hart's thread, with no lock held, before the hart's local steps and one step more are taken into the
-/// book. It may wait, and so decides which hart goes on.
+/// Called by each hart's thread, without a lock, before the hart's local steps and one more step
+/// are entered in the book. It may wait, and so decides which hart goes on.
 pub trait Gate {
-    /// Hart `hart` has done `count` local steps since it was last in the book.
+    /// Hart `hart` has done `count` local steps since its last entry in the book.
     fn arrive(&self, hart: u32, count: u32);
 
-    /// Hart `hart` holds the locks of a step that accesses data of bank `bank`, from 0. Only a runner that has a lock for each
-    /// bank of memory calls it.
+    /// Hart `hart` has the locks of a step that accesses data of bank `bank`, from 0. Called only
+    /// by a runner with a lock for each bank of memory.
     fn held(&self, _hart: u32, _bank: u32) {}
 }
 

@@ -1,5 +1,5 @@
-//! What runs of harts on threads share with their callers: the gate before each shared step, the
-//! plan of refusals, and when a hart has stopped.
+//! What runs of harts on threads share: the gate before each shared step, the plan of refusals, and
+//! when a hart has stopped.
 #![tactic(auto)]
 
 pub use gate::{Gate, OpenGate};

@@ -1,10 +1,10 @@
-//! Harts that do nothing any more.
+//! Harts that have stopped.
 ghost use Rattle.std.specs.Prelude.{◌≡◌};
 ghost use Rattle.thread_gate.specs.Stopped.{is_stopped};
 
 use hart_step::{Hart, HartState};
 
-/// Whether a hart does nothing any more.
+/// Whether a hart has exited or faulted.
 pub fn is_stopped(hart: &Hart) -> bool
     ensures { result ≡ is_stopped hart.now.state }
 {

@@ -1,4 +1,5 @@
--- How often harts are chosen: in one list behind another, in an entry; and that a hart that is not chosen stays.
+-- How often harts are chosen: in one list after another, in an entry; and that a hart that is not
+-- chosen stays.
 use Rattle.std.proofs.Common.{◌≡◌, ◌≢◌, ℕ, zero, suc, ◌+◌, ◌==◌, Bool, true, false, true≢false, List, [], ◌∷◌, ◌++◌, set, Option, Some, None, refl, ap, sym, ◌∙◌, arith, eq-eqb, ne_eqb, append_assoc, append-nil}
 use Rattle.std.specs.Prelude.{replicate, if◌then◌else◌, slice_get}
 use Rattle.hart_step.specs.Hart.{HartValue}
@@ -51,7 +52,7 @@ own_plain zero h = refl
 own_plain (suc n) h =
     ap (λ (b : Bool). (if b then 1 else 0) + own (replicate n (choice h false)) h) (eq-eqb h h refl) ∙ omega (arith, own_plain n h)
 
--- an entry chooses its hart once more than it has local steps
+-- an entry chooses its hart one time more than it has local steps
 pub own_same : (n h : ℕ) (refuse : Bool) → own (choices_of (entry h n refuse)) h ≡ n + 1
 own_same n h refuse =
     own-append (replicate n (choice h false)) (choice h refuse ∷ []) h ∙ omega (arith, own_plain n h, own_one h refuse)

@@ -1,4 +1,5 @@
--- What holds under the lock: when nothing was done yet, after one entry more, and once all tickets are spent.
+-- What holds under the lock: when nothing was done yet, after one entry more, and once all tickets
+-- are spent.
 use Rattle.std.proofs.Common.{◌≡◌, ◌≢◌, ℕ, zero, suc, ◌+◌, ◌<◌, ◌≤◌, ◌==◌, ◌||◌, Bool, true, false, List, [], ◌∷◌, ◌++◌, length, set, Some, refl, ap, sym, ◌∙◌, subst, arith, inl, inr, append_assoc, append-nil}
 use Rattle.std.specs.Prelude.{replicate, if◌then◌else◌, slice_get, slice_index}
 use Rattle.std.proofs.lemmas.List.{length-set, get_or-set_same, get_or-set_other, length-replicate}
@@ -32,7 +33,7 @@ or_false a b p q = ap (λ x. x || b) p ∙ q
 not_yet : (m b : ℕ) → m < b → (m == b) ≡ false
 not_yet m b l = grind (arith, nat_tests)
 
--- ---- what the commit's calls said, in the run's terms
+-- ---- the results of the commit's calls, in the run's terms
 pub planned_as : (refuse : Bool) (plan plan' : List (ℕ × ℕ)) (h h' made local local' : ℕ) → refuse ≡ is_planned plan h (made + local)
     → plan ≡ plan' → h ≡ h' → local ≡ local' → refuse ≡ is_planned plan' h' (made + local')
 planned_as refuse plan plan' h h' made local local' is plans harts locals = is ∙ (λ i. is_planned (plans i) (harts i) (made + locals i))
@@ -182,7 +183,7 @@ not_run image inputs budget plan b none is = subst (λ (x : BookValue). IsOutcom
   within = All-nil (IsWithin (length inputs) budget);
 })
 
--- a run is told by the image and the inputs that its book was made of
+-- a run is identified by the image and the inputs that its book was made of
 pub outcome_of : (image : ImageValue) (inputs : List ℕ) (budget : ℕ) (plan : List (ℕ × ℕ)) (b after : BookValue) → b ≡ begun image inputs
     → IsOutcome b.image b.inputs budget plan after → IsOutcome image inputs budget plan after
 outcome_of image inputs budget plan b after is o = subst (λ (x : BookValue). IsOutcome x.image x.inputs budget plan after) is o

@@ -13,7 +13,7 @@ below zero (suc n) l = inr (omega arith)
 below (suc k) zero l = absurd (omega arith)
 below (suc k) (suc n) l = elim (below k n (omega arith)) [ inl e ↦ inl (ap suc e) | inr h ↦ inr (omega arith) ]
 
--- where one more is done
+-- one more is done
 pub open_less : (p q : ℕ → Bool) (n k : ℕ) → k < n → p k ≡ false → q k ≡ true → ((j : ℕ) → j ≢ k → p j ≡ q j)
     → open_below p n ≡ open_below q n + 1
 open_less p q zero k within was is others = absurd (omega arith)
@@ -35,7 +35,7 @@ open_less p q (suc n) k within was is others = elim (below k n within) [ inl e �
         pick true x y e = e
         pick false x y e = omega arith
 
--- where all are done
+-- all are done
 pub none_open : (p : ℕ → Bool) (n k : ℕ) → open_below p n ≡ 0 → k < n → p k ≡ true
 none_open p zero k none within = absurd (omega arith)
 none_open p (suc n) k none within =
@@ -46,7 +46,7 @@ none_open p (suc n) k none within =
     split true x e = (refl, e)
     split false x e = absurd (omega arith)
 
--- where none is done
+-- none is done
 pub all_open : (p : ℕ → Bool) (n : ℕ) → ((j : ℕ) → j < n → p j ≡ false) → open_below p n ≡ n
 all_open p zero none = refl
 all_open p (suc n) none =
@@ -56,7 +56,7 @@ all_open p (suc n) none =
 pub eq_or_not : (j h : ℕ) → (j ≡ h) ⊎ (j ≢ h)
 eq_or_not j h = grind arith
 
--- a ticket is spent where one more is done
+-- a ticket is spent when one more is done
 pub ticket_counts : (d : Bool) (p q : ℕ → Bool) (n k left tickets : ℕ) → k < n → p k ≡ false → q k ≡ d → ((j : ℕ) → j ≢ k → p j ≡ q j)
     → left + (if d then 1 else 0) ≡ tickets → tickets ≡ open_below p n → left ≡ open_below q n
 ticket_counts true p q n k left tickets within was is others spent all = omega (arith, open_less p q n k within was is others)

@@ -1,7 +1,6 @@
--- What a run of threads leaves, and why it is refused.
+-- The result of a run of threads.
 use Rattle.std.specs.Prelude.{◌≡◌, ◌⊎◌, ℕ, ◌<◌, ◌≤◌, Bool, true, false, List, [], length, Option, Some, None}
 use Rattle.std.specs.List.{All}
-use Rattle.hart_reservations.specs.Limit.{most_harts}
 use Rattle.image.specs.Image.{ImageValue}
 use Rattle.hart_step.specs.Hart.{HartValue}
 use Rattle.history.specs.declared.entry.Entry.{Entry}
@@ -9,35 +8,25 @@ use Rattle.thread_book.specs.Book.{BookValue, slot_of}
 use Rattle.thread_gate.specs.Stopped.{is_stopped}
 use Rattle.thread_run.specs.Own.{owned}
 use Rattle.thread_run.specs.Plan.{IsFlagged}
-use Rattle.thread_run.specs.declared.fault.RunFault.{RunFault}
-use Rattle.thread_run.specs.declared.fault.RunFault.TheVariants as fault
 
--- whether a hart is there and has stopped
+-- whether a hart exists and has stopped
 abbrev pub has_stopped : Option HartValue → Bool
 has_stopped None = false
 has_stopped (Some v) = is_stopped v.state
 
--- hart h has stopped and was chosen at most so often, or was chosen just so often
+-- hart h has stopped and was chosen at most this often, or was chosen exactly this often
 abbrev pub HasEnded : BookValue → ℕ → ℕ → Type 0
 HasEnded b budget h =
     ((has_stopped (slot_of b h) ≡ true) × (owned b h ≤ budget)) ⊎ (owned b h ≡ budget)
 
--- the entry names one of n harts, and so few local steps that all its choices are within the budget
+-- the entry is of one of n harts, and all its choices are within the budget
 abbrev pub IsWithin : ℕ → ℕ → Entry → Type 0
 IsWithin n budget e = (e.hart < n) × (e.local < budget)
 
--- what a run with this budget and this plan leaves in its book
+-- the book of a run with this budget and this plan
 pub record IsOutcome (image : ImageValue) (inputs : List ℕ) (budget : ℕ) (plan : List (ℕ × ℕ)) (b : BookValue) : Type 0 where
   pub same_image : b.image ≡ image
   pub same_inputs : b.inputs ≡ inputs
   pub ended : (h : ℕ) → h < length inputs → HasEnded b budget h
   pub flagged : IsFlagged plan [] b.history
   pub within : All (IsWithin (length inputs) budget) b.history
-
--- why a run with n inputs is refused; threads and memory are asked for only where there can be a hart for each
-abbrev pub RunRefuses : ℕ → RunFault → Type 0
-RunRefuses n fault.NoHarts = n ≡ 0
-RunRefuses n fault.TooManyHarts = most_harts < n
-RunRefuses n fault.StartRefused = (0 < n) × (n ≤ most_harts)
-RunRefuses n fault.Stale = (0 < n) × (n ≤ most_harts)
-RunRefuses n fault.Memory = (0 < n) × (n ≤ most_harts)

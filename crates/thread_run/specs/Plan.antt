@@ -1,4 +1,4 @@
--- Which steps of a history a plan refuses.
+-- The steps of a history that a plan refuses.
 use Rattle.std.specs.Prelude.{◌≡◌, ℕ, ◌+◌, List, [], ◌∷◌, ◌++◌}
 use Rattle.machine.specs.declared.choice.Choice.{Choice}
 use Rattle.history.specs.declared.entry.Entry.{Entry}
@@ -6,8 +6,8 @@ use Rattle.history.specs.History.{choices_of}
 use Rattle.thread_gate.specs.Plan.{is_planned}
 use Rattle.thread_run.specs.Own.{own}
 
--- each entry, behind these choices and the earlier entries, is refused exactly where the plan holds its hart and how often
--- that hart was chosen before the entry's last step
+-- each entry, after these choices and the earlier entries, is refused exactly if the plan contains
+-- its hart and the number of that hart's choices before the entry's last step
 abbrev pub IsFlagged : List (ℕ × ℕ) → List Choice → List Entry → Type 0
 IsFlagged plan before [] = Unit {0}
 IsFlagged plan before (e ∷ entries) =

@@ -1,4 +1,4 @@
--- What holds under the lock while harts run.
+-- The invariant under the lock while harts run.
 use Rattle.std.specs.Prelude.{◌≡◌, ℕ, zero, suc, ◌+◌, ◌<◌, ◌≤◌, ◌==◌, ◌||◌, Bool, List, [], length, slice_index, if◌then◌else◌}
 use Rattle.std.specs.List.{All}
 use Rattle.image.specs.Image.{ImageValue}
@@ -7,16 +7,16 @@ use Rattle.thread_run.specs.Own.{owned}
 use Rattle.thread_run.specs.Plan.{IsFlagged}
 use Rattle.thread_run.specs.Outcome.{has_stopped, IsWithin}
 
--- whether hart h needs no further choice
+-- whether hart h is done: it has stopped or used its budget up
 abbrev pub is_done : ℕ → BookValue → ℕ → Bool
 is_done budget b h = has_stopped (slot_of b h) || (owned b h == budget)
 
--- how many of the first n need further ones
+-- the number of the first n harts that are not done
 abbrev pub open_below : (ℕ → Bool) → ℕ → ℕ
 open_below done zero = 0
 open_below done (suc n) = if done n then open_below done n else open_below done n + 1
 
--- the book, how many choices of each hart are in it, and a ticket for each hart that needs further ones
+-- the book, the number of each hart's choices in it, and a ticket for each hart that is not done
 pub record IsRunning (image : ImageValue) (inputs : List ℕ) (budget : ℕ) (plan : List (ℕ × ℕ)) (b : BookValue) (counts : List ℕ) (tickets : ℕ) : Type 0 where
   pub same_image : b.image ≡ image
   pub same_inputs : b.inputs ≡ inputs

@@ -1,4 +1,4 @@
--- What a seat knows of the book that it was in.
+-- A seat and the book that it came from.
 use Rattle.std.specs.Prelude.{ℕ, ◌<◌, Bool, length}
 use Rattle.thread_book.specs.Book.{BookValue}
 use Rattle.thread_book.specs.Segment.{SegmentState}
@@ -12,20 +12,20 @@ use Rattle.thread_run.specs.declared.fault.CommitFault.TheVariants as commit
 abbrev pub with_refusal : SegmentState → Bool → SegmentState
 with_refusal s refuse = record s { refuse = refuse }
 
--- there was a book of which this is a segment of hart h: its history had led the hart into the slot, over the seat's code
+-- a segment of hart h of some book: its history led the hart into the slot, over the seat's code
 pub record IsSeated (h : ℕ) (s : SegmentState) : Type 0 where
   pub book : BookValue
   pub there : h < length book.inputs
   pub fresh : IsFresh book h s
 
--- there was a book that took the segment with this refusal: its history had led the hart into the slot that the segment
--- began from; the entry came next, and the new seat is the hart as the book had it then
+-- some book took the segment with this refusal: its history had led the hart into the segment's
+-- slot; the entry came next, and the new seat is the hart as the book had it then
 pub record IsCommitted (s : SegmentState) (refuse : Bool) (t : SegmentState) : Type 0 where
   pub before : BookValue
   pub after : BookValue
   pub presented : IsPresented before (with_refusal s refuse) after t
 
--- what a commit answers where the book refuses; a hart that isn't there is stale too
+-- the fault of a commit for the book's fault; a hart that does not exist is stale too
 abbrev pub fault_of_present : PresentFault → CommitFault
 fault_of_present present.NoHart = commit.Stale
 fault_of_present present.Stale = commit.Stale

@@ -1,17 +1,18 @@
-//! Why a commit or a run is refused.
+//! The faults of a commit and of a run.
 ghost use Rattle.std.specs.Prelude.{◌≡◌};
 ghost use Rattle.thread_run.specs.Seat.{fault_of_present};
 
 use thiserror::Error;
 use thread_book::PresentFault;
 
-/// Why a seat's segment is not taken into a shared book; then the seat has not changed.
+/// The reason why a seat's segment is not taken into a shared book; the seat has then not changed.
 #[derive(Clone, Copy, Debug, PartialEq, Eq, Error)]
 pub enum CommitFault {
-    /// The book has no such hart, or its hart or its code is not what the segment began from.
+    /// The book has no such hart, or its hart or its code differs from those that the segment began
+    /// with.
     #[error("stale")]
     Stale,
-    /// The host refused memory.
+    /// Out of memory.
     #[error("out of memory")]
     Memory,
 }
@@ -28,22 +29,17 @@ impl From<PresentFault> for CommitFault {
     }
 }
 
-/// Why a run of threads leaves no book.
+/// The reason why a run of threads gives no book.
 #[derive(Clone, Copy, Debug, PartialEq, Eq, Error)]
 pub enum RunFault {
-    /// No input is given, so there would be no hart.
-    #[error("start fault 1 NoHarts")]
-    NoHarts,
-    /// More than `MAX_HARTS` inputs are given.
-    #[error("start fault 2 TooManyHarts")]
-    TooManyHarts,
-    /// The host refused a thread.
+    /// The host does not start a thread.
     #[error("thread refused")]
     StartRefused,
-    /// A hart was not where its own thread had left it. No one but its thread moves it, so nothing is known to lead here.
+    /// A hart was not where its own thread had left it. Only its thread moves a hart; no cause of
+    /// this is known.
     #[error("stale")]
     Stale,
-    /// The host refused memory.
+    /// Out of memory.
     #[error("out of memory")]
     Memory,
 }

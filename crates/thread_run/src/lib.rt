@@ -1,4 +1,4 @@
-//! Harts on threads of their own: what they do becomes the history of one book.
+//! Runs each hart on a thread of its own; what they do becomes one history.
 #![tactic(auto)]
 
 pub use fault::{CommitFault, RunFault};

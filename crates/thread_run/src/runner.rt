@@ -1,7 +1,7 @@
 //! Harts that run on threads of their own.
-ghost use Rattle.std.specs.Prelude.{◌≡◌, ◌+◌, ◌<◌, ◌≤◌, [], IfOk, IfErr, length, vec_len};
+ghost use Rattle.std.specs.Prelude.{◌≡◌, ◌+◌, ◌<◌, ◌≤◌, [], IfOk, length, vec_len};
 ghost use Rattle.hart_reservations.specs.Limit.{most_harts as most};
-ghost use Rattle.thread_run.specs.Outcome.{IsOutcome, RunRefuses};
+ghost use Rattle.thread_run.specs.Outcome.{IsOutcome};
 
 use crate::fault::{CommitFault, RunFault};
 use crate::running::Running;
@@ -9,7 +9,7 @@ use crate::spent::Spent;
 use crate::terms::Terms;
 use crate::worker::work;
 use image::Image;
-use machine::StartFault;
+use machine::Inputs;
 use std::alloc::Allocator;
 use std::marker::Brand;
 use std::sync::ledger::{Blank, Share};
@@ -19,41 +19,36 @@ use std::thread::{JoinHandle, Threads};
 use thread_book::Book;
 use thread_gate::{Gate, Plan};
 
-/// What a run of threads leaves.
+/// The result of a run of threads.
 #[derive(Drop)]
 pub struct Outcome<A: Allocator> {
-    /// The book with all that the harts did.
+    /// The book with the history of all harts.
     pub book: Book<A>,
 }
 
-/// Runs a program with a hart for each input, each hart in a thread of its own, until it has stopped or was chosen `budget`
-/// times. A hart does local steps at once with the others; each further step is taken under the book's lock, after the gate
-/// was asked. Refused where a machine can't start, or where the host refuses a thread or memory.
+/// Runs a program with a hart for each input. Each hart has a thread of its own, and runs until it
+/// has stopped or was chosen `budget` times. Local steps of several harts run at the same time;
+/// each other step is taken under the book's lock, after the gate has returned. Fails if the host
+/// refuses a thread or is out of memory.
 pub fn run_threads<A: Allocator + Copy + Send + Sync, G: Gate + Sync, R: Threads + Wait + Sync>(
     rt: &R,
     alloc: A,
     image: Image<A>,
-    inputs: Vec<u32, A>,
+    inputs: Inputs,
     budget: u32,
     plan: Plan<A>,
     gate: &G,
 ) -> Result<Outcome<A>, RunFault>
-    ensures ended { IfOk result (λ outcome.
-        IsOutcome image inputs.items budget plan.keys outcome.book) }
-    ensures few { IfOk result (λ _. (0 < length inputs.items) × (length inputs.items ≤ most)) }
-    ensures refused { IfErr result (λ fault. RunRefuses (length inputs.items) fault) }
+    ensures ended { IfOk result (λ outcome. IsOutcome image inputs budget plan.keys outcome.book) }
 {
-    let count = inputs.len();
-    let book = match Book::new(alloc, image, inputs) {
-        Ok(book) => book,
-        Err(StartFault::NoHarts) => return Err(RunFault::NoHarts),
-        Err(StartFault::TooManyHarts) => return Err(RunFault::TooManyHarts),
-        Err(StartFault::Memory) => return Err(RunFault::Memory),
+    let harts = inputs.harts();
+    let Ok(book) = Book::new(alloc, image, inputs) else {
+        return Err(RunFault::Memory);
     };
     if budget == 0 {
         return Ok(Outcome { book });
     }
-    let blank = Blank::new(count as u64);
+    let blank = Blank::new(harts as u64);
     let book = run_book::<Brand, A, G, R>(rt, alloc, blank, book, budget, plan, gate)?;
     Ok(Outcome { book })
 }
@@ -80,20 +75,20 @@ fn run_book<
     requires budget { (budget ≡ T.budget) × (0 < T.budget) }
     requires plan { plan.keys ≡ T.plan }
     ensures ended { IfOk result (λ b. IsOutcome T.image T.inputs T.budget T.plan b) }
-    ensures refused { IfErr result (λ fault. RunRefuses (length T.inputs) fault) }
 {
-    let count = book.inputs().len();
-    let Ok(owned) = vec![in alloc; 0u32; count] else {
+    let harts = book.inputs().harts();
+    let Ok(owned) = vec![in alloc; 0u32; harts as usize] else {
         return Err(RunFault::Memory);
     };
     let (mut tickets, mut all) = blank.open::<T>();
-    tickets.add(&mut all, count as u64);
+    tickets.add(&mut all, harts as u64);
     let running = Mutex::new(Running::new(book, owned, plan, budget, tickets));
-    let mut all = run_all(rt, alloc, &running, gate, budget, count as u32, all)?;
+    let mut all = run_all(rt, alloc, &running, gate, budget, harts, all)?;
     Ok(running.into_inner().finish(&mut all))
 }
 
-// Starts a worker for each hart, and joins them all. A scope waits for its threads also where it is left early.
+// Starts a worker for each hart, and joins them all. A scope also waits for its threads when it is
+// left early.
 fn run_all<
     T: Terms + Send + Sync,
     A: Allocator + Copy + Send + Sync,
@@ -111,7 +106,6 @@ fn run_all<
     requires parts { (all.parts ≡ T.parts) × (T.parts ≡ count) × (0 < count) × (count ≤ most) }
     requires amount { all.amount ≡ count }
     ensures spent { IfOk result (λ s. (s.parts ≡ T.parts) × (s.amount ≡ 0)) }
-    ensures refused { IfErr result (λ fault. RunRefuses count fault) }
 {
     thread::scope(
         thread::scope_env(),
@@ -120,7 +114,6 @@ fn run_all<
             requires parts { (all.parts ≡ T.parts) × (T.parts ≡ count) × (0 < count) × (count ≤ most) }
             requires amount { all.amount ≡ count }
             ensures spent { IfOk result (λ s. (s.parts ≡ T.parts) × (s.amount ≡ 0)) }
-            ensures refused { IfErr result (λ fault. RunRefuses count fault) }
         {
             let mut all = all;
             let mut workers = Vec::new(alloc);
@@ -145,7 +138,7 @@ fn run_all<
     )
 }
 
-// Joins workers, and puts their parts of the ledger together with the rest.
+// Joins the workers, and adds their parts of the ledger to the rest.
 fn join_all<T: Terms, A: Allocator, R: Threads>(
     rt: &R,
     workers: Vec<JoinHandle<Result<Spent<T>, CommitFault>>, A>,

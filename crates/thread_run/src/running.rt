@@ -1,4 +1,4 @@
-//! What the workers of a run share, under one lock.
+//! The state that the workers of a run share, under one lock.
 ghost use Rattle.std.specs.Prelude.{◌≡◌, ◌<◌, [], IfOk, OnOk, length, replicate, vec_len, slice_index, ◌||◌, ◌==◌, if◌then◌else◌};
 ghost use Rattle.thread_run.specs.Outcome.{IsOutcome};
 ghost use Rattle.thread_gate.specs.Stopped.{is_stopped};
@@ -14,7 +14,8 @@ use std::sync::ledger::Share;
 use thread_book::{Book, SegmentFault};
 use thread_gate::{Plan, is_planned, is_stopped};
 
-/// The book, how many choices of each hart are in it, and a ticket for each hart that needs further ones.
+/// The book, the number of each hart's choices in it, and a ticket for each hart that is to make
+/// further ones.
 #[derive(Drop)]
 pub struct Running<T: Terms, A: Allocator> {
     book: Book<A>,
@@ -39,7 +40,7 @@ impl<T: Terms, A: Allocator> Model for Running<T, A> {
 }
 
 impl<T: Terms, A: Allocator> Running<T, A> {
-    /// A run in which nothing was done yet, with a ticket for each hart.
+    /// A run without any step, with a ticket for each hart.
     pub(crate) fn new(
         book: Book<A>,
         owned: Vec<u32, A>,
@@ -73,8 +74,8 @@ impl<T: Terms, A: Allocator> Running<T, A> {
         }
     }
 
-    /// Takes a seat's segment into the book, with the refusal that the plan says, and tells whether its hart needs no further
-    /// choice. Then its ticket is spent.
+    /// Takes a seat's segment into the book, with the refusal of the plan, and returns whether its
+    /// hart is done. Then its ticket is spent.
     pub(crate) fn commit(
         &mut self,
         seat: &mut Seat<A>,
@@ -93,7 +94,8 @@ impl<T: Terms, A: Allocator> Running<T, A> {
         let made = owned_by(&self.owned, at);
         let local = seat.local();
         let budget = self.budget;
-        // A worker asks for none of these; so the plan's number stays one of 32 bits, and each hart within its budget.
+        // No worker does any of these; the test keeps the plan's number in 32 bits and each hart
+        // within its budget.
         if is_stopped(seat.slot()) || made >= budget || local >= budget - made {
             return Err(CommitFault::Stale);
         }
@@ -109,7 +111,7 @@ impl<T: Terms, A: Allocator> Running<T, A> {
         Ok(done)
     }
 
-    /// The book. Where all tickets are spent, no hart needs a further choice.
+    /// The book. If all tickets are spent, every hart is done.
     pub(crate) fn finish(self, all: &mut Share<T>) -> Book<A>
         requires whole { all.old.parts ≡ T.parts }
         requires spent { all.old.amount ≡ 0 }
@@ -127,7 +129,7 @@ impl<T: Terms, A: Allocator> Running<T, A> {
     }
 }
 
-// How many choices of a hart are in the book.
+// The number of a hart's choices in the book.
 fn owned_by<A: Allocator>(owned: &Vec<u32, A>, at: usize) -> u32
     requires { at < vec_len owned.now }
     ensures { result ≡ slice_index owned.now.items at }
@@ -135,14 +137,14 @@ fn owned_by<A: Allocator>(owned: &Vec<u32, A>, at: usize) -> u32
     owned[at]
 }
 
-// Whether a hart with so many choices needs no further one.
+// Whether a hart with this many choices has stopped or used its budget up.
 fn is_done(hart: &Hart, made: u32, budget: u32) -> bool
     ensures { result ≡ (is_stopped hart.now.state || (made == budget)) }
 {
     is_stopped(hart) || made == budget
 }
 
-// How many tickets a hart spends: its one, once it needs no further choice.
+// The number of tickets that a hart spends: 1 when it is done, else 0.
 fn spent_by(done: bool) -> u64
     ensures { result ≡ (if done then 1 else 0) }
 {

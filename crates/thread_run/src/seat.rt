@@ -1,4 +1,4 @@
-//! A hart beside a shared book.
+//! A hart on a thread, beside a shared book.
 ghost use Rattle.std.specs.Prelude.{◌≡◌, ◌+◌, ◌<◌, ◌≤◌, length, IfOk, OnOk, OnErr, Some};
 ghost use Rattle.mem_store.specs.Image.{segments_memory};
 ghost use Rattle.hart_step.specs.Hart.{hart_of};
@@ -15,7 +15,7 @@ use std::marker::Model;
 use std::sync::Wait;
 use thread_book::{Book, PresentFault, Segment, SegmentFault};
 
-/// A hart's segment, outside the lock. Its local steps touch nothing that harts share.
+/// A hart's segment, outside the lock. Its local steps access no shared state.
 #[derive(Drop)]
 pub struct Seat<A: Allocator> {
     segment: Segment<A>,
@@ -37,14 +37,14 @@ impl<A: Allocator> Seat<A> {
         self.segment.hart()
     }
 
-    /// The hart when it was last in the book.
+    /// The hart at its last entry in the book.
     pub fn slot(&self) -> &Hart
         ensures { result.now ≡ self.now.slot }
     {
         self.segment.slot()
     }
 
-    /// How many local steps the hart did since.
+    /// The number of local steps since.
     pub fn local(&self) -> u32
         ensures { result ≡ self.now.local }
     {
@@ -60,8 +60,8 @@ impl<A: Allocator> Seat<A> {
         self.segment.reached()
     }
 
-    /// Does local steps while the next one is local and their count is below `limit`; how many were done. It takes no lock
-    /// and waits for nobody.
+    /// Does local steps while the next one is local and their number is below `limit`; returns the
+    /// number of new ones. It takes no lock and never waits.
     pub fn advance_local(&mut self, limit: u32) -> u32
         ensures walked { walk (segments_memory self.old.code) result (hart_of self.old.reached)
             ≡ Some (hart_of self.new.reached) }
@@ -74,8 +74,8 @@ impl<A: Allocator> Seat<A> {
         self.segment.advance(limit)
     }
 
-    /// Takes the lock, and the local steps and one step more into the book: they become its next entry, all at that moment.
-    /// Then the seat is the hart as the book has it.
+    /// Takes the lock, and enters the local steps and one more step in the book: they become its
+    /// next entry, all at that moment. The seat is then the hart as it is in the book.
     pub fn commit<R: Wait>(
         &mut self,
         rt: &R,
@@ -92,7 +92,7 @@ impl<A: Allocator> Seat<A> {
         }
     }
 
-    /// Presents the segment to a book, with or without a refusal of the step behind the local ones.
+    /// Presents the segment to a book; `refuse` is the refusal of the step after the local ones.
     pub(crate) fn present_to(
         &mut self,
         book: &mut Book<A>,

@@ -7,28 +7,28 @@ use std::alloc::Allocator;
 use std::sync::{Mutex, Wait};
 use thread_book::{Book, SegmentFault};
 
-/// One lock round a book. Whoever takes it finds the book in the world to which its history leads.
+/// A book under one lock. Under the lock the book is always in the world that its history leads to.
 #[derive(Drop)]
 pub struct Shared<A: Allocator> {
     pub(crate) book: Mutex<Book<A>>,
 }
 
 impl<A: Allocator> Shared<A> {
-    /// A book under a lock of its own.
+    /// Puts a book under a lock of its own.
     pub fn new(book: Book<A>) -> Shared<A> {
         Shared {
             book: Mutex::new(book),
         }
     }
 
-    /// The book, with all that was committed to it.
+    /// The book, with all commits.
     pub fn into_book(self) -> Book<A> {
         let Shared { book } = self;
         book.into_inner()
     }
 
-    /// A seat for a hart: the hart as the book has it at that moment. Refused where the book has no such hart, or for want
-    /// of memory.
+    /// A seat for a hart, as the hart is in the book at that moment. Fails if the book has no such
+    /// hart, or when out of memory.
     pub fn seat<R: Wait>(&self, rt: &R, hart: u32) -> Result<Seat<A>, SegmentFault>
         ensures { IfOk result (λ seat. IsSeated hart seat) }
     {

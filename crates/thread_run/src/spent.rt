@@ -1,10 +1,10 @@
-//! What a worker hands back.
+//! The result of a worker.
 ghost use Rattle.std.specs.Prelude.{◌≡◌};
 
 use crate::terms::Terms;
 use std::sync::ledger::Share;
 
-/// A worker's part of the ledger, once its hart needs no further choice: the ticket is spent.
+/// A worker's part of the ledger when its hart is done: the ticket is spent.
 #[derive(Drop)]
 pub struct Spent<T: Terms> {
     pub(crate) share: Share<T>,

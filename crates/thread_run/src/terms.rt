@@ -1,9 +1,9 @@
-//! What one run of threads is given.
+//! The terms of one run of threads.
 use std::marker::Brand;
 use std::sync::ledger::Ledger;
 
-/// The program, the harts' inputs, the budget and the plan of one run, and the ledger of its tickets. They exist in proofs
-/// alone, so that a lock's type can name them: each run picks its own.
+/// The program, the harts' inputs, the budget and the plan of one run, and the ledger of its
+/// tickets. They exist only in proofs, so that a lock's type can name them; each run picks its own.
 pub trait Terms: Ledger {
     ghost use Rattle.std.specs.Prelude.{ℕ, List};
     ghost use Rattle.image.specs.Image.{ImageValue};

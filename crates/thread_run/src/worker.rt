@@ -1,4 +1,4 @@
-//! What one hart's thread does.
+//! The work of one hart's thread.
 ghost use Rattle.std.specs.Prelude.{◌≡◌};
 
 use crate::fault::CommitFault;
@@ -10,8 +10,8 @@ use std::sync::ledger::Share;
 use std::sync::{Mutex, Wait};
 use thread_gate::Gate;
 
-/// Makes a hart's choices until it has stopped or its budget is used up: local steps as long as they come, and one step more
-/// under the lock. No lock is held while the gate is asked.
+/// Makes a hart's choices until it has stopped or its budget is used up: local steps as long as the
+/// next one is local, then one step under the lock. No lock is held while the gate is called.
 pub fn work<T: Terms, A: Allocator, G: Gate, R: Wait>(
     rt: &R,
     running: &Mutex<Running<T, A>>,
@@ -35,6 +35,6 @@ pub fn work<T: Terms, A: Allocator, G: Gate, R: Wait>(
         }
         left -= local + 1;
     }
-    // The commit after which no choice was left has said that the hart is done.
+    // The hart's last commit has already returned that it is done, so this is not reached.
     Err(CommitFault::Stale)
 }

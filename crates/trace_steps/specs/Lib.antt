@@ -5,3 +5,4 @@ pub mod Known
 pub mod Told
 pub mod Met
 pub mod Tells
+pub mod Covers

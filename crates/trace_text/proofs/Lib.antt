@@ -1,1 +1,3 @@
+mod ReadBackLemmas
 mod HeadLemmas
+mod TableLemmas

@@ -1,8 +1,8 @@
 -- The head line of a trace.
 use Rattle.std.specs.Prelude.{ℕ, zero, suc, ◌+◌, List, [], ◌∷◌, ◌++◌, codes, decimal, map, Option}
 use Rattle.json.specs.Print.{quoted}
-use Rattle.trace_json.specs.Composites.{member, object, array}
-use Rattle.trace_json.specs.Scalars.{number_or_null}
+use Rattle.trace_text.specs.Composites.{member, object, array}
+use Rattle.trace_text.specs.Scalars.{number_or_null}
 use Rattle.elf_read.specs.Symbol.{SymbolValue}
 use Rattle.hart_step.specs.Hart.{HartValue, Registers, hart_of}
 use Rattle.trace_text.specs.Values.{end_value}

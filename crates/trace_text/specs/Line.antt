@@ -1,7 +1,7 @@
 -- The line of a choice.
 use Rattle.std.specs.Prelude.{ℕ, List, [], ◌∷◌, ◌++◌, codes, decimal}
-use Rattle.trace_json.specs.Composites.{member, object}
-use Rattle.trace_json.specs.Scalars.{flag_text, number_or_null}
+use Rattle.trace_text.specs.Composites.{member, object}
+use Rattle.trace_text.specs.Scalars.{flag_text, number_or_null}
 use Rattle.trace_steps.specs.declared.told.Told.{Told}
 use Rattle.trace_text.specs.Values.{text_value, access_value, register_value, end_value}
 

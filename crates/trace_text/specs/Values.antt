@@ -1,8 +1,8 @@
 -- The values of the members of a trace's lines.
 use Rattle.std.specs.Prelude.{ℕ, List, [], ◌∷◌, ◌++◌, codes, decimal, Option, Some, None}
 use Rattle.json.specs.Print.{quoted}
-use Rattle.trace_json.specs.Composites.{member, object}
-use Rattle.trace_json.specs.Scalars.{number_or_null}
+use Rattle.trace_text.specs.Composites.{member, object}
+use Rattle.trace_text.specs.Scalars.{number_or_null}
 use Rattle.isa_table.specs.declared.instr.Instr.{Instr}
 use Rattle.isa_names.specs.Names.{abi}
 use Rattle.isa_disasm.specs.Lines.{line_text}

@@ -2,16 +2,16 @@
 
 ghost use Rattle.std.specs.Prelude.{◌≡◌, ◌++◌, ◌∷◌, [], codes, decimal, map, OnOk};
 ghost use Rattle.hart_step.specs.Hart.{hart_of, registers_of};
-ghost use Rattle.trace_json.specs.Composites.{member, array, more_elements};
-ghost use Rattle.trace_json.specs.Scalars.{number_or_null};
+ghost use Rattle.trace_text.specs.Composites.{member, array, more_elements};
+ghost use Rattle.trace_text.specs.Scalars.{number_or_null};
 ghost use Rattle.trace_text.specs.Head.{hart_object, registers_from, registers_value, then_of};
 ghost use Rattle.trace_text.specs.Values.{end_value};
 
 use crate::head::HartThen;
+use crate::scalar::{push_number, push_number_or_null};
 use crate::values::push_end;
 use hart_step::Hart;
 use std::alloc::{AllocError, Allocator};
-use trace_json::{push_number, push_number_or_null};
 
 // Appends the registers behind x0, and the closing bracket.
 #[tactic(auto, using(crate::proofs::HeadLemmas::registers_more, crate::proofs::HeadLemmas::registers_done))]
@@ -39,7 +39,7 @@ fn push_registers<A: Allocator>(out: &mut Vec<u8, A>, hart: &Hart) -> Result<(),
 }
 
 // Appends where a hart stands, and its registers.
-#[tactic(auto, unfolding(trace_json::specs::Composites::member))]
+#[tactic(auto, unfolding(crate::specs::Composites::member))]
 fn push_place<A: Allocator>(out: &mut Vec<u8, A>, hart: &Hart) -> Result<(), AllocError>
     ensures { OnOk result (out.new.items ≡ out.old.items
         ++ 123 ∷ (member (codes "pc") (decimal hart.now.pc)
@@ -52,7 +52,7 @@ fn push_place<A: Allocator>(out: &mut Vec<u8, A>, hart: &Hart) -> Result<(), All
 }
 
 // Appends what a hart has reserved and whether it runs, and the closing brace.
-#[tactic(auto, unfolding(trace_json::specs::Composites::member))]
+#[tactic(auto, unfolding(crate::specs::Composites::member))]
 fn push_state<A: Allocator>(out: &mut Vec<u8, A>, hart: &HartThen) -> Result<(), AllocError>
     ensures { OnOk result (out.new.items ≡ out.old.items
         ++ 44 ∷ (member (codes "reserved") (number_or_null hart.now.reserved)

@@ -1,18 +1,19 @@
 //! The head line of a trace.
 
 ghost use Rattle.std.specs.Prelude.{◌≡◌, ◌++◌, ◌∷◌, [], codes, decimal, map, OnOk};
-ghost use Rattle.trace_json.specs.Composites.{member, array};
+ghost use Rattle.trace_text.specs.Composites.{member, array};
 ghost use Rattle.trace_text.specs.Head.{hart_object, head_line, head_object, symbol_object, then_of};
 
+use crate::array::push_numbers;
 use crate::harts::push_harts;
 use crate::head::{HartThen, Span};
+use crate::scalar::push_number;
 use crate::symbols::push_symbols;
 use elf_read::Symbol;
 use std::alloc::{AllocError, Allocator};
-use trace_json::{push_number, push_numbers};
 
 // Appends what the trace is of: its version, where the program begins, and the inputs.
-#[tactic(auto, unfolding(trace_json::specs::Composites::member))]
+#[tactic(auto, unfolding(crate::specs::Composites::member))]
 fn push_run<A: Allocator>(
     out: &mut Vec<u8, A>,
     entry: u32,
@@ -29,7 +30,7 @@ fn push_run<A: Allocator>(
 }
 
 // Appends which choices are told.
-#[tactic(auto, unfolding(trace_json::specs::Composites::member))]
+#[tactic(auto, unfolding(crate::specs::Composites::member))]
 fn push_span<A: Allocator>(out: &mut Vec<u8, A>, span: Span) -> Result<(), AllocError>
     ensures { OnOk result (out.new.items ≡ out.old.items
         ++ 44 ∷ (member (codes "from") (decimal span.from) ++ 44 ∷ member (codes "to") (decimal span.to))) }
@@ -41,7 +42,7 @@ fn push_span<A: Allocator>(out: &mut Vec<u8, A>, span: Span) -> Result<(), Alloc
 }
 
 // Appends the symbols and the harts, and the closing brace.
-#[tactic(auto, unfolding(trace_json::specs::Composites::member))]
+#[tactic(auto, unfolding(crate::specs::Composites::member))]
 fn push_lists<A: Allocator>(
     out: &mut Vec<u8, A>,
     symbols: &[Symbol<A>],

@@ -1,18 +1,18 @@
 //! The line of a choice.
 
 ghost use Rattle.std.specs.Prelude.{◌≡◌, ◌++◌, ◌∷◌, [], codes, decimal, OnOk};
-ghost use Rattle.trace_json.specs.Composites.{member, more_members};
-ghost use Rattle.trace_json.specs.Scalars.{flag_text, number_or_null};
+ghost use Rattle.trace_text.specs.Composites.{member, more_members};
+ghost use Rattle.trace_text.specs.Scalars.{flag_text, number_or_null};
 ghost use Rattle.trace_text.specs.Line.{line_of, told_object};
 ghost use Rattle.trace_text.specs.Values.{text_value, access_value, register_value, end_value};
 
+use crate::scalar::{push_flag, push_number, push_number_or_null};
 use crate::values::{push_access, push_end, push_register, push_text};
 use std::alloc::{AllocError, Allocator};
-use trace_json::{push_flag, push_number, push_number_or_null};
 use trace_steps::Told;
 
 // Appends which choice it is.
-#[tactic(auto, unfolding(trace_json::specs::Composites::member))]
+#[tactic(auto, unfolding(crate::specs::Composites::member))]
 fn push_choice<A: Allocator>(out: &mut Vec<u8, A>, told: &Told, k: u64) -> Result<(), AllocError>
     ensures { OnOk result (out.new.items ≡ out.old.items ++ 123 ∷ (member (codes "choice") (decimal k)
         ++ 44 ∷ member (codes "hart") (decimal told.now.choice.hart))) }
@@ -24,7 +24,7 @@ fn push_choice<A: Allocator>(out: &mut Vec<u8, A>, told: &Told, k: u64) -> Resul
 }
 
 // Appends the choice's mark.
-#[tactic(auto, unfolding(trace_json::specs::Composites::member))]
+#[tactic(auto, unfolding(crate::specs::Composites::member))]
 fn push_refused<A: Allocator>(out: &mut Vec<u8, A>, told: &Told) -> Result<(), AllocError>
     ensures { OnOk result (out.new.items
         ≡ out.old.items ++ 44 ∷ member (codes "refused") (flag_text told.now.choice.refuse)) }
@@ -34,7 +34,7 @@ fn push_refused<A: Allocator>(out: &mut Vec<u8, A>, told: &Told) -> Result<(), A
 }
 
 // Appends the instruction.
-#[tactic(auto, unfolding(trace_json::specs::Composites::member))]
+#[tactic(auto, unfolding(crate::specs::Composites::member))]
 fn push_instr<A: Allocator>(alloc: A, out: &mut Vec<u8, A>, told: &Told) -> Result<(), AllocError>
     ensures { OnOk result (out.new.items ≡ out.old.items ++ 44 ∷ (member (codes "pc") (decimal told.now.pc)
         ++ 44 ∷ (member (codes "word") (number_or_null told.now.word)
@@ -49,7 +49,7 @@ fn push_instr<A: Allocator>(alloc: A, out: &mut Vec<u8, A>, told: &Told) -> Resu
 }
 
 // Appends what the step accessed and wrote.
-#[tactic(auto, unfolding(trace_json::specs::Composites::member))]
+#[tactic(auto, unfolding(crate::specs::Composites::member))]
 fn push_effects<A: Allocator>(out: &mut Vec<u8, A>, told: &Told) -> Result<(), AllocError>
     ensures { OnOk result (out.new.items ≡ out.old.items
         ++ 44 ∷ (member (codes "access") (access_value told.now.access)
@@ -62,7 +62,7 @@ fn push_effects<A: Allocator>(out: &mut Vec<u8, A>, told: &Told) -> Result<(), A
 }
 
 // Appends what the hart has reserved and where it stands after the step.
-#[tactic(auto, unfolding(trace_json::specs::Composites::member))]
+#[tactic(auto, unfolding(crate::specs::Composites::member))]
 fn push_after<A: Allocator>(out: &mut Vec<u8, A>, told: &Told) -> Result<(), AllocError>
     ensures { OnOk result (out.new.items ≡ out.old.items
         ++ 44 ∷ (member (codes "reserved") (number_or_null told.now.reserved)
@@ -75,7 +75,7 @@ fn push_after<A: Allocator>(out: &mut Vec<u8, A>, told: &Told) -> Result<(), All
 }
 
 // Appends whether the hart runs after the step, and the closing brace.
-#[tactic(auto, unfolding(trace_json::specs::Composites::member))]
+#[tactic(auto, unfolding(crate::specs::Composites::member))]
 fn push_last<A: Allocator>(out: &mut Vec<u8, A>, told: &Told) -> Result<(), AllocError>
     ensures { OnOk result (out.new.items ≡ out.old.items
         ++ 44 ∷ (member (codes "end") (end_value told.now.state) ++ 125 ∷ [])) }

@@ -1,15 +1,16 @@
 //! The symbols of a head line.
 
 ghost use Rattle.std.specs.Prelude.{◌≡◌, ◌++◌, map, OnOk};
-ghost use Rattle.trace_json.specs.Composites.{array, more_elements};
+ghost use Rattle.trace_text.specs.Composites.{array, more_elements};
 ghost use Rattle.trace_text.specs.Head.{symbol_object};
 
+use crate::scalar::push_number;
+use crate::string::push_string;
 use elf_read::Symbol;
 use std::alloc::{AllocError, Allocator};
-use trace_json::{push_number, push_string};
 
 // Appends a symbol.
-#[tactic(auto, unfolding(crate::specs::Head::symbol_object, trace_json::specs::Composites::member))]
+#[tactic(auto, unfolding(crate::specs::Head::symbol_object, crate::specs::Composites::member))]
 fn push_symbol<A: Allocator>(out: &mut Vec<u8, A>, symbol: &Symbol<A>) -> Result<(), AllocError>
     ensures { OnOk result (out.new.items ≡ out.old.items ++ symbol_object symbol.now) }
 {

@@ -1,17 +1,18 @@
 //! The values of the members of a trace's lines.
 
 ghost use Rattle.std.specs.Prelude.{◌≡◌, ◌++◌, ◌∷◌, [], codes, decimal, OnOk};
-ghost use Rattle.trace_json.specs.Composites.{member};
-ghost use Rattle.trace_json.specs.Scalars.{number_or_null};
+ghost use Rattle.trace_text.specs.Composites.{member};
+ghost use Rattle.trace_text.specs.Scalars.{number_or_null};
 ghost use Rattle.trace_text.specs.Values.{access_value, cause_text, end_value, kind_name, name_value, register_value, text_value};
 
 use crate::names::{cause_name, kind_name};
+use crate::scalar::{push_number, push_number_or_null};
+use crate::string::push_string;
 use hart_step::{AccessKind, Cause, HartState};
 use isa_disasm::line_of;
 use isa_names::abi_name;
 use isa_table::Instr;
 use std::alloc::{AllocError, Allocator};
-use trace_json::{push_number, push_number_or_null, push_string};
 use trace_steps::{ToldAccess, Written};
 
 /// Appends the canonical line of a word at an address, or `null` where it is no instruction or there is none.
@@ -35,7 +36,7 @@ pub(crate) fn push_text<A: Allocator>(
 }
 
 // Appends what was done with the bytes, behind the opening brace.
-#[tactic(auto, unfolding(trace_json::specs::Composites::member))]
+#[tactic(auto, unfolding(crate::specs::Composites::member))]
 fn push_kind<A: Allocator>(out: &mut Vec<u8, A>, kind: AccessKind) -> Result<(), AllocError>
     ensures { OnOk result (out.new.items ≡ out.old.items
         ++ 123 ∷ member (codes "kind") (name_value (kind_name kind))) }
@@ -46,7 +47,7 @@ fn push_kind<A: Allocator>(out: &mut Vec<u8, A>, kind: AccessKind) -> Result<(),
 }
 
 // Appends where the bytes stand, and how many they are.
-#[tactic(auto, unfolding(trace_json::specs::Composites::member))]
+#[tactic(auto, unfolding(crate::specs::Composites::member))]
 fn push_place<A: Allocator>(out: &mut Vec<u8, A>, address: u32, size: u32) -> Result<(), AllocError>
     ensures { OnOk result (out.new.items ≡ out.old.items
         ++ 44 ∷ (member (codes "address") (decimal address) ++ 44 ∷ member (codes "size") (decimal size))) }
@@ -58,7 +59,7 @@ fn push_place<A: Allocator>(out: &mut Vec<u8, A>, address: u32, size: u32) -> Re
 }
 
 // Appends the number that the bytes spelled and the one that they spell, and the closing brace.
-#[tactic(auto, unfolding(trace_json::specs::Composites::member))]
+#[tactic(auto, unfolding(crate::specs::Composites::member))]
 fn push_contents<A: Allocator>(
     out: &mut Vec<u8, A>,
     before: Option<u32>,
@@ -92,7 +93,7 @@ pub(crate) fn push_access<A: Allocator>(
 }
 
 /// Appends what register was written.
-#[tactic(auto, unfolding(crate::specs::Values::register_value, trace_json::specs::Composites::member))]
+#[tactic(auto, unfolding(crate::specs::Values::register_value, crate::specs::Composites::member))]
 pub(crate) fn push_register<A: Allocator>(
     out: &mut Vec<u8, A>,
     written: Option<Written>,
@@ -110,7 +111,7 @@ pub(crate) fn push_register<A: Allocator>(
 }
 
 // Appends what a hart does, behind the opening brace.
-#[tactic(auto, unfolding(trace_json::specs::Composites::member))]
+#[tactic(auto, unfolding(crate::specs::Composites::member))]
 fn push_state<A: Allocator>(out: &mut Vec<u8, A>, state: &str) -> Result<(), AllocError>
     ensures { OnOk result (out.new.items ≡ out.old.items
         ++ 123 ∷ member (codes "state") (name_value state.now)) }
@@ -121,7 +122,7 @@ fn push_state<A: Allocator>(out: &mut Vec<u8, A>, state: &str) -> Result<(), All
 }
 
 // Appends the status of a hart that stopped itself, and the closing brace.
-#[tactic(auto, unfolding(trace_json::specs::Composites::member))]
+#[tactic(auto, unfolding(crate::specs::Composites::member))]
 fn push_status<A: Allocator>(out: &mut Vec<u8, A>, status: u32) -> Result<(), AllocError>
     ensures { OnOk result (out.new.items ≡ out.old.items
         ++ 44 ∷ (member (codes "status") (decimal status) ++ 125 ∷ [])) }
@@ -132,7 +133,7 @@ fn push_status<A: Allocator>(out: &mut Vec<u8, A>, status: u32) -> Result<(), Al
 }
 
 // Appends why a hart was stopped by its instruction, and the closing brace.
-#[tactic(auto, unfolding(trace_json::specs::Composites::member))]
+#[tactic(auto, unfolding(crate::specs::Composites::member))]
 fn push_cause<A: Allocator>(out: &mut Vec<u8, A>, cause: Cause) -> Result<(), AllocError>
     ensures { OnOk result (out.new.items ≡ out.old.items
         ++ 44 ∷ (member (codes "cause") (name_value (cause_text cause)) ++ 125 ∷ [])) }

@@ -6,6 +6,6 @@ use Rattle.bank_reservations.specs.Joined.{banks_with}
 use Rattle.bank_reservations.proofs.JoinedLemmas.{SoFar}
 use Rattle.bank_reservations.proofs.joined.Given as goal
 
--- the harts so far have the words that stand
+-- the harts so far have the words that are still reserved
 abbrev pub invariant-harts : goal.invariant-harts
 invariant-harts l = SoFar (marks l.reserve) (λ h. joined_mark bank_of (banks_with l.banks) h (mark_at l.named h)) l.hart

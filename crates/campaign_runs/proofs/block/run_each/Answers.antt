@@ -2,7 +2,6 @@ use Rattle.std.proofs.Common.{◌≡◌, ◌<◌, ◌^◌, ◌+◌, ◌-◌, ap,
 use Rattle.std.specs.List.{range_with_len}
 use Rattle.rayon.specs.Numbers.{nat_range}
 use Rattle.rayon.proofs.ToStd.{nat_range-All}
-use Rattle.machine.specs.Start.{IsStartable}
 use Rattle.machine.specs.Machine.{world}
 use Rattle.campaign_runs.specs.Runs.{ending_from}
 use Rattle.campaign_runs.proofs.RunLemmas.{all-listed}
@@ -12,8 +11,8 @@ use Rattle.campaign_runs.proofs.block.run_each.Goals as goal
 pub collect-requires-clause-ready : goal.collect-requires-clause-ready
 collect-requires-clause-ready g c κs within =
     let ends = c.into_par_iter.ensures in
-    let inside = nat_range-All (λ i. IsStartable c.args.inputs.now × (length (world g.S.Store.memory c.args.start.now).harts ≡ length c.args.inputs.now) × (c.args.block.first + i < 2 ^ 64)) 0 c.args.block.count
-    (λ i low high. (c.requires.startable, c.requires.there, omega (arith, high, c.requires.fits))) in
+    let inside = nat_range-All (λ i. (length (world g.S.Store.memory c.args.start.now).harts ≡ length c.args.inputs.now) × (c.args.block.first + i < 2 ^ 64)) 0 c.args.block.count
+    (λ i low high. (c.requires.there, omega (arith, high, c.requires.fits))) in
     rw (c.map.ensures.base, c.map.ensures.f, c.with_min_len.ensures.base, ends.0, ends.1) (λ k d lt. (inside k d lt, λ y p. tt))
 
 pub returns : goal.returns

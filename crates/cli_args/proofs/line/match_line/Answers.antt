@@ -18,7 +18,7 @@ returns-in-Ok-try_get_matches_from-clause-matches c =
     let told = c.in-Ok-try_get_matches_from.ensures.matches (ap is_simple command_is ∙ simple) in
     told.1 ∙ ap (λ (a : App). subcommand_of a (map (λ s. s.now) c.args.words.now)) command_is
 
--- a line that clap takes fails for want of memory alone, which was told apart before
+-- a line that clap accepts fails only out of memory, which was a separate case before
 pub returns-in-Err-2-clause-told : goal.returns-in-Err-2-clause-told
 returns-in-Err-2-clause-told c = λ taken.
     let command_is : app_of c.in-Ok.command ≡ program_app = c.in-Ok.ensures in

@@ -37,5 +37,5 @@ returns-clause-halted g c = λ e.
 
 pub returns-clause-certified : goal.returns-clause-certified
 returns-clause-certified g c =
-    certified_known c.args.campaign c.args.inputs.now c.see_words.ensures _ _ _ c.in-Ok.ensures.ok
+    certified_known c.args.campaign c.args.inputs.now _ _ _ c.in-Ok.ensures.ok c.write_campaign.ensures.words
     c.write_campaign.ensures.takes c.write_campaign.ensures.finished

@@ -5,7 +5,7 @@ use Rattle.cmd_campaign.proofs.engine.write_campaign.Goals as goal
 
 pub returns-in-Err-clause-refused : goal.returns-in-Err-clause-refused
 returns-in-Err-clause-refused g c = λ refusal.
-    answer_of_refused c.args.campaign c.args.inputs.now c.args.image.now c.in-Err.fault c.in-Err.ensures.0 c.in-Err.ensures.1
+    answer_of_refused c.args.campaign c.args.inputs.now c.args.image.now c.in-Err.fault c.in-Err.ensures.same
     ∙ ap Err (sym c.from.ensures)
 
 pub returns-in-Err-clause-read : goal.returns-in-Err-clause-read
@@ -20,15 +20,15 @@ returns-clause-read g c =
 
 pub returns-clause-done : goal.returns-clause-done
 returns-clause-done g c =
-    done_answer _ _ _ _ _ _ (answer_of_runs c.args.campaign c.args.inputs.now c.args.image.now c.in-Ok.ensures)
-    c.write_report.ensures.written c.write_report.ensures.finished
+    done_answer _ _ _ _ _ _ (answer_of_runs c.args.campaign c.args.inputs.now c.args.image.now c.in-Ok.ensures.same.1)
+    (rw c.in-Ok.ensures.same.0 at c.write_report.ensures.written) (rw c.in-Ok.ensures.same.0 at c.write_report.ensures.finished)
 
 pub returns-clause-begun : goal.returns-clause-begun
 returns-clause-begun g c = λ e.
-    begins_answer _ _ _ _ _ _ _ (answer_of_runs c.args.campaign c.args.inputs.now c.args.image.now c.in-Ok.ensures)
-    c.write_report.ensures.begun e
+    begins_answer _ _ _ _ _ _ _ (answer_of_runs c.args.campaign c.args.inputs.now c.args.image.now c.in-Ok.ensures.same.1)
+    (rw c.in-Ok.ensures.same.0 at c.write_report.ensures.begun) e
 
 pub returns-clause-halted : goal.returns-clause-halted
 returns-clause-halted g c = λ e.
-    inr (begins_answer _ _ _ _ _ _ _ (answer_of_runs c.args.campaign c.args.inputs.now c.args.image.now c.in-Ok.ensures)
-    c.write_report.ensures.begun e)
+    inr (begins_answer _ _ _ _ _ _ _ (answer_of_runs c.args.campaign c.args.inputs.now c.args.image.now c.in-Ok.ensures.same.1)
+    (rw c.in-Ok.ensures.same.0 at c.write_report.ensures.begun) e)

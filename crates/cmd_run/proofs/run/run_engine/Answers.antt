@@ -5,7 +5,7 @@ use Rattle.cmd_run.proofs.run.run_engine.Goals as goal
 
 pub returns-in-Ok-run_text-clause-certified : goal.returns-in-Ok-run_text-clause-certified
 returns-in-Ok-run_text-clause-certified g c =
-    let few = c.in-Ok.ensures.takes.1 in
+    let few = c.in-Ok.ensures.inputs.1.1 in
     known_kept c.args.form c.args.inputs.now c.args.expect _ _ c.see_words.ensures (omega (arith, few))
 
 pub returns-in-Err-clause-enough : goal.returns-in-Err-clause-enough

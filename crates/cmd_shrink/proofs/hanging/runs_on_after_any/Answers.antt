@@ -7,4 +7,4 @@ pub returns-then-not-branch : goal.returns-then-not-branch
 returns-then-not-branch g c =
     sym (all_below_fails (length c.args.inputs.now) c.harts.hart
     (λ hart. runs_on c.args.image.now c.args.inputs.now c.args.choices.now (alone_first (length c.args.inputs.now) c.args.steps hart))
-    c.harts-test.true (sym c.in_ok-runs_on_after_one.ensures ∙ c.if-not-branch.true))
+    (rw c.harts-harts.ensures.harts at c.harts-test.true) (sym c.in_ok-runs_on_after_one.ensures ∙ c.if-not-branch.true))

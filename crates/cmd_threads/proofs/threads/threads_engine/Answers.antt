@@ -3,6 +3,7 @@ use Rattle.std.specs.List.{All}
 use Rattle.hart_step.specs.Hart.{hart_of}
 use Rattle.machine.specs.State.{state}
 use Rattle.history.specs.Printing.{history_text}
+use Rattle.thread_run.specs.Outcome.{IsOutcome}
 use Rattle.cmd_threads.proofs.ThreadsLemmas.{answered, kept_of, printed_of}
 use Rattle.cmd_threads.proofs.threads.threads_engine.Goals as goal
 
@@ -11,9 +12,10 @@ returns-in-Ok-shown_after-clause-answer g c =
     let image = c.in-Ok.image in
     let task = c.args.task in
     let book = c.in-Ok-run_threads.outcome.book in
-    let outcome = c.in-Ok-run_threads.ensures.ended in
-    let prints = printed_of image task.inputs.items task.budget task.plan.keys book outcome task.rule c.inputs.result.now c.history-2.result.now
-    (map hart_of c.ends.result.now) (state c.machine.result.now) _ c.inputs.ensures c.history-2.ensures c.ends.ensures c.machine.ensures
+    let same = c.in-Ok-new.ensures.same.0 ∙ c.deref.ensures.value in
+    let outcome = subst (λ xs. IsOutcome image xs task.budget task.plan.keys book) same c.in-Ok-run_threads.ensures.ended in
+    let prints = printed_of image task.inputs.items task.budget task.plan.keys book outcome task.rule c.words.result.now c.history-2.result.now
+    (map hart_of c.ends.result.now) (state c.machine.result.now) _ (c.words.ensures.same ∙ c.inputs.ensures) c.history-2.ensures c.ends.ensures c.machine.ensures
     c.in-Ok-shown_after.ensures in
     answered image task.inputs.items task.budget task.plan.keys book outcome _ task.rule _ c.in-Ok.ensures.ok
     (c.in-Ok-print_history.ensures.text ∙ ap history_text c.history.ensures) prints
@@ -23,9 +25,10 @@ returns-in-Ok-shown_after-clause-certified g c =
     let image = c.in-Ok.image in
     let task = c.args.task in
     let book = c.in-Ok-run_threads.outcome.book in
-    let outcome = c.in-Ok-run_threads.ensures.ended in
-    let prints = printed_of image task.inputs.items task.budget task.plan.keys book outcome task.rule c.inputs.result.now c.history-2.result.now
-    (map hart_of c.ends.result.now) (state c.machine.result.now) _ c.inputs.ensures c.history-2.ensures c.ends.ensures c.machine.ensures
+    let same = c.in-Ok-new.ensures.same.0 ∙ c.deref.ensures.value in
+    let outcome = subst (λ xs. IsOutcome image xs task.budget task.plan.keys book) same c.in-Ok-run_threads.ensures.ended in
+    let prints = printed_of image task.inputs.items task.budget task.plan.keys book outcome task.rule c.words.result.now c.history-2.result.now
+    (map hart_of c.ends.result.now) (state c.machine.result.now) _ (c.words.ensures.same ∙ c.inputs.ensures) c.history-2.ensures c.ends.ensures c.machine.ensures
     c.in-Ok-shown_after.ensures in
     kept_of image task.inputs.items task.budget task.plan.keys book outcome _ task.rule _
-    (subst (λ xs. All (λ x. x < 2 ^ 32) xs) c.deref.ensures.value c.see_words.ensures) c.in-Ok.ensures.ok prints
+    (subst (λ xs. All (λ x. x < 2 ^ 32) xs) c.deref.ensures.value c.in-Ok-new.ensures.words) c.in-Ok.ensures.ok prints

@@ -1,6 +1,6 @@
 use Rattle.std.proofs.Common.{None, map, ap, ◌∙◌}
 use Rattle.hart_step.specs.Hart.{hart_of}
-use Rattle.cmd_threads_banked.specs.declared.history.HistoryUse.TheVariants.{Unread}
+use Rattle.cmd_threads_banked.specs.declared.history_use.HistoryUse.TheVariants.{Unread}
 use Rattle.cmd_threads_banked.proofs.RunLemmas.{are_of_one, stamps_rise}
 use Rattle.cmd_threads_banked.proofs.AnswerLemmas.{of_run}
 use Rattle.cmd_threads_banked.proofs.banked.unmerged_answer.Goals as goal

@@ -3,7 +3,6 @@ use Rattle.isa_disasm.specs.Listing.{word_entry, word_of_bytes}
 use Rattle.isa_disasm.proofs.ListingLemmas.{one_word}
 use Rattle.isa_disasm.proofs.lines.push_words.Goals as goal
 
--- src/lines.rt:22:5
 pub words-preserved : goal.words-preserved
 words-preserved g c =
     let base = c.args.base in

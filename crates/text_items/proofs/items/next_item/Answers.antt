@@ -4,7 +4,7 @@ use Rattle.text_items.specs.Items.{is_blank}
 use Rattle.text_items.proofs.ItemLemmas.{first_from}
 use Rattle.text_items.proofs.items.next_item.Goals as goal
 
--- one blank and one byte stand at the front
+-- one blank and one byte are at the front
 pub returns-then-is_short-clause-some : goal.returns-then-is_short-clause-some
 returns-then-is_short-clause-some c =
     let short = c.if-is_short.true in

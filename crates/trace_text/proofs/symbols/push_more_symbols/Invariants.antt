@@ -1,5 +1,5 @@
 use Rattle.std.proofs.Common.{◌≡◌, ◌++◌, drop, map}
-use Rattle.trace_json.specs.Composites.{more_elements}
+use Rattle.trace_text.specs.Composites.{more_elements}
 use Rattle.trace_text.specs.Head.{hart_object, symbol_object, then_of}
 use Rattle.trace_text.proofs.symbols.push_more_symbols.Given as goal
 

@@ -1,4 +1,3 @@
-use Rattle.std.proofs.Common.{rules}
 use Rattle.debug_session.specs.Paged.{paged_world}
 use Rattle.debug_session.proofs.TrackLemmas.{started_all, start_reached}
 use Rattle.debug_session.proofs.KeptLemmas.{kept_so}
@@ -7,15 +6,15 @@ use Rattle.debug_session.proofs.debugger.Debugger.new_with_progress.Goals as goa
 
 pub checkpoints_of-requires : goal.checkpoints_of-requires
 checkpoints_of-requires g c =
-    started_all c.args.image c.args.inputs.items _ (paged_world c.in-Ok.machine) (search rules) (rw c.deref-2.ensures.value c.requires)
+    started_all c.args.image c.args.inputs _ (paged_world c.in_ok-first.first) c.in_ok-first.ensures.begun (rw c.deref.ensures.value c.requires)
 
 pub invariant_of-track-clause-kept : goal.invariant_of-track-clause-kept
 invariant_of-track-clause-kept g c =
-    kept_so c.args.image c.args.inputs.items c.args.choices.items _ (paged_world c.in-Ok.machine) _ (search rules) c.deref-2.ensures.value
-    c.in-Ok-checkpoints_of.ensures.kept
+    kept_so c.args.image c.args.inputs c.args.choices.items _ (paged_world c.in_ok-first.first) _ c.in_ok-first.ensures.begun c.deref.ensures.value
+    c.in_ok-checkpoints.ensures.kept
 
 pub invariant_of-result-clause-here : goal.invariant_of-result-clause-here
-invariant_of-result-clause-here g c = start_reached c.args.image c.args.inputs.items c.args.choices.items (paged_world c.in-Ok.machine) (search rules)
+invariant_of-result-clause-here g c = start_reached c.args.image c.args.inputs c.args.choices.items (paged_world c.in_ok-first.first) c.in_ok-first.ensures.begun
 
 pub invariant_of-result-clause-aligned : goal.invariant_of-result-clause-aligned
 invariant_of-result-clause-aligned g c = none_aligned _ c.new-2.ensures.empty

@@ -8,7 +8,7 @@ use Rattle.debug_session.proofs.debugger.Debugger.next_stop.Goals as goal
 pub step_to_stop-requires-clause-hart : goal.step_to_stop-requires-clause-hart
 step_to_stop-requires-clause-hart g c =
     let track = c.args.self.now.track in
-    one_hart track.image track.inputs.items track.choices.items c.steps.position c.steps.position (paged_world c.steps.machine) c.index-choice.result.now
+    one_hart track.image track.inputs track.choices.items c.steps.position c.steps.position (paged_world c.steps.machine) c.index-choice.result.now
     c.steps.invariant.world track.harts (search rules) (search rules)
 
 pub returns-then-is_some-clause-found : goal.returns-then-is_some-clause-found
@@ -21,7 +21,7 @@ returns-then-is_some-clause-found g c =
 pub returns-then-is_some-clause-world : goal.returns-then-is_some-clause-world
 returns-then-is_some-clause-world g c =
     let track = c.args.self.now.track in
-    reached-next track.image track.inputs.items track.choices.items c.steps.position (paged_world c.steps.machine) (paged_world c.step_to_stop.new.machine) c.index-choice.result.now
+    reached-next track.image track.inputs track.choices.items c.steps.position (paged_world c.steps.machine) (paged_world c.step_to_stop.new.machine) c.index-choice.result.now
     (search rules) (search rules) c.steps.invariant.world c.in_ok-stop.ensures.world
 
 pub returns-then-is_some-clause-inside : goal.returns-then-is_some-clause-inside
@@ -31,7 +31,7 @@ pub steps-preserved : goal.steps-preserved
 steps-preserved g c =
     let track = c.args.self.now.track in
     record {
-      world = reached-next track.image track.inputs.items track.choices.items c.steps.position (paged_world c.steps.machine) (paged_world c.step_to_stop.new.machine) c.index-choice.result.now
+      world = reached-next track.image track.inputs track.choices.items c.steps.position (paged_world c.steps.machine) (paged_world c.step_to_stop.new.machine) c.index-choice.result.now
           (search rules) (search rules) c.steps.invariant.world c.in_ok-stop.ensures.world;
       counted = omega (arith, c.step_to_stop.ensures.counted, c.steps.invariant.counted);
       left = first_later (stop_behind (session c.args.self.now)) c.steps.position c.len-length.result c.in_ok-stop.stop _ (search rules)

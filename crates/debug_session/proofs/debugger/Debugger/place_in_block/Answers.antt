@@ -18,14 +18,14 @@ steps-init g c = record {
 pub step_to_stop-requires-clause-hart : goal.step_to_stop-requires-clause-hart
 step_to_stop-requires-clause-hart g c =
     let track = c.args.self.now.track in
-    one_hart track.image track.inputs.items track.choices.items c.steps.position c.steps.position (paged_world c.steps.machine) c.index-choice.result.now
+    one_hart track.image track.inputs track.choices.items c.steps.position c.steps.position (paged_world c.steps.machine) c.index-choice.result.now
     c.steps.invariant.world track.harts (search rules) (search rules)
 
 pub steps-preserved-then-is_none : goal.steps-preserved-then-is_none
 steps-preserved-then-is_none g c =
     let track = c.args.self.now.track in
     record {
-      world = reached-next track.image track.inputs.items track.choices.items c.steps.position (paged_world c.steps.machine) (paged_world c.step_to_stop.new.machine) c.index-choice.result.now
+      world = reached-next track.image track.inputs track.choices.items c.steps.position (paged_world c.steps.machine) (paged_world c.step_to_stop.new.machine) c.index-choice.result.now
           (search rules) (search rules) c.steps.invariant.world c.in_ok-stop.ensures.world;
       counted = omega (arith, c.step_to_stop.ensures.counted, c.steps.invariant.counted);
       limit = omega (arith, c.steps-test.true);
@@ -41,7 +41,7 @@ pub steps-preserved : goal.steps-preserved
 steps-preserved g c =
     let track = c.args.self.now.track in
     record {
-      world = reached-next track.image track.inputs.items track.choices.items c.steps.position (paged_world c.steps.machine) (paged_world c.step_to_stop.new.machine) c.index-choice.result.now
+      world = reached-next track.image track.inputs track.choices.items c.steps.position (paged_world c.steps.machine) (paged_world c.step_to_stop.new.machine) c.index-choice.result.now
           (search rules) (search rules) c.steps.invariant.world c.in_ok-stop.ensures.world;
       counted = omega (arith, c.step_to_stop.ensures.counted, c.steps.invariant.counted);
       limit = omega (arith, c.steps-test.true);

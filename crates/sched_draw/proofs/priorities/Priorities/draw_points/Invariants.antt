@@ -3,6 +3,6 @@ use Rattle.sched_draw.specs.Drawn.{drawing}
 use Rattle.sched_draw.specs.Priorities.{with_points}
 use Rattle.sched_draw.proofs.priorities.Priorities.draw_points.Given as goal
 
--- so many are drawn
+-- the points so far are drawn
 abbrev pub invariant-points : goal.invariant-points
 invariant-points g l = drawing l.self ≡ with_points l.steps l.counter (drawing l.fn.self)

@@ -1,0 +1,10 @@
+pub mod Parts
+pub mod ReadsLemmas
+pub mod Words
+pub mod Ranges
+pub mod Operands
+pub mod Reading
+pub mod InRange
+pub mod Entry
+pub mod Images
+pub mod OwnLemmas

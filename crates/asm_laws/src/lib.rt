@@ -1,0 +1,8 @@
+//! The laws of texts and files: sources are read as what they say, and their file and listing give their own instructions.
+#![tactic(auto)]
+
+pub use own::{listed_is_own, written_is_own};
+pub use reads::{fault_is_the_first, read_is_said, texts_are_decided};
+
+mod own;
+mod reads;

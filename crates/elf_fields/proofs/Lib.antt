@@ -1,4 +1,0 @@
-pub mod At
-pub mod Tables
-pub mod Parts
-pub mod Whole

@@ -1,0 +1,10 @@
+pub mod At
+pub mod Tables
+pub mod Parts
+pub mod FieldsLemmas
+pub mod Names
+pub mod GivenLemmas
+pub mod Each
+pub mod Lexemes
+pub mod Statements
+pub mod Symbols

@@ -1,4 +1,0 @@
-pub mod Each
-pub mod Lexemes
-pub mod Statements
-pub mod Symbols

@@ -1,0 +1,2 @@
+pub mod AmoRace
+pub mod LrscRace

@@ -1,5 +1,0 @@
-use Rattle.trace_json.proofs.ReadBackLemmas.{number_alone}
-use Rattle.trace_json.proofs.laws.numbers_read_back.Goals as goal
-
-pub returns : goal.returns
-returns c = number_alone

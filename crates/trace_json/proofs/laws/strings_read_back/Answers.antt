@@ -1,5 +1,0 @@
-use Rattle.trace_json.proofs.ReadBackLemmas.{string_alone}
-use Rattle.trace_json.proofs.laws.strings_read_back.Goals as goal
-
-pub returns : goal.returns
-returns c = string_alone

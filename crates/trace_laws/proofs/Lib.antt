@@ -1,3 +1,0 @@
-pub mod TellLemmas
-pub mod RegisterLemmas
-pub mod ElsewhereLemmas

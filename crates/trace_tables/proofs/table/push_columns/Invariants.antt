@@ -1,7 +1,0 @@
-use Rattle.std.proofs.Common.{◌≡◌, ◌++◌, ◌-◌}
-use Rattle.trace_tables.specs.Table.{columns_from}
-use Rattle.trace_tables.proofs.table.push_columns.Given as goal
-
--- the text so far, and then the columns that are left
-abbrev pub invariant-harts : goal.invariant-harts
-invariant-harts g l = l.out.items ++ columns_from l.told l.hart (l.harts - l.hart) ≡ l.initial.out.items ++ columns_from l.told 0 l.harts

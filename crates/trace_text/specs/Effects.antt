@@ -1,0 +1,111 @@
+-- What a choice did, as the things that its row tells.
+use Rattle.std.specs.Prelude.{ℕ, ◌==◌, List, [], ◌∷◌, ◌++◌, Option, Some, None, if◌then◌else◌}
+use Rattle.hart_step.specs.declared.hart.Cause.{Cause}
+use Rattle.hart_step.specs.declared.hart.Cause.TheVariants.{FetchAccess, Illegal, LoadMisaligned, LoadAccess, StoreMisaligned, StoreAccess, JumpMisaligned, BadCall, Break}
+use Rattle.hart_step.specs.declared.hart.HartState.{HartState}
+use Rattle.hart_step.specs.declared.hart.HartState.TheVariants.{Running, Exited, Faulted}
+use Rattle.hart_step.specs.declared.data_access.AccessKind.{AccessKind}
+use Rattle.hart_step.specs.declared.data_access.AccessKind.TheVariants.{Load, Store, LoadReserved, StoreConditional, Amo}
+use Rattle.trace_steps.specs.declared.told.Told.{Told}
+use Rattle.trace_steps.specs.declared.told.ToldAccess.{ToldAccess}
+use Rattle.trace_steps.specs.declared.told.Written.{Written}
+use Rattle.trace_text.specs.declared.effect.Effect.{Effect}
+use Rattle.trace_text.specs.declared.effect.Effect.TheVariants as effect
+
+-- the list of a thing that may be absent
+abbrev pub listed : Option Effect → List Effect
+listed None = []
+listed (Some e) = e ∷ []
+
+-- a store-conditional writes 0 into its register where it stored, and another number where it did not (Unprivileged ISA,
+-- "Load-Reserved/Store-Conditional Instructions")
+abbrev pub result_of : ℕ → Effect
+result_of value = if value == 0 then effect.Succeeds else effect.Fails
+
+-- of a store-conditional whether it succeeded, by what it wrote into its register
+abbrev pub outcome_by : AccessKind → ℕ → Option Effect
+outcome_by Load value = None
+outcome_by Store value = None
+outcome_by LoadReserved value = None
+outcome_by StoreConditional value = Some (result_of value)
+outcome_by Amo value = None
+
+-- the same, where there is an access and a register was written: nothing is told of one whose register is x0
+unfoldable pub outcome : Option ToldAccess → Option Written → Option Effect
+outcome None written = None
+outcome (Some a) None = None
+outcome (Some a) (Some w) = outcome_by a.kind w.value
+
+-- the register that was written
+unfoldable pub register_set : Option Written → Option Effect
+register_set None = None
+register_set (Some w) = Some (effect.Sets w)
+
+-- the bytes that were stored, where they are mapped
+abbrev pub bytes_set : ℕ → Option ℕ → Option ℕ → Option Effect
+bytes_set address None after = None
+bytes_set address (Some before) None = None
+bytes_set address (Some before) (Some after) = Some (effect.Stores address before after)
+
+-- those of a store-conditional: none where its register says that it did not store
+abbrev pub bytes_unless_failed : Option Written → Option Effect → Option Effect
+bytes_unless_failed None bytes = bytes
+bytes_unless_failed (Some w) bytes = if w.value == 0 then bytes else None
+
+-- those of an instruction of this kind
+abbrev pub bytes_by : AccessKind → Option Written → Option Effect → Option Effect
+bytes_by Load written bytes = None
+bytes_by Store written bytes = bytes
+bytes_by LoadReserved written bytes = None
+bytes_by StoreConditional written bytes = bytes_unless_failed written bytes
+bytes_by Amo written bytes = bytes
+
+-- those of an instruction that accesses bytes
+unfoldable pub bytes_stored : Option ToldAccess → Option Written → Option Effect
+bytes_stored None written = None
+bytes_stored (Some a) written = bytes_by a.kind written (bytes_set a.address a.before a.after)
+
+-- that the hart stopped itself
+unfoldable pub exit_of : HartState → Option Effect
+exit_of Running = None
+exit_of (Exited status) = Some (effect.Exits status)
+exit_of (Faulted cause) = None
+
+-- what an instruction did that was no fault
+abbrev pub step_effects : Told → List Effect
+step_effects told =
+    listed (outcome told.access told.written) ++ (listed (register_set told.written)
+    ++ (listed (bytes_stored told.access told.written) ++ listed (exit_of told.state)))
+
+-- where no word was fetched, the hart had stopped before, unless it may not fetch there
+abbrev pub without_word_by : Cause → Effect
+without_word_by FetchAccess = effect.Faults FetchAccess
+without_word_by Illegal = effect.Rests
+without_word_by LoadMisaligned = effect.Rests
+without_word_by LoadAccess = effect.Rests
+without_word_by StoreMisaligned = effect.Rests
+without_word_by StoreAccess = effect.Rests
+without_word_by JumpMisaligned = effect.Rests
+without_word_by BadCall = effect.Rests
+without_word_by Break = effect.Rests
+
+-- the same, by what the hart does
+unfoldable pub without_word : HartState → Effect
+without_word Running = effect.Rests
+without_word (Exited status) = effect.Rests
+without_word (Faulted cause) = without_word_by cause
+
+-- what an instruction did, which was a fault or not
+abbrev pub with_word : HartState → List Effect → List Effect
+with_word Running effects = effects
+with_word (Exited status) effects = effects
+with_word (Faulted cause) effects = effect.Faults cause ∷ []
+
+-- what a choice did, with the word that was fetched, if one was
+abbrev pub effects_met : Option ℕ → HartState → List Effect → List Effect
+effects_met None state effects = without_word state ∷ []
+effects_met (Some word) state effects = with_word state effects
+
+-- what a choice did
+unfoldable pub effects_of : Told → List Effect
+effects_of told = effects_met told.word told.state (step_effects told)

@@ -1,0 +1,85 @@
+-- The rows of a table in Markdown: a column for the choice's number and one for each hart.
+use Rattle.std.specs.Prelude.{ℕ, zero, suc, ◌+◌, ◌==◌, Bool, true, false, List, [], ◌∷◌, ◌++◌, codes, decimal, flat_map, Option, Some, None, if◌then◌else◌}
+use Rattle.isa_table.specs.declared.instr.Instr.{Instr}
+use Rattle.isa_names.specs.Names.{abi}
+use Rattle.isa_names.specs.Digits.{word_text}
+use Rattle.isa_disasm.specs.Lines.{line_text}
+use Rattle.trace_text.specs.Values.{cause_text}
+use Rattle.trace_steps.specs.declared.told.Told.{Told}
+use Rattle.trace_steps.specs.declared.told.Written.{Written}
+use Rattle.trace_text.specs.declared.effect.Effect.{Effect}
+use Rattle.trace_text.specs.declared.effect.Effect.TheVariants.{Succeeds, Fails, Sets, Stores, Exits, Faults, Rests}
+use Rattle.trace_text.specs.Effects.{effects_of}
+
+-- a byte of a text in a cell: a bar has a backslash before it, or it would end the cell
+unfoldable pub cell_byte : ℕ → List ℕ
+cell_byte byte = if byte == 124 then 92 ∷ 124 ∷ [] else byte ∷ []
+
+-- a number as eight digits
+abbrev pub hex : ℕ → List ℕ
+hex n = codes "0x" ++ word_text n
+
+-- ` → `, in UTF-8
+abbrev pub arrow : List ℕ
+arrow = 32 ∷ 226 ∷ 134 ∷ 146 ∷ 32 ∷ []
+
+-- a thing that a choice did
+unfoldable pub effect_text : Effect → List ℕ
+effect_text Succeeds = codes "succeeds"
+effect_text Fails = codes "fails"
+effect_text (Sets w) = abi w.register ++ (codes " = " ++ hex w.value)
+effect_text (Stores address before after) =
+    codes "[" ++ (hex address ++ (codes "]: " ++ (hex before ++ (arrow ++ hex after))))
+effect_text (Exits status) = codes "exits with " ++ hex status
+effect_text (Faults cause) = codes "faults: " ++ cause_text cause
+effect_text Rests = codes "has stopped"
+
+-- things behind a first, each behind a comma and a blank
+unfoldable pub more_effects : List Effect → List ℕ
+more_effects [] = []
+more_effects (e ∷ effects) = 44 ∷ 32 ∷ (effect_text e ++ more_effects effects)
+
+-- the things that a choice did, behind a blank
+unfoldable pub effects_text : List Effect → List ℕ
+effects_text [] = []
+effects_text (e ∷ effects) = 32 ∷ (effect_text e ++ more_effects effects)
+
+-- the canonical line of the word at an address as code behind a blank, nothing where it is no instruction or there is none
+unfoldable pub instr_text : ℕ → Option ℕ → Option Instr → List ℕ
+instr_text pc None instr = []
+instr_text pc (Some word) None = []
+instr_text pc (Some word) (Some instr) = 32 ∷ 96 ∷ (flat_map cell_byte (line_text pc word) ++ 96 ∷ [])
+
+-- that the choice has the mark
+unfoldable pub mark_text : Bool → List ℕ
+mark_text true = codes " (refused)"
+mark_text false = []
+
+-- what stands in the column of the choice's hart
+unfoldable pub cell_text : Told → List ℕ
+cell_text told =
+    instr_text told.pc told.word told.instr ++ (effects_text (effects_of told) ++ mark_text told.choice.refuse)
+
+-- the columns of so many harts from number h on, and LF: only the choice's hart has something in its own
+unfoldable pub columns_from : Told → ℕ → ℕ → List ℕ
+columns_from told h zero = 10 ∷ []
+columns_from told h (suc count) =
+    (if h == told.choice.hart then cell_text told else 32 ∷ []) ++ (codes " |" ++ columns_from told (h + 1) count)
+
+-- the row of choice k and of what it did, for so many harts
+unfoldable pub row_of : Told → ℕ → ℕ → List ℕ
+row_of told k harts = codes "| " ++ (decimal k ++ (codes " |" ++ columns_from told 0 harts))
+
+-- the names of the columns of so many harts from number h on, and LF
+unfoldable pub names_from : ℕ → ℕ → List ℕ
+names_from h zero = 10 ∷ []
+names_from h (suc count) = codes " Hart " ++ (decimal h ++ (codes " |" ++ names_from (h + 1) count))
+
+-- the rules under the names of so many columns, and LF
+unfoldable pub rules_of : ℕ → List ℕ
+rules_of zero = 10 ∷ []
+rules_of (suc count) = codes "---|" ++ rules_of count
+
+-- the rows above those of the choices
+unfoldable pub head_rows : ℕ → List ℕ
+head_rows harts = codes "| Choice |" ++ (names_from 0 harts ++ (codes "|---|" ++ rules_of harts))

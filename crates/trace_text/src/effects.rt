@@ -1,0 +1,125 @@
+//! What a choice did, as the things that its row tells.
+
+ghost use Rattle.std.specs.Prelude.{◌≡◌, ◌++◌, IfOk, OnOk};
+ghost use Rattle.trace_text.specs.Effects.{bytes_set, bytes_stored, effects_of, exit_of, listed, outcome, register_set, result_of, step_effects, without_word};
+
+use crate::effect::Effect;
+use hart_step::{AccessKind, Cause, HartState};
+use std::alloc::{AllocError, Allocator};
+use trace_steps::{Told, ToldAccess, Written};
+
+// Whether a store-conditional stored, by what it wrote into its register.
+fn result_of(value: u32) -> Effect
+    ensures { result ≡ result_of value }
+{
+    if value == 0 {
+        Effect::Succeeds
+    } else {
+        Effect::Fails
+    }
+}
+
+// Of a store-conditional whether it succeeded.
+#[tactic(auto, unfolding(crate::specs::Effects::outcome))]
+fn outcome(access: Option<ToldAccess>, written: Option<Written>) -> Option<Effect>
+    ensures { result ≡ outcome access written }
+{
+    let access = access?;
+    let written = written?;
+    match access.kind {
+        AccessKind::StoreConditional => Some(result_of(written.value)),
+        AccessKind::Load | AccessKind::Store | AccessKind::LoadReserved | AccessKind::Amo => None,
+    }
+}
+
+// The register that was written.
+#[tactic(auto, unfolding(crate::specs::Effects::register_set))]
+fn register_set(written: Option<Written>) -> Option<Effect>
+    ensures { result ≡ register_set written }
+{
+    Some(Effect::Sets(written?))
+}
+
+// The bytes of an access, where they are mapped.
+fn bytes_set(access: ToldAccess) -> Option<Effect>
+    ensures { result ≡ bytes_set access.address access.before access.after }
+{
+    let before = access.before?;
+    let after = access.after?;
+    Some(Effect::Stores {
+        address: access.address,
+        before,
+        after,
+    })
+}
+
+// The bytes that were stored.
+#[tactic(auto, unfolding(crate::specs::Effects::bytes_stored))]
+fn bytes_stored(access: Option<ToldAccess>, written: Option<Written>) -> Option<Effect>
+    ensures { result ≡ bytes_stored access written }
+{
+    let access = access?;
+    match (access.kind, written) {
+        (AccessKind::Load | AccessKind::LoadReserved, _) => None,
+        (AccessKind::StoreConditional, Some(written)) if written.value != 0 => None,
+        (AccessKind::StoreConditional | AccessKind::Store | AccessKind::Amo, _) => {
+            bytes_set(access)
+        }
+    }
+}
+
+// That the hart stopped itself.
+#[tactic(auto, unfolding(crate::specs::Effects::exit_of))]
+fn exit_of(state: HartState) -> Option<Effect>
+    ensures { result ≡ exit_of state }
+{
+    match state {
+        HartState::Exited(status) => Some(Effect::Exits(status)),
+        HartState::Running | HartState::Faulted(_) => None,
+    }
+}
+
+// What a choice did for which no word was fetched.
+#[tactic(auto, unfolding(crate::specs::Effects::without_word))]
+fn without_word(state: HartState) -> Effect
+    ensures { result ≡ without_word state }
+{
+    match state {
+        HartState::Faulted(Cause::FetchAccess) => Effect::Faults(Cause::FetchAccess),
+        _ => Effect::Rests,
+    }
+}
+
+// Appends a thing that may be absent.
+fn add<A: Allocator>(effects: &mut Vec<Effect, A>, effect: Option<Effect>) -> Result<(), AllocError>
+    ensures { OnOk result (effects.new.items ≡ effects.old.items ++ listed effect) }
+{
+    if let Some(effect) = effect {
+        effects.push(effect)?;
+    }
+    Ok(())
+}
+
+// Appends what an instruction did that was no fault.
+fn add_step<A: Allocator>(effects: &mut Vec<Effect, A>, told: &Told) -> Result<(), AllocError>
+    ensures { OnOk result (effects.new.items ≡ effects.old.items ++ step_effects told.now) }
+{
+    add(effects, outcome(told.access, told.written))?;
+    add(effects, register_set(told.written))?;
+    add(effects, bytes_stored(told.access, told.written))?;
+    add(effects, exit_of(told.state))
+}
+
+/// What a choice did, in order.
+#[tactic(auto, unfolding(crate::specs::Effects::effects_of))]
+pub(crate) fn effects_of<A: Allocator>(alloc: A, told: &Told) -> Result<Vec<Effect, A>, AllocError>
+    ensures { IfOk result (λ effects. effects.items ≡ effects_of told.now) }
+{
+    let mut effects = Vec::new(alloc);
+    match (told.word, told.state) {
+        (None, state) => effects.push(without_word(state))?,
+        (Some(_), HartState::Faulted(cause)) => effects.push(Effect::Faults(cause))?,
+        (Some(_), HartState::Running | HartState::Exited(_)) => add_step(&mut effects, told)?,
+    }
+    Ok(effects)
+}
