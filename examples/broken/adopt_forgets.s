@@ -1,9 +1,10 @@
-# Adopt-commit, broken: the value must be the input of a hart that was chosen. Here a hart forgets its own value before it
-# reads the marks, so a hart that finds no committer has none to exit with.
+# Adopt-commit, broken: the value must be the input of a hart that was chosen. Here a hart forgets
+# its own value before it reads the marks, so a hart that finds no committer has none to exit with.
 #
 # Inputs: what the hart proposes. For 1 to 32 harts.
 #
-# In turns each sees the other's value, both mark 1, and nobody commits. Both should keep their own; both exit with 0:
+# In turns each sees the other's value, both mark 1, and none commits. Both should keep their own;
+# both exit with 0:
 #
 # $ rvcons asm --out adopt_forgets.elf adopt_forgets.s
 # $ rvcons run adopt_forgets.elf --inputs 7,9 --choices adopt_forgets.choices --rule adopt
@@ -12,7 +13,7 @@
 # verdict broken
 # [status 4]
 #
-# Where somebody commits, there is a value to take, and the rule is kept:
+# Where one commits, there is a value to take, and the rule is kept:
 #
 # $ echo '0*60 1*60' >one_by_one.choices
 # $ rvcons run adopt_forgets.elf --inputs 7,9 --choices one_by_one.choices --rule adopt

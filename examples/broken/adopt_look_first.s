@@ -1,10 +1,10 @@
-# Adopt-commit, broken: where one hart commits, all that have exited must have its value. Here a hart looks for the others
-# first and publishes its own value and presence after that.
+# Adopt-commit, broken: where one hart commits, all that have exited must have its value. Here a
+# hart looks for the others first and publishes its own value and presence after that.
 #
 # Inputs: what the hart proposes. For 1 to 32 harts.
 #
-# Both look before one of them has published, so neither sees the other and both mean to commit. Hart 0 comes to its end
-# before hart 1 publishes, and commits 7; then hart 1 commits 9:
+# Both look before one of them has published, so neither sees the other and both mean to commit.
+# Hart 0 comes to its end before hart 1 publishes, and commits 7; then hart 1 commits 9:
 #
 # $ rvcons asm --out adopt_look_first.elf adopt_look_first.s
 # $ cat adopt_look_first.choices

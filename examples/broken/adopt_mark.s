@@ -1,9 +1,9 @@
-# Adopt-commit, broken: a1 must be 1, commit, or 0, adopt. Here it is the hart's own mark, which is 2 where the hart means
-# to commit and 1 where it adopts.
+# Adopt-commit, broken: a1 must be 1, commit, or 0, adopt. Here it is the hart's own mark, which is
+# 2 where the hart means to commit and 1 where it adopts.
 #
 # Inputs: what the hart proposes. For 1 to 32 harts.
 #
-# Hart 0 marks that it commits, and says 2 in a1:
+# Hart 0 marks that it commits, and exits with 2 in a1:
 #
 # $ rvcons asm --out adopt_mark.elf adopt_mark.s
 # $ cat adopt_mark.choices
@@ -14,7 +14,7 @@
 # verdict broken
 # [status 4]
 #
-# In turns both adopt, and their 1 says that both commit, to two values:
+# In turns both adopt, and their 1 means that both commit, to two values:
 #
 # $ printf '0 1 %.0s' $(seq 50) >turns.choices
 # $ rvcons run adopt_mark.elf --inputs 7,9 --choices turns.choices --rule adopt

@@ -1,10 +1,10 @@
-# Adopt-commit, broken: where the harts that were chosen have the same input, each that exits must commit. Here a hart says
-# that it is present before its value stands in its record.
+# Adopt-commit, broken: where the harts that were chosen have the same input, each that exits must
+# commit. Here a hart marks that it is present before its value is in its record.
 #
 # Inputs: what the hart proposes. For 1 to 32 harts.
 #
-# Hart 0 stops right after it has said that it is present. Hart 1 finds it there with the value 0, which isn't its own 7, and so
-# it can only adopt, though nobody brought anything but 7:
+# Hart 0 stops right after it has marked that it is present. Hart 1 finds it there with the value 0,
+# which isn't its own 7, and so it can only adopt, though all inputs are 7:
 #
 # $ rvcons asm --out adopt_presence_first.elf adopt_presence_first.s
 # $ cat adopt_presence_first.choices

@@ -1,9 +1,10 @@
-# Adopt-commit, broken: no hart may fault. Here there are records for two harts alone, and three run it.
+# Adopt-commit, broken: no hart may fault. Here there are records for two harts alone, and three run
+# it.
 #
 # Inputs: what the hart proposes. For two harts.
 #
-# Hart 2's record lies past the zeros, where nothing is mapped, so its first store faults. Hart 0 faults too, as it looks
-# whether hart 2 is present:
+# Hart 2's record lies past the zeros, where nothing is mapped, so its first store faults. Hart 0
+# faults too, as it looks whether hart 2 is present:
 #
 # $ rvcons asm --out adopt_two_records.elf adopt_two_records.s
 # $ cat adopt_two_records.choices

@@ -1,12 +1,13 @@
-# Consensus, broken: the value must be the input of a hart that was chosen. Here all exit with 9, whatever their inputs are.
+# Consensus, broken: the value must be the input of a hart that was chosen. Here all exit with 9,
+# whatever their inputs are.
 #
-# All harts that exit agree, and each has decided. It is this clause alone that makes agreement worth something: a value
-# that nobody brought is no decision.
+# All harts that exit agree, and each has decided. Only this clause gives agreement a meaning: a
+# value that is no hart's input is no decision.
 #
 # Inputs: what the hart would like to be decided.
 #
-# Hart 0 runs alone and exits with 9. That is the input of hart 1, but hart 1 has taken no step, so nobody can have had
-# its input from it:
+# Hart 0 runs alone and exits with 9. That is the input of hart 1, but hart 1 has taken no step, so
+# no hart can have had its input from it:
 #
 # $ rvcons asm --out constant.elf constant.s
 # $ cat constant.choices
@@ -27,7 +28,7 @@
 
 .globl _start
 _start:
-    li a0, 9                    # what nobody was asked for
+    li a0, 9                    # no hart's input, if none brings it
     li a1, 1
     li a7, 93
     ecall

@@ -1,9 +1,10 @@
-# Consensus, broken: any two harts that have exited must have the same value. Here nobody asks whether the SC has stored.
+# Consensus, broken: any two harts that have exited must have the same value. Here the result of the
+# SC is not tested.
 #
 # Inputs: what the hart would like to be decided. For 1 to 32 harts.
 #
-# The schedule refuses hart 0's SC, which the `!` says. Hart 0 goes on as if it had won; the word is still 0, so hart 1
-# wins too:
+# The schedule refuses hart 0's SC, by `!`. Hart 0 goes on as if it had won; the word is still 0, so
+# hart 1 wins too:
 #
 # $ rvcons asm --out lrsc_untested.elf lrsc_untested.s
 # $ cat lrsc_untested.choices
@@ -34,7 +35,7 @@ _start:
     addi t1, a0, 1
     lr.w t2, (s0)
     bne t2, zero, done
-    sc.w t3, t1, (s0)           # t3 is 1 where nothing was stored; nobody looks
+    sc.w t3, t1, (s0)           # t3 is 1 where nothing was stored; not tested
     addi t2, t1, 0
 done:
     slli t2, t2, 2

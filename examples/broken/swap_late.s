@@ -1,10 +1,12 @@
-# Consensus, broken: the value must be the input of a hart that was chosen. Here a hart swaps first and publishes its
-# input only then, so a hart that has lost can come too early to the winner's slot.
+# Consensus, broken: the value must be the input of a hart that was chosen. Here a hart swaps first
+# and publishes its input only then, so a hart that has lost can come too early to the winner's
+# slot.
 #
 # Inputs: what the hart would like to be decided. For two harts.
 #
-# Hart 0 swaps and has won; before its input stands in its slot, hart 1 swaps, has lost, and reads the slot. It exits
-# with the 0 that stands there, which is nobody's input. (Where hart 0 then goes on, it exits with 7.)
+# Hart 0 swaps and has won; before its input is in its slot, hart 1 swaps, has lost, and reads the
+# slot. It exits with the 0 that is there, which is no hart's input. (Where hart 0 then goes on, it
+# exits with 7.)
 #
 # $ rvcons asm --out swap_late.elf swap_late.s
 # $ cat swap_late.choices
@@ -31,7 +33,7 @@ _start:
     slli t0, a0, 2
     add t0, t0, s0
     addi t1, zero, 1
-    amoswap.w t2, t1, (s0)      # who has won is known from here on ..
+    amoswap.w t2, t1, (s0)      # the winner is known from here on ..
     sw a1, 4(t0)                # .. and its input only from here on
     beq t2, zero, win
     xori t0, a0, 1

@@ -1,5 +1,5 @@
-# Consensus, broken: no hart may fault. The library's swap is for two harts; here three run it. The slot of the third lies
-# past the zeros, where nothing is mapped.
+# Consensus, broken: no hart may fault. The library's swap is for two harts; here three run it. The
+# slot of the third lies past the zeros, where nothing is mapped.
 #
 # Inputs: what the hart would like to be decided. For two harts.
 #
@@ -15,7 +15,8 @@
 # verdict broken
 # [status 4]
 #
-# `info` names the object all the same, since the file is the library's; what is proved of it is for two harts.
+# `info` names the object all the same, since the file is the library's; what is proved of it is for
+# two harts.
 #
 # $ rvcons info swap_third.elf | tail -n 1
 # library swap

@@ -1,5 +1,5 @@
-# Consensus, broken: any two harts that have exited must have the same value. Here the swap is two instructions, a load
-# and a store, and another hart can come between them.
+# Consensus, broken: any two harts that have exited must have the same value. Here the swap is two
+# instructions, a load and a store, and another hart can come between them.
 #
 # Inputs: what the hart would like to be decided. For two harts.
 #

@@ -1,9 +1,10 @@
-# Consensus, broken: each hart that has exited must have decided, with 1 in a1. Here a1 tells who has won, so a hart that
-# has lost exits with 0.
+# Consensus, broken: each hart that has exited must have decided, with 1 in a1. Here a1 says whether
+# the hart has won, so a hart that has lost exits with 0.
 #
 # Inputs: what the hart would like to be decided. For two harts.
 #
-# Both exit with 9, the input of hart 1, which has won. But hart 0 says that it has only adopted it:
+# Both exit with 9, the input of hart 1, which has won. But hart 0 exits as if it had only adopted
+# it:
 #
 # $ rvcons asm --out swap_who_won.elf swap_who_won.s
 # $ cat swap_who_won.choices
@@ -44,7 +45,7 @@ _start:
     lw a1, 4(t0)
 win:
     addi a0, a1, 0
-    xori a1, t2, 1              # 1 for who has won, 0 for who has lost
+    xori a1, t2, 1              # 1 for the winner, 0 for the loser
     addi a7, zero, 93
     ecall
 .bss

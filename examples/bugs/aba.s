@@ -1,11 +1,12 @@
-# A stack without a lock (Treiber), and its ABA problem: that the topmost node is the one that was read doesn't say that nothing has
-# happened meanwhile.
+# A stack without a lock (Treiber), and its ABA problem: that the topmost node is the one that was
+# read doesn't mean that nothing has happened meanwhile.
 #
-# Inputs: how often the hart takes two nodes and puts them back; there are four nodes. A node says whether a hart has it: a hart that takes
-# one which another hart has stops at an EBREAK.
+# Inputs: how often the hart takes two nodes and puts them back; there are four nodes. A node
+# records whether a hart has it: a hart that takes one which another hart has stops at an EBREAK.
 #
-# Hart 0 has read that node A lies on top and B below it, and sleeps. Hart 1 takes A, takes B, and puts A back. Hart 0 finds A on top, as it
-# was, and makes B the topmost node, which hart 1 has. Then it takes B:
+# Hart 0 has read that node A lies on top and B below it, and sleeps. Hart 1 takes A, takes B, and
+# puts A back. Hart 0 finds A on top, as it was, and makes B the topmost node, which hart 1 has.
+# Then it takes B:
 #
 # $ rvcons asm --out aba.elf aba.s
 # $ cat aba.choices

@@ -1,10 +1,11 @@
-# A barrier that is used again too early: the last hart to leave closes it, and who comes before that for the next phase finds it open.
+# A barrier that is used again too early: the last hart to leave closes it, and a hart that comes
+# before that for the next phase finds it open.
 #
-# Inputs: how many phases the hart goes through, the same for each. A hart that has passed the barrier of a phase to which another one hasn't come
-# stops at an EBREAK.
+# Inputs: how many phases the hart goes through, the same for each. A hart that has passed the
+# barrier of a phase to which another one hasn't come stops at an EBREAK.
 #
-# Hart 0 waits at the barrier of the first phase. Hart 1 opens it, leaves, comes again and passes the second one, with hart 0 still at
-# the first:
+# Hart 0 waits at the barrier of the first phase. Hart 1 opens it, leaves, comes again and passes
+# the second one, with hart 0 still at the first:
 #
 # $ rvcons asm --out barrier_early.elf barrier_early.s
 # $ cat barrier_early.choices
@@ -54,7 +55,7 @@ wait:
     amoadd.w t0, s4, (s5)
     addi t0, t0, 1
     bne t0, a2, passed
-    sw zero, 8(s0)              # the last to leave closes it: who comes before that for the next phase finds it open
+    sw zero, 8(s0)              # the last to leave closes it: one that comes before that finds it open
     sw zero, 4(s0)
 passed:
     mv t0, s1

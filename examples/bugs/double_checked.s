@@ -1,6 +1,8 @@
-# Initialisation that is checked twice, once without the lock and once with it, and a mark that is set before the value is there.
+# Initialisation that is checked twice, once without the lock and once with it, and a mark that is
+# set before the value is there.
 #
-# Inputs: none are used; for 1 to 32 harts. Each hart uses the value, which is 42, and stops at an EBREAK where it is none yet.
+# Inputs: none are used; for 1 to 32 harts. Each hart uses the value, which is 42, and stops at an
+# EBREAK where it is none yet.
 #
 # Hart 0 has set the mark and sleeps. Hart 1 sees it, and uses what hasn't been stored:
 #

@@ -1,9 +1,11 @@
-# A wake-up that is lost: a hart looks whether there is work, and says that it sleeps only after that.
+# A wake-up that is lost: a hart looks whether there is work, and announces that it sleeps only
+# after that.
 #
-# Inputs: none are used; two harts. Hart 0 waits for work, hart 1 gives it and goes. A hart that sleeps though the one that should wake it has
-# gone stops at an EBREAK.
+# Inputs: none are used; two harts. Hart 0 waits for work, hart 1 gives it and goes. A hart that
+# sleeps though the one that should wake it has gone stops at an EBREAK.
 #
-# Between hart 0's look and its word that it sleeps, hart 1 gives the work, finds nobody asleep, and goes:
+# After hart 0's look and before it announces that it sleeps, hart 1 gives the work, finds no hart
+# asleep, and goes:
 #
 # $ rvcons asm --out lost_wakeup.elf lost_wakeup.s
 # $ cat lost_wakeup.choices
@@ -35,13 +37,13 @@ sleep:
     beqz t0, sleep              # the giver is still there
     lw t0, 8(s0)
     bnez t0, awake              # it has woken me before it went
-    ebreak                      # it has gone, and nobody will ever wake me
+    ebreak                      # it has gone, and none will ever wake me
 awake:
     j end
 giver:
     sw s1, 0(s0)                # there is work
     lw t0, 4(s0)
-    beqz t0, gone               # nobody sleeps
+    beqz t0, gone               # none sleeps
     sw s1, 8(s0)                # wake up
 gone:
     sw s1, 12(s0)

@@ -1,8 +1,10 @@
-# An addition by LR and SC that doesn't ask whether the SC has stored.
+# An addition by LR and SC that doesn't test whether the SC has stored.
 #
-# Inputs: how often the hart adds 1. Exits with the counter in a0 and what it must be in a1; where they differ the hart stops at an EBREAK.
+# Inputs: how often the hart adds 1. Exits with the counter in a0 and what it must be in a1; where
+# they differ the hart stops at an EBREAK.
 #
-# Hart 0 has loaded the counter and sleeps. Hart 1 adds 1, so that hart 0's SC stores nothing, and nobody looks:
+# Hart 0 has loaded the counter and sleeps. Hart 1 adds 1, so that hart 0's SC stores nothing, and
+# its result isn't tested:
 #
 # $ rvcons asm --out lrsc_untested.elf lrsc_untested.s
 # $ cat lrsc_untested.choices
@@ -27,7 +29,7 @@ again:
     beqz s1, finished
     lr.w t0, (s0)
     addi t0, t0, 1
-    sc.w t1, t0, (s0)           # t1 is 1 where nothing was stored; nobody looks
+    sc.w t1, t0, (s0)           # t1 is 1 where nothing was stored; not tested
     addi s1, s1, -1
     j again
 finished:

@@ -1,9 +1,11 @@
-# The queue lock of Mellor-Crummey and Scott with two stores swapped, as in mcs_swapped.s, but a hart that waits looks at its own mark alone. Where
-# the mistake strikes it waits for ever: a deadlock. No hart faults, and a campaign finds it only where each hart has to exit.
+# The queue lock of Mellor-Crummey and Scott with two stores swapped, as in mcs_swapped.s, but a
+# hart that waits looks at its own mark alone. Where the mistake strikes it waits for ever: a
+# deadlock. No hart faults, and a campaign finds it only where each hart has to exit.
 #
 # Inputs: how often the hart takes the lock.
 #
-# Hart 1 has told hart 0 that it comes next. Hart 0 hands the lock over and leaves; then hart 1 says that it waits:
+# Hart 1 has announced to hart 0 that it comes next. Hart 0 hands the lock over and leaves; then
+# hart 1 marks that it waits:
 #
 # $ rvcons asm --out mcs_hangs.elf mcs_hangs.s
 # $ cat mcs_hangs.choices
@@ -13,7 +15,8 @@
 # hart 1 running pc 0001003c
 # [status 3]
 #
-# A campaign finds it, and one of twice the steps finds no seed less: these are no runs that had too few.
+# A campaign finds it, and one of twice the steps finds no fewer seeds: these runs didn't have too
+# few steps.
 #
 # $ rvcons campaign mcs_hangs.elf --inputs 1,1 --first 1 --count 1000 --steps 400 --must-exit --summary
 # seeds 955 first 1 exited 2 faulted 0 running 0
@@ -24,8 +27,8 @@
 # seeds 45 first 2 exited 1 faulted 0 running 1
 # [status 3]
 #
-# The steps that it takes. They end where hart 0 has handed the lock over, before hart 1's next step, in which it says that it waits: however harts
-# go on from there, hart 1 waits for ever.
+# The steps that it takes. They end where hart 0 has handed the lock over, before hart 1's next
+# step, in which it marks that it waits: however harts go on from there, hart 1 waits for ever.
 #
 # $ rvcons shrink mcs_hangs.elf --inputs 1,1 --choices mcs_hangs.choices --must-exit | tee few.choices
 # 0*12 1*13 0*3
@@ -40,14 +43,14 @@ _start:
     la s0, tail
     la s1, nodes
     slli t0, a0, 3
-    add s2, s1, t0              # my node: who comes next, whether I wait
+    add s2, s1, t0              # my node: the next hart's, whether I wait
     li s3, 1
     mv s4, a1                   # rounds left
 again:
     beqz s4, finished
-    sw zero, 0(s2)              # nobody comes next
-    amoswap.w s5, s2, (s0)      # I am the last of the line; who was before me?
-    beqz s5, section            # nobody: the lock is mine
+    sw zero, 0(s2)              # none comes next
+    amoswap.w s5, s2, (s0)      # I am the last of the line; which was before me?
+    beqz s5, section            # none: the lock is mine
     sw s2, 0(s5)                # I come next ..
     sw s3, 4(s2)                # .. and wait: this comes too late
 spin:
@@ -60,12 +63,12 @@ section:
 release:
     lr.w t0, (s0)
     bne t0, t1, next
-    sc.w t0, zero, (s0)         # nobody has come: the lock is free
+    sc.w t0, zero, (s0)         # none has come: the lock is free
     bnez t0, release
     j left
 next:
     lw t0, 0(s2)
-    beqz t0, next               # somebody has come, but hasn't told me its node yet
+    beqz t0, next               # one has come, but hasn't stored its node here yet
 hand_over:
     sw zero, 4(t0)              # you needn't wait
 left:

@@ -1,9 +1,11 @@
-# The queue lock of Mellor-Crummey and Scott with two stores swapped: a hart tells the one before it that it comes next, and says only
-# then that it waits.
+# The queue lock of Mellor-Crummey and Scott with two stores swapped: a hart announces to the one
+# before it that it comes next, and only then marks that it waits.
 #
-# Inputs: how often the hart takes the lock. A hart that waits though the one before it has left, and so for ever, stops at an EBREAK.
+# Inputs: how often the hart takes the lock. A hart that waits though the one before it has left,
+# and so for ever, stops at an EBREAK.
 #
-# Hart 1 has told hart 0 that it comes next. Hart 0 hands the lock over and leaves; then hart 1 says that it waits:
+# Hart 1 has announced to hart 0 that it comes next. Hart 0 hands the lock over and leaves; then
+# hart 1 marks that it waits:
 #
 # $ rvcons asm --out mcs_swapped.elf mcs_swapped.s
 # $ cat mcs_swapped.choices
@@ -25,14 +27,14 @@ _start:
     la s0, tail
     la s1, nodes
     slli t0, a0, 4
-    add s2, s1, t0              # my node: who comes next, whether I wait, how often I have left
+    add s2, s1, t0              # my node: the next hart's, whether I wait, how often I have left
     li s3, 1
     mv s4, a1                   # rounds left
 again:
     beqz s4, finished
-    sw zero, 0(s2)              # nobody comes next
-    amoswap.w s5, s2, (s0)      # I am the last of the line; who was before me?
-    beqz s5, section            # nobody: the lock is mine
+    sw zero, 0(s2)              # none comes next
+    amoswap.w s5, s2, (s0)      # I am the last of the line; which was before me?
+    beqz s5, section            # none: the lock is mine
     lw s6, 8(s5)                # how often the one before me has left
     sw s2, 0(s5)                # I come next ..
     sw s3, 4(s2)                # .. and wait: this comes too late
@@ -43,7 +45,7 @@ spin:
     beq t0, s6, spin            # the one before me hasn't left
     lw t0, 4(s2)
     beqz t0, section
-    ebreak                      # it has left, and nobody else hands me the lock
+    ebreak                      # it has left, and no other hands me the lock
 section:
     lw t0, 0(s2)
     bnez t0, hand_over
@@ -51,12 +53,12 @@ section:
 release:
     lr.w t0, (s0)
     bne t0, t1, next
-    sc.w t0, zero, (s0)         # nobody has come: the lock is free
+    sc.w t0, zero, (s0)         # none has come: the lock is free
     bnez t0, release
     j left
 next:
     lw t0, 0(s2)
-    beqz t0, next               # somebody has come, but hasn't told me its node yet
+    beqz t0, next               # one has come, but hasn't stored its node here yet
 hand_over:
     sw zero, 4(t0)              # you needn't wait
 left:

@@ -1,9 +1,12 @@
-# A queue that loses an item: who puts one draws a place and fills it later, and who takes one looks at the places alone.
+# A queue that loses an item: a hart that puts one draws a place and fills it later, and a hart that
+# takes one looks at the places alone.
 #
-# Inputs: none are used; for 1 to 32 harts. Each puts an item, takes one, and exits with it. A hart that has drawn a place with nothing in it
-# stops at an EBREAK: what is put there then, nobody will ever take.
+# Inputs: none are used; for 1 to 32 harts. Each puts an item, takes one, and exits with it. A hart
+# that has drawn a place with nothing in it stops at an EBREAK: what is put there then is never
+# taken.
 #
-# Hart 0 has drawn the first place and sleeps. Hart 1 puts its item into the second one, and takes what isn't in the first:
+# Hart 0 has drawn the first place and sleeps. Hart 1 puts its item into the second one, and takes
+# what isn't in the first:
 #
 # $ rvcons asm --out queue_loses.elf queue_loses.s
 # $ cat queue_loses.choices
@@ -52,7 +55,7 @@ draw:
     add t1, s2, t1
     lw a0, 0(t1)
     bnez a0, end
-    ebreak                      # nothing was in it: what is put there now, nobody will ever take
+    ebreak                      # nothing was in it: what is put there now is never taken
 end:
     li a7, 93
     ecall

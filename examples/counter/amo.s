@@ -1,8 +1,8 @@
-# The shared counter repaired by AMOADD: to read, to add and to write are one instruction.
+# The shared counter repaired by AMOADD: read, add and write are one instruction.
 #
-# Each hart adds 1 to `counter`, says in `done` that it has, waits until all have, and exits with the total in a0.
+# Each hart adds 1 to `counter` and to `done`, waits for all, and exits with the total in a0.
 #
-# Inputs: the total that the hart expects in the end, 0 for none. A hart that finds another total stops at an EBREAK.
+# Inputs: the total that the hart expects, 0 for none. On another total it stops at an EBREAK.
 #
 # $ rvcons asm --out amo.elf amo.s
 # $ rvcons run amo.elf --inputs 2,2 --choices turns.choices

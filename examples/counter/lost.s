@@ -1,9 +1,9 @@
-# A shared counter that loses an update: to add 1 are three instructions, and another hart can come between the first
-# and the third.
+# A shared counter that loses an update: adding 1 takes three instructions, and another hart can
+# come between the first and the third.
 #
-# Each hart adds 1 to `counter`, says in `done` that it has, waits until all have, and exits with the total in a0.
+# Each hart adds 1 to `counter` and to `done`, waits for all, and exits with the total in a0.
 #
-# Inputs: the total that the hart expects in the end, 0 for none. A hart that finds another total stops at an EBREAK.
+# Inputs: the total that the hart expects, 0 for none. On another total it stops at an EBREAK.
 #
 # Where one hart is done before the other begins, the total is 2:
 #

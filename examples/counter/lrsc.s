@@ -1,9 +1,9 @@
-# The shared counter repaired by LR and SC: SC writes only where no other hart has written the word since LR, else the
-# hart tries again.
+# The shared counter repaired by LR and SC: SC writes only where no other hart has written the word
+# since LR, else the hart tries again.
 #
-# Each hart adds 1 to `counter`, says in `done` that it has, waits until all have, and exits with the total in a0.
+# Each hart adds 1 to `counter` and to `done`, waits for all, and exits with the total in a0.
 #
-# Inputs: the total that the hart expects in the end, 0 for none. A hart that finds another total stops at an EBREAK.
+# Inputs: the total that the hart expects, 0 for none. On another total it stops at an EBREAK.
 #
 # In turns hart 1 has to try again:
 #

@@ -1,5 +1,5 @@
-# The nine faults, one for each input 0 to 8. A faulting instruction changes nothing but its hart's state: pc stays at
-# it, and so do all registers.
+# The nine faults, one for each input 0 to 8. A faulting instruction changes nothing but its hart's
+# state: pc stays at it, and so do all registers.
 #
 # Inputs: which fault.
 #

@@ -1,8 +1,8 @@
-# A program that stores over its own next instruction. A fetch reads memory as it is now, so the new word runs: a0 is 5,
-# not 1.
+# A program that stores over its own next instruction. A fetch reads memory as it is now, so the new
+# word runs: a0 is 5, not 1.
 #
-# Inputs: not used. It needs a segment that may be written and executed, as `run --hex` makes one; the words are those
-# of the listing's last column.
+# Inputs: not used. It needs a segment that may be written and executed, as `run --hex` makes one;
+# the words are those of the listing's last column.
 #
 # $ rvcons asm stored.s | sed 's/.* //' >stored.hex
 # $ rvcons run --hex stored.hex --inputs 3 --choices stored.choices

@@ -1,10 +1,10 @@
-# Independent reads of independent writes: hart 0 writes x, hart 1 writes y, hart 2 reads x and then y, hart 3 reads y
-# and then x. Under sequential consistency harts 2 and 3 don't see the writes in different orders. On a RISC-V processor
-# they may, without fences: README.md here.
+# Independent reads of independent writes: hart 0 writes x, hart 1 writes y, hart 2 reads x and then
+# y, hart 3 reads y and then x. Under sequential consistency harts 2 and 3 don't see the writes in
+# different orders. On a RISC-V processor they may, without fences: README.md here.
 #
-# Inputs: not used. Each hart waits until all are done and then exits with what was read, a hexadecimal digit each: a0
-# is what hart 2 read of x and y, a1 what hart 3 read of y and x. Where both are 00000010, it stops at an EBREAK
-# instead.
+# Inputs: not used. Each hart waits until all are done and then exits with what was read, a
+# hexadecimal digit each: a0 is what hart 2 read of x and y, a1 what hart 3 read of y and x. Where
+# both are 00000010, it stops at an EBREAK instead.
 #
 # The fifteen outcomes, each by a schedule that is named after the four reads:
 #

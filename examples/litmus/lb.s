@@ -1,8 +1,9 @@
-# Load buffering: hart 0 reads x and writes y, hart 1 reads y and writes x. Under sequential consistency they don't both
-# read 1. On a RISC-V processor they may, without fences: README.md here.
+# Load buffering: hart 0 reads x and writes y, hart 1 reads y and writes x. Under sequential
+# consistency they don't both read 1. On a RISC-V processor they may, without fences: README.md
+# here.
 #
-# Inputs: not used. Each hart waits until all are done and then exits with what was read: a0 is what hart 0 read of x,
-# a1 what hart 1 read of y. Where both are 1, it stops at an EBREAK instead.
+# Inputs: not used. Each hart waits until all are done and then exits with what was read: a0 is what
+# hart 0 read of x, a1 what hart 1 read of y. Where both are 1, it stops at an EBREAK instead.
 #
 # The three outcomes, each by a schedule that is named after it:
 #

@@ -1,8 +1,9 @@
-# Message passing: hart 0 writes x, the message, and then y, the flag; hart 1 reads y and then x. Under sequential
-# consistency it never reads the flag without the message. On a RISC-V processor it may, without fences: README.md here.
+# Message passing: hart 0 writes x, the message, and then y, the flag; hart 1 reads y and then x.
+# Under sequential consistency it never reads the flag without the message. On a RISC-V processor it
+# may, without fences: README.md here.
 #
-# Inputs: not used. Each hart waits until all are done and then exits with what was read: a0 is what hart 1 read of y,
-# a1 what it read of x. Where a0 is 1 and a1 is 0, it stops at an EBREAK instead.
+# Inputs: not used. Each hart waits until all are done and then exits with what was read: a0 is what
+# hart 1 read of y, a1 what it read of x. Where a0 is 1 and a1 is 0, it stops at an EBREAK instead.
 #
 # The three outcomes, each by a schedule that is named after it:
 #

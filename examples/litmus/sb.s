@@ -1,8 +1,9 @@
-# Store buffering: hart 0 writes x and reads y, hart 1 writes y and reads x. Under sequential consistency at least one
-# of them reads 1. On a RISC-V processor both may read 0, without a fence between: README.md here.
+# Store buffering: hart 0 writes x and reads y, hart 1 writes y and reads x. Under sequential
+# consistency at least one of them reads 1. On a RISC-V processor both may read 0, without a fence
+# between: README.md here.
 #
-# Inputs: not used. Each hart waits until all are done and then exits with what was read: a0 is what hart 0 read of y,
-# a1 what hart 1 read of x. Where both are 0, it stops at an EBREAK instead.
+# Inputs: not used. Each hart waits until all are done and then exits with what was read: a0 is what
+# hart 0 read of y, a1 what hart 1 read of x. Where both are 0, it stops at an EBREAK instead.
 #
 # The three outcomes, each by a schedule that is named after it:
 #

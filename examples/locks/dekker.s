@@ -1,9 +1,11 @@
-# Dekker's algorithm, the oldest for mutual exclusion of two harts with plain loads and stores. It too needs sequential
-# consistency: on a RISC-V processor it is no lock without fences (examples/litmus/README.md).
+# Dekker's algorithm, the oldest for mutual exclusion of two harts with plain loads and stores. It
+# too needs sequential consistency: on a RISC-V processor it is no lock without fences
+# (examples/litmus/README.md).
 #
-# Inputs: how often the hart enters the section. In the section it adds 1 to `counter` by a plain read and write, so the
-# counter is right in the end only where no two harts were in it at once. Exits with the counter in a0 and what it must
-# be in a1; where they differ the hart stops at an EBREAK.
+# Inputs: how often the hart enters the section. In the section it adds 1 to `counter` by a plain
+# read and write, so the counter is right in the end only where no two harts were in it at once.
+# Exits with the counter in a0 and what it must be in a1; where they differ the hart stops at an
+# EBREAK.
 #
 # $ rvcons asm --out dekker.elf dekker.s
 # $ rvcons run dekker.elf --inputs 2,2 --choices turns.choices

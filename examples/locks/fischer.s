@@ -1,10 +1,11 @@
-# Fischer's lock: a hart writes its name, waits, and enters where its name still stands. It is right where no hart is slower
-# than the wait, and a schedule may be as slow as it likes. (M. Fischer; L. Lamport, "A Fast Mutual Exclusion Algorithm",
-# ACM TOCS 5(1), 1987.)
+# Fischer's lock: a hart writes its name, waits, and enters where its name is still there. It is
+# right where no hart is slower than the wait, and a schedule may be as slow as it likes. (M.
+# Fischer; L. Lamport, "A Fast Mutual Exclusion Algorithm", ACM TOCS 5(1), 1987.)
 #
-# Inputs: how often the hart enters the section. In the section it adds 1 to `counter` by a plain read and write, so the
-# counter is right in the end only where no two harts were in it at once. Exits with the counter in a0 and what it must
-# be in a1; where they differ the hart stops at an EBREAK.
+# Inputs: how often the hart enters the section. In the section it adds 1 to `counter` by a plain
+# read and write, so the counter is right in the end only where no two harts were in it at once.
+# Exits with the counter in a0 and what it must be in a1; where they differ the hart stops at an
+# EBREAK.
 #
 # In turns it holds, and under each seed of a campaign:
 #
@@ -16,8 +17,8 @@
 # $ rvcons campaign fischer.elf --inputs 1,1 --first 1 --count 1000 --steps 1000 | cut -d" " -f3- | sort | uniq -c
 #    1000 exited 2 faulted 0 running 0
 #
-# But where hart 0 has read that no name stands there and then sleeps, hart 1 writes its own, waits, and is in the section
-# as hart 0 comes to write:
+# But where hart 0 has read that no name is there and then sleeps, hart 1 writes its own, waits, and
+# is in the section as hart 0 comes to write:
 #
 # $ cat fischer.choices
 # 0*9 1*95 0*200 1*100 0*20
@@ -26,7 +27,8 @@
 # hart 1 faulted Break pc 00010084
 # [status 3]
 #
-# A seed draws each step evenly, so hart 0 hardly ever sleeps for so long: docs/QUESTIONS.md has the chance.
+# A seed draws each step evenly, so hart 0 hardly ever sleeps for so long: docs/QUESTIONS.md has the
+# chance.
 
 .globl _start
 _start:

@@ -1,8 +1,9 @@
 # A spin lock by LR and SC: a hart that reads 0 writes 1 where no other hart has written since.
 #
-# Inputs: how often the hart enters the section. In the section it adds 1 to `counter` by a plain read and write, so the
-# counter is right in the end only where no two harts were in it at once. Exits with the counter in a0 and what it must
-# be in a1; where they differ the hart stops at an EBREAK.
+# Inputs: how often the hart enters the section. In the section it adds 1 to `counter` by a plain
+# read and write, so the counter is right in the end only where no two harts were in it at once.
+# Exits with the counter in a0 and what it must be in a1; where they differ the hart stops at an
+# EBREAK.
 #
 # $ rvcons asm --out lrsc.elf lrsc.s
 # $ rvcons run lrsc.elf --inputs 2,2 --choices turns.choices

@@ -1,9 +1,11 @@
-# Peterson's algorithm: mutual exclusion of two harts with plain loads and stores. It needs sequential consistency,
-# which is what this machine has. On a RISC-V processor it is no lock without fences: examples/litmus/README.md.
+# Peterson's algorithm: mutual exclusion of two harts with plain loads and stores. It needs
+# sequential consistency, which is what this machine has. On a RISC-V processor it is no lock
+# without fences: examples/litmus/README.md.
 #
-# Inputs: how often the hart enters the section. In the section it adds 1 to `counter` by a plain read and write, so the
-# counter is right in the end only where no two harts were in it at once. Exits with the counter in a0 and what it must
-# be in a1; where they differ the hart stops at an EBREAK.
+# Inputs: how often the hart enters the section. In the section it adds 1 to `counter` by a plain
+# read and write, so the counter is right in the end only where no two harts were in it at once.
+# Exits with the counter in a0 and what it must be in a1; where they differ the hart stops at an
+# EBREAK.
 #
 # $ rvcons asm --out peterson.elf peterson.s
 # $ rvcons run peterson.elf --inputs 2,2 --choices turns.choices

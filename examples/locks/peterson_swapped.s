@@ -1,11 +1,12 @@
 # Peterson's algorithm with its first two stores swapped: no lock any more.
 #
-# Inputs: how often the hart enters the section. In the section it adds 1 to `counter` by a plain read and write, so the
-# counter is right in the end only where no two harts were in it at once. Exits with the counter in a0 and what it must
-# be in a1; where they differ the hart stops at an EBREAK.
+# Inputs: how often the hart enters the section. In the section it adds 1 to `counter` by a plain
+# read and write, so the counter is right in the end only where no two harts were in it at once.
+# Exits with the counter in a0 and what it must be in a1; where they differ the hart stops at an
+# EBREAK.
 #
-# Between hart 0's two stores hart 1 does both of its own, finds that hart 0 doesn't want to enter, and enters. Then
-# hart 0 finds that it is its turn, and enters too:
+# Between hart 0's two stores hart 1 does both of its own, finds that hart 0 doesn't want to enter,
+# and enters. Then hart 0 finds that it is its turn, and enters too:
 #
 # $ rvcons asm --out peterson_swapped.elf peterson_swapped.s
 # $ rvcons run peterson_swapped.elf --inputs 1,1 --choices both_in.choices
@@ -13,7 +14,7 @@
 # hart 1 faulted Break pc 00010098
 # [status 3]
 #
-# A campaign finds it without being told where to look:
+# A campaign finds it:
 #
 # $ rvcons campaign peterson_swapped.elf --inputs 1,1 --first 1 --count 1000 --steps 300 | cut -d" " -f3- | sort | uniq -c
 #      16 exited 0 faulted 2 running 0

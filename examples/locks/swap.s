@@ -1,15 +1,16 @@
-# A spin lock by AMOSWAP: whoever takes a 0 out of the lock has it, and all leave 1 in it.
+# A spin lock by AMOSWAP: the hart that takes a 0 out of the lock has it, and all leave 1 in it.
 #
-# Inputs: how often the hart enters the section. In the section it adds 1 to `counter` by a plain read and write, so the
-# counter is right in the end only where no two harts were in it at once. Exits with the counter in a0 and what it must
-# be in a1; where they differ the hart stops at an EBREAK.
+# Inputs: how often the hart enters the section. In the section it adds 1 to `counter` by a plain
+# read and write, so the counter is right in the end only where no two harts were in it at once.
+# Exits with the counter in a0 and what it must be in a1; where they differ the hart stops at an
+# EBREAK.
 #
 # $ rvcons asm --out swap.elf swap.s
 # $ rvcons run swap.elf --inputs 2,2 --choices turns.choices
 # hart 0 exited a0 00000004 a1 00000004
 # hart 1 exited a0 00000004 a1 00000004
 #
-# While hart 0 stands in the section and no step is its, hart 1 spins:
+# While hart 0 is in the section and isn't chosen, hart 1 spins:
 #
 # $ rvcons run swap.elf --inputs 1,1 --choices held.choices
 # hart 0 running pc 00010028

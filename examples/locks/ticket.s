@@ -1,8 +1,9 @@
 # A ticket lock: harts enter in the order in which they drew their tickets by AMOADD.
 #
-# Inputs: how often the hart enters the section. In the section it adds 1 to `counter` by a plain read and write, so the
-# counter is right in the end only where no two harts were in it at once. Exits with the counter in a0 and what it must
-# be in a1; where they differ the hart stops at an EBREAK.
+# Inputs: how often the hart enters the section. In the section it adds 1 to `counter` by a plain
+# read and write, so the counter is right in the end only where no two harts were in it at once.
+# Exits with the counter in a0 and what it must be in a1; where they differ the hart stops at an
+# EBREAK.
 #
 # $ rvcons asm --out ticket.elf ticket.s
 # $ rvcons run ticket.elf --inputs 2,2,2 --choices three.choices
