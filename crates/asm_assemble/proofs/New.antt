@@ -1,7 +1,7 @@
 -- Symbols that are new.
 use Rattle.std.proofs.Common.{refl, ◌≡◌, ℕ, Bool, Option, Some, None}
-use Rattle.asm_parse.specs.Statement.{BodyValue}
-use Rattle.asm_parse.specs.declared.statement.Body.TheVariants as body
+use Rattle.asm_statement.specs.Statement.{BodyValue}
+use Rattle.asm_statement.specs.declared.statement.Body.TheVariants as body
 use Rattle.asm_assemble.specs.declared.program.Symbol.{Symbol}
 use Rattle.asm_assemble.specs.Program.{SymbolList}
 use Rattle.asm_assemble.specs.Operands.{found}

@@ -1,14 +1,14 @@
 -- The bases of sections.
 use Rattle.std.proofs.Common.{◌≡◌, ℕ, ◌+◌, ◌/◌, List, [], ◌∷◌, refl, sym, ap, ◌∙◌, arith, subst, cond}
-use Rattle.asm_parse.specs.Statement.{StatementValue, BodyValue}
-use Rattle.asm_parse.specs.declared.statement.Section.{Section}
-use Rattle.asm_parse.specs.declared.statement.Section.TheVariants as sections
+use Rattle.asm_statement.specs.Statement.{StatementValue, BodyValue}
+use Rattle.asm_statement.specs.declared.statement.Section.{Section}
+use Rattle.asm_statement.specs.declared.statement.Section.TheVariants as sections
 use Rattle.asm_assemble.specs.declared.cursor.Cursor.{Cursor}
 use Rattle.asm_assemble.specs.Program.{text_start}
 use Rattle.asm_assemble.specs.Program.{round_up}
-use Rattle.asm_assemble.specs.Cursors.{address, address_in, size, step, cursor_after}
+use Rattle.asm_assemble.specs.Cursors.{cursor_address, address_in, size, stepped_cursor, cursor_after}
 use Rattle.asm_assemble.specs.Assembled.{start_at, data_base, zeros_base, first_cursor}
-use Rattle.asm_assemble.specs.Placed.{Bases, base_of, is_same, section_behind, IsNextMultiple, AreBases}
+use Rattle.asm_assemble.specs.Placed.{Bases, placed_base, is_same, placed_section_behind, IsNextMultiple, AreBases}
 use Rattle.asm_assemble.proofs.PlacedCuts.{laid}
 use Rattle.asm_assemble.proofs.PlacedAddresses.{IsBehind, step_section, step_at, behind_all}
 
@@ -32,8 +32,8 @@ same_taken sections.Zeros sections.Text c d b e = refl
 same_taken sections.Zeros sections.Data c d b e = refl
 same_taken sections.Zeros sections.Zeros c d b e = ap (λ at. size at b) e
 
-taken_at : (t : Section) (c : Cursor) (b : BodyValue) → address_in t (step c b) ≡ address_in t c + cond (is_same c.section t) (size (address_in c.section c) b) 0
-unfolding address
+taken_at : (t : Section) (c : Cursor) (b : BodyValue) → address_in t (stepped_cursor c b) ≡ address_in t c + cond (is_same c.section t) (size (address_in c.section c) b) 0
+unfolding cursor_address
 taken_at t c b = step_at c b t
 
 -- the end of a section does not depend on the bases of the others
@@ -42,7 +42,7 @@ pub same_end : (t : Section) (ss : List StatementValue) (c d : Cursor) → c.sec
 unfolding cursor_after
 same_end t [] c d e f = f
 same_end t (s ∷ ss) c d e f =
-    same_end t ss (step c s.body) (step d s.body)
+    same_end t ss (stepped_cursor c s.body) (stepped_cursor d s.body)
     (step_section c s.body ∙ rw e (sym (step_section d s.body)))
     (taken_at t c s.body ∙ (ap (λ q. address_in t c + cond (is_same q t) (size (address_in q c) s.body) 0) e
     ∙ (ap (λ n. n + cond (is_same d.section t) (size (address_in d.section c) s.body) 0) f
@@ -54,13 +54,13 @@ bases_of ss = record { text_base = text_start; data_base = data_base ss; zeros_b
 
 -- at the beginning nothing is done
 pub behind_none : (ss : List StatementValue) → IsBehind (bases_of ss) [] (first_cursor ss)
-unfolding first_cursor start_at section_behind
+unfolding first_cursor start_at placed_section_behind
 behind_none ss = record { in_section = refl; at_end = λ t. by t }
   where
     none : (n : ℕ) → n ≡ n + 0
     none n = omega arith
 
-    by : (t : Section) → address_in t (first_cursor ss) ≡ base_of t (bases_of ss) + 0
+    by : (t : Section) → address_in t (first_cursor ss) ≡ placed_base t (bases_of ss) + 0
     by sections.Text = none text_start
     by sections.Data = none (data_base ss)
     by sections.Zeros = none (zeros_base (data_base ss) ss)

@@ -1,19 +1,19 @@
 -- Statements with those before and after them.
 use Rattle.std.proofs.Common.{◌≡◌, List, [], ◌∷◌, ◌++◌, refl, sym, ap, ◌∙◌, append_assoc, subst, append-nil}
 use Rattle.std.specs.Prelude.{map}
-use Rattle.asm_parse.specs.Statement.{StatementValue}
+use Rattle.asm_statement.specs.Statement.{StatementValue}
 use Rattle.asm_assemble.specs.declared.cursor.Cursor.{Cursor}
-use Rattle.asm_assemble.specs.Cursors.{address, step}
+use Rattle.asm_assemble.specs.Cursors.{cursor_address, stepped_cursor}
 use Rattle.asm_assemble.specs.Placed.{Standing}
 
 -- a statement at the cursor
 abbrev pub stood : Cursor → StatementValue → Standing
-stood c s = record { statement = s; section = c.section; address = address c }
+stood c s = record { statement = s; section = c.section; address = cursor_address c }
 
 -- the statements, each at its cursor
 unfoldable pub laid : Cursor → List StatementValue → List Standing
 laid c [] = []
-laid c (s ∷ ss) = stood c s ∷ laid (step c s.body) ss
+laid c (s ∷ ss) = stood c s ∷ laid (stepped_cursor c s.body) ss
 
 -- a claim on each statement, with those before it and after it, after those done
 unfoldable pub Each : (List Standing → Standing → List Standing → Type 0) → List Standing → List Standing → Type 0
@@ -48,7 +48,7 @@ each_cut P done (t ∷ rest) h (b ∷ before) s after e =
 pub laid_statements : (c : Cursor) (ss : List StatementValue) → map (λ (s : Standing). s.statement) (laid c ss) ≡ ss
 unfolding laid
 laid_statements c [] = refl
-laid_statements c (s ∷ ss) = ap (λ rest. s ∷ rest) (laid_statements (step c s.body) ss)
+laid_statements c (s ∷ ss) = ap (λ rest. s ∷ rest) (laid_statements (stepped_cursor c s.body) ss)
 
 -- what holds of each statement, however it is found, is such a claim
 pub each_of : (P : List Standing → Standing → List Standing → Type 0) (whole done rest : List Standing)

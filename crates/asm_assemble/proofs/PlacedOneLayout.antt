@@ -1,22 +1,22 @@
 -- Placed statements are at the cursors' places.
 use Rattle.std.proofs.Common.{◌≡◌, ℕ, ◌+◌, ◌*◌, ◌≤◌, ◌<◌, List, [], ◌∷◌, ◌++◌, refl, sym, ap, ◌∙◌, arith, subst}
 use Rattle.std.specs.Prelude.{map}
-use Rattle.asm_parse.specs.Statement.{StatementValue}
-use Rattle.asm_parse.specs.declared.statement.Section.{Section}
-use Rattle.asm_parse.specs.declared.statement.Section.TheVariants as sections
+use Rattle.asm_statement.specs.Statement.{StatementValue}
+use Rattle.asm_statement.specs.declared.statement.Section.{Section}
+use Rattle.asm_statement.specs.declared.statement.Section.TheVariants as sections
 use Rattle.asm_assemble.specs.declared.cursor.Cursor.{Cursor}
 use Rattle.asm_assemble.specs.Program.{text_start}
 use Rattle.asm_assemble.specs.Program.{ProgramValue}
-use Rattle.asm_assemble.specs.Cursors.{address, address_in, step, cursor_after}
+use Rattle.asm_assemble.specs.Cursors.{cursor_address, address_in, stepped_cursor, cursor_after}
 use Rattle.asm_assemble.specs.Assembled.{start_at, data_base, zeros_base, first_cursor}
-use Rattle.asm_assemble.specs.Placed.{Standing, Bases, base_of, section_behind, taken, IsNextMultiple, StandsThere, ArePlaced}
+use Rattle.asm_assemble.specs.Placed.{Standing, Bases, placed_base, placed_section_behind, taken, IsNextMultiple, StandsThere, ArePlaced}
 use Rattle.asm_assemble.proofs.PlacedCuts.{laid, stood, Each, each_of}
 use Rattle.asm_assemble.proofs.PlacedAddresses.{IsBehind, behind_more, behind_all}
 use Rattle.asm_assemble.proofs.PlacedBases.{bases_of, same_end, next_page, next_word}
 
 -- a statement at the cursor's place
 stands_so : (bases : Bases) (done : List Standing) (c : Cursor) (s : Standing) → IsBehind bases done c → StandsThere bases done s → s ≡ stood c s.statement
-unfolding address
+unfolding cursor_address
 stands_so bases done c s h there =
     let in_section : s.section ≡ c.section = there.in_section ∙ sym h.in_section in
     let at_address : s.address ≡ address_in c.section c = there.at_address ∙ (sym (h.at_end s.section) ∙ ap (λ q. address_in q c) in_section) in
@@ -28,7 +28,7 @@ laid_so : (bases : Bases) (done : List Standing) (c : Cursor) (all : List Standi
 unfolding laid Each
 laid_so bases done c [] h each = refl
 laid_so bases done c (s ∷ all) h each =
-    let next = step c s.statement.body in
+    let next = stepped_cursor c s.statement.body in
     let same : s ≡ stood c s.statement = stands_so bases done c s h each.0 in
     let behind : IsBehind bases (done ++ s ∷ []) next = subst (λ x. IsBehind bases (done ++ x ∷ []) next) (sym same) (behind_more bases done c s.statement h) in
     ap (λ (x : Standing). x ∷ all) same
@@ -48,13 +48,13 @@ one_word at x y h k = by h.times k.times h.multiple k.multiple h.not_below h.lea
 
 -- the cursor at which placed statements begin
 begins_behind : (bases : Bases) (ss : List StatementValue) → bases.text_base ≡ text_start → IsBehind bases [] (start_at bases.data_base bases.zeros_base)
-unfolding start_at section_behind
+unfolding start_at placed_section_behind
 begins_behind bases ss e = record { in_section = refl; at_end = λ t. by t }
   where
     none : (n : ℕ) → n ≡ n + 0
     none n = omega arith
 
-    by : (t : Section) → address_in t (start_at bases.data_base bases.zeros_base) ≡ base_of t bases + 0
+    by : (t : Section) → address_in t (start_at bases.data_base bases.zeros_base) ≡ placed_base t bases + 0
     by sections.Text = sym e ∙ none bases.text_base
     by sections.Data = none bases.data_base
     by sections.Zeros = none bases.zeros_base

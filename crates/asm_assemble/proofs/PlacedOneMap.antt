@@ -2,18 +2,18 @@
 use Rattle.std.proofs.Common.{◌≡◌, ℕ, ◌+◌, ◌-◌, ◌%◌, false, List, [], ◌∷◌, ◌++◌, length, Option, None, Ok, refl, sym, ap, ◌∙◌, append_assoc, append-nil, arith, subst}
 use Rattle.std.specs.Prelude.{nat_lt}
 use Rattle.std.proofs.lemmas.Bool.{eq-eqb, le-ltb}
-use Rattle.asm_parse.specs.Statement.{StatementValue, BodyValue}
-use Rattle.asm_parse.specs.declared.fault.FaultKind.{FaultKind}
-use Rattle.asm_parse.specs.declared.statement.Section.TheVariants as sections
-use Rattle.asm_parse.specs.declared.statement.Body.TheVariants as body
-use Rattle.asm_parse.specs.declared.statement.Directive.TheVariants as directive
+use Rattle.asm_statement.specs.Statement.{StatementValue, BodyValue}
+use Rattle.asm_statement.specs.declared.fault.FaultKind.{FaultKind}
+use Rattle.asm_statement.specs.declared.statement.Section.TheVariants as sections
+use Rattle.asm_statement.specs.declared.statement.Body.TheVariants as body
+use Rattle.asm_statement.specs.declared.statement.Directive.TheVariants as directive
 use Rattle.asm_assemble.specs.declared.cursor.Cursor.{Cursor}
 use Rattle.asm_assemble.specs.Program.{text_start, program_limit}
 use Rattle.asm_assemble.specs.Program.{SymbolList, ProgramValue, IsWithinLimit, segment_size}
-use Rattle.asm_assemble.specs.Cursors.{address, step, cursor_after}
-use Rattle.asm_assemble.specs.Placing.{globals_from, symbols_at, unless, place_fault, own_fault, placing}
+use Rattle.asm_assemble.specs.Cursors.{cursor_address, stepped_cursor, cursor_after}
+use Rattle.asm_assemble.specs.Placing.{globals_from, placed_symbols_at, unless_faulted, place_fault, own_fault, placing}
 use Rattle.asm_assemble.specs.Assembled.{start_at, first_cursor, is_too_large, heavy_of}
-use Rattle.asm_assemble.specs.Placed.{Standing, taken, symbols_in, IsFit}
+use Rattle.asm_assemble.specs.Placed.{Standing, taken, placed_symbols_in, IsFit}
 use Rattle.asm_assemble.proofs.PlacedCuts.{laid, stood, Each}
 use Rattle.asm_assemble.proofs.PlacedAddresses.{IsBehind}
 use Rattle.asm_assemble.proofs.PlacedBases.{bases_of}
@@ -45,18 +45,18 @@ none_heavy symbols seen at b h = rw (no_own symbols seen at b h) refl
 
 -- the phase goes well
 pub placing_goes : (start : Cursor) (all : List StatementValue) (symbols : SymbolList) (i : ℕ) (done : List Standing) (c : Cursor) (ss : List StatementValue)
-    → Each (λ before s after. IsFit symbols (symbols_in (laid start all) before) s.address s.statement.body) done (laid c ss)
-    → placing (globals_from [] all) (symbols_in (laid start all) done) None i c ss ≡ Ok (symbols_in (laid start all) done ++ all_symbols (globals_from [] all) c ss)
+    → Each (λ before s after. IsFit symbols (placed_symbols_in (laid start all) before) s.address s.statement.body) done (laid c ss)
+    → placing (globals_from [] all) (placed_symbols_in (laid start all) done) None i c ss ≡ Ok (placed_symbols_in (laid start all) done ++ all_symbols (globals_from [] all) c ss)
 unfolding laid Each placing all_symbols
-placing_goes start all symbols i done c [] h = ap Ok (sym (append-nil (symbols_in (laid start all) done)))
+placing_goes start all symbols i done c [] h = ap Ok (sym (append-nil (placed_symbols_in (laid start all) done)))
 placing_goes start all symbols i done c (s ∷ ss) h =
     let globals = globals_from [] all in
-    let seen = symbols_in (laid start all) done in
-    let new = symbols_at globals c.section (address c) s.body in
-    let next = step c s.body in
+    let seen = placed_symbols_in (laid start all) done in
+    let new = placed_symbols_at globals c.section (cursor_address c) s.body in
+    let next = stepped_cursor c s.body in
     let rest = all_symbols globals next ss in
-    let more : symbols_in (laid start all) (done ++ stood c s ∷ []) ≡ seen ++ new = sym (symbols_more start all done c s) in
-    ap (λ fault. unless fault s (placing globals (seen ++ new) None (i + 1) next ss)) (none_heavy symbols seen (address c) s.body h.0)
+    let more : placed_symbols_in (laid start all) (done ++ stood c s ∷ []) ≡ seen ++ new = sym (symbols_more start all done c s) in
+    ap (λ fault. unless_faulted fault s (placing globals (seen ++ new) None (i + 1) next ss)) (none_heavy symbols seen (cursor_address c) s.body h.0)
     ∙ (subst (λ before. placing globals before None (i + 1) next ss ≡ Ok (before ++ rest)) more (placing_goes start all symbols (i + 1) (done ++ stood c s ∷ []) next ss h.1)
     ∙ ap Ok (append_assoc seen new rest))
 

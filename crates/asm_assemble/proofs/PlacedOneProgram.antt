@@ -2,20 +2,20 @@
 use Rattle.std.proofs.Common.{◌≡◌, ℕ, ◌+◌, ◌-◌, List, [], ◌∷◌, ◌++◌, length, Option, None, Result, Ok, Err, refl, sym, ap, ◌∙◌, arith, subst, append_assoc, append-nil}
 use Rattle.std.proofs.lemmas.List.{take_at, drop_at}
 use Rattle.std.specs.Prelude.{take, drop}
-use Rattle.asm_parse.specs.Answer.{◌>>=◌}
-use Rattle.asm_parse.specs.Statement.{StatementValue}
-use Rattle.asm_parse.specs.declared.fault.Fault.{Fault}
-use Rattle.asm_parse.specs.declared.fault.FaultKind.{FaultKind}
-use Rattle.asm_parse.specs.declared.statement.Section.{Section}
-use Rattle.asm_parse.specs.declared.statement.Section.TheVariants as sections
+use Rattle.asm_statement.specs.Answer.{◌>>=◌}
+use Rattle.asm_statement.specs.Statement.{StatementValue}
+use Rattle.asm_statement.specs.declared.fault.Fault.{Fault}
+use Rattle.asm_statement.specs.declared.fault.FaultKind.{FaultKind}
+use Rattle.asm_statement.specs.declared.statement.Section.{Section}
+use Rattle.asm_statement.specs.declared.statement.Section.TheVariants as sections
 use Rattle.asm_assemble.specs.declared.cursor.Cursor.{Cursor}
 use Rattle.asm_assemble.specs.Program.{SymbolList, ProgramValue}
-use Rattle.asm_assemble.specs.Cursors.{address, size, step, cursor_after}
-use Rattle.asm_assemble.specs.Locals.{Local, local_at, local_of}
+use Rattle.asm_assemble.specs.Cursors.{cursor_address, size, stepped_cursor, cursor_after}
+use Rattle.asm_assemble.specs.Locals.{Local, local_label_at, local_label_of}
 use Rattle.asm_assemble.specs.Placing.{globals_from, placing}
-use Rattle.asm_assemble.specs.Valuing.{Images, bytes_in, put, said_at, valuing, no_bytes}
-use Rattle.asm_assemble.specs.Assembled.{start_at, first_cursor, heavy_of, entry_of, program_of, assembled}
-use Rattle.asm_assemble.specs.Placed.{Standing, Bases, base_of, taken, Holds, symbols_in, IsFit, ArePlaced, Placed}
+use Rattle.asm_assemble.specs.Valuing.{Images, bytes_in, put_bytes, said_at, valuing, no_bytes}
+use Rattle.asm_assemble.specs.Assembled.{start_at, first_cursor, heavy_of, program_entry, program_of_placed, assembled}
+use Rattle.asm_assemble.specs.Placed.{Standing, Bases, placed_base, taken, Holds, placed_symbols_in, IsFit, ArePlaced, Placed}
 use Rattle.asm_assemble.proofs.PlacedCuts.{laid, stood, Each, each_of}
 use Rattle.asm_assemble.proofs.PlacedAddresses.{IsBehind, behind_more, behind_all}
 use Rattle.asm_assemble.proofs.PlacedBases.{bases_of, behind_none}
@@ -43,15 +43,15 @@ pub record Leads (images : Images) (p : ProgramValue) : Type 0 where
 pub record IsPut (symbols : SymbolList) (local : Option ℕ) (q : Section) (images : Images) (p : ProgramValue) (s : Standing) : Type 0 where
   pub bytes : List ℕ
   pub was : bytes_in symbols local q s.address s.statement.body ≡ Ok bytes
-  pub leads : Leads (put q images bytes) p
+  pub leads : Leads (put_bytes q images bytes) p
 
 same_offset : (base n m at taken : ℕ) → base + n ≡ at → at ≡ base + taken → m ≡ taken → m ≡ n
 same_offset base n m at taken e f g = omega (arith, e, f, g)
 
 pub is_put : (q : Section) (bases : Bases) (p : ProgramValue) (locals : List Local) (done : List Standing) (images : Images) (next : Cursor) (s : Standing) (after : List StatementValue)
-    → AreFound locals done → AreSized done images → Leads images p → s.address ≡ base_of q bases + taken q done → Holds q bases p done s (laid next after)
-    → IsPut p.symbols (local_of locals next after s.statement.source s.statement.body) q images p s
-unfolding bytes_in put
+    → AreFound locals done → AreSized done images → Leads images p → s.address ≡ placed_base q bases + taken q done → Holds q bases p done s (laid next after)
+    → IsPut p.symbols (local_label_of locals next after s.statement.source s.statement.body) q images p s
+unfolding bytes_in put_bytes
 is_put sections.Text bases p locals done images next s after found sized leads at held =
     let offset : length images.text_bytes ≡ length held.front = same_offset bases.text_base (length held.front) (length images.text_bytes) s.address (taken sections.Text done) held.at_address at sized.text_sized in
     let cut : images.text_bytes ++ leads.text_rest ≡ held.front ++ (held.bytes ++ held.back) = sym leads.text_is ∙ held.cut in
@@ -106,17 +106,17 @@ valuing_goes : (bases : Bases) (p : ProgramValue) (locals : List Local) (done : 
     → length p.text ≡ taken sections.Text (done ++ laid c ss) → length p.bytes ≡ taken sections.Data (done ++ laid c ss)
     → Each (λ before s after. Holds s.section bases p before s after) done (laid c ss)
     → valuing p.symbols locals images c ss ≡ Ok (sections_of p)
-unfolding laid Each valuing address
+unfolding laid Each valuing cursor_address
 valuing_goes bases p locals done images c [] found sized behind leads text bytes h =
     ap Ok (all_there images p done sized leads (subst (λ d. length p.text ≡ taken sections.Text d) (append-nil done) text) (subst (λ d. length p.bytes ≡ taken sections.Data d) (append-nil done) bytes))
 valuing_goes bases p locals done images c (s ∷ ss) found sized behind leads text bytes h =
-    let next = step c s.body in
-    let local = local_of locals next ss s.source s.body in
-    let labels = local_at s.source (address c) s.body ++ locals in
-    let step = is_put c.section bases p locals done images next (stood c s) ss found sized leads (behind.at_end c.section) h.0 in
-    said_so s (bytes_in p.symbols local c.section (address c) s.body) step.bytes (λ bytes. valuing p.symbols labels (put c.section images bytes) next ss) step.was
-    ∙ valuing_goes bases p labels (done ++ stood c s ∷ []) (put c.section images step.bytes) next ss
-    (found_behind locals done c s found) (sized_put p.symbols local c.section done images (stood c s) step.bytes refl sized step.was) (behind_more bases done c s behind) step.leads
+    let next = stepped_cursor c s.body in
+    let local = local_label_of locals next ss s.source s.body in
+    let labels = local_label_at s.source (cursor_address c) s.body ++ locals in
+    let stepped_cursor = is_put c.section bases p locals done images next (stood c s) ss found sized leads (behind.at_end c.section) h.0 in
+    said_so s (bytes_in p.symbols local c.section (cursor_address c) s.body) stepped_cursor.bytes (λ bytes. valuing p.symbols labels (put_bytes c.section images bytes) next ss) stepped_cursor.was
+    ∙ valuing_goes bases p labels (done ++ stood c s ∷ []) (put_bytes c.section images stepped_cursor.bytes) next ss
+    (found_behind locals done c s found) (sized_put p.symbols local c.section done images (stood c s) stepped_cursor.bytes refl sized stepped_cursor.was) (behind_more bases done c s behind) stepped_cursor.leads
     (subst (λ d. length p.text ≡ taken sections.Text d) (sym (append_assoc done (stood c s ∷ []) (laid next ss))) text)
     (subst (λ d. length p.bytes ≡ taken sections.Data d) (sym (append_assoc done (stood c s ∷ []) (laid next ss))) bytes)
     h.1
@@ -135,7 +135,7 @@ valued_as images = Ok images
 
 -- the phases succeed for placed statements
 phases_go : (ss : List StatementValue) (p : ProgramValue) → ArePlaced ss p (laid (first_cursor ss) ss) (bases_of ss) → assembled ss ≡ Ok p
-unfolding assembled program_of entry_of symbols_in first_cursor start_at
+unfolding assembled program_of_placed program_entry placed_symbols_in first_cursor start_at
 phases_go ss p h =
     let start = first_cursor ss in
     let end = cursor_after start ss in
@@ -147,7 +147,7 @@ phases_go ss p h =
     let leads : Leads no_bytes p = record { text_rest = p.text; data_rest = p.bytes; text_is = refl; data_is = refl } in
     let none : heavy_of start end ss ≡ None = none_large ss p h.within behind h.text_size h.data_size h.zeros_size in
     let map_is : placing (globals_from [] ss) [] None 0 start ss ≡ placed_as p.symbols =
-    placing_goes start ss p.symbols 0 [] start ss (each_of (λ before s after. IsFit p.symbols (symbols_in all before) s.address s.statement.body) all [] all h.fits refl)
+    placing_goes start ss p.symbols 0 [] start ss (each_of (λ before s after. IsFit p.symbols (placed_symbols_in all before) s.address s.statement.body) all [] all h.fits refl)
     ∙ ap placed_as (symbols_laid start ss start ss ∙ sym h.symbols) in
     let placed : placing (globals_from [] ss) [] (heavy_of start end ss) 0 start ss ≡ placed_as p.symbols =
     ap (λ heavy. placing (globals_from [] ss) [] heavy 0 start ss) none ∙ map_is in
@@ -155,9 +155,9 @@ phases_go ss p h =
     valuing_goes bases p [] [] no_bytes start ss found_none empty (behind_none ss) leads h.text_size h.data_size
     (each_of (λ before s after. Holds s.section bases p before s after) all [] all h.holds refl) in
     let zeros_are : zeros ≡ p.zeros = behind_base start.zeros_at end.zeros_at p.zeros (behind.at_end sections.Zeros ∙ ap (λ n. start.zeros_at + n) (sym h.zeros_size)) in
-    ap (λ r. r >>= λ symbols. valuing symbols [] no_bytes start ss >>= λ images. program_good (program_of images zeros symbols)) placed
-    ∙ (ap (λ r. r >>= λ images. program_good (program_of images zeros p.symbols)) valued
-    ∙ (ap (λ (n : ℕ). program_good (record { text = p.text; bytes = p.bytes; zeros = n; symbols = p.symbols; entry = entry_of p.symbols })) zeros_are
+    ap (λ r. r >>= λ symbols. valuing symbols [] no_bytes start ss >>= λ images. program_good (program_of_placed images zeros symbols)) placed
+    ∙ (ap (λ r. r >>= λ images. program_good (program_of_placed images zeros p.symbols)) valued
+    ∙ (ap (λ (n : ℕ). program_good (record { text = p.text; bytes = p.bytes; zeros = n; symbols = p.symbols; entry = program_entry p.symbols })) zeros_are
     ∙ ap (λ (n : ℕ). program_good (record { text = p.text; bytes = p.bytes; zeros = p.zeros; symbols = p.symbols; entry = n })) (sym h.entry)))
 
 pub placed_is_assembled : (ss : List StatementValue) (p : ProgramValue) → Placed ss p → assembled ss ≡ Ok p

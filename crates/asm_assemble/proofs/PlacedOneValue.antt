@@ -3,25 +3,25 @@ use Rattle.std.proofs.Common.{◌≡◌, ℕ, ◌+◌, ◌%◌, ◌^◌, ◌<◌
 use Rattle.std.specs.Prelude.{◌&&◌, ◌||◌}
 use Rattle.std.specs.List.{list_any}
 use Rattle.std.proofs.lemmas.Bool.{eq-eqb}
-use Rattle.asm_parse.specs.Answer.{◌>>=◌}
-use Rattle.asm_parse.specs.Statement.{StatementValue, BodyValue}
-use Rattle.asm_parse.specs.declared.fault.FaultKind.TheVariants as kinds
-use Rattle.asm_parse.specs.declared.operand.Target.{Target}
-use Rattle.asm_parse.specs.declared.operand.Target.TheVariants as targets
-use Rattle.asm_parse.specs.declared.statement.Section.{Section}
-use Rattle.asm_parse.specs.declared.statement.Body.TheVariants as body
-use Rattle.asm_parse.specs.declared.statement.Instruction.{Instruction}
-use Rattle.asm_parse.specs.declared.statement.Instruction.TheVariants as read
+use Rattle.asm_statement.specs.Answer.{◌>>=◌}
+use Rattle.asm_statement.specs.Statement.{StatementValue, BodyValue}
+use Rattle.asm_statement.specs.declared.fault.FaultKind.TheVariants as kinds
+use Rattle.asm_statement.specs.declared.operand.Target.{Target}
+use Rattle.asm_statement.specs.declared.operand.Target.TheVariants as targets
+use Rattle.asm_statement.specs.declared.statement.Section.{Section}
+use Rattle.asm_statement.specs.declared.statement.Body.TheVariants as body
+use Rattle.asm_statement.specs.declared.statement.Instruction.{Instruction}
+use Rattle.asm_statement.specs.declared.statement.Instruction.TheVariants as read
 use Rattle.isa_table.specs.declared.instr.Instr.{Instr}
 use Rattle.asm_assemble.specs.declared.cursor.Cursor.{Cursor}
 use Rattle.asm_assemble.specs.declared.locals.Place.{Place}
 use Rattle.asm_assemble.specs.Program.{SymbolList}
 use Rattle.asm_assemble.specs.Numbers.{offset_of, distance}
-use Rattle.asm_assemble.specs.Operands.{found, address_of, defined, target_of}
-use Rattle.asm_assemble.specs.Instructions.{instr_of, offset_to}
-use Rattle.asm_assemble.specs.Cursors.{address, step}
-use Rattle.asm_assemble.specs.Locals.{Local, in_source, place_of, is_local, back_of, ahead_of, local_at, local_target, local_of}
-use Rattle.asm_assemble.specs.Valuing.{bytes_of}
+use Rattle.asm_assemble.specs.Operands.{found, operand_address, defined, operand_target}
+use Rattle.asm_assemble.specs.Instructions.{placed_instr, offset_to}
+use Rattle.asm_assemble.specs.Cursors.{cursor_address, stepped_cursor}
+use Rattle.asm_assemble.specs.Locals.{Local, in_source, local_place, is_local_name, back_of, ahead_of, local_label_at, local_target, local_label_of}
+use Rattle.asm_assemble.specs.Valuing.{valued_bytes}
 use Rattle.asm_assemble.specs.Placed.{Standing, HasNone, IsLastLocal, IsTarget, IsOffset, IsInstr, HasBytes}
 use Rattle.asm_assemble.proofs.PlacedCuts.{laid, stood, same_head, same_tail, none_is_some}
 
@@ -76,32 +76,32 @@ any_split test (x ∷ ss) s e = by (test x) e (any_split test ss s)
     by false e h = h e
 
 -- what is found with a statement more
-found_at : (locals : List Local) (source at : ℕ) (b : BodyValue) (digits : List ℕ) → is_local digits b ≡ true → found (local_at source at b ++ locals) digits ≡ Some (place_of source at)
-unfolding found local_at is_local
+found_at : (locals : List Local) (source at : ℕ) (b : BodyValue) (digits : List ℕ) → is_local_name digits b ≡ true → found (local_label_at source at b ++ locals) digits ≡ Some (local_place source at)
+unfolding found local_label_at is_local_name
 found_at locals source at (body.LocalLabel name) digits e = rw e refl
 found_at locals source at (body.Label name) digits e = absurd cc
 found_at locals source at (body.Instruction i) digits e = absurd cc
 found_at locals source at (body.Pseudo p) digits e = absurd cc
 found_at locals source at (body.Directive d) digits e = absurd cc
 
-found_past : (locals : List Local) (source at : ℕ) (b : BodyValue) (digits : List ℕ) → is_local digits b ≡ false → found (local_at source at b ++ locals) digits ≡ found locals digits
-unfolding found local_at is_local
+found_past : (locals : List Local) (source at : ℕ) (b : BodyValue) (digits : List ℕ) → is_local_name digits b ≡ false → found (local_label_at source at b ++ locals) digits ≡ found locals digits
+unfolding found local_label_at is_local_name
 found_past locals source at (body.LocalLabel name) digits e = rw e refl
 found_past locals source at (body.Label name) digits e = refl
 found_past locals source at (body.Instruction i) digits e = refl
 found_past locals source at (body.Pseudo p) digits e = refl
 found_past locals source at (body.Directive d) digits e = refl
 
-found_more : (locals : List Local) (done : List Standing) (s : Standing) → AreFound locals done → AreFound (local_at s.statement.source s.address s.statement.body ++ locals) (done ++ s ∷ [])
+found_more : (locals : List Local) (done : List Standing) (s : Standing) → AreFound locals done → AreFound (local_label_at s.statement.source s.address s.statement.body ++ locals) (done ++ s ∷ [])
 found_more locals done s h digits source at last = by (which done last.front last.back s last.label last.cut)
   where
     test : Standing → Bool
-    test s = is_local digits s.statement.body
+    test s = is_local_name digits s.statement.body
 
     by : IsLast last.front last.back s last.label ⊎ IsBefore done last.front last.back s last.label
-        → found (local_at s.statement.source s.address s.statement.body ++ locals) digits ≡ Some (place source at)
+        → found (local_label_at s.statement.source s.address s.statement.body ++ locals) digits ≡ Some (place source at)
     by (inl is) =
-        let here : is_local digits s.statement.body ≡ true = ap test is.0 ∙ last.is_label in
+        let here : is_local_name digits s.statement.body ≡ true = ap test is.0 ∙ last.is_label in
         let source_is : s.statement.source ≡ source = ap (λ (x : Standing). x.statement.source) is.0 ∙ last.in_source in
         let at_is : s.address % 2 ^ 32 ≡ at = ap (λ (x : Standing). x.address % 2 ^ 32) is.0 ∙ last.at_address in
         found_at locals s.statement.source s.address s.statement.body digits here
@@ -113,28 +113,28 @@ found_more locals done s h digits source at last = by (which done last.front las
 
 -- the labels before a statement, when it is done
 pub found_behind : (locals : List Local) (done : List Standing) (c : Cursor) (s : StatementValue) → AreFound locals done
-    → AreFound (local_at s.source (address c) s.body ++ locals) (done ++ stood c s ∷ [])
+    → AreFound (local_label_at s.source (cursor_address c) s.body ++ locals) (done ++ stood c s ∷ [])
 found_behind locals done c s h = found_more locals done (stood c s) h
 
 -- the next label after
 next_found : (c : Cursor) (ss : List StatementValue) (digits : List ℕ) (source at : ℕ) (front : List Standing) (label : Standing) (back : List Standing)
-    → laid c ss ≡ front ++ label ∷ back → is_local digits label.statement.body ≡ true → HasNone digits front → label.statement.source ≡ source → label.address % 2 ^ 32 ≡ at
+    → laid c ss ≡ front ++ label ∷ back → is_local_name digits label.statement.body ≡ true → HasNone digits front → label.statement.source ≡ source → label.address % 2 ^ 32 ≡ at
     → ahead_of c ss digits ≡ Some (place source at)
 unfolding laid ahead_of
 next_found c [] digits source at front label back cut is none in_this at_this = absurd (none_is_some label front back cut)
 next_found c (s ∷ ss) digits source at [] label back cut is none in_this at_this =
-    let same : stood c s ≡ label = same_head (stood c s) label (laid (step c s.body) ss) back cut in
-    let here : is_local digits s.body ≡ true = ap (λ (x : Standing). is_local digits x.statement.body) same ∙ is in
+    let same : stood c s ≡ label = same_head (stood c s) label (laid (stepped_cursor c s.body) ss) back cut in
+    let here : is_local_name digits s.body ≡ true = ap (λ (x : Standing). is_local_name digits x.statement.body) same ∙ is in
     let source_is : s.source ≡ source = ap (λ (x : Standing). x.statement.source) same ∙ in_this in
-    let at_is : address c % 2 ^ 32 ≡ at = ap (λ (x : Standing). x.address % 2 ^ 32) same ∙ at_this in
-    ap (λ b. cond b (Some (place_of s.source (address c))) (ahead_of (step c s.body) ss digits)) here
-    ∙ (ap (λ n. Some (place n (address c % 2 ^ 32))) source_is ∙ ap (λ n. Some (place source n)) at_is)
+    let at_is : cursor_address c % 2 ^ 32 ≡ at = ap (λ (x : Standing). x.address % 2 ^ 32) same ∙ at_this in
+    ap (λ b. cond b (Some (local_place s.source (cursor_address c))) (ahead_of (stepped_cursor c s.body) ss digits)) here
+    ∙ (ap (λ n. Some (place n (cursor_address c % 2 ^ 32))) source_is ∙ ap (λ n. Some (place source n)) at_is)
 next_found c (s ∷ ss) digits source at (x ∷ front) label back cut is none in_this at_this =
-    let same : stood c s ≡ x = same_head (stood c s) x (laid (step c s.body) ss) (front ++ label ∷ back) cut in
-    let split = neither (is_local digits x.statement.body) (list_any (λ s. is_local digits s.statement.body) front) none in
-    let past : is_local digits s.body ≡ false = ap (λ (x : Standing). is_local digits x.statement.body) same ∙ split.0 in
-    ap (λ b. cond b (Some (place_of s.source (address c))) (ahead_of (step c s.body) ss digits)) past
-    ∙ next_found (step c s.body) ss digits source at front label back (same_tail (stood c s) x (laid (step c s.body) ss) (front ++ label ∷ back) cut) is split.1 in_this at_this
+    let same : stood c s ≡ x = same_head (stood c s) x (laid (stepped_cursor c s.body) ss) (front ++ label ∷ back) cut in
+    let split = neither (is_local_name digits x.statement.body) (list_any (λ s. is_local_name digits s.statement.body) front) none in
+    let past : is_local_name digits s.body ≡ false = ap (λ (x : Standing). is_local_name digits x.statement.body) same ∙ split.0 in
+    ap (λ b. cond b (Some (local_place s.source (cursor_address c))) (ahead_of (stepped_cursor c s.body) ss digits)) past
+    ∙ next_found (stepped_cursor c s.body) ss digits source at front label back (same_tail (stood c s) x (laid (stepped_cursor c s.body) ss) (front ++ label ∷ back) cut) is split.1 in_this at_this
   where
     neither : (b c : Bool) → (b || c) ≡ false → (b ≡ false) × (c ≡ false)
     neither true c e = absurd cc
@@ -151,10 +151,10 @@ is_defined o to e = rw e refl
 -- ---- targets
 target_is : (symbols : SymbolList) (locals : List Local) (done : List Standing) (next : Cursor) (after : List StatementValue) (source : ℕ) (target : Target) (to : ℕ)
     → AreFound locals done → IsTarget symbols done source (laid next after) target to
-    → target_of symbols (local_target locals next after source target) target ≡ Ok to
-unfolding target_of local_target back_of
+    → operand_target symbols (local_target locals next after source target) target ≡ Ok to
+unfolding operand_target local_target back_of
 target_is symbols locals done next after source (targets.Address n) to h is = ap Ok (sym is)
-target_is symbols locals done next after source (targets.Symbol name) to h is = is_defined (address_of symbols name) to is
+target_is symbols locals done next after source (targets.Symbol name) to h is = is_defined (operand_address symbols name) to is
 target_is symbols locals done next after source (targets.Back digits) to h is =
     is_defined (in_source source (found locals digits)) to (ap (in_source source) (h digits source to is) ∙ in_this_source source to)
 target_is symbols locals done next after source (targets.Ahead digits) to h is =
@@ -178,8 +178,8 @@ offset_is width symbols locals done next after s target offset h is =
 -- ---- instructions
 instr_so : (symbols : SymbolList) (locals : List Local) (done : List Standing) (next : Cursor) (after : List StatementValue) (s : Standing) (i : Instruction) (j : Instr)
     → AreFound locals done → IsInstr symbols done s (laid next after) i j
-    → instr_of symbols (local_of locals next after s.statement.source (body.Instruction i)) s.address i ≡ Ok j
-unfolding instr_of local_of
+    → placed_instr symbols (local_label_of locals next after s.statement.source (body.Instruction i)) s.address i ≡ Ok j
+unfolding placed_instr local_label_of
 instr_so symbols locals done next after s (read.Fixed i) j h is = ap Ok (sym is)
 instr_so symbols locals done next after s (read.Lui rd imm) j h is = rw is.1 (ap Ok (sym is.2))
 instr_so symbols locals done next after s (read.Auipc rd imm) j h is = rw is.1 (ap Ok (sym is.2))
@@ -196,8 +196,8 @@ instr_so symbols locals done next after s (read.Shift op rd rs1 amount) j h is =
 -- the bytes of a statement
 pub body_so : (symbols : SymbolList) (locals : List Local) (done : List Standing) (next : Cursor) (after : List StatementValue) (section : Section) (s : Standing) (b : BodyValue) (bytes : List ℕ)
     → AreFound locals done → HasBytes symbols done s (laid next after) section b bytes
-    → bytes_of symbols (local_of locals next after s.statement.source b) section s.address b ≡ Ok bytes
-unfolding bytes_of
+    → valued_bytes symbols (local_label_of locals next after s.statement.source b) section s.address b ≡ Ok bytes
+unfolding valued_bytes
 body_so symbols locals done next after section s (body.Label name) bytes h is = ap Ok (sym is)
 body_so symbols locals done next after section s (body.LocalLabel digits) bytes h is = ap Ok (sym is)
 body_so symbols locals done next after section s (body.Instruction i) bytes h is =

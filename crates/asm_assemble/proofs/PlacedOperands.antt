@@ -5,25 +5,25 @@ use Rattle.std.specs.Map.{lookup}
 use Rattle.std.specs.Str.{bytes_eq}
 use Rattle.std.specs.List.{list_any}
 use Rattle.std.proofs.lemmas.Bool.{eqb-true}
-use Rattle.asm_parse.specs.Statement.{StatementValue, BodyValue}
-use Rattle.asm_parse.specs.declared.fault.FaultKind.TheVariants as kinds
-use Rattle.asm_parse.specs.declared.operand.Target.{Target}
-use Rattle.asm_parse.specs.declared.operand.Target.TheVariants as targets
-use Rattle.asm_parse.specs.declared.statement.Section.{Section}
-use Rattle.asm_parse.specs.declared.statement.Body.TheVariants as body
-use Rattle.asm_parse.specs.declared.statement.Instruction.{Instruction}
-use Rattle.asm_parse.specs.declared.statement.Instruction.TheVariants as read
+use Rattle.asm_statement.specs.Statement.{StatementValue, BodyValue}
+use Rattle.asm_statement.specs.declared.fault.FaultKind.TheVariants as kinds
+use Rattle.asm_statement.specs.declared.operand.Target.{Target}
+use Rattle.asm_statement.specs.declared.operand.Target.TheVariants as targets
+use Rattle.asm_statement.specs.declared.statement.Section.{Section}
+use Rattle.asm_statement.specs.declared.statement.Body.TheVariants as body
+use Rattle.asm_statement.specs.declared.statement.Instruction.{Instruction}
+use Rattle.asm_statement.specs.declared.statement.Instruction.TheVariants as read
 use Rattle.isa_table.specs.declared.instr.Instr.{Instr}
 use Rattle.isa_table.specs.declared.instr.Instr.TheVariants as instr
 use Rattle.asm_assemble.specs.declared.cursor.Cursor.{Cursor}
 use Rattle.asm_assemble.specs.declared.locals.Place.{Place}
 use Rattle.asm_assemble.specs.Program.{SymbolList}
 use Rattle.asm_assemble.specs.Numbers.{as_word, amount_of, is_signed_word, offset_of, distance}
-use Rattle.asm_assemble.specs.Operands.{found, address_of, defined, immediate_of, upper_of, target_of}
-use Rattle.asm_assemble.specs.Instructions.{instr_of, offset_to, pair_of}
-use Rattle.asm_assemble.specs.Cursors.{address, step}
-use Rattle.asm_assemble.specs.Locals.{Local, in_source, place_of, is_local, back_of, ahead_of, local_at, local_target, local_of}
-use Rattle.asm_assemble.specs.Valuing.{bytes_of, instr_bytes, pair_bytes}
+use Rattle.asm_assemble.specs.Operands.{found, operand_address, defined, immediate_of, upper_of, operand_target}
+use Rattle.asm_assemble.specs.Instructions.{placed_instr, offset_to, instr_pair}
+use Rattle.asm_assemble.specs.Cursors.{cursor_address, stepped_cursor}
+use Rattle.asm_assemble.specs.Locals.{Local, in_source, local_place, is_local_name, back_of, ahead_of, local_label_at, local_target, local_label_of}
+use Rattle.asm_assemble.specs.Valuing.{valued_bytes, instr_bytes, pair_bytes}
 use Rattle.asm_assemble.specs.Placed.{Standing, IsLastLocal, IsNextLocal, IsTarget, IsOffset, IsInstr, HasBytes}
 use Rattle.asm_assemble.proofs.PlacedCuts.{laid, stood}
 use Rattle.asm_assemble.proofs.PlacedSteps.{unbound, good_is}
@@ -60,32 +60,32 @@ any_push test (x ∷ ss) s e f = by (test x) e (any_push test ss s)
 
 -- a statement that is no such label
 last_kept : (digits : List ℕ) (source at : ℕ) (done : List Standing) (s : Standing) → IsLastLocal digits source at done
-    → is_local digits s.statement.body ≡ false → IsLastLocal digits source at (done ++ s ∷ [])
+    → is_local_name digits s.statement.body ≡ false → IsLastLocal digits source at (done ++ s ∷ [])
 last_kept digits source at done s h e = record {
   front = h.front;
   label = h.label;
   back = h.back ++ s ∷ [];
   cut = ap (λ (d : List Standing). d ++ s ∷ []) h.cut ∙ append_assoc h.front (h.label ∷ h.back) (s ∷ []);
   is_label = h.is_label;
-  no_other = any_push (λ s. is_local digits s.statement.body) h.back s h.no_other e;
+  no_other = any_push (λ s. is_local_name digits s.statement.body) h.back s h.no_other e;
   in_source = h.in_source;
   at_address = h.at_address;
 }
 
 -- a statement that is one
-last_new : (digits : List ℕ) (done : List Standing) (s : Standing) → is_local digits s.statement.body ≡ true
+last_new : (digits : List ℕ) (done : List Standing) (s : Standing) → is_local_name digits s.statement.body ≡ true
     → IsLastLocal digits s.statement.source (s.address % 2 ^ 32) (done ++ s ∷ [])
 last_new digits done s e = record { front = done; label = s; back = []; cut = refl; is_label = e; no_other = refl; in_source = refl; at_address = refl }
 
 -- the labels before, and a statement more
 last_more : (locals : List Local) (done : List Standing) (s : Standing) (b : BodyValue) → s.statement.body ≡ b → AreLast locals done
-    → AreLast (local_at s.statement.source s.address b ++ locals) (done ++ s ∷ [])
-unfolding local_at found is_local
+    → AreLast (local_label_at s.statement.source s.address b ++ locals) (done ++ s ∷ [])
+unfolding local_label_at found is_local_name
 last_more locals done s (body.LocalLabel name) is h digits place e = by (bytes_eq digits name) refl e
   where
-    by : (b : Bool) → bytes_eq digits name ≡ b → cond b (Some (place_of s.statement.source s.address)) (lookup (bytes_eq digits) locals) ≡ Some place
+    by : (b : Bool) → bytes_eq digits name ≡ b → cond b (Some (local_place s.statement.source s.address)) (lookup (bytes_eq digits) locals) ≡ Some place
         → IsLastLocal digits place.source place.address (done ++ s ∷ [])
-    by true f e = subst (λ (p : Place). IsLastLocal digits p.source p.address (done ++ s ∷ [])) (some_is (place_of s.statement.source s.address) place e)
+    by true f e = subst (λ (p : Place). IsLastLocal digits p.source p.address (done ++ s ∷ [])) (some_is (local_place s.statement.source s.address) place e)
         (last_new digits done s (rw is f))
     by false f e = last_kept digits place.source place.address done s (h digits place e) (rw is f)
 last_more locals done s (body.Label name) is h digits place e = last_kept digits place.source place.address done s (h digits place e) (rw is refl)
@@ -95,7 +95,7 @@ last_more locals done s (body.Directive d) is h digits place e = last_kept digit
 
 -- the labels before a statement, when it is done
 pub last_behind : (locals : List Local) (done : List Standing) (c : Cursor) (s : StatementValue) → AreLast locals done
-    → AreLast (local_at s.source (address c) s.body ++ locals) (done ++ stood c s ∷ [])
+    → AreLast (local_label_at s.source (cursor_address c) s.body ++ locals) (done ++ stood c s ∷ [])
 last_behind locals done c s h = last_more locals done (stood c s) s.body refl h
 
 pub none_before : AreLast [] []
@@ -107,14 +107,14 @@ next_label : (c : Cursor) (ss : List StatementValue) (digits : List ℕ) (place 
     → IsNextLocal digits place.source place.address (laid c ss)
 unfolding ahead_of laid
 next_label c [] digits place e = absurd cc
-next_label c (s ∷ ss) digits place e = by (is_local digits s.body) refl e (next_label (step c s.body) ss digits place)
+next_label c (s ∷ ss) digits place e = by (is_local_name digits s.body) refl e (next_label (stepped_cursor c s.body) ss digits place)
   where
-    by : (b : Bool) → is_local digits s.body ≡ b → cond b (Some (place_of s.source (address c))) (ahead_of (step c s.body) ss digits) ≡ Some place
-        → (ahead_of (step c s.body) ss digits ≡ Some place → IsNextLocal digits place.source place.address (laid (step c s.body) ss))
-        → IsNextLocal digits place.source place.address (stood c s ∷ laid (step c s.body) ss)
-    by true f e h = let same : place_of s.source (address c) ≡ place = some_is (place_of s.source (address c)) place e in
-        subst (λ (p : Place). IsNextLocal digits p.source p.address (stood c s ∷ laid (step c s.body) ss)) same
-        (record { front = []; label = stood c s; back = laid (step c s.body) ss; cut = refl; is_label = f; no_other = refl; in_source = refl; at_address = refl })
+    by : (b : Bool) → is_local_name digits s.body ≡ b → cond b (Some (local_place s.source (cursor_address c))) (ahead_of (stepped_cursor c s.body) ss digits) ≡ Some place
+        → (ahead_of (stepped_cursor c s.body) ss digits ≡ Some place → IsNextLocal digits place.source place.address (laid (stepped_cursor c s.body) ss))
+        → IsNextLocal digits place.source place.address (stood c s ∷ laid (stepped_cursor c s.body) ss)
+    by true f e h = let same : local_place s.source (cursor_address c) ≡ place = some_is (local_place s.source (cursor_address c)) place e in
+        subst (λ (p : Place). IsNextLocal digits p.source p.address (stood c s ∷ laid (stepped_cursor c s.body) ss)) same
+        (record { front = []; label = stood c s; back = laid (stepped_cursor c s.body) ss; cut = refl; is_label = f; no_other = refl; in_source = refl; at_address = refl })
     by false f e h = let next = h e in record {
       front = stood c s ∷ next.front;
       label = next.label;
@@ -133,11 +133,11 @@ was_defined (Some at) to e = ap some (good_is at to e)
 was_defined None to e = absurd cc
 
 is_target : (symbols : SymbolList) (locals : List Local) (done : List Standing) (next : Cursor) (after : List StatementValue) (source : ℕ) (target : Target) (to : ℕ)
-    → AreLast locals done → target_of symbols (local_target locals next after source target) target ≡ Ok to
+    → AreLast locals done → operand_target symbols (local_target locals next after source target) target ≡ Ok to
     → IsTarget symbols done source (laid next after) target to
-unfolding target_of local_target back_of
+unfolding operand_target local_target back_of
 is_target symbols locals done next after source (targets.Address n) to h e = sym (good_is (as_word n) to e)
-is_target symbols locals done next after source (targets.Symbol name) to h e = was_defined (address_of symbols name) to e
+is_target symbols locals done next after source (targets.Symbol name) to h e = was_defined (operand_address symbols name) to e
 is_target symbols locals done next after source (targets.Back digits) to h e =
     let place = from_source source (found locals digits) to (was_defined (in_source source (found locals digits)) to e) in
     subst (λ s. IsLastLocal digits s to done) place.2 (subst (λ a. IsLastLocal digits place.0.source a done) place.3 (h digits place.0 place.1))
@@ -170,7 +170,7 @@ is_offset : (width : ℕ) (symbols : SymbolList) (locals : List Local) (done : L
     → IsOffset width symbols done s (laid next after) target offset
 unfolding offset_to
 is_offset width symbols locals done next after s target offset h e =
-    let to = unbound (target_of symbols (local_target locals next after s.statement.source target) target) (λ to. offset_of width (distance s.address to)) offset e in
+    let to = unbound (operand_target symbols (local_target locals next after s.statement.source target) target) (λ to. offset_of width (distance s.address to)) offset e in
     let was = was_offset width (distance s.address to.value) offset to.then in
     record {
       to = to.value;
@@ -183,9 +183,9 @@ is_offset width symbols locals done next after s target offset h e =
 
 -- ---- instructions
 instr_is : (symbols : SymbolList) (locals : List Local) (done : List Standing) (next : Cursor) (after : List StatementValue) (s : Standing) (i : Instruction) (j : Instr)
-    → AreLast locals done → instr_of symbols (local_of locals next after s.statement.source (body.Instruction i)) s.address i ≡ Ok j
+    → AreLast locals done → placed_instr symbols (local_label_of locals next after s.statement.source (body.Instruction i)) s.address i ≡ Ok j
     → IsInstr symbols done s (laid next after) i j
-unfolding instr_of local_of
+unfolding placed_instr local_label_of
 instr_is symbols locals done next after s (read.Fixed i) j h e = sym (good_is i j e)
 instr_is symbols locals done next after s (read.Lui rd imm) j h e =
     let high = unbound (upper_of symbols imm) (λ high. Ok (instr.Lui rd high)) j e in
@@ -219,15 +219,15 @@ instr_is symbols locals done next after s (read.Shift op rd rs1 amount) j h e =
 
 -- the bytes of a statement, its operands valued
 pub body_bytes : (symbols : SymbolList) (locals : List Local) (done : List Standing) (next : Cursor) (after : List StatementValue) (section : Section) (s : Standing) (b : BodyValue) (bytes : List ℕ)
-    → AreLast locals done → bytes_of symbols (local_of locals next after s.statement.source b) section s.address b ≡ Ok bytes
+    → AreLast locals done → valued_bytes symbols (local_label_of locals next after s.statement.source b) section s.address b ≡ Ok bytes
     → HasBytes symbols done s (laid next after) section b bytes
-unfolding bytes_of
+unfolding valued_bytes
 body_bytes symbols locals done next after section s (body.Label name) bytes h e = sym (good_is [] bytes e)
 body_bytes symbols locals done next after section s (body.LocalLabel digits) bytes h e = sym (good_is [] bytes e)
 body_bytes symbols locals done next after section s (body.Instruction i) bytes h e =
-    let made = unbound (instr_of symbols (local_of locals next after s.statement.source (body.Instruction i)) s.address i) (λ j. Ok (instr_bytes j)) bytes e in
+    let made = unbound (placed_instr symbols (local_label_of locals next after s.statement.source (body.Instruction i)) s.address i) (λ j. Ok (instr_bytes j)) bytes e in
     (made.value, instr_is symbols locals done next after s i made.value h made.was, sym (good_is (instr_bytes made.value) bytes made.then))
 body_bytes symbols locals done next after section s (body.Pseudo p) bytes h e =
-    let made = unbound (pair_of symbols s.address p) (λ pair. Ok (pair_bytes pair.first pair.second)) bytes e in
+    let made = unbound (instr_pair symbols s.address p) (λ pair. Ok (pair_bytes pair.first pair.second)) bytes e in
     (made.value, made.was, sym (good_is (pair_bytes made.value.first made.value.second) bytes made.then))
 body_bytes symbols locals done next after section s (body.Directive d) bytes h e = e

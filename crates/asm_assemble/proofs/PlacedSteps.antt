@@ -1,7 +1,7 @@
 -- Steps that succeeded.
 use Rattle.std.proofs.Common.{◌≡◌, Result, Ok, Err, refl}
-use Rattle.asm_parse.specs.Answer.{◌>>=◌}
-use Rattle.asm_parse.specs.declared.fault.FaultKind.{FaultKind}
+use Rattle.asm_statement.specs.Answer.{◌>>=◌}
+use Rattle.asm_statement.specs.declared.fault.FaultKind.{FaultKind}
 
 -- a step that succeeded
 pub record Unbound {E X Y : Type 0} (r : Result X E) (next : X → Result Y E) (y : Y) : Type 0 where

@@ -5,19 +5,19 @@ use Rattle.std.specs.Map.{lookup}
 use Rattle.std.specs.Str.{bytes_eq}
 use Rattle.std.specs.List.{list_any}
 use Rattle.std.proofs.lemmas.Slice.Eq.{bytes_eq-Decides}
-use Rattle.asm_parse.specs.Statement.{StatementValue, BodyValue}
-use Rattle.asm_parse.specs.declared.statement.Section.{Section}
-use Rattle.asm_parse.specs.declared.statement.Body.TheVariants as body
-use Rattle.asm_parse.specs.declared.statement.Directive.TheVariants as directive
+use Rattle.asm_statement.specs.Statement.{StatementValue, BodyValue}
+use Rattle.asm_statement.specs.declared.statement.Section.{Section}
+use Rattle.asm_statement.specs.declared.statement.Body.TheVariants as body
+use Rattle.asm_statement.specs.declared.statement.Directive.TheVariants as directive
 use Rattle.asm_assemble.specs.declared.cursor.Cursor.{Cursor}
 use Rattle.asm_assemble.specs.Program.{SymbolList}
-use Rattle.asm_assemble.specs.Cursors.{address, step}
+use Rattle.asm_assemble.specs.Cursors.{cursor_address, stepped_cursor}
 use Rattle.asm_assemble.specs.Operands.{found}
-use Rattle.asm_assemble.specs.Placing.{Globals, with_names, with_globals, globals_from, symbols_at, unless, place_fault, own_fault, is_at, placing}
+use Rattle.asm_assemble.specs.Placing.{Globals, with_names, with_globals, globals_from, placed_symbols_at, unless_faulted, place_fault, own_fault, is_at, placing}
 use Rattle.std.specs.Option.{option_or}
-use Rattle.asm_parse.specs.declared.fault.Fault.{Fault}
-use Rattle.asm_parse.specs.declared.fault.FaultKind.{FaultKind}
-use Rattle.asm_parse.specs.declared.fault.FaultKind.TheVariants as kinds
+use Rattle.asm_statement.specs.declared.fault.Fault.{Fault}
+use Rattle.asm_statement.specs.declared.fault.FaultKind.{FaultKind}
+use Rattle.asm_statement.specs.declared.fault.FaultKind.TheVariants as kinds
 use Rattle.std.specs.Prelude.{if◌then◌else◌}
 use Rattle.asm_assemble.specs.Placed.{makes_global, is_global, symbol_at}
 use Rattle.asm_assemble.proofs.PlacedCuts.{laid}
@@ -88,14 +88,14 @@ statement_found seen (body.Pseudo n) q = or_false (is_some (found seen q))
 globals_found : (seen : Globals) (c : Cursor) (ss : List StatementValue) (q : List ℕ) → is_some (found (globals_from seen ss) q) ≡ (is_some (found seen q) || is_global (laid c ss) q)
 unfolding globals_from laid
 globals_found seen c [] q = or_false (is_some (found seen q))
-globals_found seen c (s ∷ ss) q = globals_found (with_globals seen s.body) (step c s.body) ss q
-    ∙ (ap (λ b. b || is_global (laid (step c s.body) ss) q) (statement_found seen s.body q)
-    ∙ or_assoc (is_some (found seen q)) (makes_global q s.body) (is_global (laid (step c s.body) ss) q))
+globals_found seen c (s ∷ ss) q = globals_found (with_globals seen s.body) (stepped_cursor c s.body) ss q
+    ∙ (ap (λ b. b || is_global (laid (stepped_cursor c s.body) ss) q) (statement_found seen s.body q)
+    ∙ or_assoc (is_some (found seen q)) (makes_global q s.body) (is_global (laid (stepped_cursor c s.body) ss) q))
 
 -- a statement's symbol
 pub same_symbol : (c : Cursor) (ss : List StatementValue) (section : Section) (at : ℕ) (b : BodyValue)
-    → symbols_at (globals_from [] ss) section at b ≡ symbol_at (laid c ss) section at b
-unfolding symbols_at found
+    → placed_symbols_at (globals_from [] ss) section at b ≡ symbol_at (laid c ss) section at b
+unfolding placed_symbols_at found
 same_symbol c ss section at (body.Label name) = ap (λ global. (name, record { section = section; address = at % 2 ^ 32; global = global }) ∷ []) (globals_found [] c ss name)
 same_symbol c ss section at (body.LocalLabel n) = refl
 same_symbol c ss section at (body.Instruction n) = refl
@@ -110,7 +110,7 @@ goods_are : (xs ys : SymbolList) → goods xs ≡ goods ys → xs ≡ ys
 goods_are xs ys e = cc
 
 -- if the phase goes on, the statement has no fault
-pub no_fault : (o : Option FaultKind) (s : StatementValue) (rest : Result SymbolList Fault) (symbols : SymbolList) → unless o s rest ≡ Ok symbols → (o ≡ None) × (rest ≡ Ok symbols)
+pub no_fault : (o : Option FaultKind) (s : StatementValue) (rest : Result SymbolList Fault) (symbols : SymbolList) → unless_faulted o s rest ≡ Ok symbols → (o ≡ None) × (rest ≡ Ok symbols)
 no_fault None s rest symbols e = (refl, e)
 no_fault (Some kind) s rest symbols e = absurd cc
 
@@ -126,14 +126,14 @@ no_own seen heavy at b e = by (own_fault seen at b) e
 -- all symbols, after those seen
 unfoldable pub all_symbols : (globals : Globals) (c : Cursor) (ss : List StatementValue) → SymbolList
 all_symbols globals c [] = []
-all_symbols globals c (s ∷ ss) = symbols_at globals c.section (address c) s.body ++ all_symbols globals (step c s.body) ss
+all_symbols globals c (s ∷ ss) = placed_symbols_at globals c.section (cursor_address c) s.body ++ all_symbols globals (stepped_cursor c s.body) ss
 
 pub placed_symbols : (globals : Globals) (seen : SymbolList) (heavy : Option ℕ) (i : ℕ) (c : Cursor) (ss : List StatementValue) (symbols : SymbolList)
     → placing globals seen heavy i c ss ≡ Ok symbols → symbols ≡ seen ++ all_symbols globals c ss
 unfolding placing all_symbols
 placed_symbols globals seen heavy i c [] symbols e = sym (goods_are seen symbols e) ∙ sym (append-nil seen)
 placed_symbols globals seen heavy i c (s ∷ ss) symbols e =
-    let new = symbols_at globals c.section (address c) s.body in
-    let goes = no_fault (place_fault seen (is_at heavy i) (address c) s.body) s (placing globals (seen ++ new) heavy (i + 1) (step c s.body) ss) symbols e in
-    placed_symbols globals (seen ++ new) heavy (i + 1) (step c s.body) ss symbols goes.1
-    ∙ append_assoc seen new (all_symbols globals (step c s.body) ss)
+    let new = placed_symbols_at globals c.section (cursor_address c) s.body in
+    let goes = no_fault (place_fault seen (is_at heavy i) (cursor_address c) s.body) s (placing globals (seen ++ new) heavy (i + 1) (stepped_cursor c s.body) ss) symbols e in
+    placed_symbols globals (seen ++ new) heavy (i + 1) (stepped_cursor c s.body) ss symbols goes.1
+    ∙ append_assoc seen new (all_symbols globals (stepped_cursor c s.body) ss)

@@ -1,15 +1,15 @@
 -- An assembled program has its statements where one symbol table puts them.
 use Rattle.std.proofs.Common.{◌≡◌, ℕ, ◌+◌, ◌-◌, List, [], Result, Ok, refl, ◌∙◌, arith, subst}
-use Rattle.asm_parse.specs.Answer.{◌>>=◌}
-use Rattle.asm_parse.specs.Statement.{StatementValue}
-use Rattle.asm_parse.specs.declared.fault.Fault.{Fault}
-use Rattle.asm_parse.specs.declared.statement.Section.TheVariants as sections
+use Rattle.asm_statement.specs.Answer.{◌>>=◌}
+use Rattle.asm_statement.specs.Statement.{StatementValue}
+use Rattle.asm_statement.specs.declared.fault.Fault.{Fault}
+use Rattle.asm_statement.specs.declared.statement.Section.TheVariants as sections
 use Rattle.asm_assemble.specs.Program.{SymbolList, ProgramValue}
 use Rattle.asm_assemble.specs.Cursors.{cursor_after}
 use Rattle.asm_assemble.specs.Placing.{globals_from, placing}
 use Rattle.asm_assemble.specs.Valuing.{Images, valuing, no_bytes}
-use Rattle.asm_assemble.specs.Assembled.{start_at, first_cursor, heavy_of, entry_of, program_of, assembled}
-use Rattle.asm_assemble.specs.Placed.{taken, StandsThere, symbols_in, IsFit, Holds, Placed}
+use Rattle.asm_assemble.specs.Assembled.{start_at, first_cursor, heavy_of, program_entry, program_of_placed, assembled}
+use Rattle.asm_assemble.specs.Placed.{taken, StandsThere, placed_symbols_in, IsFit, Holds, Placed}
 use Rattle.asm_assemble.proofs.PlacedCuts.{laid, each_cut, laid_statements}
 use Rattle.asm_assemble.proofs.PlacedAddresses.{IsBehind, all_stand, behind_all}
 use Rattle.asm_assemble.proofs.PlacedBases.{bases_of, behind_none, are_bases}
@@ -32,7 +32,7 @@ behind_base base n size e = omega (arith, e)
 -- the symbols of all statements
 symbols_are : (ss : List StatementValue) (symbols : SymbolList)
     → placing (globals_from [] ss) [] (heavy_of (first_cursor ss) (cursor_after (first_cursor ss) ss) ss) 0 (first_cursor ss) ss ≡ Ok symbols
-    → symbols ≡ symbols_in (laid (first_cursor ss) ss) (laid (first_cursor ss) ss)
+    → symbols ≡ placed_symbols_in (laid (first_cursor ss) ss) (laid (first_cursor ss) ss)
 symbols_are ss symbols e =
     let start = first_cursor ss in
     placed_symbols (globals_from [] ss) [] (heavy_of start (cursor_after start ss) ss) 0 start ss symbols e ∙ symbols_laid start ss start ss
@@ -41,8 +41,8 @@ symbols_are ss symbols e =
 phases_placed : (ss : List StatementValue) (symbols : SymbolList) (images : Images)
     → placing (globals_from [] ss) [] (heavy_of (first_cursor ss) (cursor_after (first_cursor ss) ss) ss) 0 (first_cursor ss) ss ≡ Ok symbols
     → valuing symbols [] no_bytes (first_cursor ss) ss ≡ Ok images
-    → Placed ss (program_of images ((cursor_after (first_cursor ss) ss).zeros_at - (first_cursor ss).zeros_at) symbols)
-unfolding program_of entry_of symbols_in first_cursor start_at
+    → Placed ss (program_of_placed images ((cursor_after (first_cursor ss) ss).zeros_at - (first_cursor ss).zeros_at) symbols)
+unfolding program_of_placed program_entry placed_symbols_in first_cursor start_at
 phases_placed ss symbols images placed valued =
     let start = first_cursor ss in
     let end = cursor_after start ss in
@@ -60,10 +60,10 @@ phases_placed ss symbols images placed valued =
         begins = are_bases ss;
         stands = each_cut (λ before s after. StandsThere bases before s) [] all (all_stand bases [] start ss (behind_none ss));
         symbols = symbols_are ss symbols placed;
-        fits = each_cut (λ before s after. IsFit symbols (symbols_in all before) s.address s.statement.body) [] all
+        fits = each_cut (λ before s after. IsFit symbols (placed_symbols_in all before) s.address s.statement.body) [] all
             (all_fit start ss symbols (heavy_of start end ss) 0 [] start ss placed);
-        holds = each_cut (λ before s after. Holds s.section bases (program_of images zeros symbols) before s after) [] all
-            (all_hold bases zeros (entry_of symbols) symbols [] [] no_bytes images start ss none_before none (behind_none ss) valued);
+        holds = each_cut (λ before s after. Holds s.section bases (program_of_placed images zeros symbols) before s after) [] all
+            (all_hold bases zeros (program_entry symbols) symbols [] [] no_bytes images start ss none_before none (behind_none ss) valued);
         text_size = sized.text_sized;
         data_size = sized.data_sized;
         zeros_size = behind_base start.zeros_at end.zeros_at (taken sections.Zeros all) (behind.at_end sections.Zeros);
@@ -79,7 +79,7 @@ assembled_is_placed ss p e =
     let end = cursor_after start ss in
     let zeros = end.zeros_at - start.zeros_at in
     let symbols = unbound (placing (globals_from [] ss) [] (heavy_of start end ss) 0 start ss)
-    (λ symbols. valuing symbols [] no_bytes start ss >>= λ images. good (program_of images zeros symbols)) p e in
-    let images = unbound (valuing symbols.value [] no_bytes start ss) (λ images. good (program_of images zeros symbols.value)) p symbols.then in
-    subst (Placed ss) (good_is (program_of images.value zeros symbols.value) p images.then)
+    (λ symbols. valuing symbols [] no_bytes start ss >>= λ images. good (program_of_placed images zeros symbols)) p e in
+    let images = unbound (valuing symbols.value [] no_bytes start ss) (λ images. good (program_of_placed images zeros symbols.value)) p symbols.then in
+    subst (Placed ss) (good_is (program_of_placed images.value zeros symbols.value) p images.then)
     (phases_placed ss symbols.value images.value symbols.was images.was)

@@ -6,38 +6,38 @@ use Rattle.std.specs.Int.{w16, w32, to_le_bytes}
 use Rattle.std.specs.List.{list_all}
 use Rattle.std.proofs.lemmas.List.{length-replicate}
 use Rattle.std.proofs.lemmas.Bool.{ltb-false, eqb-true, eqb-false}
-use Rattle.asm_parse.specs.Answer.{◌>>=◌}
-use Rattle.asm_parse.specs.Statement.{StatementValue, BodyValue, DirectiveValue}
-use Rattle.asm_parse.specs.declared.fault.Fault.{Fault}
-use Rattle.asm_parse.specs.declared.fault.FaultKind.{FaultKind}
-use Rattle.asm_parse.specs.declared.fault.FaultKind.TheVariants as kinds
-use Rattle.asm_parse.specs.declared.operand.Value.{Value}
-use Rattle.asm_parse.specs.declared.statement.Section.{Section}
-use Rattle.asm_parse.specs.declared.statement.Section.TheVariants as sections
-use Rattle.asm_parse.specs.declared.statement.Body.TheVariants as body
-use Rattle.asm_parse.specs.declared.statement.Directive.TheVariants as directive
-use Rattle.asm_parse.specs.declared.statement.Pseudo.{Pseudo}
-use Rattle.asm_parse.specs.declared.statement.Pseudo.TheVariants as pseudo
+use Rattle.asm_statement.specs.Answer.{◌>>=◌}
+use Rattle.asm_statement.specs.Statement.{StatementValue, BodyValue, DirectiveValue}
+use Rattle.asm_statement.specs.declared.fault.Fault.{Fault}
+use Rattle.asm_statement.specs.declared.fault.FaultKind.{FaultKind}
+use Rattle.asm_statement.specs.declared.fault.FaultKind.TheVariants as kinds
+use Rattle.asm_statement.specs.declared.operand.Value.{Value}
+use Rattle.asm_statement.specs.declared.statement.Section.{Section}
+use Rattle.asm_statement.specs.declared.statement.Section.TheVariants as sections
+use Rattle.asm_statement.specs.declared.statement.Body.TheVariants as body
+use Rattle.asm_statement.specs.declared.statement.Directive.TheVariants as directive
+use Rattle.asm_statement.specs.declared.statement.Pseudo.{Pseudo}
+use Rattle.asm_statement.specs.declared.statement.Pseudo.TheVariants as pseudo
 use Rattle.isa_table.specs.declared.instr.Instr.{Instr}
 use Rattle.isa_table.specs.declared.instr.Instr.TheVariants as instr
 use Rattle.asm_assemble.specs.declared.cursor.Cursor.{Cursor}
 use Rattle.asm_assemble.specs.declared.instruction.Pair.{Pair}
 use Rattle.asm_assemble.specs.Program.{text_start, program_limit}
 use Rattle.asm_assemble.specs.Program.{SymbolList, IsWithinLimit, segment_size, round_up}
-use Rattle.asm_assemble.specs.Numbers.{as_word, lo, hi, is_signed_word, is_between, distance}
-use Rattle.asm_assemble.specs.Operands.{value_of, symbol_value}
-use Rattle.asm_assemble.specs.Instructions.{addi, instr_of, pair_of, li_pair, la_pair, jump_pair, is_short, pseudo_size}
-use Rattle.asm_assemble.specs.Cursors.{align_size, directive_size, size, address, address_in, moved, section_of, step, cursor_after}
-use Rattle.asm_assemble.specs.Locals.{Local, local_at, local_of}
-use Rattle.asm_assemble.specs.Placing.{Globals, own_fault, place_fault, symbols_at, unless, last_sized, placing}
-use Rattle.asm_assemble.specs.Valuing.{instr_bytes, pair_bytes, fits_word, word_list, half_list, byte_list, where_fits, nops, padding, directive_bytes, bytes_of, bytes_in, Images, put, said_at, valuing, no_bytes}
+use Rattle.asm_assemble.specs.Numbers.{as_word, lo, hi, is_signed_word, is_in_range, distance}
+use Rattle.asm_assemble.specs.Operands.{valued_operand, symbol_value}
+use Rattle.asm_assemble.specs.Instructions.{addi, placed_instr, instr_pair, li_pair, la_pair, jump_pair, is_short, pseudo_size}
+use Rattle.asm_assemble.specs.Cursors.{align_size, directive_size, size, cursor_address, address_in, advanced, section_of, stepped_cursor, cursor_after}
+use Rattle.asm_assemble.specs.Locals.{Local, local_label_at, local_label_of}
+use Rattle.asm_assemble.specs.Placing.{Globals, own_fault, place_fault, placed_symbols_at, unless_faulted, last_sized, placing}
+use Rattle.asm_assemble.specs.Valuing.{instr_bytes, pair_bytes, fits_word, word_list, half_list, byte_list, where_fits, nops, padding, directive_bytes, valued_bytes, bytes_in, Images, put_bytes, said_at, valuing, no_bytes}
 use Rattle.asm_assemble.specs.Assembled.{is_too_large, heavy_of, first_cursor, start_at}
 
 -- ---- the bytes of one statement
 length_words : (symbols : SymbolList) (vs : List Value) (bytes : List ℕ) → word_list symbols vs ≡ Ok bytes → length bytes ≡ 4 * length vs
 unfolding word_list
 length_words symbols [] bytes e = let same : bytes ≡ [] = cc in ap length same
-length_words symbols (v ∷ vs) bytes e = by (value_of symbols v) (word_list symbols vs) (λ more same. length_words symbols vs more same) e
+length_words symbols (v ∷ vs) bytes e = by (valued_operand symbols v) (word_list symbols vs) (λ more same. length_words symbols vs more same) e
   where
     by : (r : Result ℕ FaultKind) (rest : Result (List ℕ) FaultKind) → ((more : List ℕ) → rest ≡ Ok more → length more ≡ 4 * length vs)
         → (r >>= λ word. rest >>= λ more. Ok (to_le_bytes w32 word ++ more)) ≡ Ok bytes → length bytes ≡ 4 * length (v ∷ vs)
@@ -82,9 +82,9 @@ length_li rd word = by (is_signed_word 12 word) (lo word == 0)
     by false true = refl
     by false false = refl
 
-length_pseudo : (symbols : SymbolList) (at : ℕ) (p : Pseudo) (bytes : List ℕ) → (pair_of symbols at p >>= λ pair. Ok (pair_bytes pair.first pair.second)) ≡ Ok bytes → length bytes ≡ pseudo_size p
-unfolding pair_of pseudo_size pair_bytes instr_bytes la_pair jump_pair
-length_pseudo symbols at (pseudo.Li rd number) bytes e = by (is_between (2 ^ 31) (2 ^ 64) number) e
+length_pseudo : (symbols : SymbolList) (at : ℕ) (p : Pseudo) (bytes : List ℕ) → (instr_pair symbols at p >>= λ pair. Ok (pair_bytes pair.first pair.second)) ≡ Ok bytes → length bytes ≡ pseudo_size p
+unfolding instr_pair pseudo_size pair_bytes instr_bytes la_pair jump_pair
+length_pseudo symbols at (pseudo.Li rd number) bytes e = by (is_in_range (2 ^ 31) (2 ^ 64) number) e
   where
     by : (fits : Bool) → ((if fits then Ok (li_pair rd (as_word number)) else Err kinds.Range) >>= λ pair. Ok (pair_bytes pair.first pair.second)) ≡ Ok bytes
         → length bytes ≡ (if is_short (as_word number) then 4 else 8)
@@ -124,18 +124,18 @@ length_directive symbols section at (directive.Align n) bytes e = length_ok (pad
 length_directive symbols section at (directive.Zero count) bytes e = length_ok (replicate count 0) bytes count (length-replicate {A = ℕ} count 0) e
 length_directive symbols section at (directive.Words vs) bytes e = length_fitting (list_all fits_word vs) (word_list symbols vs) bytes (4 * length vs) (length_words symbols vs) e
 length_directive symbols section at (directive.Halves ns) bytes e =
-    length_fitting (list_all (is_between (2 ^ 15) (2 ^ 16)) ns) (Ok (half_list ns)) bytes (2 * length ns) (λ made. length_ok (half_list ns) made (2 * length ns) (length_halves ns)) e
+    length_fitting (list_all (is_in_range (2 ^ 15) (2 ^ 16)) ns) (Ok (half_list ns)) bytes (2 * length ns) (λ made. length_ok (half_list ns) made (2 * length ns) (length_halves ns)) e
 length_directive symbols section at (directive.Bytes ns) bytes e =
-    length_fitting (list_all (is_between (2 ^ 7) (2 ^ 8)) ns) (Ok (byte_list ns)) bytes (length ns) (λ made. length_ok (byte_list ns) made (length ns) (length_numbers ns)) e
+    length_fitting (list_all (is_in_range (2 ^ 7) (2 ^ 8)) ns) (Ok (byte_list ns)) bytes (length ns) (λ made. length_ok (byte_list ns) made (length ns) (length_numbers ns)) e
 length_directive symbols section at (directive.Ascii text) bytes e = length_ok text bytes (length text) refl e
 length_directive symbols section at (directive.Global names) bytes e = length_ok [] bytes 0 refl e
 
 -- a statement has as many bytes as its size
-pub size_is : (symbols : SymbolList) (local : Option ℕ) (section : Section) (at : ℕ) (b : BodyValue) (bytes : List ℕ) → bytes_of symbols local section at b ≡ Ok bytes → length bytes ≡ size at b
-unfolding bytes_of size instr_bytes
+pub size_is : (symbols : SymbolList) (local : Option ℕ) (section : Section) (at : ℕ) (b : BodyValue) (bytes : List ℕ) → valued_bytes symbols local section at b ≡ Ok bytes → length bytes ≡ size at b
+unfolding valued_bytes size instr_bytes
 size_is symbols local section at (body.Label name) bytes e = length_ok [] bytes 0 refl e
 size_is symbols local section at (body.LocalLabel digits) bytes e = length_ok [] bytes 0 refl e
-size_is symbols local section at (body.Instruction i) bytes e = by (instr_of symbols local at i) e
+size_is symbols local section at (body.Instruction i) bytes e = by (placed_instr symbols local at i) e
   where
     by : (r : Result Instr FaultKind) → (r >>= λ i. Ok (instr_bytes i)) ≡ Ok bytes → length bytes ≡ 4
     by (Ok i) e = length_ok (instr_bytes i) bytes 4 refl e
@@ -146,9 +146,9 @@ size_is symbols local section at (body.Directive d) bytes e = length_directive s
 -- ---- the sections after statements
 -- what is put in a section moves its cursor
 put_moves : (symbols : SymbolList) (local : Option ℕ) (section : Section) (c : Cursor) (done : Images) (b : BodyValue) (bytes : List ℕ) → bytes_in symbols local section (address_in section c) b ≡ Ok bytes
-    → (length (put section done bytes).text_bytes + c.text_at ≡ length done.text_bytes + (moved section c (size (address_in section c) b)).text_at)
-    × (length (put section done bytes).data_bytes + c.data_at ≡ length done.data_bytes + (moved section c (size (address_in section c) b)).data_at)
-unfolding bytes_in put
+    → (length (put_bytes section done bytes).text_bytes + c.text_at ≡ length done.text_bytes + (advanced section c (size (address_in section c) b)).text_at)
+    × (length (put_bytes section done bytes).data_bytes + c.data_at ≡ length done.data_bytes + (advanced section c (size (address_in section c) b)).data_at)
+unfolding bytes_in put_bytes
 put_moves symbols local sections.Text c done b bytes e =
     (omega (arith, length-append done.text_bytes bytes, size_is symbols local sections.Text c.text_at b bytes e), refl)
 put_moves symbols local sections.Data c done b bytes e =
@@ -156,15 +156,15 @@ put_moves symbols local sections.Data c done b bytes e =
 put_moves symbols local sections.Zeros c done b bytes e = (refl, refl)
 
 -- a change of the section is of size 0
-switch_moves : (section : Section) (c : Cursor) → ((moved section c 0).text_at ≡ c.text_at) × ((moved section c 0).data_at ≡ c.data_at) × ((moved section c 0).zeros_at ≡ c.zeros_at)
+switch_moves : (section : Section) (c : Cursor) → ((advanced section c 0).text_at ≡ c.text_at) × ((advanced section c 0).data_at ≡ c.data_at) × ((advanced section c 0).zeros_at ≡ c.zeros_at)
 switch_moves sections.Text c = (omega arith, refl, refl)
 switch_moves sections.Data c = (refl, omega arith, refl)
 switch_moves sections.Zeros c = (refl, refl, omega arith)
 
 step_moves : (c : Cursor) (b : BodyValue)
-    → ((step c b).text_at ≡ (moved c.section c (size (address c) b)).text_at) × ((step c b).data_at ≡ (moved c.section c (size (address c) b)).data_at)
-    × ((step c b).zeros_at ≡ (moved c.section c (size (address c) b)).zeros_at)
-unfolding step section_of size directive_size
+    → ((stepped_cursor c b).text_at ≡ (advanced c.section c (size (cursor_address c) b)).text_at) × ((stepped_cursor c b).data_at ≡ (advanced c.section c (size (cursor_address c) b)).data_at)
+    × ((stepped_cursor c b).zeros_at ≡ (advanced c.section c (size (cursor_address c) b)).zeros_at)
+unfolding stepped_cursor section_of size directive_size
 step_moves c (body.Label name) = (refl, refl, refl)
 step_moves c (body.LocalLabel digits) = (refl, refl, refl)
 step_moves c (body.Instruction i) = (refl, refl, refl)
@@ -182,21 +182,21 @@ step_moves c (body.Directive (directive.Global names)) = (refl, refl, refl)
 -- the sections have as many bytes as the cursor has gone on
 pub valuing_sizes : (symbols : SymbolList) (before : List Local) (done : Images) (c : Cursor) (ss : List StatementValue) (images : Images) → valuing symbols before done c ss ≡ Ok images
     → (length images.text_bytes + c.text_at ≡ length done.text_bytes + (cursor_after c ss).text_at) × (length images.data_bytes + c.data_at ≡ length done.data_bytes + (cursor_after c ss).data_at)
-unfolding valuing cursor_after address said_at
+unfolding valuing cursor_after cursor_address said_at
 valuing_sizes symbols before done c [] images e = let same : images ≡ done = cc in (ap (λ i. length i.text_bytes + c.text_at) same, ap (λ i. length i.data_bytes + c.data_at) same)
 valuing_sizes symbols before done c (s ∷ ss) images e =
-    by (bytes_in symbols (local_of before (step c s.body) ss s.source s.body) c.section (address c) s.body) refl
-    (λ bytes. valuing_sizes symbols (local_at s.source (address c) s.body ++ before) (put c.section done bytes) (step c s.body) ss images) e
+    by (bytes_in symbols (local_label_of before (stepped_cursor c s.body) ss s.source s.body) c.section (cursor_address c) s.body) refl
+    (λ bytes. valuing_sizes symbols (local_label_at s.source (cursor_address c) s.body ++ before) (put_bytes c.section done bytes) (stepped_cursor c s.body) ss images) e
   where
-    by : (r : Result (List ℕ) FaultKind) → bytes_in symbols (local_of before (step c s.body) ss s.source s.body) c.section (address c) s.body ≡ r
-        → ((bytes : List ℕ) → valuing symbols (local_at s.source (address c) s.body ++ before) (put c.section done bytes) (step c s.body) ss ≡ Ok images
-        → (length images.text_bytes + (step c s.body).text_at ≡ length (put c.section done bytes).text_bytes + (cursor_after (step c s.body) ss).text_at)
-        × (length images.data_bytes + (step c s.body).data_at ≡ length (put c.section done bytes).data_bytes + (cursor_after (step c s.body) ss).data_at))
-        → (said_at s r >>= λ bytes. valuing symbols (local_at s.source (address c) s.body ++ before) (put c.section done bytes) (step c s.body) ss) ≡ Ok images
-        → (length images.text_bytes + c.text_at ≡ length done.text_bytes + (cursor_after (step c s.body) ss).text_at) × (length images.data_bytes + c.data_at ≡ length done.data_bytes + (cursor_after (step c s.body) ss).data_at)
+    by : (r : Result (List ℕ) FaultKind) → bytes_in symbols (local_label_of before (stepped_cursor c s.body) ss s.source s.body) c.section (cursor_address c) s.body ≡ r
+        → ((bytes : List ℕ) → valuing symbols (local_label_at s.source (cursor_address c) s.body ++ before) (put_bytes c.section done bytes) (stepped_cursor c s.body) ss ≡ Ok images
+        → (length images.text_bytes + (stepped_cursor c s.body).text_at ≡ length (put_bytes c.section done bytes).text_bytes + (cursor_after (stepped_cursor c s.body) ss).text_at)
+        × (length images.data_bytes + (stepped_cursor c s.body).data_at ≡ length (put_bytes c.section done bytes).data_bytes + (cursor_after (stepped_cursor c s.body) ss).data_at))
+        → (said_at s r >>= λ bytes. valuing symbols (local_label_at s.source (cursor_address c) s.body ++ before) (put_bytes c.section done bytes) (stepped_cursor c s.body) ss) ≡ Ok images
+        → (length images.text_bytes + c.text_at ≡ length done.text_bytes + (cursor_after (stepped_cursor c s.body) ss).text_at) × (length images.data_bytes + c.data_at ≡ length done.data_bytes + (cursor_after (stepped_cursor c s.body) ss).data_at)
     by (Ok bytes) q ih e =
         let h = ih bytes e in
-        let m = put_moves symbols (local_of before (step c s.body) ss s.source s.body) c.section c done s.body bytes q in
+        let m = put_moves symbols (local_label_of before (stepped_cursor c s.body) ss s.source s.body) c.section c done s.body bytes q in
         let n = step_moves c s.body in
         (omega (arith, h.0, m.0, n.0), omega (arith, h.1, m.1, n.1))
     by (Err kind) q ih e = absurd cc
@@ -207,37 +207,37 @@ heavy_decides : (globals : Globals) (seen : SymbolList) (j i : ℕ) (c : Cursor)
 unfolding placing place_fault
 heavy_decides globals seen j i c [] symbols e low high = omega (arith, low, high)
 heavy_decides globals seen j i c (s ∷ ss) symbols e low high =
-    by (i == j) refl (heavy_decides globals (seen ++ symbols_at globals c.section (address c) s.body) j (i + 1) (step c s.body) ss symbols) e
+    by (i == j) refl (heavy_decides globals (seen ++ placed_symbols_at globals c.section (cursor_address c) s.body) j (i + 1) (stepped_cursor c s.body) ss symbols) e
   where
     rest : Result SymbolList Fault
-    rest = placing globals (seen ++ symbols_at globals c.section (address c) s.body) (Some j) (i + 1) (step c s.body) ss
+    rest = placing globals (seen ++ placed_symbols_at globals c.section (cursor_address c) s.body) (Some j) (i + 1) (stepped_cursor c s.body) ss
 
-    here : (own : Option FaultKind) → unless (option_or own (Some kinds.TooLarge)) s rest ≡ Ok symbols → ⊥
+    here : (own : Option FaultKind) → unless_faulted (option_or own (Some kinds.TooLarge)) s rest ≡ Ok symbols → ⊥
     here None e = cc
     here (Some kind) e = cc
 
-    later : (own : Option FaultKind) → unless (option_or own None) s rest ≡ Ok symbols → rest ≡ Ok symbols
+    later : (own : Option FaultKind) → unless_faulted (option_or own None) s rest ≡ Ok symbols → rest ≡ Ok symbols
     later None e = e
     later (Some kind) e = absurd cc
 
     by : (h : Bool) → (i == j) ≡ h → (rest ≡ Ok symbols → i + 1 ≤ j → j < i + 1 + length ss → ⊥)
-        → unless (option_or (own_fault seen (address c) s.body) (if h then Some kinds.TooLarge else None)) s rest ≡ Ok symbols → ⊥
-    by true p ih e = here (own_fault seen (address c) s.body) e
-    by false p ih e = let other = eqb-false i j p in ih (later (own_fault seen (address c) s.body) e) (omega (arith, low, other)) (omega (arith, high))
+        → unless_faulted (option_or (own_fault seen (cursor_address c) s.body) (if h then Some kinds.TooLarge else None)) s rest ≡ Ok symbols → ⊥
+    by true p ih e = here (own_fault seen (cursor_address c) s.body) e
+    by false p ih e = let other = eqb-false i j p in ih (later (own_fault seen (cursor_address c) s.body) e) (omega (arith, low, other)) (omega (arith, high))
 
 -- the last statement of size above 0 is one of them
 sized_below : (i : ℕ) (c : Cursor) (ss : List StatementValue) (j : ℕ) → last_sized i c ss ≡ Some j → (i ≤ j) × (j < i + length ss)
 unfolding last_sized
 sized_below i c [] j e = absurd cc
-sized_below i c (s ∷ ss) j e = by (last_sized (i + 1) (step c s.body) ss) (sized_below (i + 1) (step c s.body) ss j) e
+sized_below i c (s ∷ ss) j e = by (last_sized (i + 1) (stepped_cursor c s.body) ss) (sized_below (i + 1) (stepped_cursor c s.body) ss j) e
   where
     at : (b : Bool) → (if b then Some i else None) ≡ Some j → (i ≤ j) × (j < i + length (s ∷ ss))
     at true e = let same : i ≡ j = cc in (omega arith, omega arith)
     at false e = absurd cc
 
-    by : (o : Option ℕ) → (o ≡ Some j → (i + 1 ≤ j) × (j < i + 1 + length ss)) → option_or o (if nat_lt 0 (size (address c) s.body) then Some i else None) ≡ Some j → (i ≤ j) × (j < i + length (s ∷ ss))
+    by : (o : Option ℕ) → (o ≡ Some j → (i + 1 ≤ j) × (j < i + 1 + length ss)) → option_or o (if nat_lt 0 (size (cursor_address c) s.body) then Some i else None) ≡ Some j → (i ≤ j) × (j < i + length (s ∷ ss))
     by (Some k) ih e = let h = ih e in (omega (arith, h.0), omega (arith, h.1))
-    by None ih e = at (nat_lt 0 (size (address c) s.body)) e
+    by None ih e = at (nat_lt 0 (size (cursor_address c) s.body)) e
 
 abbrev none : Option ℕ
 none = None
@@ -247,19 +247,19 @@ none_sized : (i : ℕ) (c : Cursor) (ss : List StatementValue) → last_sized i 
     → ((cursor_after c ss).text_at ≡ c.text_at) × ((cursor_after c ss).data_at ≡ c.data_at) × ((cursor_after c ss).zeros_at ≡ c.zeros_at)
 unfolding last_sized cursor_after
 none_sized i c [] e = (refl, refl, refl)
-none_sized i c (s ∷ ss) e = by (last_sized (i + 1) (step c s.body) ss) (none_sized (i + 1) (step c s.body) ss) e
+none_sized i c (s ∷ ss) e = by (last_sized (i + 1) (stepped_cursor c s.body) ss) (none_sized (i + 1) (stepped_cursor c s.body) ss) e
   where
-    at : (b : Bool) → nat_lt 0 (size (address c) s.body) ≡ b → (if b then Some i else none) ≡ none → size (address c) s.body ≡ 0
+    at : (b : Bool) → nat_lt 0 (size (cursor_address c) s.body) ≡ b → (if b then Some i else none) ≡ none → size (cursor_address c) s.body ≡ 0
     at true p e = absurd cc
-    at false p e = omega (arith, ltb-false 0 (size (address c) s.body) p)
+    at false p e = omega (arith, ltb-false 0 (size (cursor_address c) s.body) p)
 
-    by : (o : Option ℕ) → (o ≡ None → ((cursor_after (step c s.body) ss).text_at ≡ (step c s.body).text_at) × ((cursor_after (step c s.body) ss).data_at ≡ (step c s.body).data_at) × ((cursor_after (step c s.body) ss).zeros_at ≡ (step c s.body).zeros_at))
-        → option_or o (if nat_lt 0 (size (address c) s.body) then Some i else None) ≡ None
-        → ((cursor_after (step c s.body) ss).text_at ≡ c.text_at) × ((cursor_after (step c s.body) ss).data_at ≡ c.data_at) × ((cursor_after (step c s.body) ss).zeros_at ≡ c.zeros_at)
+    by : (o : Option ℕ) → (o ≡ None → ((cursor_after (stepped_cursor c s.body) ss).text_at ≡ (stepped_cursor c s.body).text_at) × ((cursor_after (stepped_cursor c s.body) ss).data_at ≡ (stepped_cursor c s.body).data_at) × ((cursor_after (stepped_cursor c s.body) ss).zeros_at ≡ (stepped_cursor c s.body).zeros_at))
+        → option_or o (if nat_lt 0 (size (cursor_address c) s.body) then Some i else None) ≡ None
+        → ((cursor_after (stepped_cursor c s.body) ss).text_at ≡ c.text_at) × ((cursor_after (stepped_cursor c s.body) ss).data_at ≡ c.data_at) × ((cursor_after (stepped_cursor c s.body) ss).zeros_at ≡ c.zeros_at)
     by (Some k) ih e = absurd cc
     by None ih e =
         let h = ih refl in
-        let zero_size = at (nat_lt 0 (size (address c) s.body)) refl e in
+        let zero_size = at (nat_lt 0 (size (cursor_address c) s.body)) refl e in
         let m = rw zero_size at (step_moves c s.body) in
         let n = switch_moves c.section c in
         (h.0 ∙ m.0 ∙ n.0, h.1 ∙ m.1 ∙ n.1, h.2 ∙ m.2 ∙ n.2)

@@ -1,26 +1,26 @@
 -- Forward references, resolved from the last statement to the first.
 use Rattle.std.specs.Prelude.{ℕ, ◌%◌, ◌^◌, List, [], ◌∷◌, Option, Some, None, if◌then◌else◌}
-use Rattle.asm_parse.specs.Statement.{StatementValue, BodyValue}
-use Rattle.asm_parse.specs.declared.operand.Target.{Target}
-use Rattle.asm_parse.specs.declared.operand.Target.TheVariants as targets
-use Rattle.asm_parse.specs.declared.statement.Body.TheVariants as body
-use Rattle.asm_parse.specs.declared.statement.Instruction.TheVariants as read
+use Rattle.asm_statement.specs.Statement.{StatementValue, BodyValue}
+use Rattle.asm_statement.specs.declared.operand.Target.{Target}
+use Rattle.asm_statement.specs.declared.operand.Target.TheVariants as targets
+use Rattle.asm_statement.specs.declared.statement.Body.TheVariants as body
+use Rattle.asm_statement.specs.declared.statement.Instruction.TheVariants as read
 use Rattle.asm_assemble.specs.declared.cursor.Cursor.{Cursor}
 use Rattle.asm_assemble.specs.declared.locals.Place.{Place}
-use Rattle.asm_assemble.specs.Cursors.{address, step}
-use Rattle.asm_assemble.specs.Locals.{Local, in_source, place_of, is_local, back_of}
+use Rattle.asm_assemble.specs.Cursors.{cursor_address, stepped_cursor}
+use Rattle.asm_assemble.specs.Locals.{Local, in_source, local_place, is_local_name, back_of}
 
 -- the address of each statement, modulo 2^32
 unfoldable pub addresses : Cursor → List StatementValue → List ℕ
 addresses c [] = []
-addresses c (s ∷ ss) = address c % 2 ^ 32 ∷ addresses (step c s.body) ss
+addresses c (s ∷ ss) = cursor_address c % 2 ^ 32 ∷ addresses (stepped_cursor c s.body) ss
 
 -- the next local label with these digits among statements at these addresses
 unfoldable pub ahead_in : List ℕ → List StatementValue → List ℕ → Option Place
 ahead_in [] ss digits = None
 ahead_in (at ∷ ats) [] digits = None
 ahead_in (at ∷ ats) (s ∷ ss) digits =
-    if is_local digits s.body then Some (place_of s.source at) else ahead_in ats ss digits
+    if is_local_name digits s.body then Some (local_place s.source at) else ahead_in ats ss digits
 
 -- the address of a target that is a forward reference, given the next label for each digits
 unfoldable pub target_ahead : (List ℕ → Option Place) → ℕ → Target → Option ℕ

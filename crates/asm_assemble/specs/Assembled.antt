@@ -1,14 +1,14 @@
 -- The program of statements.
 use Rattle.std.specs.Prelude.{ℕ, ◌+◌, ◌-◌, Bool, nat_lt, List, [], Option, None, Result, Ok, if◌then◌else◌, unwrap_or, codes}
-use Rattle.asm_parse.specs.Answer.{◌>>=◌}
-use Rattle.asm_parse.specs.Statement.{StatementValue}
-use Rattle.asm_parse.specs.declared.fault.Fault.{Fault}
-use Rattle.asm_parse.specs.declared.statement.Section.TheVariants as sections
+use Rattle.asm_statement.specs.Answer.{◌>>=◌}
+use Rattle.asm_statement.specs.Statement.{StatementValue}
+use Rattle.asm_statement.specs.declared.fault.Fault.{Fault}
+use Rattle.asm_statement.specs.declared.statement.Section.TheVariants as sections
 use Rattle.asm_assemble.specs.declared.cursor.Cursor.{Cursor}
 use Rattle.asm_assemble.specs.Program.{text_start, program_limit}
 use Rattle.asm_assemble.specs.Program.{SymbolList, ProgramValue, round_up, segment_size}
 use Rattle.asm_assemble.specs.Cursors.{cursor_after}
-use Rattle.asm_assemble.specs.Operands.{address_of}
+use Rattle.asm_assemble.specs.Operands.{operand_address}
 use Rattle.asm_assemble.specs.Placing.{last_sized, placing, globals_from}
 use Rattle.asm_assemble.specs.Valuing.{Images, valuing, no_bytes}
 
@@ -40,21 +40,21 @@ unfoldable pub heavy_of : Cursor → Cursor → List StatementValue → Option �
 heavy_of start end ss = if is_too_large start end then last_sized 0 start ss else None
 
 -- the symbols of statements between two cursors, or the first fault of placing them
-abbrev pub symbols_of : Cursor → Cursor → List StatementValue → Result SymbolList Fault
-symbols_of start end ss = placing (globals_from [] ss) [] (heavy_of start end ss) 0 start ss
+abbrev pub assembled_symbols : Cursor → Cursor → List StatementValue → Result SymbolList Fault
+assembled_symbols start end ss = placing (globals_from [] ss) [] (heavy_of start end ss) 0 start ss
 
 -- the symbol `_start`, else the text's base
-unfoldable pub entry_of : SymbolList → ℕ
-entry_of symbols = unwrap_or (address_of symbols (codes "_start")) text_start
+unfoldable pub program_entry : SymbolList → ℕ
+program_entry symbols = unwrap_or (operand_address symbols (codes "_start")) text_start
 
 -- the program of these sections
-unfoldable pub program_of : Images → ℕ → SymbolList → ProgramValue
-program_of images zeros symbols = record {
+unfoldable pub program_of_placed : Images → ℕ → SymbolList → ProgramValue
+program_of_placed images zeros symbols = record {
   text = images.text_bytes;
   bytes = images.data_bytes;
   zeros = zeros;
   symbols = symbols;
-  entry = entry_of symbols;
+  entry = program_entry symbols;
 }
 
 -- the program of statements, or the fault that counts: all are placed before any is evaluated
@@ -62,6 +62,6 @@ unfoldable pub assembled : List StatementValue → Result ProgramValue Fault
 assembled ss = do
   let start = first_cursor ss
   let end = cursor_after start ss
-  symbols ← symbols_of start end ss
+  symbols ← assembled_symbols start end ss
   images ← valuing symbols [] no_bytes start ss
-  Ok (program_of images (end.zeros_at - start.zeros_at) symbols)
+  Ok (program_of_placed images (end.zeros_at - start.zeros_at) symbols)

@@ -1,10 +1,10 @@
 -- The places of statements.
 use Rattle.std.specs.Prelude.{ℕ, ◌+◌, ◌-◌, ◌*◌, ◌^◌, ◌≤◌, nat_lt, List, [], ◌∷◌, length, Option, Some, None, if◌then◌else◌}
-use Rattle.asm_parse.specs.Statement.{StatementValue, BodyValue, DirectiveValue}
-use Rattle.asm_parse.specs.declared.statement.Section.{Section}
-use Rattle.asm_parse.specs.declared.statement.Section.TheVariants as sections
-use Rattle.asm_parse.specs.declared.statement.Body.TheVariants as body
-use Rattle.asm_parse.specs.declared.statement.Directive.TheVariants as directive
+use Rattle.asm_statement.specs.Statement.{StatementValue, BodyValue, DirectiveValue}
+use Rattle.asm_statement.specs.declared.statement.Section.{Section}
+use Rattle.asm_statement.specs.declared.statement.Section.TheVariants as sections
+use Rattle.asm_statement.specs.declared.statement.Body.TheVariants as body
+use Rattle.asm_statement.specs.declared.statement.Directive.TheVariants as directive
 use Rattle.asm_assemble.specs.declared.cursor.Cursor.{Cursor}
 use Rattle.asm_assemble.specs.Program.{round_up}
 use Rattle.asm_assemble.specs.Instructions.{pseudo_size}
@@ -39,14 +39,14 @@ address_in sections.Data c = c.data_at
 address_in sections.Zeros c = c.zeros_at
 
 -- the address of the next statement
-unfoldable pub address : Cursor → ℕ
-address c = address_in c.section c
+unfoldable pub cursor_address : Cursor → ℕ
+cursor_address c = address_in c.section c
 
 -- the cursor after this many bytes in a section
-abbrev pub moved : Section → Cursor → ℕ → Cursor
-moved sections.Text c n = record c { text_at = c.text_at + n }
-moved sections.Data c n = record c { data_at = c.data_at + n }
-moved sections.Zeros c n = record c { zeros_at = c.zeros_at + n }
+abbrev pub advanced : Section → Cursor → ℕ → Cursor
+advanced sections.Text c n = record c { text_at = c.text_at + n }
+advanced sections.Data c n = record c { data_at = c.data_at + n }
+advanced sections.Zeros c n = record c { zeros_at = c.zeros_at + n }
 
 -- the section to which a statement changes
 unfoldable pub section_of : BodyValue → Option Section
@@ -56,19 +56,19 @@ section_of b = None
 -- the cursor in another section, or after a statement
 abbrev pub switched : Option Section → Cursor → BodyValue → Cursor
 switched (Some section) c b = record c { section = section }
-switched None c b = moved c.section c (size (address c) b)
+switched None c b = advanced c.section c (size (cursor_address c) b)
 
 -- the cursor after a statement
-unfoldable pub step : Cursor → BodyValue → Cursor
-step c b = switched (section_of b) c b
+unfoldable pub stepped_cursor : Cursor → BodyValue → Cursor
+stepped_cursor c b = switched (section_of b) c b
 
 -- the cursor after all statements
 unfoldable pub cursor_after : Cursor → List StatementValue → Cursor
 cursor_after c [] = c
-cursor_after c (s ∷ ss) = cursor_after (step c s.body) ss
+cursor_after c (s ∷ ss) = cursor_after (stepped_cursor c s.body) ss
 
 -- addresses that this many statements can reach
-unfoldable pub IsWithin : ℕ → Cursor → Type 0
-IsWithin count c =
+unfoldable pub CursorIsWithin : ℕ → Cursor → Type 0
+CursorIsWithin count c =
     (c.text_at ≤ (count + 1) * 2 ^ 64) × (c.data_at ≤ (count + 1) * 2 ^ 64) ×
     (c.zeros_at ≤ (count + 1) * 2 ^ 64)

@@ -1,47 +1,47 @@
 -- The instructions of a statement, from its operands' values.
 use Rattle.std.specs.Prelude.{ℕ, ◌==◌, ◌^◌, Option, Some, None, Result, Ok, Err, Bool, true, pos, if◌then◌else◌}
-use Rattle.asm_parse.specs.Answer.{◌>>=◌}
-use Rattle.asm_parse.specs.declared.fault.FaultKind.{FaultKind}
-use Rattle.asm_parse.specs.declared.fault.FaultKind.TheVariants as kinds
-use Rattle.asm_parse.specs.declared.operand.Target.{Target}
-use Rattle.asm_parse.specs.declared.statement.Instruction.{Instruction}
-use Rattle.asm_parse.specs.declared.statement.Instruction.TheVariants as read
-use Rattle.asm_parse.specs.declared.statement.Pseudo.{Pseudo}
-use Rattle.asm_parse.specs.declared.statement.Pseudo.TheVariants as pseudo
+use Rattle.asm_statement.specs.Answer.{◌>>=◌}
+use Rattle.asm_statement.specs.declared.fault.FaultKind.{FaultKind}
+use Rattle.asm_statement.specs.declared.fault.FaultKind.TheVariants as kinds
+use Rattle.asm_statement.specs.declared.operand.Target.{Target}
+use Rattle.asm_statement.specs.declared.statement.Instruction.{Instruction}
+use Rattle.asm_statement.specs.declared.statement.Instruction.TheVariants as read
+use Rattle.asm_statement.specs.declared.statement.Pseudo.{Pseudo}
+use Rattle.asm_statement.specs.declared.statement.Pseudo.TheVariants as pseudo
 use Rattle.isa_table.specs.declared.instr.Instr.{Instr}
 use Rattle.isa_table.specs.declared.instr.Instr.TheVariants as instr
 use Rattle.isa_table.specs.declared.mnemonic.ImmediateOp.TheVariants.{Addi}
 use Rattle.asm_assemble.specs.declared.instruction.Pair.{Pair}
 use Rattle.asm_assemble.specs.Program.{SymbolList}
-use Rattle.asm_assemble.specs.Numbers.{as_word, is_between, is_signed_word, amount_of, offset_of, distance, hi, lo}
-use Rattle.asm_assemble.specs.Operands.{symbol_value, immediate_of, upper_of, target_of}
+use Rattle.asm_assemble.specs.Numbers.{as_word, is_in_range, is_signed_word, amount_of, offset_of, distance, hi, lo}
+use Rattle.asm_assemble.specs.Operands.{symbol_value, immediate_of, upper_of, operand_target}
 
 -- the offset of this many bits from an address to a target
 unfoldable pub offset_to : ℕ → SymbolList → Option ℕ → ℕ → Target → Result ℕ FaultKind
 offset_to width symbols local at target =
-    target_of symbols local target >>= λ to. offset_of width (distance at to)
+    operand_target symbols local target >>= λ to. offset_of width (distance at to)
 
 -- the instruction of a statement at an address
-unfoldable pub instr_of : SymbolList → Option ℕ → ℕ → Instruction → Result Instr FaultKind
-instr_of symbols local at (read.Fixed i) = Ok i
-instr_of symbols local at (read.Lui rd imm) = upper_of symbols imm >>= λ high. Ok (instr.Lui rd high)
-instr_of symbols local at (read.Auipc rd imm) =
+unfoldable pub placed_instr : SymbolList → Option ℕ → ℕ → Instruction → Result Instr FaultKind
+placed_instr symbols local at (read.Fixed i) = Ok i
+placed_instr symbols local at (read.Lui rd imm) = upper_of symbols imm >>= λ high. Ok (instr.Lui rd high)
+placed_instr symbols local at (read.Auipc rd imm) =
     upper_of symbols imm >>= λ high. Ok (instr.Auipc rd high)
-instr_of symbols local at (read.Jal rd target) =
+placed_instr symbols local at (read.Jal rd target) =
     offset_to 21 symbols local at target >>= λ offset.
     Ok (instr.Jal rd offset)
-instr_of symbols local at (read.Jalr rd rs1 imm) =
+placed_instr symbols local at (read.Jalr rd rs1 imm) =
     immediate_of symbols imm >>= λ word. Ok (instr.Jalr rd rs1 word)
-instr_of symbols local at (read.Branch op rs1 rs2 target) =
+placed_instr symbols local at (read.Branch op rs1 rs2 target) =
     offset_to 13 symbols local at target >>= λ offset.
     Ok (instr.Branch op rs1 rs2 offset)
-instr_of symbols local at (read.Load op rd rs1 imm) =
+placed_instr symbols local at (read.Load op rd rs1 imm) =
     immediate_of symbols imm >>= λ word. Ok (instr.Load op rd rs1 word)
-instr_of symbols local at (read.Store op rs1 rs2 imm) =
+placed_instr symbols local at (read.Store op rs1 rs2 imm) =
     immediate_of symbols imm >>= λ word. Ok (instr.Store op rs1 rs2 word)
-instr_of symbols local at (read.Immediate op rd rs1 imm) =
+placed_instr symbols local at (read.Immediate op rd rs1 imm) =
     immediate_of symbols imm >>= λ word. Ok (instr.Immediate op rd rs1 word)
-instr_of symbols local at (read.Shift op rd rs1 amount) =
+placed_instr symbols local at (read.Shift op rd rs1 amount) =
     amount_of amount >>= λ count. Ok (instr.Shift op rd rs1 count)
 
 -- `addi rd, rs1, imm`
@@ -77,14 +77,14 @@ jump_pair by rd d = record {
 }
 
 -- the instructions of a pseudo-instruction at an address
-unfoldable pub pair_of : SymbolList → ℕ → Pseudo → Result Pair FaultKind
-pair_of symbols at (pseudo.Li rd number) =
-    if is_between (2 ^ 31) (2 ^ 64) number then Ok (li_pair rd (as_word number)) else Err kinds.Range
-pair_of symbols at (pseudo.La rd name offset) =
+unfoldable pub instr_pair : SymbolList → ℕ → Pseudo → Result Pair FaultKind
+instr_pair symbols at (pseudo.Li rd number) =
+    if is_in_range (2 ^ 31) (2 ^ 64) number then Ok (li_pair rd (as_word number)) else Err kinds.Range
+instr_pair symbols at (pseudo.La rd name offset) =
     symbol_value symbols name offset >>= λ to. Ok (la_pair rd (distance at to))
-pair_of symbols at (pseudo.Call name) =
+instr_pair symbols at (pseudo.Call name) =
     symbol_value symbols name (pos 0) >>= λ to. Ok (jump_pair 1 1 (distance at to))
-pair_of symbols at (pseudo.Tail name) =
+instr_pair symbols at (pseudo.Tail name) =
     symbol_value symbols name (pos 0) >>= λ to. Ok (jump_pair 6 0 (distance at to))
 
 -- the size of a pseudo-instruction in bytes

@@ -1,7 +1,7 @@
 -- Numbers as words, and words as the immediates of instructions.
 use Rattle.std.specs.Prelude.{ℕ, ℤ, pos, negsuc, ◌+◌, ◌-◌, ◌/◌, ◌%◌, ◌^◌, ◌==◌, ◌&&◌, ◌||◌, nat_lt, nat_le, Bool, if◌then◌else◌, Result, Ok, Err}
-use Rattle.asm_parse.specs.declared.fault.FaultKind.{FaultKind}
-use Rattle.asm_parse.specs.declared.fault.FaultKind.TheVariants as kinds
+use Rattle.asm_statement.specs.declared.fault.FaultKind.{FaultKind}
+use Rattle.asm_statement.specs.declared.fault.FaultKind.TheVariants as kinds
 use Rattle.isa_table.specs.Ranges.{sign_extend}
 
 -- a number modulo 2^32
@@ -10,21 +10,21 @@ as_word (pos n) = n % 2 ^ 32
 as_word (negsuc n) = 2 ^ 32 - 1 - n % 2 ^ 32
 
 -- a number from -low to high - 1
-unfoldable pub is_between : ℕ → ℕ → ℤ → Bool
-is_between low high (pos n) = nat_lt n high
-is_between low high (negsuc n) = nat_lt n low
+unfoldable pub is_in_range : ℕ → ℕ → ℤ → Bool
+is_in_range low high (pos n) = nat_lt n high
+is_in_range low high (negsuc n) = nat_lt n low
 
 -- the 12-bit immediate with a number's value
 unfoldable pub number12 : ℤ → Result ℕ FaultKind
-number12 n = if is_between (2 ^ 11) (2 ^ 11) n then Ok (as_word n) else Err kinds.Range
+number12 n = if is_in_range (2 ^ 11) (2 ^ 11) n then Ok (as_word n) else Err kinds.Range
 
 -- the 20-bit immediate with a number's value
 unfoldable pub number20 : ℤ → Result ℕ FaultKind
-number20 n = if is_between 0 (2 ^ 20) n then Ok (as_word n) else Err kinds.Range
+number20 n = if is_in_range 0 (2 ^ 20) n then Ok (as_word n) else Err kinds.Range
 
 -- the shift amount with a number's value
 unfoldable pub amount_of : ℤ → Result ℕ FaultKind
-amount_of n = if is_between 0 (2 ^ 5) n then Ok (as_word n) else Err kinds.Range
+amount_of n = if is_in_range 0 (2 ^ 5) n then Ok (as_word n) else Err kinds.Range
 
 -- `%hi(v)`: the upper 20 bits of a value minus `%lo(v)`
 unfoldable pub hi : ℕ → ℕ

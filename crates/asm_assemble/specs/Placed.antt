@@ -5,26 +5,26 @@ use Rattle.std.specs.Prelude.{ℕ, ◌≡◌, ◌+◌, ◌*◌, ◌%◌, ◌^◌
 use Rattle.std.specs.Prelude.{List, [], ◌∷◌, ◌++◌, length, map, Some, None, Ok, Err, unwrap_or, codes}
 use Rattle.std.specs.List.{sum_by, flat_map, list_any}
 use Rattle.std.specs.Str.{bytes_eq}
-use Rattle.asm_parse.specs.Statement.{StatementValue, BodyValue}
-use Rattle.asm_parse.specs.Statements.{statements_of}
-use Rattle.asm_parse.specs.declared.fault.Fault.{Fault}
-use Rattle.asm_parse.specs.declared.statement.Section.{Section}
-use Rattle.asm_parse.specs.declared.statement.Section.TheVariants as sections
-use Rattle.asm_parse.specs.declared.statement.Body.TheVariants as body
-use Rattle.asm_parse.specs.declared.statement.Directive.TheVariants as directive
-use Rattle.asm_parse.specs.declared.statement.Instruction.{Instruction}
-use Rattle.asm_parse.specs.declared.statement.Instruction.TheVariants as read
-use Rattle.asm_parse.specs.declared.operand.Target.{Target}
-use Rattle.asm_parse.specs.declared.operand.Target.TheVariants as targets
+use Rattle.asm_statement.specs.Statement.{StatementValue, BodyValue}
+use Rattle.asm_statement.specs.Statements.{statements_of}
+use Rattle.asm_statement.specs.declared.fault.Fault.{Fault}
+use Rattle.asm_statement.specs.declared.statement.Section.{Section}
+use Rattle.asm_statement.specs.declared.statement.Section.TheVariants as sections
+use Rattle.asm_statement.specs.declared.statement.Body.TheVariants as body
+use Rattle.asm_statement.specs.declared.statement.Directive.TheVariants as directive
+use Rattle.asm_statement.specs.declared.statement.Instruction.{Instruction}
+use Rattle.asm_statement.specs.declared.statement.Instruction.TheVariants as read
+use Rattle.asm_statement.specs.declared.operand.Target.{Target}
+use Rattle.asm_statement.specs.declared.operand.Target.TheVariants as targets
 use Rattle.isa_table.specs.declared.instr.Instr.{Instr}
 use Rattle.isa_table.specs.declared.instr.Instr.TheVariants as instr
 use Rattle.asm_assemble.specs.declared.instruction.Pair.{Pair}
 use Rattle.asm_assemble.specs.Program.{SymbolList, ProgramValue, segment_size}
 use Rattle.asm_assemble.specs.Numbers.{as_word, amount_of, is_signed_word, hi, lo, distance}
-use Rattle.asm_assemble.specs.Operands.{found, address_of, immediate_of, upper_of}
-use Rattle.asm_assemble.specs.Instructions.{pair_of}
+use Rattle.asm_assemble.specs.Operands.{found, operand_address, immediate_of, upper_of}
+use Rattle.asm_assemble.specs.Instructions.{instr_pair}
 use Rattle.asm_assemble.specs.Cursors.{size, section_of}
-use Rattle.asm_assemble.specs.Locals.{is_local}
+use Rattle.asm_assemble.specs.Locals.{is_local_name}
 use Rattle.asm_assemble.specs.Valuing.{instr_bytes, pair_bytes, directive_bytes}
 use Rattle.asm_assemble.specs.Assembled.{assembled}
 
@@ -41,10 +41,10 @@ pub record Bases : Type 0 where
   pub zeros_base : ℕ
 
 -- the base of a section
-abbrev pub base_of : Section → Bases → ℕ
-base_of sections.Text bases = bases.text_base
-base_of sections.Data bases = bases.data_base
-base_of sections.Zeros bases = bases.zeros_base
+abbrev pub placed_base : Section → Bases → ℕ
+placed_base sections.Text bases = bases.text_base
+placed_base sections.Data bases = bases.data_base
+placed_base sections.Zeros bases = bases.zeros_base
 
 -- whether two sections are the same
 abbrev pub is_same : Section → Section → Bool
@@ -60,9 +60,9 @@ is_same sections.Zeros sections.Zeros = true
 
 -- the section after statements: that of the last section change among them, else the one in which
 -- they start; each source after the first starts with a change to `.text`
-unfoldable pub section_behind : Section → List Standing → Section
-section_behind first [] = first
-section_behind first (s ∷ rest) = section_behind (unwrap_or (section_of s.statement.body) first) rest
+unfoldable pub placed_section_behind : Section → List Standing → Section
+placed_section_behind first [] = first
+placed_section_behind first (s ∷ rest) = placed_section_behind (unwrap_or (section_of s.statement.body) first) rest
 
 -- the number of bytes of a statement in a section
 abbrev pub taken_by : Section → Standing → ℕ
@@ -89,8 +89,8 @@ pub record AreBases (bases : Bases) (all : List Standing) : Type 0 where
 -- the statement is in the section of the last section change before it, or in `.text` if there is
 -- none, at the section's base plus the sizes before it there
 pub record StandsThere (bases : Bases) (before : List Standing) (s : Standing) : Type 0 where
-  pub in_section : s.section ≡ section_behind sections.Text before
-  pub at_address : s.address ≡ base_of s.section bases + taken s.section before
+  pub in_section : s.section ≡ placed_section_behind sections.Text before
+  pub at_address : s.address ≡ placed_base s.section bases + taken s.section before
 
 -- whether a statement makes a name global
 abbrev pub makes_global : List ℕ → BodyValue → Bool
@@ -108,13 +108,13 @@ symbol_at all section at (body.Label name) =
 symbol_at all section at b = []
 
 -- the symbols that statements define, in order
-unfoldable pub symbols_in : List Standing → List Standing → SymbolList
-symbols_in all ss = flat_map (λ s. symbol_at all s.section s.address s.statement.body) ss
+unfoldable pub placed_symbols_in : List Standing → List Standing → SymbolList
+placed_symbols_in all ss = flat_map (λ s. symbol_at all s.section s.address s.statement.body) ss
 
 -- an instruction is at a multiple of 4; an alignment is at most 2^12; a label's name is new, and
 -- the symbol table has its address
 abbrev pub IsFit : SymbolList → SymbolList → ℕ → BodyValue → Type 0
-IsFit symbols seen at (body.Label name) = (found seen name ≡ None) × (address_of symbols name ≡ Some (at % 2 ^ 32))
+IsFit symbols seen at (body.Label name) = (found seen name ≡ None) × (operand_address symbols name ≡ Some (at % 2 ^ 32))
 IsFit symbols seen at (body.Instruction i) = at % 4 ≡ 0
 IsFit symbols seen at (body.Pseudo p) = at % 4 ≡ 0
 IsFit symbols seen at (body.Directive (directive.Align n)) = n ≤ 12
@@ -124,7 +124,7 @@ IsFit symbols seen at b = Unit {0}
 
 -- none of the statements is a local label with these digits
 abbrev pub HasNone : List ℕ → List Standing → Type 0
-HasNone digits ss = list_any (λ s. is_local digits s.statement.body) ss ≡ false
+HasNone digits ss = list_any (λ s. is_local_name digits s.statement.body) ss ≡ false
 
 -- the last local label with these digits is in this source, at this address modulo 2^32
 pub record IsLastLocal (digits : List ℕ) (source address : ℕ) (before : List Standing) : Type 0 where
@@ -132,7 +132,7 @@ pub record IsLastLocal (digits : List ℕ) (source address : ℕ) (before : List
   pub label : Standing
   pub back : List Standing
   pub cut : before ≡ front ++ label ∷ back
-  pub is_label : is_local digits label.statement.body ≡ true
+  pub is_label : is_local_name digits label.statement.body ≡ true
   pub no_other : HasNone digits back
   pub in_source : label.statement.source ≡ source
   pub at_address : label.address % 2 ^ 32 ≡ address
@@ -143,7 +143,7 @@ pub record IsNextLocal (digits : List ℕ) (source address : ℕ) (after : List 
   pub label : Standing
   pub back : List Standing
   pub cut : after ≡ front ++ label ∷ back
-  pub is_label : is_local digits label.statement.body ≡ true
+  pub is_label : is_local_name digits label.statement.body ≡ true
   pub no_other : HasNone digits front
   pub in_source : label.statement.source ≡ source
   pub at_address : label.address % 2 ^ 32 ≡ address
@@ -152,7 +152,7 @@ pub record IsNextLocal (digits : List ℕ) (source address : ℕ) (after : List 
 -- local label before the statement, or the next one after it
 abbrev pub IsTarget : SymbolList → List Standing → ℕ → List Standing → Target → ℕ → Type 0
 IsTarget symbols before source after (targets.Address n) to = to ≡ as_word n
-IsTarget symbols before source after (targets.Symbol name) to = address_of symbols name ≡ Some to
+IsTarget symbols before source after (targets.Symbol name) to = operand_address symbols name ≡ Some to
 IsTarget symbols before source after (targets.Back digits) to = IsLastLocal digits source to before
 IsTarget symbols before source after (targets.Ahead digits) to = IsNextLocal digits source to after
 
@@ -197,7 +197,7 @@ HasBytes symbols before s after section (body.LocalLabel digits) bytes = bytes �
 HasBytes symbols before s after section (body.Instruction i) bytes =
     (j : Instr) × IsInstr symbols before s after i j × (bytes ≡ instr_bytes j)
 HasBytes symbols before s after section (body.Pseudo p) bytes =
-    (pair : Pair) × (pair_of symbols s.address p ≡ Ok pair) × (bytes ≡ pair_bytes pair.first pair.second)
+    (pair : Pair) × (instr_pair symbols s.address p ≡ Ok pair) × (bytes ≡ pair_bytes pair.first pair.second)
 HasBytes symbols before s after section (body.Directive d) bytes =
     directive_bytes symbols section s.address d ≡ Ok bytes
 
@@ -228,9 +228,9 @@ pub record ArePlaced (ss : List StatementValue) (p : ProgramValue) (all : List S
   pub stands : (before : List Standing) (s : Standing) (after : List Standing) → all ≡ before ++ s ∷ after
       → StandsThere bases before s
   -- the symbols are the labels in order, each once and at its address; instructions are aligned
-  pub symbols : p.symbols ≡ symbols_in all all
+  pub symbols : p.symbols ≡ placed_symbols_in all all
   pub fits : (before : List Standing) (s : Standing) (after : List Standing) → all ≡ before ++ s ∷ after
-      → IsFit p.symbols (symbols_in all before) s.address s.statement.body
+      → IsFit p.symbols (placed_symbols_in all before) s.address s.statement.body
   -- each statement's bytes are at its address, operands by the symbols; there are no other bytes
   pub holds : (before : List Standing) (s : Standing) (after : List Standing) → all ≡ before ++ s ∷ after
       → Holds s.section bases p before s after
@@ -239,7 +239,7 @@ pub record ArePlaced (ss : List StatementValue) (p : ProgramValue) (all : List S
   pub zeros_size : p.zeros ≡ taken sections.Zeros all
   -- the program is within the limit; its entry is `_start`, else the text's base
   pub within : length p.text + segment_size (length p.bytes) p.zeros ≤ 2 ^ 24
-  pub entry : p.entry ≡ unwrap_or (address_of p.symbols (codes "_start")) 0x10000
+  pub entry : p.entry ≡ unwrap_or (operand_address p.symbols (codes "_start")) 0x10000
 
 -- a program has its statements where one symbol table puts them
 pub record Placed (ss : List StatementValue) (p : ProgramValue) : Type 0 where

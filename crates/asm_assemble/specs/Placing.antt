@@ -1,16 +1,16 @@
 -- Phase 1: the places of statements, and the faults of placing.
 use Rattle.std.specs.Prelude.{ℕ, ◌≡◌, ◌+◌, ◌%◌, ◌^◌, Bool, false, ◌==◌, nat_lt, List, [], ◌∷◌, ◌++◌, Option, Some, None, Result, Ok, Err, is_some, if◌then◌else◌}
 use Rattle.std.specs.Option.{option_or}
-use Rattle.asm_parse.specs.Statement.{StatementValue, BodyValue}
-use Rattle.asm_parse.specs.declared.fault.Fault.{Fault}
-use Rattle.asm_parse.specs.declared.fault.FaultKind.{FaultKind}
-use Rattle.asm_parse.specs.declared.fault.FaultKind.TheVariants as kinds
-use Rattle.asm_parse.specs.declared.statement.Section.{Section}
-use Rattle.asm_parse.specs.declared.statement.Body.TheVariants as body
-use Rattle.asm_parse.specs.declared.statement.Directive.TheVariants as directive
+use Rattle.asm_statement.specs.Statement.{StatementValue, BodyValue}
+use Rattle.asm_statement.specs.declared.fault.Fault.{Fault}
+use Rattle.asm_statement.specs.declared.fault.FaultKind.{FaultKind}
+use Rattle.asm_statement.specs.declared.fault.FaultKind.TheVariants as kinds
+use Rattle.asm_statement.specs.declared.statement.Section.{Section}
+use Rattle.asm_statement.specs.declared.statement.Body.TheVariants as body
+use Rattle.asm_statement.specs.declared.statement.Directive.TheVariants as directive
 use Rattle.asm_assemble.specs.declared.cursor.Cursor.{Cursor}
 use Rattle.asm_assemble.specs.Program.{SymbolList}
-use Rattle.asm_assemble.specs.Cursors.{size, address, step}
+use Rattle.asm_assemble.specs.Cursors.{size, cursor_address, stepped_cursor}
 use Rattle.asm_assemble.specs.Operands.{found}
 
 -- a fault of a statement
@@ -18,9 +18,9 @@ abbrev pub at_statement : StatementValue → FaultKind → Fault
 at_statement s kind = record { kind = kind; source = s.source; line = s.line }
 
 -- the rest's result if a statement has no fault, else its fault
-abbrev pub unless : {X : Type 0} → Option FaultKind → StatementValue → Result X Fault → Result X Fault
-unless None s rest = rest
-unless (Some kind) s rest = Err (at_statement s kind)
+abbrev pub unless_faulted : {X : Type 0} → Option FaultKind → StatementValue → Result X Fault → Result X Fault
+unless_faulted None s rest = rest
+unless_faulted (Some kind) s rest = Err (at_statement s kind)
 
 -- the index of the i-th statement, if its size at an address is above 0
 abbrev pub if_sized : ℕ → ℕ → BodyValue → Option ℕ
@@ -30,7 +30,7 @@ if_sized i at b = if nat_lt 0 (size at b) then Some i else None
 unfoldable pub last_sized : ℕ → Cursor → List StatementValue → Option ℕ
 last_sized i c [] = None
 last_sized i c (s ∷ ss) =
-    option_or (last_sized (i + 1) (step c s.body) ss) (if_sized i (address c) s.body)
+    option_or (last_sized (i + 1) (stepped_cursor c s.body) ss) (if_sized i (cursor_address c) s.body)
 
 -- the fault Align of an instruction whose address is not a multiple of 4
 abbrev pub misaligned : ℕ → Option FaultKind
@@ -72,10 +72,10 @@ globals_from seen [] = seen
 globals_from seen (s ∷ ss) = globals_from (with_globals seen s.body) ss
 
 -- the symbol that a statement at an address defines
-unfoldable pub symbols_at : Globals → Section → ℕ → BodyValue → SymbolList
-symbols_at globals section at (body.Label name) =
+unfoldable pub placed_symbols_at : Globals → Section → ℕ → BodyValue → SymbolList
+placed_symbols_at globals section at (body.Label name) =
     (name, record { section = section; address = at % 2 ^ 32; global = is_some (found globals name) }) ∷ []
-symbols_at globals section at b = []
+placed_symbols_at globals section at b = []
 
 -- the symbol that a statement defines is new
 unfoldable pub IsNew : SymbolList → BodyValue → Type 0
@@ -91,5 +91,5 @@ is_at (Some j) i = i == j
 unfoldable pub placing : Globals → SymbolList → Option ℕ → ℕ → Cursor → List StatementValue → Result SymbolList Fault
 placing globals seen heavy i c [] = Ok seen
 placing globals seen heavy i c (s ∷ ss) =
-    unless (place_fault seen (is_at heavy i) (address c) s.body) s
-    (placing globals (seen ++ symbols_at globals c.section (address c) s.body) heavy (i + 1) (step c s.body) ss)
+    unless_faulted (place_fault seen (is_at heavy i) (cursor_address c) s.body) s
+    (placing globals (seen ++ placed_symbols_at globals c.section (cursor_address c) s.body) heavy (i + 1) (stepped_cursor c s.body) ss)

@@ -1,10 +1,10 @@
 -- The program of sources.
 use Rattle.std.specs.Prelude.{ℕ, List, Result}
-use Rattle.asm_parse.specs.Answer.{◌>>=◌}
-use Rattle.asm_parse.specs.Statements.{statements_of}
-use Rattle.asm_parse.specs.declared.fault.Fault.{Fault}
-use Rattle.asm_parse.specs.declared.fault.AsmFault.{AsmFault}
-use Rattle.asm_parse.specs.declared.fault.AsmFault.TheVariants as faults
+use Rattle.asm_statement.specs.Answer.{◌>>=◌}
+use Rattle.asm_statement.specs.Statements.{statements_of}
+use Rattle.asm_statement.specs.declared.fault.Fault.{Fault}
+use Rattle.asm_statement.specs.declared.fault.AsmFault.{AsmFault}
+use Rattle.asm_statement.specs.declared.fault.AsmFault.TheVariants as faults
 use Rattle.asm_assemble.specs.Program.{ProgramValue}
 use Rattle.asm_assemble.specs.Assembled.{assembled}
 use Rattle.asm_assemble.specs.Placed.{IsProgramOf}

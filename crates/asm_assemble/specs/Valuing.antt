@@ -2,28 +2,28 @@
 use Rattle.std.specs.Prelude.{ℕ, ◌≡◌, zero, suc, ◌/◌, ◌%◌, ◌^◌, Bool, true, false, List, [], ◌∷◌, ◌++◌, Option, Some, None, Result, Ok, Err, ℤ, replicate}
 use Rattle.std.specs.Int.{w16, w32, to_le_bytes}
 use Rattle.std.specs.List.{list_all}
-use Rattle.asm_parse.specs.Answer.{◌>>=◌}
-use Rattle.asm_parse.specs.Statement.{StatementValue, BodyValue, DirectiveValue}
-use Rattle.asm_parse.specs.declared.fault.Fault.{Fault}
-use Rattle.asm_parse.specs.declared.fault.FaultKind.{FaultKind}
-use Rattle.asm_parse.specs.declared.fault.FaultKind.TheVariants as kinds
-use Rattle.asm_parse.specs.declared.operand.Value.{Value}
-use Rattle.asm_parse.specs.declared.operand.Value.TheVariants as values
-use Rattle.asm_parse.specs.declared.statement.Section.{Section}
-use Rattle.asm_parse.specs.declared.statement.Section.TheVariants as sections
-use Rattle.asm_parse.specs.declared.statement.Body.TheVariants as body
-use Rattle.asm_parse.specs.declared.statement.Directive.TheVariants as directive
+use Rattle.asm_statement.specs.Answer.{◌>>=◌}
+use Rattle.asm_statement.specs.Statement.{StatementValue, BodyValue, DirectiveValue}
+use Rattle.asm_statement.specs.declared.fault.Fault.{Fault}
+use Rattle.asm_statement.specs.declared.fault.FaultKind.{FaultKind}
+use Rattle.asm_statement.specs.declared.fault.FaultKind.TheVariants as kinds
+use Rattle.asm_statement.specs.declared.operand.Value.{Value}
+use Rattle.asm_statement.specs.declared.operand.Value.TheVariants as values
+use Rattle.asm_statement.specs.declared.statement.Section.{Section}
+use Rattle.asm_statement.specs.declared.statement.Section.TheVariants as sections
+use Rattle.asm_statement.specs.declared.statement.Body.TheVariants as body
+use Rattle.asm_statement.specs.declared.statement.Directive.TheVariants as directive
 use Rattle.isa_table.specs.declared.instr.Instr.{Instr}
 use Rattle.isa_table.specs.Spells.{word_of}
 use Rattle.asm_assemble.specs.declared.cursor.Cursor.{Cursor}
 use Rattle.asm_assemble.specs.declared.push.PushFault.{PushFault}
 use Rattle.asm_assemble.specs.declared.push.PushFault.TheVariants as faults
 use Rattle.asm_assemble.specs.Program.{SymbolList}
-use Rattle.asm_assemble.specs.Numbers.{as_word, is_between}
-use Rattle.asm_assemble.specs.Operands.{value_of}
-use Rattle.asm_assemble.specs.Instructions.{instr_of, pair_of}
-use Rattle.asm_assemble.specs.Cursors.{align_size, address, step}
-use Rattle.asm_assemble.specs.Locals.{Local, local_at, local_of}
+use Rattle.asm_assemble.specs.Numbers.{as_word, is_in_range}
+use Rattle.asm_assemble.specs.Operands.{valued_operand}
+use Rattle.asm_assemble.specs.Instructions.{placed_instr, instr_pair}
+use Rattle.asm_assemble.specs.Cursors.{align_size, cursor_address, stepped_cursor}
+use Rattle.asm_assemble.specs.Locals.{Local, local_label_at, local_label_of}
 use Rattle.asm_assemble.specs.Placing.{at_statement}
 
 -- the bytes of an instruction, little-endian
@@ -37,14 +37,14 @@ pair_bytes first (Some second) = instr_bytes first ++ instr_bytes second
 
 -- whether a value fits a word, if it is a number
 unfoldable pub fits_word : Value → Bool
-fits_word (values.Number n) = is_between (2 ^ 31) (2 ^ 32) n
+fits_word (values.Number n) = is_in_range (2 ^ 31) (2 ^ 32) n
 fits_word (values.Symbol name offset) = true
 
 -- the bytes of values, four each
 unfoldable pub word_list : SymbolList → List Value → Result (List ℕ) FaultKind
 word_list symbols [] = Ok []
 word_list symbols (v ∷ vs) =
-    value_of symbols v >>= λ word. word_list symbols vs >>= λ bytes. Ok (to_le_bytes w32 word ++ bytes)
+    valued_operand symbols v >>= λ word. word_list symbols vs >>= λ bytes. Ok (to_le_bytes w32 word ++ bytes)
 
 -- the bytes of numbers, two each
 unfoldable pub half_list : List ℤ → List ℕ
@@ -77,9 +77,9 @@ unfoldable pub directive_bytes : SymbolList → Section → ℕ → DirectiveVal
 directive_bytes symbols section at (directive.Words vs) =
     where_fits (list_all fits_word vs) (word_list symbols vs)
 directive_bytes symbols section at (directive.Halves ns) =
-    where_fits (list_all (is_between (2 ^ 15) (2 ^ 16)) ns) (Ok (half_list ns))
+    where_fits (list_all (is_in_range (2 ^ 15) (2 ^ 16)) ns) (Ok (half_list ns))
 directive_bytes symbols section at (directive.Bytes ns) =
-    where_fits (list_all (is_between (2 ^ 7) (2 ^ 8)) ns) (Ok (byte_list ns))
+    where_fits (list_all (is_in_range (2 ^ 7) (2 ^ 8)) ns) (Ok (byte_list ns))
 directive_bytes symbols section at (directive.Ascii bytes) = Ok bytes
 directive_bytes symbols section at (directive.Zero count) = Ok (replicate count 0)
 directive_bytes symbols section at (directive.Align n) =
@@ -88,14 +88,14 @@ directive_bytes symbols section at (directive.Section to) = Ok []
 directive_bytes symbols section at (directive.Global names) = Ok []
 
 -- the bytes of a statement at an address in a section
-unfoldable pub bytes_of : SymbolList → Option ℕ → Section → ℕ → BodyValue → Result (List ℕ) FaultKind
-bytes_of symbols local section at (body.Label name) = Ok []
-bytes_of symbols local section at (body.LocalLabel digits) = Ok []
-bytes_of symbols local section at (body.Instruction i) =
-    instr_of symbols local at i >>= λ i. Ok (instr_bytes i)
-bytes_of symbols local section at (body.Pseudo p) =
-    pair_of symbols at p >>= λ pair. Ok (pair_bytes pair.first pair.second)
-bytes_of symbols local section at (body.Directive d) = directive_bytes symbols section at d
+unfoldable pub valued_bytes : SymbolList → Option ℕ → Section → ℕ → BodyValue → Result (List ℕ) FaultKind
+valued_bytes symbols local section at (body.Label name) = Ok []
+valued_bytes symbols local section at (body.LocalLabel digits) = Ok []
+valued_bytes symbols local section at (body.Instruction i) =
+    placed_instr symbols local at i >>= λ i. Ok (instr_bytes i)
+valued_bytes symbols local section at (body.Pseudo p) =
+    instr_pair symbols at p >>= λ pair. Ok (pair_bytes pair.first pair.second)
+valued_bytes symbols local section at (body.Directive d) = directive_bytes symbols section at d
 
 -- the bytes with more after them
 unfoldable pub appended : List ℕ → Result (List ℕ) FaultKind → Result (List ℕ) FaultKind
@@ -114,20 +114,20 @@ pub record Images : Type 0 where
   pub data_bytes : List ℕ
 
 -- the bytes of the sections, with more at a section's end; zeros have none
-unfoldable pub put : Section → Images → List ℕ → Images
-put sections.Text images bytes = record images { text_bytes = images.text_bytes ++ bytes }
-put sections.Data images bytes = record images { data_bytes = images.data_bytes ++ bytes }
-put sections.Zeros images bytes = images
+unfoldable pub put_bytes : Section → Images → List ℕ → Images
+put_bytes sections.Text images bytes = record images { text_bytes = images.text_bytes ++ bytes }
+put_bytes sections.Data images bytes = record images { data_bytes = images.data_bytes ++ bytes }
+put_bytes sections.Zeros images bytes = images
 
 -- the bytes of a statement in its section; zeros have none, and operands there no values
 unfoldable pub bytes_in : SymbolList → Option ℕ → Section → ℕ → BodyValue → Result (List ℕ) FaultKind
-bytes_in symbols local sections.Text at b = bytes_of symbols local sections.Text at b
-bytes_in symbols local sections.Data at b = bytes_of symbols local sections.Data at b
+bytes_in symbols local sections.Text at b = valued_bytes symbols local sections.Text at b
+bytes_in symbols local sections.Data at b = valued_bytes symbols local sections.Data at b
 bytes_in symbols local sections.Zeros at b = Ok []
 
 -- the sections with a statement's bytes
 unfoldable pub put_all : Section → Images → Result (List ℕ) FaultKind → Result Images FaultKind
-put_all section images (Ok bytes) = Ok (put section images bytes)
+put_all section images (Ok bytes) = Ok (put_bytes section images bytes)
 put_all section images (Err kind) = Err kind
 
 -- a statement's result; a fault gets the statement's place
@@ -139,10 +139,10 @@ said_at s (Err kind) = Err (at_statement s kind)
 unfoldable pub valuing : SymbolList → List Local → Images → Cursor → List StatementValue → Result Images Fault
 valuing symbols before done c [] = Ok done
 valuing symbols before done c (s ∷ ss) =
-    let next = step c s.body in
-    let local = local_of before next ss s.source s.body in
-    said_at s (bytes_in symbols local c.section (address c) s.body) >>= λ bytes.
-    valuing symbols (local_at s.source (address c) s.body ++ before) (put c.section done bytes) next ss
+    let next = stepped_cursor c s.body in
+    let local = local_label_of before next ss s.source s.body in
+    said_at s (bytes_in symbols local c.section (cursor_address c) s.body) >>= λ bytes.
+    valuing symbols (local_label_at s.source (cursor_address c) s.body ++ before) (put_bytes c.section done bytes) next ss
 
 -- no bytes
 abbrev pub no_bytes : Images

@@ -2,13 +2,13 @@
 ghost use Rattle.std.specs.Prelude.{◌≡◌, ◌^◌, ◌∷◌, IfOk, List, Option, ℕ, length, reverse};
 ghost use Rattle.asm_assemble.specs.Program.{symbol_list};
 ghost use Rattle.asm_assemble.specs.Operands.{found};
-ghost use Rattle.asm_assemble.specs.Cursors.{IsWithin};
+ghost use Rattle.asm_assemble.specs.Cursors.{CursorIsWithin};
 ghost use Rattle.asm_assemble.specs.Ahead.{addresses, target_ahead, reference, references};
 
 use crate::cursor::{Cursor, count_of};
 use crate::locals::{Places, in_source, note};
 use crate::table::{empty, look_up};
-use asm_parse::{Body, Instruction, Statement, Target};
+use asm_statement::{Body, Instruction, Statement, Target};
 use std::alloc::{AllocError, Allocator};
 
 // The address of each statement, modulo 2^32.
@@ -18,7 +18,7 @@ fn addresses_of<A: Allocator>(
     start: Cursor,
     statements: &[Statement<'_, A>],
 ) -> Result<Vec<u32, A>, AllocError>
-    requires { IsWithin (2 ^ 63) start }
+    requires { CursorIsWithin (2 ^ 63) start }
     ensures { IfOk result (λ all. all.items ≡ addresses start statements.now) }
 {
     // The number of statements bounds the cursor.
@@ -87,7 +87,7 @@ pub fn aheads_of<A: Allocator + Copy>(
     start: Cursor,
     statements: &[Statement<'_, A>],
 ) -> Result<Vec<Option<u32>, A>, AllocError>
-    requires { IsWithin (2 ^ 63) start }
+    requires { CursorIsWithin (2 ^ 63) start }
     ensures { IfOk result (λ all. reverse all.items
         ≡ references (addresses start statements.now) statements.now) }
 {

@@ -2,7 +2,7 @@
 ghost use Rattle.std.specs.Prelude.{◌≡◌, ℕ, ◌+◌, ◌*◌, ◌^◌, ◌<◌, ◌≤◌, length};
 
 use crate::instruction::pseudo_size;
-use asm_parse::{Body, Directive, Section, Statement};
+use asm_statement::{Body, Directive, Section, Statement};
 use std::alloc::Allocator;
 
 /// The next address in each section, and the section of the next statement.
@@ -15,8 +15,8 @@ pub struct Cursor {
 }
 
 ghost use Rattle.asm_assemble.specs.Program.{round_up};
-ghost use Rattle.asm_assemble.specs.Cursors.{size, align_size, directive_size, address, section_of, step, cursor_after, IsWithin};
-ghost use Rattle.asm_parse.specs.Statement.{directive_value};
+ghost use Rattle.asm_assemble.specs.Cursors.{size, align_size, directive_size, cursor_address, section_of, stepped_cursor, cursor_after, CursorIsWithin};
+ghost use Rattle.asm_statement.specs.Statement.{directive_value};
 
 /// The least multiple of the unit that is at least an address.
 #[tactic(auto, unfolding(crate::specs::Program::round_up))]
@@ -92,11 +92,11 @@ fn section_of<A: Allocator>(statement: &Statement<'_, A>) -> Option<Section>
 
 impl Cursor {
     /// The address of the next statement.
-    #[tactic(auto, unfolding(crate::specs::Cursors::address, crate::specs::Cursors::IsWithin))]
+    #[tactic(auto, unfolding(crate::specs::Cursors::cursor_address, crate::specs::Cursors::CursorIsWithin))]
     #[inline(always)]
     pub fn address(&self) -> u128
-        ensures value { result ≡ address self.now }
-        ensures small { IsWithin (2 ^ 63 + 2 ^ 61) self.now → result < 2 ^ 127 + 2 ^ 126 }
+        ensures value { result ≡ cursor_address self.now }
+        ensures small { CursorIsWithin (2 ^ 63 + 2 ^ 61) self.now → result < 2 ^ 127 + 2 ^ 126 }
     {
         match self.section {
             Section::Text => self.text_at,
@@ -106,12 +106,12 @@ impl Cursor {
     }
 
     /// The cursor after a statement.
-    #[tactic(auto, unfolding(crate::specs::Cursors::step, crate::specs::Cursors::IsWithin))]
+    #[tactic(auto, unfolding(crate::specs::Cursors::stepped_cursor, crate::specs::Cursors::CursorIsWithin))]
     #[inline(always)]
     pub fn step<A: Allocator>(self, statement: &Statement<'_, A>) -> Cursor
-        requires { IsWithin (2 ^ 63 + 2 ^ 61) self }
-        ensures value { result ≡ step self statement.now.body }
-        ensures small { (n : ℕ) → IsWithin n self → IsWithin (n + 1) result }
+        requires { CursorIsWithin (2 ^ 63 + 2 ^ 61) self }
+        ensures value { result ≡ stepped_cursor self statement.now.body }
+        ensures small { (n : ℕ) → CursorIsWithin n self → CursorIsWithin (n + 1) result }
     {
         let mut next = self;
         if let Some(section) = section_of(statement) {
@@ -138,9 +138,9 @@ pub fn count_of<A: Allocator>(statements: &[Statement<'_, A>]) -> usize
 
 /// The cursor after all statements.
 pub fn cursor_after<A: Allocator>(start: Cursor, statements: &[Statement<'_, A>]) -> Cursor
-    requires { IsWithin (2 ^ 63) start }
+    requires { CursorIsWithin (2 ^ 63) start }
     ensures value { result ≡ cursor_after start statements.now }
-    ensures small { (n : ℕ) → IsWithin n start → IsWithin (n + 2 ^ 61) result }
+    ensures small { (n : ℕ) → CursorIsWithin n start → CursorIsWithin (n + 2 ^ 61) result }
 {
     // The number of statements bounds the cursor.
     let _count = count_of(statements);

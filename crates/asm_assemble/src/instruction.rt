@@ -2,14 +2,14 @@
 ghost use Rattle.std.specs.Prelude.{◌≡◌, ◌≤◌, ◌<◌, ◌^◌, Some, None, if◌then◌else◌};
 ghost use Rattle.asm_assemble.specs.Program.{symbol_list};
 ghost use Rattle.asm_assemble.specs.Numbers.{is_signed_word};
-ghost use Rattle.asm_assemble.specs.Instructions.{addi, offset_to, instr_of, is_short, li_pair, la_pair, jump_pair, pair_of, pseudo_size};
+ghost use Rattle.asm_assemble.specs.Instructions.{addi, offset_to, placed_instr, is_short, li_pair, la_pair, jump_pair, instr_pair, pseudo_size};
 
 use crate::number::{
     amount_of, as_word, branch_offset, distance, high_part, jump_offset, low_part,
 };
 use crate::operand::{immediate_of, symbol_value, target_of, upper_of};
 use crate::program::Symbols;
-use asm_parse::{FaultKind, Instruction, Pseudo, Target};
+use asm_statement::{FaultKind, Instruction, Pseudo, Target};
 use isa_table::{BranchOffset, Immediate12, ImmediateOp, Instr, JumpOffset, Reg};
 use std::alloc::Allocator;
 
@@ -49,14 +49,14 @@ fn jump_to<A: Allocator>(
 }
 
 /// The instruction of a statement at an address.
-#[tactic(auto, unfolding(crate::specs::Instructions::instr_of))]
+#[tactic(auto, unfolding(crate::specs::Instructions::placed_instr))]
 pub fn instr_of<A: Allocator>(
     symbols: &Symbols<A>,
     local: Option<u32>,
     at: u128,
     instruction: &Instruction<'_>,
 ) -> Result<Instr, FaultKind>
-    ensures { result ≡ instr_of (symbol_list symbols.now.entries) local at instruction.now }
+    ensures { result ≡ placed_instr (symbol_list symbols.now.entries) local at instruction.now }
 {
     Ok(match instruction {
         Instruction::Fixed(instr) => *instr,
@@ -205,13 +205,13 @@ fn jump_pair(by: Reg, rd: Reg, d: u32) -> Pair
 }
 
 /// The instructions of a pseudo-instruction at an address.
-#[tactic(auto, unfolding(crate::specs::Instructions::pair_of, crate::specs::Numbers::is_between))]
+#[tactic(auto, unfolding(crate::specs::Instructions::instr_pair, crate::specs::Numbers::is_in_range))]
 pub fn pair_of<A: Allocator>(
     symbols: &Symbols<A>,
     at: u128,
     pseudo: &Pseudo<'_>,
 ) -> Result<Pair, FaultKind>
-    ensures { result ≡ pair_of (symbol_list symbols.now.entries) at pseudo.now }
+    ensures { result ≡ instr_pair (symbol_list symbols.now.entries) at pseudo.now }
 {
     match pseudo {
         Pseudo::Li { number, .. } if *number < -0x8000_0000 => Err(FaultKind::Range),

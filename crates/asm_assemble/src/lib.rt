@@ -7,7 +7,6 @@ pub use laws::{
 pub use limits::programs_begin_and_end;
 pub use phases::assemble_statements;
 pub use program::{PROGRAM_LIMIT, Program, Symbol, Symbols, TEXT_BASE};
-pub use sources::assemble;
 pub use table::Table;
 
 mod ahead;
@@ -23,6 +22,5 @@ mod placing;
 mod program;
 mod push;
 mod sections;
-mod sources;
 mod table;
 mod valuing;

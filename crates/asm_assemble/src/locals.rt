@@ -2,11 +2,11 @@
 ghost use Rattle.std.specs.Prelude.{◌≡◌, ◌++◌, OnOk, List, ℕ};
 ghost use Rattle.asm_assemble.specs.Program.{symbol_list};
 ghost use Rattle.asm_assemble.specs.Operands.{found};
-ghost use Rattle.asm_assemble.specs.Locals.{in_source, place_of, back_of, local_at};
+ghost use Rattle.asm_assemble.specs.Locals.{in_source, local_place, back_of, local_label_at};
 ghost use Rattle.asm_assemble.specs.Ahead.{target_by, local_by};
 
 use crate::table::{Table, look_up, put};
-use asm_parse::{Body, Instruction, Statement, Target};
+use asm_statement::{Body, Instruction, Statement, Target};
 use std::alloc::{AllocError, Allocator};
 
 /// The place of a local label.
@@ -34,7 +34,7 @@ pub fn in_source(source: usize, place: Option<Place>) -> Option<u32>
 
 // The place of a local label at an address.
 fn place_of<A: Allocator>(at: u128, statement: &Statement<'_, A>) -> Place
-    ensures { result ≡ place_of statement.now.source at }
+    ensures { result ≡ local_place statement.now.source at }
 {
     Place {
         source: statement.source,
@@ -86,7 +86,7 @@ pub fn local_of<A: Allocator>(
 }
 
 /// Records the local label of a statement at an address. Fails when out of memory.
-#[tactic(auto, unfolding(crate::specs::Locals::local_at))]
+#[tactic(auto, unfolding(crate::specs::Locals::local_label_at))]
 pub fn note<A: Allocator + Copy>(
     alloc: A,
     before: &mut Places<A>,
@@ -94,7 +94,7 @@ pub fn note<A: Allocator + Copy>(
     statement: &Statement<'_, A>,
 ) -> Result<(), AllocError>
     ensures { OnOk result ((q : List ℕ) → found (symbol_list before.new.entries) q
-        ≡ found (local_at statement.now.source at statement.now.body
+        ≡ found (local_label_at statement.now.source at statement.now.body
         ++ symbol_list before.old.entries) q) }
 {
     match &statement.body {

@@ -2,7 +2,7 @@
 ghost use Rattle.std.specs.Prelude.{◌≡◌};
 ghost use Rattle.asm_assemble.specs.Numbers.{as_word, number12, number20, amount_of, hi, lo, distance, offset_of};
 
-use asm_parse::FaultKind;
+use asm_statement::FaultKind;
 use isa_table::{BranchOffset, Immediate12, JumpOffset, ShiftAmount, UpperImmediate};
 
 /// A number modulo 2^32.
@@ -14,7 +14,7 @@ pub fn as_word(number: i64) -> u32
 }
 
 /// The 12-bit immediate with a number's value, or `Range`.
-#[tactic(auto, unfolding(crate::specs::Numbers::as_word, crate::specs::Numbers::number12, crate::specs::Numbers::is_between))]
+#[tactic(auto, unfolding(crate::specs::Numbers::as_word, crate::specs::Numbers::number12, crate::specs::Numbers::is_in_range))]
 pub fn number12(number: i64) -> Result<Immediate12, FaultKind>
     ensures { result ≡ number12 number }
 {
@@ -25,7 +25,7 @@ pub fn number12(number: i64) -> Result<Immediate12, FaultKind>
 }
 
 /// The 20-bit immediate with a number's value, or `Range`.
-#[tactic(auto, unfolding(crate::specs::Numbers::as_word, crate::specs::Numbers::number20, crate::specs::Numbers::is_between))]
+#[tactic(auto, unfolding(crate::specs::Numbers::as_word, crate::specs::Numbers::number20, crate::specs::Numbers::is_in_range))]
 pub fn number20(number: i64) -> Result<UpperImmediate, FaultKind>
     ensures { result ≡ number20 number }
 {
@@ -36,7 +36,7 @@ pub fn number20(number: i64) -> Result<UpperImmediate, FaultKind>
 }
 
 /// The shift amount with a number's value, or `Range`.
-#[tactic(auto, unfolding(crate::specs::Numbers::as_word, crate::specs::Numbers::amount_of, crate::specs::Numbers::is_between))]
+#[tactic(auto, unfolding(crate::specs::Numbers::as_word, crate::specs::Numbers::amount_of, crate::specs::Numbers::is_in_range))]
 pub fn amount_of(number: i64) -> Result<ShiftAmount, FaultKind>
     ensures { result ≡ amount_of number }
 {

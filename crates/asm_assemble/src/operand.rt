@@ -1,19 +1,19 @@
 //! The values of operands.
 ghost use Rattle.std.specs.Prelude.{◌≡◌};
 ghost use Rattle.asm_assemble.specs.Program.{symbol_list};
-ghost use Rattle.asm_assemble.specs.Operands.{address_of, defined, symbol_value, value_of, immediate_of, upper_of, target_of};
+ghost use Rattle.asm_assemble.specs.Operands.{operand_address, defined, symbol_value, valued_operand, immediate_of, upper_of, operand_target};
 
 use crate::number::{as_word, high_part, low_part, number12, number20};
 use crate::program::Symbols;
 use crate::table::look_up;
-use asm_parse::{FaultKind, Immediate, Target, Upper, Value};
+use asm_statement::{FaultKind, Immediate, Target, Upper, Value};
 use isa_table::{Immediate12, UpperImmediate};
 use std::alloc::Allocator;
 
 /// The address of a symbol.
-#[tactic(auto, unfolding(crate::specs::Operands::address_of))]
+#[tactic(auto, unfolding(crate::specs::Operands::operand_address))]
 pub fn address_of<A: Allocator>(symbols: &Symbols<A>, name: &str) -> Option<u32>
-    ensures { result ≡ address_of (symbol_list symbols.now.entries) name.now }
+    ensures { result ≡ operand_address (symbol_list symbols.now.entries) name.now }
 {
     look_up(symbols, name).map(|symbol| symbol.address)
 }
@@ -30,9 +30,9 @@ fn defined(address: Option<u32>) -> Result<u32, FaultKind>
 }
 
 /// The value of an operand, modulo 2^32.
-#[tactic(auto, unfolding(crate::specs::Operands::value_of))]
+#[tactic(auto, unfolding(crate::specs::Operands::valued_operand))]
 pub fn value_of<A: Allocator>(symbols: &Symbols<A>, value: &Value<'_>) -> Result<u32, FaultKind>
-    ensures { result ≡ value_of (symbol_list symbols.now.entries) value.now }
+    ensures { result ≡ valued_operand (symbol_list symbols.now.entries) value.now }
 {
     match value {
         Value::Number(number) => Ok(as_word(*number)),
@@ -82,13 +82,13 @@ pub fn upper_of<A: Allocator>(
 }
 
 /// The address of a target; `local` is the address of the statement's local reference.
-#[tactic(auto, unfolding(crate::specs::Operands::target_of))]
+#[tactic(auto, unfolding(crate::specs::Operands::operand_target))]
 pub fn target_of<A: Allocator>(
     symbols: &Symbols<A>,
     local: Option<u32>,
     target: &Target<'_>,
 ) -> Result<u32, FaultKind>
-    ensures { result ≡ target_of (symbol_list symbols.now.entries) local target.now }
+    ensures { result ≡ operand_target (symbol_list symbols.now.entries) local target.now }
 {
     match target {
         Target::Address(number) => Ok(as_word(*number)),

@@ -1,9 +1,9 @@
 //! Statements to a program, phase by phase.
 ghost use Rattle.std.specs.Prelude.{◌≡◌, ◌≤◌, ◌<◌, ◌+◌, ◌-◌, ◌*◌, ◌^◌};
-ghost use Rattle.asm_parse.specs.Answer.{Gives};
+ghost use Rattle.asm_statement.specs.Answer.{GivesStatements};
 ghost use Rattle.asm_assemble.specs.Program.{symbol_list, segment_size, IsWithinLimit};
-ghost use Rattle.asm_assemble.specs.Cursors.{IsWithin, cursor_after};
-ghost use Rattle.asm_assemble.specs.Assembled.{start_at, data_base, zeros_base, first_cursor, is_too_large, heavy_of, entry_of, symbols_of, assembled, program_of};
+ghost use Rattle.asm_assemble.specs.Cursors.{CursorIsWithin, cursor_after};
+ghost use Rattle.asm_assemble.specs.Assembled.{start_at, data_base, zeros_base, first_cursor, is_too_large, heavy_of, program_entry, assembled_symbols, assembled, program_of_placed};
 
 use crate::cursor::{Cursor, cursor_after, round_up};
 use crate::operand::address_of;
@@ -11,7 +11,7 @@ use crate::placing::{globals_of, last_sized, place};
 use crate::program::{PROGRAM_LIMIT, Program, Symbols, TEXT_BASE};
 use crate::sections::Sections;
 use crate::valuing::value_all;
-use asm_parse::{AsmFault, Section, Statement};
+use asm_statement::{AsmFault, Section, Statement};
 use std::alloc::Allocator;
 
 // The start of the first source, given the addresses of data and zeros.
@@ -67,7 +67,7 @@ fn zeros_base<A: Allocator>(data_at: u128, statements: &[Statement<'_, A>]) -> u
 #[tactic(auto, using(crate::proofs::Within::start_within), unfolding(crate::specs::Assembled::first_cursor))]
 fn first_cursor<A: Allocator>(statements: &[Statement<'_, A>]) -> Cursor
     ensures value { result ≡ first_cursor statements.now }
-    ensures small { IsWithin (2 ^ 62 + 3) result }
+    ensures small { CursorIsWithin (2 ^ 62 + 3) result }
 {
     let data_at = data_base(statements);
     start_at(data_at, zeros_base(data_at, statements))
@@ -88,17 +88,17 @@ fn segment_size(bytes: u128, zeros: u128) -> u128
 }
 
 // The entry of a program with these symbols.
-#[tactic(auto, unfolding(crate::specs::Assembled::entry_of))]
+#[tactic(auto, unfolding(crate::specs::Assembled::program_entry))]
 fn entry_of<A: Allocator>(symbols: &Symbols<A>) -> u32
-    ensures { result ≡ entry_of (symbol_list symbols.now.entries) }
+    ensures { result ≡ program_entry (symbol_list symbols.now.entries) }
 {
     address_of(symbols, "_start").unwrap_or(TEXT_BASE)
 }
 
 // Whether text and data segment are over the limit together.
-#[tactic(auto, unfolding(crate::specs::Assembled::is_too_large, crate::specs::Cursors::IsWithin))]
+#[tactic(auto, unfolding(crate::specs::Assembled::is_too_large, crate::specs::Cursors::CursorIsWithin))]
 fn is_too_large(start: &Cursor, end: &Cursor) -> bool
-    requires { IsWithin (2 ^ 62 + 2 ^ 61 + 3) end.now }
+    requires { CursorIsWithin (2 ^ 62 + 2 ^ 61 + 3) end.now }
     ensures { result ≡ is_too_large start.now end.now }
 {
     let text = end.text_at.saturating_sub(u128::from(TEXT_BASE));
@@ -114,8 +114,8 @@ fn heavy_of<A: Allocator>(
     end: &Cursor,
     statements: &[Statement<'_, A>],
 ) -> Option<usize>
-    requires start_small { IsWithin (2 ^ 63) start }
-    requires end_small { IsWithin (2 ^ 62 + 2 ^ 61 + 3) end.now }
+    requires start_small { CursorIsWithin (2 ^ 63) start }
+    requires end_small { CursorIsWithin (2 ^ 62 + 2 ^ 61 + 3) end.now }
     ensures { result ≡ heavy_of start end.now statements.now }
 {
     if is_too_large(&start, end) {
@@ -126,10 +126,10 @@ fn heavy_of<A: Allocator>(
 }
 
 // The program of these sections.
-#[tactic(auto, unfolding(crate::specs::Assembled::program_of))]
+#[tactic(auto, unfolding(crate::specs::Assembled::program_of_placed))]
 fn program_of<A: Allocator>(sections: Sections<A>, zeros: u32, symbols: Symbols<A>) -> Program<A>
     requires { IsWithinLimit sections.text_bytes sections.data_bytes zeros }
-    ensures { result ≡ program_of sections zeros (symbol_list symbols.entries) }
+    ensures { result ≡ program_of_placed sections zeros (symbol_list symbols.entries) }
 {
     let entry = entry_of(&symbols);
     Program {
@@ -148,10 +148,10 @@ fn symbols_of<A: Allocator + Copy>(
     end: &Cursor,
     statements: &[Statement<'_, A>],
 ) -> Result<Symbols<A>, AsmFault>
-    requires start_small { IsWithin (2 ^ 62 + 2 ^ 60) start }
-    requires end_small { IsWithin (2 ^ 62 + 2 ^ 61 + 3) end.now }
-    ensures { Gives (λ symbols. symbol_list symbols.entries) result
-        (symbols_of start end.now statements.now) }
+    requires start_small { CursorIsWithin (2 ^ 62 + 2 ^ 60) start }
+    requires end_small { CursorIsWithin (2 ^ 62 + 2 ^ 61 + 3) end.now }
+    ensures { GivesStatements (λ symbols. symbol_list symbols.entries) result
+        (assembled_symbols start end.now statements.now) }
 {
     let heavy = heavy_of(start, end, statements);
     let globals = globals_of(alloc, statements)?;
@@ -166,7 +166,7 @@ pub fn assemble_statements<A: Allocator + Copy>(
     alloc: A,
     statements: &[Statement<'_, A>],
 ) -> Result<Program<A>, AsmFault>
-    ensures { Gives (λ program. program) result (assembled statements.now) }
+    ensures { GivesStatements (λ program. program) result (assembled statements.now) }
 {
     let start = first_cursor(statements);
     let end = cursor_after(start, statements);

@@ -1,14 +1,14 @@
 //! Phase 1: the places of statements.
 ghost use Rattle.std.specs.Prelude.{◌≡◌, ◌^◌, ◌<◌, ◌+◌, OnOk, IfOk, ◌++◌, ◌∷◌, [], List, ℕ, map};
-ghost use Rattle.asm_parse.specs.Answer.{Gives};
+ghost use Rattle.asm_statement.specs.Answer.{GivesStatements};
 ghost use Rattle.asm_assemble.specs.Program.{symbol_list};
-ghost use Rattle.asm_assemble.specs.Cursors.{IsWithin, address};
-ghost use Rattle.asm_assemble.specs.Placing.{at_statement, if_sized, last_sized, own_fault, place_fault, with_names, with_globals, globals_from, symbols_at, is_at, placing, IsNew};
+ghost use Rattle.asm_assemble.specs.Cursors.{CursorIsWithin, cursor_address};
+ghost use Rattle.asm_assemble.specs.Placing.{at_statement, if_sized, last_sized, own_fault, place_fault, with_names, with_globals, globals_from, placed_symbols_at, is_at, placing, IsNew};
 
 use crate::cursor::{Cursor, count_of, size};
 use crate::program::{Symbol, Symbols};
 use crate::table::{Table, add, empty, look_up};
-use asm_parse::{AsmFault, Body, Directive, Fault, FaultKind, Name, Statement};
+use asm_statement::{AsmFault, Body, Directive, Fault, FaultKind, Name, Statement};
 use std::alloc::{AllocError, Allocator};
 
 /// A set of names.
@@ -39,7 +39,7 @@ fn if_sized<A: Allocator>(i: usize, at: u128, statement: &Statement<'_, A>) -> O
 
 /// The index of the last statement of size above 0.
 pub fn last_sized<A: Allocator>(start: Cursor, statements: &[Statement<'_, A>]) -> Option<usize>
-    requires { IsWithin (2 ^ 63) start }
+    requires { CursorIsWithin (2 ^ 63) start }
     ensures { result ≡ last_sized 0 start statements.now }
 {
     // The number of statements bounds the cursor.
@@ -138,7 +138,7 @@ pub fn globals_of<A: Allocator + Copy>(
 }
 
 // Adds the symbol that a statement defines.
-#[tactic(auto, unfolding(crate::specs::Placing::symbols_at, crate::specs::Placing::IsNew))]
+#[tactic(auto, unfolding(crate::specs::Placing::placed_symbols_at, crate::specs::Placing::IsNew))]
 fn define<A: Allocator + Copy>(
     alloc: A,
     globals: &Names<A>,
@@ -148,7 +148,7 @@ fn define<A: Allocator + Copy>(
 ) -> Result<(), AllocError>
     requires { IsNew (symbol_list symbols.old.entries) statement.now.body }
     ensures { OnOk result (symbol_list symbols.new.entries ≡ symbol_list symbols.old.entries
-        ++ symbols_at (symbol_list globals.now.entries) cursor.now.section (address cursor.now)
+        ++ placed_symbols_at (symbol_list globals.now.entries) cursor.now.section (cursor_address cursor.now)
         statement.now.body) }
 {
     let Body::Label(name) = &statement.body else {
@@ -180,8 +180,8 @@ pub fn place<A: Allocator + Copy>(
     heavy: Option<usize>,
     statements: &[Statement<'_, A>],
 ) -> Result<Symbols<A>, AsmFault>
-    requires { IsWithin (2 ^ 63) start }
-    ensures { Gives (λ symbols. symbol_list symbols.entries) result
+    requires { CursorIsWithin (2 ^ 63) start }
+    ensures { GivesStatements (λ symbols. symbol_list symbols.entries) result
         (placing (symbol_list globals.now.entries) [] heavy 0 start statements.now) }
 {
     let mut symbols = empty(alloc);

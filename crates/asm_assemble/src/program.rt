@@ -1,7 +1,7 @@
 //! Assembled programs.
 ghost use Rattle.std.specs.Prelude.{◌≡◌};
 
-use asm_parse::Section;
+use asm_statement::Section;
 use indexmap::IndexMap;
 use std::alloc::Allocator;
 use std::hash::{BuildHasherDefault, FoldHasher};

@@ -1,10 +1,10 @@
 //! The bytes of statements.
 ghost use Rattle.std.specs.Prelude.{◌≡◌, ◌<◌, ◌+◌, ◌^◌, ◌++◌, OnOk, replicate};
 ghost use Rattle.std.specs.List.{list_all};
-ghost use Rattle.asm_parse.specs.Statement.{directive_value};
+ghost use Rattle.asm_statement.specs.Statement.{directive_value};
 ghost use Rattle.asm_assemble.specs.Program.{symbol_list};
-ghost use Rattle.asm_assemble.specs.Numbers.{is_between};
-ghost use Rattle.asm_assemble.specs.Valuing.{instr_bytes, pair_bytes, fits_word, word_list, half_list, byte_list, nops, padding, directive_bytes, bytes_of, Pushes, appended};
+ghost use Rattle.asm_assemble.specs.Numbers.{is_in_range};
+ghost use Rattle.asm_assemble.specs.Valuing.{instr_bytes, pair_bytes, fits_word, word_list, half_list, byte_list, nops, padding, directive_bytes, valued_bytes, Pushes, appended};
 ghost use Rattle.asm_assemble.specs.declared.push.PushFault.TheVariants.{Kind, Memory};
 
 use crate::cursor::align_size;
@@ -12,7 +12,7 @@ use crate::instruction::{Pair, instr_of, pair_of};
 use crate::number::as_word;
 use crate::operand::value_of;
 use crate::program::Symbols;
-use asm_parse::{Body, Directive, FaultKind, Section, Statement, Value};
+use asm_statement::{Body, Directive, FaultKind, Section, Statement, Value};
 use isa_encode::encode;
 use isa_table::Instr;
 use std::alloc::{AllocError, Allocator};
@@ -103,7 +103,7 @@ fn push_padding<A: Allocator>(
 }
 
 // Whether a value fits a word, if it is a number.
-#[tactic(auto, unfolding(crate::specs::Valuing::fits_word, crate::specs::Numbers::is_between))]
+#[tactic(auto, unfolding(crate::specs::Valuing::fits_word, crate::specs::Numbers::is_in_range))]
 fn fits_word(value: &Value<'_>) -> bool
     ensures { result ≡ fits_word value.now }
 {
@@ -126,16 +126,16 @@ fn fit_words(values: &[Value<'_>]) -> bool
 }
 
 // Whether a number fits a halfword.
-#[tactic(auto, unfolding(crate::specs::Numbers::is_between))]
+#[tactic(auto, unfolding(crate::specs::Numbers::is_in_range))]
 fn fits_half(number: i64) -> bool
-    ensures { result ≡ is_between (2 ^ 15) (2 ^ 16) number }
+    ensures { result ≡ is_in_range (2 ^ 15) (2 ^ 16) number }
 {
     -0x8000 <= number && number < 0x1_0000
 }
 
 // Whether all numbers fit halfwords.
 fn fit_halves(numbers: &[i64]) -> bool
-    ensures { result ≡ list_all (is_between (2 ^ 15) (2 ^ 16)) numbers.now }
+    ensures { result ≡ list_all (is_in_range (2 ^ 15) (2 ^ 16)) numbers.now }
 {
     'numbers: for number in numbers {
         if !fits_half(*number) {
@@ -146,16 +146,16 @@ fn fit_halves(numbers: &[i64]) -> bool
 }
 
 // Whether a number fits a byte.
-#[tactic(auto, unfolding(crate::specs::Numbers::is_between))]
+#[tactic(auto, unfolding(crate::specs::Numbers::is_in_range))]
 fn fits_byte(number: i64) -> bool
-    ensures { result ≡ is_between (2 ^ 7) (2 ^ 8) number }
+    ensures { result ≡ is_in_range (2 ^ 7) (2 ^ 8) number }
 {
     -0x80 <= number && number < 0x100
 }
 
 // Whether all numbers fit bytes.
 fn fit_bytes(numbers: &[i64]) -> bool
-    ensures { result ≡ list_all (is_between (2 ^ 7) (2 ^ 8)) numbers.now }
+    ensures { result ≡ list_all (is_in_range (2 ^ 7) (2 ^ 8)) numbers.now }
 {
     'numbers: for number in numbers {
         if !fits_byte(*number) {
@@ -250,7 +250,7 @@ fn push_directive<A: Allocator>(
 
 /// Appends the bytes of a statement at an address in a section; `local` is the address of its local
 /// reference.
-#[tactic(auto, unfolding(crate::specs::Valuing::bytes_of, crate::specs::Valuing::appended, crate::specs::Valuing::Pushes))]
+#[tactic(auto, unfolding(crate::specs::Valuing::valued_bytes, crate::specs::Valuing::appended, crate::specs::Valuing::Pushes))]
 pub fn push_statement<A: Allocator>(
     out: &mut Vec<u8, A>,
     symbols: &Symbols<A>,
@@ -260,7 +260,7 @@ pub fn push_statement<A: Allocator>(
     statement: &Statement<'_, A>,
 ) -> Result<(), PushFault>
     requires { at < 2 ^ 127 + 2 ^ 126 }
-    ensures { Pushes result out.new.items (appended out.old.items (bytes_of
+    ensures { Pushes result out.new.items (appended out.old.items (valued_bytes
         (symbol_list symbols.now.entries) local section at statement.now.body)) }
 {
     match &statement.body {

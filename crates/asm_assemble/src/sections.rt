@@ -1,13 +1,13 @@
 //! The bytes of the text and of the data.
 ghost use Rattle.std.specs.Prelude.{◌≡◌, ◌<◌, ◌+◌, ◌^◌};
 ghost use Rattle.asm_assemble.specs.Program.{symbol_list};
-ghost use Rattle.asm_assemble.specs.Cursors.{IsWithin, address};
+ghost use Rattle.asm_assemble.specs.Cursors.{CursorIsWithin, cursor_address};
 ghost use Rattle.asm_assemble.specs.Valuing.{Pushes, bytes_in, put_all, no_bytes};
 
 use crate::cursor::Cursor;
 use crate::program::Symbols;
 use crate::push::{PushFault, push_statement};
-use asm_parse::{Section, Statement};
+use asm_statement::{Section, Statement};
 use std::alloc::Allocator;
 use std::marker::Model;
 
@@ -49,9 +49,9 @@ impl<A: Allocator> Sections<A> {
         cursor: &Cursor,
         statement: &Statement<'_, A>,
     ) -> Result<(), PushFault>
-        requires { IsWithin (2 ^ 63 + 2 ^ 61) cursor.now }
+        requires { CursorIsWithin (2 ^ 63 + 2 ^ 61) cursor.now }
         ensures { Pushes result self.new (put_all cursor.now.section self.old (bytes_in
-            (symbol_list symbols.now.entries) local cursor.now.section (address cursor.now)
+            (symbol_list symbols.now.entries) local cursor.now.section (cursor_address cursor.now)
             statement.now.body)) }
     {
         let at = cursor.address();

@@ -1,8 +1,8 @@
 //! Phase 2: the values of operands.
 ghost use Rattle.std.specs.Prelude.{◌≡◌, ◌^◌, ◌<◌, ◌+◌, []};
-ghost use Rattle.asm_parse.specs.Answer.{Gives};
+ghost use Rattle.asm_statement.specs.Answer.{GivesStatements};
 ghost use Rattle.asm_assemble.specs.Program.{symbol_list};
-ghost use Rattle.asm_assemble.specs.Cursors.{IsWithin};
+ghost use Rattle.asm_assemble.specs.Cursors.{CursorIsWithin};
 ghost use Rattle.asm_assemble.specs.Valuing.{valuing, no_bytes};
 
 use crate::ahead::{aheads_of, take_last};
@@ -13,7 +13,7 @@ use crate::program::Symbols;
 use crate::push::PushFault;
 use crate::sections::Sections;
 use crate::table::empty;
-use asm_parse::{AsmFault, Statement};
+use asm_statement::{AsmFault, Statement};
 use std::alloc::Allocator;
 
 /// The bytes of the sections, or the first fault of this phase.
@@ -24,8 +24,8 @@ pub fn value_all<A: Allocator + Copy>(
     start: Cursor,
     statements: &[Statement<'_, A>],
 ) -> Result<Sections<A>, AsmFault>
-    requires { IsWithin (2 ^ 62 + 2 ^ 60) start }
-    ensures { Gives (λ sections. sections) result
+    requires { CursorIsWithin (2 ^ 62 + 2 ^ 60) start }
+    ensures { GivesStatements (λ sections. sections) result
         (valuing (symbol_list symbols.now.entries) [] no_bytes start statements.now) }
 {
     // The number of statements bounds the cursor.

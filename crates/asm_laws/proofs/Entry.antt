@@ -4,11 +4,11 @@ use Rattle.std.specs.Prelude.{unwrap_or, codes}
 use Rattle.std.specs.Map.{lookup}
 use Rattle.std.specs.Option.{option_map}
 use Rattle.std.specs.Str.{bytes_eq}
-use Rattle.asm_parse.specs.Statement.{StatementValue, BodyValue}
-use Rattle.asm_parse.specs.declared.statement.Section.{Section}
-use Rattle.asm_parse.specs.declared.statement.Body.TheVariants as body
-use Rattle.asm_assemble.specs.Operands.{found, address_of}
-use Rattle.asm_assemble.specs.Placed.{Standing, Bases, ArePlaced, symbol_at, symbols_in}
+use Rattle.asm_statement.specs.Statement.{StatementValue, BodyValue}
+use Rattle.asm_statement.specs.declared.statement.Section.{Section}
+use Rattle.asm_statement.specs.declared.statement.Body.TheVariants as body
+use Rattle.asm_assemble.specs.Operands.{found, operand_address}
+use Rattle.asm_assemble.specs.Placed.{Standing, Bases, ArePlaced, symbol_at, placed_symbols_in}
 use Rattle.asm_assemble.specs.Program.{SymbolList, ProgramValue}
 use Rattle.asm_assemble.specs.declared.program.Symbol.{Symbol}
 
@@ -19,8 +19,8 @@ AreSmall (e ∷ es) = (e.1.address < 2 ^ 32) × AreSmall es
 abbrev address_in : Option Symbol → Option ℕ
 address_in o = option_map (λ (s : Symbol). s.address) o
 
-found_small : (es : SymbolList) (name : List ℕ) → AreSmall es → IfSome (address_of es name) (λ a. a < 2 ^ 32)
-unfolding address_of found
+found_small : (es : SymbolList) (name : List ℕ) → AreSmall es → IfSome (operand_address es name) (λ a. a < 2 ^ 32)
+unfolding operand_address found
 found_small [] name h = tt
 found_small (e ∷ es) name h = by (bytes_eq name e.0) (found_small es name h.1)
   where
@@ -35,8 +35,8 @@ one_small all section at (body.Instruction n) rest h = h
 one_small all section at (body.Pseudo n) rest h = h
 one_small all section at (body.Directive n) rest h = h
 
-all_small : (all ss : List Standing) → AreSmall (symbols_in all ss)
-unfolding symbols_in
+all_small : (all ss : List Standing) → AreSmall (placed_symbols_in all ss)
+unfolding placed_symbols_in
 all_small all [] = tt
 all_small all (s ∷ ss) = one_small all s.section s.address s.statement.body _ (all_small all ss)
 
@@ -47,4 +47,4 @@ else_small (Some a) h = h
 pub entry_small : (ss : List StatementValue) (p : ProgramValue) (all : List Standing) (bases : Bases) → ArePlaced ss p all bases → p.entry < 2 ^ 32
 entry_small ss p all bases h =
     subst (λ a. a < 2 ^ 32) (sym h.entry)
-    (else_small (address_of p.symbols (codes "_start")) (found_small p.symbols (codes "_start") (subst AreSmall (sym h.symbols) (all_small all all))))
+    (else_small (operand_address p.symbols (codes "_start")) (found_small p.symbols (codes "_start") (subst AreSmall (sym h.symbols) (all_small all all))))

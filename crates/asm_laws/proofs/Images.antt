@@ -15,10 +15,10 @@ use Rattle.isa_disasm.specs.Listing.{listing, byte_lines, lines_from}
 use Rattle.isa_disasm.specs.Segments.{is_executable, segment_text, ListsSegments}
 use Rattle.asm_assemble.specs.Placed.{Bases, Standing, AreBases, IsNextMultiple, taken}
 use Rattle.asm_assemble.specs.Program.{ProgramValue, round_up, segment_size}
-use Rattle.asm_parse.specs.declared.statement.Section.TheVariants as sections
+use Rattle.asm_statement.specs.declared.statement.Section.TheVariants as sections
 use Rattle.elf_write.specs.File.{program_segments}
 use Rattle.elf_write.specs.Layout.{data_distance, data_size}
-use Rattle.asm_laws.specs.Own.{StandsAt, HasWord, HasLine, image_lines}
+use Rattle.asm_laws.specs.Own.{StandsInImage, HasWord, HasLine, image_lines}
 use Rattle.asm_laws.proofs.Words.{word_small, word_line_in, lines_cut}
 
 -- bytes at an address of a section that begins at a base
@@ -63,7 +63,7 @@ image_of p = record { entry = p.entry; segments = program_segments p }
 not_none : (n : ℕ) → 0 < n → (n == 0) ≡ false
 not_none n h = grind (arith, nat_tests)
 
-pub stands_in_text : (p : ProgramValue) (address : ℕ) (bytes : List ℕ) → 0 < length bytes → Piece p.text 0x10000 address bytes → StandsAt (image_of p) address bytes
+pub stands_in_text : (p : ProgramValue) (address : ℕ) (bytes : List ℕ) → 0 < length bytes → Piece p.text 0x10000 address bytes → StandsInImage (image_of p) address bytes
 unfolding program_segments
 stands_in_text p address bytes full h =
     let long : length bytes ≤ length p.text = piece_long p.text 0x10000 address bytes h in
@@ -87,7 +87,7 @@ held_long bytes zeros = by (zeros == 0)
     by true = omega arith
     by false = omega arith
 
-pub stands_in_data : (p : ProgramValue) (address : ℕ) (bytes : List ℕ) → 0 < length bytes → Piece p.bytes (0x10000 + data_distance p) address bytes → StandsAt (image_of p) address bytes
+pub stands_in_data : (p : ProgramValue) (address : ℕ) (bytes : List ℕ) → 0 < length bytes → Piece p.bytes (0x10000 + data_distance p) address bytes → StandsInImage (image_of p) address bytes
 unfolding program_segments data_size
 stands_in_data p address bytes full h =
     let long : length bytes ≤ length p.bytes = piece_long p.bytes (0x10000 + data_distance p) address bytes h in
@@ -116,7 +116,7 @@ data_begins p all bases h sized =
     next_is (length p.text) next.times bases.data_base next.multiple next.not_below next.least
 
 -- ---- an instruction's word
-pub has_word : (p : ProgramValue) (address : ℕ) (i : Instr) → InRange i → StandsAt (image_of p) address (to_le_bytes w32 (word_of i)) → HasWord (image_of p) address i
+pub has_word : (p : ProgramValue) (address : ℕ) (i : Instr) → InRange i → StandsInImage (image_of p) address (to_le_bytes w32 (word_of i)) → HasWord (image_of p) address i
 has_word p address i h stands = record { word = word_of i; fits = word_small i; spells = record { word_is = refl; in_range = h }; stands = stands }
 
 pub has_line : (text : List ℕ) (address : ℕ) (i : Instr) → InRange i → address % 4 ≡ 0 → Piece text 0x10000 address (to_le_bytes w32 (word_of i)) → HasLine text (listing 0x10000 text) address i

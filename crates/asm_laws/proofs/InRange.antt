@@ -3,15 +3,15 @@ use Rattle.std.proofs.Common.{◌≡◌, ℕ, ◌^◌, ◌<◌, ℤ, pos, negsuc
 use Rattle.std.specs.Prelude.{◌==◌}
 use Rattle.isa_table.specs.Spells.{InRange}
 use Rattle.isa_table.specs.declared.instr.Instr.{Instr}
-use Rattle.asm_parse.specs.declared.fault.FaultKind.{FaultKind}
-use Rattle.asm_parse.specs.declared.fault.FaultKind.TheVariants as kinds
-use Rattle.asm_parse.specs.declared.statement.Instruction.{Instruction}
-use Rattle.asm_parse.specs.declared.statement.Instruction.TheVariants as read
-use Rattle.asm_parse.specs.declared.statement.Pseudo.{Pseudo}
-use Rattle.asm_parse.specs.declared.statement.Pseudo.TheVariants as pseudo
+use Rattle.asm_statement.specs.declared.fault.FaultKind.{FaultKind}
+use Rattle.asm_statement.specs.declared.fault.FaultKind.TheVariants as kinds
+use Rattle.asm_statement.specs.declared.statement.Instruction.{Instruction}
+use Rattle.asm_statement.specs.declared.statement.Instruction.TheVariants as read
+use Rattle.asm_statement.specs.declared.statement.Pseudo.{Pseudo}
+use Rattle.asm_statement.specs.declared.statement.Pseudo.TheVariants as pseudo
 use Rattle.asm_assemble.specs.declared.instruction.Pair.{Pair}
-use Rattle.asm_assemble.specs.Instructions.{addi, li_pair, la_pair, jump_pair, pair_of}
-use Rattle.asm_assemble.specs.Numbers.{as_word, is_between, is_signed_word, lo, distance}
+use Rattle.asm_assemble.specs.Instructions.{addi, li_pair, la_pair, jump_pair, instr_pair}
+use Rattle.asm_assemble.specs.Numbers.{as_word, is_in_range, is_signed_word, lo, distance}
 use Rattle.asm_assemble.specs.Operands.{symbol_value}
 use Rattle.asm_assemble.specs.Placed.{Standing, IsInstr}
 use Rattle.asm_assemble.specs.Program.{SymbolList}
@@ -70,10 +70,10 @@ chosen_pair : (b : Bool) (p q : Pair) (why : FaultKind) → cond b (pairs p) (Er
 chosen_pair true p q why e = same_pair p q e
 chosen_pair false p q why e = absurd cc
 
-pub pair_in_range : (symbols : SymbolList) (at : ℕ) (p : Pseudo) (pair : Pair) → PseudoHasRegister p → pair_of symbols at p ≡ Ok pair → PairInRange pair
-unfolding pair_of
+pub pair_in_range : (symbols : SymbolList) (at : ℕ) (p : Pseudo) (pair : Pair) → PseudoHasRegister p → instr_pair symbols at p ≡ Ok pair → PairInRange pair
+unfolding instr_pair
 pair_in_range symbols at (pseudo.Li rd number) pair h e =
-    subst PairInRange (chosen_pair (is_between (2 ^ 31) (2 ^ 64) number) (li_pair rd (as_word number)) pair kinds.Range e) (li_in_range rd (as_word number) h (word_fits number))
+    subst PairInRange (chosen_pair (is_in_range (2 ^ 31) (2 ^ 64) number) (li_pair rd (as_word number)) pair kinds.Range e) (li_in_range rd (as_word number) h (word_fits number))
 pair_in_range symbols at (pseudo.La rd name offset) pair h e =
     let g = step_gives (symbol_value symbols name offset) (λ to. pairs (la_pair rd (distance at to))) pair e in
     subst PairInRange (same_pair (la_pair rd (distance at g.0)) pair g.2) (la_in_range rd (distance at g.0) h)

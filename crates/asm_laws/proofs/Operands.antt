@@ -1,35 +1,27 @@
 -- The registers and sets that the reader gives instructions are in range.
 use Rattle.std.proofs.Common.{◌≡◌, ℕ, ◌^◌, ◌<◌, pos, Bool, true, false, cond, List, [], ◌∷◌, Option, Some, None, Result, Ok, Err, IfSome, refl, arith}
-use Rattle.std.specs.Prelude.{nat_lt, IfOk}
+use Rattle.std.specs.Prelude.{nat_lt, IfOk, is_some}
 use Rattle.std.proofs.lemmas.Bool.{ltb-true}
 use Rattle.asm_lex.specs.Lexemes.{Lexeme, Word, Comma}
 use Rattle.isa_table.specs.Spells.{InRange}
-use Rattle.isa_table.specs.declared.fields.Order.{Order}
-use Rattle.isa_table.specs.declared.mnemonic.AmoOp.{AmoOp}
-use Rattle.isa_table.specs.declared.mnemonic.BranchOp.{BranchOp}
-use Rattle.isa_table.specs.declared.mnemonic.ImmediateOp.{ImmediateOp}
-use Rattle.isa_table.specs.declared.mnemonic.LoadOp.{LoadOp}
-use Rattle.isa_table.specs.declared.mnemonic.RegisterOp.{RegisterOp}
-use Rattle.isa_table.specs.declared.mnemonic.ShiftOp.{ShiftOp}
-use Rattle.isa_table.specs.declared.mnemonic.StoreOp.{StoreOp}
 use Rattle.isa_table.specs.declared.instr.Instr.{Instr}
 use Rattle.isa_table.specs.declared.instr.Instr.TheVariants as instrs
-use Rattle.asm_parse.specs.declared.fault.FaultKind.{FaultKind}
-use Rattle.asm_parse.specs.declared.operand.Immediate.TheVariants as immediates
-use Rattle.asm_parse.specs.declared.operand.Value.{Value}
-use Rattle.asm_parse.specs.declared.operand.Value.TheVariants as values
-use Rattle.asm_parse.specs.declared.statement.Instruction.{Instruction}
-use Rattle.asm_parse.specs.declared.statement.Instruction.TheVariants as i
-use Rattle.asm_parse.specs.declared.statement.Pseudo.{Pseudo}
-use Rattle.asm_parse.specs.declared.statement.Pseudo.TheVariants as pseudos
-use Rattle.asm_parse.specs.declared.heads.Operation.{Operation}
-use Rattle.asm_parse.specs.declared.heads.Operation.TheVariants as ops
-use Rattle.asm_parse.specs.declared.heads.Unary.{Unary}
-use Rattle.asm_parse.specs.declared.heads.Unary.TheVariants as unaries
-use Rattle.asm_parse.specs.Names.{below, register_number, register_of, fence_bits, fence_set_of}
-use Rattle.asm_parse.specs.Shapes.{number, value, immediate, upper, target, memory, address, register}
-use Rattle.asm_parse.specs.Operations.{◌>>-◌, shaped, three_registers, with_immediate, shift, load, store, branch, swapped_branch, branch_zero, zero_branch, lui, auipc, jump, jal, jump_register, jalr_memory, jalr_behind, jalr, fence_tso, fence, alone, load_reserved, store_conditional, atomic, unary_instruction, return_instruction, unary, constant, fixed, instruction}
-use Rattle.asm_parse.specs.Statements.{load_number, load_address, call, tail}
+use Rattle.asm_statement.specs.declared.fault.FaultKind.{FaultKind}
+use Rattle.asm_statement.specs.declared.operand.Immediate.TheVariants as immediates
+use Rattle.asm_statement.specs.declared.operand.Value.{Value}
+use Rattle.asm_statement.specs.declared.operand.Value.TheVariants as values
+use Rattle.asm_statement.specs.declared.statement.Instruction.{Instruction}
+use Rattle.asm_statement.specs.declared.statement.Instruction.TheVariants as i
+use Rattle.asm_statement.specs.declared.statement.Pseudo.{Pseudo}
+use Rattle.asm_statement.specs.declared.statement.Pseudo.TheVariants as pseudos
+use Rattle.asm_statement.specs.declared.heads.Operation.{Operation}
+use Rattle.asm_statement.specs.declared.heads.Operation.TheVariants as ops
+use Rattle.asm_statement.specs.declared.heads.Unary.{Unary}
+use Rattle.asm_statement.specs.declared.heads.Unary.TheVariants as unaries
+use Rattle.asm_statement.specs.Names.{below, register_number, register_of, fence_bits, fence_set_of}
+use Rattle.asm_statement.specs.Shapes.{name_in_front, two_names_in_front, name, number, value, immediate, upper, target, memory, address, register_operand}
+use Rattle.asm_statement.specs.Operations.{◌>>-◌, shaped, two_registers, three_registers, register_and, registers_and, register_and_memory, two_with_last, three_with_last, jump, jal, jump_register, jalr, fence_tso, fence, without_operands, unary_instruction, return_instruction, fixed, instruction}
+use Rattle.asm_statement.specs.Statements.{load_number, addressed, load_address, call, tail}
 
 -- an instruction that was read has registers; one with nothing left to value is in range
 abbrev pub HasRegisters : Instruction → Type 0
@@ -68,11 +60,11 @@ unfolding fence_set_of
 set_below name = below_is 16 (fence_bits name)
 
 -- behind a register
-pub reg : {Y : Type 0} (name : List ℕ) (next : ℕ → Result Y FaultKind) (Q : Y → Type 0) → ((r : ℕ) → r < 2 ^ 5 → IfOk (next r) Q) → IfOk (register name >>- next) Q
-unfolding register
+pub reg : {Y : Type 0} (name : List ℕ) (next : ℕ → Result Y FaultKind) (Q : Y → Type 0) → ((r : ℕ) → r < 2 ^ 5 → IfOk (next r) Q) → IfOk (register_operand name >>- next) Q
+unfolding register_operand
 reg {Y} name next Q g = by (register_of name) refl (register_below name)
   where
-    by : (o : Option ℕ) → register_of name ≡ o → IfSome o (λ r. r < 2 ^ 5) → IfOk (register name >>- next) Q
+    by : (o : Option ℕ) → register_of name ≡ o → IfSome o (λ r. r < 2 ^ 5) → IfOk (register_operand name >>- next) Q
     by None e h = rw e tt
     by (Some r) e h = rw e (g r h)
 
@@ -81,126 +73,101 @@ pub shape : {X Y : Type 0} (o : Option X) (next : X → Result Y FaultKind) (Q :
 shape None next Q g = tt
 shape (Some x) next Q g = g x
 
--- ---- operations
-three_in : (op : RegisterOp) (ls : List Lexeme) → IfOk (three_registers op ls) InRange
+-- behind a result whose value has a property
+onto : {X Y : Type 0} (r : Result X FaultKind) (P : X → Type 0) (next : X → Result Y FaultKind) (Q : Y → Type 0) → IfOk r P → ((x : X) → P x → IfOk (next x) Q) → IfOk (r >>- next) Q
+onto (Ok x) P next Q h g = g x h
+onto (Err fault) P next Q h g = tt
+
+-- ---- operands
+abbrev IsOne : {X : Type 0} → ℕ × X → Type 0
+IsOne r = r.0 < 2 ^ 5
+
+abbrev AreTwo : ℕ × ℕ → Type 0
+AreTwo r = (r.0 < 2 ^ 5) × (r.1 < 2 ^ 5)
+
+abbrev AreThree : ℕ × ℕ × ℕ → Type 0
+AreThree r = (r.0 < 2 ^ 5) × (r.1 < 2 ^ 5) × (r.2 < 2 ^ 5)
+
+-- two registers, and another operand
+abbrev BeginWithTwo : {X : Type 0} → ℕ × ℕ × X → Type 0
+BeginWithTwo r = (r.0 < 2 ^ 5) × (r.1 < 2 ^ 5)
+
+two_in : (a b : List ℕ) → IfOk (two_registers a b) AreTwo
+unfolding two_registers
+two_in a b = reg a (λ a. register_operand b >>- λ b. Ok (a, b)) AreTwo (λ a g. reg b (λ b. Ok (a, b)) AreTwo (λ b h. (g, h)))
+
+three_in : (a b c : List ℕ) → IfOk (three_registers a b c) AreThree
 unfolding three_registers
-three_in op (Word rd ∷ Comma ∷ Word rs1 ∷ Comma ∷ Word rs2 ∷ []) =
-    reg rd (λ rd. register rs1 >>- λ rs1. register rs2 >>- λ rs2. Ok (instrs.Register op rd rs1 rs2)) InRange (λ rd a.
-    reg rs1 (λ rs1. register rs2 >>- λ rs2. Ok (instrs.Register op rd rs1 rs2)) InRange (λ rs1 b.
-    reg rs2 (λ rs2. Ok (instrs.Register op rd rs1 rs2)) InRange (λ rs2 c. (a, b, c))))
-three_in op _ = tt
+three_in a b c =
+    onto (two_registers a b) AreTwo (λ r. register_operand c >>- λ c. Ok (r.0, r.1, c)) AreThree (two_in a b) (λ r h.
+    reg c (λ c. Ok (r.0, r.1, c)) AreThree (λ c g. (h.0, h.1, g)))
 
-immediate_in : (op : ImmediateOp) (ls : List Lexeme) → IfOk (with_immediate op ls) HasRegisters
-unfolding with_immediate
-immediate_in op (Word rd ∷ Comma ∷ Word rs1 ∷ Comma ∷ rest) =
-    shape (immediate rest) (λ imm. register rd >>- λ rd. register rs1 >>- λ rs1. Ok (i.Immediate op rd rs1 imm)) HasRegisters (λ imm.
-    reg rd (λ rd. register rs1 >>- λ rs1. Ok (i.Immediate op rd rs1 imm)) HasRegisters (λ rd a.
-    reg rs1 (λ rs1. Ok (i.Immediate op rd rs1 imm)) HasRegisters (λ rs1 b. (a, b))))
-immediate_in op _ = tt
+one_and : {X : Type 0} (read : List Lexeme → Option X) (ls : List Lexeme) → IfOk (register_and read ls) IsOne
+unfolding register_and
+one_and {X} read ls =
+    shape (name_in_front ls) (λ n. shaped (read n.1) (λ x. register_operand n.0 >>- λ r. Ok (r, x))) IsOne (λ n.
+    shape (read n.1) (λ x. register_operand n.0 >>- λ r. Ok (r, x)) IsOne (λ x.
+    reg n.0 (λ r. Ok (r, x)) IsOne (λ r h. h)))
 
-shift_in : (op : ShiftOp) (ls : List Lexeme) → IfOk (shift op ls) HasRegisters
-unfolding shift
-shift_in op (Word rd ∷ Comma ∷ Word rs1 ∷ Comma ∷ rest) =
-    shape (number rest) (λ amount. register rd >>- λ rd. register rs1 >>- λ rs1. Ok (i.Shift op rd rs1 amount)) HasRegisters (λ amount.
-    reg rd (λ rd. register rs1 >>- λ rs1. Ok (i.Shift op rd rs1 amount)) HasRegisters (λ rd a.
-    reg rs1 (λ rs1. Ok (i.Shift op rd rs1 amount)) HasRegisters (λ rs1 b. (a, b))))
-shift_in op _ = tt
+two_and : {X : Type 0} (read : List Lexeme → Option X) (ls : List Lexeme) → IfOk (registers_and read ls) BeginWithTwo
+unfolding registers_and
+two_and {X} read ls =
+    shape (two_names_in_front ls) (λ n. shaped (read n.2) (λ x. two_registers n.0 n.1 >>- λ r. Ok (r.0, r.1, x))) BeginWithTwo (λ n.
+    shape (read n.2) (λ x. two_registers n.0 n.1 >>- λ r. Ok (r.0, r.1, x)) BeginWithTwo (λ x.
+    onto (two_registers n.0 n.1) AreTwo (λ r. Ok (r.0, r.1, x)) BeginWithTwo (two_in n.0 n.1) (λ r h. h)))
 
-load_in : (op : LoadOp) (ls : List Lexeme) → IfOk (load op ls) HasRegisters
-unfolding load
-load_in op (Word rd ∷ Comma ∷ rest) =
-    shape (memory rest) (λ m. register rd >>- λ rd. register m.1 >>- λ rs1. Ok (i.Load op rd rs1 m.0)) HasRegisters (λ m.
-    reg rd (λ rd. register m.1 >>- λ rs1. Ok (i.Load op rd rs1 m.0)) HasRegisters (λ rd a.
-    reg m.1 (λ rs1. Ok (i.Load op rd rs1 m.0)) HasRegisters (λ rs1 b. (a, b))))
-load_in op _ = tt
+memory_and : (ls : List Lexeme) → IfOk (register_and_memory ls) BeginWithTwo
+unfolding register_and_memory
+memory_and ls =
+    shape (name_in_front ls) (λ n. shaped (memory n.1) (λ m. two_registers n.0 m.1 >>- λ r. Ok (r.0, r.1, m.0))) BeginWithTwo (λ n.
+    shape (memory n.1) (λ m. two_registers n.0 m.1 >>- λ r. Ok (r.0, r.1, m.0)) BeginWithTwo (λ m.
+    onto (two_registers n.0 m.1) AreTwo (λ r. Ok (r.0, r.1, m.0)) BeginWithTwo (two_in n.0 m.1) (λ r h. h)))
 
-store_in : (op : StoreOp) (ls : List Lexeme) → IfOk (store op ls) HasRegisters
-unfolding store
-store_in op (Word rs2 ∷ Comma ∷ rest) =
-    shape (memory rest) (λ m. register rs2 >>- λ rs2. register m.1 >>- λ rs1. Ok (i.Store op rs1 rs2 m.0)) HasRegisters (λ m.
-    reg rs2 (λ rs2. register m.1 >>- λ rs1. Ok (i.Store op rs1 rs2 m.0)) HasRegisters (λ rs2 a.
-    reg m.1 (λ rs1. Ok (i.Store op rs1 rs2 m.0)) HasRegisters (λ rs1 b. (b, a))))
-store_in op _ = tt
+two_last : (last : List Lexeme → Option (List ℕ)) (ls : List Lexeme) → IfOk (two_with_last last ls) AreTwo
+unfolding two_with_last
+two_last last ls =
+    shape (name_in_front ls) (λ n. shaped (last n.1) (λ b. two_registers n.0 b)) AreTwo (λ n.
+    shape (last n.1) (λ b. two_registers n.0 b) AreTwo (λ b. two_in n.0 b))
 
-branch_in : (op : BranchOp) (ls : List Lexeme) → IfOk (branch op ls) HasRegisters
-unfolding branch
-branch_in op (Word rs1 ∷ Comma ∷ Word rs2 ∷ Comma ∷ rest) =
-    shape (target rest) (λ t. register rs1 >>- λ rs1. register rs2 >>- λ rs2. Ok (i.Branch op rs1 rs2 t)) HasRegisters (λ t.
-    reg rs1 (λ rs1. register rs2 >>- λ rs2. Ok (i.Branch op rs1 rs2 t)) HasRegisters (λ rs1 a.
-    reg rs2 (λ rs2. Ok (i.Branch op rs1 rs2 t)) HasRegisters (λ rs2 b. (a, b))))
-branch_in op _ = tt
+three_last : (last : List Lexeme → Option (List ℕ)) (ls : List Lexeme) → IfOk (three_with_last last ls) AreThree
+unfolding three_with_last
+three_last last ls =
+    shape (two_names_in_front ls) (λ n. shaped (last n.2) (λ c. three_registers n.0 n.1 c)) AreThree (λ n.
+    shape (last n.2) (λ c. three_registers n.0 n.1 c) AreThree (λ c. three_in n.0 n.1 c))
 
-swapped_in : (op : BranchOp) (ls : List Lexeme) → IfOk (swapped_branch op ls) HasRegisters
-unfolding swapped_branch
-swapped_in op (Word rs2 ∷ Comma ∷ Word rs1 ∷ Comma ∷ rest) =
-    shape (target rest) (λ t. register rs1 >>- λ rs1. register rs2 >>- λ rs2. Ok (i.Branch op rs1 rs2 t)) HasRegisters (λ t.
-    reg rs1 (λ rs1. register rs2 >>- λ rs2. Ok (i.Branch op rs1 rs2 t)) HasRegisters (λ rs1 a.
-    reg rs2 (λ rs2. Ok (i.Branch op rs1 rs2 t)) HasRegisters (λ rs2 b. (a, b))))
-swapped_in op _ = tt
-
-branch_zero_in : (op : BranchOp) (ls : List Lexeme) → IfOk (branch_zero op ls) HasRegisters
-unfolding branch_zero
-branch_zero_in op (Word rs1 ∷ Comma ∷ rest) =
-    shape (target rest) (λ t. register rs1 >>- λ rs1. Ok (i.Branch op rs1 0 t)) HasRegisters (λ t.
-    reg rs1 (λ rs1. Ok (i.Branch op rs1 0 t)) HasRegisters (λ rs1 a. (a, omega arith)))
-branch_zero_in op _ = tt
-
-zero_branch_in : (op : BranchOp) (ls : List Lexeme) → IfOk (zero_branch op ls) HasRegisters
-unfolding zero_branch
-zero_branch_in op (Word rs2 ∷ Comma ∷ rest) =
-    shape (target rest) (λ t. register rs2 >>- λ rs2. Ok (i.Branch op 0 rs2 t)) HasRegisters (λ t.
-    reg rs2 (λ rs2. Ok (i.Branch op 0 rs2 t)) HasRegisters (λ rs2 a. (omega arith, a)))
-zero_branch_in op _ = tt
-
-lui_in : (ls : List Lexeme) → IfOk (lui ls) HasRegisters
-unfolding lui
-lui_in (Word rd ∷ Comma ∷ rest) =
-    shape (upper rest) (λ imm. register rd >>- λ rd. Ok (i.Lui rd imm)) HasRegisters (λ imm.
-    reg rd (λ rd. Ok (i.Lui rd imm)) HasRegisters (λ rd a. a))
-lui_in _ = tt
-
-auipc_in : (ls : List Lexeme) → IfOk (auipc ls) HasRegisters
-unfolding auipc
-auipc_in (Word rd ∷ Comma ∷ rest) =
-    shape (upper rest) (λ imm. register rd >>- λ rd. Ok (i.Auipc rd imm)) HasRegisters (λ imm.
-    reg rd (λ rd. Ok (i.Auipc rd imm)) HasRegisters (λ rd a. a))
-auipc_in _ = tt
-
+-- ---- operations
 jump_in : (rd : ℕ) (ls : List Lexeme) → rd < 2 ^ 5 → IfOk (jump rd ls) HasRegisters
 unfolding jump
 jump_in rd ls h = shape (target ls) (λ t. Ok (i.Jal rd t)) HasRegisters (λ t. h)
 
+either : (test : Bool) (r s : Result Instruction FaultKind) → IfOk r HasRegisters → IfOk s HasRegisters → IfOk (cond test r s) HasRegisters
+either true r s h g = h
+either false r s h g = g
+
 jal_in : (ls : List Lexeme) → IfOk (jal ls) HasRegisters
 unfolding jal
-jal_in (Word rd ∷ Comma ∷ rest) =
-    shape (target rest) (λ t. register rd >>- λ rd. Ok (i.Jal rd t)) HasRegisters (λ t.
-    reg rd (λ rd. Ok (i.Jal rd t)) HasRegisters (λ rd a. a))
-jal_in ls = jump_in 1 ls (omega arith)
+jal_in ls =
+    either (is_some (name_in_front ls)) (register_and target ls >>- λ o. Ok (i.Jal o.0 o.1)) (jump 1 ls)
+    (onto (register_and target ls) IsOne (λ o. Ok (i.Jal o.0 o.1)) HasRegisters (one_and target ls) (λ o h. h))
+    (jump_in 1 ls (omega arith))
 
 jump_register_in : (rd : ℕ) (ls : List Lexeme) → rd < 2 ^ 5 → IfOk (jump_register rd ls) HasRegisters
 unfolding jump_register
-jump_register_in rd (Word rs1 ∷ []) h = reg rs1 (λ rs1. Ok (i.Jalr rd rs1 (immediates.Number (pos 0)))) HasRegisters (λ rs1 a. (h, a))
-jump_register_in rd _ h = tt
-
-jalr_memory_in : (rd : List ℕ) (rest : List Lexeme) → IfOk (jalr_memory rd rest) HasRegisters
-unfolding jalr_memory
-jalr_memory_in rd rest =
-    shape (memory rest) (λ m. register rd >>- λ rd. register m.1 >>- λ rs1. Ok (i.Jalr rd rs1 m.0)) HasRegisters (λ m.
-    reg rd (λ rd. register m.1 >>- λ rs1. Ok (i.Jalr rd rs1 m.0)) HasRegisters (λ rd a.
-    reg m.1 (λ rs1. Ok (i.Jalr rd rs1 m.0)) HasRegisters (λ rs1 b. (a, b))))
-
-jalr_behind_in : (rd : List ℕ) (ls : List Lexeme) → IfOk (jalr_behind rd ls) HasRegisters
-unfolding jalr_behind
-jalr_behind_in rd (Word rs1 ∷ Comma ∷ rest) =
-    shape (immediate rest) (λ imm. register rd >>- λ rd. register rs1 >>- λ rs1. Ok (i.Jalr rd rs1 imm)) HasRegisters (λ imm.
-    reg rd (λ rd. register rs1 >>- λ rs1. Ok (i.Jalr rd rs1 imm)) HasRegisters (λ rd a.
-    reg rs1 (λ rs1. Ok (i.Jalr rd rs1 imm)) HasRegisters (λ rs1 b. (a, b))))
-jalr_behind_in rd ls = jalr_memory_in rd ls
+jump_register_in rd ls h =
+    shape (name ls) (λ rs1. register_operand rs1 >>- λ rs1. Ok (i.Jalr rd rs1 (immediates.Number (pos 0)))) HasRegisters (λ rs1.
+    reg rs1 (λ rs1. Ok (i.Jalr rd rs1 (immediates.Number (pos 0)))) HasRegisters (λ rs1 a. (h, a)))
 
 jalr_in : (ls : List Lexeme) → IfOk (jalr ls) HasRegisters
 unfolding jalr
-jalr_in (Word rd ∷ Comma ∷ rest) = jalr_behind_in rd rest
-jalr_in ls = jump_register_in 1 ls (omega arith)
+jalr_in ls =
+    either (is_some (two_names_in_front ls)) (registers_and immediate ls >>- λ o. Ok (i.Jalr o.0 o.1 o.2)) behind
+    (onto (registers_and immediate ls) BeginWithTwo (λ o. Ok (i.Jalr o.0 o.1 o.2)) HasRegisters (two_and immediate ls) (λ o h. h))
+    (either (is_some (name_in_front ls)) (register_and_memory ls >>- λ o. Ok (i.Jalr o.0 o.1 o.2)) (jump_register 1 ls)
+    (onto (register_and_memory ls) BeginWithTwo (λ o. Ok (i.Jalr o.0 o.1 o.2)) HasRegisters (memory_and ls) (λ o h. h))
+    (jump_register_in 1 ls (omega arith)))
+  where
+    behind : Result Instruction FaultKind
+    behind = cond (is_some (name_in_front ls)) (register_and_memory ls >>- λ o. Ok (i.Jalr o.0 o.1 o.2)) (jump_register 1 ls)
 
 fence_in : (ls : List Lexeme) → IfOk (fence ls) InRange
 unfolding fence
@@ -213,36 +180,10 @@ fence_in (Word pred ∷ Comma ∷ Word succ ∷ []) = by (fence_set_of pred) (fe
     by (Some a) (Some b) e f g h = rw (e, f) (omega arith, g, h, omega arith, omega arith)
 fence_in _ = tt
 
-alone_in : (j : Instr) (ls : List Lexeme) → InRange j → IfOk (alone j ls) InRange
-unfolding alone
-alone_in j [] h = h
-alone_in j (l ∷ ls) h = tt
-
-reserved_in : (order : Order) (ls : List Lexeme) → IfOk (load_reserved order ls) InRange
-unfolding load_reserved
-reserved_in order (Word rd ∷ Comma ∷ rest) =
-    shape (address rest) (λ base. register rd >>- λ rd. register base >>- λ rs1. Ok (instrs.LoadReserved order.aq order.rl rd rs1)) InRange (λ base.
-    reg rd (λ rd. register base >>- λ rs1. Ok (instrs.LoadReserved order.aq order.rl rd rs1)) InRange (λ rd a.
-    reg base (λ rs1. Ok (instrs.LoadReserved order.aq order.rl rd rs1)) InRange (λ rs1 b. (a, b))))
-reserved_in order _ = tt
-
-conditional_in : (order : Order) (ls : List Lexeme) → IfOk (store_conditional order ls) InRange
-unfolding store_conditional
-conditional_in order (Word rd ∷ Comma ∷ Word rs2 ∷ Comma ∷ rest) =
-    shape (address rest) (λ base. register rd >>- λ rd. register rs2 >>- λ rs2. register base >>- λ rs1. Ok (instrs.StoreConditional order.aq order.rl rd rs1 rs2)) InRange (λ base.
-    reg rd (λ rd. register rs2 >>- λ rs2. register base >>- λ rs1. Ok (instrs.StoreConditional order.aq order.rl rd rs1 rs2)) InRange (λ rd a.
-    reg rs2 (λ rs2. register base >>- λ rs1. Ok (instrs.StoreConditional order.aq order.rl rd rs1 rs2)) InRange (λ rs2 b.
-    reg base (λ rs1. Ok (instrs.StoreConditional order.aq order.rl rd rs1 rs2)) InRange (λ rs1 c. (a, c, b)))))
-conditional_in order _ = tt
-
-atomic_in : (op : AmoOp) (order : Order) (ls : List Lexeme) → IfOk (atomic op order ls) InRange
-unfolding atomic
-atomic_in op order (Word rd ∷ Comma ∷ Word rs2 ∷ Comma ∷ rest) =
-    shape (address rest) (λ base. register rd >>- λ rd. register rs2 >>- λ rs2. register base >>- λ rs1. Ok (instrs.Amo op order.aq order.rl rd rs1 rs2)) InRange (λ base.
-    reg rd (λ rd. register rs2 >>- λ rs2. register base >>- λ rs1. Ok (instrs.Amo op order.aq order.rl rd rs1 rs2)) InRange (λ rd a.
-    reg rs2 (λ rs2. register base >>- λ rs1. Ok (instrs.Amo op order.aq order.rl rd rs1 rs2)) InRange (λ rs2 b.
-    reg base (λ rs1. Ok (instrs.Amo op order.aq order.rl rd rs1 rs2)) InRange (λ rs1 c. (a, c, b)))))
-atomic_in op order _ = tt
+alone_in : {X : Type 0} (x : X) (ls : List Lexeme) (P : X → Type 0) → P x → IfOk (without_operands x ls) P
+unfolding without_operands
+alone_in x [] P h = h
+alone_in x (l ∷ ls) P h = tt
 
 unary_has : (op : Unary) (rd rs : ℕ) → rd < 2 ^ 5 → rs < 2 ^ 5 → HasRegisters (unary_instruction op rd rs)
 unary_has unaries.Move rd rs a b = (a, b)
@@ -253,28 +194,19 @@ unary_has unaries.IsNotZero rd rs a b = (a, omega arith, b)
 unary_has unaries.IsNegative rd rs a b = (a, b, omega arith)
 unary_has unaries.IsPositive rd rs a b = (a, omega arith, b)
 
-unary_in : (op : Unary) (ls : List Lexeme) → IfOk (unary op ls) HasRegisters
-unfolding unary
-unary_in op (Word rd ∷ Comma ∷ Word rs ∷ []) =
-    reg rd (λ rd. register rs >>- λ rs. Ok (unary_instruction op rd rs)) HasRegisters (λ rd a.
-    reg rs (λ rs. Ok (unary_instruction op rd rs)) HasRegisters (λ rs b. unary_has op rd rs a b))
-unary_in op _ = tt
-
-constant_in : (j : Instruction) (ls : List Lexeme) → HasRegisters j → IfOk (constant j ls) HasRegisters
-unfolding constant
-constant_in j [] h = h
-constant_in j (l ∷ ls) h = tt
-
 fixed_in : (op : Operation) (ls : List Lexeme) → IfOk (fixed op ls) InRange
 unfolding fixed
-fixed_in (ops.Register op) ls = three_in op ls
+fixed_in (ops.Register op) ls = onto (three_with_last name ls) AreThree (λ r. Ok (instrs.Register op r.0 r.1 r.2)) InRange (three_last name ls) (λ r h. h)
 fixed_in ops.Fence ls = fence_in ls
-fixed_in ops.FenceTso ls = alone_in fence_tso ls (omega arith, omega arith, omega arith, omega arith, omega arith)
-fixed_in ops.Ebreak ls = alone_in instrs.Ebreak ls tt
-fixed_in (ops.LoadReserved order) ls = reserved_in order ls
-fixed_in (ops.StoreConditional order) ls = conditional_in order ls
-fixed_in (ops.Amo op order) ls = atomic_in op order ls
-fixed_in _ ls = alone_in instrs.Ecall ls tt
+fixed_in ops.FenceTso ls = alone_in fence_tso ls InRange (omega arith, omega arith, omega arith, omega arith, omega arith)
+fixed_in ops.Ebreak ls = alone_in instrs.Ebreak ls InRange tt
+fixed_in (ops.LoadReserved order) ls =
+    onto (two_with_last address ls) AreTwo (λ r. Ok (instrs.LoadReserved order.aq order.rl r.0 r.1)) InRange (two_last address ls) (λ r h. h)
+fixed_in (ops.StoreConditional order) ls =
+    onto (three_with_last address ls) AreThree (λ r. Ok (instrs.StoreConditional order.aq order.rl r.0 r.2 r.1)) InRange (three_last address ls) (λ r h. (h.0, h.2, h.1))
+fixed_in (ops.Amo op order) ls =
+    onto (three_with_last address ls) AreThree (λ r. Ok (instrs.Amo op order.aq order.rl r.0 r.2 r.1)) InRange (three_last address ls) (λ r h. (h.0, h.2, h.1))
+fixed_in _ ls = alone_in instrs.Ecall ls InRange tt
 
 -- an operation with nothing left to value
 as_fixed_in : (op : Operation) (ls : List Lexeme) (r : Result Instr FaultKind) → fixed op ls ≡ r → IfOk r InRange → (whole : Result Instruction FaultKind)
@@ -288,21 +220,21 @@ fixed_all op ls ok err = as_fixed_in op ls (fixed op ls) refl (fixed_in op ls) (
 
 pub instruction_in : (op : Operation) (ls : List Lexeme) → IfOk (instruction op ls) HasRegisters
 unfolding instruction
-instruction_in ops.Lui ls = lui_in ls
-instruction_in ops.Auipc ls = auipc_in ls
+instruction_in ops.Lui ls = onto (register_and upper ls) IsOne (λ o. Ok (i.Lui o.0 o.1)) HasRegisters (one_and upper ls) (λ o h. h)
+instruction_in ops.Auipc ls = onto (register_and upper ls) IsOne (λ o. Ok (i.Auipc o.0 o.1)) HasRegisters (one_and upper ls) (λ o h. h)
 instruction_in ops.Jal ls = jal_in ls
 instruction_in ops.Jalr ls = jalr_in ls
-instruction_in (ops.Branch op) ls = branch_in op ls
-instruction_in (ops.Load op) ls = load_in op ls
-instruction_in (ops.Store op) ls = store_in op ls
-instruction_in (ops.Immediate op) ls = immediate_in op ls
-instruction_in (ops.Shift op) ls = shift_in op ls
-instruction_in ops.Nop ls = constant_in (unary_instruction unaries.Move 0 0) ls (omega arith, omega arith)
-instruction_in ops.Ret ls = constant_in return_instruction ls (omega arith, omega arith)
-instruction_in (ops.Unary op) ls = unary_in op ls
-instruction_in (ops.BranchZero op) ls = branch_zero_in op ls
-instruction_in (ops.ZeroBranch op) ls = zero_branch_in op ls
-instruction_in (ops.SwappedBranch op) ls = swapped_in op ls
+instruction_in (ops.Branch op) ls = onto (registers_and target ls) BeginWithTwo (λ o. Ok (i.Branch op o.0 o.1 o.2)) HasRegisters (two_and target ls) (λ o h. h)
+instruction_in (ops.Load op) ls = onto (register_and_memory ls) BeginWithTwo (λ o. Ok (i.Load op o.0 o.1 o.2)) HasRegisters (memory_and ls) (λ o h. h)
+instruction_in (ops.Store op) ls = onto (register_and_memory ls) BeginWithTwo (λ o. Ok (i.Store op o.1 o.0 o.2)) HasRegisters (memory_and ls) (λ o h. (h.1, h.0))
+instruction_in (ops.Immediate op) ls = onto (registers_and immediate ls) BeginWithTwo (λ o. Ok (i.Immediate op o.0 o.1 o.2)) HasRegisters (two_and immediate ls) (λ o h. h)
+instruction_in (ops.Shift op) ls = onto (registers_and number ls) BeginWithTwo (λ o. Ok (i.Shift op o.0 o.1 o.2)) HasRegisters (two_and number ls) (λ o h. h)
+instruction_in ops.Nop ls = alone_in (unary_instruction unaries.Move 0 0) ls HasRegisters (omega arith, omega arith)
+instruction_in ops.Ret ls = alone_in return_instruction ls HasRegisters (omega arith, omega arith)
+instruction_in (ops.Unary op) ls = onto (two_with_last name ls) AreTwo (λ r. Ok (unary_instruction op r.0 r.1)) HasRegisters (two_last name ls) (λ r h. unary_has op r.0 r.1 h.0 h.1)
+instruction_in (ops.BranchZero op) ls = onto (register_and target ls) IsOne (λ o. Ok (i.Branch op o.0 0 o.1)) HasRegisters (one_and target ls) (λ o h. (h, omega arith))
+instruction_in (ops.ZeroBranch op) ls = onto (register_and target ls) IsOne (λ o. Ok (i.Branch op 0 o.0 o.1)) HasRegisters (one_and target ls) (λ o h. (omega arith, h))
+instruction_in (ops.SwappedBranch op) ls = onto (registers_and target ls) BeginWithTwo (λ o. Ok (i.Branch op o.1 o.0 o.2)) HasRegisters (two_and target ls) (λ o h. (h.1, h.0))
 instruction_in ops.Jump ls = jump_in 0 ls (omega arith)
 instruction_in ops.JumpRegister ls = jump_register_in 0 ls (omega arith)
 instruction_in op ls = fixed_all op ls (λ j e. rw e refl) (λ f e. rw e refl)
@@ -310,27 +242,22 @@ instruction_in op ls = fixed_all op ls (λ j e. rw e refl) (λ f e. rw e refl)
 -- ---- pseudo-instructions
 pub li_in : (ls : List Lexeme) → IfOk (load_number ls) PseudoHasRegister
 unfolding load_number
-li_in (Word rd ∷ Comma ∷ rest) =
-    shape (number rest) (λ n. register rd >>- λ rd. Ok (pseudos.Li rd n)) PseudoHasRegister (λ n.
-    reg rd (λ rd. Ok (pseudos.Li rd n)) PseudoHasRegister (λ rd a. a))
-li_in _ = tt
+li_in ls = onto (register_and number ls) IsOne (λ o. Ok (pseudos.Li o.0 o.1)) PseudoHasRegister (one_and number ls) (λ o h. h)
+
+-- `rd, ` and a value
+addressed_in : (rd : List ℕ) (o : Option Value) → IfOk (addressed rd o) PseudoHasRegister
+addressed_in rd (Some (values.Symbol name offset)) = reg rd (λ rd. Ok (pseudos.La rd name offset)) PseudoHasRegister (λ rd a. a)
+addressed_in rd (Some (values.Number n)) = tt
+addressed_in rd None = tt
 
 pub la_in : (ls : List Lexeme) → IfOk (load_address ls) PseudoHasRegister
 unfolding load_address
-la_in (Word rd ∷ Comma ∷ rest) = by (value rest) refl
-  where
-    by : (o : Option Value) → value rest ≡ o → IfOk (load_address (Word rd ∷ Comma ∷ rest)) PseudoHasRegister
-    by (Some (values.Symbol name offset)) e = rw e (reg rd (λ rd. Ok (pseudos.La rd name offset)) PseudoHasRegister (λ rd a. a))
-    by (Some (values.Number n)) e = rw e tt
-    by None e = rw e tt
-la_in _ = tt
+la_in ls = shape (name_in_front ls) (λ n. addressed n.0 (value n.1)) PseudoHasRegister (λ n. addressed_in n.0 (value n.1))
 
 pub call_in : (ls : List Lexeme) → IfOk (call ls) PseudoHasRegister
 unfolding call
-call_in (Word name ∷ []) = tt
-call_in _ = tt
+call_in ls = shape (name ls) (λ name. Ok (pseudos.Call name)) PseudoHasRegister (λ name. tt)
 
 pub tail_in : (ls : List Lexeme) → IfOk (tail ls) PseudoHasRegister
 unfolding tail
-tail_in (Word name ∷ []) = tt
-tail_in _ = tt
+tail_in ls = shape (name ls) (λ name. Ok (pseudos.Tail name)) PseudoHasRegister (λ name. tt)

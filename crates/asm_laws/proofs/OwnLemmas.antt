@@ -4,14 +4,14 @@ use Rattle.std.specs.Prelude.{◌&&◌}
 use Rattle.std.specs.Int.{w32, to_le_bytes}
 use Rattle.isa_table.specs.Spells.{InRange, word_of}
 use Rattle.isa_table.specs.declared.instr.Instr.{Instr}
-use Rattle.asm_parse.specs.Statement.{StatementValue, BodyValue}
-use Rattle.asm_parse.specs.Statements.{statements_of, is_bytes, is_zeros}
-use Rattle.asm_parse.specs.declared.statement.Body.TheVariants as body
-use Rattle.asm_parse.specs.declared.statement.Section.{Section}
-use Rattle.asm_parse.specs.declared.statement.Section.TheVariants as sections
+use Rattle.asm_statement.specs.Statement.{StatementValue, BodyValue}
+use Rattle.asm_statement.specs.Statements.{statements_of, is_bytes, is_zeros}
+use Rattle.asm_statement.specs.declared.statement.Body.TheVariants as body
+use Rattle.asm_statement.specs.declared.statement.Section.{Section}
+use Rattle.asm_statement.specs.declared.statement.Section.TheVariants as sections
 use Rattle.asm_assemble.proofs.PlacedWhole.{assembled_is_placed}
 use Rattle.asm_assemble.specs.Assembled.{assembled}
-use Rattle.asm_assemble.specs.Placed.{Standing, Bases, Placed, ArePlaced, Holds, HasBytes, IsFit, symbols_in}
+use Rattle.asm_assemble.specs.Placed.{Standing, Bases, Placed, ArePlaced, Holds, HasBytes, IsFit, placed_symbols_in}
 use Rattle.asm_assemble.specs.Program.{ProgramValue}
 use Rattle.asm_assemble.specs.Sources.{assembled_texts}
 use Rattle.asm_assemble.specs.Valuing.{instr_bytes, pair_bytes}
@@ -66,7 +66,7 @@ held sections.Data bases p before s after h takes e = (h.bytes, h.valued, record
 held sections.Zeros bases p before s after h takes e = absurd (true≢false (sym e ∙ takes))
 
 shows_body : (shown : Section → ℕ → Instr → Type 0) (bases : Bases) (p : ProgramValue) → Shown shown bases p → (before : List Standing) (s : Standing) (after : List Standing) (b : BodyValue)
-    → IsReadable b → IsFit p.symbols (symbols_in (before ++ s ∷ after) before) s.address b → (is_bytes b ≡ true → HeldAs s.section bases p before s after b) → Shows shown p.symbols before s after b
+    → IsReadable b → IsFit p.symbols (placed_symbols_in (before ++ s ∷ after) before) s.address b → (is_bytes b ≡ true → HeldAs s.section bases p before s after b) → Shows shown p.symbols before s after b
 unfolding instr_bytes
 shows_body shown bases p g before s after (body.Instruction i) w f h =
     let has = h refl in (
@@ -92,7 +92,7 @@ shows_at shown ss p all bases placed well g before s after cut =
     let here : IsWell s.section s.statement.body =
     subst (λ t. IsWell t s.statement.body) (sym (placed.stands before s after cut).in_section) (well_at sections.Text before s after there) in
     shows_body shown bases p g before s after s.statement.body here.readable
-    (subst (λ xs. IsFit p.symbols (symbols_in xs before) s.address s.statement.body) cut (placed.fits before s after cut))
+    (subst (λ xs. IsFit p.symbols (placed_symbols_in xs before) s.address s.statement.body) cut (placed.fits before s after cut))
     (held s.section bases p before s after (placed.holds before s after cut) here.takes)
 
 -- ---- the whole

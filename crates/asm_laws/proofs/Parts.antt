@@ -3,15 +3,15 @@ use Rattle.std.proofs.Common.{◌≡◌, ℕ, ◌+◌, Bool, true, false, cond, 
 use Rattle.std.specs.List.{list_all}
 use Rattle.std.specs.Char.{is_ascii_digit}
 use Rattle.asm_lex.specs.Lexemes.{Lexeme, Word, Number, Colon}
-use Rattle.asm_parse.specs.declared.fault.Fault.{Fault}
-use Rattle.asm_parse.specs.declared.fault.FaultKind.{FaultKind}
-use Rattle.asm_parse.specs.declared.place.Place.{Place}
-use Rattle.asm_parse.specs.declared.statement.Section.{Section}
-use Rattle.asm_parse.specs.declared.statement.Body.TheVariants as bodies
-use Rattle.asm_parse.specs.Answer.{◌>>=◌}
-use Rattle.asm_parse.specs.Statement.{StatementValue, BodyValue}
-use Rattle.asm_parse.specs.Statements.{body, stated, fault_at, label_of, with_label, labels_from, section_behind, after_body, statement_from, ends_statement, lines_ended, next_place, at_the_end, source_from}
-use Rattle.asm_laws.specs.Reads.{Part, HasNoEnd, AreParts, behind_label, labelled, with_body, said, section_after, on_line}
+use Rattle.asm_statement.specs.declared.fault.Fault.{Fault}
+use Rattle.asm_statement.specs.declared.fault.FaultKind.{FaultKind}
+use Rattle.asm_statement.specs.declared.place.Place.{Place}
+use Rattle.asm_statement.specs.declared.statement.Section.{Section}
+use Rattle.asm_statement.specs.declared.statement.Body.TheVariants as bodies
+use Rattle.asm_statement.specs.Answer.{◌>>=◌}
+use Rattle.asm_statement.specs.Statement.{StatementValue, BodyValue}
+use Rattle.asm_statement.specs.Statements.{body, stated, fault_at, label_of, with_label, labels_from, section_behind, after_body, statement_from, ends_statement, lines_ended, next_place, at_the_end, source_from}
+use Rattle.asm_laws.specs.Reads.{Part, HasNoEnd, AreParts, behind_label, labelled, with_body, said_by_part, section_after, on_line}
 
 -- ---- a text has parts
 first_longer : (line : ℕ) (l : Lexeme) (ls : List Lexeme) (ps : List Part) → ends_statement l ≡ false → AreParts line ls ps → (qs : List Part) × AreParts line (l ∷ ls) qs
@@ -112,7 +112,7 @@ body_step place done labels (Err kind) e = refl
 abbrev finished : Place → Labels → Stated
 finished place labels = after_body place labels.0 (body place.section labels.1)
 
-pub statement_is : (place : Place) (done : List StatementValue) (p : Part) → statement_from place done p.lexemes ≡ placed place done (said place.section p)
+pub statement_is : (place : Place) (done : List StatementValue) (p : Part) → statement_from place done p.lexemes ≡ placed place done (said_by_part place.section p)
 unfolding statement_from onto_labels
 statement_is place done p =
     ap (finished place) (labels_are place done p.lexemes)

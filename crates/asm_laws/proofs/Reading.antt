@@ -5,23 +5,23 @@ use Rattle.std.specs.List.{list_all}
 use Rattle.std.proofs.lemmas.Bool.Decides.{nat_tests}
 use Rattle.std.specs.Char.{is_ascii_digit}
 use Rattle.asm_lex.specs.Lexemes.{Lexeme, Word, Number, Colon, lexed}
-use Rattle.asm_parse.specs.declared.fault.Fault.{Fault}
-use Rattle.asm_parse.specs.declared.fault.FaultKind.{FaultKind}
-use Rattle.asm_parse.specs.declared.statement.Instruction.{Instruction}
-use Rattle.asm_parse.specs.declared.statement.Pseudo.{Pseudo}
-use Rattle.asm_parse.specs.declared.statement.Section.{Section}
-use Rattle.asm_parse.specs.declared.statement.Section.TheVariants as sections
-use Rattle.asm_parse.specs.declared.statement.Body.TheVariants as bodies
-use Rattle.asm_parse.specs.declared.statement.Directive.TheVariants as directives
-use Rattle.asm_parse.specs.declared.place.Place.{Place}
-use Rattle.asm_parse.specs.declared.heads.Head.{Head}
-use Rattle.asm_parse.specs.declared.heads.Head.TheVariants as heads
-use Rattle.asm_parse.specs.Answer.{◌>>=◌}
-use Rattle.asm_parse.specs.Directives.{directive}
-use Rattle.asm_parse.specs.Heads.{head_of}
-use Rattle.asm_parse.specs.Operations.{◌>>-◌, instruction}
-use Rattle.asm_parse.specs.Statement.{StatementValue, BodyValue, DirectiveValue}
-use Rattle.asm_parse.specs.Statements.{as_pseudo, as_instruction, as_directive, headed, load_number, load_address, call, tail, is_bytes, is_zeros, allowed, by_head, body, stated, label_of, labels_from, with_label, section_behind, after_body, statement_from, ends_statement, next_place, at_the_end, source_from, first_place, begun, sources_from, statements_of}
+use Rattle.asm_statement.specs.declared.fault.Fault.{Fault}
+use Rattle.asm_statement.specs.declared.fault.FaultKind.{FaultKind}
+use Rattle.asm_statement.specs.declared.statement.Instruction.{Instruction}
+use Rattle.asm_statement.specs.declared.statement.Pseudo.{Pseudo}
+use Rattle.asm_statement.specs.declared.statement.Section.{Section}
+use Rattle.asm_statement.specs.declared.statement.Section.TheVariants as sections
+use Rattle.asm_statement.specs.declared.statement.Body.TheVariants as bodies
+use Rattle.asm_statement.specs.declared.statement.Directive.TheVariants as directives
+use Rattle.asm_statement.specs.declared.place.Place.{Place}
+use Rattle.asm_statement.specs.declared.heads.Head.{Head}
+use Rattle.asm_statement.specs.declared.heads.Head.TheVariants as heads
+use Rattle.asm_statement.specs.Answer.{◌>>=◌}
+use Rattle.asm_statement.specs.Directives.{directive}
+use Rattle.asm_statement.specs.Heads.{head_of}
+use Rattle.asm_statement.specs.Operations.{◌>>-◌, instruction}
+use Rattle.asm_statement.specs.Statement.{StatementValue, BodyValue, DirectiveValue}
+use Rattle.asm_statement.specs.Statements.{as_pseudo, as_instruction, as_directive, headed, load_number, load_address, call, tail, is_bytes, is_zeros, allowed_in_section, by_head, body, stated, label_of, labels_from, with_label, section_behind, after_body, statement_from, ends_statement, next_place, at_the_end, source_from, first_place, begun, sources_from, statements_of}
 use Rattle.asm_assemble.specs.Cursors.{section_of}
 use Rattle.asm_assemble.specs.Placed as placed
 use Rattle.asm_assemble.specs.Placed.{Standing}
@@ -61,15 +61,15 @@ headed_read heads.Call ls = pseudo_read (call ls) (call_in ls)
 headed_read heads.Tail ls = pseudo_read (tail ls) (tail_in ls)
 headed_read h ls = directive_read (directive h ls)
 
-allowed_read : (s : Section) (o : Option BodyValue) → IfSome o IsReadable → IfOk (allowed s o) (λ o. IfSome o (IsWell s))
+allowed_read : (s : Section) (o : Option BodyValue) → IfSome o IsReadable → IfOk (allowed_in_section s o) (λ o. IfSome o (IsWell s))
 allowed_read s None h = tt
 allowed_read s (Some b) h = by (is_zeros s && is_bytes b) refl
   where
-    by : (t : Bool) → (is_zeros s && is_bytes b) ≡ t → IfOk (allowed s (Some b)) (λ o. IfSome o (IsWell s))
+    by : (t : Bool) → (is_zeros s && is_bytes b) ≡ t → IfOk (allowed_in_section s (Some b)) (λ o. IfSome o (IsWell s))
     by true e = rw e tt
     by false e = rw e (record { readable = h; takes = e })
 
-then_read : (s : Section) (r : Result (Option BodyValue) FaultKind) → IfOk r (λ o. IfSome o IsReadable) → IfOk (r >>- allowed s) (λ o. IfSome o (IsWell s))
+then_read : (s : Section) (r : Result (Option BodyValue) FaultKind) → IfOk r (λ o. IfSome o IsReadable) → IfOk (r >>- allowed_in_section s) (λ o. IfSome o (IsWell s))
 then_read s (Ok o) h = allowed_read s o h
 then_read s (Err f) h = tt
 
@@ -263,8 +263,8 @@ same_behind s (bodies.Directive (directives.Global n)) = refl
 abbrev pub statements_in : List Standing → List StatementValue
 statements_in all = map (λ (s : Standing). s.statement) all
 
-pub well_at : (first : Section) (before : List Standing) (s : Standing) (after : List Standing) → AreWell first (statements_in (before ++ s ∷ after)) → IsWell (placed.section_behind first before) s.statement.body
-unfolding AreWell placed.section_behind
+pub well_at : (first : Section) (before : List Standing) (s : Standing) (after : List Standing) → AreWell first (statements_in (before ++ s ∷ after)) → IsWell (placed.placed_section_behind first before) s.statement.body
+unfolding AreWell placed.placed_section_behind
 well_at first [] s after h = h.0
 well_at first (x ∷ before) s after h =
     well_at (unwrap_or (section_of x.statement.body) first) before s after

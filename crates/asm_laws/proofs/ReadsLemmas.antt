@@ -2,18 +2,18 @@
 use Rattle.std.proofs.Common.{◌≡◌, ℕ, ◌+◌, ◌↔◌, Bool, true, false, cond, List, [], ◌∷◌, ◌++◌, Result, Ok, Err, refl, sym, ap, ◌∙◌, append_assoc, append-nil, ◌⊎◌, inl, inr}
 use Rattle.std.specs.Prelude.{◌==◌}
 use Rattle.asm_lex.specs.Lexemes.{Lexeme, lexed}
-use Rattle.asm_parse.specs.declared.fault.Fault.{Fault}
-use Rattle.asm_parse.specs.declared.fault.FaultKind.{FaultKind}
-use Rattle.asm_parse.specs.declared.fault.FaultKind.TheVariants as faults
-use Rattle.asm_parse.specs.declared.place.Place.{Place}
-use Rattle.asm_parse.specs.declared.statement.Section.{Section}
-use Rattle.asm_parse.specs.declared.statement.Section.TheVariants as sections
-use Rattle.asm_parse.specs.declared.statement.Body.TheVariants as bodies
-use Rattle.asm_parse.specs.declared.statement.Directive.TheVariants as directives
-use Rattle.asm_parse.specs.Answer.{◌>>=◌}
-use Rattle.asm_parse.specs.Statement.{StatementValue, BodyValue}
-use Rattle.asm_parse.specs.Statements.{stated, lines_ended, next_place, at_the_end, source_from, first_place, begun, source_statements, sources_from, statements_of}
-use Rattle.asm_laws.specs.Reads.{Part, AreParts, said, section_after, on_line, PartsSay, PartsFail, SourceSays, SourceFails, beginning, TextsSay, TextsFail, IsDecided}
+use Rattle.asm_statement.specs.declared.fault.Fault.{Fault}
+use Rattle.asm_statement.specs.declared.fault.FaultKind.{FaultKind}
+use Rattle.asm_statement.specs.declared.fault.FaultKind.TheVariants as faults
+use Rattle.asm_statement.specs.declared.place.Place.{Place}
+use Rattle.asm_statement.specs.declared.statement.Section.{Section}
+use Rattle.asm_statement.specs.declared.statement.Section.TheVariants as sections
+use Rattle.asm_statement.specs.declared.statement.Body.TheVariants as bodies
+use Rattle.asm_statement.specs.declared.statement.Directive.TheVariants as directives
+use Rattle.asm_statement.specs.Answer.{◌>>=◌}
+use Rattle.asm_statement.specs.Statement.{StatementValue, BodyValue}
+use Rattle.asm_statement.specs.Statements.{stated, lines_ended, next_place, at_the_end, source_from, first_place, begun, source_statements, sources_from, statements_of}
+use Rattle.asm_laws.specs.Reads.{Part, AreParts, said_by_part, section_after, on_line, PartsSay, PartsFail, SourceSays, SourceFails, beginning, TextsSay, TextsFail, IsDecided}
 use Rattle.asm_laws.proofs.Parts.{placed, parts_exist, statement_is, goes_on, goes_to_the_end}
 
 abbrev Read : Type 0
@@ -65,8 +65,8 @@ then_of source p next (Err kind) = Err (record { kind = kind; source = source; l
 
 abbrev reading : ℕ → Bool → Section → List Part → Read
 reading source whole section [] = Ok []
-reading source whole section (p ∷ []) = last_of source whole p (said section p)
-reading source whole section (p ∷ q ∷ ps) = then_of source p (λ bs. reading source whole (section_after section bs) (q ∷ ps)) (said section p)
+reading source whole section (p ∷ []) = last_of source whole p (said_by_part section p)
+reading source whole section (p ∷ q ∷ ps) = then_of source p (λ bs. reading source whole (section_after section bs) (q ∷ ps)) (said_by_part section p)
 
 last_step : (whole : Bool) (place : Place) (done : List StatementValue) (p : Part) (r : Result (List BodyValue) FaultKind) → p.line ≡ place.line
     → at_the_end whole place (placed place done r) ≡ onto done (last_of place.source whole p r)
@@ -87,7 +87,7 @@ read_by_parts whole [] place done ls h = absurd h
 read_by_parts whole (p ∷ []) place done ls h =
     ap (source_from whole place done []) h.2
     ∙ (goes_to_the_end whole place done [] p.lexemes h.1
-    ∙ (ap (at_the_end whole place) (statement_is place done p) ∙ last_step whole place done p (said place.section p) h.0))
+    ∙ (ap (at_the_end whole place) (statement_is place done p) ∙ last_step whole place done p (said_by_part place.section p) h.0))
 read_by_parts whole (p ∷ q ∷ ps) place done ls h =
     let end = h.2.0 in
     let rest = h.2.1 in
@@ -95,7 +95,7 @@ read_by_parts whole (p ∷ q ∷ ps) place done ls h =
     ap (source_from whole place done []) h.2.3
     ∙ (goes_on whole place done [] p.lexemes end rest h.1 h.2.2
     ∙ (ap (λ r. r >>= next) (statement_is place done p)
-    ∙ then_step place done p next (λ bs. reading place.source whole (section_after place.section bs) (q ∷ ps)) (said place.section p) h.0
+    ∙ then_step place done p next (λ bs. reading place.source whole (section_after place.section bs) (q ∷ ps)) (said_by_part place.section p) h.0
     (λ bs. read_by_parts whole (q ∷ ps) (next_place place end (section_after place.section bs)) (done ++ on_line place.source place.line bs) rest h.2.4)))
 
 -- ---- parts that say statements
@@ -118,9 +118,9 @@ then_says source p next (Err kind) ss e = absurd cc
 
 parts_say : (source : ℕ) (section : Section) (ps : List Part) (ss : List StatementValue) → reading source true section ps ≡ Ok ss → PartsSay source section ps ss
 parts_say source section [] ss e = sym (same_good [] ss e)
-parts_say source section (p ∷ []) ss e = let g = last_says source p (said section p) ss e in (g.0, [], g.1, g.2, refl)
+parts_say source section (p ∷ []) ss e = let g = last_says source p (said_by_part section p) ss e in (g.0, [], g.1, g.2, refl)
 parts_say source section (p ∷ q ∷ ps) ss e =
-    let g = then_says source p (λ bs. reading source true (section_after section bs) (q ∷ ps)) (said section p) ss e in
+    let g = then_says source p (λ bs. reading source true (section_after section bs) (q ∷ ps)) (said_by_part section p) ss e in
     (g.0, g.1, g.2, g.3, parts_say source (section_after section g.0) (q ∷ ps) g.1 g.4)
 
 say_parts : (source : ℕ) (section : Section) (ps : List Part) (ss : List StatementValue) → PartsSay source section ps ss → reading source true section ps ≡ Ok ss
@@ -145,9 +145,9 @@ last_fails source p (Err kind) fault e = (kind, refl, sym (same_bad (record { ki
 parts_fail : (source : ℕ) (section : Section) (whole : Bool) (ps : List Part) (fault : Fault) → reading source whole section ps ≡ Err fault → PartsFail source section whole ps fault
 parts_fail source section whole [] fault e = absurd cc
 parts_fail source section false (p ∷ []) fault e = sym (same_bad (record { kind = faults.Token; source = source; line = p.line }) fault e)
-parts_fail source section true (p ∷ []) fault e = last_fails source p (said section p) fault e
+parts_fail source section true (p ∷ []) fault e = last_fails source p (said_by_part section p) fault e
 parts_fail source section whole (p ∷ q ∷ ps) fault e =
-    elim (then_fails source p (λ bs. reading source whole (section_after section bs) (q ∷ ps)) (said section p) fault e) [
+    elim (then_fails source p (λ bs. reading source whole (section_after section bs) (q ∷ ps)) (said_by_part section p) fault e) [
       | inl here ↦ inl here
       | inr next ↦ inr (next.0, next.1, parts_fail source (section_after section next.0) whole (q ∷ ps) fault next.2)
     ]
@@ -167,7 +167,7 @@ none_says : (source : ℕ) (section : Section) (ps : List Part) (line : ℕ) (ls
 none_says source section [] line ls ss h e = h
 none_says source section (p ∷ []) line ls ss h e = cc
 none_says source section (p ∷ q ∷ ps) line ls ss h e =
-    let g = then_says source p (λ bs. reading source false (section_after section bs) (q ∷ ps)) (said section p) ss e in
+    let g = then_says source p (λ bs. reading source false (section_after section bs) (q ∷ ps)) (said_by_part section p) ss e in
     none_says source (section_after section g.0) (q ∷ ps) (line + lines_ended h.2.0) h.2.1 g.1 h.2.4 g.4
 
 -- ---- a source

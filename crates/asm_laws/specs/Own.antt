@@ -3,19 +3,19 @@
 use Rattle.std.specs.Prelude.{◌≡◌, ℕ, ◌+◌, ◌%◌, ◌^◌, ◌<◌, ◌==◌, if◌then◌else◌, List, [], ◌∷◌, ◌++◌, length, Ok, IfSome, codes}
 use Rattle.std.specs.Int.{w32, to_le_bytes}
 use Rattle.std.specs.Fmt.{decimal}
-use Rattle.isa_table.specs.Spells.{Spells}
+use Rattle.isa_table.specs.Spells.{SpellsInstr}
 use Rattle.isa_table.specs.declared.instr.Instr.{Instr}
-use Rattle.elf_read.specs.File.{loaded}
+use Rattle.elf_read.specs.File.{loaded_image}
 use Rattle.image.specs.Image.{ImageValue}
 use Rattle.image.specs.Segment.{SegmentValue}
 use Rattle.isa_disasm.specs.Listing.{listing, word_entry}
 use Rattle.isa_disasm.specs.Segments.{ListsSegments}
-use Rattle.asm_parse.specs.Statement.{StatementValue, BodyValue}
-use Rattle.asm_parse.specs.declared.statement.Body.TheVariants as body
-use Rattle.asm_parse.specs.declared.statement.Section.{Section}
-use Rattle.asm_parse.specs.declared.statement.Section.TheVariants as sections
+use Rattle.asm_statement.specs.Statement.{StatementValue, BodyValue}
+use Rattle.asm_statement.specs.declared.statement.Body.TheVariants as body
+use Rattle.asm_statement.specs.declared.statement.Section.{Section}
+use Rattle.asm_statement.specs.declared.statement.Section.TheVariants as sections
 use Rattle.asm_assemble.specs.declared.instruction.Pair.{Pair}
-use Rattle.asm_assemble.specs.Instructions.{pair_of}
+use Rattle.asm_assemble.specs.Instructions.{instr_pair}
 use Rattle.asm_assemble.specs.Placed.{Standing, Bases, ArePlaced, IsInstr}
 use Rattle.asm_assemble.specs.Program.{ProgramValue, SymbolList}
 use Rattle.asm_assemble.specs.Sources.{assembled_texts}
@@ -23,7 +23,7 @@ use Rattle.asm_laws.specs.Reads.{TextsSay}
 use Rattle.elf_write.specs.File.{program_image}
 
 -- these bytes stand at an address of an image, in one of its segments
-pub record StandsAt (image : ImageValue) (address : ℕ) (bytes : List ℕ) : Type 0 where
+pub record StandsInImage (image : ImageValue) (address : ℕ) (bytes : List ℕ) : Type 0 where
   pub segments_before : List SegmentValue
   pub segment : SegmentValue
   pub segments_behind : List SegmentValue
@@ -37,15 +37,15 @@ pub record StandsAt (image : ImageValue) (address : ℕ) (bytes : List ℕ) : Ty
 pub record HasWord (image : ImageValue) (address : ℕ) (i : Instr) : Type 0 where
   pub word : ℕ
   pub fits : word < 2 ^ 32
-  pub spells : Spells word i
-  pub stands : StandsAt image address (to_le_bytes w32 word)
+  pub spells : SpellsInstr word i
+  pub stands : StandsInImage image address (to_le_bytes w32 word)
 
 -- lines have the canonical line of a word that spells the instruction, with the lines of the text's bytes before it in front
 -- and the lines of those after it behind
 pub record HasLine (text lines : List ℕ) (address : ℕ) (i : Instr) : Type 0 where
   pub word : ℕ
   pub fits : word < 2 ^ 32
-  pub spells : Spells word i
+  pub spells : SpellsInstr word i
   pub before : List ℕ
   pub behind : List ℕ
   pub cut : text ≡ before ++ (to_le_bytes w32 word ++ behind)
@@ -57,7 +57,7 @@ abbrev pub Shows : (Section → ℕ → Instr → Type 0) → SymbolList → Lis
 Shows shown symbols before s after (body.Instruction i) =
     (j : Instr) × IsInstr symbols before s after i j × shown s.section s.address j
 Shows shown symbols before s after (body.Pseudo p) =
-    (pair : Pair) × (pair_of symbols s.address p ≡ Ok pair) × shown s.section s.address pair.first
+    (pair : Pair) × (instr_pair symbols s.address p ≡ Ok pair) × shown s.section s.address pair.first
     × IfSome pair.second (λ j. shown s.section (s.address + 4) j)
 Shows shown symbols before s after (body.Label name) = Unit {0}
 Shows shown symbols before s after (body.LocalLabel digits) = Unit {0}
@@ -99,7 +99,7 @@ image_lines text =
 -- word in the image
 pub record LoadsOwn (texts : List (List ℕ)) (p : ProgramValue) (bytes : List ℕ) : Type 0 where
   pub image : ImageValue
-  pub loads : loaded bytes ≡ Ok image
+  pub loads : loaded_image bytes ≡ Ok image
   pub is_image : program_image p ≡ Ok image
   pub lists : (lines : List ℕ) → ListsSegments image.segments lines → lines ≡ image_lines p.text
   pub gives : GivesOwn (InImage image) texts p

@@ -1,17 +1,17 @@
 -- The statements of source texts, as a relation: a text is cut at the ends of statements, lines are numbered, each part has its
--- labels and its body, and the section of each is that of the last change before it in its source. `asm_parse` says how they are
--- read one after another; the laws of src/reads.rt say that both are the same.
+-- labels and its body, and the section of each is that of the last change before it in its source. `asm_statement` says how they
+-- are read one after another; the laws of src/reads.rt say that both are the same.
 use Rattle.std.specs.Prelude.{◌≡◌, ℕ, ◌+◌, ◌==◌, ◌⊎◌, List, [], ◌∷◌, ◌++◌, Bool, true, false, if◌then◌else◌, Option, Some, None, Result, Ok, Err, map}
 use Rattle.asm_lex.specs.Lexemes.{Lexeme, lexed}
-use Rattle.asm_parse.specs.declared.fault.Fault.{Fault}
-use Rattle.asm_parse.specs.declared.fault.FaultKind.{FaultKind}
-use Rattle.asm_parse.specs.declared.fault.FaultKind.TheVariants as faults
-use Rattle.asm_parse.specs.declared.statement.Section.{Section}
-use Rattle.asm_parse.specs.declared.statement.Section.TheVariants as sections
-use Rattle.asm_parse.specs.declared.statement.Body.TheVariants as bodies
-use Rattle.asm_parse.specs.declared.statement.Directive.TheVariants as directives
-use Rattle.asm_parse.specs.Statement.{StatementValue, BodyValue}
-use Rattle.asm_parse.specs.Statements.{body, label_of, ends_statement, lines_ended, section_behind}
+use Rattle.asm_statement.specs.declared.fault.Fault.{Fault}
+use Rattle.asm_statement.specs.declared.fault.FaultKind.{FaultKind}
+use Rattle.asm_statement.specs.declared.fault.FaultKind.TheVariants as faults
+use Rattle.asm_statement.specs.declared.statement.Section.{Section}
+use Rattle.asm_statement.specs.declared.statement.Section.TheVariants as sections
+use Rattle.asm_statement.specs.declared.statement.Body.TheVariants as bodies
+use Rattle.asm_statement.specs.declared.statement.Directive.TheVariants as directives
+use Rattle.asm_statement.specs.Statement.{StatementValue, BodyValue}
+use Rattle.asm_statement.specs.Statements.{body, label_of, ends_statement, lines_ended, section_behind}
 
 -- ---- a text, cut at the ends of statements
 -- the lexemes between two ends, and the line on which they begin
@@ -52,8 +52,8 @@ with_body labels (Ok (Some b)) = Ok (labels ++ b ∷ [])
 with_body labels (Err kind) = Err kind
 
 -- what a part says in a section: its labels and then its body, or its lowest fault
-abbrev pub said : Section → Part → Result (List BodyValue) FaultKind
-said section p = with_body (labelled p.lexemes).0 (body section (labelled p.lexemes).1)
+abbrev pub said_by_part : Section → Part → Result (List BodyValue) FaultKind
+said_by_part section p = with_body (labelled p.lexemes).0 (body section (labelled p.lexemes).1)
 
 -- the section behind what is said
 abbrev pub section_after : Section → List BodyValue → Section
@@ -69,7 +69,7 @@ on_line source line said = map (λ b. record { source = source; line = line; bod
 abbrev pub PartsSay : ℕ → Section → List Part → List StatementValue → Type 0
 PartsSay source section [] ss = ss ≡ []
 PartsSay source section (p ∷ ps) ss =
-    (here : List BodyValue) × (more : List StatementValue) × (said section p ≡ Ok here)
+    (here : List BodyValue) × (more : List StatementValue) × (said_by_part section p ≡ Ok here)
     × (ss ≡ on_line source p.line here ++ more) × PartsSay source (section_after section here) ps more
 
 -- a part is the first that is wrong, and has this fault; where the text has a fault of a token, its last part has that
@@ -77,10 +77,10 @@ abbrev pub PartsFail : ℕ → Section → Bool → List Part → Fault → Type
 PartsFail source section whole [] fault = ⊥
 PartsFail source section false (p ∷ []) fault = fault ≡ record { kind = faults.Token; source = source; line = p.line }
 PartsFail source section true (p ∷ []) fault =
-    (kind : FaultKind) × (said section p ≡ Err kind) × (fault ≡ record { kind = kind; source = source; line = p.line })
+    (kind : FaultKind) × (said_by_part section p ≡ Err kind) × (fault ≡ record { kind = kind; source = source; line = p.line })
 PartsFail source section whole (p ∷ q ∷ ps) fault =
-    ((kind : FaultKind) × (said section p ≡ Err kind) × (fault ≡ record { kind = kind; source = source; line = p.line }))
-    ⊎ ((here : List BodyValue) × (said section p ≡ Ok here) × PartsFail source (section_after section here) whole (q ∷ ps) fault)
+    ((kind : FaultKind) × (said_by_part section p ≡ Err kind) × (fault ≡ record { kind = kind; source = source; line = p.line }))
+    ⊎ ((here : List BodyValue) × (said_by_part section p ≡ Ok here) × PartsFail source (section_after section here) whole (q ∷ ps) fault)
 
 -- a source begins on line 1 in `.text`, has no fault of a token, and its parts say these statements
 pub record SourceSays (source : ℕ) (text : List ℕ) (ss : List StatementValue) : Type 0 where

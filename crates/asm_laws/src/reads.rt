@@ -1,8 +1,8 @@
 //! What was read of sources is what they say.
 ghost use Rattle.std.specs.Prelude.{◌≡◌, ◌↔◌, ℕ, List, Ok, Err};
-ghost use Rattle.asm_parse.specs.Statement.{StatementValue};
-ghost use Rattle.asm_parse.specs.Statements.{statements_of};
-ghost use Rattle.asm_parse.specs.declared.fault.Fault.{Fault};
+ghost use Rattle.asm_statement.specs.Statement.{StatementValue};
+ghost use Rattle.asm_statement.specs.Statements.{statements_of};
+ghost use Rattle.asm_statement.specs.declared.fault.Fault.{Fault};
 ghost use Rattle.asm_laws.specs.Reads.{IsDecided, TextsFail, TextsSay};
 
 /// Sources are read as statements exactly where they say these.

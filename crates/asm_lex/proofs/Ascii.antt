@@ -10,7 +10,7 @@ use Rattle.asm_lex.specs.declared.token.Kind.{Kind}
 use Rattle.asm_lex.specs.declared.token.Kind.TheVariants as kinds
 use Rattle.asm_lex.specs.declared.piece.Piece.TheVariants as pieces
 use Rattle.asm_lex.specs.Bytes.{is_name_byte}
-use Rattle.asm_lex.specs.Grammar.{IsRun, IsLexeme}
+use Rattle.asm_lex.specs.Grammar.{IsLongestRun, IsLexeme}
 use Rattle.asm_lex.specs.Pieces.{front}
 use Rattle.asm_lex.specs.Reading.{IsPieceOf}
 use Rattle.asm_lex.specs.Lexemes.{without_last, text_in}
@@ -19,7 +19,7 @@ use Rattle.asm_lex.proofs.Found.{IsPiece, front_found}
 name_byte_small : (b : ℕ) → is_name_byte b ≡ true → b < 128
 name_byte_small b h = grind (arith, h)
 
-run_is_ascii : (word rest : List ℕ) → IsRun is_name_byte word rest → IsAscii word
+run_is_ascii : (word rest : List ℕ) → IsLongestRun is_name_byte word rest → IsAscii word
 run_is_ascii word rest run = λ i. elim (cases_lt i (length word)) [
   | inl lt ↦ name_byte_small (slice_index word i) (run.each i lt)
   | inr past ↦ rw (get_or_past word i 0 past) (omega arith)

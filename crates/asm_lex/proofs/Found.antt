@@ -14,15 +14,15 @@ use Rattle.asm_lex.specs.declared.token.Kind.{Kind}
 use Rattle.asm_lex.specs.declared.token.Kind.TheVariants as kinds
 use Rattle.asm_lex.specs.declared.piece.Piece.{Piece}
 use Rattle.asm_lex.specs.declared.piece.Piece.TheVariants as pieces
-use Rattle.asm_lex.specs.Bytes.{is_digit, is_name_byte, is_blank, is_printable}
-use Rattle.asm_lex.specs.Numbers.{number_of}
+use Rattle.asm_lex.specs.Bytes.{is_digit, is_name_byte, is_space_or_tab, is_printable}
+use Rattle.asm_lex.specs.Numbers.{digits_number}
 use Rattle.asm_lex.specs.Pieces.{front, sign_of, run_of_names, comment_len, closing, reference_of, number_piece, word_piece, text_piece, return_piece}
-use Rattle.asm_lex.specs.Reading.{Reading, whole, stopped, answer, answer_of, behind, with_piece, reading}
-use Rattle.asm_lex.specs.Grammar.{IsSign, IsComment, IsRun, StopsBefore, is_in_line, IsLexeme, Reads, Ended, Blank, Comment, Lexed}
+use Rattle.asm_lex.specs.Reading.{Reading, whole, stopped, result_of_reading, tokens_or_fault, with_token, with_piece, reading}
+use Rattle.asm_lex.specs.Grammar.{IsSign, IsComment, IsLongestRun, StopsBefore, is_in_line, IsLexeme, Reads, Ended, Blank, Comment, Lexed}
 
 -- the properties of a piece at the front
 abbrev pub IsGap : List ℕ → ℕ → Type 0
-IsGap text n = ((n ≡ 1) × (is_blank (slice_index text 0) ≡ true)) ⊎ IsComment (take n text) (drop n text)
+IsGap text n = ((n ≡ 1) × (is_space_or_tab (slice_index text 0) ≡ true)) ⊎ IsComment (take n text) (drop n text)
 
 abbrev pub IsPiece : List ℕ → Piece → Type 0
 IsPiece text (pieces.Gap n) = (0 < n) × (n ≤ length text) × IsGap text n
@@ -48,7 +48,7 @@ stops_at p (x ∷ xs) = here (p x) refl (stops_at p xs)
     here true e more = rw one-add more
     here false e more = e
 
-longest : (p : ℕ → Bool) (text : List ℕ) → IsRun p (take (prefix_len p text) text) (drop (prefix_len p text) text)
+longest : (p : ℕ → Bool) (text : List ℕ) → IsLongestRun p (take (prefix_len p text) text) (drop (prefix_len p text) text)
 longest p text = record {
   each = λ i lt. let below : i < prefix_len p text = omega (arith, length-prefix_len p text) in rw (get_or-take (prefix_len p text) text i 0 below) (prefix_len_passes p text i 0 below);
   stops = stops_at p text;
@@ -66,7 +66,7 @@ closing_within e [] n h = absurd cc
 closing_within e (b ∷ bs) n h = closing_step (b == 10) (b == 34 && not e) (closing (b == 92 && not e) bs) n (length bs) (closing_within (b == 92 && not e) bs) h
 
 module _ (b : ℕ) (bs : List ℕ) where
-  reference_found : (n : ℕ) → (0 < n) × (n ≤ length (b ∷ bs)) → (word : List ℕ) → word ≡ take n (b ∷ bs) → length word ≡ n → is_digit (slice_index word 0) ≡ true → IsRun is_name_byte word (drop n (b ∷ bs)) → number_of word ≡ None
+  reference_found : (n : ℕ) → (0 < n) × (n ≤ length (b ∷ bs)) → (word : List ℕ) → word ≡ take n (b ∷ bs) → length word ≡ n → is_digit (slice_index word 0) ≡ true → IsLongestRun is_name_byte word (drop n (b ∷ bs)) → digits_number word ≡ None
       → (p : Piece) → reference_of word ≡ p → IsPiece (b ∷ bs) p
   unfolding reference_of
   reference_found n fits word is length_is digit run none p e =
@@ -83,16 +83,16 @@ module _ (b : ℕ) (bs : List ℕ) where
       (λ _. bad)
       e
 
-  number_found : (n : ℕ) → (0 < n) × (n ≤ length (b ∷ bs)) → (word : List ℕ) → word ≡ take n (b ∷ bs) → length word ≡ n → is_digit (slice_index word 0) ≡ true → IsRun is_name_byte word (drop n (b ∷ bs))
-      → (o : Option ℕ) → number_of word ≡ o → IsPiece (b ∷ bs) (number_piece word o)
+  number_found : (n : ℕ) → (0 < n) × (n ≤ length (b ∷ bs)) → (word : List ℕ) → word ≡ take n (b ∷ bs) → length word ≡ n → is_digit (slice_index word 0) ≡ true → IsLongestRun is_name_byte word (drop n (b ∷ bs))
+      → (o : Option ℕ) → digits_number word ≡ o → IsPiece (b ∷ bs) (number_piece word o)
   number_found n fits word is length_is digit run None e = reference_found n fits word is length_is digit run e (reference_of word) refl
   number_found n fits word is length_is digit run (Some k) e = rw (length_is, ← is) (fits.0, fits.1, (rw length_is fits.0, digit, run, e))
 
-  word_found : (n : ℕ) → (0 < n) × (n ≤ length (b ∷ bs)) → (word : List ℕ) → word ≡ take n (b ∷ bs) → length word ≡ n → IsRun is_name_byte word (drop n (b ∷ bs)) → IsPiece (b ∷ bs) (word_piece word)
+  word_found : (n : ℕ) → (0 < n) × (n ≤ length (b ∷ bs)) → (word : List ℕ) → word ≡ take n (b ∷ bs) → length word ≡ n → IsLongestRun is_name_byte word (drop n (b ∷ bs)) → IsPiece (b ∷ bs) (word_piece word)
   unfolding word_piece
   word_found n fits word is length_is run =
-      by_test (IsPiece (b ∷ bs)) (is_digit (slice_index word 0)) (number_piece word (number_of word)) (pieces.Lexeme kinds.Name (length word))
-      (λ digit. number_found n fits word is length_is digit run (number_of word) refl)
+      by_test (IsPiece (b ∷ bs)) (is_digit (slice_index word 0)) (number_piece word (digits_number word)) (pieces.Lexeme kinds.Name (length word))
+      (λ digit. number_found n fits word is length_is digit run (digits_number word) refl)
       (λ other. rw (length_is, ← is) (fits.0, fits.1, (rw length_is fits.0, other, run)))
 
   text_found : (o : Option ℕ) → b ≡ 34 → closing false bs ≡ o → IsPiece (b ∷ bs) (text_piece o)
@@ -153,7 +153,7 @@ front_found b bs =
     let hash = if b == 35 then pieces.Gap (1 + comment_len bs) else quote in
     let cr = if b == 13 then return_piece bs else hash in
     let lf = if b == 10 then pieces.Lexeme kinds.LineEnd 1 else cr in
-    by_test P (is_blank b) (pieces.Gap 1) lf (λ blank. (omega arith, omega arith, inl (refl, blank))) (λ _.
+    by_test P (is_space_or_tab b) (pieces.Gap 1) lf (λ blank. (omega arith, omega arith, inl (refl, blank))) (λ _.
     by_test P (b == 10) (pieces.Lexeme kinds.LineEnd 1) cr (λ is. (omega arith, omega arith, inl (rw (eqb-true b 10 is) refl))) (λ _.
     by_test P (b == 13) (return_piece bs) hash (λ is. return_found b bs (eqb-true b 13 is)) (λ _.
     by_test P (b == 35) (pieces.Gap (1 + comment_len bs)) quote (λ is. comment_found b bs (eqb-true b 35 is)) (λ no_hash.
@@ -161,7 +161,7 @@ front_found b bs =
     by_test P (is_name_byte b) (word_piece (take (run_of_names (b ∷ bs)) (b ∷ bs))) printable (λ is. name_found b bs is) (λ no_name.
     by_test P (is_printable b) (pieces.Lexeme (sign_of b) 1) pieces.BadChar (λ is. (omega arith, omega arith, sign_lexeme b (b ∷ []) bs (record { byte = b; alone = refl; printable = is; no_name = no_name; no_quote = eqb-false b 34 no_quote; no_comment = eqb-false b 35 no_hash; kind = refl }))) (λ _. tt)))))))
 
-behind_whole : (t : Token) (r : Reading) (ts : List Token) → behind t r ≡ whole ts → (us : List Token) × (r ≡ whole us) × (t ∷ us ≡ ts)
+behind_whole : (t : Token) (r : Reading) (ts : List Token) → with_token t r ≡ whole ts → (us : List Token) × (r ≡ whole us) × (t ∷ us ≡ ts)
 behind_whole t r ts e = (r.tokens, ap (λ (f : Option TextFault). record { tokens = r.tokens; fault = f }) (ap (λ (q : Reading). q.fault) e), ap (λ (q : Reading). q.tokens) e)
 
 not_whole : (f : TextFault) (ts : List Token) → stopped f ≡ whole ts → ⊥
@@ -201,14 +201,14 @@ reads_on zero at (b ∷ bs) ts le e =
 pub reads : (bytes : List ℕ) (ts : List Token) → reading 0 0 bytes ≡ whole ts → Reads 0 bytes ts
 reads bytes ts e = let r = reads_on 0 0 bytes ts (omega arith) e in r
 
-answered_whole : (ts us : List Token) (f : Option TextFault) → answer_of us f ≡ Ok ts → record { tokens = us; fault = f } ≡ whole ts
+answered_whole : (ts us : List Token) (f : Option TextFault) → tokens_or_fault us f ≡ Ok ts → record { tokens = us; fault = f } ≡ whole ts
 answered_whole ts us None e = let same : us ≡ ts = cc in ap whole same
 answered_whole ts us (Some f) e = absurd cc
 
-pub given : (bytes : List ℕ) (ts : List Token) → answer (reading 0 0 bytes) ≡ Ok ts → Reads 0 bytes ts
+pub given : (bytes : List ℕ) (ts : List Token) → result_of_reading (reading 0 0 bytes) ≡ Ok ts → Reads 0 bytes ts
 given bytes ts e = let r = reading 0 0 bytes in reads bytes ts (answered_whole ts r.tokens r.fault e)
 
 -- a result that equals the reading is what the grammar reads
-pub given_by : {V : Type 0} (items : V → List Token) (r : Result V TextFault) (text : List ℕ) → IfOk r (λ v. answer (reading 0 0 text) ≡ Ok (items v)) → IfOk r (λ v. Reads 0 text (items v))
+pub given_by : {V : Type 0} (items : V → List Token) (r : Result V TextFault) (text : List ℕ) → IfOk r (λ v. result_of_reading (reading 0 0 text) ≡ Ok (items v)) → IfOk r (λ v. Reads 0 text (items v))
 given_by items (Ok v) text h = given text (items v) h
 given_by items (Err f) text h = tt

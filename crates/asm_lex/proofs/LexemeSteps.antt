@@ -6,7 +6,7 @@ use Rattle.asm_lex.specs.declared.lexeme.Next.TheVariants as nexts
 use Rattle.asm_lex.specs.declared.token.Kind.{Kind}
 use Rattle.asm_lex.specs.declared.piece.Piece.TheVariants as pieces
 use Rattle.std.specs.Prelude.{slice_index}
-use Rattle.asm_lex.specs.Bytes.{is_blank}
+use Rattle.asm_lex.specs.Bytes.{is_space_or_tab}
 use Rattle.asm_lex.specs.Pieces.{front}
 use Rattle.asm_lex.specs.Lexemes.{IsNext, lexeme, lexeme_in, lexed, broken, by_piece, seen}
 
@@ -29,7 +29,7 @@ behind_piece n [] pos le = absurd (omega arith)
 behind_piece zero (b ∷ bs) pos le = absurd (omega arith)
 behind_piece (suc n) (b ∷ bs) pos le = let m : suc n - 1 ≡ n = omega arith in rw m (skips n bs (omega arith))
 
-gap_of_blank : (b : ℕ) (bs : List ℕ) → is_blank b ≡ true → front (b ∷ bs) ≡ pieces.Gap 1
+gap_of_blank : (b : ℕ) (bs : List ℕ) → is_space_or_tab b ≡ true → front (b ∷ bs) ≡ pieces.Gap 1
 unfolding front
 gap_of_blank b bs blank = rw blank refl
 
@@ -43,7 +43,7 @@ module _ (all : List ℕ) (from at : ℕ) (lt : at < length all) (so_far : lexed
   pub gap_step : (n : ℕ) → front (drop at all) ≡ pieces.Gap n → 0 < n → n ≤ length (drop at all) → lexed 0 (drop from all) ≡ lexed 0 (drop (at + n) all)
   gap_step n is pos le = rw (← next n pos le) (rw is at here)
 
-  pub blank_step : is_blank (slice_index all at) ≡ true → lexed 0 (drop from all) ≡ lexed 0 (drop (at + 1) all)
+  pub blank_step : is_space_or_tab (slice_index all at) ≡ true → lexed 0 (drop from all) ≡ lexed 0 (drop (at + 1) all)
   blank_step blank =
       let split : drop at all ≡ slice_index all at ∷ drop (at + 1) all = drop_more all at 0 lt in
       let is : front (drop at all) ≡ pieces.Gap 1 = rw split (gap_of_blank (slice_index all at) (drop (at + 1) all) blank) in

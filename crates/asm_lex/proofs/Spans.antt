@@ -5,10 +5,10 @@ use Rattle.asm_lex.specs.declared.token.Kind.{Kind}
 use Rattle.asm_lex.specs.declared.piece.Piece.{Piece}
 use Rattle.asm_lex.specs.declared.piece.Piece.TheVariants as pieces
 use Rattle.asm_lex.specs.Pieces.{front}
-use Rattle.asm_lex.specs.Reading.{Reading, behind, with_piece, reading}
+use Rattle.asm_lex.specs.Reading.{Reading, with_token, with_piece, reading}
 use Rattle.asm_lex.specs.Lexemes.{Lexed, lexeme, lexed_of, with_lexeme, by_piece, lexed}
 
-behind_lexemes : (text : List ℕ) (kind : Kind) (at n : ℕ) (r : Reading) → lexed_of text (behind (record { kind = kind; start = at; end = at + n }) r) ≡ with_lexeme (lexeme kind (take n (drop at text))) (lexed_of text r)
+behind_lexemes : (text : List ℕ) (kind : Kind) (at n : ℕ) (r : Reading) → lexed_of text (with_token (record { kind = kind; start = at; end = at + n }) r) ≡ with_lexeme (lexeme kind (take n (drop at text))) (lexed_of text r)
 behind_lexemes text kind at n r = let e : at + n - at ≡ n = omega arith in rw e refl
 
 by_pieces : (text : List ℕ) (at : ℕ) (p : Piece) (bs : List ℕ) (read : ℕ → Reading) (word : ℕ → Lexed) → drop at text ≡ bs → ((n : ℕ) → lexed_of text (read n) ≡ word n)

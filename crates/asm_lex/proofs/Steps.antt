@@ -6,7 +6,7 @@ use Rattle.asm_lex.specs.declared.token.Token.{Token}
 use Rattle.asm_lex.specs.declared.fault.TextFault.TheVariants as faults
 use Rattle.asm_lex.specs.declared.piece.Piece.TheVariants as pieces
 use Rattle.asm_lex.specs.Pieces.{front}
-use Rattle.asm_lex.specs.Reading.{Reading, behind, with_piece, reading}
+use Rattle.asm_lex.specs.Reading.{Reading, with_token, with_piece, reading}
 
 -- what was read before, and what is still read
 abbrev pub with_front : List Token → Reading → Reading
@@ -34,7 +34,7 @@ behind_piece at (suc n) (b ∷ bs) pos le =
     let m : suc n - 1 ≡ n = omega arith in
     rw (e, m) (skips n (at + 1) bs (omega arith))
 
-regroup : (front : List Token) (t : Token) (r : Reading) → with_front front (behind t r) ≡ with_front (front ++ t ∷ []) r
+regroup : (front : List Token) (t : Token) (r : Reading) → with_front front (with_token t r) ≡ with_front (front ++ t ∷ []) r
 regroup front t r = ap (λ (l : List Token). record { tokens = l; fault = r.fault }) (simp append_assoc)
 
 module _ (all : List ℕ) (before : List Token) (at : ℕ) (total : Reading) (lt : at < length all) (so_far : with_front before (reading 0 at (drop at all)) ≡ total) where

@@ -10,22 +10,22 @@ use Rattle.asm_lex.specs.declared.token.Token.{Token}
 use Rattle.asm_lex.specs.declared.token.Kind.{Kind}
 use Rattle.asm_lex.specs.declared.token.Kind.TheVariants as kinds
 use Rattle.asm_lex.specs.declared.piece.Piece.TheVariants as pieces
-use Rattle.asm_lex.specs.Bytes.{is_name_byte, is_blank, is_printable}
+use Rattle.asm_lex.specs.Bytes.{is_name_byte, is_space_or_tab, is_printable}
 use Rattle.asm_lex.specs.Pieces.{front, sign_of, run_of_names, comment_len, word_piece}
-use Rattle.asm_lex.specs.Reading.{Reading, answer, whole, reading}
-use Rattle.asm_lex.specs.Grammar.{IsSign, IsComment, IsRun, is_in_line, IsLexeme, Reads, Ended, Blank, Comment, Lexed}
+use Rattle.asm_lex.specs.Reading.{Reading, result_of_reading, whole, reading}
+use Rattle.asm_lex.specs.Grammar.{IsSign, IsComment, IsLongestRun, is_in_line, IsLexeme, Reads, Ended, Blank, Comment, Lexed}
 use Rattle.asm_lex.proofs.Steps.{stepped, behind_piece}
 
 -- the length of a run
-run_len : (p : ℕ → Bool) (run rest : List ℕ) → IsRun p run rest → prefix_len p (run ++ rest) ≡ length run
+run_len : (p : ℕ → Bool) (run rest : List ℕ) → IsLongestRun p run rest → prefix_len p (run ++ rest) ≡ length run
 run_len p [] [] h = refl
 run_len p [] (b ∷ bs) h = rw h.stops refl
 run_len p (x ∷ run) rest h =
     let first : p x ≡ true = h.each 0 (omega arith) in
-    let others : IsRun p run rest = record { each = λ i lt. h.each (suc i) (omega arith); stops = h.stops } in
+    let others : IsLongestRun p run rest = record { each = λ i lt. h.each (suc i) (omega arith); stops = h.stops } in
     rw (first, run_len p run rest others, one-add) refl
 
-tail_run : (p : ℕ → Bool) (x : ℕ) (run rest : List ℕ) → IsRun p (x ∷ run) rest → IsRun p run rest
+tail_run : (p : ℕ → Bool) (x : ℕ) (run rest : List ℕ) → IsLongestRun p (x ∷ run) rest → IsLongestRun p run rest
 tail_run p x run rest h = record { each = λ i lt. h.each (suc i) (omega arith); stops = h.stops }
 
 -- a byte that passes a test is none that does not
@@ -33,7 +33,7 @@ differs : (p : ℕ → Bool) (b k : ℕ) → p b ≡ true → p k ≡ false → 
 differs p b k passes other = ne_eqb b k (λ e. true≢false (sym passes ∙ (ap p e ∙ other)))
 
 -- the piece at the front of a text that begins with a name byte
-pub word_front : (word rest : List ℕ) → 0 < length word → IsRun is_name_byte word rest → front (word ++ rest) ≡ word_piece word
+pub word_front : (word rest : List ℕ) → 0 < length word → IsLongestRun is_name_byte word rest → front (word ++ rest) ≡ word_piece word
 unfolding front run_of_names
 word_front [] rest pos run = absurd (omega arith)
 word_front (b ∷ w) rest pos run =
@@ -75,7 +75,7 @@ unfolding front comment_len
 comment_front [] rest h = absurd (omega arith)
 comment_front (b ∷ comment) rest h = rw (h.1, run_len is_in_line comment rest (tail_run is_in_line b comment rest h.2), one-add) refl
 
-blank_front : (b : ℕ) (rest : List ℕ) → is_blank b ≡ true → front (b ∷ rest) ≡ pieces.Gap 1
+blank_front : (b : ℕ) (rest : List ℕ) → is_space_or_tab b ≡ true → front (b ∷ rest) ≡ pieces.Gap 1
 unfolding front
 blank_front b rest h = rw h refl
 
@@ -96,8 +96,8 @@ read_so _ _ _ (Lexed at kind word rest bytes ts lexeme is more) =
 pub one_list : (text : List ℕ) (ts us : List Token) → Reads 0 text ts → Reads 0 text us → ts ≡ us
 one_list text ts us r s = ap (λ (read : Reading). read.tokens) (sym (read_so 0 text ts r) ∙ read_so 0 text us s)
 
-pub answers : (text : List ℕ) (ts : List Token) → Reads 0 text ts → answer (reading 0 0 text) ≡ Ok ts
-answers text ts r = ap answer (read_so 0 text ts r)
+pub answers : (text : List ℕ) (ts : List Token) → Reads 0 text ts → result_of_reading (reading 0 0 text) ≡ Ok ts
+answers text ts r = ap result_of_reading (read_so 0 text ts r)
 
 abbrev done : List Token → Result (List Token) TextFault
 done ts = Ok ts
@@ -106,14 +106,14 @@ ok_is_no_fault : (ts : List Token) (f : TextFault) → done ts ≡ Err f → ⊥
 ok_is_no_fault ts f e = absurd cc
 
 -- where the expected answer is a list, the only fault is out of memory
-pub only_memory : (text : List ℕ) (ts : List Token) (fault : TextFault) → (fault ≢ faults.Memory → answer (reading 0 0 text) ≡ Err fault) → Reads 0 text ts → fault ≡ faults.Memory
+pub only_memory : (text : List ℕ) (ts : List Token) (fault : TextFault) → (fault ≢ faults.Memory → result_of_reading (reading 0 0 text) ≡ Err fault) → Reads 0 text ts → fault ≡ faults.Memory
 only_memory text ts faults.Memory gives r = refl
 only_memory text ts (faults.BadChar at) gives r = absurd (ok_is_no_fault ts _ (sym (answers text ts r) ∙ gives (λ e. cc)))
 only_memory text ts (faults.BadNumber at) gives r = absurd (ok_is_no_fault ts _ (sym (answers text ts r) ∙ gives (λ e. cc)))
 only_memory text ts (faults.OpenText at) gives r = absurd (ok_is_no_fault ts _ (sym (answers text ts r) ∙ gives (λ e. cc)))
 
 -- and so of any result
-pub only_memory_by : {V : Type 0} (r : Result V TextFault) (text : List ℕ) → IfErr r (λ fault. fault ≢ faults.Memory → answer (reading 0 0 text) ≡ Err fault)
+pub only_memory_by : {V : Type 0} (r : Result V TextFault) (text : List ℕ) → IfErr r (λ fault. fault ≢ faults.Memory → result_of_reading (reading 0 0 text) ≡ Err fault)
     → (ts : List Token) → Reads 0 text ts → IfErr r (λ fault. fault ≡ faults.Memory)
 only_memory_by (Ok v) text h ts reads = tt
 only_memory_by (Err f) text h ts reads = only_memory text ts f h reads

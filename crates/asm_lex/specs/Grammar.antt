@@ -4,8 +4,8 @@ use Rattle.std.proofs.Common.{◌⊎◌}
 use Rattle.asm_lex.specs.declared.token.Token.{Token}
 use Rattle.asm_lex.specs.declared.token.Kind.{Kind}
 use Rattle.asm_lex.specs.declared.token.Kind.TheVariants as kinds
-use Rattle.asm_lex.specs.Bytes.{is_digit, is_name_byte, is_blank, is_printable}
-use Rattle.asm_lex.specs.Numbers.{number_of}
+use Rattle.asm_lex.specs.Bytes.{is_digit, is_name_byte, is_space_or_tab, is_printable}
+use Rattle.asm_lex.specs.Numbers.{digits_number}
 use Rattle.asm_lex.specs.Pieces.{reference_of, closing, sign_of}
 use Rattle.asm_lex.specs.declared.piece.Piece.TheVariants as pieces
 
@@ -14,7 +14,7 @@ abbrev pub StopsBefore : (ℕ → Bool) → List ℕ → Type 0
 StopsBefore passes [] = Unit {0}
 StopsBefore passes (b ∷ bs) = passes b ≡ false
 
-pub record IsRun (passes : ℕ → Bool) (run rest : List ℕ) : Type 0 where
+pub record IsLongestRun (passes : ℕ → Bool) (run rest : List ℕ) : Type 0 where
   pub each : (i : ℕ) → i < length run → passes (slice_index run i) ≡ true
   pub stops : StopsBefore passes rest
 
@@ -33,22 +33,22 @@ pub record IsSign (sign : Kind) (word : List ℕ) : Type 0 where
 
 -- the bytes of a token, and what follows them
 abbrev pub IsLexeme : Kind → List ℕ → List ℕ → Type 0
-IsLexeme kinds.Name word rest = (0 < length word) × (is_digit (slice_index word 0) ≡ false) × IsRun is_name_byte word rest
-IsLexeme (kinds.Number n) word rest = (0 < length word) × (is_digit (slice_index word 0) ≡ true) × IsRun is_name_byte word rest × (number_of word ≡ Some n)
+IsLexeme kinds.Name word rest = (0 < length word) × (is_digit (slice_index word 0) ≡ false) × IsLongestRun is_name_byte word rest
+IsLexeme (kinds.Number n) word rest = (0 < length word) × (is_digit (slice_index word 0) ≡ true) × IsLongestRun is_name_byte word rest × (digits_number word ≡ Some n)
 IsLexeme kinds.LineEnd word rest = (word ≡ 10 ∷ []) ⊎ (word ≡ 13 ∷ 10 ∷ [])
-IsLexeme kinds.Back word rest = (0 < length word) × (is_digit (slice_index word 0) ≡ true) × IsRun is_name_byte word rest × (number_of word ≡ None) × (reference_of word ≡ pieces.Lexeme kinds.Back (length word))
-IsLexeme kinds.Ahead word rest = (0 < length word) × (is_digit (slice_index word 0) ≡ true) × IsRun is_name_byte word rest × (number_of word ≡ None) × (reference_of word ≡ pieces.Lexeme kinds.Ahead (length word))
+IsLexeme kinds.Back word rest = (0 < length word) × (is_digit (slice_index word 0) ≡ true) × IsLongestRun is_name_byte word rest × (digits_number word ≡ None) × (reference_of word ≡ pieces.Lexeme kinds.Back (length word))
+IsLexeme kinds.Ahead word rest = (0 < length word) × (is_digit (slice_index word 0) ≡ true) × IsLongestRun is_name_byte word rest × (digits_number word ≡ None) × (reference_of word ≡ pieces.Lexeme kinds.Ahead (length word))
 IsLexeme kinds.Text word rest = (n : ℕ) × (length word ≡ n + 2) × (slice_index word 0 ≡ 34) × (closing false (drop 1 (word ++ rest)) ≡ Some n)
 IsLexeme sign word rest = IsSign sign word
 
 -- `#` and the rest of its line
 abbrev pub IsComment : List ℕ → List ℕ → Type 0
-IsComment comment rest = (0 < length comment) × (slice_index comment 0 ≡ 35) × IsRun is_in_line comment rest
+IsComment comment rest = (0 < length comment) × (slice_index comment 0 ≡ 35) × IsLongestRun is_in_line comment rest
 
 -- A text from an offset on, and its tokens.
 pub data Reads : ℕ → List ℕ → List Token → Type 0 where
   Ended : (at : ℕ) → Reads at [] []
-  Blank : (at b : ℕ) (rest : List ℕ) (ts : List Token) → is_blank b ≡ true → Reads (at + 1) rest ts → Reads at (b ∷ rest) ts
+  Blank : (at b : ℕ) (rest : List ℕ) (ts : List Token) → is_space_or_tab b ≡ true → Reads (at + 1) rest ts → Reads at (b ∷ rest) ts
   Comment : (at : ℕ) (comment rest bytes : List ℕ) (ts : List Token) → IsComment comment rest → bytes ≡ comment ++ rest → Reads (at + length comment) rest ts → Reads at bytes ts
   Lexed : (at : ℕ) (kind : Kind) (word rest bytes : List ℕ) (ts : List Token) → IsLexeme kind word rest → bytes ≡ word ++ rest → Reads (at + length word) rest ts
       → Reads at bytes (record { kind = kind; start = at; end = at + length word } ∷ ts)

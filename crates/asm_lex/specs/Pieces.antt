@@ -6,8 +6,8 @@ use Rattle.asm_lex.specs.declared.token.Kind.{Kind}
 use Rattle.asm_lex.specs.declared.token.Kind.TheVariants.{Name, Number, Back, Ahead, Text, Comma, Open, Close, Plus, Minus, Percent, Colon, Semicolon, Other, LineEnd}
 use Rattle.asm_lex.specs.declared.piece.Piece.{Piece}
 use Rattle.asm_lex.specs.declared.piece.Piece.TheVariants.{Gap, Lexeme, BadChar, BadNumber, OpenText}
-use Rattle.asm_lex.specs.Bytes.{is_digit, is_name_byte, is_blank, is_printable}
-use Rattle.asm_lex.specs.Numbers.{number_of}
+use Rattle.asm_lex.specs.Bytes.{is_digit, is_name_byte, is_space_or_tab, is_printable}
+use Rattle.asm_lex.specs.Numbers.{digits_number}
 
 -- the kind of a printable character that stands for itself
 abbrev pub sign_of : ℕ → Kind
@@ -52,7 +52,7 @@ number_piece word (Some n) = Lexeme (Number n) (length word)
 number_piece word None = reference_of word
 
 unfoldable pub word_piece : List ℕ → Piece
-word_piece word = if is_digit (slice_index word 0) then number_piece word (number_of word) else Lexeme Name (length word)
+word_piece word = if is_digit (slice_index word 0) then number_piece word (digits_number word) else Lexeme Name (length word)
 
 -- a string whose closing quote is this far after the opening one
 abbrev pub text_piece : Option ℕ → Piece
@@ -68,7 +68,7 @@ return_piece (b ∷ bs) = if b == 10 then Lexeme LineEnd 2 else BadChar
 unfoldable pub front : List ℕ → Piece
 front [] = BadChar
 front (b ∷ bs) =
-    if is_blank b then Gap 1
+    if is_space_or_tab b then Gap 1
     else (if b == 10 then Lexeme LineEnd 1
     else (if b == 13 then return_piece bs
     else (if b == 35 then Gap (1 + comment_len bs)

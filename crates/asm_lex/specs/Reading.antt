@@ -17,8 +17,8 @@ abbrev pub whole : List Token → Reading
 whole ts = record { tokens = ts; fault = None }
 
 -- a token before a reading
-abbrev pub behind : Token → Reading → Reading
-behind t r = record { tokens = t ∷ r.tokens; fault = r.fault }
+abbrev pub with_token : Token → Reading → Reading
+with_token t r = record { tokens = t ∷ r.tokens; fault = r.fault }
 
 -- no token before a fault
 abbrev pub stopped : TextFault → Reading
@@ -27,7 +27,7 @@ stopped f = record { tokens = []; fault = Some f }
 -- a piece at an offset, and the reading after its length
 abbrev pub with_piece : ℕ → Piece → (ℕ → Reading) → Reading
 with_piece at (pieces.Gap n) rest = rest n
-with_piece at (pieces.Lexeme kind n) rest = behind (record { kind = kind; start = at; end = at + n }) (rest n)
+with_piece at (pieces.Lexeme kind n) rest = with_token (record { kind = kind; start = at; end = at + n }) (rest n)
 with_piece at pieces.BadChar rest = stopped (faults.BadChar at)
 with_piece at pieces.BadNumber rest = stopped (faults.BadNumber at)
 with_piece at pieces.OpenText rest = stopped (faults.OpenText at)
@@ -39,12 +39,12 @@ reading (suc inside) at (b ∷ bs) = reading inside (at + 1) bs
 reading zero at (b ∷ bs) = with_piece at (front (b ∷ bs)) (λ n. reading (n - 1) (at + 1) bs)
 
 -- the answer of `tokens` for a reading, unless out of memory
-abbrev pub answer_of : List Token → Option TextFault → Result (List Token) TextFault
-answer_of ts None = Ok ts
-answer_of ts (Some f) = Err f
+abbrev pub tokens_or_fault : List Token → Option TextFault → Result (List Token) TextFault
+tokens_or_fault ts None = Ok ts
+tokens_or_fault ts (Some f) = Err f
 
-abbrev pub answer : Reading → Result (List Token) TextFault
-answer r = answer_of r.tokens r.fault
+abbrev pub result_of_reading : Reading → Result (List Token) TextFault
+result_of_reading r = tokens_or_fault r.tokens r.fault
 
 -- the token is the piece at its place
 pub record IsPieceOf (text : List ℕ) (t : Token) : Type 0 where

@@ -1,6 +1,6 @@
 //! The kinds of bytes.
 ghost use Rattle.std.specs.Prelude.{◌≡◌};
-ghost use Rattle.asm_lex.specs.Bytes.{is_digit, is_name_byte, is_blank, is_printable};
+ghost use Rattle.asm_lex.specs.Bytes.{is_digit, is_name_byte, is_space_or_tab, is_printable};
 
 pub fn is_digit(byte: u8) -> bool
     ensures { result ≡ is_digit byte }
@@ -17,7 +17,7 @@ pub fn is_name_byte(byte: u8) -> bool
 
 /// Whether a byte is a space or a tab.
 pub fn is_blank(byte: u8) -> bool
-    ensures { result ≡ is_blank byte }
+    ensures { result ≡ is_space_or_tab byte }
 {
     byte == b' ' || byte == b'\t'
 }

@@ -1,10 +1,10 @@
 //! Numbers and references.
 ghost use Rattle.std.specs.Prelude.{◌≡◌, ◌≤◌, ◌<◌, length};
-ghost use Rattle.asm_lex.specs.Numbers.{digit_of, number_in, number_of};
+ghost use Rattle.asm_lex.specs.Numbers.{digit_value, number_in, digits_number};
 
 // The value of a digit of either case, or 16 if the byte is not a digit.
 fn digit_of(byte: u8) -> u32
-    ensures { result ≡ digit_of byte }
+    ensures { result ≡ digit_value byte }
 {
     match byte {
         b'0'..=b'9' => u32::from(byte - b'0'),
@@ -39,9 +39,9 @@ fn number_in(base: u32, digits: &[u8]) -> Option<u32>
 
 /// The number that a word spells, if it is below 2^32: decimal, `0x`, `0b`, or octal after a
 /// leading 0.
-#[tactic(auto, using(crate::proofs::Scanned::number_short, crate::proofs::Scanned::number_plain), unfolding(crate::specs::Numbers::number_of))]
+#[tactic(auto, using(crate::proofs::Scanned::number_short, crate::proofs::Scanned::number_plain), unfolding(crate::specs::Numbers::digits_number))]
 pub fn number_of(word: &[u8]) -> Option<u32>
-    ensures { result ≡ number_of word.now }
+    ensures { result ≡ digits_number word.now }
 {
     match word {
         [b'0', b'x', digits @ ..] => number_in(16, digits),

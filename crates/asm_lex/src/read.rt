@@ -3,7 +3,7 @@ ghost use Rattle.std.specs.Prelude.{◌≡◌, ◌≢◌, ℕ, List, IfOk, IfErr
 ghost use Rattle.asm_lex.specs.declared.token.Token.{Token};
 ghost use Rattle.asm_lex.specs.declared.fault.TextFault.TheVariants.{Memory};
 ghost use Rattle.asm_lex.specs.Grammar.{Reads};
-ghost use Rattle.asm_lex.specs.Reading.{reading, answer, IsPieceOf};
+ghost use Rattle.asm_lex.specs.Reading.{reading, result_of_reading, IsPieceOf};
 
 use crate::fault::TextFault;
 use crate::piece::{Piece, front};
@@ -64,8 +64,8 @@ pub fn scan_text<A: Allocator + Copy>(alloc: A, text: &str) -> Result<Scan<A>, A
 // The tokens of a text, or its first fault.
 fn all_tokens<A: Allocator + Copy>(alloc: A, text: &str) -> Result<Vec<Token, A>, TextFault>
     ensures pieces { IfOk result (λ tokens. All (IsPieceOf text.now) tokens.items) }
-    ensures ok { IfOk result (λ tokens. answer (reading 0 0 text.now) ≡ Ok tokens.items) }
-    ensures err { IfErr result (λ fault. fault ≢ Memory → answer (reading 0 0 text.now) ≡ Err fault) }
+    ensures ok { IfOk result (λ tokens. result_of_reading (reading 0 0 text.now) ≡ Ok tokens.items) }
+    ensures err { IfErr result (λ fault. fault ≢ Memory → result_of_reading (reading 0 0 text.now) ≡ Err fault) }
 {
     let scan = scan_text(alloc, text)?;
     match scan.fault {
@@ -84,8 +84,8 @@ pub fn tokens<A: Allocator + Copy>(alloc: A, text: &str) -> Result<Vec<Token, A>
     // A text that has tokens by the grammar gives them, unless memory is exhausted.
     ensures only { (ts : List Token) → Reads 0 text.now ts
         → IfErr result (λ fault. fault ≡ Memory) }
-    ensures ok { IfOk result (λ tokens. answer (reading 0 0 text.now) ≡ Ok tokens.items) }
-    ensures err { IfErr result (λ fault. fault ≢ Memory → answer (reading 0 0 text.now) ≡ Err fault) }
+    ensures ok { IfOk result (λ tokens. result_of_reading (reading 0 0 text.now) ≡ Ok tokens.items) }
+    ensures err { IfErr result (λ fault. fault ≢ Memory → result_of_reading (reading 0 0 text.now) ≡ Err fault) }
 {
     all_tokens(alloc, text)
 }

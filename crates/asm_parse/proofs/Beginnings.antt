@@ -4,7 +4,7 @@ use Rattle.std.specs.Prelude.{slice_index, ◌==◌}
 use Rattle.std.specs.Str.{bytes_eq}
 use Rattle.std.proofs.lemmas.Bool.{cases_Bool, cond-false, false_from_ne_true, true≢false}
 use Rattle.std.proofs.lemmas.Slice.Eq.{bytes_eq-Decides}
-use Rattle.asm_parse.specs.Names.{first_named}
+use Rattle.asm_statement.specs.Names.{first_named}
 
 -- the rows whose names begin with such a byte
 unfoldable pub kept : {V : Type 0} → (ℕ → Bool) → List (List ℕ × V) → List (List ℕ × V)

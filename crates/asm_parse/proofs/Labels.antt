@@ -3,9 +3,9 @@ use Rattle.std.proofs.Common.{◌≡◌, ℕ, ◌+◌, ◌≤◌, List, [], ◌�
 use Rattle.std.proofs.lemmas.List.{drop-drop, drop_all}
 use Rattle.asm_lex.specs.declared.lexeme.Lexeme as program
 use Rattle.asm_lex.specs.Lexemes.{Lexeme, Word, Number, seen}
-use Rattle.asm_parse.specs.declared.place.Place.{Place}
-use Rattle.asm_parse.specs.Statement.{StatementValue, BodyValue}
-use Rattle.asm_parse.specs.Statements.{label_of, labels_from, stated}
+use Rattle.asm_statement.specs.declared.place.Place.{Place}
+use Rattle.asm_statement.specs.Statement.{StatementValue, BodyValue}
+use Rattle.asm_statement.specs.Statements.{label_of, labels_from, stated}
 
 -- a single lexeme is no label
 alone : (l : Lexeme) → label_of (l ∷ []) ≡ None

@@ -3,15 +3,15 @@ use Rattle.std.proofs.Common.{◌≡◌, List, [], ◌∷◌, ◌++◌, map, Res
 use Rattle.std.proofs.lemmas.List.{map_push}
 use Rattle.asm_lex.specs.declared.lexeme.Lexeme as program
 use Rattle.asm_lex.specs.Lexemes.{Lexed, broken, seen, with_lexeme}
-use Rattle.asm_parse.specs.declared.fault.Fault.{Fault}
-use Rattle.asm_parse.specs.declared.fault.FaultKind.TheVariants as faults
-use Rattle.asm_parse.specs.declared.fault.AsmFault.{AsmFault}
-use Rattle.asm_parse.specs.declared.fault.AsmFault.TheVariants as answers
-use Rattle.asm_parse.specs.declared.statement.Section.{Section}
-use Rattle.asm_parse.specs.declared.place.Place.{Place}
-use Rattle.asm_parse.specs.Answer.{Fails}
-use Rattle.asm_parse.specs.Statement.{StatementValue}
-use Rattle.asm_parse.specs.Statements.{at_the_end, ends_statement, fault_at, next_place, read_from, source_from, statement_from}
+use Rattle.asm_statement.specs.declared.fault.Fault.{Fault}
+use Rattle.asm_statement.specs.declared.fault.FaultKind.TheVariants as faults
+use Rattle.asm_statement.specs.declared.fault.AsmFault.{AsmFault}
+use Rattle.asm_statement.specs.declared.fault.AsmFault.TheVariants as answers
+use Rattle.asm_statement.specs.declared.statement.Section.{Section}
+use Rattle.asm_statement.specs.declared.place.Place.{Place}
+use Rattle.asm_statement.specs.Answer.{FailsToRead}
+use Rattle.asm_statement.specs.Statement.{StatementValue}
+use Rattle.asm_statement.specs.Statements.{at_the_end, ends_statement, fault_at, next_place, read_from, source_from, statement_from}
 
 module _ (place : Place) (done : List StatementValue) (part : List program.Lexeme) (text : Lexed) (total : Result (List StatementValue) Fault) (so_far : read_from place done (map seen part) text ≡ total) where
   -- a lexeme that ends no statement joins it
@@ -36,8 +36,8 @@ module _ (place : Place) (done : List StatementValue) (part : List program.Lexem
 
   -- the first statement with a fault decides
   pub line_refused : (l : program.Lexeme) (rest : Lexed) (fault : AsmFault) → text ≡ with_lexeme (seen l) rest → ends_statement (seen l) ≡ true
-      → Fails fault (statement_from place done (map seen part))
-      → Fails fault total
+      → FailsToRead fault (statement_from place done (map seen part))
+      → FailsToRead fault total
   line_refused l rest (answers.At fault) is ends gives = line_fails l rest fault is ends gives
   line_refused l rest answers.Memory is ends gives = tt
 

@@ -5,7 +5,7 @@ use Rattle.std.proofs.Math.Seq.{take-suc, drop-cons}
 use Rattle.std.proofs.lemmas.List.{get_or_default, map-append, map_push}
 use Rattle.asm_lex.specs.declared.lexeme.Lexeme as program
 use Rattle.asm_lex.specs.Lexemes.{Lexeme, seen}
-use Rattle.asm_parse.specs.Directives.{is_comma, parts_from, parts_seen}
+use Rattle.asm_statement.specs.Directives.{is_comma_lexeme, parts_from, parts_seen}
 
 pub part_more : (xs : List program.Lexeme) (start i : ℕ) (x : program.Lexeme) → start ≤ i → i < length xs → x ≡ get_or xs i x → take (i + 1 - start) (drop start xs) ≡ take (i - start) (drop start xs) ++ x ∷ []
 part_more xs start i x le lt is =
@@ -19,7 +19,7 @@ pub part_none : (xs : List program.Lexeme) (start : ℕ) → take (start - start
 part_none xs start = let e : start - start ≡ 0 = omega arith in rw e refl
 
 -- a lexeme that is no comma joins the part
-pub goes_on : (done : List (List Lexeme)) (xs : List program.Lexeme) (start i : ℕ) (d : program.Lexeme) (total : List (List Lexeme)) → start ≤ i → i < length xs → is_comma (seen (get_or xs i d)) ≡ false
+pub goes_on : (done : List (List Lexeme)) (xs : List program.Lexeme) (start i : ℕ) (d : program.Lexeme) (total : List (List Lexeme)) → start ≤ i → i < length xs → is_comma_lexeme (seen (get_or xs i d)) ≡ false
     → parts_from done (map seen (take (i - start) (drop start xs))) (map seen (drop i xs)) ≡ total
     → parts_from done (map seen (take (i + 1 - start) (drop start xs))) (map seen (drop (i + 1) xs)) ≡ total
 unfolding parts_from
@@ -30,7 +30,7 @@ goes_on done xs start i d total le lt other so_far =
     rw (part_more xs start i x le lt same, add-one, map-append seen (take (i - start) (drop start xs)) (x ∷ [])) one
 
 -- a comma ends the part
-pub comma_here : (before after : List (Bor (List program.Lexeme))) (part : Bor (List program.Lexeme)) (xs : List program.Lexeme) (start i : ℕ) (d : program.Lexeme) (total : List (List Lexeme)) → i < length xs → is_comma (seen (get_or xs i d)) ≡ true
+pub comma_here : (before after : List (Bor (List program.Lexeme))) (part : Bor (List program.Lexeme)) (xs : List program.Lexeme) (start i : ℕ) (d : program.Lexeme) (total : List (List Lexeme)) → i < length xs → is_comma_lexeme (seen (get_or xs i d)) ≡ true
     → part.now ≡ take (i - start) (drop start xs) → after ≡ before ++ part ∷ []
     → parts_from (parts_seen before) (map seen (take (i - start) (drop start xs))) (map seen (drop i xs)) ≡ total
     → parts_from (parts_seen after) (map seen (take (i + 1 - (i + 1)) (drop (i + 1) xs))) (map seen (drop (i + 1) xs)) ≡ total

@@ -1,9 +1,9 @@
 -- The bytes of a string, byte by byte.
 use Rattle.std.proofs.Common.{◌≡◌, ℕ, zero, suc, ◌+◌, ◌-◌, ◌<◌, ◌≤◌, List, [], ◌∷◌, ◌++◌, length, drop, Some, None, Result, Ok, Err, refl, sym, arith, length-drop}
 use Rattle.std.proofs.lemmas.List.{drop-drop, drop_all}
-use Rattle.asm_parse.specs.declared.fault.FaultKind.{FaultKind}
-use Rattle.asm_parse.specs.declared.fault.FaultKind.TheVariants as faults
-use Rattle.asm_parse.specs.Texts.{byte_in_front, with_byte, said_from}
+use Rattle.asm_statement.specs.declared.fault.FaultKind.{FaultKind}
+use Rattle.asm_statement.specs.declared.fault.FaultKind.TheVariants as faults
+use Rattle.asm_statement.specs.Texts.{byte_in_front, with_byte, said_from}
 
 -- the bytes that belong to the escape before are skipped
 skips : (n : ℕ) (done bytes : List ℕ) → n ≤ length bytes → said_from n done bytes ≡ said_from 0 done (drop n bytes)

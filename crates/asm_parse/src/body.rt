@@ -1,81 +1,61 @@
 //! The body of a statement, after its labels.
 ghost use Rattle.std.specs.Prelude.{◌≡◌, map, option_map};
 ghost use Rattle.asm_lex.specs.Lexemes.{seen};
-ghost use Rattle.asm_parse.specs.Answer.{Tells};
-ghost use Rattle.asm_parse.specs.Directives as directives;
-ghost use Rattle.asm_parse.specs.Statement.{body_value};
-ghost use Rattle.asm_parse.specs.Statements as statements;
+ghost use Rattle.asm_parse.specs.Refusals.{Tells};
+ghost use Rattle.asm_statement.specs.Directives as directives;
+ghost use Rattle.asm_statement.specs.Statement.{body_value};
+ghost use Rattle.asm_statement.specs.Statements as statements;
 
 use crate::directives::directive;
-use crate::fault::FaultKind;
-use crate::heads::{Head, head_of};
-use crate::name::Name;
-use crate::operand::Value;
+use crate::heads::head_of;
+use crate::operands::register_and_number;
 use crate::operations::instruction;
 use crate::refusal::Refusal;
-use crate::shape::{number, register, value};
-use crate::statement::{Body, Directive, Pseudo, Section};
+use crate::shape::{name, name_in_front, register, value};
 use asm_lex::Lexeme;
+use asm_statement::{Body, Directive, FaultKind, Head, Name, Pseudo, Section, Value};
 use std::alloc::Allocator;
 
 // `li rd, n`
-#[tactic(auto, unfolding(crate::specs::Statements::load_number))]
+#[tactic(auto, unfolding(asm_statement::specs::Statements::load_number))]
 fn load_number<'a>(lexemes: &[Lexeme<'a>]) -> Result<Pseudo<'a>, FaultKind>
     ensures { result ≡ statements.load_number (map seen lexemes.now) }
 {
-    match lexemes {
-        [Lexeme::Name(rd), Lexeme::Comma, rest @ ..] => match number(rest) {
-            Some(number) => {
-                let rd = register(rd)?;
-                Ok(Pseudo::Li { rd, number })
-            }
-            None => Err(FaultKind::Operands),
-        },
-        _ => Err(FaultKind::Operands),
-    }
+    let (rd, number) = register_and_number(lexemes)?;
+    Ok(Pseudo::Li { rd, number })
 }
 
 // `la rd, x`
-#[tactic(auto, unfolding(crate::specs::Statements::load_address))]
+#[tactic(auto, unfolding(asm_statement::specs::Statements::load_address))]
 fn load_address<'a>(lexemes: &[Lexeme<'a>]) -> Result<Pseudo<'a>, FaultKind>
     ensures { result ≡ statements.load_address (map seen lexemes.now) }
 {
-    match lexemes {
-        [Lexeme::Name(rd), Lexeme::Comma, rest @ ..] => match value(rest) {
-            Some(Value::Symbol { name, offset }) => {
-                let rd = register(rd)?;
-                Ok(Pseudo::La { rd, name, offset })
-            }
-            _ => Err(FaultKind::Operands),
-        },
+    let (rd, rest) = name_in_front(lexemes).ok_or(FaultKind::Operands)?;
+    match value(rest) {
+        Some(Value::Symbol { name, offset }) => {
+            let rd = register(rd)?;
+            Ok(Pseudo::La { rd, name, offset })
+        }
         _ => Err(FaultKind::Operands),
     }
 }
 
 // `call x`
-#[tactic(auto, unfolding(crate::specs::Statements::call))]
+#[tactic(auto, unfolding(asm_statement::specs::Statements::call))]
 fn call<'a>(lexemes: &[Lexeme<'a>]) -> Result<Pseudo<'a>, FaultKind>
     ensures { result ≡ statements.call (map seen lexemes.now) }
 {
-    match lexemes {
-        [Lexeme::Name(name)] => Ok(Pseudo::Call {
-            name: Name::new(name),
-        }),
-        _ => Err(FaultKind::Operands),
-    }
+    let name = Name::new(name(lexemes).ok_or(FaultKind::Operands)?);
+    Ok(Pseudo::Call { name })
 }
 
 // `tail x`
-#[tactic(auto, unfolding(crate::specs::Statements::tail))]
+#[tactic(auto, unfolding(asm_statement::specs::Statements::tail))]
 fn tail<'a>(lexemes: &[Lexeme<'a>]) -> Result<Pseudo<'a>, FaultKind>
     ensures { result ≡ statements.tail (map seen lexemes.now) }
 {
-    match lexemes {
-        [Lexeme::Name(name)] => Ok(Pseudo::Tail {
-            name: Name::new(name),
-        }),
-        _ => Err(FaultKind::Operands),
-    }
+    let name = Name::new(name(lexemes).ok_or(FaultKind::Operands)?);
+    Ok(Pseudo::Tail { name })
 }
 
 // A statement with this pseudo-instruction.
@@ -105,7 +85,7 @@ fn as_directive<'a, A: Allocator + Copy>(
 }
 
 // The body of a statement that begins with this name; `None` for an ignored directive.
-#[tactic(auto, unfolding(crate::specs::Statements::headed))]
+#[tactic(auto, unfolding(asm_statement::specs::Statements::headed))]
 fn headed<'a, A: Allocator + Copy>(
     alloc: A,
     head: Head,
@@ -127,7 +107,7 @@ fn headed<'a, A: Allocator + Copy>(
 }
 
 // The fault of an unknown name: a directive's begins with a dot.
-#[tactic(auto, unfolding(crate::specs::Statements::unknown))]
+#[tactic(auto, unfolding(asm_statement::specs::Statements::unknown))]
 fn unknown(name: &str) -> FaultKind
     ensures { result ≡ statements.unknown name.now }
 {
@@ -161,7 +141,7 @@ fn allowed<'a, A: Allocator>(
     section: Section,
     body: Option<Body<'a, A>>,
 ) -> Result<Option<Body<'a, A>>, Refusal>
-    ensures { Tells (option_map body_value) result (statements.allowed section (option_map body_value body.entry)) }
+    ensures { Tells (option_map body_value) result (statements.allowed_in_section section (option_map body_value body.entry)) }
 {
     match body {
         Some(body) => {
@@ -194,7 +174,7 @@ fn named<'a, A: Allocator + Copy>(
 
 /// The body of a statement after its labels, in a section; `None` for an empty statement and an
 /// ignored directive.
-#[tactic(auto, unfolding(crate::specs::Statements::body))]
+#[tactic(auto, unfolding(asm_statement::specs::Statements::body))]
 pub fn body<'a, A: Allocator + Copy>(
     alloc: A,
     section: Section,

@@ -1,31 +1,27 @@
 //! Directives with their operands.
 ghost use Rattle.std.specs.Prelude.{◌≡◌, IfOk, map, option_map};
 ghost use Rattle.asm_lex.specs.Lexemes.{seen};
-ghost use Rattle.asm_parse.specs.Answer.{Tells};
-ghost use Rattle.asm_parse.specs.Directives as directives;
-ghost use Rattle.asm_parse.specs.Shapes as shapes;
-ghost use Rattle.asm_parse.specs.Statement.{directive_value};
+ghost use Rattle.asm_parse.specs.Refusals.{Tells};
+ghost use Rattle.asm_statement.specs.Directives as directives;
+ghost use Rattle.asm_statement.specs.Shapes as shapes;
+ghost use Rattle.asm_statement.specs.Statement.{directive_value};
 
-use crate::fault::FaultKind;
-use crate::heads::Head;
-use crate::items::Items;
-use crate::name::Name;
-use crate::operand::Value;
+use crate::operands::without_operands;
 use crate::refusal::Refusal;
-use crate::shape::{number, value};
-use crate::statement::{Directive, Section};
+use crate::shape::{name, number, value};
 use crate::texts::push_text;
 use asm_lex::Lexeme;
+use asm_statement::{Directive, FaultKind, Head, Items, Name, Section, Value};
 use std::alloc::{AllocError, Allocator};
 
 fn is_comma(lexeme: Lexeme) -> bool
-    ensures { result ≡ directives.is_comma (seen lexeme.entry) }
+    ensures { result ≡ directives.is_comma_lexeme (seen lexeme.entry) }
 {
     matches!(lexeme, Lexeme::Comma)
 }
 
 // The parts of a list between its commas; at least one.
-#[tactic(auto, using(crate::proofs::Parts::goes_on, crate::proofs::Parts::comma_here), unfolding(crate::specs::Directives::parts_from))]
+#[tactic(auto, using(crate::proofs::Parts::goes_on, crate::proofs::Parts::comma_here), unfolding(asm_statement::specs::Directives::parts_from))]
 fn parts<'t, 'a, A: Allocator>(
     alloc: A,
     lexemes: &'t [Lexeme<'a>],
@@ -46,12 +42,12 @@ fn parts<'t, 'a, A: Allocator>(
 }
 
 // Values separated by commas.
-#[tactic(auto, unfolding(crate::specs::Directives::each))]
+#[tactic(auto, unfolding(asm_statement::specs::Directives::each))]
 fn values<'a, A: Allocator + Copy>(
     alloc: A,
     lexemes: &[Lexeme<'a>],
 ) -> Result<Vec<Value<'a>, A>, Refusal>
-    ensures { Tells (λ values. values.items) result (directives.listed shapes.value (map seen lexemes.now)) }
+    ensures { Tells (λ values. values.items) result (directives.comma_separated shapes.value (map seen lexemes.now)) }
 {
     let parts = parts(alloc, lexemes)?;
     let mut values = Vec::new(alloc);
@@ -65,9 +61,9 @@ fn values<'a, A: Allocator + Copy>(
 }
 
 // Numbers separated by commas.
-#[tactic(auto, unfolding(crate::specs::Directives::each))]
+#[tactic(auto, unfolding(asm_statement::specs::Directives::each))]
 fn numbers<A: Allocator + Copy>(alloc: A, lexemes: &[Lexeme]) -> Result<Vec<i64, A>, Refusal>
-    ensures { Tells (λ numbers. numbers.items) result (directives.listed shapes.number (map seen lexemes.now)) }
+    ensures { Tells (λ numbers. numbers.items) result (directives.comma_separated shapes.number (map seen lexemes.now)) }
 {
     let parts = parts(alloc, lexemes)?;
     let mut numbers = Vec::new(alloc);
@@ -80,24 +76,13 @@ fn numbers<A: Allocator + Copy>(alloc: A, lexemes: &[Lexeme]) -> Result<Vec<i64,
     Ok(numbers)
 }
 
-// One name, without anything after it.
-#[tactic(auto, unfolding(crate::specs::Directives::name))]
-fn name<'a>(lexemes: &[Lexeme<'a>]) -> Option<Name<'a>>
-    ensures { result ≡ directives.name (map seen lexemes.now) }
-{
-    match lexemes {
-        [Lexeme::Name(name)] => Some(Name::new(name)),
-        _ => None,
-    }
-}
-
 // Names separated by commas.
-#[tactic(auto, unfolding(crate::specs::Directives::each))]
+#[tactic(auto, unfolding(asm_statement::specs::Directives::each))]
 fn names<'a, A: Allocator + Copy>(
     alloc: A,
     lexemes: &[Lexeme<'a>],
 ) -> Result<Vec<Name<'a>, A>, Refusal>
-    ensures { Tells (λ names. names.items) result (directives.listed directives.name (map seen lexemes.now)) }
+    ensures { Tells (λ names. names.items) result (directives.comma_separated shapes.name (map seen lexemes.now)) }
 {
     let parts = parts(alloc, lexemes)?;
     let mut names = Vec::new(alloc);
@@ -105,13 +90,13 @@ fn names<'a, A: Allocator + Copy>(
         let Some(name) = name(part) else {
             return Err(Refusal::Wrong(FaultKind::Operands));
         };
-        names.push(name)?;
+        names.push(Name::new(name))?;
     }
     Ok(names)
 }
 
 // Appends the bytes of a text.
-#[tactic(auto, unfolding(crate::specs::Directives::text))]
+#[tactic(auto, unfolding(asm_statement::specs::Directives::text))]
 fn push_part<A: Allocator>(bytes: &mut Vec<u8, A>, lexemes: &[Lexeme]) -> Result<(), Refusal>
     ensures { Tells (λ _. bytes.new.items) result (directives.text bytes.old.items (map seen lexemes.now)) }
 {
@@ -132,7 +117,7 @@ fn push_end<A: Allocator>(bytes: &mut Vec<u8, A>, ended: bool) -> Result<(), All
 }
 
 // The bytes of strings separated by commas, with a zero byte after each if `ended` is set.
-#[tactic(auto, unfolding(crate::specs::Directives::texts_from))]
+#[tactic(auto, unfolding(asm_statement::specs::Directives::texts_from))]
 fn texts<A: Allocator + Copy>(
     alloc: A,
     ended: bool,
@@ -150,7 +135,7 @@ fn texts<A: Allocator + Copy>(
 }
 
 // One number without a sign, without anything after it.
-#[tactic(auto, unfolding(crate::specs::Directives::count))]
+#[tactic(auto, unfolding(asm_statement::specs::Directives::count))]
 fn count(lexemes: &[Lexeme]) -> Option<u32>
     ensures { result ≡ directives.count (map seen lexemes.now) }
 {
@@ -181,7 +166,7 @@ fn is_section(name: &str, section: &str) -> bool
 }
 
 // The section with a name in `.section`.
-#[tactic(auto, unfolding(crate::specs::Directives::named_section))]
+#[tactic(auto, unfolding(asm_statement::specs::Directives::named_section))]
 fn named_section(name: &str) -> Option<Section>
     ensures { result ≡ directives.named_section name.now }
 {
@@ -199,7 +184,7 @@ fn named_section(name: &str) -> Option<Section>
 }
 
 // The section of a `.section` directive; operands after its name are ignored.
-#[tactic(auto, unfolding(crate::specs::Directives::section))]
+#[tactic(auto, unfolding(asm_statement::specs::Directives::section))]
 fn section(lexemes: &[Lexeme]) -> Option<Section>
     ensures { result ≡ directives.section (map seen lexemes.now) }
 {
@@ -209,20 +194,9 @@ fn section(lexemes: &[Lexeme]) -> Option<Section>
     }
 }
 
-// A section, if no operands follow.
-#[tactic(auto, unfolding(crate::specs::Directives::alone))]
-fn alone(section: Section, lexemes: &[Lexeme]) -> Option<Section>
-    ensures { result ≡ directives.alone section (map seen lexemes.now) }
-{
-    match lexemes {
-        [] => Some(section),
-        _ => None,
-    }
-}
-
 /// The directive with a name at the front of a statement and the operands after it; `None` for an
 /// ignored one.
-#[tactic(auto, unfolding(crate::specs::Directives::directive))]
+#[tactic(auto, unfolding(asm_statement::specs::Directives::directive))]
 pub fn directive<'a, A: Allocator + Copy>(
     alloc: A,
     head: Head,
@@ -231,9 +205,9 @@ pub fn directive<'a, A: Allocator + Copy>(
     ensures { Tells (option_map directive_value) result (directives.directive head (map seen lexemes.now)) }
 {
     match head {
-        Head::Section(section) => match alone(section, lexemes) {
-            Some(section) => Ok(Some(Directive::Section(section))),
-            None => Err(Refusal::Wrong(FaultKind::Operands)),
+        Head::Section(section) => match without_operands(section, lexemes) {
+            Ok(section) => Ok(Some(Directive::Section(section))),
+            Err(fault) => Err(Refusal::Wrong(fault)),
         },
         Head::NamedSection => match section(lexemes) {
             Some(section) => Ok(Some(Directive::Section(section))),

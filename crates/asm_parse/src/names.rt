@@ -1,7 +1,7 @@
 //! Tables of names.
 ghost use Rattle.std.specs.Prelude.{◌≡◌, ◌-◌, length, slice_index};
 ghost use Rattle.std.specs.Str.{bytes_eq};
-ghost use Rattle.asm_parse.specs.Names.{fence_bits, fence_set_of, first_named, register_number, register_of, rows_of};
+ghost use Rattle.asm_statement.specs.Names.{fence_bits, fence_set_of, first_named, register_number, register_of, named_rows};
 
 use isa_table::{FenceSet, Reg};
 
@@ -133,9 +133,9 @@ fn is_same(one: &str, other: &str) -> bool
 }
 
 /// The value of the first row with this name.
-#[tactic(auto, unfolding(crate::specs::Names::first_named))]
+#[tactic(auto, unfolding(asm_statement::specs::Names::first_named))]
 pub fn find<V: Copy>(rows: &[(&str, V)], name: &str) -> Option<V>
-    ensures { result ≡ first_named (rows_of rows.now) name.now }
+    ensures { result ≡ first_named (named_rows rows.now) name.now }
 {
     'rows: for (text, value) in rows {
         if is_same(text, name) {
@@ -146,7 +146,7 @@ pub fn find<V: Copy>(rows: &[(&str, V)], name: &str) -> Option<V>
 }
 
 // The number of a register's name.
-#[tactic(auto, unfolding(crate::specs::Names::register_number))]
+#[tactic(auto, unfolding(asm_statement::specs::Names::register_number))]
 fn register_number(name: &str) -> Option<u8>
     ensures { result ≡ register_number name.now }
 {
@@ -160,7 +160,7 @@ fn register_number(name: &str) -> Option<u8>
 }
 
 // The bits of a fence set's name.
-#[tactic(auto, unfolding(crate::specs::Names::fence_bits, isa_names::specs::Names::set_name))]
+#[tactic(auto, unfolding(asm_statement::specs::Names::fence_bits, isa_names::specs::Names::set_name))]
 fn fence_bits(name: &str) -> Option<u8>
     ensures { result ≡ fence_bits name.now }
 {
@@ -168,7 +168,7 @@ fn fence_bits(name: &str) -> Option<u8>
 }
 
 /// The register with a name: `x0` to `x31`, or an ABI name.
-#[tactic(auto, unfolding(crate::specs::Names::register_of))]
+#[tactic(auto, unfolding(asm_statement::specs::Names::register_of))]
 pub fn register_of(name: &str) -> Option<Reg>
     ensures { result ≡ register_of name.now }
 {
@@ -179,7 +179,7 @@ pub fn register_of(name: &str) -> Option<Reg>
 }
 
 /// The set of accesses with a name: a nonempty subset of `iorw` in that order.
-#[tactic(auto, unfolding(crate::specs::Names::fence_set_of))]
+#[tactic(auto, unfolding(asm_statement::specs::Names::fence_set_of))]
 pub fn fence_set_of(name: &str) -> Option<FenceSet>
     ensures { result ≡ fence_set_of name.now }
 {

@@ -3,17 +3,15 @@ ghost use Rattle.std.specs.Prelude.{◌≡◌, ◌≤◌, ◌<◌, ◌-◌, ◌^
 ghost use Rattle.std.specs.List.{list_all};
 ghost use Rattle.std.specs.Char.{is_ascii_digit};
 ghost use Rattle.asm_lex.specs.Lexemes.{lexed, seen};
-ghost use Rattle.asm_parse.specs.Answer.{Gives};
-ghost use Rattle.asm_parse.specs.Statement.{body_value};
-ghost use Rattle.asm_parse.specs.Statements.{after_body, at_the_end, begun, ends_statement, first_place, label_of, labels_from, lines_ended, next_place, read_from, section_behind, source_statements, statement_from, statements_of, texts_of};
+ghost use Rattle.asm_statement.specs.Answer.{GivesStatements};
+ghost use Rattle.asm_statement.specs.Statement.{body_value};
+ghost use Rattle.asm_statement.specs.Statements.{after_body, at_the_end, begun, ends_statement, first_place, label_of, labels_from, lines_ended, next_place, read_from, section_behind, source_statements, statement_from, statements_of, texts_of};
 
 use crate::body::body;
-use crate::fault::{AsmFault, FaultKind};
-use crate::name::Name;
-use crate::place::{Place, fault_at, first_place};
+use crate::place::{fault_at, first_place};
 use crate::refusal::Refusal;
-use crate::statement::{Body, Directive, Section, Statement};
 use asm_lex::{Lexeme, Next, next_lexeme};
+use asm_statement::{AsmFault, Body, Directive, FaultKind, Name, Place, Section, Statement};
 use std::alloc::{AllocError, Allocator};
 
 fn are_digits(text: &str) -> bool
@@ -23,7 +21,7 @@ fn are_digits(text: &str) -> bool
 }
 
 // The label at the front.
-#[tactic(auto, unfolding(crate::specs::Statements::label_of))]
+#[tactic(auto, unfolding(asm_statement::specs::Statements::label_of))]
 fn label_of<'a, A: Allocator>(lexemes: &[Lexeme<'a>]) -> Option<Body<'a, A>>
     ensures value { option_map body_value result ≡ label_of (map seen lexemes.now) }
     ensures within { IfSome result (λ _. 2 ≤ length lexemes.now) }
@@ -100,14 +98,14 @@ fn push_body<'a, A: Allocator + Copy>(
 }
 
 // Appends a statement's labels and its body; returns the section after it.
-#[tactic(auto, unfolding(crate::specs::Statements::statement_from))]
+#[tactic(auto, unfolding(asm_statement::specs::Statements::statement_from))]
 fn push_statement<'a, A: Allocator + Copy>(
     alloc: A,
     place: Place,
     lexemes: &[Lexeme<'a>],
     statements: &mut Vec<Statement<'a, A>, A>,
 ) -> Result<Section, AsmFault>
-    ensures { Gives (λ section. (statements.new.items, section)) result
+    ensures { GivesStatements (λ section. (statements.new.items, section)) result
         (statement_from place statements.old.items (map seen lexemes.now)) }
 {
     let labels = push_labels(place, lexemes, statements)?;
@@ -158,7 +156,7 @@ fn push_last<'a, A: Allocator + Copy>(
     lexemes: &[Lexeme<'a>],
     statements: &mut Vec<Statement<'a, A>, A>,
 ) -> Result<(), AsmFault>
-    ensures { Gives (λ _. statements.new.items) result
+    ensures { GivesStatements (λ _. statements.new.items) result
         (at_the_end true place (statement_from place statements.old.items (map seen lexemes.now))) }
 {
     push_statement(alloc, place, lexemes, statements)?;
@@ -175,7 +173,7 @@ fn push_lines<'a, A: Allocator + Copy>(
     statements: &mut Vec<Statement<'a, A>, A>,
 ) -> Result<(), AsmFault>
     requires { place.line ≤ 1 }
-    ensures { Gives (λ _. statements.new.items) result (read_from place statements.old.items [] (lexed 0 text.now)) }
+    ensures { GivesStatements (λ _. statements.new.items) result (read_from place statements.old.items [] (lexed 0 text.now)) }
 {
     let mut place = place;
     let mut part = Vec::new(alloc);
@@ -225,7 +223,7 @@ fn push_source<'a, A: Allocator + Copy>(
     text: &'a str,
     statements: &mut Vec<Statement<'a, A>, A>,
 ) -> Result<(), AsmFault>
-    ensures { Gives (λ _. statements.new.items) result
+    ensures { GivesStatements (λ _. statements.new.items) result
         (source_statements source statements.old.items (lexed 0 text.now)) }
 {
     let place = first_place(source);
@@ -236,12 +234,12 @@ fn push_source<'a, A: Allocator + Copy>(
 /// The statements of sources, in order, each source starting in `.text`; or the first statement
 /// with a fault among Token, Mnemonic, Operands, Register and Directive, and its lowest such fault.
 /// `Memory` when out of memory.
-#[tactic(auto, unfolding(crate::specs::Statements::statements_of, crate::specs::Statements::sources_from))]
+#[tactic(auto, unfolding(asm_statement::specs::Statements::statements_of, asm_statement::specs::Statements::sources_from))]
 pub fn statements<'a, A: Allocator + Copy>(
     alloc: A,
     sources: &[&'a str],
 ) -> Result<Vec<Statement<'a, A>, A>, AsmFault>
-    ensures { Gives (λ all. all.items) result (statements_of (texts_of sources.now)) }
+    ensures { GivesStatements (λ all. all.items) result (statements_of (texts_of sources.now)) }
 {
     let mut statements = Vec::new(alloc);
     'sources: for (source, text) in sources.iter().enumerate() {

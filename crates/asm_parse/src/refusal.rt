@@ -2,7 +2,7 @@
 ghost use Rattle.std.specs.Prelude.{◌≡◌};
 ghost use Rattle.asm_parse.specs.declared.refusal.Refusal.TheVariants.{Memory};
 
-use crate::fault::FaultKind;
+use asm_statement::FaultKind;
 use std::alloc::{AllocError, AllocFailed};
 
 /// The reason why a statement gives nothing: its fault, or out of memory.

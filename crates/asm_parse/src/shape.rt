@@ -2,17 +2,45 @@
 //! after it.
 ghost use Rattle.std.specs.Prelude.{◌≡◌, map, option_map};
 ghost use Rattle.asm_lex.specs.Lexemes.{seen};
-ghost use Rattle.asm_parse.specs.Shapes as shapes;
+ghost use Rattle.asm_statement.specs.Shapes as shapes;
 
-use crate::fault::FaultKind;
-use crate::name::Name;
 use crate::names::register_of;
-use crate::operand::{Immediate, Target, Upper, Value};
 use asm_lex::Lexeme;
+use asm_statement::{FaultKind, Immediate, Name, Target, Upper, Value};
 use isa_table::Reg;
 
+/// The name at the front with a comma after it.
+#[tactic(auto, unfolding(asm_statement::specs::Shapes::name_in_front))]
+pub fn name_in_front<'t, 'a>(lexemes: &'t [Lexeme<'a>]) -> Option<(&'a str, &'t [Lexeme<'a>])>
+    ensures { option_map shapes.name_with_rest result ≡ shapes.name_in_front (map seen lexemes.now) }
+{
+    match lexemes {
+        [Lexeme::Name(name), Lexeme::Comma, rest @ ..] => Some((name, rest)),
+        _ => None,
+    }
+}
+
+/// The two names at the front with a comma after each.
+#[tactic(auto, unfolding(asm_statement::specs::Shapes::two_names_in_front))]
+pub fn two_names_in_front<'t, 'a>(
+    lexemes: &'t [Lexeme<'a>],
+) -> Option<(&'a str, &'a str, &'t [Lexeme<'a>])>
+    ensures { option_map shapes.names_with_rest result ≡ shapes.two_names_in_front (map seen lexemes.now) }
+{
+    match lexemes {
+        [
+            Lexeme::Name(first),
+            Lexeme::Comma,
+            Lexeme::Name(second),
+            Lexeme::Comma,
+            rest @ ..,
+        ] => Some((first, second, rest)),
+        _ => None,
+    }
+}
+
 // The number at the front, with its sign.
-#[tactic(auto, unfolding(crate::specs::Shapes::number_in_front))]
+#[tactic(auto, unfolding(asm_statement::specs::Shapes::number_in_front))]
 fn number_in_front<'t, 'a>(lexemes: &'t [Lexeme<'a>]) -> Option<(i64, &'t [Lexeme<'a>])>
     ensures { option_map shapes.with_rest result ≡ shapes.number_in_front (map seen lexemes.now) }
 {
@@ -24,7 +52,7 @@ fn number_in_front<'t, 'a>(lexemes: &'t [Lexeme<'a>]) -> Option<(i64, &'t [Lexem
 }
 
 // The number at the front, negated.
-#[tactic(auto, unfolding(crate::specs::Shapes::turned_number_in_front))]
+#[tactic(auto, unfolding(asm_statement::specs::Shapes::turned_number_in_front))]
 fn turned_number_in_front<'t, 'a>(lexemes: &'t [Lexeme<'a>]) -> Option<(i64, &'t [Lexeme<'a>])>
     ensures { option_map shapes.with_rest result ≡ shapes.turned_number_in_front (map seen lexemes.now) }
 {
@@ -36,7 +64,7 @@ fn turned_number_in_front<'t, 'a>(lexemes: &'t [Lexeme<'a>]) -> Option<(i64, &'t
 }
 
 // The number added to a symbol's address: plus or minus a number, or nothing.
-#[tactic(auto, unfolding(crate::specs::Shapes::offset_in_front))]
+#[tactic(auto, unfolding(asm_statement::specs::Shapes::offset_in_front))]
 fn offset_in_front<'t, 'a>(lexemes: &'t [Lexeme<'a>]) -> Option<(i64, &'t [Lexeme<'a>])>
     ensures { option_map shapes.with_rest result ≡ shapes.offset_in_front (map seen lexemes.now) }
 {
@@ -64,7 +92,7 @@ fn symbol_and<'t, 'a>(
 }
 
 // The number at the front, or the symbol plus or minus a number.
-#[tactic(auto, unfolding(crate::specs::Shapes::value_in_front))]
+#[tactic(auto, unfolding(asm_statement::specs::Shapes::value_in_front))]
 fn value_in_front<'t, 'a>(lexemes: &'t [Lexeme<'a>]) -> Option<(Value<'a>, &'t [Lexeme<'a>])>
     ensures { option_map shapes.with_rest result ≡ shapes.value_in_front (map seen lexemes.now) }
 {
@@ -78,7 +106,7 @@ fn value_in_front<'t, 'a>(lexemes: &'t [Lexeme<'a>]) -> Option<(Value<'a>, &'t [
 }
 
 // The value in parentheses after `%` and this name, at the front.
-#[tactic(auto, unfolding(crate::specs::Shapes::part_in_front))]
+#[tactic(auto, unfolding(asm_statement::specs::Shapes::part_in_front))]
 fn part_in_front<'t, 'a>(
     part: &str,
     lexemes: &'t [Lexeme<'a>],
@@ -102,7 +130,7 @@ fn part_in_front<'t, 'a>(
 }
 
 // The 12-bit immediate at the front.
-#[tactic(auto, unfolding(crate::specs::Shapes::immediate_in_front))]
+#[tactic(auto, unfolding(asm_statement::specs::Shapes::immediate_in_front))]
 fn immediate_in_front<'t, 'a>(
     lexemes: &'t [Lexeme<'a>],
 ) -> Option<(Immediate<'a>, &'t [Lexeme<'a>])>
@@ -120,8 +148,19 @@ fn immediate_in_front<'t, 'a>(
     }
 }
 
+/// One name, without anything after it.
+#[tactic(auto, unfolding(asm_statement::specs::Shapes::name))]
+pub fn name<'a>(lexemes: &[Lexeme<'a>]) -> Option<&'a str>
+    ensures { option_map (λ name. name.now) result ≡ shapes.name (map seen lexemes.now) }
+{
+    match lexemes {
+        [Lexeme::Name(name)] => Some(name),
+        _ => None,
+    }
+}
+
 /// One number, without anything after it.
-#[tactic(auto, unfolding(crate::specs::Shapes::number))]
+#[tactic(auto, unfolding(asm_statement::specs::Shapes::number))]
 pub fn number(lexemes: &[Lexeme]) -> Option<i64>
     ensures { result ≡ shapes.number (map seen lexemes.now) }
 {
@@ -132,7 +171,7 @@ pub fn number(lexemes: &[Lexeme]) -> Option<i64>
 }
 
 /// One value, without anything after it.
-#[tactic(auto, unfolding(crate::specs::Shapes::value))]
+#[tactic(auto, unfolding(asm_statement::specs::Shapes::value))]
 pub fn value<'a>(lexemes: &[Lexeme<'a>]) -> Option<Value<'a>>
     ensures { result ≡ shapes.value (map seen lexemes.now) }
 {
@@ -143,7 +182,7 @@ pub fn value<'a>(lexemes: &[Lexeme<'a>]) -> Option<Value<'a>>
 }
 
 /// One 12-bit immediate, without anything after it.
-#[tactic(auto, unfolding(crate::specs::Shapes::immediate))]
+#[tactic(auto, unfolding(asm_statement::specs::Shapes::immediate))]
 pub fn immediate<'a>(lexemes: &[Lexeme<'a>]) -> Option<Immediate<'a>>
     ensures { result ≡ shapes.immediate (map seen lexemes.now) }
 {
@@ -154,7 +193,7 @@ pub fn immediate<'a>(lexemes: &[Lexeme<'a>]) -> Option<Immediate<'a>>
 }
 
 /// One 20-bit immediate, without anything after it.
-#[tactic(auto, unfolding(crate::specs::Shapes::upper))]
+#[tactic(auto, unfolding(asm_statement::specs::Shapes::upper))]
 pub fn upper<'a>(lexemes: &[Lexeme<'a>]) -> Option<Upper<'a>>
     ensures { result ≡ shapes.upper (map seen lexemes.now) }
 {
@@ -171,7 +210,7 @@ pub fn upper<'a>(lexemes: &[Lexeme<'a>]) -> Option<Upper<'a>>
 }
 
 /// One target of a branch or a jump, without anything after it.
-#[tactic(auto, unfolding(crate::specs::Shapes::target))]
+#[tactic(auto, unfolding(asm_statement::specs::Shapes::target))]
 pub fn target<'a>(lexemes: &[Lexeme<'a>]) -> Option<Target<'a>>
     ensures { result ≡ shapes.target (map seen lexemes.now) }
 {
@@ -187,7 +226,7 @@ pub fn target<'a>(lexemes: &[Lexeme<'a>]) -> Option<Target<'a>>
 }
 
 // `(rs)`, without anything after it: the register's name.
-#[tactic(auto, unfolding(crate::specs::Shapes::base))]
+#[tactic(auto, unfolding(asm_statement::specs::Shapes::base))]
 fn base<'a>(lexemes: &[Lexeme<'a>]) -> Option<&'a str>
     ensures { option_map (λ name. name.now) result ≡ shapes.base (map seen lexemes.now) }
 {
@@ -198,12 +237,12 @@ fn base<'a>(lexemes: &[Lexeme<'a>]) -> Option<&'a str>
 }
 
 // An immediate and the name of the register in parentheses after it.
-#[tactic(auto, unfolding(crate::specs::Shapes::with_base))]
+#[tactic(auto, unfolding(asm_statement::specs::Shapes::with_base))]
 fn with_base<'a>(
     immediate: Immediate<'a>,
     lexemes: &[Lexeme<'a>],
 ) -> Option<(Immediate<'a>, &'a str)>
-    ensures { option_map shapes.with_name result ≡ shapes.with_base immediate.entry (map seen lexemes.now) }
+    ensures { option_map shapes.with_base_name result ≡ shapes.with_base immediate.entry (map seen lexemes.now) }
 {
     match base(lexemes) {
         Some(base) => Some((immediate, base)),
@@ -212,9 +251,9 @@ fn with_base<'a>(
 }
 
 /// `imm(rs)` or `(rs)`, without anything after it: the immediate and the register's name.
-#[tactic(auto, unfolding(crate::specs::Shapes::memory))]
+#[tactic(auto, unfolding(asm_statement::specs::Shapes::memory))]
 pub fn memory<'a>(lexemes: &[Lexeme<'a>]) -> Option<(Immediate<'a>, &'a str)>
-    ensures { option_map shapes.with_name result ≡ shapes.memory (map seen lexemes.now) }
+    ensures { option_map shapes.with_base_name result ≡ shapes.memory (map seen lexemes.now) }
 {
     match lexemes {
         [Lexeme::Open, ..] => with_base(Immediate::Number(0), lexemes),
@@ -226,7 +265,7 @@ pub fn memory<'a>(lexemes: &[Lexeme<'a>]) -> Option<(Immediate<'a>, &'a str)>
 }
 
 /// `(rs)` or `0(rs)`, without anything after it: the register's name.
-#[tactic(auto, unfolding(crate::specs::Shapes::address))]
+#[tactic(auto, unfolding(asm_statement::specs::Shapes::address))]
 pub fn address<'a>(lexemes: &[Lexeme<'a>]) -> Option<&'a str>
     ensures { option_map (λ name. name.now) result ≡ shapes.address (map seen lexemes.now) }
 {
@@ -237,9 +276,9 @@ pub fn address<'a>(lexemes: &[Lexeme<'a>]) -> Option<&'a str>
 }
 
 /// The register with a name, or the fault `Register`.
-#[tactic(auto, unfolding(crate::specs::Shapes::register))]
+#[tactic(auto, unfolding(asm_statement::specs::Shapes::register_operand))]
 pub fn register(name: &str) -> Result<Reg, FaultKind>
-    ensures { result ≡ shapes.register name.now }
+    ensures { result ≡ shapes.register_operand name.now }
 {
     match register_of(name) {
         Some(register) => Ok(register),

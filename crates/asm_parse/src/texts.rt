@@ -1,10 +1,10 @@
 //! The bytes of strings.
 ghost use Rattle.std.specs.Prelude.{◌≡◌, ◌<◌, ◌≤◌, IfSome, length};
-ghost use Rattle.asm_parse.specs.Answer.{Tells};
-ghost use Rattle.asm_parse.specs.Texts as texts;
+ghost use Rattle.asm_parse.specs.Refusals.{Tells};
+ghost use Rattle.asm_statement.specs.Texts as texts;
 
-use crate::fault::FaultKind;
 use crate::refusal::Refusal;
+use asm_statement::FaultKind;
 use std::alloc::Allocator;
 
 fn is_octal(byte: u8) -> bool
@@ -26,7 +26,7 @@ fn octal_at(text: &[u8], place: usize) -> Option<u8>
 }
 
 // The byte of one to three octal digits, and their number.
-#[tactic(auto, unfolding(crate::specs::Texts::octal_escape))]
+#[tactic(auto, unfolding(asm_statement::specs::Texts::octal_escape))]
 fn octal_escape(text: &[u8]) -> Option<(u8, usize)>
     ensures value { result ≡ texts.octal_escape text.now }
     ensures within { IfSome result (λ found. found.1 ≤ length text.now) }
@@ -60,7 +60,7 @@ fn plain_escape(byte: u8) -> Option<u8>
 }
 
 // The byte of an escape, and the number of bytes that it takes after the backslash.
-#[tactic(auto, unfolding(crate::specs::Texts::escape))]
+#[tactic(auto, unfolding(asm_statement::specs::Texts::escape))]
 fn escape(text: &[u8]) -> Option<(u8, usize)>
     ensures value { result ≡ texts.escape text.now }
     ensures within { IfSome result (λ found. found.1 ≤ length text.now) }
@@ -75,7 +75,7 @@ fn escape(text: &[u8]) -> Option<(u8, usize)>
 }
 
 // The byte at the front of a text, and the number of bytes that it takes.
-#[tactic(auto, unfolding(crate::specs::Texts::byte_in_front))]
+#[tactic(auto, unfolding(asm_statement::specs::Texts::byte_in_front))]
 fn byte_in_front(text: &[u8]) -> Option<(u8, usize)>
     ensures value { result ≡ texts.byte_in_front text.now }
     ensures some { IfSome result (λ found. 0 < found.1) }
@@ -103,7 +103,7 @@ fn between_quotes(text: &[u8]) -> &[u8]
 /// Appends the bytes of a string, given with its quotes. An invalid escape is a fault.
 #[tactic(auto, using(crate::proofs::TextSteps::byte_step, crate::proofs::TextSteps::no_byte, crate::proofs::TextSteps::at_end))]
 pub fn push_text<A: Allocator>(bytes: &mut Vec<u8, A>, text: &[u8]) -> Result<(), Refusal>
-    ensures { Tells (λ _. bytes.new.items) result (texts.said bytes.old.items text.now) }
+    ensures { Tells (λ _. bytes.new.items) result (texts.quoted_bytes bytes.old.items text.now) }
 {
     let inner = between_quotes(text);
     let mut at = 0;

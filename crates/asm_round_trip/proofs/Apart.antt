@@ -7,7 +7,7 @@ use Rattle.asm_lex.specs.declared.token.Kind.TheVariants as kinds
 use Rattle.asm_lex.specs.declared.piece.Piece.TheVariants as pieces
 use Rattle.asm_lex.specs.Bytes.{is_name_byte}
 use Rattle.asm_lex.specs.Pieces.{front, sign_of, word_piece}
-use Rattle.asm_lex.specs.Grammar.{StopsBefore, is_in_line, IsRun}
+use Rattle.asm_lex.specs.Grammar.{StopsBefore, is_in_line, IsLongestRun}
 use Rattle.asm_lex.proofs.Unique.{word_front, comment_front, sign_front}
 use Rattle.asm_lex.specs.Lexemes.{Word, Number, LineEnd, lexeme, with_lexeme, lexed}
 use Rattle.asm_round_trip.proofs.Atoms.{Atom, Name, Numeral, Sign, Gap, Remark, Line, shown, sign, afterwards, is_word, IsName, IsNumber, IsSignByte, Apart}
@@ -30,7 +30,7 @@ each_passes p [] e i lt = absurd (omega (arith, lt))
 each_passes p (x ∷ w) e zero lt = and_left (p x) (list_all p w) e
 each_passes p (x ∷ w) e (suc i) lt = each_passes p w (and_right (p x) (list_all p w) e) i (omega arith)
 
-run : (p : ℕ → Bool) (w rest : List ℕ) → list_all p w ≡ true → StopsBefore p rest → IsRun p w rest
+run : (p : ℕ → Bool) (w rest : List ℕ) → list_all p w ≡ true → StopsBefore p rest → IsLongestRun p w rest
 run p w rest e stops = record { each = each_passes p w e; stops = stops }
 
 -- any word

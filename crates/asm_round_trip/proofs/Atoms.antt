@@ -2,7 +2,7 @@
 use Rattle.std.specs.Prelude.{◌≡◌, ℕ, ◌<◌, ◌==◌, Bool, true, false, List, [], ◌∷◌, ◌++◌, Some, slice_index, length}
 use Rattle.std.specs.List.{list_all}
 use Rattle.asm_lex.specs.Bytes.{is_digit, is_name_byte, is_printable}
-use Rattle.asm_lex.specs.Numbers.{number_of}
+use Rattle.asm_lex.specs.Numbers.{digits_number}
 use Rattle.asm_lex.specs.Pieces.{sign_of}
 use Rattle.asm_lex.specs.Grammar.{StopsBefore, is_in_line}
 use Rattle.asm_lex.specs.Lexemes.{Lexeme, Word, Number, LineEnd, Lexed, lexeme}
@@ -58,7 +58,7 @@ pub record IsNumber (n : ℕ) (w : List ℕ) : Type 0 where
   pub some : 0 < length w
   pub bytes : is_word w ≡ true
   pub digit : is_digit (slice_index w 0) ≡ true
-  pub value : number_of w ≡ Some n
+  pub value : digits_number w ≡ Some n
 
 -- a character that stands for itself
 pub record IsSignByte (b : ℕ) : Type 0 where

@@ -3,11 +3,11 @@ use Rattle.std.proofs.Common.{◌≡◌, ℕ, true, List, [], ◌∷◌, ◌++�
 use Rattle.asm_lex.specs.Bytes.{is_name_byte}
 use Rattle.asm_lex.specs.Grammar.{StopsBefore}
 use Rattle.asm_lex.specs.Lexemes.{Lexeme, LineEnd}
-use Rattle.asm_parse.specs.Answer.{◌>>=◌}
-use Rattle.asm_parse.specs.Statement.{StatementValue, BodyValue}
-use Rattle.asm_parse.specs.Statements.{stated, statement_from, source_from, next_place}
-use Rattle.asm_parse.specs.declared.place.Place.{Place}
-use Rattle.asm_parse.specs.declared.statement.Section.TheVariants as sections
+use Rattle.asm_statement.specs.Answer.{◌>>=◌}
+use Rattle.asm_statement.specs.Statement.{StatementValue, BodyValue}
+use Rattle.asm_statement.specs.Statements.{stated, statement_from, source_from, next_place}
+use Rattle.asm_statement.specs.declared.place.Place.{Place}
+use Rattle.asm_statement.specs.declared.statement.Section.TheVariants as sections
 use Rattle.asm_round_trip.proofs.Atoms.{Atom, shown, lexemes, Apart}
 use Rattle.asm_round_trip.proofs.Stands.{Stands}
 

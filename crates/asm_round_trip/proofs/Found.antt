@@ -3,43 +3,39 @@ use Rattle.std.proofs.Common.{◌≡◌, ℕ, zero, suc, ◌<◌, ◌^◌, Bool,
 use Rattle.std.specs.Prelude.{codes}
 use Rattle.isa_table.specs.Names.{name_of}
 use Rattle.isa_table.specs.declared.fields.Order.{Order}
+use Rattle.isa_table.specs.declared.mnemonic.Mnemonic.{Mnemonic}
 use Rattle.isa_table.specs.declared.mnemonic.Mnemonic.TheVariants as m
-use Rattle.isa_table.specs.declared.mnemonic.BranchOp.{BranchOp}
 use Rattle.isa_table.specs.declared.mnemonic.BranchOp.TheVariants.{Beq}
-use Rattle.isa_table.specs.declared.mnemonic.LoadOp.{LoadOp}
 use Rattle.isa_table.specs.declared.mnemonic.LoadOp.TheVariants.{Lb}
-use Rattle.isa_table.specs.declared.mnemonic.StoreOp.{StoreOp}
 use Rattle.isa_table.specs.declared.mnemonic.StoreOp.TheVariants.{Sb}
-use Rattle.isa_table.specs.declared.mnemonic.ImmediateOp.{ImmediateOp}
 use Rattle.isa_table.specs.declared.mnemonic.ImmediateOp.TheVariants.{Addi}
-use Rattle.isa_table.specs.declared.mnemonic.ShiftOp.{ShiftOp}
 use Rattle.isa_table.specs.declared.mnemonic.ShiftOp.TheVariants.{Slli}
-use Rattle.isa_table.specs.declared.mnemonic.RegisterOp.{RegisterOp}
 use Rattle.isa_table.specs.declared.mnemonic.RegisterOp.TheVariants.{Add}
 use Rattle.isa_table.specs.declared.mnemonic.AmoOp.{AmoOp}
 use Rattle.isa_table.specs.declared.mnemonic.AmoOp.TheVariants.{Amoswap}
 use Rattle.isa_names.specs.Names.{abi, set_name}
 use Rattle.isa_disasm.specs.Lines.{suffix}
-use Rattle.asm_parse.specs.Names.{first_named, register_number, register_of, fence_bits, fence_set_of}
-use Rattle.asm_parse.specs.Shapes.{register}
-use Rattle.asm_parse.specs.Heads.{head_of}
-use Rattle.asm_parse.specs.declared.heads.Head.{Head}
-use Rattle.asm_parse.specs.declared.heads.Head.TheVariants as heads
-use Rattle.asm_parse.specs.declared.heads.Operation.TheVariants as ops
+use Rattle.asm_statement.specs.Names.{first_named, register_number, register_of, fence_bits, fence_set_of}
+use Rattle.asm_statement.specs.Shapes.{register_operand}
+use Rattle.asm_statement.specs.Heads.{head_of}
+use Rattle.asm_statement.specs.declared.heads.Head.{Head}
+use Rattle.asm_statement.specs.declared.heads.Head.TheVariants as heads
+use Rattle.asm_statement.specs.declared.heads.Operation.{Operation}
+use Rattle.asm_statement.specs.declared.heads.Operation.TheVariants as ops
 use Rattle.asm_round_trip.proofs.Atoms.{IsName}
 use Rattle.asm_round_trip.proofs.Names.{Each, each_at, named, register_is_name, set_is_name, mnemonic_is_name}
 
 -- the name of a register is a name, and found as this register's
 pub record NamesRegister (r : ℕ) : Type 0 where
   pub word : IsName (abi r)
-  pub is : register (abi r) ≡ Ok r
+  pub is : register_operand (abi r) ≡ Ok r
 
-registers_found : Each (λ r. register (abi r) ≡ Ok r) 32
-unfolding abi register register_of register_number first_named
+registers_found : Each (λ r. register_operand (abi r) ≡ Ok r) 32
+unfolding abi register_operand register_of register_number first_named
 registers_found = (refl, (refl, (refl, (refl, (refl, (refl, (refl, (refl, (refl, (refl, (refl, (refl, (refl, (refl, (refl, (refl, (refl, (refl, (refl, (refl, (refl, (refl, (refl, (refl, (refl, (refl, (refl, (refl, (refl, (refl, (refl, (refl, tt))))))))))))))))))))))))))))))))
 
 pub register_found : (r : ℕ) → r < 2 ^ 5 → NamesRegister r
-register_found r lt = record { word = register_is_name r lt; is = each_at (λ r. register (abi r) ≡ Ok r) 32 r registers_found lt }
+register_found r lt = record { word = register_is_name r lt; is = each_at (λ r. register_operand (abi r) ≡ Ok r) 32 r registers_found lt }
 
 -- the name of a set that is not empty is a name, and found as this set's
 pub record NamesSet (s : ℕ) : Type 0 where
@@ -59,85 +55,50 @@ pub record NamesHead (w : List ℕ) (h : Head) : Type 0 where
   pub word : IsName w
   pub is : head_of w ≡ Some h
 
-pub lui_head : NamesHead (name_of m.Lui) (heads.Operation ops.Lui)
-unfolding head_of first_named
-lui_head = record { word = mnemonic_is_name m.Lui; is = refl }
-
-pub auipc_head : NamesHead (name_of m.Auipc) (heads.Operation ops.Auipc)
-unfolding head_of first_named
-auipc_head = record { word = mnemonic_is_name m.Auipc; is = refl }
-
-pub jal_head : NamesHead (name_of m.Jal) (heads.Operation ops.Jal)
-unfolding head_of first_named
-jal_head = record { word = mnemonic_is_name m.Jal; is = refl }
-
-pub jalr_head : NamesHead (name_of m.Jalr) (heads.Operation ops.Jalr)
-unfolding head_of first_named
-jalr_head = record { word = mnemonic_is_name m.Jalr; is = refl }
-
-pub fence_head : NamesHead (name_of m.Fence) (heads.Operation ops.Fence)
-unfolding head_of first_named
-fence_head = record { word = mnemonic_is_name m.Fence; is = refl }
-
-pub ecall_head : NamesHead (name_of m.Ecall) (heads.Operation ops.Ecall)
-unfolding head_of first_named
-ecall_head = record { word = mnemonic_is_name m.Ecall; is = refl }
-
-pub ebreak_head : NamesHead (name_of m.Ebreak) (heads.Operation ops.Ebreak)
-unfolding head_of first_named
-ebreak_head = record { word = mnemonic_is_name m.Ebreak; is = refl }
-
-branch_is : (op : BranchOp) → head_of (name_of (m.Branch op)) ≡ Some (heads.Operation (ops.Branch op))
-unfolding head_of first_named
-branch_is Beq = refl
-branch_is _ = refl
-
-pub branch_head : (op : BranchOp) → NamesHead (name_of (m.Branch op)) (heads.Operation (ops.Branch op))
-branch_head op = record { word = mnemonic_is_name (m.Branch op); is = branch_is op }
-
-load_is : (op : LoadOp) → head_of (name_of (m.Load op)) ≡ Some (heads.Operation (ops.Load op))
-unfolding head_of first_named
-load_is Lb = refl
-load_is _ = refl
-
-pub load_head : (op : LoadOp) → NamesHead (name_of (m.Load op)) (heads.Operation (ops.Load op))
-load_head op = record { word = mnemonic_is_name (m.Load op); is = load_is op }
-
-store_is : (op : StoreOp) → head_of (name_of (m.Store op)) ≡ Some (heads.Operation (ops.Store op))
-unfolding head_of first_named
-store_is Sb = refl
-store_is _ = refl
-
-pub store_head : (op : StoreOp) → NamesHead (name_of (m.Store op)) (heads.Operation (ops.Store op))
-store_head op = record { word = mnemonic_is_name (m.Store op); is = store_is op }
-
-immediate_is : (op : ImmediateOp) → head_of (name_of (m.Immediate op)) ≡ Some (heads.Operation (ops.Immediate op))
-unfolding head_of first_named
-immediate_is Addi = refl
-immediate_is _ = refl
-
-pub immediate_head : (op : ImmediateOp) → NamesHead (name_of (m.Immediate op)) (heads.Operation (ops.Immediate op))
-immediate_head op = record { word = mnemonic_is_name (m.Immediate op); is = immediate_is op }
-
-shift_is : (op : ShiftOp) → head_of (name_of (m.Shift op)) ≡ Some (heads.Operation (ops.Shift op))
-unfolding head_of first_named
-shift_is Slli = refl
-shift_is _ = refl
-
-pub shift_head : (op : ShiftOp) → NamesHead (name_of (m.Shift op)) (heads.Operation (ops.Shift op))
-shift_head op = record { word = mnemonic_is_name (m.Shift op); is = shift_is op }
-
-register_is : (op : RegisterOp) → head_of (name_of (m.Register op)) ≡ Some (heads.Operation (ops.Register op))
-unfolding head_of first_named
-register_is Add = refl
-register_is _ = refl
-
-pub register_head : (op : RegisterOp) → NamesHead (name_of (m.Register op)) (heads.Operation (ops.Register op))
-register_head op = record { word = mnemonic_is_name (m.Register op); is = register_is op }
-
 -- acquire and release
 abbrev order : Bool → Bool → Order
 order aq rl = record { aq = aq; rl = rl }
+
+-- the operation of a mnemonic without a suffix
+abbrev operation_of : Mnemonic → Operation
+operation_of m.Lui = ops.Lui
+operation_of m.Auipc = ops.Auipc
+operation_of m.Jal = ops.Jal
+operation_of m.Jalr = ops.Jalr
+operation_of (m.Branch op) = ops.Branch op
+operation_of (m.Load op) = ops.Load op
+operation_of (m.Store op) = ops.Store op
+operation_of (m.Immediate op) = ops.Immediate op
+operation_of (m.Shift op) = ops.Shift op
+operation_of (m.Register op) = ops.Register op
+operation_of m.Fence = ops.Fence
+operation_of m.Ecall = ops.Ecall
+operation_of m.Ebreak = ops.Ebreak
+operation_of m.LoadReserved = ops.LoadReserved (order false false)
+operation_of m.StoreConditional = ops.StoreConditional (order false false)
+operation_of (m.Amo op) = ops.Amo op (order false false)
+
+mnemonic_found : (mnemonic : Mnemonic) → head_of (name_of mnemonic) ≡ Some (heads.Operation (operation_of mnemonic))
+unfolding head_of first_named
+mnemonic_found (m.Branch Beq) = refl
+mnemonic_found (m.Branch _) = refl
+mnemonic_found (m.Load Lb) = refl
+mnemonic_found (m.Load _) = refl
+mnemonic_found (m.Store Sb) = refl
+mnemonic_found (m.Store _) = refl
+mnemonic_found (m.Immediate Addi) = refl
+mnemonic_found (m.Immediate _) = refl
+mnemonic_found (m.Shift Slli) = refl
+mnemonic_found (m.Shift _) = refl
+mnemonic_found (m.Register Add) = refl
+mnemonic_found (m.Register _) = refl
+mnemonic_found (m.Amo Amoswap) = refl
+mnemonic_found (m.Amo _) = refl
+mnemonic_found m.Lui = refl
+mnemonic_found _ = refl
+
+pub mnemonic_head : (mnemonic : Mnemonic) → NamesHead (name_of mnemonic) (heads.Operation (operation_of mnemonic))
+mnemonic_head mnemonic = record { word = mnemonic_is_name mnemonic; is = mnemonic_found mnemonic }
 
 pub reserved_head : (aq rl : Bool) → NamesHead (name_of m.LoadReserved ++ suffix aq rl) (heads.Operation (ops.LoadReserved (order aq rl)))
 unfolding head_of first_named

@@ -5,7 +5,7 @@ use Rattle.std.specs.Int.{w32, to_le_bytes}
 use Rattle.std.proofs.lemmas.Bool.Decides.{nat_tests}
 use Rattle.isa_table.specs.Ranges.{IsSignedWord}
 use Rattle.isa_table.specs.Signed.{signed_of}
-use Rattle.isa_table.specs.Spells.{word_of, Spells}
+use Rattle.isa_table.specs.Spells.{word_of, SpellsInstr}
 use Rattle.isa_table.specs.Decoded.{decoded}
 use Rattle.isa_table.proofs.Found.{decoded_iff_spells}
 use Rattle.isa_table.specs.declared.instr.Instr.{Instr}
@@ -68,13 +68,13 @@ total_back : (at mode pred next rs1 rd : ℕ) → at % 4 ≡ 0 → IsTso mode pr
     → IsBack at (codes "fence.tso") (to_le_bytes w32 (word_of (i.Fence mode pred next rs1 rd)))
 total_back at mode pred next rs1 rd aligned f = rw (f.total, f.before, f.after, f.no_source, f.no_result) (tso_back at aligned)
 
-fence_back : (at word mode pred next rs1 rd : ℕ) → at % 4 ≡ 0 → word < 2 ^ 32 → Spells word (i.Fence mode pred next rs1 rd) → (p q : Bool) → is_plain_fence mode pred next rs1 rd ≡ p → is_tso_fence mode pred next rs1 rd ≡ q
+fence_back : (at word mode pred next rs1 rd : ℕ) → at % 4 ≡ 0 → word < 2 ^ 32 → SpellsInstr word (i.Fence mode pred next rs1 rd) → (p q : Bool) → is_plain_fence mode pred next rs1 rd ≡ p → is_tso_fence mode pred next rs1 rd ≡ q
     → IsBack at (fence_line word mode pred next rs1 rd) (to_le_bytes w32 word)
 fence_back at word mode pred next rs1 rd aligned lt s true q e f = rw e (as_spelled at _ word (i.Fence mode pred next rs1 rd) s.word_is (plain_back at mode pred next rs1 rd aligned s.in_range.1 s.in_range.2 (plain_facts mode pred next rs1 rd e)))
 fence_back at word mode pred next rs1 rd aligned lt s false true e f = rw (e, f) (as_spelled at _ word (i.Fence mode pred next rs1 rd) s.word_is (total_back at mode pred next rs1 rd aligned (tso_facts mode pred next rs1 rd f)))
 fence_back at word mode pred next rs1 rd aligned lt s false false e f = rw (e, f) (word_back at word lt)
 
-instr_back : (at word : ℕ) (instr : Instr) → at % 4 ≡ 0 → at < 2 ^ 32 → word < 2 ^ 32 → Spells word instr → IsBack at (instr_line at word (Some instr)) (to_le_bytes w32 word)
+instr_back : (at word : ℕ) (instr : Instr) → at % 4 ≡ 0 → at < 2 ^ 32 → word < 2 ^ 32 → SpellsInstr word instr → IsBack at (instr_line at word (Some instr)) (to_le_bytes w32 word)
 instr_back at word (i.Lui d imm) z a w s = as_spelled at _ word (i.Lui d imm) s.word_is (lui_back at d imm z (register_found d s.in_range.0) s.in_range.1)
 instr_back at word (i.Auipc d imm) z a w s = as_spelled at _ word (i.Auipc d imm) s.word_is (auipc_back at d imm z (register_found d s.in_range.0) s.in_range.1)
 instr_back at word (i.Jal d offset) z a w s = as_spelled at _ word (i.Jal d offset) s.word_is (jal_back at d offset z (register_found d s.in_range.0) a (below_21 offset s.in_range.1) s.in_range.1 s.in_range.2)
@@ -92,7 +92,7 @@ instr_back at word (i.LoadReserved aq rl d r) z a w s = as_spelled at _ word (i.
 instr_back at word (i.StoreConditional aq rl d x y) z a w s = as_spelled at _ word (i.StoreConditional aq rl d x y) s.word_is (conditional_back at aq rl d y x z (register_found d s.in_range.0) (register_found y s.in_range.2) (register_found x s.in_range.1))
 instr_back at word (i.Amo op aq rl d x y) z a w s = as_spelled at _ word (i.Amo op aq rl d x y) s.word_is (amo_back at op aq rl d y x z (register_found d s.in_range.0) (register_found y s.in_range.2) (register_found x s.in_range.1))
 
-by_decoded : (at word : ℕ) (o : Option Instr) → at % 4 ≡ 0 → at < 2 ^ 32 → word < 2 ^ 32 → ((instr : Instr) → o ≡ Some instr → Spells word instr) → IsBack at (instr_line at word o) (to_le_bytes w32 word)
+by_decoded : (at word : ℕ) (o : Option Instr) → at % 4 ≡ 0 → at < 2 ^ 32 → word < 2 ^ 32 → ((instr : Instr) → o ≡ Some instr → SpellsInstr word instr) → IsBack at (instr_line at word o) (to_le_bytes w32 word)
 by_decoded at word None z a w s = word_back at word w
 by_decoded at word (Some instr) z a w s = instr_back at word instr z a w (s instr refl)
 

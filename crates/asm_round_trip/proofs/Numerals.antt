@@ -7,12 +7,13 @@ use Rattle.std.specs.Char.{digit_value}
 use Rattle.std.specs.List.{list_all}
 use Rattle.std.specs.Str.Parse.{IsNumeral, AllDigits, digits_value, digits_value_after}
 use Rattle.asm_lex.specs.Bytes.{is_digit, is_name_byte}
-use Rattle.asm_lex.specs.Numbers.{digit_of, value_after, number_in, number_of}
+use Rattle.asm_lex.specs.Numbers as lexer
+use Rattle.asm_lex.specs.Numbers.{value_of_digits, number_in, digits_number}
 use Rattle.asm_round_trip.proofs.Atoms.{IsNumber, is_word}
 use Rattle.asm_round_trip.proofs.Digits.{hex8, hex2, hexadecimal, digit_at, IsReadBack}
 use Rattle.isa_names.specs.Digits.{word_text, byte_text}
 
-digit_same : (c : ℕ) → digit_value c < 16 → digit_of c ≡ digit_value c
+digit_same : (c : ℕ) → digit_value c < 16 → lexer.digit_value c ≡ digit_value c
 digit_same c lt = grind (arith, nat_tests)
 
 digit_name : (c : ℕ) → digit_value c < 16 → is_name_byte c ≡ true
@@ -21,30 +22,30 @@ digit_name c lt = grind (arith, nat_tests)
 is_below : (a b : ℕ) → a < b → nat_lt a b ≡ true
 is_below a b lt = grind (arith, nat_tests)
 
-all_pass : (base : ℕ) (ds : List ℕ) → base ≤ 16 → AllDigits base ds → list_all (λ b. nat_lt (digit_of b) base) ds ≡ true
+all_pass : (base : ℕ) (ds : List ℕ) → base ≤ 16 → AllDigits base ds → list_all (λ b. nat_lt (lexer.digit_value b) base) ds ≡ true
 all_pass base [] le h = refl
-all_pass base (c ∷ cs) le h = let e : digit_of c ≡ digit_value c = digit_same c (omega (arith, h.0)) in rw (e, is_below (digit_value c) base h.0) (all_pass base cs le h.1)
+all_pass base (c ∷ cs) le h = let e : lexer.digit_value c ≡ digit_value c = digit_same c (omega (arith, h.0)) in rw (e, is_below (digit_value c) base h.0) (all_pass base cs le h.1)
 
 all_names : (base : ℕ) (ds : List ℕ) → base ≤ 16 → AllDigits base ds → is_word ds ≡ true
 all_names base [] le h = refl
 all_names base (c ∷ cs) le h = rw (digit_name c (omega (arith, h.0))) (all_names base cs le h.1)
 
-same_value : (base n : ℕ) (ds : List ℕ) → base ≤ 16 → AllDigits base ds → value_after base n ds ≡ digits_value_after base n ds
+same_value : (base n : ℕ) (ds : List ℕ) → base ≤ 16 → AllDigits base ds → value_of_digits base n ds ≡ digits_value_after base n ds
 same_value base n [] le h = refl
-same_value base n (c ∷ cs) le h = let e : digit_of c ≡ digit_value c = digit_same c (omega (arith, h.0)) in rw e (same_value base (n * base + digit_value c) cs le h.1)
+same_value base n (c ∷ cs) le h = let e : lexer.digit_value c ≡ digit_value c = digit_same c (omega (arith, h.0)) in rw e (same_value base (n * base + digit_value c) cs le h.1)
 
 numeral_in : (base n : ℕ) (ds : List ℕ) → base ≤ 16 → IsNumeral base ds → digits_value base ds ≡ n → n < 2 ^ 32 → number_in base ds ≡ Some n
 unfolding number_in
 numeral_in base n ds le h e lt =
-    let v : value_after base 0 ds ≡ n = same_value base 0 ds le h.1 ∙ e in
+    let v : value_of_digits base 0 ds ≡ n = same_value base 0 ds le h.1 ∙ e in
     rw (is_below 0 (length ds) h.0, all_pass base ds le h.1, v, is_below n 4294967296 lt) refl
 
 no_zero : (n a b : ℕ) (ds : List ℕ) → (0 < n → 48 < a) → (n ≡ 0 → (a ∷ b ∷ ds) ≡ 48 ∷ []) → (a == 48) ≡ false
 no_zero zero a b ds first alone = let e : suc (suc (length ds)) ≡ 1 = ap length (alone refl) in absurd (omega (arith, e))
 no_zero (suc n) a b ds first alone = let lt : 48 < a = first (omega arith) in grind (arith, nat_tests)
 
-decimal_read : (n : ℕ) (ds : List ℕ) → IsNumeral 10 ds → digits_value 10 ds ≡ n → n < 2 ^ 32 → (0 < n → 48 < get_or ds 0 0) → (n ≡ 0 → ds ≡ 48 ∷ []) → number_of ds ≡ Some n
-unfolding number_of
+decimal_read : (n : ℕ) (ds : List ℕ) → IsNumeral 10 ds → digits_value 10 ds ≡ n → n < 2 ^ 32 → (0 < n → 48 < get_or ds 0 0) → (n ≡ 0 → ds ≡ 48 ∷ []) → digits_number ds ≡ Some n
+unfolding digits_number
 decimal_read n [] h e lt first alone = numeral_in 10 n [] (omega arith) h e lt
 decimal_read n (a ∷ []) h e lt first alone = numeral_in 10 n (a ∷ []) (omega arith) h e lt
 decimal_read n (a ∷ b ∷ ds) h e lt first alone = rw (no_zero n a b ds first alone) (numeral_in 10 n (a ∷ b ∷ ds) (omega arith) h e lt)
@@ -64,7 +65,7 @@ decimal_number n lt =
     }
 
 hex_number_of : (n : ℕ) (ds : List ℕ) → IsNumeral 16 ds → digits_value 16 ds ≡ n → n < 2 ^ 32 → IsNumber n (hexadecimal ds)
-unfolding number_of
+unfolding digits_number
 hex_number_of n ds h e lt = record {
   some = omega arith;
   bytes = all_names 16 ds (omega arith) h.1;

@@ -1,16 +1,16 @@
 -- Statements of only the text pass all phases of the assembler as one fold.
 use Rattle.std.proofs.Common.{◌≡◌, ℕ, ◌+◌, ◌-◌, ◌^◌, ◌≤◌, false, List, [], ◌∷◌, ◌++◌, length, None, Ok, refl, ap, ◌∙◌, arith, nat_lt, append_assoc, length-append}
 use Rattle.std.proofs.lemmas.List.{append-nil}
-use Rattle.asm_parse.specs.Statement.{StatementValue, BodyValue}
-use Rattle.asm_parse.specs.declared.statement.Section.TheVariants as sections
+use Rattle.asm_statement.specs.Statement.{StatementValue, BodyValue}
+use Rattle.asm_statement.specs.declared.statement.Section.TheVariants as sections
 use Rattle.asm_assemble.specs.declared.cursor.Cursor.{Cursor}
 use Rattle.asm_assemble.specs.Program.{SymbolList, ProgramValue, round_up, segment_size}
-use Rattle.asm_assemble.specs.Cursors.{address, step, cursor_after}
-use Rattle.asm_assemble.specs.Locals.{Local, local_of}
-use Rattle.asm_assemble.specs.Operands.{address_of, found}
+use Rattle.asm_assemble.specs.Cursors.{cursor_address, stepped_cursor, cursor_after}
+use Rattle.asm_assemble.specs.Locals.{Local, local_label_of}
+use Rattle.asm_assemble.specs.Operands.{operand_address, found}
 use Rattle.asm_assemble.specs.Placing.{Globals, globals_from, place_fault, placing}
-use Rattle.asm_assemble.specs.Valuing.{Images, put, bytes_in, said_at, valuing, no_bytes}
-use Rattle.asm_assemble.specs.Assembled.{start_at, data_base, zeros_base, first_cursor, is_too_large, heavy_of, entry_of, program_of, assembled}
+use Rattle.asm_assemble.specs.Valuing.{Images, put_bytes, bytes_in, said_at, valuing, no_bytes}
+use Rattle.asm_assemble.specs.Assembled.{start_at, data_base, zeros_base, first_cursor, is_too_large, heavy_of, program_entry, program_of_placed, assembled}
 use Rattle.asm_round_trip.specs.TextAlone.{text_alone}
 use Rattle.asm_round_trip.proofs.Signs.{not_below}
 use Rattle.asm_round_trip.proofs.Stands.{Stands}
@@ -37,22 +37,22 @@ phased_none at = record {
   values = λ symbols before done d z. rw append-nil refl;
 }
 
-stepped : (at d z : ℕ) (b : BodyValue) (bytes : List ℕ) → Stands at b bytes → step (in_text at d z) b ≡ in_text (at + length bytes) d z
-unfolding step address
+stepped : (at d z : ℕ) (b : BodyValue) (bytes : List ℕ) → Stands at b bytes → stepped_cursor (in_text at d z) b ≡ in_text (at + length bytes) d z
+unfolding stepped_cursor cursor_address
 stepped at d z b bytes h = rw (h.stays, h.size_is) refl
 
-free : (at d z : ℕ) (globals : Globals) (seen : SymbolList) (b : BodyValue) (bytes : List ℕ) → Stands at b bytes → place_fault seen false (address (in_text at d z)) b ≡ None
-unfolding place_fault address
+free : (at d z : ℕ) (globals : Globals) (seen : SymbolList) (b : BodyValue) (bytes : List ℕ) → Stands at b bytes → place_fault seen false (cursor_address (in_text at d z)) b ≡ None
+unfolding place_fault cursor_address
 free at d z globals seen b bytes h = rw (h.no_fault seen) refl
 
 pub phased_more : (at : ℕ) (s : StatementValue) (ss : List StatementValue) (bytes more : List ℕ) → Stands at s.body bytes → Phased (at + length bytes) ss more → Phased at (s ∷ ss) (bytes ++ more)
-unfolding cursor_after globals_from placing valuing place_fault said_at bytes_in put address
+unfolding cursor_after globals_from placing valuing place_fault said_at bytes_in put_bytes cursor_address
 phased_more at s ss bytes more h p = record {
   after = λ d z. rw (stepped at d z s.body bytes h) (p.after d z ∙ ap (λ k. in_text k d z) (omega (arith, length-append bytes more)));
   globals = λ seen. rw (h.no_global seen) (p.globals seen);
   places = λ globals seen i d z. rw (h.no_fault seen, h.no_symbol globals sections.Text, append-nil, stepped at d z s.body bytes h) (p.places globals seen (i + 1) d z);
   values = λ symbols before done d z.
-      rw (h.gives symbols (local_of before (step (in_text at d z) s.body) ss s.source s.body), h.no_label s.source, stepped at d z s.body bytes h)
+      rw (h.gives symbols (local_label_of before (stepped_cursor (in_text at d z) s.body) ss s.source s.body), h.no_label s.source, stepped at d z s.body bytes h)
       (p.values symbols before (more_text done bytes) d z ∙ rw append_assoc refl);
 }
 
@@ -74,8 +74,8 @@ light n d z ss le =
     let e : nat_lt 16777216 (65536 + n - 65536 + 0) ≡ false = not_below 16777216 (65536 + n - 65536 + 0) (omega arith) in
     rw (no_data, no_zeros, e) refl
 
-made : (bytes : List ℕ) (z : ℕ) → program_of (more_text no_bytes bytes) (z - z) [] ≡ text_alone bytes
-unfolding program_of entry_of address_of found
+made : (bytes : List ℕ) (z : ℕ) → program_of_placed (more_text no_bytes bytes) (z - z) [] ≡ text_alone bytes
+unfolding program_of_placed program_entry operand_address found
 made bytes z = let no_zeros : z - z ≡ 0 = omega arith in rw no_zeros refl
 
 pub phased_all : (ss : List StatementValue) (bytes : List ℕ) → Phased 65536 ss bytes → length bytes ≤ 2 ^ 24 → assembled ss ≡ Ok (text_alone bytes)

@@ -4,10 +4,10 @@ use Rattle.std.specs.Prelude.{ℤ, pos, negsuc}
 use Rattle.std.proofs.lemmas.Bool.Decides.{nat_tests}
 use Rattle.isa_table.specs.Ranges.{IsSignedWord}
 use Rattle.isa_table.specs.Signed.{signed_of}
-use Rattle.asm_parse.specs.declared.operand.Target.TheVariants as targets
+use Rattle.asm_statement.specs.declared.operand.Target.TheVariants as targets
 use Rattle.asm_assemble.specs.Program.{SymbolList}
-use Rattle.asm_assemble.specs.Numbers.{as_word, is_between, number12, number20, amount_of, distance, is_signed_word, offset_of}
-use Rattle.asm_assemble.specs.Operands.{target_of}
+use Rattle.asm_assemble.specs.Numbers.{as_word, is_in_range, number12, number20, amount_of, distance, is_signed_word, offset_of}
+use Rattle.asm_assemble.specs.Operands.{operand_target}
 use Rattle.asm_assemble.specs.Instructions.{offset_to}
 
 pub is_below : (a b : ℕ) → a < b → nat_lt a b ≡ true
@@ -27,11 +27,11 @@ pub record IsPrinted (w : ℕ) (z : ℤ) : Type 0 where
   pub same : number12 z ≡ Ok w
 
 from_positive : (w : ℕ) → w < 2048 → number12 (pos w) ≡ Ok w
-unfolding number12 is_between as_word
+unfolding number12 is_in_range as_word
 from_positive w lt = let e : w % 2 ^ 32 ≡ w = omega arith in rw (is_below w 2048 lt, e) refl
 
 from_negative : (w : ℕ) → 2 ^ 32 - 2048 ≤ w → w < 2 ^ 32 → number12 (negsuc (2 ^ 32 - 1 - w)) ≡ Ok w
-unfolding number12 is_between as_word
+unfolding number12 is_in_range as_word
 from_negative w low high =
     let e : 2 ^ 32 - 1 - (2 ^ 32 - 1 - w) % 2 ^ 32 ≡ w = omega arith in
     rw (is_below (2 ^ 32 - 1 - w) 2048 (omega arith), e) refl
@@ -47,11 +47,11 @@ printed w (inr h) =
     rw (negative w (omega (arith, h.0)) h.1) (record { small = omega (arith, h.0, h.1); same = from_negative w h.0 h.1 })
 
 pub upper_number : (k : ℕ) → k < 2 ^ 20 → number20 (pos k) ≡ Ok k
-unfolding number20 is_between as_word
+unfolding number20 is_in_range as_word
 upper_number k lt = let e : k % 2 ^ 32 ≡ k = omega arith in rw (is_below k 1048576 lt, e) refl
 
 pub amount_number : (k : ℕ) → k < 2 ^ 5 → amount_of (pos k) ≡ Ok k
-unfolding amount_of is_between as_word
+unfolding amount_of is_in_range as_word
 amount_number k lt = let e : k % 2 ^ 32 ≡ k = omega arith in rw (is_below k 32 lt, e) refl
 
 -- an offset that is added, and taken away again
@@ -70,5 +70,5 @@ in_reach width offset signed even = rw (signed_word width offset signed, even) r
 -- a target is valued as the offset that it was printed for
 pub target_back : (width at offset : ℕ) → at < 2 ^ 32 → offset < 2 ^ 32 → IsSignedWord width offset → offset % 2 ≡ 0
     → (symbols : SymbolList) (local : Option ℕ) → offset_to width symbols local at (targets.Address (pos ((at + offset) % 2 ^ 32))) ≡ Ok offset
-unfolding offset_to target_of as_word
+unfolding offset_to operand_target as_word
 target_back width at offset a o signed even symbols local = ap (offset_of width) (offset_back at offset a o) ∙ in_reach width offset signed even

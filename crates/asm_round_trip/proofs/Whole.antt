@@ -11,8 +11,8 @@ use Rattle.isa_disasm.specs.Lines.{line_text}
 use Rattle.isa_disasm.specs.Listing.{word_of_bytes, word_entry, byte_entry, listing}
 use Rattle.asm_lex.specs.Grammar.{is_in_line}
 use Rattle.asm_lex.specs.Lexemes.{Lexeme, LineEnd, Lexed, lexed}
-use Rattle.asm_parse.specs.Statement.{StatementValue}
-use Rattle.asm_parse.specs.Statements.{stated, statement_from, source_from, labels_from, body, sources_from, statements_of}
+use Rattle.asm_statement.specs.Statement.{StatementValue}
+use Rattle.asm_statement.specs.Statements.{stated, statement_from, source_from, labels_from, body, sources_from, statements_of}
 use Rattle.asm_assemble.specs.Program.{text_start}
 use Rattle.asm_round_trip.proofs.Atoms.{Gap, Remark, Line, lexemes, afterwards}
 use Rattle.asm_round_trip.proofs.Digits.{hex8, digit_at}

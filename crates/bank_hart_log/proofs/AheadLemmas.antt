@@ -25,10 +25,10 @@ use Rattle.hart_local.specs.LocalStep.{local_of, local_word, local_at, local_in,
 use Rattle.hart_local.proofs.StepLemmas.{step_is_alone}
 use Rattle.bank_laws.specs.Segments.{LoggedSegment, HartSlot}
 use Rattle.bank_laws.specs.HartLogs.{AreLocal, local_hart}
-use Rattle.bank_table.specs.Words.{with_four_if}
-use Rattle.bank_table.specs.Carried.{unless_fault, carried_by, carried_at, carried_in, touch_of}
-use Rattle.bank_table.specs.Table.{table, needed, planned, memory_of, is_unwritable, told, word_in}
-use Rattle.bank_hart_log.specs.HartLog.{image_table, slot_in, HoldsIn, IsAhead}
+use Rattle.bank_laws.specs.Words.{with_four_if}
+use Rattle.bank_laws.specs.Carried.{unless_fault, carried_by, carried_at, carried_in, touch_of}
+use Rattle.bank_laws.specs.Table.{table, needed_code, planned, image_with_bytes, is_unwritable, told, word_in}
+use Rattle.bank_hart_log.specs.HartLog.{image_table, slot_in, HartLogHolds, IsAhead}
 
 -- ---- the rights and the bytes of code
 code_shut : (o : Option ℕ) → grants to_execute (if is_code o then o else None) ≡ true → not (grants to_write o) ≡ true
@@ -129,15 +129,15 @@ touches_none m v word i is =
 
 -- what the table says of a local step
 record LeadsAlone (m : Memory) (v : HartValue) : Type 0 where
-  need : needed v.state m v.pc ≡ None
+  need : needed_code v.state m v.pc ≡ None
   plan : planned m v [] ≡ None
   after : step_alone (code_in m) v ≡ (stepped 0 false (told m v [] [] false)).hart
 
-with_none : (m : Memory) (v : HartValue) (need : Option ℕ) → need ≡ None → memory_of m (with_four_if m.bytes need []) ≡ m
-with_none m v need e = ap (λ (o : Option ℕ). memory_of m (with_four_if m.bytes o [])) e
+with_none : (m : Memory) (v : HartValue) (need : Option ℕ) → need ≡ None → image_with_bytes m (with_four_if m.bytes need []) ≡ m
+with_none m v need e = ap (λ (o : Option ℕ). image_with_bytes m (with_four_if m.bytes o [])) e
 
 by_state : (s : HartState) (m : Memory) (v : HartValue) → is_some (local_in s (code_in m) v.pc) ≡ true
-    → (needed s m v.pc ≡ None) × (touch_of (carried_in s m v) ≡ None)
+    → (needed_code s m v.pc ≡ None) × (touch_of (carried_in s m v) ≡ None)
 by_state Running m v e =
     let is = word_of_code m v.pc e in
     (needs_none m v.pc is.0 is.1 is.2, touches_none m v is.0 is.1 is.2)
@@ -147,10 +147,10 @@ by_state (Faulted cause) m v e = cc e
 leads_alone : (m : Memory) (v : HartValue) → is_local_next (code_in m) v ≡ true → LeadsAlone m v
 leads_alone m v e =
     let here = by_state v.state m v e in
-    let bytes : memory_of m (with_four_if m.bytes (needed v.state m v.pc) []) ≡ m = with_none m v (needed v.state m v.pc) here.0 in
+    let bytes : image_with_bytes m (with_four_if m.bytes (needed_code v.state m v.pc) []) ≡ m = with_none m v (needed_code v.state m v.pc) here.0 in
     let plan : planned m v [] ≡ None = ap (λ (n : Memory). touch_of (carried_in v.state n v)) bytes ∙ here.1 in
     let site_is : told m v [] [] false ≡ site v m (λ k. None) =
-    ap (λ (o : Option ℕ). site v (memory_of m (with_four_if (with_four_if m.bytes (needed v.state m v.pc) []) o [])) (λ k. None)) (ap word_in plan)
+    ap (λ (o : Option ℕ). site v (image_with_bytes m (with_four_if (with_four_if m.bytes (needed_code v.state m v.pc) []) o [])) (λ k. None)) (ap word_in plan)
     ∙ ap (λ (n : Memory). site v n (λ k. None)) bytes in
     record {
       need = here.0;
@@ -184,7 +184,7 @@ pub record WalkedTo (image : ImageValue) (inputs : List ℕ) (h : ℕ) (log : Li
   pub reached_is : hart_of reached ≡ local_hart (image_table image) count (slot_in image inputs h log).hart
 
 pub walked_to : (image : ImageValue) (inputs : List ℕ) (h : ℕ) (log : List LoggedSegment) (hart : Hart) (named : Option ℕ) (walked : ℕ) (before reached : Hart) (code : Memory) (count : ℕ)
-    → HoldsIn image inputs h log hart named walked before → code ≡ code_in (image_memory image) → walk code count (hart_of hart) ≡ Some (hart_of reached)
+    → HartLogHolds image inputs h log hart named walked before → code ≡ code_in (image_memory image) → walk code count (hart_of hart) ≡ Some (hart_of reached)
     → WalkedTo image inputs h log count reached
 walked_to image inputs h log hart named walked before reached code count holds code_is goes =
     let from : hart_of hart ≡ (slot_in image inputs h log).hart = ap (λ (s : HartSlot HartValue). s.hart) holds.slot in
@@ -195,7 +195,7 @@ walked_to image inputs h log hart named walked before reached code count holds c
     }
 
 pub holds_ahead : (image : ImageValue) (inputs : List ℕ) (h : ℕ) (log : List LoggedSegment) (hart : Hart) (named : Option ℕ) (walked : ℕ) (before reached : Hart) (count : ℕ)
-    → HoldsIn image inputs h log hart named walked before → WalkedTo image inputs h log count reached → HoldsIn image inputs h log hart named count reached
+    → HartLogHolds image inputs h log hart named walked before → WalkedTo image inputs h log count reached → HartLogHolds image inputs h log hart named count reached
 holds_ahead image inputs h log hart named walked before reached count holds to = record {
   harts = holds.harts;
   there = holds.there;

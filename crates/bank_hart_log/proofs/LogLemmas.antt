@@ -8,18 +8,18 @@ use Rattle.hart_reservations.specs.Marks.{names}
 use Rattle.bank_laws.specs.declared.access.LoggedAccess.{LoggedAccess}
 use Rattle.bank_laws.specs.Banks.{WordBytes}
 use Rattle.bank_laws.specs.Runs.{StepTable, Touch, succeeds}
-use Rattle.bank_laws.specs.Segments.{LoggedSegment, HartSlot, access, slot_did}
+use Rattle.bank_laws.specs.Segments.{LoggedSegment, HartSlot, logged_access, slot_did}
 use Rattle.bank_laws.specs.HartLogs.{AreLocal, IsStepwise, StepFits, step_slot, local_hart, local_slot, segment_slot, slot_after_log}
 use Rattle.bank_laws.proofs.HartLogLemmas.{stepwise_walks}
-use Rattle.bank_runs.specs.Merged.{first_slot}
+use Rattle.bank_laws.specs.Merged.{first_slot}
 use Rattle.bank_step.specs.Told.{told_word}
 use Rattle.bank_hart_log.specs.declared.step.Slot.{Slot}
-use Rattle.bank_hart_log.specs.HartLog.{HartLogValue, image_table, slot_in, slot_of, with_access, Fits, HoldsIn, IsOfHart, TouchesNext}
+use Rattle.bank_hart_log.specs.HartLog.{HartLogValue, image_table, slot_in, logged_slot, with_access, FitsLog, HartLogHolds, IsOfHart, TouchesNext}
 use Rattle.bank_hart_log.specs.LastStep.{slot_is, succeeds_at, IsTouch, SlotIf}
 use Rattle.bank_hart_log.proofs.StepLemmas.{fits_in_code, fits_touch}
 
 pub is_of_hart : (image : ImageValue) (inputs : List ℕ) (h : ℕ) (log : List LoggedSegment) (hart : Hart) (named : Option ℕ) (walked : ℕ) (reached : Hart)
-    → HoldsIn image inputs h log hart named walked reached → IsOfHart (record { image = image; inputs = inputs; hart = h; log = log })
+    → HartLogHolds image inputs h log hart named walked reached → IsOfHart (record { image = image; inputs = inputs; hart = h; log = log })
 is_of_hart image inputs h log hart named walked reached holds = record {
   there = holds.there;
   own = holds.own;
@@ -27,22 +27,22 @@ is_of_hart image inputs h log hart named walked reached holds = record {
 }
 
 -- ---- whether a segment fits
-pub not_of_hart : (l : HartLogValue) (e : LoggedSegment) → (e.hart ≡ l.hart → ⊥) → SlotIf (Fits l e) (segment_slot (image_table l.image) e (slot_of l)) None
+pub not_of_hart : (l : HartLogValue) (e : LoggedSegment) → (e.hart ≡ l.hart → ⊥) → SlotIf (FitsLog l e) (segment_slot (image_table l.image) e (logged_slot l)) None
 not_of_hart l e n f = n f.hart
 
-pub not_local : (l : HartLogValue) (e : LoggedSegment) → (AreLocal (image_table l.image) e.local (slot_of l).hart → ⊥) → SlotIf (Fits l e) (segment_slot (image_table l.image) e (slot_of l)) None
+pub not_local : (l : HartLogValue) (e : LoggedSegment) → (AreLocal (image_table l.image) e.local (logged_slot l).hart → ⊥) → SlotIf (FitsLog l e) (segment_slot (image_table l.image) e (logged_slot l)) None
 not_local l e n f = n f.local
 
-fits_more : (l : HartLogValue) (e : LoggedSegment) (r : Option Slot) → e.hart ≡ l.hart → AreLocal (image_table l.image) e.local (slot_of l).hart
-    → SlotIf (StepFits (image_table l.image) e (local_slot (image_table l.image) e.local (slot_of l))) (segment_slot (image_table l.image) e (slot_of l)) r
-    → SlotIf (Fits l e) (segment_slot (image_table l.image) e (slot_of l)) r
+fits_more : (l : HartLogValue) (e : LoggedSegment) (r : Option Slot) → e.hart ≡ l.hart → AreLocal (image_table l.image) e.local (logged_slot l).hart
+    → SlotIf (StepFits (image_table l.image) e (local_slot (image_table l.image) e.local (logged_slot l))) (segment_slot (image_table l.image) e (logged_slot l)) r
+    → SlotIf (FitsLog l e) (segment_slot (image_table l.image) e (logged_slot l)) r
 fits_more l e None own local h = λ f. h f.step
 fits_more l e (Some t) own local h = (record { hart = own; local = local; step = h.0 }, h.1)
 
-pub fits_by : (l : HartLogValue) (e : LoggedSegment) (s : Slot) (r : Option Slot) → e.hart ≡ l.hart → AreLocal (image_table l.image) e.local (slot_of l).hart
-    → slot_is s ≡ local_slot (image_table l.image) e.local (slot_of l)
+pub fits_by : (l : HartLogValue) (e : LoggedSegment) (s : Slot) (r : Option Slot) → e.hart ≡ l.hart → AreLocal (image_table l.image) e.local (logged_slot l).hart
+    → slot_is s ≡ local_slot (image_table l.image) e.local (logged_slot l)
     → SlotIf (StepFits (image_table l.image) e (slot_is s)) (step_slot (image_table l.image) e (slot_is s)) r
-    → SlotIf (Fits l e) (segment_slot (image_table l.image) e (slot_of l)) r
+    → SlotIf (FitsLog l e) (segment_slot (image_table l.image) e (logged_slot l)) r
 fits_by l e s r own local is h =
     fits_more l e r own local (subst (λ (t : HartSlot HartValue). SlotIf (StepFits (image_table l.image) e t) (step_slot (image_table l.image) e t) r) is h)
 
@@ -62,9 +62,9 @@ stepwise_push T s [] e steps local fits = (local, fits, tt)
 stepwise_push T s (x ∷ log) e steps local fits = (steps.0, steps.1, stepwise_push T (segment_slot T x s) log e steps.2 local fits)
 
 pub holds_push : (image : ImageValue) (inputs : List ℕ) (h : ℕ) (log : List LoggedSegment) (hart : Hart) (named : Option ℕ) (walked : ℕ) (reached : Hart) (e : LoggedSegment) (s : Slot)
-    → HoldsIn image inputs h log hart named walked reached → Fits (record { image = image; inputs = inputs; hart = h; log = log }) e
+    → HartLogHolds image inputs h log hart named walked reached → FitsLog (record { image = image; inputs = inputs; hart = h; log = log }) e
     → slot_is s ≡ segment_slot (image_table image) e (slot_in image inputs h log)
-    → HoldsIn image inputs h (log ++ e ∷ []) s.hart s.named 0 s.hart
+    → HartLogHolds image inputs h (log ++ e ∷ []) s.hart s.named 0 s.hart
 holds_push image inputs h log hart named walked reached e s holds fits is =
     let goes : slot_is s ≡ slot_in image inputs h (log ++ e ∷ []) = is ∙ sym (slot_push (image_table image) (first_slot image inputs h) log e) in
     record {
@@ -79,30 +79,30 @@ holds_push image inputs h log hart named walked reached e s holds fits is =
 
 -- the same, where log and segment are seen by their fields
 pub fits_seen : (l0 l : HartLogValue) (e0 e : LoggedSegment) (s : Slot) (r : Option Slot) → l0 ≡ l → e0 ≡ e → e0.hart ≡ l0.hart
-    → AreLocal (image_table l.image) e0.local (slot_of l).hart → hart_of s.hart ≡ local_hart (image_table l.image) e0.local (slot_of l).hart
-    → s.named ≡ (slot_of l0).named
+    → AreLocal (image_table l.image) e0.local (logged_slot l).hart → hart_of s.hart ≡ local_hart (image_table l.image) e0.local (logged_slot l).hart
+    → s.named ≡ (logged_slot l0).named
     → SlotIf (StepFits (image_table l0.image) e (slot_is s)) (step_slot (image_table l0.image) e (slot_is s)) r
-    → SlotIf (Fits l e) (segment_slot (image_table l.image) e (slot_of l)) r
+    → SlotIf (FitsLog l e) (segment_slot (image_table l.image) e (logged_slot l)) r
 fits_seen l0 l e0 e s r p q own local hart named h =
     let count : e0.local ≡ e.local = ap (λ (x : LoggedSegment). x.local) q in
-    let hart2 : hart_of s.hart ≡ local_hart (image_table l.image) e.local (slot_of l).hart = hart ∙ ap (λ (n : ℕ). local_hart (image_table l.image) n (slot_of l).hart) count in
-    let named2 : s.named ≡ (slot_of l).named = named ∙ ap (λ (x : HartLogValue). (slot_of x).named) p in
+    let hart2 : hart_of s.hart ≡ local_hart (image_table l.image) e.local (logged_slot l).hart = hart ∙ ap (λ (n : ℕ). local_hart (image_table l.image) n (logged_slot l).hart) count in
+    let named2 : s.named ≡ (logged_slot l).named = named ∙ ap (λ (x : HartLogValue). (logged_slot x).named) p in
     fits_by l e s r
     (sym (ap (λ (x : LoggedSegment). x.hart) q) ∙ own ∙ ap (λ (x : HartLogValue). x.hart) p)
-    (subst (λ (n : ℕ). AreLocal (image_table l.image) n (slot_of l).hart) count local)
+    (subst (λ (n : ℕ). AreLocal (image_table l.image) n (logged_slot l).hart) count local)
     (λ i. record { hart = hart2 i; named = named2 i })
     (subst (λ (x : HartLogValue). SlotIf (StepFits (image_table x.image) e (slot_is s)) (step_slot (image_table x.image) e (slot_is s)) r) p h)
 
 -- ---- a segment that touches a word, with all of it known
 access_is_touch : (T : StepTable HartValue) (e : LoggedSegment) (s : HartSlot HartValue) (c : WordBytes) (t : Touch) (a : LoggedAccess) (v : WordBytes) (m : Bool)
-    → a ≡ access T e s.hart c t v m (succeeds t.act e.refuse (m && names s.named t.word)) → IsTouch T e s c t a
+    → a ≡ logged_access T e s.hart c t v m (succeeds t.act e.refuse (m && names s.named t.word)) → IsTouch T e s c t a
 access_is_touch T e s c t a v m is =
     let before : a.before ≡ v = ap (λ (x : LoggedAccess). x.before) is in
     let mark : a.mark ≡ m = ap (λ (x : LoggedAccess). x.mark) is in
-    is ∙ ap₂ (λ (w : WordBytes) (n : Bool). access T e s.hart c t w n (succeeds t.act e.refuse (n && names s.named t.word))) (sym before) (sym mark)
+    is ∙ ap₂ (λ (w : WordBytes) (n : Bool). logged_access T e s.hart c t w n (succeeds t.act e.refuse (n && names s.named t.word))) (sym before) (sym mark)
 
 did_by_access : (T : StepTable HartValue) (e : LoggedSegment) (s : HartSlot HartValue) (c : WordBytes) (t : Touch) (a : LoggedAccess) (v : WordBytes) (m : Bool)
-    → a ≡ access T e s.hart c t v m (succeeds t.act e.refuse (m && names s.named t.word))
+    → a ≡ logged_access T e s.hart c t v m (succeeds t.act e.refuse (m && names s.named t.word))
     → slot_did T s c t v (succeeds t.act e.refuse (m && names s.named t.word)) ≡ slot_did T s c t a.before (succeeds_at e s t a)
 did_by_access T e s c t a v m is =
     let before : a.before ≡ v = ap (λ (x : LoggedAccess). x.before) is in
@@ -111,10 +111,10 @@ did_by_access T e s c t a v m is =
 
 -- the fields of the code as the log's
 pub next_fits : (l : HartLogValue) (e : LoggedSegment) (t : Touch) (s r : Slot) (a : LoggedAccess) (v : WordBytes) (m : Bool) → TouchesNext l e t
-    → slot_is s ≡ local_slot (image_table l.image) e.local (slot_of l)
-    → a ≡ access (image_table l.image) e (slot_is s).hart [] t v m (succeeds t.act e.refuse (m && names s.named t.word))
+    → slot_is s ≡ local_slot (image_table l.image) e.local (logged_slot l)
+    → a ≡ logged_access (image_table l.image) e (slot_is s).hart [] t v m (succeeds t.act e.refuse (m && names s.named t.word))
     → slot_is r ≡ slot_did (image_table l.image) (slot_is s) [] t v (succeeds t.act e.refuse (m && names s.named t.word))
-    → Fits l (with_access e a) × (slot_is r ≡ segment_slot (image_table l.image) (with_access e a) (slot_of l))
+    → FitsLog l (with_access e a) × (slot_is r ≡ segment_slot (image_table l.image) (with_access e a) (logged_slot l))
 next_fits l e t s r a v m next is a_is r_is =
     let T = image_table l.image in
     let f = with_access e a in
@@ -128,23 +128,23 @@ next_fits l e t s r a v m next is a_is r_is =
 -- the same of what the code has seen
 pub record NextSeen (image : ImageValue) (inputs : List ℕ) (h : ℕ) (log : List LoggedSegment) (e : LoggedSegment) (t : Touch) (s r : Slot) (a : LoggedAccess) (v : WordBytes) (m : Bool) : Type 0 where
   pub access_is : (c : WordBytes) → None ≡ told_word ((image_table image).need (slot_is s).hart) c → (image_table image).plan (slot_is s).hart c ≡ Some t
-      → a ≡ access (image_table image) e (slot_is s).hart c t v m (succeeds t.act e.refuse (m && names s.named t.word))
+      → a ≡ logged_access (image_table image) e (slot_is s).hart c t v m (succeeds t.act e.refuse (m && names s.named t.word))
   pub slot_after_is : (c : WordBytes) → None ≡ told_word ((image_table image).need (slot_is s).hart) c → (image_table image).plan (slot_is s).hart c ≡ Some t
       → slot_is r ≡ slot_did (image_table image) (slot_is s) c t v (succeeds t.act e.refuse (m && names s.named t.word))
 
 pub seen_fits : (image : ImageValue) (inputs : List ℕ) (h : ℕ) (log : List LoggedSegment) (hart : Hart) (named : Option ℕ) (walked : ℕ) (reached : Hart) (l : HartLogValue) (e : LoggedSegment) (t : Touch) (s r : Slot) (a : LoggedAccess) (v : WordBytes) (m : Bool) (count : ℕ)
-    → HoldsIn image inputs h log hart named walked reached → record { image = image; inputs = inputs; hart = h; log = log } ≡ l → TouchesNext l e t → count ≡ e.local
-    → hart_of s.hart ≡ local_hart (image_table l.image) count (slot_of l).hart → s.named ≡ named → NextSeen image inputs h log e t s r a v m
-    → Fits (record { image = image; inputs = inputs; hart = h; log = log }) (with_access e a)
+    → HartLogHolds image inputs h log hart named walked reached → record { image = image; inputs = inputs; hart = h; log = log } ≡ l → TouchesNext l e t → count ≡ e.local
+    → hart_of s.hart ≡ local_hart (image_table l.image) count (logged_slot l).hart → s.named ≡ named → NextSeen image inputs h log e t s r a v m
+    → FitsLog (record { image = image; inputs = inputs; hart = h; log = log }) (with_access e a)
     × (slot_is r ≡ segment_slot (image_table image) (with_access e a) (slot_in image inputs h log))
 seen_fits image inputs h log hart named walked reached l e t s r a v m count holds view next counted to named_is seen =
     let L : HartLogValue = record { image = image; inputs = inputs; hart = h; log = log } in
     let T = image_table image in
     let here : TouchesNext L e t = subst (λ (x : HartLogValue). TouchesNext x e t) (sym view) next in
-    let hart_there : hart_of s.hart ≡ local_hart T e.local (slot_of L).hart =
-    to ∙ ap (λ (n : ℕ). local_hart (image_table l.image) n (slot_of l).hart) counted ∙ sym (ap (λ (x : HartLogValue). local_hart (image_table x.image) e.local (slot_of x).hart) view) in
-    let named_there : s.named ≡ (slot_of L).named = named_is ∙ ap (λ (x : HartSlot HartValue). x.named) holds.slot in
-    let at : slot_is s ≡ local_slot T e.local (slot_of L) = λ i. record { hart = hart_there i; named = named_there i } in
+    let hart_there : hart_of s.hart ≡ local_hart T e.local (logged_slot L).hart =
+    to ∙ ap (λ (n : ℕ). local_hart (image_table l.image) n (logged_slot l).hart) counted ∙ sym (ap (λ (x : HartLogValue). local_hart (image_table x.image) e.local (logged_slot x).hart) view) in
+    let named_there : s.named ≡ (logged_slot L).named = named_is ∙ ap (λ (x : HartSlot HartValue). x.named) holds.slot in
+    let at : slot_is s ≡ local_slot T e.local (logged_slot L) = λ i. record { hart = hart_there i; named = named_there i } in
     let need : T.need (slot_is s).hart ≡ None = ap (λ (u : HartValue). T.need u) hart_there ∙ here.need in
     let plan : T.plan (slot_is s).hart [] ≡ Some t = ap (λ (u : HartValue). T.plan u []) hart_there ∙ here.plan in
     let told : None ≡ told_word (T.need (slot_is s).hart) [] = sym (ap (λ (o : Option ℕ). told_word o []) need) in

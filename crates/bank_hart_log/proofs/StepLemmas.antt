@@ -5,9 +5,9 @@ use Rattle.hart_step.specs.Hart.{HartValue}
 use Rattle.bank_laws.specs.declared.access.LoggedAccess.{LoggedAccess}
 use Rattle.bank_laws.specs.Banks.{WordBytes}
 use Rattle.bank_laws.specs.Runs.{StepTable, Touch}
-use Rattle.bank_laws.specs.Segments.{LoggedSegment, HartSlot, access, answer, code_reads, data_accesses, slot_after, slot_did}
+use Rattle.bank_laws.specs.Segments.{LoggedSegment, HartSlot, logged_access, given_bytes, code_reads, data_accesses, slot_after, slot_did}
 use Rattle.bank_laws.specs.HartLogs.{first, data_part, StepFits, step_slot, local_hart, AreLocal}
-use Rattle.bank_table.specs.Table.{word_in}
+use Rattle.bank_laws.specs.Table.{word_in}
 use Rattle.bank_step.specs.Told.{as_touch, told_word}
 use Rattle.bank_hart_log.specs.declared.step.Slot.{Slot}
 use Rattle.bank_hart_log.specs.LastStep.{slot_is, succeeds_at, data_slot, IsCodeRead, IsTouch, DataFits, SlotIf}
@@ -47,7 +47,7 @@ tail_same a b xs ys p = cc (p)
 pub fits_touch : (T : StepTable HartValue) (e : LoggedSegment) (s : HartSlot HartValue) (c : WordBytes) (t : Touch) (a : LoggedAccess) (r : Option Slot) → T.plan s.hart c ≡ Some t
     → SlotIf (IsTouch T e s c t a) (slot_did T s c t a.before (succeeds_at e s t a)) r → SlotIf (DataFits T e s c (a ∷ [])) (data_slot T e s c (a ∷ [])) r
 fits_touch T e s c t a r p h =
-    let x = access T e s.hart c t a.before a.mark (succeeds_at e s t a) in
+    let x = logged_access T e s.hart c t a.before a.mark (succeeds_at e s t a) in
     subst (λ (o : Option Touch). SlotIf (DataBy T e s c o (a ∷ [])) (data_to T e s c o (a ∷ [])) r) (sym p)
     (slot_more (IsTouch T e s c t a) (DataBy T e s c (Some t) (a ∷ [])) (slot_did T s c t a.before (succeeds_at e s t a)) r
     (λ q. ap (λ (y : LoggedAccess). y ∷ []) q) (λ q. head_same a x [] [] q) h)
@@ -55,10 +55,10 @@ fits_touch T e s c t a r p h =
 -- ---- code
 abbrev FitsBy : StepTable HartValue → LoggedSegment → HartSlot HartValue → Option ℕ → List LoggedAccess → Type 0
 FitsBy T e s n xs = xs ≡ code_reads e n (first xs).value (first xs).mark
-    ++ data_accesses T e s (answer n (first xs).value) (T.plan s.hart (answer n (first xs).value)) (first (data_part n xs)).value (first (data_part n xs)).mark
+    ++ data_accesses T e s (given_bytes n (first xs).value) (T.plan s.hart (given_bytes n (first xs).value)) (first (data_part n xs)).value (first (data_part n xs)).mark
 
 abbrev slot_by : StepTable HartValue → LoggedSegment → HartSlot HartValue → Option ℕ → List LoggedAccess → HartSlot HartValue
-slot_by T e s n xs = slot_after T e.refuse s (answer n (first xs).value) (T.plan s.hart (answer n (first xs).value)) (first (data_part n xs)).value (first (data_part n xs)).mark
+slot_by T e s n xs = slot_after T e.refuse s (given_bytes n (first xs).value) (T.plan s.hart (given_bytes n (first xs).value)) (first (data_part n xs)).value (first (data_part n xs)).mark
 
 placed : (T : StepTable HartValue) (e : LoggedSegment) (s : HartSlot HartValue) (n : Option ℕ) (xs : List LoggedAccess) (r : Option Slot) → T.need s.hart ≡ n
     → xs ≡ e.accesses → SlotIf (FitsBy T e s n xs) (slot_by T e s n xs) r → SlotIf (StepFits T e s) (step_slot T e s) r

@@ -10,8 +10,8 @@ use Rattle.bank_laws.specs.declared.access.LoggedAccess.{LoggedAccess}
 use Rattle.bank_laws.specs.Runs.{StepTable, Touch}
 use Rattle.bank_laws.specs.Segments.{LoggedSegment, HartSlot, Walks}
 use Rattle.bank_laws.specs.HartLogs.{AreLocal, IsStepwise, StepFits, local_hart, local_slot, slot_after_log}
-use Rattle.bank_table.specs.Table.{table}
-use Rattle.bank_runs.specs.Merged.{first_slot}
+use Rattle.bank_laws.specs.Table.{table}
+use Rattle.bank_laws.specs.Merged.{first_slot}
 use Rattle.bank_hart_log.specs.declared.log.Ahead.{Ahead}
 use Rattle.bank_hart_log.specs.declared.log.AddFault.{AddFault}
 use Rattle.bank_hart_log.specs.declared.log.AddFault.TheVariants.{Mismatch, Memory}
@@ -33,25 +33,25 @@ slot_in image inputs h log = slot_after_log (image_table image) (first_slot imag
 
 -- the slot after the log: the hart, and the word that its last LR without a fault named, if no SC
 -- without a fault came after it
-abbrev pub slot_of : HartLogValue → HartSlot HartValue
-slot_of l = slot_in l.image l.inputs l.hart l.log
+abbrev pub logged_slot : HartLogValue → HartSlot HartValue
+logged_slot l = slot_in l.image l.inputs l.hart l.log
 
 -- the code's slot as a `HartSlot`
 abbrev pub slot_with : Hart → Option ℕ → HartSlot HartValue
 slot_with hart named = record { hart = hart_of hart; named = named }
 
 -- the stamp of a segment, 0 if there is none
-abbrev pub stamp_of : Option LoggedSegment → ℕ
-stamp_of None = 0
-stamp_of (Some e) = e.stamp
+abbrev pub segment_stamp : Option LoggedSegment → ℕ
+segment_stamp None = 0
+segment_stamp (Some e) = e.stamp
 
 -- the stamp of the last segment, 0 if there is none
-abbrev pub last_stamp : List LoggedSegment → ℕ
-last_stamp log = stamp_of (slice_get log (length log - 1))
+abbrev pub last_segment_stamp : List LoggedSegment → ℕ
+last_segment_stamp log = segment_stamp (slice_get log (length log - 1))
 
 -- hart and word are those after the segments, which are the hart's own, step by step; and n further
 -- steps that touch nothing have led to the hart walked ahead
-pub record HoldsIn (image : ImageValue) (inputs : List ℕ) (h : ℕ) (log : List LoggedSegment) (hart : Hart) (named : Option ℕ) (walked : ℕ) (reached : Hart) : Type 0 where
+pub record HartLogHolds (image : ImageValue) (inputs : List ℕ) (h : ℕ) (log : List LoggedSegment) (hart : Hart) (named : Option ℕ) (walked : ℕ) (reached : Hart) : Type 0 where
   pub harts : length inputs ≤ most_harts
   pub there : h < length inputs
   pub own : AllByRecursion (λ e. e.hart ≡ h) log
@@ -64,18 +64,18 @@ pub record HoldsIn (image : ImageValue) (inputs : List ℕ) (h : ℕ) (log : Lis
 pub record IsOfHart (l : HartLogValue) : Type 0 where
   pub there : l.hart < length l.inputs
   pub own : AllByRecursion (λ e. e.hart ≡ l.hart) l.log
-  pub walks : Walks (image_table l.image) (first_slot l.image l.inputs l.hart) l.log (slot_of l)
+  pub walks : Walks (image_table l.image) (first_slot l.image l.inputs l.hart) l.log (logged_slot l)
 
 -- a hart is n steps ahead of the log, which touch nothing
 pub record IsAhead (l : HartLogValue) (a : Ahead) : Type 0 where
-  pub local : AreLocal (image_table l.image) a.local (slot_of l).hart
-  pub hart : hart_of a.hart ≡ local_hart (image_table l.image) a.local (slot_of l).hart
+  pub local : AreLocal (image_table l.image) a.local (logged_slot l).hart
+  pub hart : hart_of a.hart ≡ local_hart (image_table l.image) a.local (logged_slot l).hart
 
 -- a segment may come next: the hart's own, with local steps, and its last step's accesses
-pub record Fits (l : HartLogValue) (e : LoggedSegment) : Type 0 where
+pub record FitsLog (l : HartLogValue) (e : LoggedSegment) : Type 0 where
   pub hart : e.hart ≡ l.hart
-  pub local : AreLocal (image_table l.image) e.local (slot_of l).hart
-  pub step : StepFits (image_table l.image) e (local_slot (image_table l.image) e.local (slot_of l))
+  pub local : AreLocal (image_table l.image) e.local (logged_slot l).hart
+  pub step : StepFits (image_table l.image) e (local_slot (image_table l.image) e.local (logged_slot l))
 
 -- a segment with one access
 abbrev pub with_access : LoggedSegment → LoggedAccess → LoggedSegment
@@ -84,15 +84,15 @@ with_access e a = record e { accesses = a ∷ [] }
 -- a segment that touches a word may come next: its own, with local steps, its last of code
 pub record TouchesNext (l : HartLogValue) (e : LoggedSegment) (t : Touch) : Type 0 where
   pub hart : e.hart ≡ l.hart
-  pub local : AreLocal (image_table l.image) e.local (slot_of l).hart
-  pub need : (image_table l.image).need (local_hart (image_table l.image) e.local (slot_of l).hart) ≡ None
-  pub plan : (image_table l.image).plan (local_hart (image_table l.image) e.local (slot_of l).hart) [] ≡ Some t
+  pub local : AreLocal (image_table l.image) e.local (logged_slot l).hart
+  pub need : (image_table l.image).need (local_hart (image_table l.image) e.local (logged_slot l).hart) ≡ None
+  pub plan : (image_table l.image).plan (local_hart (image_table l.image) e.local (logged_slot l).hart) [] ≡ Some t
 
 -- the log with one more segment
-abbrev pub taken : HartLogValue → LoggedSegment → HartLogValue
-taken l e = record l { log = l.log ++ e ∷ [] }
+abbrev pub with_segment : HartLogValue → LoggedSegment → HartLogValue
+with_segment l e = record l { log = l.log ++ e ∷ [] }
 
 -- why a segment is not logged
-abbrev pub Refuses : HartLogValue → LoggedSegment → AddFault → Type 0
-Refuses l e Mismatch = Fits l e → ⊥
-Refuses l e Memory = Fits l e
+abbrev pub RefusesSegment : HartLogValue → LoggedSegment → AddFault → Type 0
+RefusesSegment l e Mismatch = FitsLog l e → ⊥
+RefusesSegment l e Memory = FitsLog l e

@@ -6,7 +6,7 @@ use Rattle.bank_laws.specs.declared.access.LoggedAccess.{LoggedAccess}
 use Rattle.bank_laws.specs.declared.access.LoggedKind.TheVariants.{CodeRead}
 use Rattle.bank_laws.specs.Banks.{WordBytes}
 use Rattle.bank_laws.specs.Runs.{StepTable, Touch, succeeds}
-use Rattle.bank_laws.specs.Segments.{LoggedSegment, HartSlot, access, data_accesses, slot_after}
+use Rattle.bank_laws.specs.Segments.{LoggedSegment, HartSlot, logged_access, data_accesses, slot_after}
 use Rattle.bank_laws.specs.HartLogs.{first}
 use Rattle.bank_hart_log.specs.HartLog.{slot_with}
 use Rattle.bank_hart_log.specs.declared.step.Accesses.{Accesses}
@@ -22,7 +22,7 @@ succeeds_at e s t a = succeeds t.act e.refuse (a.mark && names s.named t.word)
 
 -- an access is that of a touch
 abbrev pub IsTouch : StepTable HartValue → LoggedSegment → HartSlot HartValue → WordBytes → Touch → LoggedAccess → Type 0
-IsTouch T e s c t a = a ≡ access T e s.hart c t a.before a.mark (succeeds_at e s t a)
+IsTouch T e s c t a = a ≡ logged_access T e s.hart c t a.before a.mark (succeeds_at e s t a)
 
 -- accesses are the data accesses, by the bytes of the code
 abbrev pub DataFits : StepTable HartValue → LoggedSegment → HartSlot HartValue → WordBytes → List LoggedAccess → Type 0
@@ -38,9 +38,9 @@ SlotIf P s None = P → ⊥
 SlotIf P s (Some t) = P × (slot_is t ≡ s)
 
 -- the accesses of a segment, as a list
-abbrev pub listed : Option Accesses → List LoggedAccess
-listed None = []
-listed (Some a) = a.first ∷ option_to_list a.second
+abbrev pub access_list : Option Accesses → List LoggedAccess
+access_list None = []
+access_list (Some a) = a.first ∷ option_to_list a.second
 
 -- an access is the code read from a word, whatever it has found there
 abbrev pub IsCodeRead : LoggedSegment → ℕ → LoggedAccess → Type 0

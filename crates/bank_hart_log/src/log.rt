@@ -7,7 +7,7 @@ ghost use Rattle.hart_local.specs.CodeMemory.{code_in};
 ghost use Rattle.hart_local.specs.LocalStep.{class_of};
 ghost use Rattle.hart_local.specs.declared.stepping.Class.TheVariants.{Shared};
 ghost use Rattle.bank_laws.specs.HartLogs.{AreLocal, local_hart, segment_slot};
-ghost use Rattle.bank_hart_log.specs.HartLog.{image_table, last_stamp, slot_of, taken, with_access, Fits, IsAhead, IsOfHart, Refuses, TouchesNext};
+ghost use Rattle.bank_hart_log.specs.HartLog.{image_table, last_segment_stamp, logged_slot, with_segment, with_access, FitsLog, IsAhead, IsOfHart, RefusesSegment, TouchesNext};
 ghost use Rattle.bank_hart_log.specs.declared.log.AddFault.{AddFault};
 ghost use Rattle.bank_step.specs.Told.{as_touch};
 ghost use Rattle.bank_hart_log.specs.LastStep.{SlotIf};
@@ -58,7 +58,7 @@ pub struct HartLog<'a, A: Allocator> {
 }
 
 impl<'a, A: Allocator> Model for HartLog<'a, A> {
-    ghost use Rattle.bank_hart_log.specs.HartLog.{HartLogValue, HoldsIn};
+    ghost use Rattle.bank_hart_log.specs.HartLog.{HartLogValue, HartLogHolds};
 
     ghost Value = { HartLogValue };
 
@@ -69,7 +69,7 @@ impl<'a, A: Allocator> Model for HartLog<'a, A> {
       log = l.segments.items;
     } };
 
-    ghost invariant = { λ l. HoldsIn l.image.now l.inputs.now l.number l.segments.items l.hart l.named l.walked l.reached };
+    ghost invariant = { λ l. HartLogHolds l.image.now l.inputs.now l.number l.segments.items l.hart l.named l.walked l.reached };
 }
 
 impl<'a, A: Allocator> HartLog<'a, A> {
@@ -100,7 +100,7 @@ impl<'a, A: Allocator> HartLog<'a, A> {
 
     // The hart after `count` steps, if they touch nothing.
     fn after_local(&self, count: u32) -> Option<Hart>
-        ensures { let t = image_table self.now.image in let h = (slot_of self.now).hart in
+        ensures { let t = image_table self.now.image in let h = (logged_slot self.now).hart in
             MatchOption result (AreLocal t count h → ⊥)
             (λ reached. AreLocal t count h × (hart_of reached ≡ local_hart t count h)) }
     {
@@ -133,8 +133,8 @@ impl<'a, A: Allocator> HartLog<'a, A> {
 
     // The slot after a segment, if it may come next.
     fn slot_after(&self, segment: &LogSegment) -> Option<Slot>
-        ensures { SlotIf (Fits self.now segment.now)
-            (segment_slot (image_table self.now.image) segment.now (slot_of self.now)) result }
+        ensures { SlotIf (FitsLog self.now segment.now)
+            (segment_slot (image_table self.now.image) segment.now (logged_slot self.now)) result }
     {
         if segment.hart != self.number {
             return None;
@@ -152,8 +152,8 @@ impl<'a, A: Allocator> HartLog<'a, A> {
 
     /// Logs a segment, and moves the hart on by its steps.
     pub fn add(&mut self, segment: LogSegment) -> Result<(), AddFault>
-        ensures ok { OnOk result (Fits self.old segment × (self.new ≡ taken self.old segment)) }
-        ensures fault { IfErr result (λ fault. Refuses self.old segment fault) }
+        ensures ok { OnOk result (FitsLog self.old segment × (self.new ≡ with_segment self.old segment)) }
+        ensures fault { IfErr result (λ fault. RefusesSegment self.old segment fault) }
         ensures err { OnErr result (self.new ≡ self.old) }
     {
         let slot = match self.slot_after(&segment) {
@@ -180,8 +180,8 @@ impl<'a, A: Allocator> HartLog<'a, A> {
         found: Found,
     ) -> Result<LoggedAccess, AddFault>
         requires { TouchesNext self.old segment (as_touch touch) }
-        ensures ok { IfOk result (λ access. Fits self.old (with_access segment access)
-            × (self.new ≡ taken self.old (with_access segment access))) }
+        ensures ok { IfOk result (λ access. FitsLog self.old (with_access segment access)
+            × (self.new ≡ with_segment self.old (with_access segment access))) }
         ensures touches { IfOk result (λ access. (access.hart ≡ segment.hart) × (access.word ≡ touch.word)) }
         ensures finds { IfOk result (λ access. (access.before ≡ found.bytes) × (access.mark ≡ found.mark)) }
         ensures fault { IfErr result (λ fault. fault ≡ AddFault.Memory) }
@@ -231,7 +231,7 @@ impl<'a, A: Allocator> HartLog<'a, A> {
 
     /// The hart's state after the log.
     pub fn slot(&self) -> &Hart
-        ensures { hart_of result.now ≡ (slot_of self.now).hart }
+        ensures { hart_of result.now ≡ (logged_slot self.now).hart }
     {
         &self.hart
     }
@@ -239,7 +239,7 @@ impl<'a, A: Allocator> HartLog<'a, A> {
     /// The word that the hart's last LR without a fault named, if no store-conditional without a
     /// fault came after it.
     pub fn named(&self) -> Option<u32>
-        ensures { result ≡ (slot_of self.now).named }
+        ensures { result ≡ (logged_slot self.now).named }
     {
         self.named
     }
@@ -253,7 +253,7 @@ impl<'a, A: Allocator> HartLog<'a, A> {
 
     /// The stamp of the last segment, 0 before the first.
     pub fn last_stamp(&self) -> u64
-        ensures { result ≡ last_stamp self.now.log }
+        ensures { result ≡ last_segment_stamp self.now.log }
     {
         match self.segments.last() {
             Some(segment) => segment.stamp,

@@ -4,13 +4,13 @@ ghost use Rattle.hart_reservations.specs.Marks.{names};
 ghost use Rattle.hart_step.specs.Hart.{hart_of};
 ghost use Rattle.bank_laws.specs.Banks.{WordBytes, is_store, named_by_kind};
 ghost use Rattle.bank_laws.specs.Runs.{kind_of, succeeds, word_after};
-ghost use Rattle.bank_laws.specs.Segments.{access, code_reads, slot_did};
+ghost use Rattle.bank_laws.specs.Segments.{logged_access, code_reads, slot_did};
 ghost use Rattle.bank_laws.specs.HartLogs.{StepFits, step_slot, AreLocal, local_hart};
-ghost use Rattle.bank_table.specs.Carried.{act_of};
-ghost use Rattle.bank_table.specs.Table.{word_in};
+ghost use Rattle.bank_laws.specs.Carried.{act_of};
+ghost use Rattle.bank_laws.specs.Table.{word_in};
 ghost use Rattle.bank_step.specs.Told.{as_touch, told_word};
 ghost use Rattle.bank_hart_log.specs.HartLog.{image_table};
-ghost use Rattle.bank_hart_log.specs.LastStep.{listed, slot_is, succeeds_at, data_slot, IsCodeRead, IsTouch, DataFits, SlotIf};
+ghost use Rattle.bank_hart_log.specs.LastStep.{access_list, slot_is, succeeds_at, data_slot, IsCodeRead, IsTouch, DataFits, SlotIf};
 
 use bank_laws::{LoggedAccess, LoggedKind};
 use bank_order::LogSegment;
@@ -190,7 +190,7 @@ pub(crate) fn touch_word<A: Allocator>(
 ) -> TouchedWord
     ensures access { (c : WordBytes) → let t = image_table image.now in let s = slot_is slot.now in let e = segment.now in
         code ≡ told_word (t.need s.hart) c → t.plan s.hart c ≡ Some (as_touch touch)
-        → result.access ≡ access t e s.hart c (as_touch touch) found.bytes found.mark
+        → result.access ≡ logged_access t e s.hart c (as_touch touch) found.bytes found.mark
         (succeeds (as_touch touch).act e.refuse (found.mark && names s.named touch.word)) }
     ensures touches { (result.access.hart ≡ segment.now.hart) × (result.access.word ≡ touch.word) }
     ensures slot { (c : WordBytes) → let t = image_table image.now in let s = slot_is slot.now in let e = segment.now in
@@ -236,7 +236,7 @@ pub fn data_access<A: Allocator>(
 ) -> LoggedAccess
     ensures { (c : WordBytes) → let t = image_table image.now in let s = slot_is slot.now in let e = segment.now in
         code ≡ told_word (t.need s.hart) c → t.plan s.hart c ≡ Some (as_touch touch)
-        → result ≡ access t e s.hart c (as_touch touch) found.bytes found.mark
+        → result ≡ logged_access t e s.hart c (as_touch touch) found.bytes found.mark
         (succeeds (as_touch touch).act e.refuse (found.mark && names s.named touch.word)) }
 {
     touch_word(image, slot, segment, code, touch, found).access
@@ -319,7 +319,7 @@ struct Accesses {
 }
 
 fn accesses_of(segment: &LogSegment) -> Option<Accesses>
-    ensures { listed result ≡ segment.now.accesses }
+    ensures { access_list result ≡ segment.now.accesses }
 {
     match segment.code_read {
         Some(first) => Some(Accesses {
@@ -344,7 +344,7 @@ fn step_in_code<A: Allocator>(
     accesses: Option<Accesses>,
 ) -> Option<Slot>
     requires code { (image_table image.now).need (slot_is slot.now).hart ≡ None }
-    requires accesses { listed accesses ≡ segment.now.accesses }
+    requires accesses { access_list accesses ≡ segment.now.accesses }
     ensures { let t = image_table image.now in let s = slot_is slot.now in
         SlotIf (StepFits t segment.now s) (step_slot t segment.now s) result }
 {
@@ -366,7 +366,7 @@ fn step_outside_code<A: Allocator>(
     word: u32,
 ) -> Option<Slot>
     requires code { (image_table image.now).need (slot_is slot.now).hart ≡ Some word }
-    requires accesses { listed accesses ≡ segment.now.accesses }
+    requires accesses { access_list accesses ≡ segment.now.accesses }
     ensures { let t = image_table image.now in let s = slot_is slot.now in
         SlotIf (StepFits t segment.now s) (step_slot t segment.now s) result }
 {

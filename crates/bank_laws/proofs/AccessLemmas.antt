@@ -6,9 +6,9 @@ use Rattle.hart_reservations.specs.Marks.{names, with_mark, without_mark, ended}
 use Rattle.bank_laws.specs.declared.access.LoggedAccess.{LoggedAccess}
 use Rattle.bank_laws.specs.declared.access.LoggedKind.{LoggedKind}
 use Rattle.bank_laws.specs.declared.access.LoggedKind.TheVariants.{CodeRead, Load, Store, LoadReserved, ConditionalStored, ConditionalFailed}
-use Rattle.bank_laws.specs.Banks.{WordBytes, BankState, with_word, is_store, marks_after, after_touch, after_access, joined_mark, BanksTell, named_by_kind, named_after, banks_after}
+use Rattle.bank_laws.specs.Banks.{WordBytes, BankState, with_word_bytes, is_store, marks_after, after_touch, after_access, joined_mark, BanksTell, named_by_kind, named_after, banks_after}
 
-value_stored : (s : Bool) (b : BankState) (m : ℕ → Option ℕ) (f : ℕ → WordBytes) (x : ℕ) (v : WordBytes) (y : ℕ) → (y ≡ x → s ≡ true) → f y ≡ b.values y → with_word f x v y ≡ (if s then record { values = with_word b.values x v; marks = m } else b).values y
+value_stored : (s : Bool) (b : BankState) (m : ℕ → Option ℕ) (f : ℕ → WordBytes) (x : ℕ) (v : WordBytes) (y : ℕ) → (y ≡ x → s ≡ true) → f y ≡ b.values y → with_word_bytes f x v y ≡ (if s then record { values = with_word_bytes b.values x v; marks = m } else b).values y
 value_stored true b m f x v y link e = ap (λ (o : WordBytes). if y == x then v else o) e
 value_stored false b m f x v y link e = grind (arith, ne_eqb y x)
 
@@ -16,7 +16,7 @@ value_kept : (s : Bool) (b : BankState) (m : ℕ → Option ℕ) (n : WordBytes)
 value_kept true b m n y e = e
 value_kept false b m n y e = e
 
-value_keeps : (s : Bool) (b : BankState) (f : ℕ → WordBytes) (x : ℕ) (v : WordBytes) (y : ℕ) (kind : LoggedKind) (h : ℕ) → (y ≡ x → s ≡ true) → f y ≡ b.values y → (if is_store kind then with_word f x v else f) y ≡ (if s then after_touch b kind h x v else b).values y
+value_keeps : (s : Bool) (b : BankState) (f : ℕ → WordBytes) (x : ℕ) (v : WordBytes) (y : ℕ) (kind : LoggedKind) (h : ℕ) → (y ≡ x → s ≡ true) → f y ≡ b.values y → (if is_store kind then with_word_bytes f x v else f) y ≡ (if s then after_touch b kind h x v else b).values y
 value_keeps s b f x v y CodeRead h link e = value_kept s b b.marks (f y) y e
 value_keeps s b f x v y Load h link e = value_kept s b b.marks (f y) y e
 value_keeps s b f x v y Store h link e = value_stored s b (ended b.marks h x) f x v y link e

@@ -2,3 +2,8 @@ pub mod AccessLemmas
 pub mod RunLemmas
 pub mod MergeLemmas
 pub mod HartLogLemmas
+pub mod WordLemmas
+pub mod EffectLemmas
+pub mod StepLemmas
+pub mod WorldLemmas
+pub mod MergedLemmas

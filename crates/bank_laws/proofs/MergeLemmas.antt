@@ -8,7 +8,7 @@ use Rattle.std.proofs.lemmas.List.Elements.{filter-append}
 use Rattle.bank_laws.specs.declared.access.LoggedAccess.{LoggedAccess}
 use Rattle.bank_laws.specs.Banks.{WordBytes, BankState, IsLogged, share_of, after_log}
 use Rattle.bank_laws.specs.Runs.{Touch, StepTable, TableWorld, table_run, kind_of, Reads, Writes, Reserves, Tries, Act}
-use Rattle.bank_laws.specs.Segments.{HartSlot, LoggedSegment, Walks, TellsWorld, turns, accesses, segments_of, code_reads, data_accesses, answered}
+use Rattle.bank_laws.specs.Segments.{HartSlot, LoggedSegment, Walks, TellsWorld, segment_turns, accesses, segments_of_hart, code_reads, data_accesses, answered}
 use Rattle.std.specs.List.{AllByRecursion}
 use Rattle.bank_laws.specs.Order.{In, Rises, is_code_read, Before, Earlier, Ahead, IsMerged, IsMatched, AreLogs}
 use Rattle.bank_laws.proofs.RunLemmas.{segments_run}
@@ -82,7 +82,7 @@ filter_in {A} p (x ∷ xs) a i = at_test (λ (j : In a (filter p xs)). filter_in
     at_test more true q (inr j) = (inr (more j).0, (more j).1)
     at_test more false q j = (inr (more j).0, (more j).1)
 
-in_filter : {A : Type 0} (p : A → Bool) (xs : List A) (a : A) → In a xs → p a ≡ true → In a (filter p xs)
+pub in_filter : {A : Type 0} (p : A → Bool) (xs : List A) (a : A) → In a xs → p a ≡ true → In a (filter p xs)
 in_filter p [] a i q = absurd i
 in_filter {A} p (x ∷ xs) a i q = at_test (λ (j : In a xs). in_filter p xs a j q) (p x) refl i
   where
@@ -101,7 +101,7 @@ filter_rises {A} R p (x ∷ xs) r = at_test (filter_rises R p xs r.1) (p x)
     at_test more false = more
 
 -- a hart's segments
-of_hart_filter : (h : ℕ) (es : List LoggedSegment) → segments_of h es ≡ filter (λ (e : LoggedSegment). e.hart == h) es
+of_hart_filter : (h : ℕ) (es : List LoggedSegment) → segments_of_hart h es ≡ filter (λ (e : LoggedSegment). e.hart == h) es
 of_hart_filter h [] = refl
 of_hart_filter h (e ∷ es) = ap (λ (l : List LoggedSegment). if e.hart == h then e ∷ l else l) (of_hart_filter h es)
 
@@ -116,7 +116,7 @@ rises_of_hart : (h : ℕ) (es : List LoggedSegment) → AllByRecursion (λ e. e.
 rises_of_hart h [] shared r = tt
 rises_of_hart h (e ∷ es) shared r = (each_from (Earlier e) es (λ f i. ahead_of_hart h e f shared.0 (each_in (λ (x : LoggedSegment). x.hart ≡ h) es f shared.1 i) (each_in (Ahead e) es f r.0 i)), rises_of_hart h es shared.1 r.1)
 
-harts_are : (logs : ℕ → List LoggedSegment) (es : List LoggedSegment) (h : ℕ) → AllByRecursion (λ e. e.hart ≡ h) (logs h) → Rises Earlier (logs h) → IsMerged logs es → segments_of h es ≡ logs h
+harts_are : (logs : ℕ → List LoggedSegment) (es : List LoggedSegment) (h : ℕ) → AllByRecursion (λ e. e.hart ≡ h) (logs h) → Rises Earlier (logs h) → IsMerged logs es → segments_of_hart h es ≡ logs h
 harts_are logs es h own rise merged =
     let p : LoggedSegment → Bool = λ e. e.hart == h in
     let mine : (e : LoggedSegment) → In e (filter p es) → e.hart ≡ h = λ e i. eqb-true e.hart h (filter_in p es e i).1 in
@@ -203,9 +203,9 @@ bank_rises bank_of b bank (e ∷ es) r ahead shapes ins =
     let sc = each_in (λ (x : LoggedAccess). (x.stamp ≡ f.0.stamp) × (x.hart ≡ f.0.hart)) f.0.accesses c (each_in IsShaped es f.0 shapes.1 f.1).signed f.2 in
     apart bank e f.0 a c r (ins' a (in_left (filter p e.accesses) (filter p (accesses es)) a i)) (ins' c (in_right (filter p e.accesses) (filter p (accesses es)) c j)) (each_in (Ahead e) es f.0 ahead.0 f.1) sa.0 sa.1 sc.0 sc.1))
 
-pub logs_merge : {H : Type 0} (bank_of : ℕ → ℕ) (T : StepTable H) (w : TableWorld H) (slots slots' : ℕ → HartSlot H) (start : ℕ → BankState) (logs : ℕ → List LoggedSegment) (banks : ℕ → List LoggedAccess) (es : List LoggedSegment) → AreLogs bank_of T slots slots' start logs banks → ((h : ℕ) → Rises Earlier (logs h)) → IsMatched bank_of logs banks → IsMerged logs es → TellsWorld bank_of w slots start → TellsWorld bank_of (table_run T w (turns es)) slots' (λ b. after_log (start b) (banks b))
+pub logs_merge : {H : Type 0} (bank_of : ℕ → ℕ) (T : StepTable H) (w : TableWorld H) (slots slots' : ℕ → HartSlot H) (start : ℕ → BankState) (logs : ℕ → List LoggedSegment) (banks : ℕ → List LoggedAccess) (es : List LoggedSegment) → AreLogs bank_of T slots slots' start logs banks → ((h : ℕ) → Rises Earlier (logs h)) → IsMatched bank_of logs banks → IsMerged logs es → TellsWorld bank_of w slots start → TellsWorld bank_of (table_run T w (segment_turns es)) slots' (λ b. after_log (start b) (banks b))
 logs_merge {H} bank_of T w slots slots' start logs banks es are rise matched merged tells =
-    let harts : (h : ℕ) → segments_of h es ≡ logs h = λ h. harts_are logs es h (are.own h) (rise h) merged in
+    let harts : (h : ℕ) → segments_of_hart h es ≡ logs h = λ h. harts_are logs es h (are.own h) (rise h) merged in
     let shapes : AllByRecursion IsShaped es = each_from IsShaped es (λ e i. each_in IsShaped (logs e.hart) e (shaped T (slots e.hart) (slots' e.hart) (logs e.hart) (are.walks e.hart)) (merged.taken e i)) in
     let mine : (b : ℕ) (a : LoggedAccess) → In a (share_of bank_of b (accesses es)) → In a (banks b) = λ b a i.
     let both = filter_in (λ (x : LoggedAccess). bank_of x.word == b) (accesses es) a i in
@@ -217,7 +217,7 @@ logs_merge {H} bank_of T w slots slots' start logs banks es are rise matched mer
     in_filter (λ (x : LoggedAccess). bank_of x.word == b) (accesses es) a (accesses_in es a e.0 (merged.complete log.0 e.0 e.1) e.2) (eq-eqb (bank_of a.word) b (each_in (λ (x : LoggedAccess). bank_of x.word ≡ b) (banks b) a (are.of_bank b) i)) in
     let bank : (b : ℕ) → share_of bank_of b (accesses es) ≡ banks b = λ b.
     rises_same Before before_once (share_of bank_of b (accesses es)) (banks b) (bank_rises bank_of b (banks b) es (are.order b) merged.order shapes (mine b)) (are.order b) (mine b) (theirs b) in
-    subst (λ (f : ℕ → BankState). TellsWorld bank_of (table_run T w (turns es)) slots' f) (fun_ext (λ b. ap (λ (l : List LoggedAccess). after_log (start b) l) (bank b)))
+    subst (λ (f : ℕ → BankState). TellsWorld bank_of (table_run T w (segment_turns es)) slots' f) (fun_ext (λ b. ap (λ (l : List LoggedAccess). after_log (start b) l) (bank b)))
     (segments_run bank_of T es w slots slots' start tells
     (λ h. subst (λ (l : List LoggedSegment). Walks T (slots h) l (slots' h)) (sym (harts h)) (are.walks h))
     (λ b. subst (λ (l : List LoggedAccess). IsLogged (start b) l) (sym (bank b)) (are.logged b)))

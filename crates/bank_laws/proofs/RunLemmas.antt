@@ -9,7 +9,7 @@ use Rattle.bank_laws.specs.declared.access.LoggedAccess.{LoggedAccess}
 use Rattle.bank_laws.specs.declared.access.LoggedKind.TheVariants.{CodeRead}
 use Rattle.bank_laws.specs.Banks.{WordBytes, BankState, after_touch, after_access, joined_mark, BanksTell, named_by_kind, named_after, banks_after, after_log, share_of, Finds, IsLogged}
 use Rattle.bank_laws.specs.Runs.{Touch, StepTable, TableWorld, Turn, put_at, succeeds, kind_of, word_after, word_found, done, step_from, table_step, table_run}
-use Rattle.bank_laws.specs.Segments.{LoggedSegment, turn, turns_of, turns, accesses, segments_of, HartSlot, code_reads, answer, data_accesses, slot_after, answered, IsLastStep, TouchNothing, IsSegment, Walks, TellsWorld}
+use Rattle.bank_laws.specs.Segments.{LoggedSegment, turn, turns_of, segment_turns, accesses, segments_of_hart, HartSlot, code_reads, given_bytes, data_accesses, slot_after, answered, IsLastStep, TouchNothing, IsSegment, Walks, TellsWorld}
 use Rattle.bank_laws.proofs.AccessLemmas.{access_keeps}
 
 -- the accesses of a list, as the world finds them
@@ -103,7 +103,7 @@ if_same : {A : Type 0} (t : Bool) (x : A) → (if t then x else x) ≡ x
 if_same true x = refl
 if_same false x = refl
 
-step_by : {H : Type 0} (T : StepTable H) (w : TableWorld H) (named : ℕ → Option ℕ) (e : LoggedSegment) (s : HartSlot H) (need : Option ℕ) (plan : WordBytes → Option Touch) (c : WordBytes) (cm : Bool) (v : WordBytes) (m : Bool) → named e.hart ≡ s.named → AllFinds w.shared named (code_reads e need c cm ++ data_accesses T e s (answer need c) (plan (answer need c)) v m) → done T w e.hart e.refuse s.hart (word_found need w.shared.values) (plan (word_found need w.shared.values)) ≡ world_of w e.hart (slot_after T e.refuse s (answer need c) (plan (answer need c)) v m) (code_reads e need c cm ++ data_accesses T e s (answer need c) (plan (answer need c)) v m)
+step_by : {H : Type 0} (T : StepTable H) (w : TableWorld H) (named : ℕ → Option ℕ) (e : LoggedSegment) (s : HartSlot H) (need : Option ℕ) (plan : WordBytes → Option Touch) (c : WordBytes) (cm : Bool) (v : WordBytes) (m : Bool) → named e.hart ≡ s.named → AllFinds w.shared named (code_reads e need c cm ++ data_accesses T e s (given_bytes need c) (plan (given_bytes need c)) v m) → done T w e.hart e.refuse s.hart (word_found need w.shared.values) (plan (word_found need w.shared.values)) ≡ world_of w e.hart (slot_after T e.refuse s (given_bytes need c) (plan (given_bytes need c)) v m) (code_reads e need c cm ++ data_accesses T e s (given_bytes need c) (plan (given_bytes need c)) v m)
 step_by T w named e s None plan c cm v m same finds = done_is T w named e s [] (plan []) v m same finds
 step_by T w named e s (Some x) plan c cm v m same finds =
     let kept : named e.hart ≡ (if e.hart == e.hart then named e.hart else named e.hart) = sym (if_same (e.hart == e.hart) (named e.hart)) in
@@ -131,7 +131,7 @@ data_named T named e s c (Some t) v m k same =
     let kind = kind_of t.act (succeeds t.act e.refuse (m && names s.named t.word)) in
     if_alike (k == e.hart) (named_by_kind kind t.word (named k)) (named_by_kind kind t.word s.named) (named k) (λ q. ap (λ (n : Option ℕ). named_by_kind kind t.word n) (ap named (eqb-true k e.hart q) ∙ same))
 
-step_named : {H : Type 0} (T : StepTable H) (named : ℕ → Option ℕ) (e : LoggedSegment) (s : HartSlot H) (need : Option ℕ) (c : WordBytes) (cm : Bool) (p : Option Touch) (v : WordBytes) (m : Bool) (k : ℕ) → named e.hart ≡ s.named → fold_named named (code_reads e need c cm ++ data_accesses T e s (answer need c) p v m) k ≡ put_at named e.hart (slot_after T e.refuse s (answer need c) p v m).named k
+step_named : {H : Type 0} (T : StepTable H) (named : ℕ → Option ℕ) (e : LoggedSegment) (s : HartSlot H) (need : Option ℕ) (c : WordBytes) (cm : Bool) (p : Option Touch) (v : WordBytes) (m : Bool) (k : ℕ) → named e.hart ≡ s.named → fold_named named (code_reads e need c cm ++ data_accesses T e s (given_bytes need c) p v m) k ≡ put_at named e.hart (slot_after T e.refuse s (given_bytes need c) p v m).named k
 step_named T named e s None c cm p v m k same = data_named T named e s [] p v m k same
 step_named T named e s (Some x) c cm p v m k same =
     let a : LoggedAccess = record { stamp = e.stamp; hart = e.hart; kind = CodeRead; word = x; before = c; after = c; mark = cm } in
@@ -253,18 +253,18 @@ tail_walks : {H : Type 0} (T : StepTable H) (t : Bool) (s s' : HartSlot H) (e : 
 tail_walks T true s s' e es is w = cc is
 tail_walks T false s s' e es is w = w
 
-pub segments_run : {H : Type 0} (bank_of : ℕ → ℕ) (T : StepTable H) (es : List LoggedSegment) (w : TableWorld H) (slots slots' : ℕ → HartSlot H) (banks : ℕ → BankState) → TellsWorld bank_of w slots banks → ((h : ℕ) → Walks T (slots h) (segments_of h es) (slots' h)) → ((b : ℕ) → IsLogged (banks b) (share_of bank_of b (accesses es))) → TellsWorld bank_of (table_run T w (turns es)) slots' (λ b. after_log (banks b) (share_of bank_of b (accesses es)))
+pub segments_run : {H : Type 0} (bank_of : ℕ → ℕ) (T : StepTable H) (es : List LoggedSegment) (w : TableWorld H) (slots slots' : ℕ → HartSlot H) (banks : ℕ → BankState) → TellsWorld bank_of w slots banks → ((h : ℕ) → Walks T (slots h) (segments_of_hart h es) (slots' h)) → ((b : ℕ) → IsLogged (banks b) (share_of bank_of b (accesses es))) → TellsWorld bank_of (table_run T w (segment_turns es)) slots' (λ b. after_log (banks b) (share_of bank_of b (accesses es)))
 segments_run {H} bank_of T [] w slots slots' banks tells walks logged = subst (λ (f : ℕ → HartSlot H). TellsWorld bank_of w f banks) (fun_ext (λ k. sym (walks k))) tells
 segments_run {H} bank_of T (e ∷ es) w slots slots' banks tells walks logged =
     let h = e.hart in
-    let own = head_walks T (h == h) (slots h) (slots' h) e (segments_of h es) (eq-eqb h h refl) (walks h) in
+    let own = head_walks T (h == h) (slots h) (slots' h) e (segments_of_hart h es) (eq-eqb h h refl) (walks h) in
     let both : (b : ℕ) → IsLogged (banks b) (share_of bank_of b e.accesses ++ share_of bank_of b (accesses es)) = λ b. subst (λ (l : List LoggedAccess). IsLogged (banks b) l) (at_append bank_of b e.accesses (accesses es)) (logged b) in
     let told = segment_tells bank_of T e w slots banks own.0 tells own.1 (λ b. front_logged (banks b) (share_of bank_of b e.accesses) (share_of bank_of b (accesses es)) (both b)) in
-    let walks' : (k : ℕ) → Walks T (put_at slots h own.0 k) (segments_of k es) (slots' k) = λ k.
+    let walks' : (k : ℕ) → Walks T (put_at slots h own.0 k) (segments_of_hart k es) (slots' k) = λ k.
     ⊎_elim
-    (λ (q : k ≡ h). rw q (subst (λ (x : HartSlot H). Walks T x (segments_of h es) (slots' h)) (sym (place_at slots h own.0)) own.2))
-    (λ (n : k ≡ h → ⊥). subst (λ (x : HartSlot H). Walks T x (segments_of k es) (slots' k)) (if_kept (k == h) (slots k) own.0 (λ t. absurd (n (eqb-true k h t)))) (tail_walks T (h == k) (slots k) (slots' k) e (segments_of k es) (ne_eqb h k (λ q. n (sym q))) (walks k)))
+    (λ (q : k ≡ h). rw q (subst (λ (x : HartSlot H). Walks T x (segments_of_hart h es) (slots' h)) (sym (place_at slots h own.0)) own.2))
+    (λ (n : k ≡ h → ⊥). subst (λ (x : HartSlot H). Walks T x (segments_of_hart k es) (slots' k)) (if_kept (k == h) (slots k) own.0 (λ t. absurd (n (eqb-true k h t)))) (tail_walks T (h == k) (slots k) (slots' k) e (segments_of_hart k es) (ne_eqb h k (λ q. n (sym q))) (walks k)))
     (cases_eq k h) in
     let rest = segments_run bank_of T es (table_run T w (turns_of e)) (put_at slots h own.0) slots' (λ b. after_log (banks b) (share_of bank_of b e.accesses)) told walks' (λ b. back_logged (banks b) (share_of bank_of b e.accesses) (share_of bank_of b (accesses es)) (both b)) in
-    subst (λ (f : ℕ → BankState). TellsWorld bank_of (table_run T w (turns (e ∷ es))) slots' f) (fun_ext (λ b. fold_append (banks b) (share_of bank_of b e.accesses) (share_of bank_of b (accesses es)) ∙ ap (λ (l : List LoggedAccess). after_log (banks b) l) (sym (at_append bank_of b e.accesses (accesses es)))))
-    (subst (λ (v : TableWorld H). TellsWorld bank_of v slots' (λ b. after_log (after_log (banks b) (share_of bank_of b e.accesses)) (share_of bank_of b (accesses es)))) (sym (run_append T w (turns_of e) (turns es))) rest)
+    subst (λ (f : ℕ → BankState). TellsWorld bank_of (table_run T w (segment_turns (e ∷ es))) slots' f) (fun_ext (λ b. fold_append (banks b) (share_of bank_of b e.accesses) (share_of bank_of b (accesses es)) ∙ ap (λ (l : List LoggedAccess). after_log (banks b) l) (sym (at_append bank_of b e.accesses (accesses es)))))
+    (subst (λ (v : TableWorld H). TellsWorld bank_of v slots' (λ b. after_log (after_log (banks b) (share_of bank_of b e.accesses)) (share_of bank_of b (accesses es)))) (sym (run_append T w (turns_of e) (segment_turns es))) rest)

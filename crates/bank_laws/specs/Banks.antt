@@ -16,8 +16,8 @@ pub record BankState : Type 0 where
   pub marks : Marks
 
 -- a word has new bytes
-abbrev pub with_word : (ℕ → WordBytes) → ℕ → WordBytes → ℕ → WordBytes
-with_word values x v = λ y. if y == x then v else values y
+abbrev pub with_word_bytes : (ℕ → WordBytes) → ℕ → WordBytes → ℕ → WordBytes
+with_word_bytes values x v = λ y. if y == x then v else values y
 
 -- whether an access of this kind stores
 abbrev pub is_store : LoggedKind → Bool
@@ -41,7 +41,7 @@ marks_after ConditionalFailed m h x = without_mark m h
 -- after an access of hart h to word x, whose bytes are then v
 abbrev pub after_touch : BankState → LoggedKind → ℕ → ℕ → WordBytes → BankState
 after_touch b kind h x v = record {
-  values = if is_store kind then with_word b.values x v else b.values;
+  values = if is_store kind then with_word_bytes b.values x v else b.values;
   marks = marks_after kind b.marks h x;
 }
 

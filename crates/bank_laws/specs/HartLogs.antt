@@ -7,27 +7,27 @@ use Rattle.bank_laws.specs.Runs.{StepTable, Touch}
 use Rattle.bank_laws.specs.Segments.{LoggedSegment, HartSlot, answered, code_reads, data_accesses, slot_after}
 
 -- the bytes and the mark that an access has found
-pub record Answer : Type 0 where
+pub record FoundWord : Type 0 where
   pub value : WordBytes
   pub mark : Bool
 
 -- what the first access has found
-abbrev pub first : List LoggedAccess → Answer
+abbrev pub first : List LoggedAccess → FoundWord
 first [] = record { value = []; mark = false }
 first (a ∷ xs) = record { value = a.before; mark = a.mark }
 
 -- all accesses but the first
-abbrev pub behind : List LoggedAccess → List LoggedAccess
-behind [] = []
-behind (a ∷ xs) = xs
+abbrev pub all_but_first : List LoggedAccess → List LoggedAccess
+all_but_first [] = []
+all_but_first (a ∷ xs) = xs
 
 -- the accesses after the code read, if there is one
 abbrev pub data_part : Option ℕ → List LoggedAccess → List LoggedAccess
 data_part None xs = xs
-data_part (Some x) xs = behind xs
+data_part (Some x) xs = all_but_first xs
 
 -- what the data access has found
-abbrev pub data_answer : {H : Type 0} → StepTable H → LoggedSegment → HartSlot H → Answer
+abbrev pub data_answer : {H : Type 0} → StepTable H → LoggedSegment → HartSlot H → FoundWord
 data_answer T e s = first (data_part (T.need s.hart) e.accesses)
 
 -- the bytes of the code as the log records them

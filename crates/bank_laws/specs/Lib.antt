@@ -3,3 +3,9 @@ pub mod Runs
 pub mod Segments
 pub mod HartLogs
 pub mod Order
+pub mod Words
+pub mod Carried
+pub mod Table
+pub mod Shown
+pub mod Worlds
+pub mod Merged

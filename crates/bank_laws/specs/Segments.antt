@@ -23,9 +23,9 @@ abbrev pub turns_of : LoggedSegment → List Turn
 turns_of e = replicate e.local (turn e.hart false) ++ turn e.hart e.refuse ∷ []
 
 -- the turns of one segment after another
-abbrev pub turns : List LoggedSegment → List Turn
-turns [] = []
-turns (e ∷ es) = turns_of e ++ turns es
+abbrev pub segment_turns : List LoggedSegment → List Turn
+segment_turns [] = []
+segment_turns (e ∷ es) = turns_of e ++ segment_turns es
 
 -- the accesses of one segment after another
 abbrev pub accesses : List LoggedSegment → List LoggedAccess
@@ -33,9 +33,9 @@ accesses [] = []
 accesses (e ∷ es) = e.accesses ++ accesses es
 
 -- the segments of hart h
-abbrev pub segments_of : ℕ → List LoggedSegment → List LoggedSegment
-segments_of h [] = []
-segments_of h (e ∷ es) = if e.hart == h then e ∷ segments_of h es else segments_of h es
+abbrev pub segments_of_hart : ℕ → List LoggedSegment → List LoggedSegment
+segments_of_hart h [] = []
+segments_of_hart h (e ∷ es) = if e.hart == h then e ∷ segments_of_hart h es else segments_of_hart h es
 
 -- a hart, and the word named by its last LR without a fault, if no SC without a fault followed
 pub record HartSlot (H : Type 0) : Type 0 where
@@ -48,13 +48,13 @@ code_reads e None c m = []
 code_reads e (Some x) c m = record { stamp = e.stamp; hart = e.hart; kind = CodeRead; word = x; before = c; after = c; mark = m } ∷ []
 
 -- the bytes for a needed word, or none
-abbrev pub answer : Option ℕ → WordBytes → WordBytes
-answer None c = []
-answer (Some x) c = c
+abbrev pub given_bytes : Option ℕ → WordBytes → WordBytes
+given_bytes None c = []
+given_bytes (Some x) c = c
 
 -- what is logged of a touch, given these bytes and this mark
-abbrev pub access : {H : Type 0} → StepTable H → LoggedSegment → H → WordBytes → Touch → WordBytes → Bool → Bool → LoggedAccess
-access T e s c t v m ok = record {
+abbrev pub logged_access : {H : Type 0} → StepTable H → LoggedSegment → H → WordBytes → Touch → WordBytes → Bool → Bool → LoggedAccess
+logged_access T e s c t v m ok = record {
   stamp = e.stamp;
   hart = e.hart;
   kind = kind_of t.act ok;
@@ -68,7 +68,7 @@ access T e s c t v m ok = record {
 abbrev pub data_accesses : {H : Type 0} → StepTable H → LoggedSegment → HartSlot H → WordBytes → Option Touch → WordBytes → Bool → List LoggedAccess
 data_accesses T e s c None v m = []
 data_accesses T e s c (Some t) v m =
-    access T e s.hart c t v m (succeeds t.act e.refuse (m && names s.named t.word)) ∷ []
+    logged_access T e s.hart c t v m (succeeds t.act e.refuse (m && names s.named t.word)) ∷ []
 
 -- the slot after a touch
 abbrev pub slot_did : {H : Type 0} → StepTable H → HartSlot H → WordBytes → Touch → WordBytes → Bool → HartSlot H
@@ -83,7 +83,7 @@ slot_after T refuse s c (Some t) v m =
 
 -- the bytes of the code that the hart needs
 abbrev pub answered : {H : Type 0} → StepTable H → HartSlot H → WordBytes → WordBytes
-answered T s c = answer (T.need s.hart) c
+answered T s c = given_bytes (T.need s.hart) c
 
 -- a segment's last step leads from slot s to s', given some bytes and marks, and logs them
 pub record IsLastStep {H : Type 0} (T : StepTable H) (e : LoggedSegment) (s s' : HartSlot H) : Type 0 where

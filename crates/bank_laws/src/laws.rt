@@ -3,7 +3,7 @@ ghost use Rattle.std.specs.Prelude.{◌≡◌, ◌≢◌, ℕ, Option, List};
 ghost use Rattle.bank_laws.specs.declared.access.LoggedAccess.{LoggedAccess};
 ghost use Rattle.bank_laws.specs.Banks.{BankState, BanksTell, IsLogged, after_access, after_log, banks_after, named_after, share_of};
 ghost use Rattle.bank_laws.specs.Runs.{StepTable, TableWorld, table_run};
-ghost use Rattle.bank_laws.specs.Segments.{LoggedSegment, HartSlot, Walks, TellsWorld, accesses, segments_of, turns};
+ghost use Rattle.bank_laws.specs.Segments.{LoggedSegment, HartSlot, Walks, TellsWorld, accesses, segments_of_hart, segment_turns};
 ghost use Rattle.bank_laws.specs.HartLogs.{IsStepwise, slot_after_log};
 ghost use Rattle.bank_laws.specs.Order.{In, Rises, Earlier, AreLogs, IsMatched, IsMerged};
 
@@ -21,9 +21,9 @@ pub fn segments_run<H>()
     ensures { (bank_of : ℕ → ℕ) (T : StepTable H) (es : List LoggedSegment) (w : TableWorld H) (slots ends : ℕ → HartSlot H)
         (banks : ℕ → BankState)
         → TellsWorld bank_of w slots banks
-        → ((h : ℕ) → Walks T (slots h) (segments_of h es) (ends h))
+        → ((h : ℕ) → Walks T (slots h) (segments_of_hart h es) (ends h))
         → ((b : ℕ) → IsLogged (banks b) (share_of bank_of b (accesses es)))
-        → TellsWorld bank_of (table_run T w (turns es)) ends
+        → TellsWorld bank_of (table_run T w (segment_turns es)) ends
         (λ b. after_log (banks b) (share_of bank_of b (accesses es))) }
 {}
 
@@ -34,7 +34,7 @@ pub fn logs_merge<H>()
         (logs : ℕ → List LoggedSegment) (banks : ℕ → List LoggedAccess) (es : List LoggedSegment)
         → AreLogs bank_of T slots ends start logs banks → ((h : ℕ) → Rises Earlier (logs h)) → IsMatched bank_of logs banks
         → IsMerged logs es → TellsWorld bank_of w slots start
-        → TellsWorld bank_of (table_run T w (turns es)) ends (λ b. after_log (start b) (banks b)) }
+        → TellsWorld bank_of (table_run T w (segment_turns es)) ends (λ b. after_log (start b) (banks b)) }
 {}
 
 /// One list at most has the segments of all logs in their order.

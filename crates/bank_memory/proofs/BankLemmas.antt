@@ -11,11 +11,11 @@ use Rattle.mem_store.specs.Image.{image_memory}
 use Rattle.hart_reservations.specs.Marks.{Marks}
 use Rattle.hart_reservations.specs.Limit.{most_harts}
 use Rattle.bank_laws.specs.declared.access.LoggedAccess.{LoggedAccess}
-use Rattle.bank_laws.specs.Banks.{WordBytes, BankState, is_store, with_word, marks_after, after_access, after_log, Finds, IsLogged}
-use Rattle.bank_table.specs.Words.{bytes_at}
-use Rattle.bank_runs.specs.Merged.{bank_of, first_bank}
-use Rattle.bank_memory.specs.BankLog.{Fits, IsOfBank}
-use Rattle.bank_memory.specs.Stored.{value_in, StoresAt, HoldsIn}
+use Rattle.bank_laws.specs.Banks.{WordBytes, BankState, is_store, with_word_bytes, marks_after, after_access, after_log, Finds, IsLogged}
+use Rattle.bank_laws.specs.Words.{bytes_at}
+use Rattle.bank_laws.specs.Merged.{bank_of, first_bank}
+use Rattle.bank_memory.specs.BankLog.{FitsBank, IsOfBank}
+use Rattle.bank_memory.specs.Stored.{value_in, StoresAt, BankHolds}
 use Rattle.bank_memory.proofs.OrderLemmas.{rises_push, rises_none, rises_is}
 
 -- ---- one access more
@@ -47,11 +47,11 @@ values_push image old new b a x e stores =
     let first = bytes_at (image_memory image).bytes x in
     ap (λ (o : Option WordBytes). unwrap_or o first) (stores x)
     ∙ value_stored (is_store a.kind) (x == a.word) (tree.get nat_cmp old x) first a.after (b.values x) e
-    ∙ if_apply (is_store a.kind) (with_word b.values a.word a.after) b.values x
+    ∙ if_apply (is_store a.kind) (with_word_bytes b.values a.word a.after) b.values x
 
 pub holds_push : (image : ImageValue) (inputs : List ℕ) (number : ℕ) (log : List LoggedAccess) (old new : BTreeMap ℕ WordBytes) (held held' : Marks) (a : LoggedAccess)
-    → HoldsIn image inputs number log old held → Fits (record { image = image; inputs = inputs; number = number; log = log }) a
-    → StoresAt true old new a → held' ≡ marks_after a.kind held a.hart a.word → HoldsIn image inputs number (log ++ a ∷ []) new held'
+    → BankHolds image inputs number log old held → FitsBank (record { image = image; inputs = inputs; number = number; log = log }) a
+    → StoresAt true old new a → held' ≡ marks_after a.kind held a.hart a.word → BankHolds image inputs number (log ++ a ∷ []) new held'
 holds_push image inputs number log old new held held' a h f stores e = record {
   harts = h.harts;
   values = λ x. values_push image old new (after_log (first_bank image) log) a x (h.values x) stores ∙ ap (λ (s : BankState). s.values x) (sym (after_push (first_bank image) log a));
@@ -63,7 +63,7 @@ holds_push image inputs number log old new held held' a h f stores e = record {
 
 -- ---- out of memory
 pub holds_still : (image : ImageValue) (inputs : List ℕ) (number : ℕ) (log : List LoggedAccess) (old new : BTreeMap ℕ WordBytes) (held : Marks) (a : LoggedAccess)
-    → HoldsIn image inputs number log old held → StoresAt false old new a → HoldsIn image inputs number log new held
+    → BankHolds image inputs number log old held → StoresAt false old new a → BankHolds image inputs number log new held
 holds_still image inputs number log old new held a h stores = record {
   harts = h.harts;
   values = λ x. ap (λ (o : Option WordBytes). unwrap_or o (bytes_at (image_memory image).bytes x)) (stores x) ∙ h.values x;
@@ -78,7 +78,7 @@ nothing_there : (m : BTreeMap ℕ WordBytes) (x : ℕ) → tree.IsEmpty m → tr
 nothing_there m x e = rw e refl
 
 pub holds_first : (image : ImageValue) (inputs : List ℕ) (number : ℕ) (changed : BTreeMap ℕ WordBytes) (held : Marks)
-    → length inputs ≤ most_harts → tree.IsEmpty changed → held ≡ (λ h. None) → HoldsIn image inputs number [] changed held
+    → length inputs ≤ most_harts → tree.IsEmpty changed → held ≡ (λ h. None) → BankHolds image inputs number [] changed held
 holds_first image inputs number changed held few empty none = record {
   harts = few;
   values = λ x. ap (λ (o : Option WordBytes). unwrap_or o (bytes_at (image_memory image).bytes x)) (nothing_there changed x empty);
@@ -90,5 +90,5 @@ holds_first image inputs number changed held few empty none = record {
 
 -- ---- what every bank keeps
 pub is_of_bank : (image : ImageValue) (inputs : List ℕ) (number : ℕ) (log : List LoggedAccess) (changed : BTreeMap ℕ WordBytes) (held : Marks)
-    → HoldsIn image inputs number log changed held → IsOfBank (record { image = image; inputs = inputs; number = number; log = log })
+    → BankHolds image inputs number log changed held → IsOfBank (record { image = image; inputs = inputs; number = number; log = log })
 is_of_bank image inputs number log changed held h = record { of_bank = h.of_bank; order = rises_is log h.order; logged = h.logged }

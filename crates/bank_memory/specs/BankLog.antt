@@ -5,7 +5,7 @@ use Rattle.image.specs.Image.{ImageValue}
 use Rattle.bank_laws.specs.declared.access.LoggedAccess.{LoggedAccess}
 use Rattle.bank_laws.specs.Banks.{BankState, after_log, Finds, IsLogged}
 use Rattle.bank_laws.specs.Order.{Rises, Before}
-use Rattle.bank_runs.specs.Merged.{bank_of, first_bank}
+use Rattle.bank_laws.specs.Merged.{bank_of, first_bank}
 use Rattle.bank_memory.specs.Rising.{may_follow}
 use Rattle.bank_memory.specs.declared.bank.AddFault.{AddFault}
 use Rattle.bank_memory.specs.declared.bank.AddFault.TheVariants.{Mismatch, Memory}
@@ -23,7 +23,7 @@ state_of b = after_log (first_bank b.image) b.log
 
 -- an access may come next: it is to a word of the bank, by one of the program's harts, has found
 -- what the bank has, and comes after all accesses before it
-pub record Fits (b : BankLog) (a : LoggedAccess) : Type 0 where
+pub record FitsBank (b : BankLog) (a : LoggedAccess) : Type 0 where
   pub word : a.word % 4 ≡ 0
   pub bank : bank_of a.word ≡ b.number
   pub hart : a.hart < length b.inputs
@@ -31,13 +31,13 @@ pub record Fits (b : BankLog) (a : LoggedAccess) : Type 0 where
   pub follows : may_follow b.log a ≡ true
 
 -- the bank with one more access
-abbrev pub taken : BankLog → LoggedAccess → BankLog
-taken b a = record b { log = b.log ++ a ∷ [] }
+abbrev pub bank_with_access : BankLog → LoggedAccess → BankLog
+bank_with_access b a = record b { log = b.log ++ a ∷ [] }
 
 -- why an access is not logged
-abbrev pub Refuses : BankLog → LoggedAccess → AddFault → Type 0
-Refuses b a Mismatch = Fits b a → ⊥
-Refuses b a Memory = Fits b a
+abbrev pub RefusesAccess : BankLog → LoggedAccess → AddFault → Type 0
+RefusesAccess b a Mismatch = FitsBank b a → ⊥
+RefusesAccess b a Memory = FitsBank b a
 
 -- all accesses are to words of the bank, in order, and each has found what those before it left
 pub record IsOfBank (b : BankLog) : Type 0 where

@@ -13,10 +13,10 @@ next_stamp own banks =
     if nat_lt (greatest own banks + 1) (2 ^ 64 - 1) then Some (greatest own banks + 1) else None
 
 -- the stamp of an access, 0 if there is none
-abbrev pub stamp_of : Option LoggedAccess → ℕ
-stamp_of None = 0
-stamp_of (Some a) = a.stamp
+abbrev pub access_stamp : Option LoggedAccess → ℕ
+access_stamp None = 0
+access_stamp (Some a) = a.stamp
 
 -- the stamp of the last access, 0 if there is none
-abbrev pub last_stamp : List LoggedAccess → ℕ
-last_stamp log = stamp_of (slice_get log (length log - 1))
+abbrev pub last_access_stamp : List LoggedAccess → ℕ
+last_access_stamp log = access_stamp (slice_get log (length log - 1))

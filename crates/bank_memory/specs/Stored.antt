@@ -11,8 +11,8 @@ use Rattle.hart_reservations.specs.Marks.{Marks}
 use Rattle.hart_reservations.specs.Limit.{most_harts}
 use Rattle.bank_laws.specs.declared.access.LoggedAccess.{LoggedAccess}
 use Rattle.bank_laws.specs.Banks.{WordBytes, is_store, after_log, IsLogged}
-use Rattle.bank_table.specs.Words.{bytes_at}
-use Rattle.bank_runs.specs.Merged.{bank_of, first_bank}
+use Rattle.bank_laws.specs.Words.{bytes_at}
+use Rattle.bank_laws.specs.Merged.{bank_of, first_bank}
 use Rattle.bank_memory.specs.Rising.{rises}
 
 -- the bytes of a word
@@ -30,7 +30,7 @@ StoresAt true old new a = (x : ℕ) → tree.get nat_cmp new x ≡ stored_at old
 StoresAt false old new a = (x : ℕ) → tree.get nat_cmp new x ≡ tree.get nat_cmp old x
 
 -- bytes and marks are the log's, whose accesses are the bank's, in order, and found what was there
-pub record HoldsIn (image : ImageValue) (inputs : List ℕ) (number : ℕ) (log : List LoggedAccess) (changed : BTreeMap ℕ WordBytes) (held : Marks) : Type 0 where
+pub record BankHolds (image : ImageValue) (inputs : List ℕ) (number : ℕ) (log : List LoggedAccess) (changed : BTreeMap ℕ WordBytes) (held : Marks) : Type 0 where
   pub harts : length inputs ≤ most_harts
   pub values : (x : ℕ) → value_in image changed x ≡ (after_log (first_bank image) log).values x
   pub marks : held ≡ (after_log (first_bank image) log).marks

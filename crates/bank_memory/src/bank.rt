@@ -5,10 +5,10 @@ ghost use Rattle.hart_reservations.specs.Limit.{most_harts};
 ghost use Rattle.hart_reservations.specs.Marks.{names};
 ghost use Rattle.hart_reservations.specs.Reserve.{marks};
 ghost use Rattle.bank_laws.specs.Banks.{marks_after, Finds};
-ghost use Rattle.bank_runs.specs.Merged.{most_banks};
-ghost use Rattle.bank_memory.specs.BankLog.{Fits, IsOfBank, Refuses, state_of, taken};
+ghost use Rattle.bank_laws.specs.Merged.{most_banks};
+ghost use Rattle.bank_memory.specs.BankLog.{FitsBank, IsOfBank, RefusesAccess, state_of, bank_with_access};
 ghost use Rattle.bank_memory.specs.declared.bank.AddFault.{AddFault};
-ghost use Rattle.bank_memory.specs.Stamps.{last_stamp};
+ghost use Rattle.bank_memory.specs.Stamps.{last_access_stamp};
 ghost use Rattle.bank_memory.specs.Stored.{value_in, StoresAt};
 
 use crate::order::may_follow;
@@ -49,7 +49,7 @@ pub struct Bank<'a, A: Allocator> {
 impl<'a, A: Allocator> Model for Bank<'a, A> {
     ghost use Rattle.hart_reservations.specs.Reserve.{marks};
     ghost use Rattle.bank_memory.specs.BankLog.{BankLog};
-    ghost use Rattle.bank_memory.specs.Stored.{HoldsIn};
+    ghost use Rattle.bank_memory.specs.Stored.{BankHolds};
 
     ghost Value = { BankLog };
 
@@ -60,7 +60,7 @@ impl<'a, A: Allocator> Model for Bank<'a, A> {
       log = b.log.items;
     } };
 
-    ghost invariant = { λ b. HoldsIn b.image.now b.inputs.now b.number b.log.items b.changed (marks b.held) };
+    ghost invariant = { λ b. BankHolds b.image.now b.inputs.now b.number b.log.items b.changed (marks b.held) };
 }
 
 impl<'a, A: Allocator> Bank<'a, A> {
@@ -139,7 +139,7 @@ impl<'a, A: Allocator> Bank<'a, A> {
 
     /// The stamp of the last access, and 0 before the first.
     pub fn last_stamp(&self) -> u64
-        ensures { result ≡ last_stamp self.now.log }
+        ensures { result ≡ last_access_stamp self.now.log }
     {
         match self.log.last() {
             Some(access) => access.stamp,
@@ -150,7 +150,7 @@ impl<'a, A: Allocator> Bank<'a, A> {
     // Whether an access that finds the bank's bytes and mark may come next.
     fn fits_found(&self, access: &LoggedAccess) -> bool
         requires { Finds (state_of self.now) access.now }
-        ensures { (result ≡ true) ↔ Fits self.now access.now }
+        ensures { (result ≡ true) ↔ FitsBank self.now access.now }
     {
         access.word % 4 == 0
             && access.word / 4 % BANKS == self.number
@@ -160,7 +160,7 @@ impl<'a, A: Allocator> Bank<'a, A> {
 
     // Whether an access may come next.
     fn fits(&self, access: &LoggedAccess) -> bool
-        ensures { (result ≡ true) ↔ Fits self.now access.now }
+        ensures { (result ≡ true) ↔ FitsBank self.now access.now }
     {
         if access.hart as usize >= self.inputs.len() {
             return false;
@@ -178,8 +178,8 @@ impl<'a, A: Allocator> Bank<'a, A> {
     fn take(&mut self, access: LoggedAccess) -> Result<(), AddFault>
     where
         A: Clone,
-        requires { Fits self.old access }
-        ensures ok { OnOk result (self.new ≡ taken self.old access) }
+        requires { FitsBank self.old access }
+        ensures ok { OnOk result (self.new ≡ bank_with_access self.old access) }
         ensures fault { IfErr result (λ fault. fault ≡ AddFault.Memory) }
         ensures err { OnErr result (self.new ≡ self.old) }
     {
@@ -198,8 +198,8 @@ impl<'a, A: Allocator> Bank<'a, A> {
     pub fn add(&mut self, access: LoggedAccess) -> Result<(), AddFault>
     where
         A: Clone,
-        ensures ok { OnOk result (Fits self.old access × (self.new ≡ taken self.old access)) }
-        ensures fault { IfErr result (λ fault. Refuses self.old access fault) }
+        ensures ok { OnOk result (FitsBank self.old access × (self.new ≡ bank_with_access self.old access)) }
+        ensures fault { IfErr result (λ fault. RefusesAccess self.old access fault) }
         ensures err { OnErr result (self.new ≡ self.old) }
     {
         if !self.fits(&access) {
@@ -214,8 +214,8 @@ impl<'a, A: Allocator> Bank<'a, A> {
     where
         A: Clone,
         requires { Finds (state_of self.old) access }
-        ensures ok { OnOk result (Fits self.old access × (self.new ≡ taken self.old access)) }
-        ensures fault { IfErr result (λ fault. Refuses self.old access fault) }
+        ensures ok { OnOk result (FitsBank self.old access × (self.new ≡ bank_with_access self.old access)) }
+        ensures fault { IfErr result (λ fault. RefusesAccess self.old access fault) }
         ensures err { OnErr result (self.new ≡ self.old) }
     {
         if !self.fits_found(&access) {

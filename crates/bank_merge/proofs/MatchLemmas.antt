@@ -10,11 +10,11 @@ use Rattle.std.proofs.lemmas.Bool.{or_cases, and_parts, and_from, or_left, or_ri
 use Rattle.bank_laws.specs.declared.access.LoggedAccess.{LoggedAccess}
 use Rattle.bank_laws.specs.Segments.{accesses}
 use Rattle.bank_laws.specs.Order.{In, IsMatched}
-use Rattle.bank_runs.specs.Merged.{bank_of}
+use Rattle.bank_laws.specs.Merged.{bank_of}
 use Rattle.bank_hart_log.specs.HartLog.{HartLogValue}
 use Rattle.bank_memory.specs.BankLog.{BankLog, IsOfBank}
 use Rattle.bank_merge.specs.Logs.{bank_log, hart_log, AreNumbered}
-use Rattle.bank_merge.specs.Matching.{access_cmp, are_in, bank_accesses, hart_accesses, is_among, is_in, Covers}
+use Rattle.bank_merge.specs.Matching.{access_cmp, are_in, bank_accesses, hart_accesses, is_among, has_access, HasAllOf}
 use Rattle.bank_merge.proofs.OrderLemmas.{exact, tied}
 
 is_equal : (o : Ordering) → is_eq o ≡ true → o ≡ Equal
@@ -34,22 +34,26 @@ among_in (x ∷ xs) a e = ⊎_elim
     (λ (q : is_among xs a ≡ true). inr (among_in xs a q))
     (or_cases (eq_by_cmp access_cmp x a) (is_among xs a) e)
 
-all_in : (set : BTreeSet LoggedAccess) (xs : List LoggedAccess) → ((a : LoggedAccess) → In a xs → is_in set a ≡ true) → are_in set xs ≡ true
+all_in : (set : BTreeSet LoggedAccess) (xs : List LoggedAccess) → ((a : LoggedAccess) → In a xs → has_access set a ≡ true) → are_in set xs ≡ true
 all_in set [] f = refl
-all_in set (x ∷ xs) f = and_from (is_in set x) (are_in set xs) (f x (inl refl)) (all_in set xs (λ a i. f a (inr i)))
+all_in set (x ∷ xs) f = and_from (has_access set x) (are_in set xs) (f x (inl refl)) (all_in set xs (λ a i. f a (inr i)))
 
-in_all : (set : BTreeSet LoggedAccess) (xs : List LoggedAccess) → are_in set xs ≡ true → (a : LoggedAccess) → In a xs → is_in set a ≡ true
+in_all : (set : BTreeSet LoggedAccess) (xs : List LoggedAccess) → are_in set xs ≡ true → (a : LoggedAccess) → In a xs → has_access set a ≡ true
 in_all set [] e a i = absurd i
-in_all set (x ∷ xs) e a (inl q) = ap (is_in set) q ∙ (and_parts (is_in set x) (are_in set xs) e).0
-in_all set (x ∷ xs) e a (inr i) = in_all set xs (and_parts (is_in set x) (are_in set xs) e).1 a i
+in_all set (x ∷ xs) e a (inl q) = ap (has_access set) q ∙ (and_parts (has_access set x) (are_in set xs) e).0
+in_all set (x ∷ xs) e a (inr i) = in_all set xs (and_parts (has_access set x) (are_in set xs) e).1 a i
 
 -- a set that has one list's accesses has all of another exactly where the list covers it
-pub covers_test : (set : BTreeSet LoggedAccess) (xs ys : List LoggedAccess) (r : Bool) → ((a : LoggedAccess) → is_in set a ≡ is_among ys a) → r ≡ are_in set xs
-    → (r ≡ true) ↔ Covers xs ys
+pub covers_test : (set : BTreeSet LoggedAccess) (xs ys : List LoggedAccess) (r : Bool) → ((a : LoggedAccess) → has_access set a ≡ is_among ys a) → r ≡ are_in set xs
+    → (r ≡ true) ↔ HasAllOf xs ys
 covers_test set xs ys r has is = (
   λ e a i. among_in ys a (sym (has a) ∙ in_all set xs (sym is ∙ e) a i),
   λ covers. is ∙ all_in set xs (λ a i. has a ∙ in_among ys a (covers a i)),
 )
+
+-- the same of equal lists
+pub has_all_of : (xs ys vs ws : List LoggedAccess) → xs ≡ vs → ys ≡ ws → HasAllOf vs ws → HasAllOf xs ys
+has_all_of xs ys vs ws e f all a i = subst (In a) (sym f) (all a (subst (In a) e i))
 
 -- ---- lists one after another
 in_parts : {X : Type 0} (xs ys : List X) (a : X) → In a (xs ++ ys) → In a xs ⊎ In a ys
@@ -120,17 +124,17 @@ its_bank banks keep numbered b a i = ⊎_elim
     none j = j
 
 pub matched_if : (logs : List HartLogValue) (banks : List BankLog) → ((b : ℕ) (k : BankLog) → slice_get banks b ≡ Some k → IsOfBank k) → AreNumbered banks
-    → Covers (hart_accesses logs) (bank_accesses banks) → Covers (bank_accesses banks) (hart_accesses logs) → IsMatched bank_of (hart_log logs) (bank_log banks)
+    → HasAllOf (hart_accesses logs) (bank_accesses banks) → HasAllOf (bank_accesses banks) (hart_accesses logs) → IsMatched bank_of (hart_log logs) (bank_log banks)
 matched_if logs banks keep numbered there back = record {
   in_bank = λ h a i. let p = in_bank banks a (there a (hart_in logs h a i)) in
       subst (λ (b : ℕ). In a (bank_log banks b)) (sym (its_bank banks keep numbered p.0 a p.1)) p.1;
   in_log = λ b a i. in_hart logs a (back a (bank_in banks b a i));
 }
 
-pub there_if : (logs : List HartLogValue) (banks : List BankLog) → IsMatched bank_of (hart_log logs) (bank_log banks) → Covers (hart_accesses logs) (bank_accesses banks)
+pub there_if : (logs : List HartLogValue) (banks : List BankLog) → IsMatched bank_of (hart_log logs) (bank_log banks) → HasAllOf (hart_accesses logs) (bank_accesses banks)
 there_if logs banks matched a i = let p = in_hart logs a i in bank_in banks (bank_of a.word) a (matched.in_bank p.0 a p.1)
 
-pub back_if : (logs : List HartLogValue) (banks : List BankLog) → IsMatched bank_of (hart_log logs) (bank_log banks) → Covers (bank_accesses banks) (hart_accesses logs)
+pub back_if : (logs : List HartLogValue) (banks : List BankLog) → IsMatched bank_of (hart_log logs) (bank_log banks) → HasAllOf (bank_accesses banks) (hart_accesses logs)
 back_if logs banks matched a i = let p = in_bank banks a i in let q = matched.in_log p.0 a p.1 in hart_in logs q.0 a q.1
 
 -- what was seen of the items so far, with one more

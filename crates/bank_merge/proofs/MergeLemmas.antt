@@ -12,13 +12,13 @@ use Rattle.bank_laws.specs.declared.access.LoggedAccess.{LoggedAccess}
 use Rattle.bank_laws.specs.Banks.{IsLogged}
 use Rattle.bank_laws.specs.Segments.{LoggedSegment, Walks}
 use Rattle.bank_laws.specs.Order.{Rises, Earlier, Before, AreLogs, IsMerged}
-use Rattle.bank_table.specs.Table.{table}
-use Rattle.bank_runs.specs.Merged.{bank_of, first_slot, first_bank, choices_of}
-use Rattle.bank_order.specs.Logs.{logs_of}
+use Rattle.bank_laws.specs.Table.{table}
+use Rattle.bank_laws.specs.Merged.{bank_of, first_slot, first_bank, segment_choices}
+use Rattle.bank_order.specs.Logs.{segment_logs}
 use Rattle.bank_order.specs.Weaving.{log_of, woven_with}
 use Rattle.bank_order.proofs.MergedLemmas.{woven_is_merged}
-use Rattle.bank_choices.specs.Merged.{LeadsTo}
-use Rattle.bank_choices.proofs.MergedLemmas.{leads as all_lead}
+use Rattle.bank_order.specs.Merged.{LeadsToLogged}
+use Rattle.bank_order.proofs.ChoiceLemmas.{leads as all_lead}
 use Rattle.bank_hart_log.specs.HartLog.{HartLogValue, IsOfHart, slot_in, image_table}
 use Rattle.bank_memory.specs.BankLog.{BankLog, IsOfBank}
 use Rattle.bank_merge.specs.Logs.{bank_log, hart_log, segments_of_all, AreNumbered, AreOf, AreOfOne, StampsRise}
@@ -65,13 +65,13 @@ all_rising logs i full so_far = (
 -- ---- the logs that are referred to
 pub more_logs : (out more : List (Bor (List LoggedSegment))) (logs : List HartLogValue) (i : ℕ) (x : HartLogValue) (v : Bor (List LoggedSegment))
     → i < length logs → x ≡ slice_index_or logs i x → v.now ≡ x.log → more ≡ out ++ v ∷ []
-    → logs_of out ++ segments_of_all (drop i logs) ≡ segments_of_all logs → logs_of more ++ segments_of_all (drop (i + 1) logs) ≡ segments_of_all logs
+    → segment_logs out ++ segments_of_all (drop i logs) ≡ segments_of_all logs → segment_logs more ++ segments_of_all (drop (i + 1) logs) ≡ segments_of_all logs
 more_logs out more logs i x v low is its pushed so_far =
-    ap (λ (vs : List (Bor (List LoggedSegment))). logs_of vs ++ segments_of_all (drop (i + 1) logs)) pushed
+    ap (λ (vs : List (Bor (List LoggedSegment))). segment_logs vs ++ segments_of_all (drop (i + 1) logs)) pushed
     ∙ ap (λ (l : List (List LoggedSegment)). l ++ segments_of_all (drop (i + 1) logs)) (map-append (λ (w : Bor (List LoggedSegment)). w.now) out (v ∷ []))
-    ∙ append_assoc (logs_of out) (v.now ∷ []) (segments_of_all (drop (i + 1) logs))
-    ∙ ap (λ (es : List LoggedSegment). logs_of out ++ es ∷ segments_of_all (drop (i + 1) logs)) its
-    ∙ ap (λ (ls : List HartLogValue). logs_of out ++ segments_of_all ls) (sym (drop_item logs i x low is))
+    ∙ append_assoc (segment_logs out) (v.now ∷ []) (segments_of_all (drop (i + 1) logs))
+    ∙ ap (λ (es : List LoggedSegment). segment_logs out ++ es ∷ segments_of_all (drop (i + 1) logs)) its
+    ∙ ap (λ (ls : List HartLogValue). segment_logs out ++ segments_of_all ls) (sym (drop_item logs i x low is))
     ∙ so_far
 
 -- ---- what logs keep, by their places
@@ -127,7 +127,7 @@ pub numbered_of : (logs : List HartLogValue) (banks : List BankLog) → AreOfOne
 numbered_of logs banks one b k at = (one.are.of_banks b k at).number
 
 pub ends_of : (logs : List HartLogValue) (banks : List BankLog) (choices : List Choice) → ((h : ℕ) (l : HartLogValue) → slice_get logs h ≡ Some l → IsOfHart l)
-    → ((b : ℕ) (k : BankLog) → slice_get banks b ≡ Some k → IsOfBank k) → AreMatched logs banks → LeadsTo (segments_of_all logs) choices → EndsAsLogged logs banks choices
+    → ((b : ℕ) (k : BankLog) → slice_get banks b ≡ Some k → IsOfBank k) → AreMatched logs banks → LeadsToLogged (segments_of_all logs) choices → EndsAsLogged logs banks choices
 ends_of logs banks choices walked kept matched leads image inputs are =
     let few : length (segments_of_all logs) ≤ length inputs = (let e = length-map logs (λ (l : HartLogValue). l.log) in let f = are.harts in omega (arith, e, f)) in
     leads image inputs (slots image inputs logs) (bank_log banks) are.entry few (are_logs image inputs logs banks are walked kept) matched
@@ -140,12 +140,12 @@ one_run logs banks one walked kept matched rising =
     let segments = woven_with [] all in
     let merged : IsMerged (log_of all) segments = woven_is_merged all (own_of logs banks one walked kept) rising in
     record {
-      choices = choices_of segments;
+      choices = segment_choices segments;
       merged = record { segments = segments; merged = merged; are = refl };
-      ends = ends_of logs banks (choices_of segments) walked kept matched (all_lead all segments (choices_of segments) merged refl rising);
+      ends = ends_of logs banks (segment_choices segments) walked kept matched (all_lead all segments (segment_choices segments) merged refl rising);
     }
 
 -- what is said of the logs is said of what refers to them
-pub of_seen : (P : List (List LoggedSegment) → Type 0) (all : List (Bor (List LoggedSegment))) (logs : List HartLogValue) → logs_of all ≡ segments_of_all logs
-    → P (segments_of_all logs) → P (logs_of all)
+pub of_seen : (P : List (List LoggedSegment) → Type 0) (all : List (Bor (List LoggedSegment))) (logs : List HartLogValue) → segment_logs all ≡ segments_of_all logs
+    → P (segments_of_all logs) → P (segment_logs all)
 of_seen P all logs is p = subst P (sym is) p

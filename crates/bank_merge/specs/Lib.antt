@@ -1,3 +1,4 @@
 pub mod Logs
 pub mod Matching
 pub mod Merge
+pub mod AccessOrder

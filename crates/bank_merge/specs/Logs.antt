@@ -4,7 +4,7 @@ use Rattle.image.specs.Image.{ImageValue}
 use Rattle.bank_laws.specs.declared.access.LoggedAccess.{LoggedAccess}
 use Rattle.bank_laws.specs.Segments.{LoggedSegment}
 use Rattle.bank_laws.specs.Order.{Rises, Earlier}
-use Rattle.bank_runs.specs.Merged.{most_banks}
+use Rattle.bank_laws.specs.Merged.{most_banks}
 use Rattle.bank_order.specs.Weaving.{log_of}
 use Rattle.bank_hart_log.specs.HartLog.{HartLogValue}
 use Rattle.bank_memory.specs.BankLog.{BankLog}

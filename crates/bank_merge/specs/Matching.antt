@@ -16,8 +16,8 @@ abbrev pub access_cmp : LoggedAccess → LoggedAccess → Ordering
 access_cmp = (access_ord.ghosts).cmp
 
 -- whether a set has an access
-abbrev pub is_in : BTreeSet LoggedAccess → LoggedAccess → Bool
-is_in set a = sorted.contains access_cmp set a
+abbrev pub has_access : BTreeSet LoggedAccess → LoggedAccess → Bool
+has_access set a = sorted.contains access_cmp set a
 
 -- whether a list has it
 abbrev pub is_among : List LoggedAccess → LoggedAccess → Bool
@@ -27,11 +27,11 @@ is_among (x ∷ xs) a = eq_by_cmp access_cmp x a || is_among xs a
 -- whether a set has all of a list
 abbrev pub are_in : BTreeSet LoggedAccess → List LoggedAccess → Bool
 are_in set [] = true
-are_in set (x ∷ xs) = is_in set x && are_in set xs
+are_in set (x ∷ xs) = has_access set x && are_in set xs
 
 -- another list has all elements of a list
-abbrev pub Covers : List LoggedAccess → List LoggedAccess → Type 0
-Covers xs ys = (a : LoggedAccess) → In a xs → In a ys
+abbrev pub HasAllOf : List LoggedAccess → List LoggedAccess → Type 0
+HasAllOf xs ys = (a : LoggedAccess) → In a xs → In a ys
 
 -- the accesses of all banks
 abbrev pub bank_accesses : List BankLog → List LoggedAccess

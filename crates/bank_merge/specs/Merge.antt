@@ -8,8 +8,8 @@ use Rattle.machine.specs.declared.choice.Choice.{Choice}
 use Rattle.bank_laws.specs.Banks.{after_log}
 use Rattle.bank_laws.specs.Segments.{HartSlot}
 use Rattle.bank_laws.specs.Order.{IsMatched}
-use Rattle.bank_runs.specs.Merged.{bank_of, first_bank, EndsIn}
-use Rattle.bank_choices.specs.Merged.{IsMergeOf}
+use Rattle.bank_laws.specs.Merged.{bank_of, first_bank, EndsIn}
+use Rattle.bank_order.specs.Merged.{IsMergeOf}
 use Rattle.bank_memory.specs.BankLog.{BankLog}
 use Rattle.bank_hart_log.specs.HartLog.{HartLogValue, slot_in}
 use Rattle.bank_merge.specs.Logs.{bank_log, hart_log, segments_of_all, AreOf, StampsRise}
@@ -37,7 +37,7 @@ pub record AreOneRun (logs : List HartLogValue) (banks : List BankLog) : Type 0 
   pub ends : EndsAsLogged logs banks choices
 
 -- why logs are not merged
-abbrev pub Refuses : List HartLogValue → List BankLog → MergeFault → Type 0
-Refuses logs banks Unmatched = AreMatched logs banks → ⊥
-Refuses logs banks OutOfOrder = AreMatched logs banks × (StampsRise logs → ⊥)
-Refuses logs banks Memory = Unit {0}
+abbrev pub RefusesLogs : List HartLogValue → List BankLog → MergeFault → Type 0
+RefusesLogs logs banks Unmatched = AreMatched logs banks → ⊥
+RefusesLogs logs banks OutOfOrder = AreMatched logs banks × (StampsRise logs → ⊥)
+RefusesLogs logs banks Memory = Unit {0}

@@ -3,17 +3,16 @@ ghost use Rattle.std.specs.Prelude.{◌≡◌, ◌↔◌, ℕ, true, IfOk, IfErr
 ghost use Rattle.std.specs.List.{AllByRecursion};
 ghost use Rattle.bank_laws.specs.Order.{Rises, Earlier};
 ghost use Rattle.bank_laws.specs.Segments.{LoggedSegment};
-ghost use Rattle.bank_order.specs.Logs.{logs_of};
-ghost use Rattle.bank_choices.specs.Merged.{IsMergeOf, LeadsTo};
+ghost use Rattle.bank_order.specs.Logs.{segment_logs};
+ghost use Rattle.bank_order.specs.Merged.{IsMergeOf, LeadsToLogged};
 ghost use Rattle.bank_merge.specs.Logs.{hart_log, segments_of_all, AreOfOne, StampsRise};
-ghost use Rattle.bank_merge.specs.Merge.{AreMatched, EndsAsLogged, Refuses};
+ghost use Rattle.bank_merge.specs.Merge.{AreMatched, EndsAsLogged, RefusesLogs};
 
 use crate::matching::is_matched;
 use crate::seen::{see_banks, see_harts};
-use bank_choices::choices_in_order;
 use bank_hart_log::HartLog;
 use bank_memory::Bank;
-use bank_order::{LogSegment, is_rising};
+use bank_order::{LogSegment, choices_in_order, is_rising};
 use machine::Choice;
 use std::alloc::{AllocError, Allocator};
 
@@ -41,7 +40,7 @@ pub fn merge<A: Allocator + Copy>(
     ensures rising { IfOk result (λ _. StampsRise logs.now) }
     ensures merged { IfOk result (λ choices. IsMergeOf (segments_of_all logs.now) choices.items) }
     ensures ends { IfOk result (λ choices. EndsAsLogged logs.now banks.now choices.items) }
-    ensures fault { IfErr result (λ fault. Refuses logs.now banks.now fault) }
+    ensures fault { IfErr result (λ fault. RefusesLogs logs.now banks.now fault) }
 {
     let Ok(matched) = is_matched(alloc, logs, banks) else {
         return Err(MergeFault::Memory);
@@ -96,7 +95,7 @@ fn choices_of<A: Allocator + Copy>(
     requires own { (h : ℕ) → AllByRecursion (λ e. e.hart ≡ h) (hart_log logs.now h) }
     requires rising { StampsRise logs.now }
     ensures merged { IfOk result (λ choices. IsMergeOf (segments_of_all logs.now) choices.items) }
-    ensures leads { IfOk result (λ choices. LeadsTo (segments_of_all logs.now) choices.items) }
+    ensures leads { IfOk result (λ choices. LeadsToLogged (segments_of_all logs.now) choices.items) }
 {
     let all = segments_of_all(alloc, logs)?;
     let choices = choices_in_order(alloc, &all)?;
@@ -108,7 +107,7 @@ fn segments_of_all<'l, 'a, A: Allocator + Copy>(
     alloc: A,
     logs: &'l [HartLog<'a, A>],
 ) -> Result<Vec<&'l [LogSegment], A>, AllocError>
-    ensures { IfOk result (λ all. logs_of all.items ≡ segments_of_all logs.now) }
+    ensures { IfOk result (λ all. segment_logs all.items ≡ segments_of_all logs.now) }
 {
     let mut all = Vec::new(alloc);
     'logs: for log in logs {

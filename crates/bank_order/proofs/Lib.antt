@@ -1,3 +1,4 @@
 pub mod WeavingLemmas
 pub mod MergedLemmas
 pub mod RisingLemmas
+pub mod ChoiceLemmas

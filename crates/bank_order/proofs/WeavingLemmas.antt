@@ -6,7 +6,7 @@ use Rattle.std.specs.Prelude.{◌⊎◌, slice_index_or, if◌then◌else◌}
 use Rattle.bank_laws.specs.Segments.{LoggedSegment}
 use Rattle.bank_laws.specs.Order.{In}
 use Rattle.bank_order.specs.Weaving.{comes_first, woven}
-use Rattle.bank_order.specs.Logs.{seen}
+use Rattle.bank_order.specs.Logs.{borrowed_segments}
 
 drop_there : (xs : List LoggedSegment) (i : ℕ) (d : LoggedSegment) → i < length xs → drop i xs ≡ slice_index_or xs i d ∷ drop (i + 1) xs
 drop_there [] i d low = absurd (omega (arith, low))
@@ -134,21 +134,21 @@ take_rest xs ys out both more all i j past so_far first second =
     ∙ ap (λ (l : List LoggedSegment). out ++ l) (sym (rest_of_both xs ys i j past)) ∙ so_far
 
 -- ---- segments that are referred to
-pub seen_low : (xs : List (Bor LoggedSegment)) (i : ℕ) → i < length xs → i < length (seen xs)
+pub seen_low : (xs : List (Bor LoggedSegment)) (i : ℕ) → i < length xs → i < length (borrowed_segments xs)
 seen_low xs i low = let e = length-map xs (λ (r : Bor LoggedSegment). r.now) in omega (arith, low, e)
 
-pub seen_past : (xs : List (Bor LoggedSegment)) (i : ℕ) → length xs ≤ i → length (seen xs) ≤ i
+pub seen_past : (xs : List (Bor LoggedSegment)) (i : ℕ) → length xs ≤ i → length (borrowed_segments xs) ≤ i
 seen_past xs i past = let e = length-map xs (λ (r : Bor LoggedSegment). r.now) in omega (arith, past, e)
 
-pub seen_at : (xs : List (Bor LoggedSegment)) (i : ℕ) (x : Bor LoggedSegment) → i < length xs → x ≡ slice_index_or xs i x → x.now ≡ slice_index_or (seen xs) i x.now
+pub seen_at : (xs : List (Bor LoggedSegment)) (i : ℕ) (x : Bor LoggedSegment) → i < length xs → x ≡ slice_index_or xs i x → x.now ≡ slice_index_or (borrowed_segments xs) i x.now
 seen_at [] i x low is = absurd (omega (arith, low))
 seen_at (y ∷ xs) zero x low is = ap (λ (r : Bor LoggedSegment). r.now) is
 seen_at (y ∷ xs) (suc i) x low is = seen_at xs i x (omega (arith, low)) is
 
-pub seen_push : (out more : List (Bor LoggedSegment)) (z : Bor LoggedSegment) → more ≡ out ++ z ∷ [] → seen more ≡ seen out ++ z.now ∷ []
-seen_push out more z e = ap seen e ∙ map-append (λ (r : Bor LoggedSegment). r.now) out (z ∷ [])
+pub seen_push : (out more : List (Bor LoggedSegment)) (z : Bor LoggedSegment) → more ≡ out ++ z ∷ [] → borrowed_segments more ≡ borrowed_segments out ++ z.now ∷ []
+seen_push out more z e = ap borrowed_segments e ∙ map-append (λ (r : Bor LoggedSegment). r.now) out (z ∷ [])
 
-pub seen_rest : (out more xs : List (Bor LoggedSegment)) (i : ℕ) → more ≡ out ++ drop i xs → seen more ≡ seen out ++ drop i (seen xs)
+pub seen_rest : (out more xs : List (Bor LoggedSegment)) (i : ℕ) → more ≡ out ++ drop i xs → borrowed_segments more ≡ borrowed_segments out ++ drop i (borrowed_segments xs)
 seen_rest out more xs i e =
-    ap seen e ∙ map-append (λ (r : Bor LoggedSegment). r.now) out (drop i xs)
-    ∙ ap (λ (l : List LoggedSegment). seen out ++ l) (sym (drop-map (λ (r : Bor LoggedSegment). r.now) i xs))
+    ap borrowed_segments e ∙ map-append (λ (r : Bor LoggedSegment). r.now) out (drop i xs)
+    ∙ ap (λ (l : List LoggedSegment). borrowed_segments out ++ l) (sym (drop-map (λ (r : Bor LoggedSegment). r.now) i xs))

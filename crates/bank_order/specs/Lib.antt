@@ -1,3 +1,4 @@
 pub mod Weaving
 pub mod Logs
 pub mod Rising
+pub mod Merged

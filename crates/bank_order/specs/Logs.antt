@@ -4,9 +4,9 @@ use Rattle.std.specs.Borrow.{Bor}
 use Rattle.bank_laws.specs.Segments.{LoggedSegment}
 
 -- the segments of each log
-abbrev pub logs_of : List (Bor (List LoggedSegment)) → List (List LoggedSegment)
-logs_of logs = map (λ log. log.now) logs
+abbrev pub segment_logs : List (Bor (List LoggedSegment)) → List (List LoggedSegment)
+segment_logs logs = map (λ log. log.now) logs
 
 -- the segments that are referred to
-abbrev pub seen : List (Bor LoggedSegment) → List LoggedSegment
-seen segments = map (λ e. e.now) segments
+abbrev pub borrowed_segments : List (Bor LoggedSegment) → List LoggedSegment
+borrowed_segments segments = map (λ e. e.now) segments

@@ -3,7 +3,7 @@ ghost use Rattle.std.specs.Prelude.{◌≡◌, ℕ, ◌++◌, [], drop, IfOk, On
 ghost use Rattle.std.specs.List.{AllByRecursion};
 ghost use Rattle.bank_laws.specs.Order.{Rises, Earlier, IsMerged};
 ghost use Rattle.bank_order.specs.Weaving.{comes_first, log_of, woven, woven_with};
-ghost use Rattle.bank_order.specs.Logs.{logs_of, seen};
+ghost use Rattle.bank_order.specs.Logs.{segment_logs, borrowed_segments};
 
 use crate::segment::LogSegment;
 use std::alloc::{AllocError, Allocator};
@@ -37,7 +37,7 @@ fn weave<'s, A: Allocator>(
     first: &[&'s LogSegment],
     second: &[&'s LogSegment],
 ) -> Result<Vec<&'s LogSegment, A>, AllocError>
-    ensures { IfOk result (λ out. seen out.items ≡ woven (seen first.now) (seen second.now)) }
+    ensures { IfOk result (λ out. borrowed_segments out.items ≡ woven (borrowed_segments first.now) (borrowed_segments second.now)) }
 {
     let mut out = Vec::new(alloc);
     let mut i = 0;
@@ -62,9 +62,9 @@ pub fn in_order<'s, A: Allocator + Copy>(
     alloc: A,
     logs: &[&'s [LogSegment]],
 ) -> Result<Vec<&'s LogSegment, A>, AllocError>
-    requires own { (h : ℕ) → AllByRecursion (λ e. e.hart ≡ h) (log_of (logs_of logs.now) h) }
-    requires rising { (h : ℕ) → Rises Earlier (log_of (logs_of logs.now) h) }
-    ensures { IfOk result (λ out. IsMerged (log_of (logs_of logs.now)) (seen out.items)) }
+    requires own { (h : ℕ) → AllByRecursion (λ e. e.hart ≡ h) (log_of (segment_logs logs.now) h) }
+    requires rising { (h : ℕ) → Rises Earlier (log_of (segment_logs logs.now) h) }
+    ensures { IfOk result (λ out. IsMerged (log_of (segment_logs logs.now)) (borrowed_segments out.items)) }
 {
     let out = all_woven(alloc, logs)?;
     Ok(out)
@@ -76,7 +76,7 @@ fn all_woven<'s, A: Allocator + Copy>(
     alloc: A,
     logs: &[&'s [LogSegment]],
 ) -> Result<Vec<&'s LogSegment, A>, AllocError>
-    ensures { IfOk result (λ out. seen out.items ≡ woven_with [] (logs_of logs.now)) }
+    ensures { IfOk result (λ out. borrowed_segments out.items ≡ woven_with [] (segment_logs logs.now)) }
 {
     let mut out = Vec::new(alloc);
     'logs: for log in logs {
@@ -90,7 +90,7 @@ fn references<'s, A: Allocator>(
     alloc: A,
     log: &'s [LogSegment],
 ) -> Result<Vec<&'s LogSegment, A>, AllocError>
-    ensures { IfOk result (λ out. seen out.items ≡ log.now) }
+    ensures { IfOk result (λ out. borrowed_segments out.items ≡ log.now) }
 {
     let mut out = Vec::new(alloc);
     'segments: for segment in log {

@@ -6,9 +6,9 @@ use Rattle.std.proofs.Math.Nat.{div-div-eq-div-mul, pow-suc}
 use Rattle.mem_store.specs.Memory.{Memory, granted, to_write, stored}
 use Rattle.mem_flat.specs.Blocks.{spelled, Puts}
 use Rattle.mem_flat.proofs.WriteLemmas.{spelled_in, spelled_out}
-use Rattle.bank_table.specs.Words.{bytes_at, with_four}
+use Rattle.bank_laws.specs.Words.{bytes_at, with_four}
 use Rattle.bank_step.specs.declared.words.Word.{Word}
-use Rattle.bank_step.specs.Told.{has_all, rights_told, told_memory, with_told}
+use Rattle.bank_step.specs.Told.{word_has_all, rights_told, told_memory, with_told}
 use Rattle.bank_step.proofs.RightsLemmas.{write_same, write_outside, write_nowhere}
 
 -- ---- one byte
@@ -70,7 +70,7 @@ digit_next k v rest e =
     ap (λ (r : ℕ). r / 256) e ∙ div-div-eq-div-mul v (256 ^ k) 256 ∙ ap (λ (p : ℕ). v / p) (sym (pow-suc 256 k) ∙ ap (λ (j : ℕ). 256 ^ j) (sym next))
 
 -- ---- a store
-pub puts_inside : (m : Memory) (code touched : Option Word) (w u : Word) (n a v : ℕ) → has_all w.address a n ≡ true → length w.bytes ≡ 4
+pub puts_inside : (m : Memory) (code touched : Option Word) (w u : Word) (n a v : ℕ) → word_has_all w.address a n ≡ true → length w.bytes ≡ 4
     → u.address ≡ w.address → u.bytes ≡ spelled n w.bytes (a - w.address) v → granted to_write m n a ≡ true
     → Puts n a v (told_memory m code touched (Some w)) (told_memory m code touched (Some u)) true
 puts_inside m code touched w u n a v e long same bytes given =
@@ -85,11 +85,11 @@ puts_inside m code touched w u n a v e long same bytes given =
       }),
     )
 
-pub puts_refused : (m : Memory) (code touched : Option Word) (w : Word) (n a v : ℕ) → has_all w.address a n ≡ true → granted to_write m n a ≡ false
+pub puts_refused : (m : Memory) (code touched : Option Word) (w : Word) (n a v : ℕ) → word_has_all w.address a n ≡ true → granted to_write m n a ≡ false
     → Puts n a v (told_memory m code touched (Some w)) (told_memory m code touched (Some w)) false
 puts_refused m code touched w n a v e given = (sym (write_same m code touched w n a e) ∙ given, refl)
 
-pub puts_outside : (m : Memory) (code touched : Option Word) (w : Word) (n a v : ℕ) → 0 < n → has_all w.address a n ≡ false
+pub puts_outside : (m : Memory) (code touched : Option Word) (w : Word) (n a v : ℕ) → 0 < n → word_has_all w.address a n ≡ false
     → Puts n a v (told_memory m code touched (Some w)) (told_memory m code touched (Some w)) false
 puts_outside m code touched w n a v some e = (write_outside m code touched w n a some e, refl)
 

@@ -4,8 +4,8 @@ use Rattle.std.specs.Prelude.{slice_index, slice_index_or}
 use Rattle.image.specs.Segment.{SegmentValue}
 use Rattle.mem_store.specs.Memory.{grants, granted, all_below, to_write}
 use Rattle.mem_store.specs.Image.{segments_memory, segment_at, byte_in, rights_in}
-use Rattle.bank_table.specs.Table.{is_unwritable}
-use Rattle.bank_table.specs.Words.{bytes_at}
+use Rattle.bank_laws.specs.Table.{is_unwritable}
+use Rattle.bank_laws.specs.Words.{bytes_at}
 
 abbrev pub AllIn : List SegmentValue → ℕ → ℕ → SegmentValue → Type 0
 AllIn ss address n s = (k : ℕ) → k < n → segment_at ss (address + k) ≡ Some s

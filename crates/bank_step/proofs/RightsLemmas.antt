@@ -7,7 +7,7 @@ use Rattle.std.proofs.lemmas.Nat.{and_mask}
 use Rattle.mem_store.specs.Memory.{Memory, to_execute, to_load, to_write, grants, all_below, granted}
 use Rattle.mem_flat.proofs.ReadLemmas.{all_below_fails}
 use Rattle.bank_step.specs.declared.words.Word.{Word}
-use Rattle.bank_step.specs.Told.{is_in, has_all, without_write, rights_told, told_memory}
+use Rattle.bank_step.specs.Told.{is_in_word, word_has_all, without_write, rights_told, told_memory}
 
 -- ---- rights of one byte
 -- what may be written may be loaded
@@ -59,13 +59,13 @@ all_same (suc n) f g e = ap₂ (λ (a b : Bool). a && b) (all_same n f g (λ k l
 
 pub execute_same : (m : Memory) (code touched target : Option Word) (n a : ℕ) → granted to_execute m n a ≡ granted to_execute (told_memory m code touched target) n a
 execute_same m code touched target n a =
-    all_same n _ _ (λ k low. sym (either_way to_execute (is_in target (a + k)) (m.rights (a + k)) (execute_stays (m.rights (a + k)))))
+    all_same n _ _ (λ k low. sym (either_way to_execute (is_in_word target (a + k)) (m.rights (a + k)) (execute_stays (m.rights (a + k)))))
 
 pub load_same : (m : Memory) (code touched target : Option Word) (n a : ℕ) → granted to_load m n a ≡ granted to_load (told_memory m code touched target) n a
 load_same m code touched target n a =
-    all_same n _ _ (λ k low. sym (either_way to_load (is_in target (a + k)) (m.rights (a + k)) (load_stays (m.rights (a + k)))))
+    all_same n _ _ (λ k low. sym (either_way to_load (is_in_word target (a + k)) (m.rights (a + k)) (load_stays (m.rights (a + k)))))
 
-inside : (first a n k : ℕ) → has_all first a n ≡ true → k < n → (nat_le first (a + k) && nat_lt (a + k) (first + 4)) ≡ true
+inside : (first a n k : ℕ) → word_has_all first a n ≡ true → k < n → (nat_le first (a + k) && nat_lt (a + k) (first + 4)) ≡ true
 inside first a n k e low =
     let both = and_parts (nat_le first a) (nat_le (a + n) (first + 4)) e in
     let above = leb-true first a both.0 in
@@ -73,16 +73,16 @@ inside first a n k e low =
     and_from (nat_le first (a + k)) (nat_lt (a + k) (first + 4)) (le-leb first (a + k) (omega (arith, above))) (lt-ltb (a + k) (first + 4) (omega (arith, below, low)))
 
 -- inside the writable word the image's write rights hold
-pub write_same : (m : Memory) (code touched : Option Word) (w : Word) (n a : ℕ) → has_all w.address a n ≡ true
+pub write_same : (m : Memory) (code touched : Option Word) (w : Word) (n a : ℕ) → word_has_all w.address a n ≡ true
     → granted to_write m n a ≡ granted to_write (told_memory m code touched (Some w)) n a
 write_same m code touched w n a e =
     all_same n _ _ (λ k low. rw (inside w.address a n k e low) refl)
 
 -- none elsewhere
-outside_one : (m : Memory) (target : Option Word) (x : ℕ) → is_in target x ≡ false → grants to_write (rights_told m target x) ≡ false
+outside_one : (m : Memory) (target : Option Word) (x : ℕ) → is_in_word target x ≡ false → grants to_write (rights_told m target x) ≡ false
 outside_one m target x e = rw e (no_write (m.rights x))
 
-pub write_outside : (m : Memory) (code touched : Option Word) (w : Word) (n a : ℕ) → 0 < n → has_all w.address a n ≡ false
+pub write_outside : (m : Memory) (code touched : Option Word) (w : Word) (n a : ℕ) → 0 < n → word_has_all w.address a n ≡ false
     → granted to_write (told_memory m code touched (Some w)) n a ≡ false
 write_outside m code touched w n a some e =
     ⊎_elim

@@ -14,8 +14,8 @@ use Rattle.hart_step.specs.declared.data_access.AccessKind.{AccessKind}
 use Rattle.hart_step.specs.declared.data_access.AccessKind.TheVariants.{Load, Store, LoadReserved, StoreConditional, Amo}
 use Rattle.bank_laws.specs.Banks.{WordBytes}
 use Rattle.bank_laws.specs.Runs.{Touch}
-use Rattle.bank_table.specs.Words.{bytes_at, with_four}
-use Rattle.bank_table.specs.Carried.{act_of, touch_of}
+use Rattle.bank_laws.specs.Words.{bytes_at, with_four}
+use Rattle.bank_laws.specs.Carried.{act_of, touch_of}
 use Rattle.bank_step.specs.declared.words.Word.{Word}
 use Rattle.bank_step.specs.declared.steps.PlannedTouch.{PlannedTouch}
 
@@ -29,13 +29,13 @@ with_told bytes None = bytes
 with_told bytes (Some w) = with_four bytes w.address w.bytes
 
 -- whether an address is in a word
-abbrev pub is_in : Option Word → ℕ → Bool
-is_in None a = false
-is_in (Some w) a = nat_le w.address a && nat_lt a (w.address + 4)
+abbrev pub is_in_word : Option Word → ℕ → Bool
+is_in_word None a = false
+is_in_word (Some w) a = nat_le w.address a && nat_lt a (w.address + 4)
 
 -- whether a word at an address has all of the n bytes from another on
-abbrev pub has_all : ℕ → ℕ → ℕ → Bool
-has_all first address n = nat_le first address && nat_le (address + n) (first + 4)
+abbrev pub word_has_all : ℕ → ℕ → ℕ → Bool
+word_has_all first address n = nat_le first address && nat_le (address + n) (first + 4)
 
 -- rights without the write right. A writable byte is loadable, and stays so
 abbrev pub without_write : Option ℕ → Option ℕ
@@ -44,7 +44,7 @@ without_write (Some r) = Some (if grants to_write (Some r) then (if grants to_ex
 
 -- an image's rights, with the write right inside one word only
 abbrev pub rights_told : Memory → Option Word → ℕ → Option ℕ
-rights_told m target a = if is_in target a then m.rights a else without_write (m.rights a)
+rights_told m target a = if is_in_word target a then m.rights a else without_write (m.rights a)
 
 -- the image's memory with a word of code, a word of data, and the writable word
 abbrev pub told_memory : Memory → Option Word → Option Word → Option Word → Memory
@@ -94,15 +94,15 @@ tries_by None = false
 tries_by (Some c) = is_conditional c.kind
 
 -- the access of an instruction, if there is one
-abbrev pub access_if : Result Instr FetchFault → HartValue → Option Access
-access_if (Ok i) h = access_by i h.registers
-access_if (Err fault) h = None
+abbrev pub touched_if : Result Instr FetchFault → HartValue → Option Access
+touched_if (Ok i) h = access_by i h.registers
+touched_if (Err fault) h = None
 
 -- the access of a hart's instruction in a memory, whether it faults or not
-abbrev pub access_at : Memory → HartValue → Option Access
-access_at m h = access_if (instruction_at m h.pc) h
+abbrev pub touched_at : Memory → HartValue → Option Access
+touched_at m h = touched_if (instruction_at m h.pc) h
 
 -- hart and bytes are those of a site
-pub record Leaves (h : HartValue) (bytes : ℕ → ℕ) (s : Site) : Type 0 where
+pub record LeavesSite (h : HartValue) (bytes : ℕ → ℕ) (s : Site) : Type 0 where
   pub hart : h ≡ s.hart
   pub bytes_are : bytes ≡ s.memory.bytes

@@ -5,8 +5,8 @@ ghost use Rattle.image.specs.Image.{span_of};
 ghost use Rattle.image.specs.Spans.{has_address};
 ghost use Rattle.mem_store.specs.Memory.{grants, granted};
 ghost use Rattle.mem_store.specs.Image.{segments_memory, segment_at, byte_in, rights_in};
-ghost use Rattle.bank_table.specs.Table.{is_unwritable};
-ghost use Rattle.bank_table.specs.Words.{bytes_at};
+ghost use Rattle.bank_laws.specs.Table.{is_unwritable};
+ghost use Rattle.bank_laws.specs.Words.{bytes_at};
 
 use image::{Rights, Segment};
 use std::alloc::Allocator;

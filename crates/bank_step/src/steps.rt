@@ -8,8 +8,8 @@ ghost use Rattle.hart_step.specs.Hart.{hart_of};
 ghost use Rattle.bank_laws.specs.Banks.{WordBytes};
 ghost use Rattle.hart_step.specs.Step.{stepped};
 ghost use Rattle.hart_step.specs.declared.hart.HartState.TheVariants.{Running};
-ghost use Rattle.bank_table.specs.Table.{table, told, word_in};
-ghost use Rattle.bank_step.specs.Told.{access_if, as_touch, is_granted, told_memory, told_word, touch_by, tries_by, wanted, word_by, Leaves};
+ghost use Rattle.bank_laws.specs.Table.{table, told, word_in};
+ghost use Rattle.bank_step.specs.Told.{touched_if, as_touch, is_granted, told_memory, told_word, touch_by, tries_by, wanted, word_by, LeavesSite};
 
 use crate::image_bytes::{granted, is_unwritable};
 use crate::words::{ToldMemory, Word};
@@ -123,7 +123,7 @@ pub fn planned_touch<A: Allocator>(
 
 // The access of a hart's instruction, if there is one, whether it faults or not.
 fn access_if(hart: &Hart, found: Result<Instr, FetchFault>) -> Option<Access>
-    ensures { result ≡ access_if found (hart_of hart.now) }
+    ensures { result ≡ touched_if found (hart_of hart.now) }
 {
     match found {
         Ok(instr) => access_by(hart, instr),
@@ -197,7 +197,7 @@ fn told_step<A: Allocator>(
     ensures { (c v : WordBytes) (ok : Bool) → let m = image_memory memory.old.image.now in let h = hart_of hart.old in
         memory.old.code ≡ told_word ((table m).need h) c → memory.old.touched ≡ told_word (word_in ((table m).plan h c)) v
         → (tries_by result ≡ true → succeeds ≡ ok)
-        → Leaves (hart_of hart.new)
+        → LeavesSite (hart_of hart.new)
         (told_memory (image_memory memory.new.image.now) memory.new.code memory.new.touched memory.new.target).bytes
         (stepped 0 false (told m h c v ok)) }
 {

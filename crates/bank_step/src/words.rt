@@ -6,8 +6,8 @@ ghost use Rattle.mem_store.specs.Memory.{granted, number_at, to_execute, to_load
 ghost use Rattle.mem_store.specs.Image.{image_memory};
 ghost use Rattle.mem_flat.specs.Blocks.{spelled, Puts};
 ghost use Rattle.mem_store.specs.Instruction.{instruction_at};
-ghost use Rattle.bank_table.specs.Words.{bytes_at};
-ghost use Rattle.bank_step.specs.Told.{has_all, told_memory, with_told};
+ghost use Rattle.bank_laws.specs.Words.{bytes_at};
+ghost use Rattle.bank_step.specs.Told.{word_has_all, told_memory, with_told};
 
 use crate::image_bytes::{byte_at, bytes_at, granted, is_mapped};
 use image::{Image, Rights};
@@ -86,7 +86,7 @@ fn bytes_over(word: Option<Word>, address: u32, below: [u8; 4]) -> [u8; 4]
 // Whether a word has all `count` bytes from an address on.
 #[inline]
 fn has_all(word: &Word, address: u32, count: u32) -> bool
-    ensures { result ≡ has_all word.now.address address count }
+    ensures { result ≡ word_has_all word.now.address address count }
 {
     let first = u64::from(word.address);
     let address = u64::from(address);

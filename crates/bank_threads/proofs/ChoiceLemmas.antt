@@ -3,11 +3,11 @@ use Rattle.std.proofs.Common.{◌≡◌, ℕ, ◌+◌, Bool, true, false, not, L
 use Rattle.std.specs.Bool.{beq}
 use Rattle.thread_gate.specs.Plan.{is_planned}
 use Rattle.bank_laws.specs.Segments.{LoggedSegment}
-use Rattle.bank_threads.specs.Banked.{choices_in, IsFlagged}
+use Rattle.bank_threads.specs.Banked.{choices_in, LogIsFlagged}
 
 -- what is left of a log says of the choices so far what the whole does
 pub record Goes (plan : List (ℕ × ℕ)) (h : ℕ) (log rest : List LoggedSegment) (made : ℕ) : Type 0 where
-  pub flags : IsFlagged plan h made rest → IsFlagged plan h 0 log
+  pub flags : LogIsFlagged plan h made rest → LogIsFlagged plan h 0 log
   pub count : made + choices_in rest ≡ choices_in log
 
 pub goes_first : (plan : List (ℕ × ℕ)) (h : ℕ) (log : List LoggedSegment) → Goes plan h log log 0
@@ -19,12 +19,12 @@ goes_next plan h log all rest e made after is goes flag sum =
     let there : Goes plan h log (e ∷ rest) made = subst (λ (xs : List LoggedSegment). Goes plan h log xs made) is goes in
     let count = there.count in
     record {
-      flags = λ f. there.flags (flag, subst (λ (n : ℕ). IsFlagged plan h n rest) sum f);
+      flags = λ f. there.flags (flag, subst (λ (n : ℕ). LogIsFlagged plan h n rest) sum f);
       count = omega (arith, count, sum);
     }
 
 pub goes_last : (plan : List (ℕ × ℕ)) (h : ℕ) (log rest : List LoggedSegment) (made : ℕ) → rest ≡ [] → Goes plan h log rest made
-    → IsFlagged plan h 0 log × (made ≡ choices_in log)
+    → LogIsFlagged plan h 0 log × (made ≡ choices_in log)
 goes_last plan h log rest made is goes =
     let there : Goes plan h log [] made = subst (λ (xs : List LoggedSegment). Goes plan h log xs made) is goes in
     let count = there.count in

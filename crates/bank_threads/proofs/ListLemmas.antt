@@ -1,5 +1,5 @@
 -- Lists, place by place.
-use Rattle.std.proofs.Common.{◌≡◌, ℕ, zero, suc, ◌+◌, ◌<◌, ◌≤◌, Bool, true, false, List, [], ◌∷◌, length, drop, get_or, Some, inl, inr, refl, ap, ap₂, sym, subst, ◌∙◌, arith, ⊎_elim}
+use Rattle.std.proofs.Common.{◌≡◌, ℕ, zero, suc, ◌+◌, ◌<◌, ◌≤◌, Bool, true, false, List, [], ◌∷◌, length, get_or, Some, inl, inr, refl, ap, ap₂, sym, subst, ◌∙◌, arith, ⊎_elim}
 use Rattle.std.specs.Prelude.{slice_get}
 use Rattle.std.specs.List.{list_all}
 use Rattle.std.proofs.lemmas.Bool.{cases_Bool, cases_eq}
@@ -26,14 +26,6 @@ each_yes answers i low all = elim (cases_Bool (get_or answers i false)) [
   | inl there ↦ there
   | inr missing ↦ let none = list_all_at (λ (answer : Bool). answer) answers i false low missing in absurd (cc (all, none))
 ]
-
--- the rest of a list from an index on begins with the element there
-pub drop_here : {A : Type 0} (xs : List A) (i : ℕ) (a : A) → i < length xs → a ≡ get_or xs i a → drop i xs ≡ a ∷ drop (i + 1) xs
-drop_here [] i a low e = absurd (omega (arith, low))
-drop_here (x ∷ xs) zero a low e = ap (λ y. y ∷ xs) (sym e)
-drop_here (x ∷ xs) (suc i) a low e =
-    let next : suc i + 1 ≡ suc (i + 1) = omega arith in
-    rw next (drop_here xs i a (omega (arith, low)) e)
 
 -- ---- a fact of all places below one
 abbrev pub Below : {A : Type 0} → (ℕ → A → Type 0) → List A → ℕ → Type 0
@@ -78,10 +70,3 @@ same_all (x ∷ xs) (y ∷ ys) e f =
     let first : Some x ≡ Some y = f 0 (omega arith) in
     let head : x ≡ y = cc (first) in
     ap₂ (λ a zs. a ∷ zs) head (same_all xs ys (omega (arith, e)) (λ k low. f (suc k) (omega (arith, low))))
-
--- nothing is left after the end
-pub drop_none : {A : Type 0} (xs : List A) (n : ℕ) → length xs ≤ n → drop n xs ≡ []
-drop_none [] zero e = refl
-drop_none [] (suc n) e = refl
-drop_none (x ∷ xs) zero e = absurd (omega (arith, e))
-drop_none (x ∷ xs) (suc n) e = drop_none xs n (omega (arith, e))

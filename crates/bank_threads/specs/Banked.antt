@@ -5,10 +5,11 @@ use Rattle.thread_gate.specs.Stopped.{is_stopped}
 use Rattle.thread_gate.specs.Plan.{is_planned}
 use Rattle.bank_laws.specs.Segments.{LoggedSegment}
 use Rattle.bank_laws.specs.Order.{Rises, Earlier}
-use Rattle.bank_runs.specs.Merged.{most_banks}
+use Rattle.bank_laws.specs.Merged.{most_banks}
+use Rattle.bank_merge.specs.Logs.{IsBankOf}
 use Rattle.bank_merge.specs.Merge.{AreMatched}
 use Rattle.bank_memory.specs.BankLog.{BankLog}
-use Rattle.bank_hart_log.specs.HartLog.{HartLogValue, slot_of}
+use Rattle.bank_hart_log.specs.HartLog.{HartLogValue, logged_slot}
 
 -- the number of choices that segments stand for
 abbrev pub choices_in : List LoggedSegment → ℕ
@@ -17,30 +18,24 @@ choices_in (e ∷ es) = e.local + 1 + choices_in es
 
 -- each segment of hart h, after the choices made so far, is refused exactly if the plan has the
 -- hart and the number of the segment's last choice, counted from 0
-abbrev pub IsFlagged : List (ℕ × ℕ) → ℕ → ℕ → List LoggedSegment → Type 0
-IsFlagged plan h made [] = Unit {0}
-IsFlagged plan h made (e ∷ es) =
-    (e.refuse ≡ is_planned plan h (made + e.local)) × IsFlagged plan h (made + (e.local + 1)) es
+abbrev pub LogIsFlagged : List (ℕ × ℕ) → ℕ → ℕ → List LoggedSegment → Type 0
+LogIsFlagged plan h made [] = Unit {0}
+LogIsFlagged plan h made (e ∷ es) =
+    (e.refuse ≡ is_planned plan h (made + e.local)) × LogIsFlagged plan h (made + (e.local + 1)) es
 
 -- a hart has stopped after at most `budget` of its choices, or has made exactly that many
-abbrev pub HasEnded : ℕ → HartLogValue → Type 0
-HasEnded budget l = (choices_in l.log ≤ budget)
-    × ((is_stopped (slot_of l).hart.state ≡ true) ⊎ (choices_in l.log ≡ budget))
+abbrev pub LogHasEnded : ℕ → HartLogValue → Type 0
+LogHasEnded budget l = (choices_in l.log ≤ budget)
+    × ((is_stopped (logged_slot l).hart.state ≡ true) ⊎ (choices_in l.log ≡ budget))
 
 -- a log is hart h's of a run: its program and inputs, ended, the plan's refusals, rising stamps
-pub record IsHartOf (image : ImageValue) (inputs : List ℕ) (budget : ℕ) (plan : List (ℕ × ℕ)) (h : ℕ) (l : HartLogValue) : Type 0 where
+pub record IsHartOfRun (image : ImageValue) (inputs : List ℕ) (budget : ℕ) (plan : List (ℕ × ℕ)) (h : ℕ) (l : HartLogValue) : Type 0 where
   pub same_image : l.image ≡ image
   pub same_inputs : l.inputs ≡ inputs
   pub number : l.hart ≡ h
-  pub ended : HasEnded budget l
-  pub flagged : IsFlagged plan h 0 l.log
+  pub ended : LogHasEnded budget l
+  pub flagged : LogIsFlagged plan h 0 l.log
   pub rising : Rises Earlier l.log
-
--- a bank is bank b of a run
-pub record IsBankOf (image : ImageValue) (inputs : List ℕ) (b : ℕ) (k : BankLog) : Type 0 where
-  pub same_image : k.image ≡ image
-  pub same_inputs : k.inputs ≡ inputs
-  pub number : k.number ≡ b
 
 -- the result of a run of a program with a word-aligned entry: the log of each hart and each bank,
 -- once and in order, where an access is in its hart's log exactly if it is in its word's bank
@@ -48,6 +43,6 @@ pub record IsBanked (image : ImageValue) (inputs : List ℕ) (budget : ℕ) (pla
   pub entry : image.entry % 4 ≡ 0
   pub harts : length logs ≡ length inputs
   pub sixteen : length banks ≡ most_banks
-  pub of_harts : (h : ℕ) (l : HartLogValue) → slice_get logs h ≡ Some l → IsHartOf image inputs budget plan h l
+  pub of_harts : (h : ℕ) (l : HartLogValue) → slice_get logs h ≡ Some l → IsHartOfRun image inputs budget plan h l
   pub of_banks : (b : ℕ) (k : BankLog) → slice_get banks b ≡ Some k → IsBankOf image inputs b k
   pub matched : AreMatched logs banks

@@ -1,9 +1,10 @@
 //! Whether logs are those of one run.
 ghost use Rattle.std.specs.Prelude.{◌≡◌, ℕ, ◌≤◌, Some, true, IfOk, IfSome, length, slice_get};
 ghost use Rattle.bank_memory.specs.BankLog.{BankLog};
-ghost use Rattle.bank_runs.specs.Merged.{most_banks};
+ghost use Rattle.bank_laws.specs.Merged.{most_banks};
 ghost use Rattle.bank_hart_log.specs.HartLog.{HartLogValue};
-ghost use Rattle.bank_threads.specs.Banked.{choices_in, HasEnded, IsBankOf, IsFlagged, IsHartOf};
+ghost use Rattle.bank_merge.specs.Logs.{IsBankOf};
+ghost use Rattle.bank_threads.specs.Banked.{choices_in, LogHasEnded, LogIsFlagged, IsHartOfRun};
 
 use bank_hart_log::HartLog;
 use bank_memory::{BANKS, Bank};
@@ -52,7 +53,7 @@ fn planned_choices<A: Allocator>(
     hart: u32,
     budget: u32,
 ) -> Option<u32>
-    ensures { IfSome result (λ made. IsFlagged plan.now.keys hart 0 segments.now
+    ensures { IfSome result (λ made. LogIsFlagged plan.now.keys hart 0 segments.now
         × (made ≡ choices_in segments.now) × (made ≤ budget)) }
 {
     let mut made = 0;
@@ -72,7 +73,7 @@ fn planned_choices<A: Allocator>(
 /// Whether a hart has stopped after at most `budget` choices or has made exactly that many, and its
 /// segments are refused as in the plan.
 pub fn has_ended<A: Allocator>(log: &HartLog<A>, plan: &Plan<A>, hart: u32, budget: u32) -> bool
-    ensures { result ≡ true → HasEnded budget log.now × IsFlagged plan.now.keys hart 0 log.now.log }
+    ensures { result ≡ true → LogHasEnded budget log.now × LogIsFlagged plan.now.keys hart 0 log.now.log }
 {
     match planned_choices(log.segments(), plan, hart, budget) {
         Some(made) => is_stopped(log.slot()) || made == budget,
@@ -89,7 +90,7 @@ pub fn is_of_hart<A: Allocator>(
     budget: u32,
     hart: u32,
 ) -> bool
-    ensures { result ≡ true → IsHartOf image.now inputs.now budget plan.now.keys hart log.now }
+    ensures { result ≡ true → IsHartOfRun image.now inputs.now budget plan.now.keys hart log.now }
 {
     same_image(log.image(), image)
         && *log.inputs() == *inputs
@@ -121,7 +122,7 @@ pub fn are_of_harts<'a, A: Allocator>(
     requires { length inputs.now ≤ 32 }
     ensures { result ≡ true → (length logs.now ≡ length inputs.now)
         × ((h : ℕ) (l : HartLogValue) → slice_get logs.now h ≡ Some l
-        → IsHartOf image.now inputs.now budget plan.now.keys h l) }
+        → IsHartOfRun image.now inputs.now budget plan.now.keys h l) }
 {
     if logs.len() != inputs.len() {
         return false;

@@ -4,7 +4,7 @@ ghost use Rattle.image.specs.Image.{ImageValue};
 ghost use Rattle.bank_memory.specs.BankLog.{BankLog};
 ghost use Rattle.bank_hart_log.specs.HartLog.{HartLogValue};
 ghost use Rattle.bank_merge.specs.Logs.{AreOf};
-ghost use Rattle.bank_merge.specs.Merge.{Refuses};
+ghost use Rattle.bank_merge.specs.Merge.{RefusesLogs};
 ghost use Rattle.bank_merge.specs.declared.merging.MergeFault.{MergeFault};
 ghost use Rattle.bank_merge.specs.declared.merging.MergeFault.TheVariants.{Memory};
 ghost use Rattle.bank_threads.specs.Banked.{IsBanked};
@@ -19,5 +19,5 @@ pub fn banked_runs_are_of_one_program()
 pub fn banked_runs_merge()
     ensures { (image : ImageValue) (inputs : List ℕ) (budget : ℕ) (plan : List (ℕ × ℕ)) (logs : List HartLogValue)
         (banks : List BankLog) → IsBanked image inputs budget plan logs banks
-        → (fault : MergeFault) → Refuses logs banks fault → fault ≡ Memory }
+        → (fault : MergeFault) → RefusesLogs logs banks fault → fault ≡ Memory }
 {}

@@ -1,16 +1,16 @@
 //! Whether logs and banks are the whole result of one run.
 ghost use Rattle.std.specs.Prelude.{◌≡◌, ℕ, ◌<◌, ◌≤◌, true, IfOk, length, slice_index_or};
 ghost use Rattle.std.specs.List.{list_all};
-ghost use Rattle.bank_access_order.specs.AccessOrder.{logs_of};
-ghost use Rattle.bank_runs.specs.Merged.{most_banks};
+ghost use Rattle.bank_merge.specs.AccessOrder.{bank_logs};
+ghost use Rattle.bank_laws.specs.Merged.{most_banks};
 ghost use Rattle.bank_hart_log.specs.HartLog.{HartLogValue};
 ghost use Rattle.bank_threads.specs.Banked.{IsBanked};
 ghost use Rattle.bank_threads.specs.Ordered.{AreOrderedHarts, IsOrderedHart};
 
 use crate::compare::{are_of_banks, is_of_hart};
-use bank_access_order::{have_no_others, is_ordered};
 use bank_hart_log::HartLog;
 use bank_memory::Bank;
+use bank_merge::{have_no_others, is_ordered};
 use image::Image;
 use std::alloc::{AllocError, Allocator};
 use std::thread;
@@ -28,7 +28,7 @@ fn is_ordered_hart<'a, A: Allocator>(
     hart: u32,
 ) -> bool
     requires { length banks.now ≡ most_banks }
-    ensures { result ≡ true → IsOrderedHart image.now inputs.now budget plan.now.keys (logs_of banks.now) hart log.now }
+    ensures { result ≡ true → IsOrderedHart image.now inputs.now budget plan.now.keys (bank_logs banks.now) hart log.now }
 {
     is_of_hart(log, image, inputs, plan, budget, hart)
         && is_ordered(hart as usize, log.segments(), banks)
@@ -55,7 +55,7 @@ fn are_ordered_harts<'a, R: Threads + Sync, A: Allocator + Copy + Send + Sync>(
     requires few { length inputs.now ≤ 32 }
     requires sixteen { length banks.now ≡ most_banks }
     ensures { IfOk result (λ all. all ≡ true
-        → AreOrderedHarts image.now inputs.now budget plan.now.keys (logs_of banks.now) logs.now) }
+        → AreOrderedHarts image.now inputs.now budget plan.now.keys (bank_logs banks.now) logs.now) }
 {
     if logs.len() != inputs.len() {
         return Ok(false);
@@ -63,7 +63,7 @@ fn are_ordered_harts<'a, R: Threads + Sync, A: Allocator + Copy + Send + Sync>(
     let look = |hart: usize| -> bool
         requires { (hart < length logs.now) × (length logs.now ≤ 32) × (length banks.now ≡ most_banks) }
         ensures { (d : HartLogValue) → result ≡ true → IsOrderedHart image.entry.now inputs.entry.now budget plan.entry.now.keys
-            (logs_of banks.entry.now) hart (slice_index_or logs.entry.now hart d) }
+            (bank_logs banks.entry.now) hart (slice_index_or logs.entry.now hart d) }
     { is_ordered_hart(&logs[hart], banks, image, inputs, plan, budget, hart as u32) };
     let answers = thread::map_indices(rt, alloc, logs.len(), &look)?;
     Ok(are_yes(&answers))

@@ -3,7 +3,7 @@ ghost use Rattle.std.specs.Prelude.{◌≡◌, ◌≤◌, IfOk, length, vec_len}
 ghost use Rattle.mem_store.specs.Image.{image_memory, segments_memory};
 ghost use Rattle.hart_reservations.specs.Limit.{most_harts};
 ghost use Rattle.hart_local.specs.CodeMemory.{code_in};
-ghost use Rattle.bank_runs.specs.Merged.{most_banks};
+ghost use Rattle.bank_laws.specs.Merged.{most_banks};
 
 use bank_memory::{BANKS, Bank};
 use hart_local::Code;

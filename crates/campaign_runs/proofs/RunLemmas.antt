@@ -17,7 +17,7 @@ use Rattle.sched_draw.specs.Schedules.{drawn_choices, RanOver}
 use Rattle.outcome.specs.Expect.{judged}
 use Rattle.outcome.specs.declared.run_outcome.Outcome.{Outcome}
 use Rattle.campaign_runs.specs.Ending.{EndingValue, ending_with}
-use Rattle.campaign_runs.specs.Runs.{SeedEnding, end_of, ending_after, ending_from, endings_of}
+use Rattle.campaign_runs.specs.Runs.{SeedEnding, seed_ending, ending_after, ending_from, endings_of}
 use Rattle.campaign_runs.specs.declared.campaign.Campaign.{Campaign}
 use Rattle.campaign_runs.specs.declared.seed_run.SeedEnd.{SeedEnd}
 
@@ -60,11 +60,11 @@ all_ok ys = map Ok ys
 
 -- the end of a seed's run
 abbrev EndsSo : {Z : Type 0} → (ℕ → SeedEnding) → ℕ → ℕ → Result (SeedEnd Z) AllocError → Type 0
-EndsSo f first place r = IfOk r (λ end. end_of end ≡ f (first + place))
+EndsSo f first place r = IfOk r (λ end. seed_ending end ≡ f (first + place))
 
 module _ {Z : Type 0} (f : ℕ → SeedEnding) (first : ℕ) where
   listed : (zs : List ℕ) (ys : List (SeedEnd Z)) → AllZip (EndsSo f first) zs (all_ok ys)
-      → map end_of ys ≡ map (λ place. f (first + place)) zs
+      → map seed_ending ys ≡ map (λ place. f (first + place)) zs
   listed [] [] h = refl
   listed [] (y ∷ ys) h = absurd h
   listed (z ∷ zs) [] h = absurd h
@@ -74,10 +74,10 @@ module _ {Z : Type 0} (f : ℕ → SeedEnding) (first : ℕ) where
   pub all-listed : (count : ℕ) (r : Result (Vec (SeedEnd Z) Z) AllocError) (zs : List ℕ) (xs : List (Result (SeedEnd Z) AllocError))
       → zs ≡ range_with_len 0 count → AllZip (EndsSo f first) zs xs
       → MatchResult r (λ v. (ys : List (SeedEnd Z)) × (xs ≡ all_ok ys) × (v.items ≡ ys)) (λ e. Contains xs (Err e))
-      → IfOk r (λ v. map end_of v.items ≡ map f (range_with_len first count))
+      → IfOk r (λ v. map seed_ending v.items ≡ map f (range_with_len first count))
   all-listed count (Ok v) zs xs places each whole =
       let here : first + 0 ≡ first = omega arith in
-      ap (map end_of) whole.2
+      ap (map seed_ending) whole.2
       ∙ listed zs whole.0 (subst (AllZip (EndsSo f first) zs) whole.1 each)
       ∙ ap (map (λ place. f (first + place))) places
       ∙ map-shifted f first 0 count

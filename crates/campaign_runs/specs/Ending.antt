@@ -1,7 +1,7 @@
 -- How a run ended, in the detail that a report distinguishes.
 use Rattle.std.specs.Prelude.{ℕ, Bool, true, false, ◌==◌, ◌&&◌, List, [], ◌∷◌, map, Option, Some, None}
 use Rattle.hart_step.specs.Hart.{HartValue}
-use Rattle.ends.specs.Ends.{a0_of, a1_of}
+use Rattle.outcome.specs.Ends.{a0_of, a1_of}
 use Rattle.outcome.specs.declared.run_outcome.Outcome.{Outcome}
 use Rattle.object_library.specs.declared.verdict.Verdict.{Verdict}
 use Rattle.object_library.specs.declared.verdict.Verdict.TheVariants.{Kept, Broken}
@@ -20,15 +20,15 @@ abbrev pub ending_of : {Z : Type 0} → Ending Z → EndingValue
 ending_of ending = record { outcome = ending.outcome; results = ending.results.items }
 
 -- the registers of a hart's result
-abbrev pub result_of : HartValue → HartResult
-result_of hart = record { a0 = a0_of hart; a1 = a1_of hart }
+abbrev pub hart_result : HartValue → HartResult
+hart_result hart = record { a0 = a0_of hart; a1 = a1_of hart }
 
 -- the results of harts, if the report distinguishes runs by them
 abbrev pub results_of : Report → List HartValue → List HartResult
 results_of Lines harts = []
 results_of Failures harts = []
 results_of Summary harts = []
-results_of Outcomes harts = map result_of harts
+results_of Outcomes harts = map hart_result harts
 
 -- the ending of a run with this outcome that left these harts
 abbrev pub ending_with : Report → Outcome → List HartValue → EndingValue

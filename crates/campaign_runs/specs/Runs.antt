@@ -17,8 +17,8 @@ pub record SeedEnding : Type 0 where
   pub ending : EndingValue
 
 -- the code's seed and ending as a `SeedEnding`
-abbrev pub end_of : {Z : Type 0} → SeedEnd Z → SeedEnding
-end_of end = record { seed = end.seed; ending = ending_of end.ending }
+abbrev pub seed_ending : {Z : Type 0} → SeedEnd Z → SeedEnding
+seed_ending end = record { seed = end.seed; ending = ending_of end.ending }
 
 -- the ending of the run from a world over a list of choices
 abbrev pub ending_after : World → Campaign → List ℕ → List Choice → EndingValue

@@ -7,7 +7,7 @@ use Rattle.campaign_runs.specs.declared.tally.SeedCount.{SeedCount}
 use Rattle.campaign_runs.specs.declared.tally.Tally.{Tally}
 
 -- an ending, the number of its seeds and the first of them
-pub record Row : Type 0 where
+pub record TallyRow : Type 0 where
   pub ending : EndingValue
   pub count : SeedCount
 
@@ -25,38 +25,38 @@ count_after None seed = first_one seed
 count_after (Some count) seed = one_more count
 
 -- a seed is counted in the row of its ending; a new ending gets a row after the others
-abbrev pub add_seed : SeedEnding → List Row → List Row
+abbrev pub add_seed : SeedEnding → List TallyRow → List TallyRow
 add_seed one [] = record { ending = one.ending; count = first_one one.seed } ∷ []
 add_seed one (row ∷ rows) = if same_ending one.ending row.ending
     then record { ending = row.ending; count = one_more row.count } ∷ rows
     else row ∷ add_seed one rows
 
 -- seeds are counted one after another, into existing rows
-abbrev pub tally_onto : List Row → List SeedEnding → List Row
+abbrev pub tally_onto : List TallyRow → List SeedEnding → List TallyRow
 tally_onto rows [] = rows
 tally_onto rows (one ∷ more) = tally_onto (add_seed one rows) more
 
 -- the tally of seeds
-abbrev pub tally_of : List SeedEnding → List Row
+abbrev pub tally_of : List SeedEnding → List TallyRow
 tally_of all = tally_onto [] all
 
--- the rows of the code's tally as `Row`s
-abbrev pub row_of : {Z : Type 0} → Ending Z × SeedCount → Row
-row_of entry = record { ending = ending_of entry.0; count = entry.1 }
+-- the rows of the code's tally as `TallyRow`s
+abbrev pub tally_row : {Z : Type 0} → Ending Z × SeedCount → TallyRow
+tally_row entry = record { ending = ending_of entry.0; count = entry.1 }
 
-abbrev pub rows_of : {Z : Type 0} → Tally Z → List Row
-rows_of tally = map row_of tally.rows.entries
+abbrev pub tally_rows : {Z : Type 0} → Tally Z → List TallyRow
+tally_rows tally = map tally_row tally.rows.entries
 
 -- number of seeds in all rows
-abbrev pub seeds_in : List Row → ℕ
+abbrev pub seeds_in : List TallyRow → ℕ
 seeds_in [] = 0
 seeds_in (row ∷ rows) = row.count.seeds + seeds_in rows
 
 -- ---- the count in a tally, and the true one
 -- the count in the row of an ending, if there is one
-abbrev pub count_in : EndingValue → List Row → Option SeedCount
-count_in ending [] = None
-count_in ending (row ∷ rows) = if same_ending ending row.ending then Some row.count else count_in ending rows
+abbrev pub tally_count : EndingValue → List TallyRow → Option SeedCount
+tally_count ending [] = None
+tally_count ending (row ∷ rows) = if same_ending ending row.ending then Some row.count else tally_count ending rows
 
 -- number of the seeds with an ending
 abbrev pub how_many : EndingValue → List SeedEnding → ℕ

@@ -3,7 +3,7 @@
 ghost use Rattle.std.specs.Prelude.{◌≡◌, ◌+◌, ◌<◌, ◌≤◌, ◌^◌, IfOk, length, map};
 ghost use Rattle.std.specs.List.{range_with_len};
 ghost use Rattle.machine.specs.Machine.{world};
-ghost use Rattle.campaign_runs.specs.Runs.{end_of, ending_from, endings_of};
+ghost use Rattle.campaign_runs.specs.Runs.{seed_ending, ending_from, endings_of};
 
 use crate::campaign::Campaign;
 use crate::seed_run::{SeedEnd, run_seed};
@@ -27,7 +27,7 @@ pub fn run_block<A: Allocator + Copy + Send + Sync, B: Allocator + Sync>(
     block: Block,
 ) -> Result<Vec<SeedEnd<A>, A>, AllocError>
     requires fits { block.first + block.count ≤ 2 ^ 64 }
-    ensures { IfOk result (λ ends. map end_of ends.items
+    ensures { IfOk result (λ ends. map seed_ending ends.items
         ≡ endings_of campaign image.now inputs.now (range_with_len block.first block.count)) }
 {
     let start: Machine<FlatStore<A>, A> = Machine::start(alloc, image, inputs)?;
@@ -47,7 +47,7 @@ fn run_each<S: FromImage<A> + Sync, A: Allocator + Copy + Send + Sync>(
 ) -> Result<Vec<SeedEnd<A>, A>, AllocError>
     requires there { length (world S.memory start.now).harts ≡ length inputs.now }
     requires fits { block.first + block.count ≤ 2 ^ 64 }
-    ensures { IfOk result (λ ends. map end_of ends.items
+    ensures { IfOk result (λ ends. map seed_ending ends.items
         ≡ map (ending_from (world S.memory start.now) campaign inputs.now)
         (range_with_len block.first block.count)) }
 {
@@ -58,7 +58,7 @@ fn run_each<S: FromImage<A> + Sync, A: Allocator + Copy + Send + Sync>(
         .map(
             |place: u64| -> Result<SeedEnd<A>, AllocError>
                 requires { (length (world S.memory start.now).harts ≡ length inputs.now) × (first + place < 2 ^ 64) }
-                ensures { IfOk result (λ end. end_of end
+                ensures { IfOk result (λ end. seed_ending end
                     ≡ ending_from (world S.memory start.entry.now) campaign inputs.entry.now (first + place)) }
             { run_seed(alloc, start, inputs, campaign, first + place) },
         )

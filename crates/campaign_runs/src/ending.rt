@@ -2,7 +2,7 @@
 
 ghost use Rattle.std.specs.Prelude.{◌≡◌, IfOk, map};
 ghost use Rattle.hart_step.specs.Hart.{hart_of};
-ghost use Rattle.campaign_runs.specs.Ending.{result_of, results_of};
+ghost use Rattle.campaign_runs.specs.Ending.{hart_result, results_of};
 
 use crate::campaign::Report;
 use hart_step::Hart;
@@ -70,7 +70,7 @@ fn results<A: Allocator>(
 
 // The results of harts, in order.
 fn hart_results<A: Allocator>(alloc: A, harts: &[Hart]) -> Result<Vec<HartResult, A>, AllocError>
-    ensures { IfOk result (λ results. results.items ≡ map result_of (map hart_of harts.now)) }
+    ensures { IfOk result (λ results. results.items ≡ map hart_result (map hart_of harts.now)) }
 {
     let mut results = Vec::new(alloc);
     'harts: for hart in harts {

@@ -3,7 +3,7 @@
 ghost use Rattle.std.specs.Prelude.{◌≡◌, ◌++◌, ◌↔◌, List, IsTrue, length};
 ghost use Rattle.campaign_runs.specs.Ending.{EndingValue, same_ending};
 ghost use Rattle.campaign_runs.specs.Runs.{SeedEnding};
-ghost use Rattle.campaign_runs.specs.Tally.{count_in, seeds_in, seeds_with, tally_of, tally_onto};
+ghost use Rattle.campaign_runs.specs.Tally.{tally_count, seeds_in, seeds_with, tally_of, tally_onto};
 
 /// Endings compare equal exactly if they are the same.
 pub fn same_endings_are_equal()
@@ -14,7 +14,7 @@ pub fn same_endings_are_equal()
 /// seed has no row, and each seed is counted once.
 pub fn each_ending_is_counted()
     ensures rows { (all : List SeedEnding) (ending : EndingValue)
-        → count_in ending (tally_of all) ≡ seeds_with ending all }
+        → tally_count ending (tally_of all) ≡ seeds_with ending all }
     ensures sum { (all : List SeedEnding) → seeds_in (tally_of all) ≡ length all }
 {}
 

@@ -2,7 +2,7 @@
 
 ghost use Rattle.std.specs.Prelude.{◌≡◌, IfOk, length};
 ghost use Rattle.machine.specs.Machine.{world};
-ghost use Rattle.campaign_runs.specs.Runs.{end_of, ending_from};
+ghost use Rattle.campaign_runs.specs.Runs.{seed_ending, ending_from};
 
 use crate::campaign::Campaign;
 use crate::ending::Ending;
@@ -30,7 +30,7 @@ pub fn run_seed<S: FromImage<A>, A: Allocator + Copy>(
     seed: u64,
 ) -> Result<SeedEnd<A>, AllocError>
     requires there { length (world S.memory start.now).harts ≡ length inputs.now }
-    ensures { IfOk result (λ end. end_of end
+    ensures { IfOk result (λ end. seed_ending end
         ≡ ending_from (world S.memory start.now) campaign inputs.now seed) }
 {
     let mut machine = start.copy(alloc)?;

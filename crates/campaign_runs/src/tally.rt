@@ -2,7 +2,7 @@
 
 ghost use Rattle.std.specs.Prelude.{◌≡◌, ◌==◌, ◌+◌, ◌<◌, ◌^◌, IfSome, OnOk, Some, [], length, slice_get};
 ghost use Rattle.campaign_runs.specs.Ending.{ending_of};
-ghost use Rattle.campaign_runs.specs.Tally.{add_seed, count_after, rows_of, seeds_in};
+ghost use Rattle.campaign_runs.specs.Tally.{add_seed, count_after, tally_rows, seeds_in};
 
 use crate::ending::Ending;
 use indexmap::IndexMap;
@@ -45,7 +45,7 @@ pub struct Tally<A: Allocator> {
 impl<A: Allocator + Copy> Tally<A> {
     /// A tally of no seed.
     pub fn new(alloc: A) -> Tally<A>
-        ensures { rows_of result ≡ [] }
+        ensures { tally_rows result ≡ [] }
     {
         Tally {
             rows: IndexMap::new(alloc),
@@ -55,9 +55,9 @@ impl<A: Allocator + Copy> Tally<A> {
     /// Counts a seed under its ending.
     pub fn add(&mut self, ending: Ending<A>, seed: u64) -> Result<(), AllocError>
         // The number of seeds fits in 64 bits.
-        requires { seeds_in (rows_of self.old) + 1 < 2 ^ 64 }
-        ensures { OnOk result (rows_of self.new
-            ≡ add_seed (record { seed = seed; ending = ending_of ending }) (rows_of self.old)) }
+        requires { seeds_in (tally_rows self.old) + 1 < 2 ^ 64 }
+        ensures { OnOk result (tally_rows self.new
+            ≡ add_seed (record { seed = seed; ending = ending_of ending }) (tally_rows self.old)) }
     {
         let count = count_after(self.rows.get(&ending).copied(), seed);
         self.rows.insert(ending, count)?;
@@ -66,22 +66,22 @@ impl<A: Allocator + Copy> Tally<A> {
 
     /// Number of endings.
     pub fn len(&self) -> usize
-        ensures { result ≡ length (rows_of self.now) }
+        ensures { result ≡ length (tally_rows self.now) }
     {
         self.rows.len()
     }
 
     /// Whether no seed is counted yet.
     pub fn is_empty(&self) -> bool
-        ensures { result ≡ (length (rows_of self.now) == 0) }
+        ensures { result ≡ (length (tally_rows self.now) == 0) }
     {
         self.rows.is_empty()
     }
 
     /// The ending at an index in their order, from 0, with its seeds.
     pub fn row(&self, place: usize) -> (&Ending<A>, SeedCount)
-        requires { place < length (rows_of self.now) }
-        ensures { slice_get (rows_of self.now) place
+        requires { place < length (tally_rows self.now) }
+        ensures { slice_get (tally_rows self.now) place
             ≡ Some (record { ending = ending_of result.0.now; count = result.1 }) }
     {
         let (ending, count) = self.rows.get_index(place).unwrap();

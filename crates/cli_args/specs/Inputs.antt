@@ -6,22 +6,22 @@ use Rattle.cli_args.specs.declared.line.LineFault.{LineFault}
 use Rattle.cli_args.specs.declared.line.LineFault.TheVariants as faults
 
 -- the comma
-abbrev pub is_comma : ℕ → Bool
-is_comma b = b == 44
+abbrev pub ends_part : ℕ → Bool
+ends_part b = b == 44
 
 -- the input of one or more decimal digits, below 2 ^ 32; leading zeros are allowed
 abbrev pub input_of : List ℕ → Option ℕ
 input_of digits = number_below (2 ^ 32) digits
 
 -- these inputs, and then those that follow, if there are any
-abbrev pub followed_by : List ℕ → Option (List ℕ) → Option (List ℕ)
-followed_by inputs None = None
-followed_by inputs (Some more) = Some (inputs ++ more)
+abbrev pub inputs_then : List ℕ → Option (List ℕ) → Option (List ℕ)
+inputs_then inputs None = None
+inputs_then inputs (Some more) = Some (inputs ++ more)
 
 -- an input, and those that follow
 abbrev pub input_then : Option ℕ → Option (List ℕ) → Option (List ℕ)
 input_then None rest = None
-input_then (Some input) rest = followed_by (input ∷ []) rest
+input_then (Some input) rest = inputs_then (input ∷ []) rest
 
 -- the inputs of the parts between commas
 abbrev pub inputs_of_parts : List (List ℕ) → Option (List ℕ)
@@ -30,7 +30,7 @@ inputs_of_parts (part ∷ parts) = input_then (input_of part) (inputs_of_parts p
 
 -- the inputs of a text: one between each two commas
 abbrev pub inputs_of : List ℕ → Option (List ℕ)
-inputs_of text = inputs_of_parts (slice_split is_comma text)
+inputs_of text = inputs_of_parts (slice_split ends_part text)
 
 -- a text that isn't a list of inputs is reported as such
 abbrev pub RefusesInputs : List ℕ → LineFault → Type 0

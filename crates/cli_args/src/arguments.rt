@@ -1,38 +1,33 @@
 //! Arguments of commands, and their values in clap's matches.
 
-ghost use Rattle.std.specs.Prelude.{◌≡◌, false, IfOk, IsOkAnd, map, option_map};
-ghost use Rattle.clap.specs.Walk.{one_of};
-ghost use Rattle.clap.specs.Words.{all_of, app_of, first_of, new_app, with_rule, with_subcommand, rows_of, found_of, rule_of};
-ghost use Rattle.clap.specs.declared.builder.command.Command.TheViews.{out-Command};
-ghost use Rattle.cli_args.specs.Arguments.{rule_by, with_arguments, IsSet};
-
+use crate::commands::CommandRow;
 use clap::{Arg, ArgAction, ArgMatches, Command};
 use std::alloc::{AllocError, Global};
 
 /// An argument of a command: its name, and its help text.
 #[derive(Clone, Copy)]
-pub(crate) enum Argument<'a> {
+pub(crate) enum Argument {
     /// A required word.
-    Needed(&'a str, &'a str),
+    Needed(&'static str, &'static str),
+    /// The name of an object of the library, a required word; its help lists the names.
+    Object(&'static str),
     /// An optional word.
-    Allowed(&'a str, &'a str),
+    Allowed(&'static str, &'static str),
     /// One or more words.
-    Many(&'a str, &'a str),
+    Many(&'static str, &'static str),
     /// An optional option with a value.
-    Optional(&'a str, &'a str),
+    Optional(&'static str, &'static str),
     /// A required option with a value.
-    NeededOption(&'a str, &'a str),
+    NeededOption(&'static str, &'static str),
     /// An option without a value.
-    Flag(&'a str, &'a str),
+    Flag(&'static str, &'static str),
 }
 
-// The argument as clap takes it.
-fn arg_of<'a>(alloc: Global, argument: Argument<'a>) -> Arg<'a>
-    ensures rule { rule_of result ≡ rule_by argument.entry }
-    ensures local { result.global ≡ false }
-{
+// The argument as clap takes it. `objects` are the names of the library's objects.
+fn arg_of<'a>(alloc: Global, argument: Argument, objects: &'a str) -> Arg<'a> {
     match argument {
         Argument::Needed(id, help) => Arg::new(alloc, id).required(true).help(help),
+        Argument::Object(id) => Arg::new(alloc, id).required(true).help(objects),
         Argument::Allowed(id, help) => Arg::new(alloc, id).help(help),
         Argument::Many(id, help) => Arg::new(alloc, id)
             .required(true)
@@ -49,78 +44,23 @@ fn arg_of<'a>(alloc: Global, argument: Argument<'a>) -> Arg<'a>
     }
 }
 
-// A command of this name, with its description and an example for its help.
-fn headed<'a>(alloc: Global, name: &'a str, does: &'a str, example: &'a str) -> Command<'a>
-    ensures app { app_of result ≡ new_app name.entry.now }
-    ensures globals { (out-Command result).has_globals ≡ false }
-{
-    Command::new(alloc, name).about(does).after_help(example)
-}
-
-// A command with one more argument.
-fn add<'a>(command: Command<'a>, arg: Arg<'a>) -> Result<Command<'a>, AllocError>
-    requires { arg.global ≡ false }
-    ensures app { IfOk result (λ c.
-        app_of c ≡ with_rule (app_of command.entry) (rule_of arg.entry)) }
-    ensures globals { IfOk result (λ c.
-        (out-Command c).has_globals ≡ (out-Command command.entry).has_globals) }
-{
-    command.arg(arg)
-}
-
-// A command with further arguments, in order.
-fn add_all<'a>(
+/// The command as clap takes it. `objects` are the names of the library's objects.
+pub(crate) fn command_of<'a>(
     alloc: Global,
-    command: Command<'a>,
-    arguments: &[Argument<'a>],
-) -> Result<Command<'a>, AllocError>
-    ensures app { IfOk result (λ c.
-        app_of c ≡ with_arguments (app_of command.entry) arguments.now) }
-    ensures globals { IfOk result (λ c.
-        (out-Command c).has_globals ≡ (out-Command command.entry).has_globals) }
-{
-    let mut command = command;
-    'arguments: for argument in arguments {
-        command = add(command, arg_of(alloc, *argument))?;
+    row: &CommandRow,
+    objects: &'a str,
+) -> Result<Command<'a>, AllocError> {
+    let mut command = Command::new(alloc, row.name)
+        .about(row.does)
+        .after_help(row.example);
+    'arguments: for argument in row.arguments {
+        command = command.arg(arg_of(alloc, *argument, objects))?;
     }
     Ok(command)
 }
 
-/// A command of this name and these arguments, with its description and an example for its help.
-pub(crate) fn command_of<'a>(
-    alloc: Global,
-    name: &'a str,
-    does: &'a str,
-    example: &'a str,
-    arguments: &[Argument<'a>],
-) -> Result<Command<'a>, AllocError>
-    ensures app { IfOk result (λ c.
-        app_of c ≡ with_arguments (new_app name.entry.now) arguments.now) }
-    ensures local { IfOk result (λ c. (out-Command c).has_globals ≡ false) }
-{
-    add_all(alloc, headed(alloc, name, does, example), arguments)
-}
-
-/// A program with one more command, if that isn't out of memory. The command is passed as a result,
-/// so that a chain of these calls has one error to pass on for each command.
-pub(crate) fn add_command<'a>(
-    program: Command<'a>,
-    command: Result<Command<'a>, AllocError>,
-) -> Result<Command<'a>, AllocError>
-    requires { IfOk command (λ c. (out-Command c).has_globals ≡ false) }
-    ensures app { IfOk result (λ p. IsOkAnd command.entry (λ c.
-        app_of p ≡ with_subcommand (app_of program.entry) (app_of c).top)) }
-{
-    match command {
-        Ok(command) => program.subcommand(command),
-        Err(fault) => Err(fault),
-    }
-}
-
 /// The text of an argument.
-pub fn text_of<'a>(matches: &ArgMatches<'a>, id: &str) -> Option<&'a str>
-    ensures { first_of id.now (rows_of (found_of matches.now)) ≡ option_map (λ s. s.now) result }
-{
+pub fn text_of<'a>(matches: &ArgMatches<'a>, id: &str) -> Option<&'a str> {
     matches.get_str(id)
 }
 
@@ -129,10 +69,7 @@ pub fn texts_of<'a>(
     alloc: Global,
     matches: &ArgMatches<'a>,
     id: &str,
-) -> Result<Option<Vec<&'a str>>, AllocError>
-    ensures { IfOk result (λ texts. all_of id.now (rows_of (found_of matches.now))
-        ≡ option_map (λ v. map (λ s. s.now) v.items) texts) }
-{
+) -> Result<Option<Vec<&'a str>>, AllocError> {
     match matches.get_strs(id) {
         None => Ok(None),
         Some(texts) => Ok(Some(Vec::from_slice(alloc, texts)?)),
@@ -140,8 +77,6 @@ pub fn texts_of<'a>(
 }
 
 /// Whether an option without a value is given.
-pub fn is_set<'a>(matches: &ArgMatches<'a>, id: &str) -> bool
-    ensures { IsSet (one_of id.now (rows_of (found_of matches.now))) result }
-{
+pub fn is_set<'a>(matches: &ArgMatches<'a>, id: &str) -> bool {
     matches.get_flag(id)
 }

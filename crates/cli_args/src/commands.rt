@@ -1,74 +1,52 @@
 //! The commands for clap: their names, their arguments and their help.
 
-ghost use Rattle.std.specs.Prelude.{◌≡◌, false, IfOk, codes};
-ghost use Rattle.clap.specs.Words.{app_of};
-ghost use Rattle.clap.specs.declared.builder.command.Command.TheViews.{out-Command};
-ghost use Rattle.cli_args.specs.Commands.{asm_app, campaign_app, debug_app, file_app, lib_app, replay_app, run_app, schedule_app, shrink_app, threads_app, trace_app};
-
-use crate::arguments::{Argument, command_of};
+use crate::arguments::Argument;
 use crate::help::{
     BANKED, BUDGET, CHOICES, DRAW, DRAW_OF_SCHEDULE, FILE, HANGS, HEX, HISTORY, INPUTS,
     INPUTS_OF_SCHEDULE, MUST_EXIT, OUTCOMES, REFUSALS, REFUSE, RULE, SUMMARY, WRITTEN,
 };
-use clap::Command;
-use std::alloc::{AllocError, Global};
 
-/// `asm`.
-pub(crate) fn asm_command<'a>(alloc: Global) -> Result<Command<'a>, AllocError>
-    ensures app { IfOk result (λ c. app_of c ≡ asm_app) }
-    ensures local { IfOk result (λ c. (out-Command c).has_globals ≡ false) }
-{
-    command_of(
-        alloc,
-        "asm",
-        "Assembles sources; prints the listing or writes an ELF file",
-        "Example: rvcons asm --out swap.elf swap.s",
-        &[
+/// A command.
+#[derive(Clone, Copy)]
+pub(crate) struct CommandRow {
+    /// The name.
+    pub(crate) name: &'static str,
+    /// What the command does.
+    pub(crate) does: &'static str,
+    /// An example, the last line of the command's help.
+    pub(crate) example: &'static str,
+    /// The arguments, in the order in which help lists them.
+    pub(crate) arguments: &'static [Argument],
+}
+
+/// The commands, in the order in which help lists them.
+pub(crate) const COMMANDS: [CommandRow; 12] = [
+    CommandRow {
+        name: "asm",
+        does: "Assembles sources; prints the listing or writes an ELF file",
+        example: "Example: rvcons asm --out swap.elf swap.s",
+        arguments: &[
             Argument::Optional("out", "the ELF file that is written"),
             Argument::Many("IN", "the sources, in order"),
         ],
-    )
-}
-
-/// `list`.
-pub(crate) fn list_command<'a>(alloc: Global) -> Result<Command<'a>, AllocError>
-    ensures app { IfOk result (λ c. app_of c ≡ file_app (codes "list")) }
-    ensures local { IfOk result (λ c. (out-Command c).has_globals ≡ false) }
-{
-    command_of(
-        alloc,
-        "list",
-        "Lists the executable segments of an ELF file",
-        "Example: rvcons list swap.elf",
-        &[Argument::Needed("FILE", "an ELF file")],
-    )
-}
-
-/// `info`.
-pub(crate) fn info_command<'a>(alloc: Global) -> Result<Command<'a>, AllocError>
-    ensures app { IfOk result (λ c. app_of c ≡ file_app (codes "info")) }
-    ensures local { IfOk result (λ c. (out-Command c).has_globals ≡ false) }
-{
-    command_of(
-        alloc,
-        "info",
-        "Shows the entry, the segments, the symbols and the library's object of an ELF file",
-        "Example: rvcons info swap.elf",
-        &[Argument::Needed("FILE", "an ELF file")],
-    )
-}
-
-/// `run`.
-pub(crate) fn run_command<'a>(alloc: Global) -> Result<Command<'a>, AllocError>
-    ensures app { IfOk result (λ c. app_of c ≡ run_app) }
-    ensures local { IfOk result (λ c. (out-Command c).has_globals ≡ false) }
-{
-    command_of(
-        alloc,
-        "run",
-        "Runs a program under a schedule and prints how each hart ends",
-        "Example: rvcons run --hex row1.hex --inputs 7,9 --choices row1.choices",
-        &[
+    },
+    CommandRow {
+        name: "list",
+        does: "Lists the executable segments of an ELF file",
+        example: "Example: rvcons list swap.elf",
+        arguments: &[Argument::Needed("FILE", "an ELF file")],
+    },
+    CommandRow {
+        name: "info",
+        does: "Shows the entry, the segments, the symbols and the library's object of an ELF file",
+        example: "Example: rvcons info swap.elf",
+        arguments: &[Argument::Needed("FILE", "an ELF file")],
+    },
+    CommandRow {
+        name: "run",
+        does: "Runs a program under a schedule and prints how each hart ends",
+        example: "Example: rvcons run --hex row1.hex --inputs 7,9 --choices row1.choices",
+        arguments: &[
             Argument::Flag("hex", HEX),
             Argument::Needed("FILE", FILE),
             Argument::NeededOption("inputs", INPUTS),
@@ -76,38 +54,22 @@ pub(crate) fn run_command<'a>(alloc: Global) -> Result<Command<'a>, AllocError>
             Argument::Optional("rule", RULE),
             Argument::Flag("must-exit", MUST_EXIT),
         ],
-    )
-}
-
-/// `debug`.
-pub(crate) fn debug_command<'a>(alloc: Global) -> Result<Command<'a>, AllocError>
-    ensures app { IfOk result (λ c. app_of c ≡ debug_app) }
-    ensures local { IfOk result (λ c. (out-Command c).has_globals ≡ false) }
-{
-    command_of(
-        alloc,
-        "debug",
-        "Goes forward and back in a run, by commands of standard input",
-        "Example: echo 'go' | rvcons debug swap.elf --inputs 7,9 --choices swap.choices",
-        &[
+    },
+    CommandRow {
+        name: "debug",
+        does: "Goes forward and back in a run, by commands of standard input",
+        example: "Example: echo 'go' | rvcons debug swap.elf --inputs 7,9 --choices swap.choices",
+        arguments: &[
             Argument::Needed("FILE", FILE),
             Argument::NeededOption("inputs", INPUTS),
             Argument::NeededOption("choices", CHOICES),
         ],
-    )
-}
-
-/// `threads`.
-pub(crate) fn threads_command<'a>(alloc: Global) -> Result<Command<'a>, AllocError>
-    ensures app { IfOk result (λ c. app_of c ≡ threads_app) }
-    ensures local { IfOk result (λ c. (out-Command c).has_globals ≡ false) }
-{
-    command_of(
-        alloc,
-        "threads",
-        "Runs each hart in a thread of its own and prints how each one ends",
-        "Example: rvcons threads lrsc.elf --inputs 3,5,7,9 --budget 100 --refuse 0:7 --history lrsc.history --rule lrsc",
-        &[
+    },
+    CommandRow {
+        name: "threads",
+        does: "Runs each hart in a thread of its own and prints how each one ends",
+        example: "Example: rvcons threads lrsc.elf --inputs 3,5,7,9 --budget 100 --refuse 0:7 --history lrsc.history --rule lrsc",
+        arguments: &[
             Argument::Needed("FILE", FILE),
             Argument::NeededOption("inputs", INPUTS),
             Argument::NeededOption("budget", BUDGET),
@@ -116,53 +78,29 @@ pub(crate) fn threads_command<'a>(alloc: Global) -> Result<Command<'a>, AllocErr
             Argument::Optional("rule", RULE),
             Argument::Flag("banked", BANKED),
         ],
-    )
-}
-
-/// `replay`.
-pub(crate) fn replay_command<'a>(alloc: Global) -> Result<Command<'a>, AllocError>
-    ensures app { IfOk result (λ c. app_of c ≡ replay_app) }
-    ensures local { IfOk result (λ c. (out-Command c).has_globals ≡ false) }
-{
-    command_of(
-        alloc,
-        "replay",
-        "Runs a program under a history and prints how each hart ends",
-        "Example: rvcons replay lrsc.elf --inputs 3,5,7,9 --history lrsc.history --rule lrsc",
-        &[
+    },
+    CommandRow {
+        name: "replay",
+        does: "Runs a program under a history and prints how each hart ends",
+        example: "Example: rvcons replay lrsc.elf --inputs 3,5,7,9 --history lrsc.history --rule lrsc",
+        arguments: &[
             Argument::Needed("FILE", FILE),
             Argument::NeededOption("inputs", INPUTS),
             Argument::NeededOption("history", HISTORY),
             Argument::Optional("rule", RULE),
         ],
-    )
-}
-
-/// `lib`; its help has `objects`, the names of the library's objects.
-pub(crate) fn lib_command<'a>(alloc: Global, objects: &'a str) -> Result<Command<'a>, AllocError>
-    ensures app { IfOk result (λ c. app_of c ≡ lib_app) }
-    ensures local { IfOk result (λ c. (out-Command c).has_globals ≡ false) }
-{
-    command_of(
-        alloc,
-        "lib",
-        "Prints the source of an object of the library",
-        "Example: rvcons lib swap",
-        &[Argument::Needed("K", objects)],
-    )
-}
-
-/// `campaign`.
-pub(crate) fn campaign_command<'a>(alloc: Global) -> Result<Command<'a>, AllocError>
-    ensures app { IfOk result (λ c. app_of c ≡ campaign_app) }
-    ensures local { IfOk result (λ c. (out-Command c).has_globals ≡ false) }
-{
-    command_of(
-        alloc,
-        "campaign",
-        "Runs a program under random schedules and prints a line for each seed",
-        "Example: rvcons campaign swap.elf --inputs 7,9 --first 0 --count 1000 --steps 40 --rule swap",
-        &[
+    },
+    CommandRow {
+        name: "lib",
+        does: "Prints the source of an object of the library",
+        example: "Example: rvcons lib swap",
+        arguments: &[Argument::Object("K")],
+    },
+    CommandRow {
+        name: "campaign",
+        does: "Runs a program under random schedules and prints a line for each seed",
+        example: "Example: rvcons campaign swap.elf --inputs 7,9 --first 0 --count 1000 --steps 40 --rule swap",
+        arguments: &[
             Argument::Needed("FILE", FILE),
             Argument::NeededOption("inputs", INPUTS),
             Argument::NeededOption("first", "the first seed"),
@@ -176,20 +114,12 @@ pub(crate) fn campaign_command<'a>(alloc: Global) -> Result<Command<'a>, AllocEr
             Argument::Optional("refusals", REFUSALS),
             Argument::Flag("must-exit", MUST_EXIT),
         ],
-    )
-}
-
-/// `schedule`.
-pub(crate) fn schedule_command<'a>(alloc: Global) -> Result<Command<'a>, AllocError>
-    ensures app { IfOk result (λ c. app_of c ≡ schedule_app) }
-    ensures local { IfOk result (λ c. (out-Command c).has_globals ≡ false) }
-{
-    command_of(
-        alloc,
-        "schedule",
-        "Prints the choices of a seed, of turns, or of one hart alone",
-        "Example: rvcons schedule --harts 2 --steps 40 --seed 5",
-        &[
+    },
+    CommandRow {
+        name: "schedule",
+        does: "Prints the choices of a seed, of turns, or of one hart alone",
+        example: "Example: rvcons schedule --harts 2 --steps 40 --seed 5",
+        arguments: &[
             Argument::NeededOption("harts", "how many harts there are: 1 to 32"),
             Argument::NeededOption("steps", "how many choices are printed, below 2^32"),
             Argument::Optional("seed", "draw them as a campaign draws those of this seed"),
@@ -200,40 +130,24 @@ pub(crate) fn schedule_command<'a>(alloc: Global) -> Result<Command<'a>, AllocEr
             Argument::Optional("inputs", INPUTS_OF_SCHEDULE),
             Argument::Allowed("FILE", "with priorities:DEPTH: the program, an ELF file"),
         ],
-    )
-}
-
-/// `shrink`.
-pub(crate) fn shrink_command<'a>(alloc: Global) -> Result<Command<'a>, AllocError>
-    ensures app { IfOk result (λ c. app_of c ≡ shrink_app) }
-    ensures local { IfOk result (λ c. (out-Command c).has_globals ≡ false) }
-{
-    command_of(
-        alloc,
-        "shrink",
-        "Prints a minimal choice text under which a program fails in the same way",
-        "Example: rvcons shrink swap.elf --inputs 7,9 --choices seed.choices --rule swap",
-        &[
+    },
+    CommandRow {
+        name: "shrink",
+        does: "Prints a minimal choice text under which a program fails in the same way",
+        example: "Example: rvcons shrink swap.elf --inputs 7,9 --choices seed.choices --rule swap",
+        arguments: &[
             Argument::Needed("FILE", FILE),
             Argument::NeededOption("inputs", INPUTS),
             Argument::NeededOption("choices", CHOICES),
             Argument::Optional("rule", RULE),
             Argument::Flag("must-exit", HANGS),
         ],
-    )
-}
-
-/// `trace`.
-pub(crate) fn trace_command<'a>(alloc: Global) -> Result<Command<'a>, AllocError>
-    ensures app { IfOk result (λ c. app_of c ≡ trace_app) }
-    ensures local { IfOk result (λ c. (out-Command c).has_globals ≡ false) }
-{
-    command_of(
-        alloc,
-        "trace",
-        "Prints what each choice of a run did: a line of JSON for each, or a table",
-        "Example: rvcons trace swap.elf --inputs 7,9 --choices seed.choices --table",
-        &[
+    },
+    CommandRow {
+        name: "trace",
+        does: "Prints what each choice of a run did: a line of JSON for each, or a table",
+        example: "Example: rvcons trace swap.elf --inputs 7,9 --choices seed.choices --table",
+        arguments: &[
             Argument::Flag("hex", HEX),
             Argument::Needed("FILE", FILE),
             Argument::NeededOption("inputs", INPUTS),
@@ -245,5 +159,5 @@ pub(crate) fn trace_command<'a>(alloc: Global) -> Result<Command<'a>, AllocError
                 "print a table in Markdown, with a column for each hart",
             ),
         ],
-    )
-}
+    },
+];

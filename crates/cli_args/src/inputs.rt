@@ -2,7 +2,7 @@
 
 ghost use Rattle.std.specs.Prelude.{◌≡◌, ◌≤◌, Some, IfOk, IfErr, length};
 ghost use Rattle.std.specs.List.{position_or_len};
-ghost use Rattle.cli_args.specs.Inputs.{input_of, inputs_of, is_comma, RefusesInputs};
+ghost use Rattle.cli_args.specs.Inputs.{input_of, inputs_of, ends_part, RefusesInputs};
 
 use crate::line::LineFault;
 use crate::numbers::number_in;
@@ -18,7 +18,7 @@ pub fn read_input(digits: &[u8]) -> Option<u32>
 
 /// Number of bytes before the first comma.
 pub fn part_len(rest: &[u8]) -> usize
-    ensures count { result ≡ position_or_len is_comma rest.now }
+    ensures count { result ≡ position_or_len ends_part rest.now }
     ensures within { result ≤ length rest.now }
 {
     rest.iter().take_while(|byte| **byte != b',').count()

@@ -1,14 +1,7 @@
 //! Matches the command line by clap.
 
-ghost use Rattle.std.specs.Prelude.{◌≡◌, map, IfOk, IfErr};
-ghost use Rattle.clap.specs.Words.{app_of, subcommand_of, subcommand_rows_of, rows_of, found_of, takes};
-ghost use Rattle.cli_args.specs.Line.{bare_app, program_app, IfNoCommand, IsNoRun, IsNotMatched, IsRunOrder, IsTold};
-
-use crate::arguments::add_command;
-use crate::commands::{
-    asm_command, campaign_command, debug_command, info_command, lib_command, list_command,
-    replay_command, run_command, schedule_command, shrink_command, threads_command, trace_command,
-};
+use crate::arguments::command_of;
+use crate::commands::{COMMANDS, CommandRow};
 use crate::run_line::{RunOrder, run_order};
 use clap::error::ErrorKind;
 use clap::{ArgMatches, Command};
@@ -35,45 +28,34 @@ pub enum LineFault {
 }
 
 // The program without its commands.
-fn bare_program<'a>(alloc: Global) -> Command<'a>
-    ensures { app_of result ≡ bare_app }
-{
+fn bare_program<'a>(alloc: Global) -> Command<'a> {
     Command::new(alloc, "rvcons")
         .version("1.0.0")
         .about("Shows what RISC-V machine code of several harts does under a named schedule")
         .after_help("`rvcons run --help` shows a command's options and an example; so for each.")
 }
 
-fn program<'a>(alloc: Global, objects: &'a str) -> Result<Command<'a>, AllocError>
-    ensures { IfOk result (λ c. app_of c ≡ program_app) }
-{
-    let program = add_command(bare_program(alloc), asm_command(alloc))?;
-    let program = add_command(program, list_command(alloc))?;
-    let program = add_command(program, info_command(alloc))?;
-    let program = add_command(program, run_command(alloc))?;
-    let program = add_command(program, debug_command(alloc))?;
-    let program = add_command(program, threads_command(alloc))?;
-    let program = add_command(program, replay_command(alloc))?;
-    let program = add_command(program, lib_command(alloc, objects))?;
-    let program = add_command(program, campaign_command(alloc))?;
-    let program = add_command(program, schedule_command(alloc))?;
-    let program = add_command(program, shrink_command(alloc))?;
-    add_command(program, trace_command(alloc))
+// The program with these commands.
+fn program<'a>(
+    alloc: Global,
+    commands: &[CommandRow],
+    objects: &'a str,
+) -> Result<Command<'a>, AllocError> {
+    let mut program = bare_program(alloc);
+    'commands: for command in commands {
+        program = program.subcommand(command_of(alloc, command, objects)?)?;
+    }
+    Ok(program)
 }
 
-/// Clap's matches for the words, the first of which is the program's name. Clap rejects no line
-/// that its matching function accepts. Help lists the library's objects by `objects`, their names.
+/// Clap's matches for the words, the first of which is the program's name. Help lists the library's
+/// objects by `objects`, their names.
 pub fn match_line<'a>(
     alloc: Global,
     words: &'a [&'a str],
     objects: &'a str,
-) -> Result<ArgMatches<'a>, LineFault>
-    ensures matches { IfOk result (λ matches. subcommand_rows_of matches
-        ≡ subcommand_of program_app (map (λ s. s.now) words.entry.now)) }
-    ensures fault { IfErr result IsNotMatched }
-    ensures told { IfErr result (IsTold (takes program_app (map (λ s. s.now) words.entry.now))) }
-{
-    let Ok(command) = program(alloc, objects) else {
+) -> Result<ArgMatches<'a>, LineFault> {
+    let Ok(command) = program(alloc, &COMMANDS, objects) else {
         return Err(LineFault::Memory);
     };
     match command.try_get_matches_from(words) {
@@ -84,20 +66,12 @@ pub fn match_line<'a>(
 }
 
 /// The order of `run` that the words give, the first of which is the program's name; `None` if they
-/// give another command. Each text of it is the one in clap's matches for these words, and clap
-/// rejects no line that its matching function accepts. Help lists the library's objects by
-/// `objects`, their names.
+/// give another command. Help lists the library's objects by `objects`, their names.
 pub fn read_run<'a>(
     alloc: Global,
     words: &'a [&'a str],
     objects: &'a str,
-) -> Result<Option<RunOrder<'a>>, LineFault>
-    ensures order { IfOk result
-        (IsRunOrder (subcommand_of program_app (map (λ s. s.now) words.entry.now))) }
-    ensures no_command { IfErr result (IfNoCommand
-        (IsNoRun (subcommand_of program_app (map (λ s. s.now) words.entry.now)))) }
-    ensures told { IfErr result (IsTold (takes program_app (map (λ s. s.now) words.entry.now))) }
-{
+) -> Result<Option<RunOrder<'a>>, LineFault> {
     let matches = match_line(alloc, words, objects)?;
     let Some((name, found)) = matches.subcommand() else {
         return Err(LineFault::NoCommand);

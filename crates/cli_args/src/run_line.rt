@@ -1,10 +1,5 @@
 //! The command `run`.
 
-ghost use Rattle.std.specs.Prelude.{◌≡◌, false, None, IfSome};
-ghost use Rattle.clap.specs.Words.{rows_of, found_of};
-ghost use Rattle.cli_args.specs.Arguments.{holds_all};
-ghost use Rattle.cli_args.specs.RunLine.{run_names, IsRun};
-
 use crate::arguments::{is_set, text_of};
 use clap::ArgMatches;
 
@@ -27,10 +22,7 @@ pub struct RunOrder<'a> {
 }
 
 /// The order in clap's matches.
-pub fn run_order<'a>(matches: &ArgMatches<'a>) -> Option<RunOrder<'a>>
-    ensures some { IfSome result (λ order. IsRun (rows_of (found_of matches.now)) order) }
-    ensures none { result ≡ None → holds_all run_names (rows_of (found_of matches.now)) ≡ false }
-{
+pub fn run_order<'a>(matches: &ArgMatches<'a>) -> Option<RunOrder<'a>> {
     Some(RunOrder {
         hex: is_set(matches, "hex"),
         file: text_of(matches, "FILE")?,

@@ -3,12 +3,12 @@
 ghost use Rattle.std.specs.Prelude.{◌+◌, ◌-◌, ◌<◌, ◌≤◌, ◌^◌, IfOk};
 
 use crate::watching::Watching;
-use byte_io::{MemorySource, ReaderSource, Source, Status, WriterSink};
+use byte_io::{MemorySource, Progress, ReaderSource, Source, Status, WriterSink};
 use cli_args::read_inputs;
-use cli_objects::read_rule;
 use cli_orders::CampaignOrder;
 use cli_report::{
-    Audience, RunFiles, WIPE, bad_line, cannot_open, read_again, refuse, say_why, show, wipe_line,
+    Audience, RunFiles, WIPE, bad_line, cannot_open, read_again, read_rule, refuse, say_why, show,
+    wipe_line,
 };
 use cli_values::{read_draw, read_report, read_seed_numbers};
 use cmd_campaign::{Campaign, Finished, campaign_engine};
@@ -16,7 +16,6 @@ use cmd_schedule::{SeedPlan, seed_engine};
 use hint_fault::run_advice;
 use outcome::{Exit, Expect};
 use program_open::ProgramForm;
-use progress::Progress;
 use sched_draw::Order;
 use std::rt::Files;
 use std::thread::Threads;
@@ -108,7 +107,7 @@ fn exit_of(order: &CampaignOrder) -> Exit {
 }
 
 /// Runs a program under the schedule of each seed. A person sees the progress.
-pub fn run_campaign<R: Files + AllocGlobal + Print + Eprint + Threads + Sync>(
+pub fn obey_campaign<R: Files + AllocGlobal + Print + Eprint + Threads + Sync>(
     rt: &R,
     audience: Audience,
     order: &CampaignOrder,

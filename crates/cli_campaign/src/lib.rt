@@ -1,7 +1,7 @@
 //! Runs `campaign`.
 #![tactic(auto)]
 
-pub use campaign::run_campaign;
+pub use campaign::obey_campaign;
 
 mod campaign;
 mod watching;

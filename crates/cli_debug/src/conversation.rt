@@ -2,7 +2,7 @@
 
 ghost use Rattle.std.specs.Prelude.{◌-◌, ◌^◌, ◌<◌};
 
-use byte_io::{MemorySource, ReadFault, Source, Status, read_all};
+use byte_io::{MemorySource, Progress, ReadFault, Source, Status, read_all};
 use cmd_debug::{DebugEngineFault, open_session};
 use debug_session::Debugger;
 use debug_text::{Answer, Command, DebugFault, obey, read_command};
@@ -11,7 +11,6 @@ use hint_debug::{GREETING, Prompt, line_advice, next_text, watched_word, word_be
 use hint_fault::symbols_or_none;
 use image::Image;
 use program_open::{CommandFault, Input as InputFile, ProgramForm, open_run, read_program};
-use progress::Progress;
 use std::alloc::{AllocError, Global};
 use std::io::{self, Input};
 

@@ -1,13 +1,12 @@
 //! Runs `debug`.
 
 use crate::conversation::talk_to_person;
-use byte_io::{ReaderSource, Status, WriterSink};
+use byte_io::{Progress, ReaderSource, Status, WriterSink};
 use cli_args::read_inputs;
 use cli_orders::DebugOrder;
 use cli_report::{Audience, RunFiles, WIPE, open_both, out_of_memory, refuse, say_why, wipe_line};
 use cmd_debug::{DebugEngineFault, debug_engine};
 use program_open::ProgramForm;
-use progress::Progress;
 use std::io::{self, BufReader, Input};
 use std::rt::Files;
 
@@ -33,7 +32,7 @@ impl<'a, R: Eprint> Progress for Line<'a, R> {
 
 /// Answers the commands of standard input, each as it comes. Both files are opened before either is
 /// read. A person sees the progress of a long start, and hints beside the answers.
-pub fn converse<R: Files + AllocGlobal + Print + Eprint + Input>(
+pub fn obey_debug<R: Files + AllocGlobal + Print + Eprint + Input>(
     rt: &R,
     audience: Audience,
     talk: Audience,

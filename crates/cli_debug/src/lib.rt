@@ -1,7 +1,7 @@
 //! Runs `debug`, for another program or for a person at a terminal.
 #![tactic(auto)]
 
-pub use debug::converse;
+pub use debug::obey_debug;
 
 mod conversation;
 mod debug;

@@ -37,7 +37,7 @@ fn open_sources<R: Files + AllocGlobal + Print + Eprint>(
 
 /// Assembles sources, all of which are opened before any is read. An output file is opened once its
 /// bytes are made.
-pub fn assemble<R: Files + AllocGlobal + Print + Eprint>(
+pub fn obey_asm<R: Files + AllocGlobal + Print + Eprint>(
     rt: &R,
     audience: Audience,
     order: &AsmOrder,

@@ -9,7 +9,7 @@ use std::rt::Files;
 use std::{fs, io};
 
 /// Shows a view of an ELF file.
-pub fn show_file<R: Files + AllocGlobal + Print + Eprint>(
+pub fn obey_file<R: Files + AllocGlobal + Print + Eprint>(
     rt: &R,
     audience: Audience,
     view: FileView,

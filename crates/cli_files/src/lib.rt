@@ -1,9 +1,9 @@
 //! Runs `asm`, `list`, `info` and `lib`.
 #![tactic(auto)]
 
-pub use asm::assemble;
-pub use file::show_file;
-pub use library::print_source;
+pub use asm::obey_asm;
+pub use file::obey_file;
+pub use library::obey_lib;
 
 mod asm;
 mod file;

@@ -1,15 +1,14 @@
 //! Runs `lib`.
 
 use byte_io::{Status, WriterSink};
-use cli_objects::read_object;
 use cli_orders::LibOrder;
-use cli_report::{refuse, say};
+use cli_report::{read_object, refuse, say};
 use object_library::source;
 use program_open::write_text;
 use std::io;
 
 /// Prints the source of an object.
-pub fn print_source<R: AllocGlobal + Print + Eprint>(rt: &R, order: &LibOrder) -> Status {
+pub fn obey_lib<R: AllocGlobal + Print + Eprint>(rt: &R, order: &LibOrder) -> Status {
     let kind = match read_object(order.object) {
         Ok(kind) => kind,
         Err(fault) => return refuse(rt, &fault),

@@ -1,7 +1,7 @@
 //! Hints for a person at a terminal on a fault of sources, which are read again for them. If that
 //! fails, or is out of memory, there are none.
 
-use asm_parse::Fault;
+use asm_statement::Fault;
 use cli_report::{Audience, read_again, show};
 use hint_asm::{SourceText, asm_advice};
 use std::rt::Files;

@@ -8,7 +8,7 @@ use Rattle.std.specs.declared.cmp.Ordering.TheVariants.{Less, Equal, Greater}
 use Rattle.std.specs.BTreeSet.{insert_key}
 use Rattle.std.proofs.lemmas.List.Splits.{slice_split_first}
 use Rattle.std.specs.List.{slice_split, position_or_len}
-use Rattle.cli_args.specs.Inputs.{is_comma}
+use Rattle.cli_args.specs.Inputs.{ends_part}
 use Rattle.cli_orders.specs.Plan.{pair_of, pair_then, pairs_of, pairs_of_parts, pairs_then, has_pair}
 use Rattle.cli_args.proofs.InputLemmas.{part_of_one}
 
@@ -74,33 +74,33 @@ inserted (key ∷ keys) pair h n = placed (inserted keys pair h n) (pair_cmp pai
         ∙ sym (or-assoc (key.0 == h && key.1 == n) (has_pair keys h n) (pair.0 == h && pair.1 == n))
 
 -- reading has come so far in a text, with a part before the next comma or the end
-module _ (text rest : List ℕ) (end : ℕ) (old : List (ℕ × ℕ)) (place : end ≡ position_or_len is_comma rest)
-    (so_far : pairs_of text ≡ pairs_then old (pairs_of_parts (slice_split is_comma rest))) where
-  next : (parts : List (List ℕ)) → slice_split is_comma rest ≡ take (position_or_len is_comma rest) rest ∷ parts
+module _ (text rest : List ℕ) (end : ℕ) (old : List (ℕ × ℕ)) (place : end ≡ position_or_len ends_part rest)
+    (so_far : pairs_of text ≡ pairs_then old (pairs_of_parts (slice_split ends_part rest))) where
+  next : (parts : List (List ℕ)) → slice_split ends_part rest ≡ take (position_or_len ends_part rest) rest ∷ parts
       → pairs_of text ≡ pairs_then old (pair_then (pair_of (take end rest)) (pairs_of_parts parts))
   next parts e =
       so_far ∙ ap (λ parts. pairs_then old (pairs_of_parts parts)) e
       ∙ ap (λ n. pairs_then old (pair_then (pair_of (take n rest)) (pairs_of_parts parts))) (sym place)
 
-  read_next : (parts : List (List ℕ)) → slice_split is_comma rest ≡ take (position_or_len is_comma rest) rest ∷ parts
+  read_next : (parts : List (List ℕ)) → slice_split ends_part rest ≡ take (position_or_len ends_part rest) rest ∷ parts
       → (pair : Option (ℕ × ℕ)) → pair_of (take end rest) ≡ pair
       → pairs_of text ≡ pairs_then old (pair_then pair (pairs_of_parts parts))
   read_next parts e pair read = next parts e ∙ ap (λ pair. pairs_then old (pair_then pair (pairs_of_parts parts))) read
 
   pub bad_pair : pair_of (take end rest) ≡ None → end ≤ length rest → pairs_of text ≡ None
   bad_pair read within = ⊎_elim
-      (λ (lt : position_or_len is_comma rest < length rest). read_next _ (slice_split_first is_comma rest 0 lt) None read)
-      (λ (ge : length rest ≤ position_or_len is_comma rest). read_next [] (part_of_one rest (omega arith)) None read)
-      (cases_lt (position_or_len is_comma rest) (length rest))
+      (λ (lt : position_or_len ends_part rest < length rest). read_next _ (slice_split_first ends_part rest 0 lt) None read)
+      (λ (ge : length rest ≤ position_or_len ends_part rest). read_next [] (part_of_one rest (omega arith)) None read)
+      (cases_lt (position_or_len ends_part rest) (length rest))
 
   pub last_pair : (pair : ℕ × ℕ) → pair_of (take end rest) ≡ Some pair → end ≡ length rest → pairs_of text ≡ Some (old ++ pair ∷ [])
   last_pair pair read whole =
       read_next [] (part_of_one rest (sym place ∙ whole)) (Some pair) read
 
   pub goes_on : (pair : ℕ × ℕ) → pair_of (take end rest) ≡ Some pair → end < length rest
-      → pairs_of text ≡ pairs_then (old ++ pair ∷ []) (pairs_of_parts (slice_split is_comma (drop (end + 1) rest)))
+      → pairs_of text ≡ pairs_then (old ++ pair ∷ []) (pairs_of_parts (slice_split ends_part (drop (end + 1) rest)))
   goes_on pair read lt =
-      let more : position_or_len is_comma rest < length rest = omega arith in
-      read_next _ (slice_split_first is_comma rest 0 more) (Some pair) read
-      ∙ ap (λ n. pairs_then old (pairs_then (pair ∷ []) (pairs_of_parts (slice_split is_comma (drop (n + 1) rest))))) (sym place)
-      ∙ pairs_then-more old pair (pairs_of_parts (slice_split is_comma (drop (end + 1) rest)))
+      let more : position_or_len ends_part rest < length rest = omega arith in
+      read_next _ (slice_split_first ends_part rest 0 more) (Some pair) read
+      ∙ ap (λ n. pairs_then old (pairs_then (pair ∷ []) (pairs_of_parts (slice_split ends_part (drop (n + 1) rest))))) (sym place)
+      ∙ pairs_then-more old pair (pairs_of_parts (slice_split ends_part (drop (end + 1) rest)))

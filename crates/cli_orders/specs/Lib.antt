@@ -1,12 +1,1 @@
-pub mod AsmLine
-pub mod CampaignLine
-pub mod DebugLine
-pub mod LibLine
-pub mod FileLine
-pub mod ReplayLine
-pub mod ScheduleLine
-pub mod ShrinkLine
-pub mod ThreadsLine
-pub mod TraceLine
-pub mod Line
 pub mod Plan

@@ -2,7 +2,7 @@
 use Rattle.std.specs.Prelude.{◌≡◌, ℕ, ◌==◌, ◌&&◌, Bool, drop, List, [], ◌∷◌, ◌++◌, Option, Some, None}
 use Rattle.std.specs.List.{list_any, slice_split}
 use Rattle.text_items.specs.Numbers.{before_byte, from_byte}
-use Rattle.cli_args.specs.Inputs.{input_of, is_comma}
+use Rattle.cli_args.specs.Inputs.{input_of, ends_part}
 use Rattle.cli_args.specs.declared.line.LineFault.{LineFault}
 use Rattle.cli_args.specs.declared.line.LineFault.TheVariants as faults
 
@@ -33,15 +33,15 @@ pairs_of_parts (part ∷ parts) = pair_then (pair_of part) (pairs_of_parts parts
 
 -- the pairs of a text: one between each two commas
 abbrev pub pairs_of : List ℕ → Option (List (ℕ × ℕ))
-pairs_of text = pairs_of_parts (slice_split is_comma text)
+pairs_of text = pairs_of_parts (slice_split ends_part text)
 
 -- whether a list has a pair
 abbrev pub has_pair : List (ℕ × ℕ) → ℕ → ℕ → Bool
 has_pair pairs h n = list_any (λ p. p.0 == h && p.1 == n) pairs
 
 -- the keys are those pairs, in any order
-abbrev pub Holds : List (ℕ × ℕ) → List (ℕ × ℕ) → Type 0
-Holds keys pairs = (h n : ℕ) → has_pair keys h n ≡ has_pair pairs h n
+abbrev pub HoldsPairs : List (ℕ × ℕ) → List (ℕ × ℕ) → Type 0
+HoldsPairs keys pairs = (h n : ℕ) → has_pair keys h n ≡ has_pair pairs h n
 
 -- a text that isn't a plan is reported as such
 abbrev pub RefusesPlan : List ℕ → LineFault → Type 0

@@ -1,10 +1,5 @@
 //! The command `campaign`.
 
-ghost use Rattle.std.specs.Prelude.{◌≡◌, false, None, IfSome};
-ghost use Rattle.clap.specs.Words.{rows_of, found_of};
-ghost use Rattle.cli_args.specs.Arguments.{holds_all};
-ghost use Rattle.cli_orders.specs.CampaignLine.{campaign_names, IsCampaign};
-
 use clap::ArgMatches;
 use cli_args::{is_set, text_of};
 
@@ -41,11 +36,7 @@ pub struct CampaignOrder<'a> {
 }
 
 /// The order in clap's matches.
-pub(crate) fn campaign_order<'a>(matches: &ArgMatches<'a>) -> Option<CampaignOrder<'a>>
-    ensures some { IfSome result (λ order. IsCampaign (rows_of (found_of matches.now)) order) }
-    ensures none { result ≡ None
-        → holds_all campaign_names (rows_of (found_of matches.now)) ≡ false }
-{
+pub(crate) fn campaign_order<'a>(matches: &ArgMatches<'a>) -> Option<CampaignOrder<'a>> {
     Some(CampaignOrder {
         file: text_of(matches, "FILE")?,
         inputs: text_of(matches, "inputs")?,

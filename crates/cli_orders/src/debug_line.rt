@@ -1,10 +1,5 @@
 //! The command `debug`.
 
-ghost use Rattle.std.specs.Prelude.{◌≡◌, false, None, IfSome};
-ghost use Rattle.clap.specs.Words.{rows_of, found_of};
-ghost use Rattle.cli_args.specs.Arguments.{holds_all};
-ghost use Rattle.cli_orders.specs.DebugLine.{debug_names, IsDebug};
-
 use clap::ArgMatches;
 use cli_args::text_of;
 
@@ -21,10 +16,7 @@ pub struct DebugOrder<'a> {
 }
 
 /// The order in clap's matches.
-pub(crate) fn debug_order<'a>(matches: &ArgMatches<'a>) -> Option<DebugOrder<'a>>
-    ensures some { IfSome result (λ order. IsDebug (rows_of (found_of matches.now)) order) }
-    ensures none { result ≡ None → holds_all debug_names (rows_of (found_of matches.now)) ≡ false }
-{
+pub(crate) fn debug_order<'a>(matches: &ArgMatches<'a>) -> Option<DebugOrder<'a>> {
     Some(DebugOrder {
         file: text_of(matches, "FILE")?,
         inputs: text_of(matches, "inputs")?,

@@ -1,10 +1,5 @@
 //! Parses the command line to an order.
 
-ghost use Rattle.std.specs.Prelude.{◌≡◌, Some, None, map, IfOk, IfErr, IfSome};
-ghost use Rattle.clap.specs.Words.{subcommand_of, subcommand_rows_of, rows_of, found_of, takes};
-ghost use Rattle.cli_args.specs.Line.{program_app, IfNoCommand, IsTold};
-ghost use Rattle.cli_orders.specs.Line.{HasNoOrder, IsNoPlain, IsOrder};
-
 use crate::asm_line::{AsmOrder, asm_order};
 use crate::campaign_line::{CampaignOrder, campaign_order};
 use crate::debug_line::{DebugOrder, debug_order};
@@ -49,11 +44,7 @@ pub enum Order<'a> {
 }
 
 // The order of a command whose arguments are all texts, by its name and its matches.
-fn plain_order<'a>(name: &str, found: &ArgMatches<'a>) -> Option<Order<'a>>
-    ensures some { IfSome result (λ order.
-        IsOrder (Some (name.now, rows_of (found_of found.now))) order) }
-    ensures none { result ≡ None → IsNoPlain name.now (rows_of (found_of found.now)) }
-{
+fn plain_order<'a>(name: &str, found: &ArgMatches<'a>) -> Option<Order<'a>> {
     match name {
         "list" => Some(Order::List(file_order(found)?)),
         "info" => Some(Order::Info(file_order(found)?)),
@@ -71,12 +62,7 @@ fn plain_order<'a>(name: &str, found: &ArgMatches<'a>) -> Option<Order<'a>>
 }
 
 // The order in clap's matches.
-fn order_of<'a>(alloc: Global, matches: &ArgMatches<'a>) -> Result<Option<Order<'a>>, AllocError>
-    ensures some { IfOk result (λ found.
-        IfSome found (λ order. IsOrder (subcommand_rows_of matches.now) order)) }
-    ensures none { IfOk result (λ found.
-        found ≡ None → HasNoOrder (subcommand_rows_of matches.now)) }
-{
+fn order_of<'a>(alloc: Global, matches: &ArgMatches<'a>) -> Result<Option<Order<'a>>, AllocError> {
     let Some((name, found)) = matches.subcommand() else {
         return Ok(None);
     };
@@ -89,20 +75,13 @@ fn order_of<'a>(alloc: Global, matches: &ArgMatches<'a>) -> Result<Option<Order<
     Ok(plain_order(name, found))
 }
 
-/// The order that the words give, the first of which is the program's name. Each text of it is the
-/// one in clap's matches for these words, and clap rejects no line that its matching function
-/// accepts. Help lists the library's objects by `objects`, their names.
+/// The order that the words give, the first of which is the program's name. Help lists the library's
+/// objects by `objects`, their names.
 pub fn read_line<'a>(
     alloc: Global,
     words: &'a [&'a str],
     objects: &'a str,
-) -> Result<Order<'a>, LineFault>
-    ensures order { IfOk result (λ order.
-        IsOrder (subcommand_of program_app (map (λ s. s.now) words.entry.now)) order) }
-    ensures no_command { IfErr result (IfNoCommand
-        (HasNoOrder (subcommand_of program_app (map (λ s. s.now) words.entry.now)))) }
-    ensures told { IfErr result (IsTold (takes program_app (map (λ s. s.now) words.entry.now))) }
-{
+) -> Result<Order<'a>, LineFault> {
     let matches = match_line(alloc, words, objects)?;
     match order_of(alloc, &matches) {
         Ok(Some(order)) => Ok(order),

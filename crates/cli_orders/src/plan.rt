@@ -1,7 +1,7 @@
 //! Plans of refusals.
 
 ghost use Rattle.std.specs.Prelude.{◌≡◌, ◌||◌, ◌&&◌, ◌==◌, ℕ, drop, List, Some, IfOk, IfErr};
-ghost use Rattle.cli_orders.specs.Plan.{pair_of, pairs_of, has_pair, Holds, RefusesPlan};
+ghost use Rattle.cli_orders.specs.Plan.{pair_of, pairs_of, has_pair, HoldsPairs, RefusesPlan};
 
 use cli_args::{LineFault, part_len, read_input};
 use std::alloc::{AllocError, Allocator};
@@ -50,7 +50,7 @@ pub fn read_plan<A: Allocator + Copy>(
     text: &str,
 ) -> Result<BTreeSet<(u32, u32), A>, LineFault>
     ensures ok { IfOk result (λ plan. (pairs : List (ℕ × ℕ)) × (pairs_of text.now ≡ Some pairs)
-        × Holds plan.keys pairs) }
+        × HoldsPairs plan.keys pairs) }
     ensures err { IfErr result (RefusesPlan text.now) }
 {
     let mut plan = BTreeSet::new(alloc);

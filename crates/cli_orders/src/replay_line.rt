@@ -1,10 +1,5 @@
 //! The command `replay`.
 
-ghost use Rattle.std.specs.Prelude.{◌≡◌, false, None, IfSome};
-ghost use Rattle.clap.specs.Words.{rows_of, found_of};
-ghost use Rattle.cli_args.specs.Arguments.{holds_all};
-ghost use Rattle.cli_orders.specs.ReplayLine.{replay_names, IsReplay};
-
 use clap::ArgMatches;
 use cli_args::text_of;
 
@@ -23,11 +18,7 @@ pub struct ReplayOrder<'a> {
 }
 
 /// The order in clap's matches.
-pub(crate) fn replay_order<'a>(matches: &ArgMatches<'a>) -> Option<ReplayOrder<'a>>
-    ensures some { IfSome result (λ order. IsReplay (rows_of (found_of matches.now)) order) }
-    ensures none { result ≡ None
-        → holds_all replay_names (rows_of (found_of matches.now)) ≡ false }
-{
+pub(crate) fn replay_order<'a>(matches: &ArgMatches<'a>) -> Option<ReplayOrder<'a>> {
     Some(ReplayOrder {
         file: text_of(matches, "FILE")?,
         inputs: text_of(matches, "inputs")?,

@@ -1,10 +1,5 @@
 //! The command `schedule`.
 
-ghost use Rattle.std.specs.Prelude.{◌≡◌, false, None, IfSome};
-ghost use Rattle.clap.specs.Words.{rows_of, found_of};
-ghost use Rattle.cli_args.specs.Arguments.{holds_all};
-ghost use Rattle.cli_orders.specs.ScheduleLine.{schedule_names, IsSchedule};
-
 use clap::ArgMatches;
 use cli_args::{is_set, text_of};
 
@@ -34,11 +29,7 @@ pub struct ScheduleOrder<'a> {
 }
 
 /// The order in clap's matches.
-pub(crate) fn schedule_order<'a>(matches: &ArgMatches<'a>) -> Option<ScheduleOrder<'a>>
-    ensures some { IfSome result (λ order. IsSchedule (rows_of (found_of matches.now)) order) }
-    ensures none { result ≡ None
-        → holds_all schedule_names (rows_of (found_of matches.now)) ≡ false }
-{
+pub(crate) fn schedule_order<'a>(matches: &ArgMatches<'a>) -> Option<ScheduleOrder<'a>> {
     Some(ScheduleOrder {
         harts: text_of(matches, "harts")?,
         steps: text_of(matches, "steps")?,

@@ -1,10 +1,5 @@
 //! The command `shrink`.
 
-ghost use Rattle.std.specs.Prelude.{◌≡◌, false, None, IfSome};
-ghost use Rattle.clap.specs.Words.{rows_of, found_of};
-ghost use Rattle.cli_args.specs.Arguments.{holds_all};
-ghost use Rattle.cli_orders.specs.ShrinkLine.{shrink_names, IsShrink};
-
 use clap::ArgMatches;
 use cli_args::{is_set, text_of};
 
@@ -25,11 +20,7 @@ pub struct ShrinkOrder<'a> {
 }
 
 /// The order in clap's matches.
-pub(crate) fn shrink_order<'a>(matches: &ArgMatches<'a>) -> Option<ShrinkOrder<'a>>
-    ensures some { IfSome result (λ order. IsShrink (rows_of (found_of matches.now)) order) }
-    ensures none { result ≡ None
-        → holds_all shrink_names (rows_of (found_of matches.now)) ≡ false }
-{
+pub(crate) fn shrink_order<'a>(matches: &ArgMatches<'a>) -> Option<ShrinkOrder<'a>> {
     Some(ShrinkOrder {
         file: text_of(matches, "FILE")?,
         inputs: text_of(matches, "inputs")?,

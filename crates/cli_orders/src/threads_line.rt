@@ -1,11 +1,5 @@
 //! The command `threads`.
 
-ghost use Rattle.std.specs.Prelude.{◌≡◌, false, None, IfSome, codes};
-ghost use Rattle.clap.specs.Walk.{one_of};
-ghost use Rattle.clap.specs.Words.{rows_of, found_of};
-ghost use Rattle.cli_args.specs.Arguments.{holds_all, IsSet};
-ghost use Rattle.cli_orders.specs.ThreadsLine.{are_banks, threads_names, IsThreads};
-
 use clap::ArgMatches;
 use cli_args::{is_set, text_of};
 
@@ -40,9 +34,7 @@ pub struct ThreadsOrder<'a> {
 }
 
 // What harts lock, by clap's matches.
-fn locks_of<'a>(matches: &ArgMatches<'a>) -> Locks
-    ensures { IsSet (one_of (codes "banked") (rows_of (found_of matches.now))) (are_banks result) }
-{
+fn locks_of<'a>(matches: &ArgMatches<'a>) -> Locks {
     if is_set(matches, "banked") {
         Locks::Banks
     } else {
@@ -51,11 +43,7 @@ fn locks_of<'a>(matches: &ArgMatches<'a>) -> Locks
 }
 
 /// The order in clap's matches.
-pub(crate) fn threads_order<'a>(matches: &ArgMatches<'a>) -> Option<ThreadsOrder<'a>>
-    ensures some { IfSome result (λ order. IsThreads (rows_of (found_of matches.now)) order) }
-    ensures none { result ≡ None
-        → holds_all threads_names (rows_of (found_of matches.now)) ≡ false }
-{
+pub(crate) fn threads_order<'a>(matches: &ArgMatches<'a>) -> Option<ThreadsOrder<'a>> {
     Some(ThreadsOrder {
         file: text_of(matches, "FILE")?,
         inputs: text_of(matches, "inputs")?,

@@ -1,10 +1,5 @@
 //! The command `trace`.
 
-ghost use Rattle.std.specs.Prelude.{◌≡◌, false, None, IfSome};
-ghost use Rattle.clap.specs.Words.{rows_of, found_of};
-ghost use Rattle.cli_args.specs.Arguments.{holds_all};
-ghost use Rattle.cli_orders.specs.TraceLine.{trace_names, IsTrace};
-
 use clap::ArgMatches;
 use cli_args::{is_set, text_of};
 
@@ -29,10 +24,7 @@ pub struct TraceOrder<'a> {
 }
 
 /// The order in clap's matches.
-pub(crate) fn trace_order<'a>(matches: &ArgMatches<'a>) -> Option<TraceOrder<'a>>
-    ensures some { IfSome result (λ order. IsTrace (rows_of (found_of matches.now)) order) }
-    ensures none { result ≡ None → holds_all trace_names (rows_of (found_of matches.now)) ≡ false }
-{
+pub(crate) fn trace_order<'a>(matches: &ArgMatches<'a>) -> Option<TraceOrder<'a>> {
     Some(TraceOrder {
         hex: is_set(matches, "hex"),
         file: text_of(matches, "FILE")?,

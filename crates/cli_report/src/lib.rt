@@ -1,10 +1,12 @@
-//! Opens a run's files, and reports faults and progress on standard error.
+//! Opens a run's files, reads the names of objects, and reports faults and progress on standard
+//! error.
 #![tactic(auto)]
 
 pub use arguments::read_arguments;
 pub use audience::Audience;
 pub use explain::{RunFiles, explain_line, explain_run, read_again, show};
 pub use files::{open_both, say_why};
+pub use objects::{read_object, read_rule};
 pub use progress_line::{WIPE, wipe_line};
 pub use report::{bad_line, cannot_open, cannot_read, cannot_write, out_of_memory, refuse, say};
 
@@ -12,5 +14,6 @@ mod arguments;
 mod audience;
 mod explain;
 mod files;
+mod objects;
 mod progress_line;
 mod report;

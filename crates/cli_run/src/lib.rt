@@ -1,6 +1,6 @@
 //! Runs the command `run`.
 #![tactic(auto)]
 
-pub use run::run_schedule;
+pub use run::obey_run;
 
 mod run;

@@ -2,8 +2,7 @@
 
 use byte_io::{Status, WriterSink};
 use cli_args::{RunOrder, read_inputs};
-use cli_objects::read_rule;
-use cli_report::{Audience, RunFiles, open_both, read_again, refuse, say_why, show};
+use cli_report::{Audience, RunFiles, open_both, read_again, read_rule, refuse, say_why, show};
 use cmd_run::{Exit, Expect, run_engine};
 use hint_fault::run_advice;
 use program_open::{ProgramForm, deliver};
@@ -11,7 +10,7 @@ use std::io;
 use std::rt::Files;
 
 /// Runs a program under a schedule. Both files are opened before either is read.
-pub fn run_schedule<R: Files + AllocGlobal + Print + Eprint>(
+pub fn obey_run<R: Files + AllocGlobal + Print + Eprint>(
     rt: &R,
     audience: Audience,
     order: &RunOrder,

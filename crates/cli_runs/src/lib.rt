@@ -1,12 +1,13 @@
 //! Runs `replay`, `threads`, `trace`, `shrink` and `schedule`.
 #![tactic(auto)]
 
-pub use replay::replay_history;
-pub use schedule::print_schedule;
-pub use shrink::shrink_schedule;
-pub use threads::run_on_threads;
-pub use trace::trace_run;
+pub use replay::obey_replay;
+pub use schedule::obey_schedule;
+pub use shrink::obey_shrink;
+pub use threads::obey_threads;
+pub use trace::obey_trace;
 
+mod history_hint;
 mod replay;
 mod schedule;
 mod shrink;

@@ -1,18 +1,17 @@
 //! Runs `replay`.
 
+use crate::history_hint::history_advice;
 use byte_io::{Status, WriterSink};
 use cli_args::read_inputs;
-use cli_objects::read_rule;
 use cli_orders::ReplayOrder;
-use cli_report::{Audience, RunFiles, open_both, read_again, refuse, say_why, show};
+use cli_report::{Audience, RunFiles, open_both, read_again, read_rule, refuse, say_why, show};
 use cmd_replay::replay_engine;
-use hint_history::history_advice;
 use program_open::{ProgramForm, deliver};
 use std::io;
 use std::rt::Files;
 
 /// Runs a program under a history. Both files are opened before either is read.
-pub fn replay_history<R: Files + AllocGlobal + Print + Eprint>(
+pub fn obey_replay<R: Files + AllocGlobal + Print + Eprint>(
     rt: &R,
     audience: Audience,
     order: &ReplayOrder,

@@ -146,7 +146,7 @@ fn run_of<'a, R: Eprint>(
 }
 
 /// Prints the choice text of a schedule.
-pub fn print_schedule<R: Files + AllocGlobal + Print + Eprint>(
+pub fn obey_schedule<R: Files + AllocGlobal + Print + Eprint>(
     rt: &R,
     audience: Audience,
     order: &ScheduleOrder,

@@ -2,13 +2,11 @@
 
 use byte_io::{Status, WriterSink};
 use cli_args::read_inputs;
-use cli_objects::read_rule;
 use cli_orders::ShrinkOrder;
-use cli_report::{Audience, RunFiles, WIPE, open_both, refuse, say_why, show};
-use cmd_shrink::shrink_engine;
+use cli_report::{Audience, RunFiles, WIPE, open_both, read_rule, refuse, say_why, show};
+use cmd_shrink::{ChoicesLeft, shrink_engine};
 use outcome::{Exit, Expect};
 use program_open::{CommandFault, ProgramForm, deliver};
-use shrink_list::ChoicesLeft;
 use std::io;
 use std::rt::Files;
 
@@ -37,7 +35,7 @@ impl<'a, R: Eprint> ChoicesLeft for Line<'a, R> {
 
 /// Prints a minimal choice text under which a program fails as it does under the given one. Both
 /// files are opened before either is read. A person sees the number of choices left.
-pub fn shrink_schedule<R: Files + AllocGlobal + Print + Eprint>(
+pub fn obey_shrink<R: Files + AllocGlobal + Print + Eprint>(
     rt: &R,
     audience: Audience,
     order: &ShrinkOrder,

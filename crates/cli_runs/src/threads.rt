@@ -2,18 +2,16 @@
 
 ghost use Rattle.std.specs.Prelude.{◌^◌, ◌-◌, ◌<◌};
 
+use crate::history_hint::history_advice;
 use crate::telling_gate::TellingGate;
 use byte_io::{ReaderSource, Source, Status, WriterSink};
 use cli_args::{LineFault, read_inputs, read_number};
-use cli_objects::read_rule;
 use cli_orders::{Locks, ThreadsOrder, read_plan};
 use cli_report::{
-    Audience, RunFiles, cannot_open, cannot_write, out_of_memory, read_again, refuse, say, say_why,
-    show,
+    Audience, RunFiles, cannot_open, cannot_write, out_of_memory, read_again, read_rule, refuse,
+    say, say_why, show,
 };
-use cmd_threads::{ThreadsAnswer, ThreadsTask, threads_engine};
-use cmd_threads_banked::{HistoryUse, banked_engine};
-use hint_history::history_advice;
+use cmd_threads::{HistoryUse, ThreadsAnswer, ThreadsTask, banked_engine, threads_engine};
 use program_open::{CommandFault, ProgramForm, write_text};
 use std::alloc::Global;
 use std::collections::BTreeSet;
@@ -69,7 +67,7 @@ fn run_task<P: Source, G: Gate + Sync, R: AllocGlobal + Threads + Wait + Sync>(
 
 /// Runs each hart in a thread of its own. The history is written before anything is printed. A
 /// person sees the progress.
-pub fn run_on_threads<R: Files + AllocGlobal + Print + Eprint + Threads + Wait + Sync>(
+pub fn obey_threads<R: Files + AllocGlobal + Print + Eprint + Threads + Wait + Sync>(
     rt: &R,
     audience: Audience,
     order: &ThreadsOrder,

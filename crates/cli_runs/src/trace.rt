@@ -11,7 +11,7 @@ use std::io;
 use std::rt::Files;
 
 /// Prints what each choice of a run did. Both files are opened before either is read.
-pub fn trace_run<R: Files + AllocGlobal + Print + Eprint>(
+pub fn obey_trace<R: Files + AllocGlobal + Print + Eprint>(
     rt: &R,
     audience: Audience,
     order: &TraceOrder,

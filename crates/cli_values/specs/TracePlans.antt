@@ -7,22 +7,22 @@ use Rattle.cmd_trace.specs.declared.plan.TraceForm.TheVariants as form
 use Rattle.cmd_trace.specs.declared.plan.TracePlan.{TracePlan}
 
 -- a choice's number, which is not 0
-abbrev pub unless_zero : ℕ → Option ℕ
-unless_zero place = if place == 0 then None else Some place
+abbrev pub if_nonzero : ℕ → Option ℕ
+if_nonzero place = if place == 0 then None else Some place
 
 -- the number in a text: 1 to 2 ^ 64 - 1
-abbrev pub place_of : List ℕ → Option ℕ
-place_of text = option_and_then unless_zero (number_below (2 ^ 64) text)
+abbrev pub choice_number_of : List ℕ → Option ℕ
+choice_number_of text = option_and_then if_nonzero (number_below (2 ^ 64) text)
 
 -- the first traced choice: the first of all by default
-abbrev pub first_of : Option (Bor (List ℕ)) → Option ℕ
-first_of None = Some 1
-first_of (Some text) = place_of text.now
+abbrev pub first_choice_of : Option (Bor (List ℕ)) → Option ℕ
+first_choice_of None = Some 1
+first_choice_of (Some text) = choice_number_of text.now
 
 -- the last traced choice: the last of all by default
-abbrev pub last_of : Option (Bor (List ℕ)) → Option (Option ℕ)
-last_of None = Some None
-last_of (Some text) = option_map (λ place. Some place) (place_of text.now)
+abbrev pub last_choice_of : Option (Bor (List ℕ)) → Option (Option ℕ)
+last_choice_of None = Some None
+last_choice_of (Some text) = option_map (λ place. Some place) (choice_number_of text.now)
 
 -- how the trace is written
 abbrev pub form_of : Bool → TraceForm
@@ -37,4 +37,4 @@ plan_with how (Some first) (Some last) = Some (record { form = how; from = first
 
 -- the plan of the order's texts
 abbrev pub trace_plan_of : Bool → Option (Bor (List ℕ)) → Option (Bor (List ℕ)) → Option TracePlan
-trace_plan_of table from to = plan_with (form_of table) (first_of from) (last_of to)
+trace_plan_of table from to = plan_with (form_of table) (first_choice_of from) (last_choice_of to)

@@ -1,14 +1,14 @@
 //! Parses the plan of a trace.
 
 ghost use Rattle.std.specs.Prelude.{◌≡◌};
-ghost use Rattle.cli_values.specs.TracePlans.{first_of, form_of, last_of, place_of, trace_plan_of};
+ghost use Rattle.cli_values.specs.TracePlans.{choice_number_of, first_choice_of, form_of, last_choice_of, trace_plan_of};
 
 use cli_args::read_number;
 use cmd_trace::{TraceForm, TracePlan};
 
 // The number of a choice: 1 to 2^64 - 1.
-fn place_of(text: &str) -> Option<u64>
-    ensures { result ≡ place_of text.now }
+fn choice_number_of(text: &str) -> Option<u64>
+    ensures { result ≡ choice_number_of text.now }
 {
     match read_number(text, u64::MAX) {
         Ok(0) | Err(_) => None,
@@ -17,22 +17,22 @@ fn place_of(text: &str) -> Option<u64>
 }
 
 // The first traced choice.
-fn first_of(from: Option<&str>) -> Option<u64>
-    ensures { result ≡ first_of from.entry }
+fn first_choice_of(from: Option<&str>) -> Option<u64>
+    ensures { result ≡ first_choice_of from.entry }
 {
     match from {
         None => Some(1),
-        Some(text) => place_of(text),
+        Some(text) => choice_number_of(text),
     }
 }
 
 // The last traced choice, if one is given.
-fn last_of(to: Option<&str>) -> Option<Option<u64>>
-    ensures { result ≡ last_of to.entry }
+fn last_choice_of(to: Option<&str>) -> Option<Option<u64>>
+    ensures { result ≡ last_choice_of to.entry }
 {
     match to {
         None => Some(None),
-        Some(text) => Some(Some(place_of(text)?)),
+        Some(text) => Some(Some(choice_number_of(text)?)),
     }
 }
 
@@ -52,8 +52,8 @@ fn form_of(table: bool) -> TraceForm
 pub fn read_trace_plan(table: bool, from: Option<&str>, to: Option<&str>) -> Option<TracePlan>
     ensures { result ≡ trace_plan_of table from.entry to.entry }
 {
-    let from = first_of(from)?;
-    let to = last_of(to)?;
+    let from = first_choice_of(from)?;
+    let to = last_choice_of(to)?;
     Some(TracePlan {
         form: form_of(table),
         from,

@@ -2,12 +2,13 @@
 
 ghost use Rattle.std.specs.Prelude.{◌≡◌, ◌≢◌, ◌-◌, ◌^◌, ◌<◌, Ok, Err, All, IfOk, IfErr, IfSome, map, string_bytes};
 ghost use Rattle.std.specs.Io.KnownBytes.{Appends, Keeps};
-ghost use Rattle.cmd_asm.specs.Assembly.{file_of, listing_of, program_of, Begins, ComesBack, BeginsToWrite, FileIsOwn, IsRefusal, Writes, WritesOwnFile, WritesOwnLines};
+ghost use Rattle.cmd_asm.specs.Assembly.{file_of, listing_of, program_of_sources, AppendsBeginning, ComesBack, BeginsToWrite, FileIsOwn, IsSourceFault, WritesResult, WritesOwnFile, WritesOwnLines};
 ghost use Rattle.cmd_asm.specs.Sources.{all_known, IfRead, RisesAt};
 
 use crate::fault::AssemblyFault;
+use crate::program::assemble;
 use crate::sources::read_sources;
-use asm_assemble::{Program, assemble};
+use asm_assemble::Program;
 use asm_round_trip::list_source;
 use byte_io::{Sink, Source, Status, write_all};
 use elf_write::write_elf;
@@ -34,9 +35,9 @@ fn assembled_program<A: Allocator + Copy, S: Source>(
 ) -> Result<Program<A>, AssemblyFault>
     requires { All (λ n. n < 2 ^ 64 - 1) (map S.failures sources.old) }
     ensures ok { IfOk result (λ program. IfSome (all_known (map S.left sources.old)) (λ all.
-        program_of all ≡ Ok program)) }
-    ensures err { IfErr result (λ fault. IsRefusal fault
-        → IfSome (all_known (map S.left sources.old)) (λ all. program_of all ≡ Err fault)) }
+        program_of_sources all ≡ Ok program)) }
+    ensures err { IfErr result (λ fault. IsSourceFault fault
+        → IfSome (all_known (map S.left sources.old)) (λ all. program_of_sources all ≡ Err fault)) }
     ensures read { IfErr result (λ fault. IfRead fault
         (RisesAt (map S.failures sources.old) (map S.failures sources.new))) }
     ensures unwritten { IfErr result (λ fault. fault ≢ AssemblyFault.Write) }
@@ -65,8 +66,8 @@ pub fn assembled_file<A: Allocator + Copy, S: Source>(
         file_of all ≡ Ok bytes.items)) }
     // The file loads as the sources' own instructions.
     ensures own { IfOk result (λ bytes. IfSome (all_known (map S.left sources.old)) (λ all.
-        FileIsOwn all bytes.items (program_of all))) }
-    ensures refused { IfErr result (λ fault. IsRefusal fault
+        FileIsOwn all bytes.items (program_of_sources all))) }
+    ensures refused { IfErr result (λ fault. IsSourceFault fault
         → IfSome (all_known (map S.left sources.old)) (λ all. file_of all ≡ Err fault)) }
     ensures read { IfErr result (λ fault. IfRead fault
         (RisesAt (map S.failures sources.old) (map S.failures sources.new))) }
@@ -90,7 +91,7 @@ pub fn write_file<K: Sink>(sink: &mut K, bytes: &[u8]) -> Result<Status, Assembl
         × Appends (K.held sink.old) (K.held sink.new) bytes.now) }
     ensures write { IfErr result (λ fault. (fault ≡ AssemblyFault.Write)
         × (K.failures sink.old < K.failures sink.new)) }
-    ensures begun { IfErr result (λ _. Begins (K.held sink.old) (K.held sink.new) bytes.now) }
+    ensures begun { IfErr result (λ _. AppendsBeginning (K.held sink.old) (K.held sink.new) bytes.now) }
 {
     match write_all(sink, bytes) {
         Ok(()) => Ok(Status::Done),
@@ -111,11 +112,11 @@ pub fn file_engine<A: Allocator + Copy, S: Source, K: Sink>(
     ensures done { IfOk result (λ status. status ≡ Status.Done) }
     // The file was appended, and loads as the sources' own instructions.
     ensures written { IfOk result (λ _. IfSome (all_known (map S.left sources.old)) (λ all.
-        Writes (file_of all) (K.held sink.old) (K.held sink.new))) }
+        WritesResult (file_of all) (K.held sink.old) (K.held sink.new))) }
     ensures own { IfOk result (λ _. IfSome (all_known (map S.left sources.old)) (λ all.
         WritesOwnFile all (K.held sink.old) (K.held sink.new))) }
     // A source is invalid, and nothing is written.
-    ensures refused { IfErr result (λ fault. IsRefusal fault
+    ensures refused { IfErr result (λ fault. IsSourceFault fault
         → IfSome (all_known (map S.left sources.old)) (λ all. file_of all ≡ Err fault)) }
     ensures unwritten { IfErr result (λ fault. fault ≢ AssemblyFault.Write
         → Keeps (K.held sink.old) (K.held sink.new)) }
@@ -146,15 +147,15 @@ pub fn listing_engine<A: Allocator + Copy, S: Source, K: Sink>(
     // The listing was appended.
     ensures done { IfOk result (λ status. status ≡ Status.Done) }
     ensures listed { IfOk result (λ _. IfSome (all_known (map S.left sources.old)) (λ all.
-        Writes (listing_of all) (K.held sink.old) (K.held sink.new))) }
+        WritesResult (listing_of all) (K.held sink.old) (K.held sink.new))) }
     // Each instruction of the text has its line.
     ensures own { IfOk result (λ _. IfSome (all_known (map S.left sources.old)) (λ all.
         WritesOwnLines all (K.held sink.old) (K.held sink.new))) }
     // The listing is a source of the same text.
     ensures back { IfOk result (λ _. IfSome (all_known (map S.left sources.old)) (λ all.
-        ComesBack (program_of all))) }
+        ComesBack (program_of_sources all))) }
     // A source is invalid, and nothing is written.
-    ensures refused { IfErr result (λ fault. IsRefusal fault
+    ensures refused { IfErr result (λ fault. IsSourceFault fault
         → IfSome (all_known (map S.left sources.old)) (λ all. listing_of all ≡ Err fault)) }
     ensures unwritten { IfErr result (λ fault. fault ≢ AssemblyFault.Write
         → Keeps (K.held sink.old) (K.held sink.new)) }

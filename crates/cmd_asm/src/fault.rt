@@ -1,9 +1,9 @@
 //! Why sources give no file and no listing.
 
 ghost use Rattle.std.specs.Prelude.{◌≡◌};
-ghost use Rattle.cmd_asm.specs.Faults.{fault_of_assembler, status_of_fault};
+ghost use Rattle.cmd_asm.specs.Faults.{fault_of_assembler, assembly_status};
 
-use asm_parse::{AsmFault, Fault};
+use asm_statement::{AsmFault, Fault};
 use byte_io::Status;
 use thiserror::Error;
 
@@ -31,7 +31,7 @@ pub enum AssemblyFault {
 impl AssemblyFault {
     /// The exit status of the command.
     pub fn status(self) -> Status
-        ensures { result ≡ status_of_fault self }
+        ensures { result ≡ assembly_status self }
     {
         match self {
             AssemblyFault::Wrong(_)

@@ -4,7 +4,7 @@ use Rattle.std.specs.Io.KnownBytes.{Appends}
 use Rattle.std.specs.Option.{IfSome}
 use Rattle.image.specs.Image.{ImageValue}
 use Rattle.hart_reservations.specs.Limit.{most_harts}
-use Rattle.machine.specs.Start.{IsStartable, Refuses}
+use Rattle.machine.specs.Start.{IsStartable, RefusesStart}
 use Rattle.machine.specs.declared.inputs.StartFault.{StartFault}
 use Rattle.machine.specs.declared.inputs.StartFault.TheVariants as start
 use Rattle.program_open.specs.CommandFaults.{fault_of_start, IfHalts, IfNames, IsRefusal}
@@ -17,7 +17,7 @@ use Rattle.program_open.proofs.FaultLemmas.{names_so}
 use Rattle.campaign_runs.specs.Runs.{all_endings}
 use Rattle.campaign_runs.specs.declared.campaign.Campaign.{Campaign}
 use Rattle.byte_io.specs.declared.status.Status.{Status}
-use Rattle.cmd_campaign.specs.Answers.{after_image, campaign_answer, campaign_failure, failure_after, reported}
+use Rattle.cmd_campaign.specs.Answers.{after_image, campaign_answer, campaign_failure, first_failure_after, reported}
 use Rattle.cmd_campaign.specs.Status.{finished_of}
 use Rattle.cmd_campaign.specs.declared.engine.Finished.{Finished}
 
@@ -58,7 +58,7 @@ module _ (campaign : Campaign) (inputs : List ℕ) where
       much n h = lt-ltb most_harts n h
 
   -- inputs that are invalid
-  pub answer_of_refused : (image : ImageValue) (why : StartFault) → Refuses inputs why
+  pub answer_of_refused : (image : ImageValue) (why : StartFault) → RefusesStart inputs why
       → after_image campaign inputs (Ok image) ≡ Err (fault_of_start why)
   answer_of_refused image start.NoHarts none = answer_of_none image none
   answer_of_refused image start.TooManyHarts many = answer_of_many image many
@@ -97,7 +97,7 @@ module _ (campaign : Campaign) (inputs : List ℕ) where
         go : (o : Option (List ℕ)) → IfSome o (λ p. program_of form.Elf p ≡ Ok image)
             → IfSome o (λ p. f.first_failure ≡ campaign_failure campaign inputs p)
         go None r = tt
-        go (Some p) r = ap (λ (x : Finished). x.first_failure) h ∙ sym (ap (failure_after campaign inputs) r)
+        go (Some p) r = ap (λ (x : Finished). x.first_failure) h ∙ sym (ap (first_failure_after campaign inputs) r)
     first_known (Err why) h = h
 
     -- a refusal

@@ -13,15 +13,15 @@ use Rattle.machine.specs.Start.{started}
 use Rattle.program_open.specs.Answers.{Begins}
 use Rattle.outcome.specs.Expect.{breaks, status_by}
 use Rattle.outcome.specs.declared.expect.Exit.{Exit}
-use Rattle.campaign_runs.specs.Runs.{SeedEnding, all_endings, end_of, ending_from, endings_of}
-use Rattle.campaign_runs.specs.Tally.{Row, seeds_in, tally_of, tally_onto}
+use Rattle.campaign_runs.specs.Runs.{SeedEnding, all_endings, seed_ending, ending_from, endings_of}
+use Rattle.campaign_runs.specs.Tally.{TallyRow, seeds_in, tally_of, tally_onto}
 use Rattle.campaign_runs.specs.declared.campaign.Campaign.{Campaign}
 use Rattle.campaign_runs.specs.declared.campaign.Report.{Report}
 use Rattle.campaign_runs.specs.declared.campaign.Report.TheVariants.{Lines, Failures, Summary, Outcomes}
 use Rattle.campaign_runs.specs.declared.seed_run.SeedEnd.{SeedEnd}
 use Rattle.campaign_runs.proofs.TallyLemmas.{tally_onto-append}
-use Rattle.cmd_campaign.specs.Lines.{entries_of, entry_of, has_failed}
-use Rattle.cmd_campaign.specs.Status.{any_breaks, finished_of, first_failure, first_of}
+use Rattle.cmd_campaign.specs.Lines.{report_entries, report_entry, has_failed}
+use Rattle.cmd_campaign.specs.Status.{any_breaks, finished_of, first_failure, first_or}
 use Rattle.cmd_campaign.specs.Summary.{counted_of}
 use Rattle.cmd_campaign.specs.declared.engine.Finished.{Finished}
 use Rattle.cmd_campaign.proofs.ReportLemmas.{begins_at, begins_in}
@@ -60,28 +60,28 @@ counted_of-append Summary done block = refl
 counted_of-append Outcomes done block = refl
 
 first_failure-append : (exit : Exit) (done block : List SeedEnding)
-    → first_failure exit (done ++ block) ≡ first_of (first_failure exit done) (first_failure exit block)
+    → first_failure exit (done ++ block) ≡ first_or (first_failure exit done) (first_failure exit block)
 first_failure-append exit [] block = refl
 first_failure-append exit (end ∷ done) block = by (has_failed exit end) (first_failure-append exit done block)
   where
-    by : (failed : Bool) → first_failure exit (done ++ block) ≡ first_of (first_failure exit done) (first_failure exit block)
+    by : (failed : Bool) → first_failure exit (done ++ block) ≡ first_or (first_failure exit done) (first_failure exit block)
         → cond failed (Some end.seed) (first_failure exit (done ++ block))
-        ≡ first_of (cond failed (Some end.seed) (first_failure exit done)) (first_failure exit block)
+        ≡ first_or (cond failed (Some end.seed) (first_failure exit done)) (first_failure exit block)
     by true rest = refl
     by false rest = rest
 
 module _ (report : Report) (exit : Exit) where
   -- the runs that are done are recorded, and it is known which of them has failed first; the others
   -- are to come
-  pub record SoFar (all left : List SeedEnding) (old now : Option (List ℕ)) (rows : List Row) (broken : Bool) (first : Option ℕ) : Type 0 where
+  pub record SoFar (all left : List SeedEnding) (old now : Option (List ℕ)) (rows : List TallyRow) (broken : Bool) (first : Option ℕ) : Type 0 where
     pub done : List SeedEnding
     pub order : all ≡ done ++ left
-    pub text : Appends old now (entries_of report exit done)
+    pub text : Appends old now (report_entries report exit done)
     pub counted : rows ≡ tally_of (counted_of report done)
     pub breaking : broken ≡ any_breaks done
     pub failing : first ≡ first_failure exit done
 
-  pub at_start : (all left : List SeedEnding) (old : Option (List ℕ)) (rows : List Row) → left ≡ all → rows ≡ []
+  pub at_start : (all left : List SeedEnding) (old : Option (List ℕ)) (rows : List TallyRow) → left ≡ all → rows ≡ []
       → SoFar all left old old rows false None
   at_start all left old rows whole none = record {
     done = [];
@@ -99,39 +99,39 @@ module _ (report : Report) (exit : Exit) where
       none_counted Outcomes = refl
 
   -- one block later
-  pub goes_on : (all runs block left : List SeedEnding) (old now new : Option (List ℕ)) (rows rows_now : List Row) (broken broken_now : Bool)
-      (first first_now : Option ℕ) → runs ≡ block ++ left → Appends now new (entries_of report exit block)
+  pub goes_on : (all runs block left : List SeedEnding) (old now new : Option (List ℕ)) (rows rows_now : List TallyRow) (broken broken_now : Bool)
+      (first first_now : Option ℕ) → runs ≡ block ++ left → Appends now new (report_entries report exit block)
       → rows_now ≡ tally_onto rows (counted_of report block) → broken_now ≡ (broken || any_breaks block)
-      → first_now ≡ first_of first (first_failure exit block)
+      → first_now ≡ first_or first (first_failure exit block)
       → SoFar all runs old now rows broken first → SoFar all left old new rows_now broken_now first_now
   goes_on all runs block left old now new rows rows_now broken broken_now first first_now split more counts breaks_too fails_too before = record {
     done = before.done ++ block;
     order = before.order ∙ ap (λ rest. before.done ++ rest) split ∙ sym (append_assoc before.done block left);
-    text = subst (λ text. Appends old new text) (sym (flat_map-append (entry_of report exit) before.done block))
-        (Appends-trans old now new (entries_of report exit before.done) (entries_of report exit block) before.text more);
+    text = subst (λ text. Appends old new text) (sym (flat_map-append (report_entry report exit) before.done block))
+        (Appends-trans old now new (report_entries report exit before.done) (report_entries report exit block) before.text more);
     counted = counts ∙ ap (λ rs. tally_onto rs (counted_of report block)) before.counted
         ∙ sym (tally_onto-append [] (counted_of report before.done) (counted_of report block))
         ∙ ap tally_of (sym (counted_of-append report before.done block));
     breaking = breaks_too ∙ ap (λ b. b || any_breaks block) before.breaking
         ∙ sym (list_any-append (λ (end : SeedEnding). breaks end.ending.outcome.verdict) before.done block);
-    failing = fails_too ∙ ap (λ f. first_of f (first_failure exit block)) before.failing
+    failing = fails_too ∙ ap (λ f. first_or f (first_failure exit block)) before.failing
         ∙ sym (first_failure-append exit before.done block);
   }
 
   -- all is done
-  pub record IsDone (all : List SeedEnding) (old now : Option (List ℕ)) (rows : List Row) (finished : Finished) : Type 0 where
-    pub written : Appends old now (entries_of report exit all)
+  pub record IsDone (all : List SeedEnding) (old now : Option (List ℕ)) (rows : List TallyRow) (finished : Finished) : Type 0 where
+    pub written : Appends old now (report_entries report exit all)
     pub counted : rows ≡ tally_of (counted_of report all)
     pub finished_is : finished ≡ finished_of exit all
 
-  pub at_end : (all left : List SeedEnding) (old now : Option (List ℕ)) (rows : List Row) (broken : Bool) (first : Option ℕ) (finished : Finished)
+  pub at_end : (all left : List SeedEnding) (old now : Option (List ℕ)) (rows : List TallyRow) (broken : Bool) (first : Option ℕ) (finished : Finished)
       → left ≡ [] → finished.status ≡ status_by broken (is_some first) → finished.first_failure ≡ first
       → SoFar all left old now rows broken first → IsDone all old now rows finished
   at_end all left old now rows broken first finished none status is h =
       let whole : h.done ≡ all = sym (h.order ∙ ap (λ rest. h.done ++ rest) none ∙ append-nil h.done) in
       let breaking : broken ≡ any_breaks all = h.breaking ∙ ap any_breaks whole in
       let failing : first ≡ first_failure exit all = h.failing ∙ ap (first_failure exit) whole in record {
-        written = subst (λ runs. Appends old now (entries_of report exit runs)) whole h.text;
+        written = subst (λ runs. Appends old now (report_entries report exit runs)) whole h.text;
         counted = h.counted ∙ ap (λ runs. tally_of (counted_of report runs)) whole;
         finished_is = λ i. record {
           status = (status ∙ ap₂ (λ b f. status_by b (is_some f)) breaking failing) i;
@@ -140,35 +140,35 @@ module _ (report : Report) (exit : Exit) where
       }
 
   -- a halt between two blocks
-  pub halts_between : (all left : List SeedEnding) (old now : Option (List ℕ)) (rows : List Row) (broken : Bool) (first : Option ℕ)
-      → SoFar all left old now rows broken first → Begins (entries_of report exit all) old now
+  pub halts_between : (all left : List SeedEnding) (old now : Option (List ℕ)) (rows : List TallyRow) (broken : Bool) (first : Option ℕ)
+      → SoFar all left old now rows broken first → Begins (report_entries report exit all) old now
   halts_between all left old now rows broken first h =
-      subst (λ bytes. Begins bytes old now) (sym (ap (entries_of report exit) h.order ∙ flat_map-append (entry_of report exit) h.done left))
-      (begins_at old now (entries_of report exit h.done) (entries_of report exit left) h.text)
+      subst (λ bytes. Begins bytes old now) (sym (ap (report_entries report exit) h.order ∙ flat_map-append (report_entry report exit) h.done left))
+      (begins_at old now (report_entries report exit h.done) (report_entries report exit left) h.text)
 
   -- a halt within a block
-  pub halts_in_block : (all runs block left : List SeedEnding) (old now new : Option (List ℕ)) (rows : List Row) (broken : Bool) (first : Option ℕ)
-      → runs ≡ block ++ left → SoFar all runs old now rows broken first → Begins (entries_of report exit block) now new
-      → Begins (entries_of report exit all) old new
+  pub halts_in_block : (all runs block left : List SeedEnding) (old now new : Option (List ℕ)) (rows : List TallyRow) (broken : Bool) (first : Option ℕ)
+      → runs ≡ block ++ left → SoFar all runs old now rows broken first → Begins (report_entries report exit block) now new
+      → Begins (report_entries report exit all) old new
   halts_in_block all runs block left old now new rows broken first split h more =
       let order : all ≡ h.done ++ (block ++ left) = h.order ∙ ap (λ rest. h.done ++ rest) split in
-      let text : entries_of report exit all
-      ≡ entries_of report exit h.done ++ (entries_of report exit block ++ entries_of report exit left)
-      = ap (entries_of report exit) order ∙ flat_map-append (entry_of report exit) h.done (block ++ left)
-      ∙ ap (λ rest. entries_of report exit h.done ++ rest) (flat_map-append (entry_of report exit) block left) in
+      let text : report_entries report exit all
+      ≡ report_entries report exit h.done ++ (report_entries report exit block ++ report_entries report exit left)
+      = ap (report_entries report exit) order ∙ flat_map-append (report_entry report exit) h.done (block ++ left)
+      ∙ ap (λ rest. report_entries report exit h.done ++ rest) (flat_map-append (report_entry report exit) block left) in
       subst (λ bytes. Begins bytes old new) (sym text)
-      (begins_in old now new (entries_of report exit h.done) (entries_of report exit block) (entries_of report exit left) more.0 h.text more.1)
+      (begins_in old now new (report_entries report exit h.done) (report_entries report exit block) (report_entries report exit left) more.0 h.text more.1)
 
 -- the runs of a block can be counted, as all can
-pub room : (campaign : Campaign) (image : ImageValue) (inputs : List ℕ) (runs left : List SeedEnding) (old now : Option (List ℕ)) (rows : List Row)
+pub room : (campaign : Campaign) (image : ImageValue) (inputs : List ℕ) (runs left : List SeedEnding) (old now : Option (List ℕ)) (rows : List TallyRow)
     (broken : Bool) (first : Option ℕ) {Z : Type 0} (ends : List (SeedEnd Z))
     → SoFar campaign.report campaign.expect.exit (all_endings campaign image inputs) runs old now rows broken first
-    → runs ≡ map end_of ends ++ left → campaign.count < 2 ^ 64 → seeds_in rows + length ends < 2 ^ 64
+    → runs ≡ map seed_ending ends ++ left → campaign.count < 2 ^ 64 → seeds_in rows + length ends < 2 ^ 64
 room campaign image inputs runs left old now rows broken first ends h split few =
-    let all : campaign.count ≡ length h.done + (length (map end_of ends) + length left)
-    = sym (as_many campaign image inputs) ∙ ap length (h.order ∙ ap (λ rest. h.done ++ rest) split) ∙ length-append h.done (map end_of ends ++ left)
-    ∙ ap (λ n. length h.done + n) (length-append (map end_of ends) left) in
+    let all : campaign.count ≡ length h.done + (length (map seed_ending ends) + length left)
+    = sym (as_many campaign image inputs) ∙ ap length (h.order ∙ ap (λ rest. h.done ++ rest) split) ∙ length-append h.done (map seed_ending ends ++ left)
+    ∙ ap (λ n. length h.done + n) (length-append (map seed_ending ends) left) in
     let rows_are : seeds_in rows ≡ length (counted_of campaign.report h.done) = ap seeds_in h.counted ∙ tallied (counted_of campaign.report h.done) in
     let within = few_counted campaign.report h.done in
-    let ends_are : length (map end_of ends) ≡ length ends = length-map ends end_of in
+    let ends_are : length (map seed_ending ends) ≡ length ends = length-map ends seed_ending in
     omega (arith, all, rows_are, within, ends_are, few)

@@ -10,13 +10,13 @@ use Rattle.machine.specs.Start.{IsStartable, started}
 use Rattle.machine.specs.World.{run}
 use Rattle.sched_draw.specs.Schedules.{drawn_choices}
 use Rattle.sched_draw.proofs.ChoiceLemmas.{drawn_choices-within}
-use Rattle.ends.specs.Ends.{verdict_on}
+use Rattle.outcome.specs.Ends.{verdict_on}
 use Rattle.object_library.specs.declared.kind.Kind.{Kind}
 use Rattle.object_library.specs.declared.verdict.Verdict.TheVariants.{Kept}
 use Rattle.object_library.specs.Images.{image_of, IsSame}
 use Rattle.cmd_run.specs.Certified.{IsCertified, IsMeantFor, IsUnbroken}
 use Rattle.cmd_run.proofs.CertifiedLemmas.{object_is_kept}
-use Rattle.outcome.specs.Expect.{breaks, faults, status_by}
+use Rattle.outcome.specs.Expect.{breaks, has_faults, status_by}
 use Rattle.outcome.specs.declared.expect.Exit.{Exit}
 use Rattle.outcome.specs.declared.expect.Exit.TheVariants.{May, Must}
 use Rattle.program_open.specs.Program.{program_of}
@@ -29,9 +29,9 @@ use Rattle.campaign_runs.specs.declared.campaign.Report.TheVariants.{Failures}
 use Rattle.byte_io.specs.declared.status.Status.TheVariants as status
 use Rattle.cmd_campaign.specs.Answers.{after_image, campaign_answer}
 use Rattle.cmd_campaign.specs.Kept.{AllKept, AnswersNothing}
-use Rattle.cmd_campaign.specs.Lines.{end_entry, entries_of, has_failed}
+use Rattle.cmd_campaign.specs.Lines.{end_entry, report_entries, has_failed}
 use Rattle.cmd_campaign.specs.Summary.{report_text}
-use Rattle.cmd_campaign.specs.Status.{any_breaks, finished_of, first_failure, status_of}
+use Rattle.cmd_campaign.specs.Status.{any_breaks, finished_of, first_failure, campaign_status}
 use Rattle.cmd_campaign.specs.declared.engine.Finished.{Finished}
 
 module _ (kind : Kind) (image : ImageValue) (campaign : Campaign) (inputs : List ℕ) (some : 0 < length inputs) (same : IsSame image (image_of kind))
@@ -62,7 +62,7 @@ module _ (kind : Kind) (image : ImageValue) (campaign : Campaign) (inputs : List
   none_breaks (seed ∷ seeds) = ap₂ (λ a b. a || b) (ap breaks (kept seed)) (none_breaks seeds)
 
   fails_not : (seed : ℕ) → has_failed May (end seed) ≡ false
-  fails_not seed = ap (λ v. breaks v || (faults v (end seed).ending.outcome.faulted || false)) (kept seed)
+  fails_not seed = ap (λ v. breaks v || (has_faults v (end seed).ending.outcome.faulted || false)) (kept seed)
 
   -- and where harts may run, no run has failed
   none_fails : (seeds : List ℕ) → first_failure May (endings_of campaign image inputs seeds) ≡ None
@@ -72,22 +72,22 @@ module _ (kind : Kind) (image : ImageValue) (campaign : Campaign) (inputs : List
       ap₂ (λ failed rest. cond failed (Some (end seed).seed) rest) (fails_not seed) (none_fails seeds)
 
   -- so none has a line among the failures
-  none_listed : (seeds : List ℕ) → entries_of Failures May (endings_of campaign image inputs seeds) ≡ []
+  none_listed : (seeds : List ℕ) → report_entries Failures May (endings_of campaign image inputs seeds) ≡ []
   unfolding endings_of end
   none_listed [] = refl
   none_listed (seed ∷ seeds) =
       ap₂ (λ failed rest. cond failed (end_entry (end seed)) [] ++ rest) (fails_not seed) (none_listed seeds)
 
   nothing : (report : Report) (exit : Exit) (seeds : List ℕ) → report ≡ Failures → exit ≡ May
-      → (report_text report exit (endings_of campaign image inputs seeds) ≡ []) × (status_of exit (endings_of campaign image inputs seeds) ≡ status.Done)
+      → (report_text report exit (endings_of campaign image inputs seeds) ≡ []) × (campaign_status exit (endings_of campaign image inputs seeds) ≡ status.Done)
   nothing report exit seeds failures may =
       let ends = endings_of campaign image inputs seeds in (
         ap₂ (λ r e. report_text r e ends) failures may ∙ none_listed seeds,
-        ap (λ e. status_of e ends) may ∙ ap₂ (λ b f. status_by b (is_some f)) (none_breaks seeds) (none_fails seeds),
+        ap (λ e. campaign_status e ends) may ∙ ap₂ (λ b f. status_by b (is_some f)) (none_breaks seeds) (none_fails seeds),
       )
 
   -- the status
-  unbroken : (exit : Exit) (seeds : List ℕ) → IsUnbroken exit (status_of exit (endings_of campaign image inputs seeds))
+  unbroken : (exit : Exit) (seeds : List ℕ) → IsUnbroken exit (campaign_status exit (endings_of campaign image inputs seeds))
   unbroken May seeds = ap₂ (λ b f. status_by b (is_some f)) (none_breaks seeds) (none_fails seeds)
   unbroken Must seeds =
       let ends = endings_of campaign image inputs seeds in
@@ -114,8 +114,8 @@ module _ (campaign : Campaign) (inputs : List ℕ) (image : ImageValue) where
   certified finished p words startable reads is = λ object.
       let seeds = range_with_len campaign.first campaign.count in
       let one : object.image ≡ image = same_image object.image image (sym object.reads ∙ reads) in
-      let status : finished.status ≡ status_of campaign.expect.exit (all_endings campaign object.image inputs)
-      = ap (λ (f : Finished). f.status) is ∙ ap (λ i. status_of campaign.expect.exit (all_endings campaign i inputs)) (sym one) in (
+      let status : finished.status ≡ campaign_status campaign.expect.exit (all_endings campaign object.image inputs)
+      = ap (λ (f : Finished). f.status) is ∙ ap (λ i. campaign_status campaign.expect.exit (all_endings campaign i inputs)) (sym one) in (
         subst (IsUnbroken campaign.expect.exit) (sym status)
             (unbroken object.kind object.image campaign inputs startable.0 object.same object.meant words object.ruled campaign.expect.exit seeds),
         all_kept object.kind object.image campaign inputs startable.0 object.same object.meant words object.ruled seeds,

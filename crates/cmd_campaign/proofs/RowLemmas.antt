@@ -2,11 +2,11 @@
 use Rattle.std.proofs.Common.{◌≡◌, ℕ, ◌+◌, List, ◌∷◌, ◌++◌, drop, slice_get, Some, append_assoc, ap, sym, ◌∙◌}
 use Rattle.std.proofs.lemmas.List.{drop_more}
 use Rattle.std.proofs.lemmas.Option.{get_or_from_slice_get, slice_get_within}
-use Rattle.campaign_runs.specs.Tally.{Row}
+use Rattle.campaign_runs.specs.Tally.{TallyRow}
 use Rattle.cmd_campaign.specs.Summary.{row_entry, rows_text}
 
 -- one line more is there, and one row less is left
-pub one_line_more : (rows : List Row) (place : ℕ) (row : Row) (before after all : List ℕ)
+pub one_line_more : (rows : List TallyRow) (place : ℕ) (row : TallyRow) (before after all : List ℕ)
     → slice_get rows place ≡ Some row → after ≡ before ++ row_entry row
     → before ++ rows_text (drop place rows) ≡ all → after ++ rows_text (drop (place + 1) rows) ≡ all
 one_line_more rows place row before after all at more so_far =

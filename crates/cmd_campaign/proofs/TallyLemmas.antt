@@ -6,8 +6,8 @@ use Rattle.std.specs.List.{range_with_len}
 use Rattle.image.specs.Image.{ImageValue}
 use Rattle.machine.specs.Start.{started}
 use Rattle.campaign_runs.specs.Ending.{EndingValue, ending_of}
-use Rattle.campaign_runs.specs.Runs.{SeedEnding, all_endings, end_of, ending_from, endings_of}
-use Rattle.campaign_runs.specs.Tally.{Row, add_seed, seeds_in, tally_of, tally_onto}
+use Rattle.campaign_runs.specs.Runs.{SeedEnding, all_endings, seed_ending, ending_from, endings_of}
+use Rattle.campaign_runs.specs.Tally.{TallyRow, add_seed, seeds_in, tally_of, tally_onto}
 use Rattle.campaign_runs.specs.declared.campaign.Campaign.{Campaign}
 use Rattle.campaign_runs.specs.declared.campaign.Report.{Report}
 use Rattle.campaign_runs.specs.declared.campaign.Report.TheVariants.{Lines, Failures, Summary, Outcomes}
@@ -42,7 +42,7 @@ next_run : {X : Type 0} (runs : List X) (place : ℕ) (run : X) → place < leng
 next_run runs place run there is = drop_more runs place run there ∙ ap (λ first. first ∷ drop (place + 1) runs) (sym is)
 
 -- one seed more is counted
-pub one_seed_more : (one : SeedEnding) (old new : List Row) (before place : ℕ) → new ≡ add_seed one old
+pub one_seed_more : (one : SeedEnding) (old new : List TallyRow) (before place : ℕ) → new ≡ add_seed one old
     → seeds_in old ≡ before + place → seeds_in new ≡ before + (place + 1)
 one_seed_more one old new before place added so_far =
     ap seeds_in added ∙ seeds_in-add one old ∙ ap (λ n. n + 1) so_far ∙ regroup before place
@@ -53,10 +53,10 @@ one_seed_more one old new before place added so_far =
 -- one end more is counted
 module _ {Z : Type 0} (ends : List (SeedEnd Z)) (place : ℕ) (end : SeedEnd Z) (there : place < length ends) (is : end ≡ get_or ends place end)
     (ending : EndingValue) (copied : ending ≡ ending_of end.ending) where
-  pub one_end_more : (old new target : List Row) → new ≡ add_seed (record { seed = end.seed; ending = ending }) old
-      → tally_onto old (map end_of (drop place ends)) ≡ target → tally_onto new (map end_of (drop (place + 1) ends)) ≡ target
+  pub one_end_more : (old new target : List TallyRow) → new ≡ add_seed (record { seed = end.seed; ending = ending }) old
+      → tally_onto old (map seed_ending (drop place ends)) ≡ target → tally_onto new (map seed_ending (drop (place + 1) ends)) ≡ target
   one_end_more old new target added so_far =
-      ap (λ rows. tally_onto rows (map end_of (drop (place + 1) ends)))
+      ap (λ rows. tally_onto rows (map seed_ending (drop (place + 1) ends)))
       (added ∙ ap (λ e. add_seed (record { seed = end.seed; ending = e }) old) copied)
-      ∙ ap (λ left. tally_onto old (map end_of left)) (sym (next_run ends place end there is))
+      ∙ ap (λ left. tally_onto old (map seed_ending left)) (sym (next_run ends place end there is))
       ∙ so_far

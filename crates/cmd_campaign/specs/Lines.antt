@@ -32,12 +32,12 @@ abbrev pub has_failed : Exit → SeedEnding → Bool
 has_failed exit end = fails exit end.ending.outcome
 
 -- what a report has of a run while the runs go on
-abbrev pub entry_of : Report → Exit → SeedEnding → List ℕ
-entry_of Lines exit end = end_entry end
-entry_of Failures exit end = if has_failed exit end then end_entry end else []
-entry_of Summary exit end = []
-entry_of Outcomes exit end = []
+abbrev pub report_entry : Report → Exit → SeedEnding → List ℕ
+report_entry Lines exit end = end_entry end
+report_entry Failures exit end = if has_failed exit end then end_entry end else []
+report_entry Summary exit end = []
+report_entry Outcomes exit end = []
 
 -- what a report has of runs while they go on, in order
-abbrev pub entries_of : Report → Exit → List SeedEnding → List ℕ
-entries_of report exit ends = flat_map (entry_of report exit) ends
+abbrev pub report_entries : Report → Exit → List SeedEnding → List ℕ
+report_entries report exit ends = flat_map (report_entry report exit) ends

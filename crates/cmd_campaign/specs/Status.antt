@@ -18,14 +18,14 @@ first_failure exit [] = None
 first_failure exit (end ∷ ends) = if has_failed exit end then Some end.seed else first_failure exit ends
 
 -- the first one, or else the second
-abbrev pub first_of : Option ℕ → Option ℕ → Option ℕ
-first_of None other = other
-first_of (Some seed) other = Some seed
+abbrev pub first_or : Option ℕ → Option ℕ → Option ℕ
+first_or None other = other
+first_or (Some seed) other = Some seed
 
 -- the status of a campaign's runs: whether a rule is broken in one, and whether one has failed
-abbrev pub status_of : Exit → List SeedEnding → Status
-status_of exit ends = status_by (any_breaks ends) (is_some (first_failure exit ends))
+abbrev pub campaign_status : Exit → List SeedEnding → Status
+campaign_status exit ends = status_by (any_breaks ends) (is_some (first_failure exit ends))
 
 -- the end of a campaign of these runs
 abbrev pub finished_of : Exit → List SeedEnding → Finished
-finished_of exit ends = record { status = status_of exit ends; first_failure = first_failure exit ends }
+finished_of exit ends = record { status = campaign_status exit ends; first_failure = first_failure exit ends }

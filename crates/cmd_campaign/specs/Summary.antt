@@ -5,12 +5,12 @@ use Rattle.std.specs.List.{flat_map}
 use Rattle.isa_names.specs.Digits.{word_text}
 use Rattle.outcome.specs.declared.expect.Exit.{Exit}
 use Rattle.campaign_runs.specs.Runs.{SeedEnding}
-use Rattle.campaign_runs.specs.Tally.{Row, tally_of}
+use Rattle.campaign_runs.specs.Tally.{TallyRow, tally_of}
 use Rattle.campaign_runs.specs.declared.campaign.Report.{Report}
 use Rattle.campaign_runs.specs.declared.campaign.Report.TheVariants.{Lines, Failures, Summary, Outcomes}
 use Rattle.campaign_runs.specs.declared.ending.HartResult.{HartResult}
 use Rattle.campaign_runs.specs.declared.tally.SeedCount.{SeedCount}
-use Rattle.cmd_campaign.specs.Lines.{entries_of, verdict_word}
+use Rattle.cmd_campaign.specs.Lines.{report_entries, verdict_word}
 
 -- an outcome's line, without verdict and LF: the number of its seeds, the first of them, and the
 -- number of harts that have exited, have faulted, and run
@@ -29,13 +29,13 @@ result_words number (result ∷ results) =
     ++ result_words (number + 1) results)))))))
 
 -- an outcome's line with its end
-abbrev pub row_entry : Row → List ℕ
+abbrev pub row_entry : TallyRow → List ℕ
 row_entry row =
     row_line row.count row.ending.outcome.exited row.ending.outcome.faulted row.ending.outcome.running
     ++ (verdict_word row.ending.outcome.verdict ++ (result_words 0 row.ending.results ++ 10 ∷ []))
 
 -- the lines of outcomes
-abbrev pub rows_text : List Row → List ℕ
+abbrev pub rows_text : List TallyRow → List ℕ
 rows_text rows = flat_map row_entry rows
 
 -- the runs that a report counts by their outcomes
@@ -48,8 +48,8 @@ counted_of Outcomes ends = ends
 -- the whole report of runs: their lines, those of the failed ones, or a line for each outcome in
 -- the order of their first seeds
 abbrev pub report_text : Report → Exit → List SeedEnding → List ℕ
-report_text Lines exit ends = entries_of Lines exit ends
-report_text Failures exit ends = entries_of Failures exit ends
+report_text Lines exit ends = report_entries Lines exit ends
+report_text Failures exit ends = report_entries Failures exit ends
 report_text Summary exit ends = rows_text (tally_of ends)
 report_text Outcomes exit ends = rows_text (tally_of ends)
 

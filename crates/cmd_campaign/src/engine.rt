@@ -7,22 +7,21 @@ ghost use Rattle.cmd_run.specs.Certified.{IsCertified, IsUnbroken};
 ghost use Rattle.program_open.specs.Answers.{Begins, BeginsToPrint, Prints};
 ghost use Rattle.program_open.specs.CommandFaults.{IfHalts, IfNames, IsRefusal};
 ghost use Rattle.campaign_runs.specs.Runs.{all_endings};
-ghost use Rattle.campaign_runs.specs.Tally.{rows_of, tally_of};
+ghost use Rattle.campaign_runs.specs.Tally.{tally_rows, tally_of};
 ghost use Rattle.cmd_campaign.specs.Answers.{after_image, campaign_answer, campaign_failure};
 ghost use Rattle.cmd_campaign.specs.Kept.{AllKept};
-ghost use Rattle.cmd_campaign.specs.Lines.{entries_of};
+ghost use Rattle.cmd_campaign.specs.Lines.{report_entries};
 ghost use Rattle.cmd_campaign.specs.Status.{finished_of};
 ghost use Rattle.cmd_campaign.specs.Summary.{counted_of, report_text, rows_text, IsSummary};
 
 use crate::findings::{Findings, count_failures};
 use crate::record::record_block;
 use crate::rows::summary_text;
-use byte_io::{Sink, Source, Status, write_all};
+use byte_io::{Progress, Sink, Source, Status, write_all};
 use campaign_runs::{Campaign, Seeds, Tally, run_block};
 use image::Image;
 use machine::Inputs;
 use program_open::{CommandFault, ProgramForm, read_image};
-use progress::Progress;
 use std::alloc::{AllocError, Allocator};
 use std::thread::Threads;
 
@@ -57,13 +56,13 @@ fn run_blocks<A: Allocator + Copy + Send + Sync, K: Sink>(
     requires fits { campaign.first + campaign.count ≤ 2 ^ 64 }
     requires sink_counts { K.failures sink.old < 2 ^ 64 - 1 }
     ensures written { IfOk result (λ _. Appends (K.held sink.old) (K.held sink.new)
-        (entries_of campaign.report campaign.expect.exit (all_endings campaign image.now inputs.now))) }
-    ensures counted { IfOk result (λ answer. rows_of answer.0
+        (report_entries campaign.report campaign.expect.exit (all_endings campaign image.now inputs.now))) }
+    ensures counted { IfOk result (λ answer. tally_rows answer.0
         ≡ tally_of (counted_of campaign.report (all_endings campaign image.now inputs.now))) }
     ensures finished { IfOk result (λ answer.
         answer.1 ≡ finished_of campaign.expect.exit (all_endings campaign image.now inputs.now)) }
     ensures begun { IfErr result (λ _. Begins
-        (entries_of campaign.report campaign.expect.exit (all_endings campaign image.now inputs.now))
+        (report_entries campaign.report campaign.expect.exit (all_endings campaign image.now inputs.now))
         (K.held sink.old) (K.held sink.new)) }
     ensures fault { IfErr result (λ fault.
         IfHalts fault (K.failures sink.old < K.failures sink.new)) }
@@ -100,9 +99,9 @@ fn write_rows<A: Allocator + Copy, K: Sink>(
 ) -> Result<(), CommandFault>
     requires sink_counts { K.failures sink.old < 2 ^ 64 - 1 }
     ensures written { IfOk result (λ _.
-        Appends (K.held sink.old) (K.held sink.new) (rows_text (rows_of tally.now))) }
+        Appends (K.held sink.old) (K.held sink.new) (rows_text (tally_rows tally.now))) }
     ensures begun { IfErr result (λ _.
-        Begins (rows_text (rows_of tally.now)) (K.held sink.old) (K.held sink.new)) }
+        Begins (rows_text (tally_rows tally.now)) (K.held sink.old) (K.held sink.new)) }
     ensures unwritten { IfErr result (λ fault. fault ≢ CommandFault.Write
         → Keeps (K.held sink.old) (K.held sink.new)) }
     ensures fault { IfErr result (λ fault.

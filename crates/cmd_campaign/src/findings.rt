@@ -1,7 +1,7 @@
 //! The failures of a campaign's runs so far.
 
 ghost use Rattle.std.specs.Prelude.{◌≡◌, map};
-ghost use Rattle.campaign_runs.specs.Runs.{end_of};
+ghost use Rattle.campaign_runs.specs.Runs.{seed_ending};
 ghost use Rattle.cmd_campaign.specs.Status.{any_breaks, first_failure};
 
 use crate::engine::Finished;
@@ -21,7 +21,7 @@ pub(crate) struct Findings {
 impl Findings {
     ghost use Rattle.std.specs.Prelude.{◌||◌, is_some};
     ghost use Rattle.outcome.specs.Expect.{status_by};
-    ghost use Rattle.cmd_campaign.specs.Status.{first_of};
+    ghost use Rattle.cmd_campaign.specs.Status.{first_or};
 
     /// No run is done.
     pub(crate) const NONE: Findings = Findings {
@@ -31,9 +31,9 @@ impl Findings {
 
     /// Adds more runs.
     pub(crate) fn add<A: Allocator>(&mut self, expect: Expect, ends: &[SeedEnd<A>])
-        ensures broken { self.new.is_broken ≡ (self.old.is_broken || any_breaks (map end_of ends.now)) }
+        ensures broken { self.new.is_broken ≡ (self.old.is_broken || any_breaks (map seed_ending ends.now)) }
         ensures first { self.new.first_failure
-            ≡ first_of self.old.first_failure (first_failure expect.exit (map end_of ends.now)) }
+            ≡ first_or self.old.first_failure (first_failure expect.exit (map seed_ending ends.now)) }
     {
         self.is_broken = self.is_broken || any_breaks(ends);
         self.first_failure = match self.first_failure {
@@ -56,7 +56,7 @@ impl Findings {
 
 // Whether a rule is broken in some run.
 fn any_breaks<A: Allocator>(ends: &[SeedEnd<A>]) -> bool
-    ensures { result ≡ any_breaks (map end_of ends.now) }
+    ensures { result ≡ any_breaks (map seed_ending ends.now) }
 {
     'ends: for end in ends {
         if end.ending.outcome.breaks() {
@@ -68,7 +68,7 @@ fn any_breaks<A: Allocator>(ends: &[SeedEnd<A>]) -> bool
 
 // The first seed whose run has failed.
 fn first_failure<A: Allocator>(expect: Expect, ends: &[SeedEnd<A>]) -> Option<u64>
-    ensures { result ≡ first_failure expect.exit (map end_of ends.now) }
+    ensures { result ≡ first_failure expect.exit (map seed_ending ends.now) }
 {
     'ends: for end in ends {
         if expect.fails(end.ending.outcome) {

@@ -14,7 +14,7 @@ ghost use Rattle.campaign_runs.specs.declared.campaign.Campaign.{Campaign};
 ghost use Rattle.campaign_runs.specs.declared.campaign.Report.TheVariants.{Failures};
 ghost use Rattle.cmd_campaign.specs.Answers.{campaign_answer};
 ghost use Rattle.cmd_campaign.specs.Kept.{AnswersNothing};
-ghost use Rattle.cmd_campaign.specs.Status.{status_of};
+ghost use Rattle.cmd_campaign.specs.Status.{campaign_status};
 
 /// The counts of a summary's rows add up to the number of seeds.
 pub fn all_seeds_are_counted()
@@ -25,7 +25,7 @@ pub fn all_seeds_are_counted()
 /// A campaign of one run has the status of that run.
 pub fn campaign_of_one_run_has_its_status()
     ensures { (exit : Exit) (end : SeedEnding)
-        → status_of exit (end ∷ []) ≡ run.status_of exit end.ending.outcome }
+        → campaign_status exit (end ∷ []) ≡ run.status_of exit end.ending.outcome }
 {}
 
 /// For a file that is an object, run by as many harts as it is for under its kind's rule, `campaign

@@ -1,8 +1,8 @@
 //! The lines of runs.
 
 ghost use Rattle.std.specs.Prelude.{◌≡◌, ◌++◌, IfOk, map, string_bytes};
-ghost use Rattle.campaign_runs.specs.Runs.{end_of};
-ghost use Rattle.cmd_campaign.specs.Lines.{end_entry, entries_of, entry_of, seed_line};
+ghost use Rattle.campaign_runs.specs.Runs.{seed_ending};
+ghost use Rattle.cmd_campaign.specs.Lines.{end_entry, report_entries, report_entry, seed_line};
 
 use campaign_runs::{Report, SeedEnd};
 use outcome::Expect;
@@ -38,7 +38,7 @@ impl fmt::Display for SeedLine {
 // Appends the line of a run.
 fn push_end<A: Allocator>(text: &mut String<A>, end: &SeedEnd<A>) -> Result<(), AllocError>
     ensures { IfOk result (λ _.
-        string_bytes text.new ≡ string_bytes text.old ++ end_entry (end_of end.now)) }
+        string_bytes text.new ≡ string_bytes text.old ++ end_entry (seed_ending end.now)) }
 {
     let outcome = end.ending.outcome;
     let line = SeedLine {
@@ -62,7 +62,7 @@ fn push_entry<A: Allocator>(
     end: &SeedEnd<A>,
 ) -> Result<(), AllocError>
     ensures { IfOk result (λ _. string_bytes text.new
-        ≡ string_bytes text.old ++ entry_of report expect.exit (end_of end.now)) }
+        ≡ string_bytes text.old ++ report_entry report expect.exit (seed_ending end.now)) }
 {
     match report {
         Report::Lines => push_end(text, end)?,
@@ -84,7 +84,7 @@ pub fn push_lines<A: Allocator>(
     ends: &[SeedEnd<A>],
 ) -> Result<(), AllocError>
     ensures { IfOk result (λ _. string_bytes text.new
-        ≡ string_bytes text.old ++ entries_of report expect.exit (map end_of ends.now)) }
+        ≡ string_bytes text.old ++ report_entries report expect.exit (map seed_ending ends.now)) }
 {
     'ends: for end in ends {
         push_entry(text, report, expect, end)?;

@@ -5,9 +5,9 @@ ghost use Rattle.std.specs.Io.KnownBytes.{Appends};
 ghost use Rattle.program_open.specs.Answers.{Begins};
 ghost use Rattle.program_open.specs.CommandFaults.{IfHalts};
 ghost use Rattle.campaign_runs.specs.Ending.{ending_of};
-ghost use Rattle.campaign_runs.specs.Runs.{end_of};
-ghost use Rattle.campaign_runs.specs.Tally.{rows_of, seeds_in, tally_onto};
-ghost use Rattle.cmd_campaign.specs.Lines.{entries_of};
+ghost use Rattle.campaign_runs.specs.Runs.{seed_ending};
+ghost use Rattle.campaign_runs.specs.Tally.{tally_rows, seeds_in, tally_onto};
+ghost use Rattle.cmd_campaign.specs.Lines.{report_entries};
 ghost use Rattle.cmd_campaign.specs.Summary.{counted_of};
 
 use crate::lines::push_lines;
@@ -32,9 +32,9 @@ pub fn count_ends_of<A: Allocator + Copy>(
     tally: &mut Tally<A>,
     ends: &[SeedEnd<A>],
 ) -> Result<(), AllocError>
-    requires { seeds_in (rows_of tally.old) + length ends.now < 2 ^ 64 }
+    requires { seeds_in (tally_rows tally.old) + length ends.now < 2 ^ 64 }
     ensures { IfOk result (λ _.
-        rows_of tally.new ≡ tally_onto (rows_of tally.old) (map end_of ends.now)) }
+        tally_rows tally.new ≡ tally_onto (tally_rows tally.old) (map seed_ending ends.now)) }
 {
     'ends: for end in ends {
         let ending = copied(alloc, &end.ending)?;
@@ -52,9 +52,9 @@ fn write_lines<A: Allocator + Copy, K: Sink>(
 ) -> Result<(), CommandFault>
     requires sink_counts { K.failures sink.old < 2 ^ 64 - 1 }
     ensures written { IfOk result (λ _. Appends (K.held sink.old) (K.held sink.new)
-        (entries_of campaign.report campaign.expect.exit (map end_of ends.now))) }
+        (report_entries campaign.report campaign.expect.exit (map seed_ending ends.now))) }
     ensures begun { IfErr result (λ _. Begins
-        (entries_of campaign.report campaign.expect.exit (map end_of ends.now))
+        (report_entries campaign.report campaign.expect.exit (map seed_ending ends.now))
         (K.held sink.old) (K.held sink.new)) }
     ensures fault { IfErr result (λ fault.
         IfHalts fault (K.failures sink.old < K.failures sink.new)) }
@@ -76,9 +76,9 @@ fn count_block<A: Allocator + Copy>(
     tally: &mut Tally<A>,
     ends: &[SeedEnd<A>],
 ) -> Result<(), CommandFault>
-    requires { seeds_in (rows_of tally.old) + length ends.now < 2 ^ 64 }
+    requires { seeds_in (tally_rows tally.old) + length ends.now < 2 ^ 64 }
     ensures counted { IfOk result (λ _.
-        rows_of tally.new ≡ tally_onto (rows_of tally.old) (map end_of ends.now)) }
+        tally_rows tally.new ≡ tally_onto (tally_rows tally.old) (map seed_ending ends.now)) }
     ensures fault { IfErr result (λ fault. fault ≡ CommandFault.Memory) }
 {
     match count_ends_of(alloc, tally, ends) {
@@ -96,14 +96,14 @@ pub fn record_block<A: Allocator + Copy, K: Sink>(
     tally: &mut Tally<A>,
     sink: &mut K,
 ) -> Result<(), CommandFault>
-    requires fits { seeds_in (rows_of tally.old) + length ends.now < 2 ^ 64 }
+    requires fits { seeds_in (tally_rows tally.old) + length ends.now < 2 ^ 64 }
     requires sink_counts { K.failures sink.old < 2 ^ 64 - 1 }
     ensures written { IfOk result (λ _. Appends (K.held sink.old) (K.held sink.new)
-        (entries_of campaign.report campaign.expect.exit (map end_of ends.now))) }
-    ensures counted { IfOk result (λ _. rows_of tally.new
-        ≡ tally_onto (rows_of tally.old) (counted_of campaign.report (map end_of ends.now))) }
+        (report_entries campaign.report campaign.expect.exit (map seed_ending ends.now))) }
+    ensures counted { IfOk result (λ _. tally_rows tally.new
+        ≡ tally_onto (tally_rows tally.old) (counted_of campaign.report (map seed_ending ends.now))) }
     ensures begun { IfErr result (λ _. Begins
-        (entries_of campaign.report campaign.expect.exit (map end_of ends.now))
+        (report_entries campaign.report campaign.expect.exit (map seed_ending ends.now))
         (K.held sink.old) (K.held sink.new)) }
     ensures fault { IfErr result (λ fault.
         IfHalts fault (K.failures sink.old < K.failures sink.new)) }

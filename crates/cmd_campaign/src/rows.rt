@@ -2,7 +2,7 @@
 
 ghost use Rattle.std.specs.Prelude.{◌≡◌, ◌++◌, IfOk, string_bytes};
 ghost use Rattle.campaign_runs.specs.Ending.{ending_of};
-ghost use Rattle.campaign_runs.specs.Tally.{rows_of};
+ghost use Rattle.campaign_runs.specs.Tally.{tally_rows};
 ghost use Rattle.cmd_campaign.specs.Summary.{result_words, row_entry, row_line, rows_text};
 
 use campaign_runs::{Ending, HartResult, SeedCount, Tally};
@@ -84,7 +84,7 @@ pub fn summary_text<A: Allocator + Copy>(
     alloc: A,
     tally: &Tally<A>,
 ) -> Result<String<A>, AllocError>
-    ensures { IfOk result (λ text. string_bytes text ≡ rows_text (rows_of tally.now)) }
+    ensures { IfOk result (λ text. string_bytes text ≡ rows_text (tally_rows tally.now)) }
 {
     let mut text = String::new(alloc);
     'rows: for place in 0..tally.len() {

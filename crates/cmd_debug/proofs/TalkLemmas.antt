@@ -12,7 +12,7 @@ use Rattle.std.specs.Str.Lines.{lines, lines_of_parts, strip_carriage_return}
 use Rattle.debug_session.specs.Session.{Session}
 use Rattle.debug_text.specs.Reply.{Outcome}
 use Rattle.cmd_debug.specs.Lines.{has_no_end, TakesEnded, TakesLast, TakesLine, TakesNone}
-use Rattle.cmd_debug.specs.Talk.{answers, outcome_to, Begins}
+use Rattle.cmd_debug.specs.Talk.{answers, outcome_to, BeginsTalk}
 
 abbrev ends_line : ℕ → Bool
 ends_line b = b == 10
@@ -138,7 +138,7 @@ is_ended first (Some input) (Some rest) (Some more) old now s after line so_far 
 
 -- what was written is a beginning
 pub has_begun : (first : Session) (input rest old now : Option (List ℕ)) (s : Session)
-    → IsAnswered first input rest old now s → IfSome input (λ xs. Begins old now (answers first (lines xs)))
+    → IsAnswered first input rest old now s → IfSome input (λ xs. BeginsTalk old now (answers first (lines xs)))
 has_begun first None rest old now s so_far = tt
 has_begun first (Some input) None old now s so_far = absurd so_far.left
 has_begun first (Some input) (Some rest) old now s so_far =
@@ -156,7 +156,7 @@ part_of n text more = ⊎_elim
 pub is_cut : (first : Session) (input l0 l1 old k0 k1 : Option (List ℕ)) (s after : Session) (line text : List ℕ) (n : ℕ)
     → IsAnswered first input l0 old k0 s → TakesLine l0 l1 line
     → outcome_to s line ≡ record { text = text; after = after; ended = false } → Appends k0 k1 (take n text)
-    → IfSome input (λ xs. Begins old k1 (answers first (lines xs)))
+    → IfSome input (λ xs. BeginsTalk old k1 (answers first (lines xs)))
 is_cut first None l0 l1 old k0 k1 s after line text n so_far took outcome wrote = tt
 is_cut first (Some input) None l1 old k0 k1 s after line text n so_far took outcome wrote = absurd so_far.left
 is_cut first (Some input) (Some rest) None old k0 k1 s after line text n so_far took outcome wrote = absurd (takes_known rest line took)

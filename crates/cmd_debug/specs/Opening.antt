@@ -13,7 +13,7 @@ use Rattle.program_open.specs.declared.program.ProgramForm.TheVariants as form
 use Rattle.program_open.specs.declared.command_fault.CommandFault.{CommandFault}
 use Rattle.byte_io.specs.declared.status.Status.{Status}
 use Rattle.byte_io.specs.declared.status.Status.TheVariants as status
-use Rattle.cmd_debug.specs.Talk.{answers, Begins}
+use Rattle.cmd_debug.specs.Talk.{answers, BeginsTalk}
 use Rattle.cmd_debug.specs.declared.fault.DebugEngineFault.{DebugEngineFault}
 use Rattle.cmd_debug.specs.declared.fault.DebugEngineFault.TheVariants as engine
 
@@ -27,13 +27,13 @@ first_session image inputs choices =
     record { image = image; inputs = inputs; choices = choices; position = 0; breaks = []; watches = [] }
 
 -- the session for an opened run
-abbrev pub after_opening : List ℕ → Opened → Opening
-after_opening inputs (Ok run) = Ok (first_session run.0 inputs run.1)
-after_opening inputs (Err why) = Err why
+abbrev pub session_after : List ℕ → Opened → Opening
+session_after inputs (Ok run) = Ok (first_session run.0 inputs run.1)
+session_after inputs (Err why) = Err why
 
 -- the session of inputs, a file's bytes and a choice text
 unfoldable pub opened : List ℕ → List ℕ → List ℕ → Opening
-opened inputs program text = after_opening inputs (opening form.Elf (length inputs) program text)
+opened inputs program text = session_after inputs (opening form.Elf (length inputs) program text)
 
 -- the answers to the lines of the commands were appended
 abbrev pub Answers : Opening → List ℕ → Option (List ℕ) → Option (List ℕ) → Type 0
@@ -42,7 +42,7 @@ Answers (Err why) commands old new = ⊥
 
 -- a beginning of the answers was appended
 abbrev pub BeginsToAnswer : Opening → List ℕ → Option (List ℕ) → Option (List ℕ) → Type 0
-BeginsToAnswer (Ok s) commands old new = Begins old new (answers s (lines commands))
+BeginsToAnswer (Ok s) commands old new = BeginsTalk old new (answers s (lines commands))
 BeginsToAnswer (Err why) commands old new = ⊥
 
 -- a fact for the case that no session began
@@ -56,8 +56,8 @@ IfCut (engine.Refused why) P = Unit {0}
 IfCut why P = P
 
 -- the status of a fault
-abbrev pub status_of : DebugEngineFault → Status
-status_of (engine.Refused why) = status_of_fault why
-status_of engine.Commands = status.Refused
-status_of engine.Answers = status.Refused
-status_of engine.Memory = status.NoMemory
+abbrev pub debug_status : DebugEngineFault → Status
+debug_status (engine.Refused why) = status_of_fault why
+debug_status engine.Commands = status.Refused
+debug_status engine.Answers = status.Refused
+debug_status engine.Memory = status.NoMemory

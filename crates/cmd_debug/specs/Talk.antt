@@ -34,5 +34,5 @@ answers s (line ∷ lines) =
     outcome.text ++ (if outcome.ended then [] else answers outcome.after lines)
 
 -- a beginning of these bytes was appended
-abbrev pub Begins : Option (List ℕ) → Option (List ℕ) → List ℕ → Type 0
-Begins old new bytes = (n : ℕ) × Appends old new (take n bytes)
+abbrev pub BeginsTalk : Option (List ℕ) → Option (List ℕ) → List ℕ → Type 0
+BeginsTalk old new bytes = (n : ℕ) × Appends old new (take n bytes)

@@ -4,8 +4,8 @@ ghost use Rattle.std.specs.Prelude.{◌≡◌, ◌+◌, ◌-◌, ◌^◌, ◌<�
 ghost use Rattle.std.specs.Io.KnownBytes.{Appends};
 ghost use Rattle.std.specs.Str.Lines.{lines};
 ghost use Rattle.debug_session.specs.Session.{session};
-ghost use Rattle.debug_text.specs.Reply.{outcome_of};
-ghost use Rattle.cmd_debug.specs.Talk.{answers, fault_line, outcome_to, Begins};
+ghost use Rattle.debug_text.specs.Reply.{reply_outcome};
+ghost use Rattle.cmd_debug.specs.Talk.{answers, fault_line, outcome_to, BeginsTalk};
 
 use crate::line::read_line;
 use byte_io::{ReadFault, Sink, Source, write_all};
@@ -44,7 +44,7 @@ fn answer_line<A: Allocator + Copy>(
     line: &[u8],
 ) -> Result<Answer<A>, AllocError>
     ensures { IfOk result (λ answer. outcome_to (session debugger.old) line.now
-        ≡ outcome_of answer (session debugger.new)) }
+        ≡ reply_outcome answer (session debugger.new)) }
 {
     let Ok(text) = str::from_utf8(line) else {
         return Ok(Answer::Text(fault_text(alloc, DebugFault::BadCommand)?));
@@ -70,7 +70,7 @@ pub fn talk<A: Allocator + Copy, S: Source, K: Sink>(
         Appends (K.held sink.old) (K.held sink.new)
         (answers (session debugger.old) (lines input)))) }
     ensures begun { IfErr result (λ _. IfSome (S.left source.old) (λ input.
-        Begins (K.held sink.old) (K.held sink.new)
+        BeginsTalk (K.held sink.old) (K.held sink.new)
         (answers (session debugger.old) (lines input)))) }
     ensures read { result ≡ Err TalkFault.Read → S.failures source.old < S.failures source.new }
     ensures write { result ≡ Err TalkFault.Write → K.failures sink.old < K.failures sink.new }

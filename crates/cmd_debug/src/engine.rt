@@ -11,9 +11,8 @@ ghost use Rattle.cmd_debug.specs.Opening.{opened, Answers, BeginsToAnswer, IfCut
 use crate::conversation::{TalkFault, talk};
 use crate::fault::DebugEngineFault;
 use crate::opening::open_session;
-use byte_io::{Sink, Source, Status};
+use byte_io::{Progress, Sink, Source, Status};
 use program_open::{CommandFault, Input, ProgramForm, open_run};
-use progress::Progress;
 use std::alloc::{AllocError, Allocator};
 
 /// `debug`: reads the file to its end and, if it is a valid program and the number of inputs is

@@ -1,7 +1,7 @@
 //! Why a session ends with a fault.
 
 ghost use Rattle.std.specs.Prelude.{◌≡◌};
-ghost use Rattle.cmd_debug.specs.Opening.{status_of};
+ghost use Rattle.cmd_debug.specs.Opening.{debug_status};
 
 use byte_io::Status;
 use program_open::CommandFault;
@@ -28,7 +28,7 @@ pub enum DebugEngineFault {
 impl DebugEngineFault {
     /// The program's exit status.
     pub fn status(self) -> Status
-        ensures { result ≡ status_of self }
+        ensures { result ≡ debug_status self }
     {
         match self {
             DebugEngineFault::Refused(fault) => fault.status(),

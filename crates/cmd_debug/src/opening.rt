@@ -5,9 +5,9 @@ ghost use Rattle.std.specs.List.{All};
 ghost use Rattle.debug_session.specs.Session.{session};
 ghost use Rattle.cmd_debug.specs.Opening.{first_session};
 
+use byte_io::Progress;
 use debug_session::Debugger;
 use program_open::OpenRun;
-use progress::Progress;
 use std::alloc::{AllocError, Allocator};
 
 /// A debugger at the start of an opened run. A long start reports its progress.

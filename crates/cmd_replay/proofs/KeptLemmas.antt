@@ -7,7 +7,7 @@ use Rattle.std.proofs.lemmas.List.Elements.{All-nil, All-cons, All-replicate, Al
 use Rattle.image.specs.Image.{ImageValue}
 use Rattle.machine.specs.declared.choice.Choice.{Choice}
 use Rattle.history.specs.declared.entry.Entry.{Entry}
-use Rattle.history.specs.History.{choice, choices_of, expanded}
+use Rattle.history.specs.History.{choice, entry_choices, expanded}
 use Rattle.object_library.specs.declared.kind.Kind.{Kind}
 use Rattle.program_open.specs.Program.{program_of}
 use Rattle.program_open.specs.declared.program.ProgramForm.TheVariants as form
@@ -15,10 +15,10 @@ use Rattle.cmd_run.specs.Certified.{AnswersKept, IsCertified}
 use Rattle.cmd_run.specs.Run.{may_run}
 use Rattle.outcome.specs.declared.expect.Exit.TheVariants.{May}
 use Rattle.cmd_run.proofs.CertifiedLemmas.{certified_shown}
-use Rattle.cmd_replay.specs.Replay.{after_opening, replay_opening, replay_answer}
+use Rattle.cmd_replay.specs.Replay.{replay_after, replay_opening, replay_answer}
 
 -- each choice that a history stands for names a hart that exists
-within_entry : (n : ℕ) (e : Entry) → e.hart < n → All (λ c. c.hart < n) (choices_of e)
+within_entry : (n : ℕ) (e : Entry) → e.hart < n → All (λ c. c.hart < n) (entry_choices e)
 within_entry n e lt =
     let P : Choice → Type 0 = λ c. c.hart < n in
     All-append P (replicate e.local (choice e.hart false)) (choice e.hart e.refuse ∷ [])
@@ -28,7 +28,7 @@ pub within_history : (n : ℕ) (entries : List Entry) → All (λ e. e.hart < n)
 unfolding expanded
 within_history n [] all = All-nil (λ (c : Choice). c.hart < n)
 within_history n (e ∷ entries) all =
-    All-append (λ (c : Choice). c.hart < n) (choices_of e) (expanded entries) (within_entry n e (all 0 e (omega arith)))
+    All-append (λ (c : Choice). c.hart < n) (entry_choices e) (expanded entries) (within_entry n e (all 0 e (omega arith)))
     (within_history n entries (λ k d lt. all (suc k) d (omega arith)))
 
 -- a replay of a certified file keeps its rule, by what the devices had left
@@ -40,5 +40,5 @@ unfolding replay_answer
 known_kept inputs rule None text image entries words there reads opens = tt
 known_kept inputs rule (Some p) None image entries words there reads opens = tt
 known_kept inputs rule (Some p) (Some h) image entries words there reads opens = λ certified.
-    subst (λ o. AnswersKept May (after_opening rule inputs o)) (sym opens)
+    subst (λ o. AnswersKept May (replay_after rule inputs o)) (sym opens)
     (certified_shown form.Elf inputs (may_run rule) p image (expanded entries) words (within_history (length inputs) entries there) reads certified)

@@ -5,7 +5,7 @@ use Rattle.machine.specs.Chosen.{ChooseAlike}
 use Rattle.machine.specs.declared.choice.Choice.{Choice}
 use Rattle.object_library.specs.declared.kind.Kind.{Kind}
 use Rattle.object_library.proofs.ChosenLemmas.{same_verdict}
-use Rattle.ends.specs.Ends.{verdict_on}
+use Rattle.outcome.specs.Ends.{verdict_on}
 
 pub verdict_alike : (rule : Option Kind) (inputs : List ℕ) (a b : List Choice) (harts : List HartValue) → ChooseAlike a b
     → verdict_on rule inputs a harts ≡ verdict_on rule inputs b harts

@@ -24,25 +24,25 @@ fault_of_history (history.NoHart offset) = fault.NoHartOfEntry offset
 fault_of_history history.Memory = fault.Memory
 
 -- an image with its history, or the fault
-abbrev pub Opened : Type 0
-Opened = Result (ImageValue × List Entry) CommandFault
+abbrev pub OpenedReplay : Type 0
+OpenedReplay = Result (ImageValue × List Entry) CommandFault
 
 -- an image with the history that is read
-abbrev pub with_history : ImageValue → Result (List Entry) HistoryFault → Opened
+abbrev pub with_history : ImageValue → Result (List Entry) HistoryFault → OpenedReplay
 with_history image (Ok entries) = Ok (image, entries)
 with_history image (Err why) = Err (fault_of_history why)
 
 -- a replay of a program and a history text with this number of inputs, opened
-unfoldable pub replay_opening : ℕ → List ℕ → List ℕ → Opened
+unfoldable pub replay_opening : ℕ → List ℕ → List ℕ → OpenedReplay
 replay_opening harts program text = after_program harts
     (λ image. with_history image (entries_of harts text)) (program_of form.Elf program)
 
 -- the answer for an opened replay
-abbrev pub after_opening : Option Kind → List ℕ → Opened → Answer
-after_opening rule inputs (Ok opened) =
+abbrev pub replay_after : Option Kind → List ℕ → OpenedReplay → Answer
+replay_after rule inputs (Ok opened) =
     Ok (shown (may_run rule) inputs (expanded opened.1) (world_after opened.0 inputs (expanded opened.1)))
-after_opening rule inputs (Err why) = Err why
+replay_after rule inputs (Err why) = Err why
 
 -- the answer for a program and a history text, under a rule if there is one
 unfoldable pub replay_answer : List ℕ → Option Kind → List ℕ → List ℕ → Answer
-replay_answer inputs rule program text = after_opening rule inputs (replay_opening (length inputs) program text)
+replay_answer inputs rule program text = replay_after rule inputs (replay_opening (length inputs) program text)

@@ -57,14 +57,8 @@ pub fn open_replay<A: Allocator + Copy, P: Source, H: Source>(
         → IfSome (P.left program.old) (λ p. (image : ImageValue) × (program_of ProgramForm.Elf p ≡ Ok image)) }
     ensures inputs_first { result ≡ Err (CommandFault.Read Input.History) → IsStartable inputs.now }
 {
-    let image = match read_image(alloc, ProgramForm::Elf, program) {
-        Ok(image) => image,
-        Err(fault) => return Err(fault),
-    };
-    let inputs = match Inputs::new(inputs) {
-        Ok(inputs) => inputs,
-        Err(fault) => return Err(CommandFault::from(fault)),
-    };
+    let image = read_image(alloc, ProgramForm::Elf, program)?;
+    let inputs = Inputs::new(inputs)?;
     let text = match read_all(alloc, history) {
         Ok(bytes) => bytes,
         Err(ReadFault::Device) => return Err(CommandFault::Read(Input::History)),

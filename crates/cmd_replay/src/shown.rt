@@ -4,14 +4,13 @@ ghost use Rattle.std.specs.Prelude.{◌≡◌, IfOk, map, string_bytes};
 ghost use Rattle.hart_step.specs.Hart.{hart_of};
 ghost use Rattle.history.specs.History.{expanded};
 ghost use Rattle.cmd_run.specs.Run.{shown_with};
-ghost use Rattle.ends.specs.Ends.{verdict_on};
+ghost use Rattle.outcome.specs.Ends.{verdict_on};
 ghost use Rattle.outcome.specs.declared.expect.Exit.TheVariants.{May};
 
 use byte_io::Status;
 use cmd_run::{Exit, Expect, ends_text};
 use hart_step::Hart;
-use history::Entry;
-use history_replay::chosen_harts;
+use history::{Entry, chosen_harts};
 use object_library::Kind;
 use std::alloc::{AllocError, Allocator};
 

@@ -12,14 +12,14 @@ use Rattle.object_library.specs.declared.kind.Kind.TheVariants.{Swap, Add, LrSc,
 use Rattle.object_library.specs.declared.verdict.Verdict.{Verdict}
 use Rattle.object_library.specs.declared.verdict.Verdict.TheVariants as verdict
 use Rattle.object_library.specs.Images.{image_of, IsSame}
-use Rattle.object_library.specs.Rules.{Keeps}
+use Rattle.object_library.specs.Rules.{KeepsRule}
 use Rattle.object_library.proofs.JudgeLemmas.{kept-decides}
 use Rattle.object_consensus.proofs.AmoRace.{swap_agrees_in, add_agrees_in}
 use Rattle.object_consensus.proofs.LrscRace.{agrees_in as lrsc_agrees_in}
 use Rattle.object_adopt.proofs.Alone.{agrees_in as adopt_agrees_in}
 use Rattle.object_adopt.proofs.Four.{agrees_in as rounds_agrees_in}
 use Rattle.cmd_run.specs.Certified.{AnswersKept, IsCertified, IsMeantFor, IsUnbroken}
-use Rattle.ends.specs.Ends.{ends_of, verdict_on}
+use Rattle.outcome.specs.Ends.{ends_of, verdict_on}
 use Rattle.outcome.specs.Expect.{status_by}
 use Rattle.outcome.specs.Outcome.{some_run}
 use Rattle.outcome.specs.declared.expect.Exit.{Exit}
@@ -27,14 +27,14 @@ use Rattle.outcome.specs.declared.expect.Exit.TheVariants.{May, Must}
 use Rattle.outcome.specs.declared.expect.Expect.{Expect}
 use Rattle.program_open.specs.Program.{program_of}
 use Rattle.program_open.specs.Opening.{opening}
-use Rattle.cmd_run.specs.Run.{after_opening, run_answer, shown, shown_with, world_after}
+use Rattle.cmd_run.specs.Run.{run_after, run_answer, shown, shown_with, world_after}
 use Rattle.program_open.specs.declared.program.ProgramForm.{ProgramForm}
 use Rattle.program_open.specs.declared.command_fault.CommandFault.{CommandFault}
 
 -- a run of an object keeps the rule of its kind
 pub object_keeps : (kind : Kind) (image : ImageValue) (inputs : List ℕ) (choices : List Choice) → IsSame image (image_of kind)
     → IsMeantFor kind (length inputs) → All (λ x. x < 2 ^ 32) inputs → All (λ c. c.hart < length inputs) choices
-    → Keeps kind inputs choices (run (started image inputs) choices).harts
+    → KeepsRule kind inputs choices (run (started image inputs) choices).harts
 object_keeps Swap image inputs choices same meant words there = swap_agrees_in image same inputs choices meant words there
 object_keeps Add image inputs choices same meant words there = add_agrees_in image same inputs choices meant words there
 object_keeps LrSc image inputs choices same meant words there =
@@ -91,5 +91,5 @@ pub certified_keeps : (form : ProgramForm) (inputs : List ℕ) (expect : Expect)
     → AnswersKept expect.exit (run_answer form inputs expect program text)
 unfolding run_answer
 certified_keeps form inputs expect program text image choices words there reads opens h =
-    subst (λ o. AnswersKept expect.exit (after_opening expect inputs o)) (sym opens)
+    subst (λ o. AnswersKept expect.exit (run_after expect inputs o)) (sym opens)
     (certified_shown form inputs expect program image choices words there reads h)

@@ -11,7 +11,7 @@ use Rattle.machine.specs.Start.{started}
 use Rattle.machine.specs.World.{run}
 use Rattle.machine.specs.declared.choice.Choice.{Choice}
 use Rattle.machine.proofs.RunLaws.{length-started, run_length}
-use Rattle.sched_text.specs.Reading.{choices_of}
+use Rattle.sched_text.specs.Reading.{choices_read}
 use Rattle.sched_text.proofs.Agreement.{hart_within, spells_of}
 use Rattle.object_library.specs.declared.kind.Kind.{Kind}
 use Rattle.object_library.specs.declared.kind.Kind.TheVariants.{Swap, Add, LrSc, AdoptCommit, Rounds}
@@ -22,7 +22,7 @@ use Rattle.object_consensus.proofs.AmoRace.{add_ends_in, swap_ends_in}
 use Rattle.object_consensus.proofs.LrscRace.{ends_in as lrsc_ends_in}
 use Rattle.object_adopt.proofs.Alone.{ends_in as adopt_ends_in}
 use Rattle.object_adopt.proofs.Four.{ends_in as rounds_ends_in}
-use Rattle.ends.specs.Ends.{verdict_on}
+use Rattle.outcome.specs.Ends.{verdict_on}
 use Rattle.outcome.specs.Expect.{hangs, status_by, status_of}
 use Rattle.outcome.specs.Outcome.{counted, counts, outcome_of}
 use Rattle.outcome.specs.declared.expect.Exit.{Exit}
@@ -35,7 +35,7 @@ use Rattle.program_open.specs.declared.program.ProgramForm.{ProgramForm}
 use Rattle.program_open.specs.declared.command_fault.CommandFault.TheVariants as fault
 use Rattle.cmd_run.specs.Certified.{IsMeantFor}
 use Rattle.cmd_run.specs.Enough.{ChooseEnough, EndsWell, IsChosenEnough}
-use Rattle.cmd_run.specs.Run.{after_opening, run_answer, world_after}
+use Rattle.cmd_run.specs.Run.{run_after, run_answer, world_after}
 use Rattle.cmd_run.proofs.CertifiedLemmas.{object_is_kept}
 
 -- an object is for few harts
@@ -85,10 +85,10 @@ ends_well : (form : ProgramForm) (inputs : List ℕ) (expect : Expect) (program 
     → IsChosenEnough form program inputs expect.rule text → EndsWell (run_answer form inputs expect program text)
 unfolding run_answer opening
 ends_well form inputs expect program text words e =
-    subst (λ p. P (after_program n (λ i. with_choices i (choices_of n text)) p)) (sym e.object.reads)
-    (subst (λ none. P (cond none (Err fault.NoHarts) (cond (ltb most_harts n) (Err fault.TooManyHarts) (with_choices e.object.image (choices_of n text)))))
+    subst (λ p. P (after_program n (λ i. with_choices i (choices_read n text)) p)) (sym e.object.reads)
+    (subst (λ none. P (cond none (Err fault.NoHarts) (cond (ltb most_harts n) (Err fault.TooManyHarts) (with_choices e.object.image (choices_read n text)))))
     (sym (ne_eqb n 0 (λ none. omega (arith, some, none))))
-    (subst (λ many. P (cond many (Err fault.TooManyHarts) (with_choices e.object.image (choices_of n text))))
+    (subst (λ many. P (cond many (Err fault.TooManyHarts) (with_choices e.object.image (choices_read n text))))
     (sym (le-ltb most_harts n (at_most e.object.kind n e.object.meant)))
     (subst (λ r. P (with_choices e.object.image r)) (sym e.reads) done)))
   where
@@ -99,7 +99,7 @@ ends_well form inputs expect program text words e =
     some = e.some
 
     P : Opened → Type 0
-    P o = EndsWell (after_opening expect inputs o)
+    P o = EndsWell (run_after expect inputs o)
 
     there : All (λ c. c.hart < length inputs) e.choices
     there = hart_within n text e.choices (spells_of n text e.choices (few e.object.kind n e.object.meant) e.reads)

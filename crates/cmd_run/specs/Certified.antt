@@ -7,7 +7,7 @@ use Rattle.object_library.specs.declared.kind.Kind.{Kind}
 use Rattle.object_library.specs.declared.kind.Kind.TheVariants.{Swap, Add, LrSc, AdoptCommit, Rounds}
 use Rattle.object_library.specs.declared.verdict.Verdict.TheVariants.{Kept}
 use Rattle.object_library.specs.Images.{image_of, IsSame}
-use Rattle.ends.specs.Ends.{verdict_line}
+use Rattle.outcome.specs.Ends.{verdict_line}
 use Rattle.outcome.specs.declared.expect.Exit.{Exit}
 use Rattle.outcome.specs.declared.expect.Exit.TheVariants.{May, Must}
 use Rattle.program_open.specs.Program.{program_of}

@@ -1,7 +1,7 @@
 -- How many choices a hart of an object needs at most to exit: the bounds of the object crates.
 use Rattle.std.specs.Prelude.{◌≡◌, ℕ, ◌+◌, ◌*◌, ◌<◌, ◌≤◌, List, length, Option}
 use Rattle.std.specs.declared.result.Result.TheVariants.{Ok, Err}
-use Rattle.sched_text.specs.Reading.{choices_of}
+use Rattle.sched_text.specs.Reading.{choices_read}
 use Rattle.byte_io.specs.declared.status.Status.TheVariants as status
 use Rattle.machine.specs.declared.choice.Choice.{Choice}
 use Rattle.object_library.specs.Counts.{own, refusals}
@@ -28,7 +28,7 @@ pub record IsChosenEnough (form : ProgramForm) (program inputs : List ℕ) (rule
   pub object : IsCertified form program inputs rule
   pub some : 0 < length inputs
   pub choices : List Choice
-  pub reads : choices_of (length inputs) text ≡ Ok choices
+  pub reads : choices_read (length inputs) text ≡ Ok choices
   pub often : ChooseEnough object.kind (length inputs) choices
 
 -- a run answers, and its status is 0

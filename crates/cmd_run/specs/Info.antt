@@ -11,7 +11,7 @@ use Rattle.elf_read.specs.declared.symbol.SymFault.TheVariants as symbols
 use Rattle.isa_names.specs.Digits.{word_text}
 use Rattle.object_library.specs.declared.kind.Kind.{Kind}
 use Rattle.object_library.specs.Images.{image_of, IsSame}
-use Rattle.object_library.specs.Names.{name_of}
+use Rattle.object_library.specs.Names.{object_name}
 
 -- a letter for a right, or a dash if it is missing
 abbrev pub right_text : ℕ → ℕ → List ℕ → List ℕ
@@ -54,7 +54,7 @@ NamesLibrary image None = (kind : Kind) → IsSame image (image_of kind) → ⊥
 -- the name of a kind, or `none`
 abbrev pub library_name : Option Kind → List ℕ
 library_name None = codes "none"
-library_name (Some kind) = name_of kind
+library_name (Some kind) = object_name kind
 
 -- the facts of an image with these symbols, given the kind of object that it is
 unfoldable pub info_of : ImageValue → Symbols → Option Kind → List ℕ

@@ -8,7 +8,7 @@ use Rattle.machine.specs.declared.choice.Choice.{Choice}
 use Rattle.hart_step.specs.Hart.{HartValue}
 use Rattle.object_library.specs.declared.kind.Kind.{Kind}
 use Rattle.object_library.specs.declared.verdict.Verdict.{Verdict}
-use Rattle.ends.specs.Ends.{text_of, verdict_on}
+use Rattle.outcome.specs.Ends.{lines_of_ends, verdict_on}
 use Rattle.outcome.specs.Expect.{status_of}
 use Rattle.outcome.specs.Outcome.{outcome_of}
 use Rattle.outcome.specs.declared.expect.Exit.{Exit}
@@ -25,7 +25,7 @@ may_run rule = record { rule = rule; exit = May }
 
 -- the printed harts with a verdict, and the status of their run
 abbrev pub shown_with : Exit → Option Verdict → List HartValue → List ℕ × Status
-shown_with exit verdict harts = (text_of verdict harts, status_of exit (outcome_of verdict harts))
+shown_with exit verdict harts = (lines_of_ends verdict harts, status_of exit (outcome_of verdict harts))
 
 -- the printed world after a list of choices, with the verdict on it
 abbrev pub shown : Expect → List ℕ → List Choice → World → List ℕ × Status
@@ -36,10 +36,10 @@ abbrev pub world_after : ImageValue → List ℕ → List Choice → World
 world_after image inputs choices = run (started image inputs) choices
 
 -- the answer for an opened run
-abbrev pub after_opening : Expect → List ℕ → Opened → Answer
-after_opening expect inputs (Ok opened) = Ok (shown expect inputs opened.1 (world_after opened.0 inputs opened.1))
-after_opening expect inputs (Err why) = Err why
+abbrev pub run_after : Expect → List ℕ → Opened → Answer
+run_after expect inputs (Ok opened) = Ok (shown expect inputs opened.1 (world_after opened.0 inputs opened.1))
+run_after expect inputs (Err why) = Err why
 
 -- the answer for a program and a choice text, by what is expected of the run
 unfoldable pub run_answer : ProgramForm → List ℕ → Expect → List ℕ → List ℕ → Answer
-run_answer form inputs expect program text = after_opening expect inputs (opening form (length inputs) program text)
+run_answer form inputs expect program text = run_after expect inputs (opening form (length inputs) program text)

@@ -30,10 +30,7 @@ pub fn file_text<A: Allocator + Copy>(
     ensures err { IfErr result (λ fault. fault ≢ CommandFault.Memory
         → program_of ProgramForm.Elf bytes.now ≡ Err fault) }
 {
-    let image = match read_program(alloc, ProgramForm::Elf, bytes) {
-        Ok(image) => image,
-        Err(fault) => return Err(fault),
-    };
+    let image = read_program(alloc, ProgramForm::Elf, bytes)?;
     let text = match view {
         FileView::Listing => list_image(alloc, &image),
         FileView::Facts => info_text(alloc, &image, bytes),

@@ -5,11 +5,10 @@ pub use byte_io::{
     DeviceFault, Failing, FullSink, MemorySink, MemorySource, ReadFault, ReaderSource, Sink,
     Source, Status, WriterSink, read_all, write_all,
 };
-pub use ends::EndLine;
 pub use file::{FileView, file_engine, file_text};
 pub use info::info_text;
 pub use isa_names::Word;
-pub use outcome::{Exit, Expect};
+pub use outcome::{EndLine, Exit, Expect};
 pub use program_open::{
     CommandFault, HEX_BASE, HEX_SIZE, HexFault, Input, MOST_WORDS, ProgramForm, deliver, hex_image,
     read_hex, read_image, read_program, write_text,

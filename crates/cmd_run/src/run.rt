@@ -6,24 +6,23 @@ ghost use Rattle.cmd_run.specs.Certified.{AnswersKept, IsCertified};
 ghost use Rattle.cmd_run.specs.Enough.{EndsWell, IsChosenEnough};
 ghost use Rattle.program_open.specs.Opening.{with_choices};
 ghost use Rattle.program_open.specs.Program.{program_of};
-ghost use Rattle.cmd_run.specs.Run.{after_opening, run_answer, shown_with};
+ghost use Rattle.cmd_run.specs.Run.{run_after, run_answer, shown_with};
 ghost use Rattle.hart_step.specs.Hart.{hart_of};
 ghost use Rattle.machine.specs.Chosen.{is_chosen};
 ghost use Rattle.machine.specs.declared.choice.Choice.{Choice};
-ghost use Rattle.sched_text.specs.Reading.{choices_of};
+ghost use Rattle.sched_text.specs.Reading.{choices_read};
 ghost use Rattle.sched_run.specs.Chosen.{harts_of};
-ghost use Rattle.ends.specs.Ends.{verdict_on};
+ghost use Rattle.outcome.specs.Ends.{verdict_on};
 ghost use Rattle.machine.specs.Start.{IsStartable};
 ghost use Rattle.program_open.specs.CommandFaults.{IfNames, IsRefusal};
 ghost use Rattle.image.specs.Image.{ImageValue};
 
 use byte_io::{Source, Status};
-use ends::lines_text;
 use hart_step::Hart;
 use image::Image;
 use machine::{Inputs, Machine, see_words};
 use mem_flat::FlatStore;
-use outcome::Expect;
+use outcome::{Expect, lines_text};
 use program_open::{CommandFault, Input, ProgramForm, open_text};
 use sched_run::{Chosen, early_fault, run_choices};
 use sched_text::ChoiceFault;
@@ -62,10 +61,10 @@ pub fn run_text<A: Allocator + Copy>(
     text: &[u8],
 ) -> Result<(String<A>, Status), ChoiceFault>
     ensures shown { IfOk result (λ answer.
-        after_opening expect inputs.now (with_choices image.now (choices_of (length inputs.now) text.now))
+        run_after expect inputs.now (with_choices image.now (choices_read (length inputs.now) text.now))
         ≡ Ok (string_bytes answer.0, answer.1)) }
     ensures refused { IfErr result (λ fault. fault ≢ ChoiceFault.Memory
-        → choices_of (length inputs.now) text.now ≡ Err fault) }
+        → choices_read (length inputs.now) text.now ≡ Err fault) }
 {
     if let Some(fault) = early_fault(text, inputs.harts()) {
         return Err(fault);

@@ -1,15 +1,14 @@
 //! How harts are printed, and the status of their run.
 
 ghost use Rattle.std.specs.Prelude.{◌≡◌, IfOk, map, string_bytes};
-ghost use Rattle.ends.specs.Ends.{verdict_on};
+ghost use Rattle.outcome.specs.Ends.{verdict_on};
 ghost use Rattle.cmd_run.specs.Run.{shown_with};
 ghost use Rattle.hart_step.specs.Hart.{hart_of};
 
 use byte_io::Status;
-use ends::{lines_text, verdict_on};
 use hart_step::Hart;
 use machine::Choice;
-use outcome::{Expect, Outcome};
+use outcome::{Expect, Outcome, lines_text, verdict_on};
 use std::alloc::{AllocError, Allocator};
 
 /// The lines of the harts that a run left and, under a rule, the verdict on them by the run's

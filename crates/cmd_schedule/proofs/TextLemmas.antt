@@ -6,7 +6,7 @@ use Rattle.machine.specs.Start.{IsStartable, started}
 use Rattle.machine.specs.World.{World}
 use Rattle.machine.specs.declared.choice.Choice.{Choice}
 use Rattle.sched_text.specs.Printing.{choices_text}
-use Rattle.sched_text.specs.Reading.{choices_of}
+use Rattle.sched_text.specs.Reading.{choices_read}
 use Rattle.sched_text.proofs.Agreement.{choices_of-spelled}
 use Rattle.sched_text.proofs.PrintLemmas.{text_spells}
 use Rattle.sched_draw.specs.Schedules.{choices_of as made_of, drawn_choices}
@@ -19,7 +19,7 @@ use Rattle.cmd_schedule.specs.declared.plan.Plan.{Plan}
 
 -- choices of harts that exist are read from their text
 pub read_back : (harts : ℕ) (choices : List Choice) → harts < 2 ^ 32 → All (λ c. c.hart < harts) choices
-    → choices_of harts (choices_text choices) ≡ Ok choices
+    → choices_read harts (choices_text choices) ≡ Ok choices
 read_back harts choices few within =
     choices_of-spelled harts (choices_text choices) choices few (text_spells harts choices few within)
 
@@ -37,7 +37,7 @@ made_text plan choices text made printed =
       choices = choices;
       made = made;
       printed = printed;
-      read = ap (choices_of plan.harts) printed ∙ read_back plan.harts choices (omega (arith, plan.few)) within;
+      read = ap (choices_read plan.harts) printed ∙ read_back plan.harts choices (omega (arith, plan.few)) within;
     }
 
 pub ends_as_told : (campaign : Campaign) (image : ImageValue) (inputs : List ℕ) (seed : ℕ) → IsStartable inputs

@@ -18,9 +18,9 @@ IsPlanOf harts steps schedule plan =
     (plan.harts ≡ harts) × (plan.steps ≡ steps) × (plan.schedule ≡ schedule)
 
 -- why there is no plan: the number of harts is checked first
-abbrev pub Refuses : ℕ → Schedule → PlanFault → Type 0
-Refuses harts schedule BadHarts = (harts ≡ 0) ⊎ (most_harts < harts)
-Refuses harts schedule NoHart = (0 < harts) × (harts ≤ most_harts) × (is_of_harts schedule harts ≡ false)
+abbrev pub RefusesSchedule : ℕ → Schedule → PlanFault → Type 0
+RefusesSchedule harts schedule BadHarts = (harts ≡ 0) ⊎ (most_harts < harts)
+RefusesSchedule harts schedule NoHart = (0 < harts) × (harts ≤ most_harts) × (is_of_harts schedule harts ≡ false)
 
 -- a text is the choice text of a plan's choices, which are the same in each run, and reading it for
 -- as many harts gives them
@@ -28,4 +28,4 @@ pub record IsScheduleText (plan : Plan) (text : List ℕ) : Type 0 where
   pub choices : List Choice
   pub made : (w : World) → choices ≡ choices_of plan.schedule w plan.harts plan.steps
   pub printed : text ≡ choices_text choices
-  pub read : texts.choices_of plan.harts text ≡ Ok choices
+  pub read : texts.choices_read plan.harts text ≡ Ok choices

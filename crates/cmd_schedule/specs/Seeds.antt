@@ -5,7 +5,7 @@ use Rattle.image.specs.Image.{ImageValue}
 use Rattle.machine.specs.Start.{started}
 use Rattle.machine.specs.declared.choice.Choice.{Choice}
 use Rattle.sched_text.specs.Printing.{choices_text}
-use Rattle.sched_text.specs.Reading.{choices_of}
+use Rattle.sched_text.specs.Reading.{choices_read}
 use Rattle.byte_io.specs.declared.status.Status.TheVariants as status
 use Rattle.sched_draw.specs.Schedules.{drawn_choices}
 use Rattle.campaign_runs.specs.Runs.{ending_after, ending_from}
@@ -29,5 +29,5 @@ choices_answer plan inputs bytes = after_program (length inputs)
 -- a text is read as choices whose run ends as a campaign reports for a seed
 pub record EndsAsTold (campaign : Campaign) (image : ImageValue) (inputs : List ℕ) (seed : ℕ) (text : List ℕ) : Type 0 where
   pub choices : List Choice
-  pub read : choices_of (length inputs) text ≡ Ok choices
+  pub read : choices_read (length inputs) text ≡ Ok choices
   pub ends : ending_after (started image inputs) campaign inputs choices ≡ (ending_from (started image inputs) campaign inputs seed).ending

@@ -81,14 +81,8 @@ pub fn seed_engine<A: Allocator + Copy, P: Source>(
     ensures read { IfErr result (λ fault. IfNames fault
         (P.failures program.old < P.failures program.new) ⊥ ⊥ ⊥) }
 {
-    let image = match read_image(alloc, ProgramForm::Elf, program) {
-        Ok(image) => image,
-        Err(fault) => return Err(fault),
-    };
-    let inputs = match Inputs::new(inputs) {
-        Ok(inputs) => inputs,
-        Err(fault) => return Err(CommandFault::from(fault)),
-    };
+    let image = read_image(alloc, ProgramForm::Elf, program)?;
+    let inputs = Inputs::new(inputs)?;
     match seed_text(alloc, &inputs, plan, &image) {
         Ok(text) => Ok((text, Status::Done)),
         Err(AllocError) => Err(CommandFault::Memory),

@@ -33,13 +33,13 @@ pub struct Plan {
 impl Plan {
     ghost use Rattle.std.specs.Prelude.{◌≡◌, ◌≤◌, false, MatchResult};
     ghost use Rattle.sched_draw.specs.Schedules.{follows_run};
-    ghost use Rattle.cmd_schedule.specs.Plans.{IsPlanOf, Refuses};
+    ghost use Rattle.cmd_schedule.specs.Plans.{IsPlanOf, RefusesSchedule};
 
     /// A plan of `steps` steps of `harts` harts. The number of harts is checked first.
     pub fn new(harts: u32, steps: u32, schedule: Schedule) -> Result<Plan, PlanFault>
         requires { follows_run schedule ≡ false }
         ensures { MatchResult result (λ plan. IsPlanOf harts steps schedule plan)
-            (λ fault. Refuses harts schedule fault) }
+            (λ fault. RefusesSchedule harts schedule fault) }
     {
         if harts == 0 || harts as usize > MAX_HARTS {
             return Err(PlanFault::BadHarts);

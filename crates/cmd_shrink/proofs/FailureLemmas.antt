@@ -17,7 +17,7 @@ use Rattle.outcome.specs.declared.expect.Exit.{Exit}
 use Rattle.outcome.specs.declared.expect.Exit.TheVariants.{May, Must}
 use Rattle.outcome.specs.declared.expect.Expect.{Expect}
 use Rattle.cmd_shrink.specs.Hanging.{hangs_after, harts_after, steps_for}
-use Rattle.cmd_shrink.specs.Failure.{RunFailsSo, fault_or, first_fault, failure_after, failure_by, failure_of, failure_or}
+use Rattle.cmd_shrink.specs.Failure.{RunFailsSo, or_failure, lowest_fault, failure_after, failure_by, failure_of, failure_or}
 use Rattle.cmd_shrink.specs.declared.failure.Failure.{Failure}
 use Rattle.cmd_shrink.specs.declared.failure.Failure.TheVariants as failure
 
@@ -45,7 +45,7 @@ later n h harts how f = record {
 }
 
 fault_first : (n : ℕ) (h : HartValue) (harts : List HartValue) (how : Failure) (s : HartState) → h.state ≡ s
-    → (first_fault (n + 1) harts ≡ Some how → IsFault (n + 1) harts how) → fault_or (first_fault (n + 1) harts) n h.pc s ≡ Some how
+    → (lowest_fault (n + 1) harts ≡ Some how → IsFault (n + 1) harts how) → or_failure (lowest_fault (n + 1) harts) n h.pc s ≡ Some how
     → IsFault n (h ∷ harts) how
 fault_first n h harts how Running is others e = later n h harts how (others e)
 fault_first n h harts how (Exited status) is others e = later n h harts how (others e)
@@ -60,7 +60,7 @@ fault_first n h harts how (Faulted cause) is others e = record {
   faulted = is;
 }
 
-fault_found : (n : ℕ) (harts : List HartValue) (how : Failure) → first_fault n harts ≡ Some how → IsFault n harts how
+fault_found : (n : ℕ) (harts : List HartValue) (how : Failure) → lowest_fault n harts ≡ Some how → IsFault n harts how
 fault_found n [] how e = absurd (cc)
 fault_found n (h ∷ harts) how e = fault_first n h harts how h.state refl (fault_found (n + 1) harts how) e
 

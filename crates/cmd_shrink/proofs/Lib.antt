@@ -4,3 +4,6 @@ pub mod FailureLemmas
 pub mod TurnLemmas
 pub mod BelowLemmas
 pub mod ShrunkLemmas
+pub mod LessLemmas
+pub mod WeightLemmas
+pub mod NeededLemmas

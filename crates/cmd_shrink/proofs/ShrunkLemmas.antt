@@ -5,11 +5,11 @@ use Rattle.std.proofs.lemmas.List.Elements.{All-nil, All-cons}
 use Rattle.image.specs.Image.{ImageValue}
 use Rattle.machine.specs.declared.choice.Choice.{Choice}
 use Rattle.sched_text.specs.Printing.{runs_text}
-use Rattle.sched_text.specs.Reading.{choices_of}
+use Rattle.sched_text.specs.Reading.{choices_read}
 use Rattle.sched_text.proofs.Agreement.{choices_of-spelled}
 use Rattle.sched_text.proofs.PrintLemmas.{runs_spell}
-use Rattle.shrink_list.specs.Less.{IsLess}
-use Rattle.shrink_list.specs.Minimal.{IsMinimal}
+use Rattle.cmd_shrink.specs.Less.{IsLess}
+use Rattle.cmd_shrink.specs.Minimal.{IsMinimal}
 use Rattle.outcome.specs.declared.expect.Expect.{Expect}
 use Rattle.cmd_shrink.specs.Failure.{failure_after, RunFailsSo}
 use Rattle.cmd_shrink.specs.declared.failure.Failure.{Failure}
@@ -42,6 +42,6 @@ module _ (expect : Expect) (image : ImageValue) (inputs : List ℕ) (given choic
         fails = fails;
         minimal = minimal;
         printed = is;
-        read = ap (choices_of (length inputs)) is
+        read = ap (choices_read (length inputs)) is
             ∙ choices_of-spelled (length inputs) (runs_text choices) choices few (runs_spell (length inputs) choices few there);
       }

@@ -1,28 +1,14 @@
--- Harts that go on, one step more.
-use Rattle.std.proofs.Common.{◌≡◌, ℕ, ◌+◌, ◌%◌, List, [], ◌∷◌, ◌++◌, length, sym, ap, ◌∙◌, arith}
-use Rattle.std.proofs.lemmas.List.FromFn.{map-range_with_len_more}
+-- Harts that go on after a list of choices.
+use Rattle.std.proofs.Common.{◌≡◌, ℕ, List, ◌++◌, length, sym, ap, ◌∙◌}
 use Rattle.image.specs.Image.{ImageValue}
 use Rattle.hart_step.specs.Hart.{HartValue}
 use Rattle.machine.proofs.WorldLemmas.{run_append}
-use Rattle.machine.specs.World.{World, run, step}
+use Rattle.machine.specs.World.{World, run}
 use Rattle.machine.specs.Start.{started}
 use Rattle.machine.specs.declared.choice.Choice.{Choice}
-use Rattle.sched_draw.specs.Turns.{alone, plain_choice, turns}
+use Rattle.sched_draw.specs.Turns.{alone, turns}
 use Rattle.outcome.specs.Outcome.{some_run}
 use Rattle.cmd_shrink.specs.Hanging.{alone_first, runs_on}
-
-run_one_more : (w : World) (choices : List Choice) (c : Choice) → run w (choices ++ c ∷ []) ≡ step (run w choices) c
-unfolding run
-run_one_more w choices c = run_append w choices (c ∷ [])
-
-pub alone_more : (w : World) (hart n : ℕ) → run w (alone hart (n + 1)) ≡ step (run w (alone hart n)) (plain_choice hart)
-alone_more w hart n =
-    ap (run w) (map-range_with_len_more (λ i. plain_choice hart) 0 n n (omega arith)) ∙ run_one_more w (alone hart n) (plain_choice hart)
-
-pub turns_more : (w : World) (harts n : ℕ) → run w (turns harts (n + 1)) ≡ step (run w (turns harts n)) (plain_choice (n % harts))
-turns_more w harts n =
-    ap (run w) (map-range_with_len_more (λ i. plain_choice (i % harts)) 0 n n (omega arith))
-    ∙ run_one_more w (turns harts n) (plain_choice (n % harts))
 
 -- whether some hart runs where harts have gone on
 harts_on : (image : ImageValue) (inputs : List ℕ) (choices more : List Choice) (old new : World) (harts : List HartValue)

@@ -43,16 +43,16 @@ RunFailsSo (failure.Hangs steps) image inputs choices =
     IsTrue (hangs_after steps image inputs choices)
 
 -- the failure of a hart in this state, or else another
-abbrev pub fault_or : Option Failure → ℕ → ℕ → HartState → Option Failure
-fault_or other number pc Running = other
-fault_or other number pc (Exited status) = other
-fault_or other number pc (Faulted cause) = Some (failure.Faulted number cause pc)
+abbrev pub or_failure : Option Failure → ℕ → ℕ → HartState → Option Failure
+or_failure other number pc Running = other
+or_failure other number pc (Exited status) = other
+or_failure other number pc (Faulted cause) = Some (failure.Faulted number cause pc)
 
 -- the fault of the lowest hart that has one, of harts numbered from a number on
-abbrev pub first_fault : ℕ → List HartValue → Option Failure
-first_fault number [] = None
-first_fault number (hart ∷ harts) =
-    fault_or (first_fault (number + 1) harts) number hart.pc hart.state
+abbrev pub lowest_fault : ℕ → List HartValue → Option Failure
+lowest_fault number [] = None
+lowest_fault number (hart ∷ harts) =
+    or_failure (lowest_fault (number + 1) harts) number hart.pc hart.state
 
 -- a broken rule is a failure
 abbrev pub failure_by : Kind → Verdict → Option Failure
@@ -62,7 +62,7 @@ failure_by kind verdict.Broken = Some (failure.Broken kind)
 -- how a run fails at its end, if it does: under a rule by its verdict, and without one by the
 -- lowest hart that has faulted
 abbrev pub failure_of : Option Kind → List ℕ → List Choice → List HartValue → Option Failure
-failure_of None inputs choices harts = first_fault 0 harts
+failure_of None inputs choices harts = lowest_fault 0 harts
 failure_of (Some kind) inputs choices harts = failure_by kind (verdict_of kind inputs choices harts)
 
 -- a failure, or else a hang, if each hart must exit

@@ -1,3 +1,6 @@
 pub mod Hanging
 pub mod Failure
 pub mod Shrink
+pub mod Less
+pub mod Edits
+pub mod Minimal

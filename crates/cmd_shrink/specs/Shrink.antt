@@ -4,9 +4,9 @@ use Rattle.std.specs.declared.result.Result.TheVariants.{Ok, Err}
 use Rattle.image.specs.Image.{ImageValue}
 use Rattle.machine.specs.declared.choice.Choice.{Choice}
 use Rattle.sched_text.specs.Printing.{runs_text}
-use Rattle.sched_text.specs.Reading.{choices_of}
-use Rattle.shrink_list.specs.Less.{IsLess}
-use Rattle.shrink_list.specs.Minimal.{IsMinimal}
+use Rattle.sched_text.specs.Reading.{choices_read}
+use Rattle.cmd_shrink.specs.Less.{IsLess}
+use Rattle.cmd_shrink.specs.Minimal.{IsMinimal}
 use Rattle.program_open.specs.Opening.{Opened}
 use Rattle.program_open.specs.declared.command_fault.CommandFault.{CommandFault}
 use Rattle.program_open.specs.declared.command_fault.CommandFault.TheVariants as fault
@@ -25,7 +25,7 @@ pub record IsShrunk (expect : Expect) (image : ImageValue) (inputs : List ℕ) (
   pub fails : RunFailsSo how image inputs choices
   pub minimal : IsMinimal (RunFailsSo how image inputs) choices
   pub printed : text ≡ runs_text choices
-  pub read : choices_of (length inputs) text ≡ Ok choices
+  pub read : choices_read (length inputs) text ≡ Ok choices
 
 -- a text is one for an opened run
 abbrev pub Shrinks : Expect → List ℕ → Opened → List ℕ → Type 0

@@ -2,7 +2,7 @@
 ghost use Rattle.std.specs.Prelude.{◌≡◌, true, false, map};
 ghost use Rattle.cmd_shrink.specs.Failure.{
   failure_of,
-  first_fault,
+  lowest_fault,
   BreaksRule,
   HasFaulted,
   HasFaultedAt,
@@ -36,7 +36,7 @@ pub enum Failure {
 
 // The fault of the lowest hart that has one.
 fn first_fault(harts: &[Hart]) -> Option<Failure>
-    ensures { result ≡ first_fault 0 (map hart_of harts.now) }
+    ensures { result ≡ lowest_fault 0 (map hart_of harts.now) }
 {
     'harts: for (number, hart) in harts.iter().enumerate() {
         if let HartState::Faulted(cause) = hart.state {

@@ -1,52 +1,31 @@
 //! Further steps of harts after a list of choices.
-ghost use Rattle.std.specs.Prelude.{◌≡◌, ◌<◌};
+ghost use Rattle.std.specs.Prelude.{◌≡◌, ◌≤◌, true, OnOk, length};
+ghost use Rattle.hart_reservations.specs.Limit.{most_harts};
 ghost use Rattle.machine.specs.State.{state};
 ghost use Rattle.machine.specs.World.{run};
-ghost use Rattle.sched_draw.specs.Turns.{alone, turns};
+ghost use Rattle.sched_draw.specs.Schedules.{choices_of, is_of_harts};
 
-use crate::running::take_step;
-use machine::{Choice, Machine};
+use machine::Machine;
 use mem_flat::FlatStore;
-use std::alloc::Allocator;
+use sched_draw::{Schedule, run_schedule};
+use std::alloc::{AllocError, Allocator};
 
-/// `steps` steps of one hart.
-#[tactic(auto, using(machine::proofs::WorldLemmas::run_none, crate::proofs::TurnLemmas::alone_more))]
-pub(crate) fn go_on_alone<A: Allocator>(
+/// Takes `steps` further steps of a machine of `harts` harts under a schedule. The only error is
+/// out of memory.
+pub(crate) fn go_on<A: Allocator + Copy>(
+    alloc: A,
     machine: &mut Machine<FlatStore<A>, A>,
-    hart: u32,
-    steps: usize,
-)
-    ensures { state machine.new ≡ run (state machine.old) (alone hart steps) }
-{
-    'steps: for _ in 0..steps {
-        take_step(
-            machine,
-            Choice {
-                hart,
-                refuse: false,
-            },
-        );
-    }
-}
-
-/// `steps` steps of the harts in turn, from hart 0 on.
-#[tactic(auto, using(machine::proofs::WorldLemmas::run_none, crate::proofs::TurnLemmas::turns_more))]
-pub(crate) fn go_on_by_turns<A: Allocator>(
-    machine: &mut Machine<FlatStore<A>, A>,
+    schedule: Schedule,
     harts: u32,
     steps: usize,
-)
-    requires { 0 < harts }
-    ensures { state machine.new ≡ run (state machine.old) (turns harts steps) }
+) -> Result<(), AllocError>
+    requires of { is_of_harts schedule harts ≡ true }
+    requires few { harts ≤ most_harts }
+    requires there { length (state machine.old).harts ≡ harts }
+    ensures run { OnOk result (state machine.new
+        ≡ run (state machine.old) (choices_of schedule (state machine.old) harts steps)) }
+    ensures there { OnOk result (length (state machine.new).harts ≡ harts) }
 {
-    'steps: for i in 0..steps {
-        let hart = (i % harts as usize) as u32;
-        take_step(
-            machine,
-            Choice {
-                hart,
-                refuse: false,
-            },
-        );
-    }
+    run_schedule(alloc, machine, schedule, harts, steps as u64)?;
+    Ok(())
 }

@@ -4,11 +4,12 @@ ghost use Rattle.sched_draw.specs.Turns.{turns};
 ghost use Rattle.mem_store.specs.Memory.{all_below};
 ghost use Rattle.cmd_shrink.specs.Hanging.{alone_first, hangs_after, runs_on, steps_for};
 
-use crate::going_on::{go_on_alone, go_on_by_turns};
+use crate::going_on::go_on;
 use crate::running::machine_after;
 use image::Image;
 use machine::{Choice, Inputs};
 use outcome::some_run;
+use sched_draw::Schedule;
 use std::alloc::{AllocError, Allocator};
 
 /// The least number of further steps by which a run is found to hang.
@@ -37,7 +38,7 @@ fn runs_on_by_turns<A: Allocator + Copy>(
         ≡ runs_on image.now inputs.now choices.now (turns (length inputs.now) steps)) }
 {
     let mut machine = machine_after(alloc, image, inputs, choices)?;
-    go_on_by_turns(&mut machine, inputs.harts(), steps);
+    go_on(alloc, &mut machine, Schedule::Turns, inputs.harts(), steps)?;
     Ok(some_run(machine.ends()))
 }
 
@@ -51,12 +52,14 @@ fn runs_on_after_one<A: Allocator + Copy>(
     steps: usize,
     hart: u32,
 ) -> Result<bool, AllocError>
+    requires { hart < length inputs.now }
     ensures { IfOk result (λ running. running
         ≡ runs_on image.now inputs.now choices.now (alone_first (length inputs.now) steps hart)) }
 {
     let mut machine = machine_after(alloc, image, inputs, choices)?;
-    go_on_alone(&mut machine, hart, steps);
-    go_on_by_turns(&mut machine, inputs.harts(), steps);
+    let harts = inputs.harts();
+    go_on(alloc, &mut machine, Schedule::Only(hart), harts, steps)?;
+    go_on(alloc, &mut machine, Schedule::Turns, harts, steps)?;
     Ok(some_run(machine.ends()))
 }
 

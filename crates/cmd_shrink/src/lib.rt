@@ -1,19 +1,30 @@
-//! The engine of `shrink`: how a run fails, and a minimal choice text that fails in the same way.
+//! The engine of `shrink`: how a run fails, and a minimal choice text that fails in the same way,
+//! found by a search over any test of lists.
 #![tactic(auto)]
 
+pub use byte_io::Unheard;
+pub use failing::Failing;
 pub use failure::Failure;
 pub use hanging::{FEWEST_STEPS, hangs_after, steps_for};
+pub use hearing::ChoicesLeft;
 pub use laws::failing_run_fails_so;
 pub use run_failure::failure_after;
 pub use same_failure::SameFailure;
 pub use shrink::shrink_engine;
+pub use shrinking::shrink_choices;
 
+mod edits;
+mod failing;
 mod failure;
 mod going_on;
 mod hanging;
+mod hearing;
 mod laws;
+mod minimal;
+mod passes;
 mod run_failure;
 mod running;
 mod same_failure;
 mod shortening;
 mod shrink;
+mod shrinking;

@@ -1,5 +1,5 @@
 //! Runs from an image's start.
-ghost use Rattle.std.specs.Prelude.{◌≡◌, IfOk};
+ghost use Rattle.std.specs.Prelude.{◌≡◌, IfOk, length};
 ghost use Rattle.machine.specs.Start.{started};
 ghost use Rattle.machine.specs.State.{state};
 ghost use Rattle.machine.specs.World.{step, run};
@@ -41,7 +41,8 @@ pub(crate) fn machine_after<A: Allocator + Copy>(
     inputs: &Inputs,
     choices: &[Choice],
 ) -> Result<Machine<FlatStore<A>, A>, AllocError>
-    ensures { IfOk result (λ machine. state machine ≡ run (started image.now inputs.now) choices.now) }
+    ensures run { IfOk result (λ machine. state machine ≡ run (started image.now inputs.now) choices.now) }
+    ensures harts { IfOk result (λ machine. length (state machine).harts ≡ length inputs.now) }
 {
     let mut machine: Machine<FlatStore<A>, A> = Machine::start(alloc, image, inputs)?;
     take_steps(&mut machine, choices);

@@ -8,11 +8,11 @@ ghost use Rattle.cmd_shrink.specs.Shrink.{IsShrunk};
 
 use crate::run_failure::failure_after;
 use crate::same_failure::SameFailure;
+use crate::{ChoicesLeft, shrink_choices};
 use image::Image;
 use machine::{Choice, Inputs};
 use outcome::Expect;
 use sched_text::print_runs;
-use shrink_list::{ChoicesLeft, shrink_choices};
 use std::alloc::{AllocError, Allocator};
 
 /// The text of a minimal list of choices that fails as the given one does; `None` if that doesn't

@@ -10,11 +10,11 @@ ghost use Rattle.program_open.specs.Opening.{opening};
 ghost use Rattle.program_open.specs.Program.{program_of};
 ghost use Rattle.cmd_shrink.specs.Shrink.{Shrinks, refusal};
 
+use crate::ChoicesLeft;
 use crate::shortening::shortened;
 use byte_io::{Source, Status};
 use outcome::Expect;
 use program_open::{CommandFault, Input, ProgramForm, open_run};
-use shrink_list::ChoicesLeft;
 use std::alloc::{AllocError, Allocator};
 
 /// `shrink`: reads the program to its end and, if it is valid and the number of inputs is, the
@@ -49,10 +49,7 @@ pub fn shrink_engine<A: Allocator + Copy, P: Source, C: Source, L: ChoicesLeft>(
         → IfSome (P.left program.old) (λ p. (image : ImageValue) × (program_of ProgramForm.Elf p ≡ Ok image)) }
     ensures inputs_first { result ≡ Err (CommandFault.Read Input.Choices) → IsStartable inputs.now }
 {
-    let run = match open_run(alloc, ProgramForm::Elf, inputs, program, choices) {
-        Ok(run) => run,
-        Err(fault) => return Err(fault),
-    };
+    let run = open_run(alloc, ProgramForm::Elf, inputs, program, choices)?;
     match shortened(alloc, &run.image, &run.inputs, expect, &run.choices, left) {
         Ok(Some(text)) => Ok((text, Status::Done)),
         Ok(None) => Err(CommandFault::NothingFails),

@@ -1,1 +1,3 @@
 pub mod ThreadsLemmas
+pub mod RunLemmas
+pub mod AnswerLemmas

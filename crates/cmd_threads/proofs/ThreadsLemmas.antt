@@ -10,7 +10,7 @@ use Rattle.history.specs.declared.entry.Entry.{Entry}
 use Rattle.history.specs.History.{expanded}
 use Rattle.history.specs.Printing.{history_text}
 use Rattle.object_library.specs.declared.kind.Kind.{Kind}
-use Rattle.ends.specs.Ends.{verdict_on}
+use Rattle.outcome.specs.Ends.{verdict_on}
 use Rattle.byte_io.specs.declared.status.Status.{Status}
 use Rattle.program_open.specs.Program.{program_of}
 use Rattle.program_open.specs.declared.program.ProgramForm.TheVariants as form

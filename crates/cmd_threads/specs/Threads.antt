@@ -30,8 +30,8 @@ pub record IsAnswer {A : Type 0} (inputs : List ℕ) (budget : ℕ) (plan : List
       ≡ (string_bytes answer.lines, answer.status)
 
 -- the lines end with `verdict kept`, and the status is 0
-abbrev pub IsKept : {A : Type 0} → ThreadsAnswer A → Type 0
-IsKept {A} answer = EndsKept May (string_bytes answer.lines) answer.status
+abbrev pub HasKeptVerdict : {A : Type 0} → ThreadsAnswer A → Type 0
+HasKeptVerdict {A} answer = EndsKept May (string_bytes answer.lines) answer.status
 
 -- a fault of the threads
 abbrev pub fault_of_run : RunFault → CommandFault
@@ -40,12 +40,12 @@ fault_of_run threads.Stale = fault.Stale
 fault_of_run threads.Memory = fault.Memory
 
 -- how an invalid number of inputs or program is reported: the program is checked first
-abbrev pub Refuses : ℕ → List ℕ → CommandFault → Type 0
-Refuses harts program fault.NoHarts = harts ≡ 0
-Refuses harts program fault.TooManyHarts = most_harts < harts
-Refuses harts program fault.ThreadRefused = Unit {0}
-Refuses harts program fault.Stale = Unit {0}
-Refuses harts program why = program_of form.Elf program ≡ Err why
+abbrev pub RefusesThreads : ℕ → List ℕ → CommandFault → Type 0
+RefusesThreads harts program fault.NoHarts = harts ≡ 0
+RefusesThreads harts program fault.TooManyHarts = most_harts < harts
+RefusesThreads harts program fault.ThreadRefused = Unit {0}
+RefusesThreads harts program fault.Stale = Unit {0}
+RefusesThreads harts program why = program_of form.Elf program ≡ Err why
 
 -- the fact for the program's file if a fault names it; else a thread was refused, or a hart stale
 abbrev pub IfReads : CommandFault → Type 0 → Type 0

@@ -1,6 +1,12 @@
-//! The engine of `threads`.
+//! The engines of `threads` and of `threads --banked`.
 #![tactic(auto)]
 
+pub use banked::banked_engine;
+pub use history_use::HistoryUse;
 pub use threads::{ThreadsAnswer, ThreadsTask, threads_engine};
 
+mod answer;
+mod banked;
+mod history_use;
 mod threads;
+mod unread;

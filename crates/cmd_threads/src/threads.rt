@@ -5,7 +5,7 @@ ghost use Rattle.std.specs.Prelude.{◌≡◌, ◌^◌, ◌-◌, ◌<◌, ◌≤
 ghost use Rattle.cmd_run.specs.Certified.{IsCertified};
 ghost use Rattle.program_open.specs.declared.program.ProgramForm.{ProgramForm};
 ghost use Rattle.program_open.specs.CommandFaults.{IsRefusal};
-ghost use Rattle.cmd_threads.specs.Threads.{IfReads, IsAnswer, IsKept, Refuses, fault_of_run};
+ghost use Rattle.cmd_threads.specs.Threads.{IfReads, IsAnswer, HasKeptVerdict, RefusesThreads, fault_of_run};
 
 use byte_io::{Source, Status};
 use cmd_replay::shown_after;
@@ -63,10 +63,10 @@ pub fn threads_engine<
     // For a file that is an object, run by as many harts as it is for, the verdict by its kind's
     // rule is never `broken`.
     ensures certified { IfOk result (λ answer. IfSome (P.left program.old) (λ p.
-        IsCertified ProgramForm.Elf p task.inputs.items task.rule → IsKept answer)) }
+        IsCertified ProgramForm.Elf p task.inputs.items task.rule → HasKeptVerdict answer)) }
     // An input is invalid, and no thread was started.
     ensures refused { IfErr result (λ fault. IsRefusal fault
-        → IfSome (P.left program.old) (λ p. Refuses (length task.inputs.items) p fault)) }
+        → IfSome (P.left program.old) (λ p. RefusesThreads (length task.inputs.items) p fault)) }
     // The program's device is named only if it failed, and no other is.
     ensures read { IfErr result (λ fault. IfReads fault
         (P.failures program.old < P.failures program.new)) }

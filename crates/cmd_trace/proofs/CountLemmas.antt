@@ -2,19 +2,19 @@
 use Rattle.std.proofs.Common.{◌≡◌, ℕ, zero, suc, ◌+◌, List, [], ◌++◌, length, Ok, Err, refl, ap, sym, ◌∙◌, length-append}
 use Rattle.std.specs.Prelude.{replicate}
 use Rattle.machine.specs.declared.choice.Choice.{Choice}
-use Rattle.text_items.specs.Items.{items_from, span_of, IsFirstItem}
+use Rattle.text_items.specs.Items.{items_from, text_between, IsFirstItem}
 use Rattle.text_items.specs.Reading.{values_named}
 use Rattle.sched_text.specs.declared.run.Run.{Run}
 use Rattle.sched_text.specs.declared.choice_text.ChoiceFault.{ChoiceFault}
 use Rattle.sched_text.specs.Runs.{equal_choices}
-use Rattle.sched_text.specs.Reading.{run_of, expanded_after, choices_of}
+use Rattle.sched_text.specs.Reading.{run_of, expanded_after, choices_read}
 use Rattle.sched_text.proofs.Agreement.{goes_on, stops, read_whole}
 use Rattle.cmd_trace.specs.Left.{SpellsSoMany}
 
 -- the items before an offset denote this number of choices, which the text begins with
 pub record CountedSoFar (harts : ℕ) (text : List ℕ) (from count : ℕ) : Type 0 where
   pub done : List Choice
-  pub left : choices_of harts text ≡ expanded_after done (values_named (run_of harts) (items_from from text))
+  pub left : choices_read harts text ≡ expanded_after done (values_named (run_of harts) (items_from from text))
   pub counted : count ≡ length done
 
 pub none_counted : (harts : ℕ) (text : List ℕ) → CountedSoFar harts text 0 0
@@ -25,7 +25,7 @@ length-equal zero c = refl
 length-equal (suc n) c = ap suc (length-equal n c)
 
 pub item_counted : (harts from begin end count more : ℕ) (text : List ℕ) (named : Run) → IsFirstItem from text begin end
-    → run_of harts begin (span_of begin end text) ≡ Ok named → more ≡ count + named.count → CountedSoFar harts text from count
+    → run_of harts begin (text_between begin end text) ≡ Ok named → more ≡ count + named.count → CountedSoFar harts text from count
     → CountedSoFar harts text end more
 item_counted harts from begin end count more text named first names sum s = record {
   done = s.done ++ equal_choices named;
@@ -35,7 +35,7 @@ item_counted harts from begin end count more text named first names sum s = reco
 }
 
 pub item_spoils : (harts from begin end count : ℕ) (text : List ℕ) (fault : ChoiceFault) → IsFirstItem from text begin end
-    → run_of harts begin (span_of begin end text) ≡ Err fault → CountedSoFar harts text from count → choices_of harts text ≡ Err fault
+    → run_of harts begin (text_between begin end text) ≡ Err fault → CountedSoFar harts text from count → choices_read harts text ≡ Err fault
 item_spoils harts from begin end count text fault first bad s = stops harts from begin end text s.done first s.left fault bad
 
 pub all_counted : (harts from count : ℕ) (text : List ℕ) → items_from from text ≡ [] → CountedSoFar harts text from count

@@ -3,7 +3,7 @@ use Rattle.std.proofs.Common.{◌≡◌, ℕ, zero, suc, ◌-◌, ◌<◌, List,
 use Rattle.std.specs.Prelude.{replicate}
 use Rattle.machine.specs.declared.choice.Choice.{Choice}
 use Rattle.sched_text.specs.declared.run.Run.{Run}
-use Rattle.sched_text.specs.Runs.{equal_choices, expanded}
+use Rattle.sched_text.specs.Runs.{equal_choices, expanded_runs}
 use Rattle.cmd_trace.specs.Left.{NamesFrom, Follows, Leaves}
 
 -- the first of equal choices, and the others
@@ -11,12 +11,12 @@ first_equal : (n : ℕ) (c : Choice) (rest : List Choice) → 0 < n → replicat
 first_equal zero c rest some = absurd (omega (arith, some))
 first_equal (suc n) c rest some = let e : suc n - 1 ≡ n = omega arith in rw e refl
 
-expanded_none : expanded [] ≡ []
-unfolding expanded
+expanded_none : expanded_runs [] ≡ []
+unfolding expanded_runs
 expanded_none = refl
 
-expanded_more : (r : Run) (runs : List Run) → expanded (r ∷ runs) ≡ equal_choices r ++ expanded runs
-unfolding expanded
+expanded_more : (r : Run) (runs : List Run) → expanded_runs (r ∷ runs) ≡ equal_choices r ++ expanded_runs runs
+unfolding expanded_runs
 expanded_more r runs = refl
 
 -- one of some equal choices is taken
@@ -24,8 +24,8 @@ pub taken_equal : (harts : ℕ) (text : List ℕ) (at : ℕ) (named : Run) (left
     → (more : List Choice) × (left ≡ named.choice ∷ more)
     × Leaves harts text at (record { choice = named.choice; count = named.count - 1 }) more
 taken_equal harts text at named left some l = (
-  replicate (named.count - 1) named.choice ++ expanded l.runs,
-  l.in_order ∙ first_equal named.count named.choice (expanded l.runs) some,
+  replicate (named.count - 1) named.choice ++ expanded_runs l.runs,
+  l.in_order ∙ first_equal named.count named.choice (expanded_runs l.runs) some,
   record { runs = l.runs; read = l.read; in_order = refl },
 )
 
@@ -39,8 +39,8 @@ pub taken_item : (harts : ℕ) (text : List ℕ) (at : ℕ) (old : Run) (named :
     × Leaves harts text end (record { choice = named.choice; count = named.count - 1 }) more
 taken_item harts text at old named end left none some follows l =
     let f = follows l.runs l.read in (
-      replicate (named.count - 1) named.choice ++ expanded f.0,
-      l.in_order ∙ none_equal old (expanded l.runs) none ∙ ap expanded f.1 ∙ expanded_more named f.0 ∙ first_equal named.count named.choice (expanded f.0) some,
+      replicate (named.count - 1) named.choice ++ expanded_runs f.0,
+      l.in_order ∙ none_equal old (expanded_runs l.runs) none ∙ ap expanded_runs f.1 ∙ expanded_more named f.0 ∙ first_equal named.count named.choice (expanded_runs f.0) some,
       record { runs = f.0; read = f.2; in_order = refl },
     )
 
@@ -48,4 +48,4 @@ taken_item harts text at old named end left none some follows l =
 pub taken_none : (harts : ℕ) (text : List ℕ) (at : ℕ) (old : Run) (left : List Choice) → old.count ≡ 0
     → ((runs : List Run) → NamesFrom harts text at runs → Follows harts text runs None) → Leaves harts text at old left → left ≡ []
 taken_none harts text at old left none follows l =
-    l.in_order ∙ none_equal old (expanded l.runs) none ∙ ap expanded (follows l.runs l.read) ∙ expanded_none
+    l.in_order ∙ none_equal old (expanded_runs l.runs) none ∙ ap expanded_runs (follows l.runs l.read) ∙ expanded_none

@@ -9,12 +9,12 @@ use Rattle.hart_step.specs.Hart.{HartValue, hart_of}
 use Rattle.hart_step.specs.declared.hart.Hart.{Hart}
 use Rattle.machine.specs.World.{World, step}
 use Rattle.machine.specs.declared.choice.Choice.{Choice}
-use Rattle.trace_steps.specs.Told.{told}
+use Rattle.trace_steps.specs.Told.{told_choice}
 use Rattle.trace_steps.specs.Tells.{tells}
 use Rattle.trace_steps.specs.declared.told.Told.{Told}
 use Rattle.trace_text.specs.Head.{then_of}
 use Rattle.trace_text.specs.declared.head.HartThen.{HartThen}
-use Rattle.cmd_trace.specs.Trace.{entry_of, entries, harts_from}
+use Rattle.cmd_trace.specs.Trace.{choice_entry, entries, harts_from}
 use Rattle.cmd_trace.specs.declared.plan.TraceForm.{TraceForm}
 
 entries_nothing : (form : TraceForm) (harts k : ℕ) (w : World) → entries form harts k (tells w []) ≡ []
@@ -22,22 +22,22 @@ unfolding entries tells
 entries_nothing form harts k w = refl
 
 entries_one : (form : TraceForm) (harts k : ℕ) (w : World) (c : Choice) (more : List Choice)
-    → entries form harts k (tells w (c ∷ more)) ≡ entry_of form harts (told w c) k ++ entries form harts (k + 1) (tells (step w c) more)
+    → entries form harts k (tells w (c ∷ more)) ≡ choice_entry form harts (told_choice w c) k ++ entries form harts (k + 1) (tells (step w c) more)
 unfolding entries tells
 entries_one form harts k w c more = refl
 
 -- one more choice is traced
 pub entries_more : (form : TraceForm) (harts from i n : ℕ) (now new : World) (left more : List Choice) (c : Choice) (t : Told) → i < n
-    → left ≡ c ∷ more → t ≡ told now c → new ≡ step now c
+    → left ≡ c ∷ more → t ≡ told_choice now c → new ≡ step now c
     → entries form harts (from + i) (tells now (take (n - i) left))
-    ≡ entry_of form harts t (from + i) ++ entries form harts (from + (i + 1)) (tells new (take (n - (i + 1)) more))
+    ≡ choice_entry form harts t (from + i) ++ entries form harts (from + (i + 1)) (tells new (take (n - (i + 1)) more))
 entries_more form harts from i n now new left more c t below is tells_it stepping =
     let rest : n - i ≡ suc (n - (i + 1)) = omega (arith, below) in
     let place : from + i + 1 ≡ from + (i + 1) = omega arith in
     ap₂ (λ (m : ℕ) (l : List Choice). entries form harts (from + i) (tells now (take m l))) rest is
     ∙ entries_one form harts (from + i) now c (take (n - (i + 1)) more)
-    ∙ ap₂ (λ (u : Told) (k : ℕ). entry_of form harts u (from + i) ++ entries form harts k (tells (step now c) (take (n - (i + 1)) more))) (sym tells_it) place
-    ∙ ap (λ (w : World). entry_of form harts t (from + i) ++ entries form harts (from + (i + 1)) (tells w (take (n - (i + 1)) more))) (sym stepping)
+    ∙ ap₂ (λ (u : Told) (k : ℕ). choice_entry form harts u (from + i) ++ entries form harts k (tells (step now c) (take (n - (i + 1)) more))) (sym tells_it) place
+    ∙ ap (λ (w : World). choice_entry form harts t (from + i) ++ entries form harts (from + (i + 1)) (tells w (take (n - (i + 1)) more))) (sym stepping)
 
 -- no choice is left
 pub entries_none : (form : TraceForm) (harts k m : ℕ) (w : World) (left : List Choice) → left ≡ [] → entries form harts k (tells w (take m left)) ≡ []

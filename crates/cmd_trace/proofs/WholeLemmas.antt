@@ -9,33 +9,33 @@ use Rattle.machine.specs.declared.choice.Choice.{Choice}
 use Rattle.trace_text.specs.declared.head.Span.{Span}
 use Rattle.program_open.specs.Answers.{Begins}
 use Rattle.cmd_trace.specs.Output.{SoFar}
-use Rattle.cmd_trace.specs.Trace.{head_of, span_of, told_entries, trace_text}
+use Rattle.cmd_trace.specs.Trace.{trace_head, traced_span, told_entries, trace_text}
 use Rattle.cmd_trace.specs.declared.plan.TracePlan.{TracePlan}
 use Rattle.cmd_trace.proofs.OutputLemmas.{begun_with}
 
 trace_of : (plan : TracePlan) (image : ImageValue) (symbols : List SymbolValue) (inputs : List ℕ) (choices : List Choice)
-    → let span = span_of plan (length choices) in
+    → let span = traced_span plan (length choices) in
     let before = run (started image inputs) (take (span.from - 1) choices) in
     trace_text plan image symbols inputs choices
-    ≡ head_of plan.form image.entry inputs span symbols before ++ told_entries plan.form (length inputs) span before (drop (span.from - 1) choices)
+    ≡ trace_head plan.form image.entry inputs span symbols before ++ told_entries plan.form (length inputs) span before (drop (span.from - 1) choices)
 unfolding trace_text
 trace_of plan image symbols inputs choices = refl
 
 -- the head is in the buffer, and the choices are to come
 pub head_waits : (plan : TracePlan) (image : ImageValue) (symbols : List SymbolValue) (inputs : List ℕ) (choices : List Choice) (count : ℕ)
-    (span : Span) (start_world w : World) (buffer : List ℕ) (start : Option (List ℕ)) → span ≡ span_of plan count → count ≡ length choices
+    (span : Span) (start_world w : World) (buffer : List ℕ) (start : Option (List ℕ)) → span ≡ traced_span plan count → count ≡ length choices
     → start_world ≡ started image inputs → w ≡ run start_world (take (span.from - 1) choices)
-    → buffer ≡ head_of plan.form image.entry inputs span symbols w
+    → buffer ≡ trace_head plan.form image.entry inputs span symbols w
     → SoFar (trace_text plan image symbols inputs choices) start start buffer
     (told_entries plan.form (length inputs) span w (drop (span.from - 1) choices))
 head_waits plan image symbols inputs choices count span start_world w buffer start is counted begins reached head =
     begun_with (trace_text plan image symbols inputs choices) buffer (told_entries plan.form (length inputs) span w (drop (span.from - 1) choices)) start
     (sym (ap (λ (l : List ℕ). l ++ told_entries plan.form (length inputs) span w (drop (span.from - 1) choices)) head
-    ∙ ap (λ (v : World). head_of plan.form image.entry inputs span symbols v ++ told_entries plan.form (length inputs) span v (drop (span.from - 1) choices))
+    ∙ ap (λ (v : World). trace_head plan.form image.entry inputs span symbols v ++ told_entries plan.form (length inputs) span v (drop (span.from - 1) choices))
     (reached ∙ ap (λ (v : World). run v (take (span.from - 1) choices)) begins)
     ∙ ap (λ (s : Span). let before = run (started image inputs) (take (s.from - 1) choices) in
-    head_of plan.form image.entry inputs s symbols before ++ told_entries plan.form (length inputs) s before (drop (s.from - 1) choices))
-    (is ∙ ap (span_of plan) counted)
+    trace_head plan.form image.entry inputs s symbols before ++ told_entries plan.form (length inputs) s before (drop (s.from - 1) choices))
+    (is ∙ ap (traced_span plan) counted)
     ∙ sym (trace_of plan image symbols inputs choices)))
 
 -- nothing was written

@@ -22,11 +22,11 @@ program_symbols form.Hex bytes = []
 program_symbols form.Elf bytes = shown_symbols (symbols_of bytes)
 
 -- the answer for an opened run
-abbrev pub after_opening : TracePlan → List SymbolValue → List ℕ → Opened → Answer
-after_opening plan symbols inputs (Ok opened) = Ok (trace_text plan opened.0 symbols inputs opened.1, Done)
-after_opening plan symbols inputs (Err why) = Err why
+abbrev pub trace_after : TracePlan → List SymbolValue → List ℕ → Opened → Answer
+trace_after plan symbols inputs (Ok opened) = Ok (trace_text plan opened.0 symbols inputs opened.1, Done)
+trace_after plan symbols inputs (Err why) = Err why
 
 -- the answer for a program and a choice text
 unfoldable pub trace_answer : ProgramForm → TracePlan → List ℕ → List ℕ → List ℕ → Answer
 trace_answer form plan inputs program text =
-    after_opening plan (program_symbols form program) inputs (opening form (length inputs) program text)
+    trace_after plan (program_symbols form program) inputs (opening form (length inputs) program text)

@@ -9,7 +9,7 @@ use Rattle.machine.specs.World.{World, run}
 use Rattle.machine.specs.declared.choice.Choice.{Choice}
 use Rattle.trace_steps.specs.Tells.{tells}
 use Rattle.trace_steps.specs.declared.told.Told.{Told}
-use Rattle.trace_text.specs.Table.{head_rows, row_of}
+use Rattle.trace_text.specs.Table.{head_rows, table_row}
 use Rattle.trace_text.specs.Head.{head_line}
 use Rattle.trace_text.specs.Line.{line_of}
 use Rattle.trace_text.specs.declared.head.Span.{Span}
@@ -18,17 +18,17 @@ use Rattle.cmd_trace.specs.declared.plan.TraceForm.TheVariants as form
 use Rattle.cmd_trace.specs.declared.plan.TracePlan.{TracePlan}
 
 -- the number of the first traced choice: there is no choice 0
-abbrev pub first_of : TracePlan → ℕ
-first_of plan = max 1 plan.from
+abbrev pub first_traced : TracePlan → ℕ
+first_traced plan = max 1 plan.from
 
 -- the number of the last traced choice, given the number of choices
-abbrev pub end_of : Option ℕ → ℕ → ℕ
-end_of None count = count
-end_of (Some to) count = min to count
+abbrev pub last_traced : Option ℕ → ℕ → ℕ
+last_traced None count = count
+last_traced (Some to) count = min to count
 
 -- the first and the last traced choice; the last is one less than the first if none is traced
-abbrev pub span_of : TracePlan → ℕ → Span
-span_of plan count = record { from = first_of plan; to = max (first_of plan - 1) (end_of plan.to count) }
+abbrev pub traced_span : TracePlan → ℕ → Span
+traced_span plan count = record { from = first_traced plan; to = max (first_traced plan - 1) (last_traced plan.to count) }
 
 -- number of traced choices
 abbrev pub told_count : Span → ℕ
@@ -40,19 +40,19 @@ harts_from r h [] = []
 harts_from r h (hart ∷ harts) = (hart, r h) ∷ harts_from r (h + 1) harts
 
 -- the head of the trace, in the world before the first traced choice
-abbrev pub head_of : TraceForm → ℕ → List ℕ → Span → List SymbolValue → World → List ℕ
-head_of form.Lines entry inputs span symbols w = head_line entry inputs span symbols (harts_from w.reserved 0 w.harts)
-head_of form.Table entry inputs span symbols w = head_rows (length inputs)
+abbrev pub trace_head : TraceForm → ℕ → List ℕ → Span → List SymbolValue → World → List ℕ
+trace_head form.Lines entry inputs span symbols w = head_line entry inputs span symbols (harts_from w.reserved 0 w.harts)
+trace_head form.Table entry inputs span symbols w = head_rows (length inputs)
 
 -- the text of choice k, given the number of harts
-abbrev pub entry_of : TraceForm → ℕ → Told → ℕ → List ℕ
-entry_of form.Lines harts told k = line_of told k
-entry_of form.Table harts told k = row_of told k harts
+abbrev pub choice_entry : TraceForm → ℕ → Told → ℕ → List ℕ
+choice_entry form.Lines harts told k = line_of told k
+choice_entry form.Table harts told k = table_row told k harts
 
 -- the texts of choices that are numbered from k on
 unfoldable pub entries : TraceForm → ℕ → ℕ → List Told → List ℕ
 entries form harts k [] = []
-entries form harts k (told ∷ more) = entry_of form harts told k ++ entries form harts (k + 1) more
+entries form harts k (told ∷ more) = choice_entry form harts told k ++ entries form harts (k + 1) more
 
 -- the texts of the traced choices, which are the first of some choices
 abbrev pub told_entries : TraceForm → ℕ → Span → World → List Choice → List ℕ
@@ -61,7 +61,7 @@ told_entries form harts span w choices = entries form harts span.from (tells w (
 -- the trace of a run of an image
 unfoldable pub trace_text : TracePlan → ImageValue → List SymbolValue → List ℕ → List Choice → List ℕ
 trace_text plan image symbols inputs choices =
-    let span = span_of plan (length choices) in
+    let span = traced_span plan (length choices) in
     let before = run (started image inputs) (take (span.from - 1) choices) in
-    head_of plan.form image.entry inputs span symbols before
+    trace_head plan.form image.entry inputs span symbols before
     ++ told_entries plan.form (length inputs) span before (drop (span.from - 1) choices)

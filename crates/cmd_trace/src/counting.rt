@@ -1,6 +1,6 @@
 //! The number of choices of a text.
 ghost use Rattle.std.specs.Prelude.{◌≡◌, ◌≢◌, Err, IfOk, IfErr};
-ghost use Rattle.sched_text.specs.Reading.{choices_of};
+ghost use Rattle.sched_text.specs.Reading.{choices_read};
 ghost use Rattle.cmd_trace.specs.Left.{SpellsSoMany};
 
 use sched_text::{ChoiceFault, read_run};
@@ -11,7 +11,7 @@ use text_items::next_item;
 pub fn count_choices(text: &[u8], harts: u32) -> Result<u64, ChoiceFault>
     ensures counted { IfOk result (λ count. SpellsSoMany harts text.now count) }
     ensures refused { IfErr result (λ fault. fault ≢ ChoiceFault.Memory
-        → choices_of harts text.now ≡ Err fault) }
+        → choices_read harts text.now ≡ Err fault) }
 {
     let mut count = 0u64;
     let mut from = 0;

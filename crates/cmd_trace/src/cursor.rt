@@ -37,13 +37,13 @@ fn run_at(text: &[u8], at: usize, harts: u32) -> Option<(Run, usize)>
 impl<'a> Cursor<'a> {
     ghost use Rattle.std.specs.Prelude.{◌≡◌, ◌<◌, Ok, List, IfSome};
     ghost use Rattle.machine.specs.declared.choice.Choice.{Choice};
-    ghost use Rattle.sched_text.specs.Reading.{choices_of};
+    ghost use Rattle.sched_text.specs.Reading.{choices_read};
     ghost use Rattle.cmd_trace.specs.Cursor.{Has, Takes};
 
     /// Before all choices of a text, which has at least one.
     pub fn new(text: &'a [u8], harts: u32) -> Cursor<'a>
         requires { 0 < harts }
-        ensures has { (left : List Choice) → choices_of harts text.now ≡ Ok left → Has result left }
+        ensures has { (left : List Choice) → choices_read harts text.now ≡ Ok left → Has result left }
         ensures harts { result.harts ≡ harts }
     {
         let choice = Choice {

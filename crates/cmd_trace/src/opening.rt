@@ -4,11 +4,11 @@
 ghost use Rattle.std.specs.Prelude.{◌≡◌, ◌^◌, ◌-◌, ◌<◌, Ok, Err, IfOk, IfErr, IfSome, length};
 ghost use Rattle.image.specs.Image.{ImageValue};
 ghost use Rattle.machine.specs.Start.{IsStartable};
-ghost use Rattle.sched_text.specs.Reading.{choices_of};
+ghost use Rattle.sched_text.specs.Reading.{choices_read};
 ghost use Rattle.program_open.specs.Opening.{opening, with_choices};
 ghost use Rattle.program_open.specs.Program.{program_of};
 ghost use Rattle.program_open.specs.CommandFaults.{IfNames, IsRefusal};
-ghost use Rattle.cmd_trace.specs.Answer.{after_opening, program_symbols, trace_answer};
+ghost use Rattle.cmd_trace.specs.Answer.{trace_after, program_symbols, trace_answer};
 ghost use Rattle.cmd_trace.specs.declared.plan.TracePlan.{TracePlan};
 
 use byte_io::{ReadFault, Source, read_all};
@@ -77,10 +77,7 @@ fn open_program<A: Allocator + Copy, P: Source>(
         Err(ReadFault::Device) => return Err(CommandFault::Read(Input::File)),
         Err(ReadFault::Memory) => return Err(CommandFault::Memory),
     };
-    let image = match read_program(alloc, form, &bytes) {
-        Ok(image) => image,
-        Err(fault) => return Err(fault),
-    };
+    let image = read_program(alloc, form, &bytes)?;
     match program_symbols(alloc, form, &bytes) {
         Ok(symbols) => Ok(OpenProgram { image, symbols }),
         Err(AllocError) => Err(CommandFault::Memory),
@@ -101,8 +98,8 @@ pub(crate) fn open_trace<A: Allocator + Copy, P: Source, C: Source>(
     requires choices_count { C.failures choices.old < 2 ^ 64 - 1 }
     ensures opened { IfOk result (λ run. (plan : TracePlan)
         → IfSome (P.left program.old) (λ p. IfSome (C.left choices.old) (λ c.
-        trace_answer form plan inputs.now p c ≡ after_opening plan run.program.symbols.items run.inputs
-        (with_choices run.program.image (choices_of (length run.inputs) run.text.items))))) }
+        trace_answer form plan inputs.now p c ≡ trace_after plan run.program.symbols.items run.inputs
+        (with_choices run.program.image (choices_read (length run.inputs) run.text.items))))) }
     ensures refused { IfErr result (λ fault. IsRefusal fault → (plan : TracePlan)
         → IfSome (P.left program.old) (λ p. IfSome (C.left choices.old) (λ c.
         trace_answer form plan inputs.now p c ≡ Err fault))) }
@@ -113,14 +110,8 @@ pub(crate) fn open_trace<A: Allocator + Copy, P: Source, C: Source>(
         → IfSome (P.left program.old) (λ p. (image : ImageValue) × (program_of form p ≡ Ok image)) }
     ensures inputs_first { result ≡ Err (CommandFault.Read Input.Choices) → IsStartable inputs.now }
 {
-    let program = match open_program(alloc, form, program) {
-        Ok(program) => program,
-        Err(fault) => return Err(fault),
-    };
-    let inputs = match Inputs::new(inputs) {
-        Ok(inputs) => inputs,
-        Err(fault) => return Err(CommandFault::from(fault)),
-    };
+    let program = open_program(alloc, form, program)?;
+    let inputs = Inputs::new(inputs)?;
     match read_all(alloc, choices) {
         Ok(text) => Ok(OpenTrace {
             program,

@@ -3,7 +3,7 @@ ghost use Rattle.std.specs.Prelude.{◌≡◌, ◌-◌, ◌^◌, ◌<◌, ◌++�
 ghost use Rattle.program_open.specs.Answers.{Begins};
 ghost use Rattle.program_open.specs.CommandFaults.{IfHalts};
 ghost use Rattle.cmd_trace.specs.Output.{SoFar};
-ghost use Rattle.cmd_trace.specs.Trace.{entry_of};
+ghost use Rattle.cmd_trace.specs.Trace.{choice_entry};
 
 use crate::plan::TraceForm;
 use byte_io::{Sink, write_all};
@@ -24,7 +24,7 @@ fn push_entry<A: Allocator + Copy>(
     told: &Told,
     k: u64,
 ) -> Result<(), AllocError>
-    ensures { OnOk result (buffer.new.items ≡ buffer.old.items ++ entry_of form harts told.now k) }
+    ensures { OnOk result (buffer.new.items ≡ buffer.old.items ++ choice_entry form harts told.now k) }
 {
     match form {
         TraceForm::Lines => push_line(alloc, buffer, told, k),
@@ -68,11 +68,11 @@ pub(crate) fn write_entry<A: Allocator + Copy, K: Sink>(
 ) -> Result<(), CommandFault>
     requires { K.failures sink.old < 2 ^ 64 - 1 }
     ensures taken { IfOk result (λ _. (all : List ℕ) (start : Option (List ℕ)) (rest : List ℕ)
-        → SoFar all start (K.held sink.old) buffer.old.items (entry_of form harts told.now k ++ rest)
+        → SoFar all start (K.held sink.old) buffer.old.items (choice_entry form harts told.now k ++ rest)
         → SoFar all start (K.held sink.new) buffer.new.items rest) }
     ensures count { IfOk result (λ _. K.failures sink.new ≡ K.failures sink.old) }
     ensures begun { IfErr result (λ _. (all : List ℕ) (start : Option (List ℕ)) (rest : List ℕ)
-        → SoFar all start (K.held sink.old) buffer.old.items (entry_of form harts told.now k ++ rest)
+        → SoFar all start (K.held sink.old) buffer.old.items (choice_entry form harts told.now k ++ rest)
         → Begins all start (K.held sink.new)) }
     ensures fault { IfErr result (λ fault. IfHalts fault (K.failures sink.old < K.failures sink.new)) }
 {

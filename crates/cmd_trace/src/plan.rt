@@ -1,6 +1,6 @@
 //! What a trace shows.
 ghost use Rattle.std.specs.Prelude.{◌≡◌, ◌≤◌, ◌-◌, ◌+◌};
-ghost use Rattle.cmd_trace.specs.Trace.{span_of, told_count};
+ghost use Rattle.cmd_trace.specs.Trace.{traced_span, told_count};
 
 use trace_text::Span;
 
@@ -27,7 +27,7 @@ pub struct TracePlan {
 
 /// The first and the last traced choice, given the number of choices.
 pub(crate) fn span_of(plan: TracePlan, count: u64) -> Span
-    ensures value { result ≡ span_of plan count }
+    ensures value { result ≡ traced_span plan count }
     ensures some { 1 ≤ result.from }
     ensures order { result.from ≤ result.to + 1 }
 {

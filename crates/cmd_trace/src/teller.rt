@@ -2,7 +2,7 @@
 ghost use Rattle.std.specs.Prelude.{◌≡◌, length};
 ghost use Rattle.machine.specs.State.{state};
 ghost use Rattle.trace_steps.specs.Known.{Knows};
-ghost use Rattle.trace_steps.specs.Latest.{words_of};
+ghost use Rattle.trace_steps.specs.Latest.{latest_words};
 
 use crate::cursor::Cursor;
 use image::Image;
@@ -18,7 +18,7 @@ pub struct Teller<'a, A: Allocator> {
     machine: Machine<FlatStore<A>, A>,
     latest: Latest,
     cursor: Cursor<'a>,
-    ghost known: { Knows (words_of latest) (state machine).reserved },
+    ghost known: { Knows (latest_words latest) (state machine).reserved },
     ghost there: { length (state machine).harts ≡ cursor.harts },
 }
 
@@ -62,7 +62,7 @@ impl<'a, A: Allocator + Copy> Teller<'a, A> {
     ghost use Rattle.machine.specs.State.{state};
     ghost use Rattle.machine.specs.Start.{started};
     ghost use Rattle.machine.specs.declared.choice.Choice.{Choice};
-    ghost use Rattle.sched_text.specs.Reading.{choices_of};
+    ghost use Rattle.sched_text.specs.Reading.{choices_read};
     ghost use Rattle.trace_text.specs.Head.{then_of};
     ghost use Rattle.cmd_trace.specs.Cursor.{Has};
     ghost use Rattle.cmd_trace.specs.Trace.{harts_from};
@@ -91,7 +91,7 @@ impl<'a, A: Allocator + Copy> Teller<'a, A> {
     ) -> Result<Teller<'a, A>, AllocError>
         ensures world { IfOk result (λ t. state t.machine ≡ started image.now inputs.now) }
         ensures has { IfOk result (λ t. (left : List Choice)
-            → choices_of (length inputs.now) text.now ≡ Ok left → Has t.cursor left) }
+            → choices_read (length inputs.now) text.now ≡ Ok left → Has t.cursor left) }
     {
         let machine: Machine<FlatStore<A>, A> = Machine::start(alloc, image, inputs)?;
         Ok(Teller {

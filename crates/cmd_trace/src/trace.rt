@@ -4,12 +4,12 @@ ghost use Rattle.std.specs.Prelude.{◌≡◌, ◌≢◌, ◌^◌, ◌-◌, ◌<
 ghost use Rattle.std.specs.Io.KnownBytes.{Keeps};
 ghost use Rattle.image.specs.Image.{ImageValue};
 ghost use Rattle.machine.specs.Start.{IsStartable};
-ghost use Rattle.sched_text.specs.Reading.{choices_of};
+ghost use Rattle.sched_text.specs.Reading.{choices_read};
 ghost use Rattle.program_open.specs.Opening.{with_choices};
 ghost use Rattle.program_open.specs.Program.{program_of};
 ghost use Rattle.program_open.specs.CommandFaults.{IfNames, IsRefusal};
 ghost use Rattle.program_open.specs.Answers.{BeginsToPrint, Prints};
-ghost use Rattle.cmd_trace.specs.Answer.{after_opening, trace_answer};
+ghost use Rattle.cmd_trace.specs.Answer.{trace_after, trace_answer};
 
 use crate::counting::count_choices;
 use crate::opening::{OpenTrace, open_trace};
@@ -29,23 +29,23 @@ fn trace_run<A: Allocator + Copy, K: Sink>(
 ) -> Result<Status, CommandFault>
     requires { K.failures sink.old < 2 ^ 64 - 1 }
     ensures done { IfOk result (λ status.
-        Prints (after_opening plan run.now.program.symbols.items run.now.inputs
-        (with_choices run.now.program.image (choices_of (length run.now.inputs) run.now.text.items)))
+        Prints (trace_after plan run.now.program.symbols.items run.now.inputs
+        (with_choices run.now.program.image (choices_read (length run.now.inputs) run.now.text.items)))
         status (K.held sink.old) (K.held sink.new)) }
     ensures refused { IfErr result (λ fault. IsRefusal fault
-        → after_opening plan run.now.program.symbols.items run.now.inputs
-        (with_choices run.now.program.image (choices_of (length run.now.inputs) run.now.text.items)) ≡ Err fault) }
+        → trace_after plan run.now.program.symbols.items run.now.inputs
+        (with_choices run.now.program.image (choices_read (length run.now.inputs) run.now.text.items)) ≡ Err fault) }
     ensures unwritten { IfErr result (λ fault. fault ≢ CommandFault.Write → fault ≢ CommandFault.Memory
         → Keeps (K.held sink.old) (K.held sink.new)) }
     ensures read { IfErr result (λ fault.
         IfNames fault ⊥ ⊥ ⊥ (K.failures sink.old < K.failures sink.new)) }
     ensures begun { result ≡ Err CommandFault.Write
-        → BeginsToPrint (after_opening plan run.now.program.symbols.items run.now.inputs
-        (with_choices run.now.program.image (choices_of (length run.now.inputs) run.now.text.items)))
+        → BeginsToPrint (trace_after plan run.now.program.symbols.items run.now.inputs
+        (with_choices run.now.program.image (choices_read (length run.now.inputs) run.now.text.items)))
         (K.held sink.old) (K.held sink.new) }
     ensures halted { result ≡ Err CommandFault.Memory → Keeps (K.held sink.old) (K.held sink.new)
-        ⊎ BeginsToPrint (after_opening plan run.now.program.symbols.items run.now.inputs
-        (with_choices run.now.program.image (choices_of (length run.now.inputs) run.now.text.items)))
+        ⊎ BeginsToPrint (trace_after plan run.now.program.symbols.items run.now.inputs
+        (with_choices run.now.program.image (choices_read (length run.now.inputs) run.now.text.items)))
         (K.held sink.old) (K.held sink.new) }
 {
     let count = match count_choices(&run.text, run.inputs.harts()) {

@@ -3,10 +3,10 @@ ghost use Rattle.std.specs.Prelude.{◌≡◌, ◌-◌, ◌^◌, ◌<◌, ◌≤
 ghost use Rattle.std.specs.Io.KnownBytes.{Appends};
 ghost use Rattle.machine.specs.State.{state};
 ghost use Rattle.machine.specs.declared.choice.Choice.{Choice};
-ghost use Rattle.sched_text.specs.Reading.{choices_of};
+ghost use Rattle.sched_text.specs.Reading.{choices_read};
 ghost use Rattle.program_open.specs.Answers.{Begins};
 ghost use Rattle.program_open.specs.CommandFaults.{IfHalts};
-ghost use Rattle.cmd_trace.specs.Trace.{head_of, trace_text};
+ghost use Rattle.cmd_trace.specs.Trace.{trace_head, trace_text};
 
 use crate::entries::write_entries;
 use crate::opening::{OpenProgram, OpenTrace};
@@ -29,7 +29,7 @@ fn push_head_of<A: Allocator + Copy>(
     teller: &Teller<'_, A>,
     buffer: &mut Vec<u8, A>,
 ) -> Result<(), AllocError>
-    ensures { OnOk result (buffer.new.items ≡ buffer.old.items ++ head_of form program.now.image.entry inputs.now span
+    ensures { OnOk result (buffer.new.items ≡ buffer.old.items ++ trace_head form program.now.image.entry inputs.now span
         program.now.symbols.items (state teller.now.machine)) }
 {
     match form {
@@ -58,10 +58,10 @@ pub(crate) fn write_trace<A: Allocator + Copy, K: Sink>(
     sink: &mut K,
 ) -> Result<(), CommandFault>
     requires { K.failures sink.old < 2 ^ 64 - 1 }
-    ensures told { IfOk result (λ _. (choices : List Choice) → choices_of (length run.now.inputs) run.now.text.items ≡ Ok choices
+    ensures told { IfOk result (λ _. (choices : List Choice) → choices_read (length run.now.inputs) run.now.text.items ≡ Ok choices
         → count ≡ length choices → Appends (K.held sink.old) (K.held sink.new)
         (trace_text plan run.now.program.image run.now.program.symbols.items run.now.inputs choices)) }
-    ensures begun { IfErr result (λ _. (choices : List Choice) → choices_of (length run.now.inputs) run.now.text.items ≡ Ok choices
+    ensures begun { IfErr result (λ _. (choices : List Choice) → choices_read (length run.now.inputs) run.now.text.items ≡ Ok choices
         → count ≡ length choices
         → Begins (trace_text plan run.now.program.image run.now.program.symbols.items run.now.inputs choices)
         (K.held sink.old) (K.held sink.new)) }

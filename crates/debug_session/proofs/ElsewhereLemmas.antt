@@ -3,7 +3,7 @@ use Rattle.std.proofs.Common.{◌≡◌, ◌≢◌, ℕ, zero, suc, ◌+◌, ◌
 use Rattle.std.proofs.lemmas.Bool.{cases_Bool}
 use Rattle.std.proofs.lemmas.Bool.Decides.{nat_tests}
 use Rattle.std.specs.List.{slice_get}
-use Rattle.mem_store.specs.Memory.{Memory, number_of}
+use Rattle.mem_store.specs.Memory.{Memory, little_endian}
 use Rattle.mem_store.specs.Access.{fetched, peeked}
 use Rattle.hart_reservations.specs.Marks.{word_of}
 use Rattle.isa_table.specs.Decoded.{decoded}
@@ -21,7 +21,7 @@ use Rattle.hart_step.proofs.AccessLemmas.{in_one_word}
 use Rattle.hart_step.proofs.LocalityLemmas.{steps_alike}
 use Rattle.machine.specs.World.{World, step_of, step}
 use Rattle.machine.specs.declared.choice.Choice.{Choice}
-use Rattle.debug_session.specs.Words.{byte_or_zero, word_at}
+use Rattle.debug_session.specs.Words.{byte_or_zero, viewed_word}
 use Rattle.debug_session.specs.Accessed.{address_of, accessed}
 use Rattle.debug_session.specs.Stops.{differs}
 
@@ -88,7 +88,7 @@ rights_same h refuse s =
 peeked_same : (m n : Memory) (b : ℕ) → m.rights ≡ n.rights → m.bytes b ≡ n.bytes b → peeked m b ≡ peeked n b
 peeked_same m n b rights bytes = rw (rights, bytes) refl
 
-number_same : (n : ℕ) (f g : ℕ → ℕ) → ((k : ℕ) → k < n → f k ≡ g k) → number_of n f ≡ number_of n g
+number_same : (n : ℕ) (f g : ℕ → ℕ) → ((k : ℕ) → k < n → f k ≡ g k) → little_endian n f ≡ little_endian n g
 number_same zero f g e = refl
 number_same (suc n) f g e =
     ap₂ (λ (low high : ℕ). low + high * 256 ^ n) (number_same n f g (λ k below. e k (omega arith))) (e n (omega arith))
@@ -99,8 +99,8 @@ word_in a k aligned below = omega arith
 at_other : (o : Option ℕ) (a b : ℕ) → a ≡ b → IsOther o b → IsOther o a
 at_other o a b e other = rw e other
 
-word-same-of : (w : World) (c : Choice) (a : ℕ) (o : Option HartValue) → a % 4 ≡ 0 → IsOther (accessed w o) a → word_at (step_of w c o).memory a ≡ word_at w.memory a
-unfolding word_at
+word-same-of : (w : World) (c : Choice) (a : ℕ) (o : Option HartValue) → a % 4 ≡ 0 → IsOther (accessed w o) a → viewed_word (step_of w c o).memory a ≡ viewed_word w.memory a
+unfolding viewed_word
 word-same-of w c a None aligned other = refl
 word-same-of w c a (Some h) aligned other =
     let s = site h w.memory w.reserved in
@@ -108,12 +108,12 @@ word-same-of w c a (Some h) aligned other =
     (λ k below. ap byte_or_zero (peeked_same (stepped c.hart c.refuse s).memory w.memory (a + k) (rights_same c.hart c.refuse s)
     (bytes_same c.hart c.refuse s (a + k) (at_other (address_of (access_of s)) (word_of (a + k)) a (word_in a k aligned below) other))))
 
-word-same : (w : World) (c : Choice) (a : ℕ) → a % 4 ≡ 0 → IsOther (accessed w (slice_get w.harts c.hart)) a → word_at (step w c).memory a ≡ word_at w.memory a
+word-same : (w : World) (c : Choice) (a : ℕ) → a % 4 ≡ 0 → IsOther (accessed w (slice_get w.harts c.hart)) a → viewed_word (step w c).memory a ≡ viewed_word w.memory a
 unfolding step
 word-same w c a aligned other = word-same-of w c a (slice_get w.harts c.hart) aligned other
 
 -- an aligned word that the step does not access is as before
 pub same_elsewhere : (w : World) (c : Choice) (a : ℕ) → a % 4 ≡ 0 → IsOther (accessed w (slice_get w.harts c.hart)) a → differs w (step w c) a ≡ false
 same_elsewhere w c a aligned other =
-    let e : eqb (word_at w.memory a) (word_at w.memory a) ≡ true = search rules in
+    let e : eqb (viewed_word w.memory a) (viewed_word w.memory a) ≡ true = search rules in
     rw (word-same w c a aligned other) (rw e refl)

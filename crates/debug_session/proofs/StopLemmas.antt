@@ -10,7 +10,7 @@ use Rattle.hart_reservations.specs.Marks.{word_of}
 use Rattle.hart_step.specs.Hart.{HartValue}
 use Rattle.machine.specs.World.{World, step}
 use Rattle.machine.specs.declared.choice.Choice.{Choice}
-use Rattle.debug_session.specs.Words.{word_at, word_if}
+use Rattle.debug_session.specs.Words.{viewed_word, word_if}
 use Rattle.debug_session.specs.Accessed.{accessed}
 use Rattle.debug_session.specs.Stops.{has, differs, break_of, watch_of, either_stop, stop_after, stop_on, watched}
 use Rattle.debug_session.specs.Session.{Session, world_at, stop_behind, Found, found_or, first_stop, last_stop}
@@ -106,14 +106,14 @@ watch_left bs ws v w c is all off =
     ∙ ap watch_of (find_watched (differs v w) (accessed v (slice_get v.harts c.hart)) ws all
     (λ a aligned other. ap (λ (u : World). differs v u a) is ∙ same_elsewhere v c a aligned other))
 
-same-differs : (v w : World) (a : ℕ) → word_at w.memory a ≡ word_at v.memory a → differs v w a ≡ false
+same-differs : (v w : World) (a : ℕ) → viewed_word w.memory a ≡ viewed_word v.memory a → differs v w a ≡ false
 same-differs v w a e =
-    let on : eqb (word_at v.memory a) (word_at v.memory a) ≡ true = search rules in
+    let on : eqb (viewed_word v.memory a) (viewed_word v.memory a) ≡ true = search rules in
     rw e (rw on refl)
 
-other-differs : (v w : World) (a : ℕ) → word_at w.memory a ≢ word_at v.memory a → differs v w a ≡ true
+other-differs : (v w : World) (a : ℕ) → viewed_word w.memory a ≢ viewed_word v.memory a → differs v w a ≡ true
 other-differs v w a e =
-    let off : eqb (word_at v.memory a) (word_at w.memory a) ≡ false = grind (arith, nat_tests, e) in
+    let off : eqb (viewed_word v.memory a) (viewed_word w.memory a) ≡ false = grind (arith, nat_tests, e) in
     rw off refl
 
 same-found : (v w : World) (o : Option ℕ) → word_if w.memory o ≡ word_if v.memory o → found_in (differs v w) o ≡ None

@@ -5,7 +5,7 @@ use Rattle.hart_reservations.specs.Marks.{word_of}
 use Rattle.hart_step.specs.Hart.{HartValue}
 use Rattle.machine.specs.World.{World, step}
 use Rattle.machine.specs.declared.choice.Choice.{Choice}
-use Rattle.debug_session.specs.Words.{word_at}
+use Rattle.debug_session.specs.Words.{viewed_word}
 use Rattle.debug_session.specs.declared.stop.Stop.{Stop}
 use Rattle.debug_session.specs.declared.stop.Stop.TheVariants.{Break, Watch}
 
@@ -15,7 +15,7 @@ has xs x = list_any (λ y. y == x) xs
 
 -- whether the word at an address differs between two worlds
 abbrev pub differs : World → World → ℕ → Bool
-differs v w a = not (word_at v.memory a == word_at w.memory a)
+differs v w a = not (viewed_word v.memory a == viewed_word w.memory a)
 
 -- the stop at hart h's breakpoint, if the hart is at one
 abbrev pub break_of : List ℕ → ℕ → Option HartValue → Option Stop

@@ -7,8 +7,8 @@ ghost use Rattle.debug_session.specs.Kept.{AreKept};
 use crate::paged_machine::PagedMachine;
 use crate::telling::tell;
 use crate::track::{BLOCK, Track};
+use byte_io::Progress;
 use machine::Choice;
-use progress::Progress;
 use std::alloc::{AllocError, Allocator};
 
 /// Does the choices once, and keeps a copy of the machine after 0, 256, 512, .. of them; reports

@@ -7,9 +7,9 @@ use crate::debugger::Debugger;
 use crate::paged_machine::PagedMachine;
 use crate::telling::tell_end;
 use crate::track::Track;
+use byte_io::{Progress, Unheard};
 use image::Image;
 use machine::{Choice, Inputs, Machine};
-use progress::{Progress, Unheard};
 use std::alloc::{AllocError, Allocator};
 use std::collections::BTreeSet;
 

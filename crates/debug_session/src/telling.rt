@@ -1,6 +1,6 @@
 //! Reports of a run's progress.
 
-use progress::Progress;
+use byte_io::Progress;
 
 // A run's progress is reported each time this many more of its choices are done.
 const TOLD: usize = 0x10_0000;

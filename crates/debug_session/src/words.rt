@@ -1,7 +1,7 @@
 //! Bytes and words as a debugger shows them, whatever their rights.
 ghost use Rattle.std.specs.Prelude.{◌≡◌, ◌%◌, ◌<◌};
 ghost use Rattle.mem_store.specs.Access.{peeked};
-ghost use Rattle.debug_session.specs.Words.{byte_or_zero, word_at};
+ghost use Rattle.debug_session.specs.Words.{byte_or_zero, viewed_word};
 
 use mem_store::Store;
 
@@ -17,10 +17,10 @@ pub fn byte_at<S: Store>(store: &S, address: u32) -> u8
 
 /// The word at an address that is a multiple of 4, little-endian. Bytes that are not mapped count
 /// as 0.
-#[tactic(auto, unfolding(crate::specs::Words::word_at))]
+#[tactic(auto, unfolding(crate::specs::Words::viewed_word))]
 pub fn word_at<S: Store>(store: &S, address: u32) -> u32
     requires { address % 4 ≡ 0 }
-    ensures { result ≡ word_at (S.memory store.now) address }
+    ensures { result ≡ viewed_word (S.memory store.now) address }
 {
     u32::from_le_bytes([
         byte_at(store, address),

@@ -4,7 +4,7 @@ use Rattle.std.proofs.lemmas.Bool.{cases_lt}
 use Rattle.std.proofs.lemmas.List.{at_drop_more, drop_all}
 use Rattle.std.proofs.lemmas.Nat.{mul-le}
 use Rattle.std.specs.Option.{option_map}
-use Rattle.debug_text.specs.Numbers.{digit_in, digit_of, held, held_number, number_after, with_digit}
+use Rattle.debug_text.specs.Numbers.{digit_in, hex_digit_value, held, held_number, number_after, with_digit}
 
 -- numbers that are too large are capped alike
 both_held : (x y : ℕ) → 2 ^ 64 - 1 ≤ x → 2 ^ 64 - 1 ≤ y → held x ≡ held y
@@ -34,7 +34,7 @@ same_after : (base m n : ℕ) (bs : List ℕ) → 0 < base → held m ≡ held n
 unfolding number_after
 same_after base m n [] some same = ap Some same
 same_after base m n (b ∷ bs) some same =
-    after_digit base m n bs (digit_in base (digit_of b)) some same (λ x y e. same_after base x y bs some e)
+    after_digit base m n bs (digit_in base (hex_digit_value b)) some same (λ x y e. same_after base x y bs some e)
 
 -- one more digit, capped at once or later
 one_digit : (base n d : ℕ) (bs : List ℕ) → 0 < base
@@ -42,7 +42,7 @@ one_digit : (base n d : ℕ) (bs : List ℕ) → 0 < base
 one_digit base n d bs some = same_after base (held (held (n * base) + d)) (n * base + d) bs some (omega arith)
 
 -- a digit is taken
-pub next_digit : (base n i r d : ℕ) (bs : List ℕ) → 0 < base → i < length bs → digit_of (slice_index bs i) ≡ Some d → nat_lt d base ≡ true
+pub next_digit : (base n i r d : ℕ) (bs : List ℕ) → 0 < base → i < length bs → hex_digit_value (slice_index bs i) ≡ Some d → nat_lt d base ≡ true
     → r ≡ held (held (n * base) + d)
     → option_map held (number_after base r (drop (i + 1) bs)) ≡ option_map held (number_after base n (drop i bs))
 unfolding number_after

@@ -3,7 +3,7 @@ use Rattle.std.specs.Prelude.{ℕ, List, [], ◌∷◌, Option, Some, None, code
 use Rattle.std.specs.Option.{option_map}
 use Rattle.std.specs.Str.{bytes_eq}
 use Rattle.debug_text.specs.Words.{next_word, behind_word}
-use Rattle.debug_text.specs.Numbers.{decimal_of, address_of}
+use Rattle.debug_text.specs.Numbers.{decimal_of, read_address}
 use Rattle.debug_text.specs.declared.commands.Command.{Command}
 use Rattle.debug_text.specs.declared.commands.Command.TheVariants.{Nothing, Where, Goto, Forward, Back, Break, Watch, Go, Rgo, Steps, Regs, Mem, Quit}
 
@@ -23,8 +23,8 @@ single_command name operand =
     if bytes_eq name (codes "goto") then option_map Goto (decimal_of operand)
     else (if bytes_eq name (codes "forward") then option_map Forward (decimal_of operand)
     else (if bytes_eq name (codes "back") then option_map Back (decimal_of operand)
-    else (if bytes_eq name (codes "break") then option_map Break (address_of operand)
-    else (if bytes_eq name (codes "watch") then option_map Watch (address_of operand)
+    else (if bytes_eq name (codes "break") then option_map Break (read_address operand)
+    else (if bytes_eq name (codes "watch") then option_map Watch (read_address operand)
     else (if bytes_eq name (codes "regs") then option_map Regs (decimal_of operand) else None)))))
 
 -- a command of two numbers, if both are valid
@@ -37,7 +37,7 @@ with_both make (Some a) (Some b) = Some (make a b)
 abbrev pub double_command : List ℕ → List ℕ → List ℕ → Option Command
 double_command name first second =
     if bytes_eq name (codes "steps") then with_both Steps (decimal_of first) (decimal_of second)
-    else (if bytes_eq name (codes "mem") then with_both Mem (address_of first) (decimal_of second) else None)
+    else (if bytes_eq name (codes "mem") then with_both Mem (read_address first) (decimal_of second) else None)
 
 -- the command of a word with at most two operands; a line without words is blank
 abbrev pub command_by : List ℕ → List ℕ → List ℕ → Option Command

@@ -7,8 +7,8 @@ abbrev pub is_between : ℕ → ℕ → ℕ → Bool
 is_between low high b = nat_le low b && nat_le b high
 
 -- the value of a hexadecimal digit of either case
-abbrev pub digit_of : ℕ → Option ℕ
-digit_of b =
+abbrev pub hex_digit_value : ℕ → Option ℕ
+hex_digit_value b =
     if is_between 48 57 b then Some (b - 48)
     else (if is_between 65 70 b then Some (b - 55)
     else (if is_between 97 102 b then Some (b - 87) else None))
@@ -26,11 +26,11 @@ with_digit base n rest (Some digit) = rest (n * base + digit)
 -- the number of digits of a base that follow those of n
 unfoldable pub number_after : ℕ → ℕ → List ℕ → Option ℕ
 number_after base n [] = Some n
-number_after base n (b ∷ bs) = with_digit base n (λ m. number_after base m bs) (digit_in base (digit_of b))
+number_after base n (b ∷ bs) = with_digit base n (λ m. number_after base m bs) (digit_in base (hex_digit_value b))
 
 -- the number of one or more digits of a base, however many there are
-abbrev pub number_of : ℕ → List ℕ → Option ℕ
-number_of base digits = if length digits == 0 then None else number_after base 0 digits
+abbrev pub read_digits : ℕ → List ℕ → Option ℕ
+read_digits base digits = if length digits == 0 then None else number_after base 0 digits
 
 -- a number, capped at 2^64 - 1: all positions, harts and addresses are below that
 abbrev pub held : ℕ → ℕ
@@ -38,7 +38,7 @@ held n = min n (2 ^ 64 - 1)
 
 -- the number of digits of a base, capped in this way
 abbrev pub held_number : ℕ → List ℕ → Option ℕ
-held_number base digits = option_map held (number_of base digits)
+held_number base digits = option_map held (read_digits base digits)
 
 -- a decimal number; leading zeros are allowed
 abbrev pub decimal_of : List ℕ → Option ℕ
@@ -55,5 +55,5 @@ address_number text =
     if slice_index text 0 == 48 && slice_index text 1 == 120 then held_number 16 (drop 2 text) else held_number 10 text
 
 -- an address
-abbrev pub address_of : List ℕ → Option ℕ
-address_of text = in_word (address_number text)
+abbrev pub read_address : List ℕ → Option ℕ
+read_address text = in_word (address_number text)

@@ -72,6 +72,6 @@ unfoldable pub reply_to : Session → List ℕ → Reply
 reply_to s line = reply_if s (command_of line)
 
 -- an answer as an outcome
-abbrev pub outcome_of : {Z : Type 0} → Answer Z → Session → Outcome
-outcome_of (answer.Text text) after = record { text = string_bytes text; after = after; ended = false }
-outcome_of answer.Quit after = record { text = []; after = after; ended = true }
+abbrev pub reply_outcome : {Z : Type 0} → Answer Z → Session → Outcome
+reply_outcome (answer.Text text) after = record { text = string_bytes text; after = after; ended = false }
+reply_outcome answer.Quit after = record { text = []; after = after; ended = true }

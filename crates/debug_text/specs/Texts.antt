@@ -9,8 +9,8 @@ use Rattle.hart_step.specs.Hart.{HartValue}
 use Rattle.isa_names.specs.Digits.{word_text}
 use Rattle.isa_names.specs.Names.{abi}
 use Rattle.isa_disasm.specs.Lines.{line_text}
-use Rattle.ends.specs.Ends.{end_line}
-use Rattle.debug_session.specs.Words.{word_at}
+use Rattle.outcome.specs.Ends.{end_line}
+use Rattle.debug_session.specs.Words.{viewed_word}
 use Rattle.debug_session.specs.declared.stop.Stop.{Stop}
 use Rattle.debug_session.specs.declared.stop.Stop.TheVariants.{Break, Watch}
 use Rattle.debug_session.specs.declared.step_view.Event.{Event}
@@ -84,7 +84,7 @@ is_mapped_word m a =
 
 -- the word at an aligned address, or dashes where a byte is not mapped
 abbrev pub cell_text : Memory → ℕ → List ℕ
-cell_text m a = if is_mapped_word m a then word_text (word_at m a) else codes "--------"
+cell_text m a = if is_mapped_word m a then word_text (viewed_word m a) else codes "--------"
 
 -- `00011000 00000007` and the line's end
 abbrev pub cell_entry : Memory → ℕ → List ℕ

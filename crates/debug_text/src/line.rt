@@ -4,7 +4,7 @@ ghost use Rattle.std.specs.List.{prefix_len, position_or_len};
 ghost use Rattle.debug_session.specs.Session.{session};
 ghost use Rattle.debug_text.specs.Words.{is_space, next_word, behind_word};
 ghost use Rattle.debug_text.specs.Commands.{command_of};
-ghost use Rattle.debug_text.specs.Reply.{reply_to, outcome_of};
+ghost use Rattle.debug_text.specs.Reply.{reply_to, reply_outcome};
 
 use crate::answer::Answer;
 use crate::commands::{Command, command_by};
@@ -63,7 +63,7 @@ pub fn command<A: Allocator + Copy>(
     line: &str,
 ) -> Result<Answer<A>, DebugFault>
     ensures ok { IfOk result (λ answer. reply_to (session debugger.old) line.now
-        ≡ Ok (outcome_of answer (session debugger.new))) }
+        ≡ Ok (reply_outcome answer (session debugger.new))) }
     ensures unchanged { OnErr result (session debugger.new ≡ session debugger.old) }
     ensures fault { IfErr result (λ fault. fault ≢ DebugFault.Memory
         → reply_to (session debugger.old) line.now ≡ Err fault) }

@@ -1,10 +1,10 @@
 //! Numbers in commands.
 ghost use Rattle.std.specs.Prelude.{◌≡◌, ◌<◌, ◌^◌, IfSome};
-ghost use Rattle.debug_text.specs.Numbers.{digit_of, number_after, number_of, held_number, decimal_of, address_of};
+ghost use Rattle.debug_text.specs.Numbers.{hex_digit_value, number_after, read_digits, held_number, decimal_of, read_address};
 
 // The value of a hexadecimal digit of either case.
 fn digit_of(byte: u8) -> Option<u64>
-    ensures value { result ≡ digit_of byte }
+    ensures value { result ≡ hex_digit_value byte }
     ensures small { IfSome result (λ digit. digit < 16) }
 {
     match byte {
@@ -46,7 +46,7 @@ pub fn decimal_of(text: &[u8]) -> Option<u64>
 
 /// An address: a decimal number, or `0x` and hexadecimal digits of either case, below 2^32.
 pub fn address_of(text: &[u8]) -> Option<u32>
-    ensures { result ≡ address_of text.now }
+    ensures { result ≡ read_address text.now }
 {
     let number = match text {
         [b'0', b'x', digits @ ..] => number_of(16, digits)?,

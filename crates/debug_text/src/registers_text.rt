@@ -3,10 +3,10 @@ ghost use Rattle.std.specs.Prelude.{◌≡◌, ◌<◌, ◌++◌, OnOk, IfOk, st
 ghost use Rattle.hart_step.specs.Hart.{hart_of, registers_of};
 ghost use Rattle.debug_text.specs.Texts.{register_entry, registers_from, hart_text};
 
-use ends::EndLine;
 use hart_step::Hart;
 use isa_names::{RegisterName, Word};
 use isa_table::Reg;
+use outcome::EndLine;
 use std::alloc::{AllocError, Allocator};
 
 // Appends the line of a register.

@@ -1,7 +1,7 @@
 //! Does the commands.
 ghost use Rattle.std.specs.Prelude.{◌≡◌, ◌≢◌, ◌≤◌, Ok, Err, IfOk, IfErr, OnErr, codes, string_bytes};
 ghost use Rattle.debug_session.specs.Session.{session, length_of};
-ghost use Rattle.debug_text.specs.Reply.{reply, shows_move, outcome_of};
+ghost use Rattle.debug_text.specs.Reply.{reply, shows_move, reply_outcome};
 ghost use Rattle.debug_text.specs.declared.commands.Command.TheVariants as commands;
 
 use crate::answer::Answer;
@@ -25,7 +25,7 @@ fn go_to<A: Allocator + Copy>(
 ) -> Result<Answer<A>, DebugFault>
     requires { target ≤ length_of (session debugger.old) }
     ensures ok { IfOk result (λ answer. shows_move (session debugger.old) target
-        ≡ Ok (outcome_of answer (session debugger.new))) }
+        ≡ Ok (reply_outcome answer (session debugger.new))) }
     ensures unchanged { OnErr result (session debugger.new ≡ session debugger.old) }
     ensures fault { IfErr result (λ fault. fault ≡ DebugFault.Memory) }
 {
@@ -45,7 +45,7 @@ fn obey_goto<A: Allocator + Copy>(
     k: u64,
 ) -> Result<Answer<A>, DebugFault>
     ensures ok { IfOk result (λ answer. reply (session debugger.old) (commands.Goto k)
-        ≡ Ok (outcome_of answer (session debugger.new))) }
+        ≡ Ok (reply_outcome answer (session debugger.new))) }
     ensures unchanged { OnErr result (session debugger.new ≡ session debugger.old) }
     ensures fault { IfErr result (λ fault. fault ≢ DebugFault.Memory
         → reply (session debugger.old) (commands.Goto k) ≡ Err fault) }
@@ -63,7 +63,7 @@ fn obey_forward<A: Allocator + Copy>(
     n: u64,
 ) -> Result<Answer<A>, DebugFault>
     ensures ok { IfOk result (λ answer. reply (session debugger.old) (commands.Forward n)
-        ≡ Ok (outcome_of answer (session debugger.new))) }
+        ≡ Ok (reply_outcome answer (session debugger.new))) }
     ensures unchanged { OnErr result (session debugger.new ≡ session debugger.old) }
     ensures fault { IfErr result (λ fault. fault ≢ DebugFault.Memory
         → reply (session debugger.old) (commands.Forward n) ≡ Err fault) }
@@ -82,7 +82,7 @@ fn obey_back<A: Allocator + Copy>(
     n: u64,
 ) -> Result<Answer<A>, DebugFault>
     ensures ok { IfOk result (λ answer. reply (session debugger.old) (commands.Back n)
-        ≡ Ok (outcome_of answer (session debugger.new))) }
+        ≡ Ok (reply_outcome answer (session debugger.new))) }
     ensures unchanged { OnErr result (session debugger.new ≡ session debugger.old) }
     ensures fault { IfErr result (λ fault. fault ≢ DebugFault.Memory
         → reply (session debugger.old) (commands.Back n) ≡ Err fault) }
@@ -101,7 +101,7 @@ fn obey_break<A: Allocator + Copy>(
     address: u32,
 ) -> Result<Answer<A>, DebugFault>
     ensures ok { IfOk result (λ answer. reply (session debugger.old) (commands.Break address)
-        ≡ Ok (outcome_of answer (session debugger.new))) }
+        ≡ Ok (reply_outcome answer (session debugger.new))) }
     ensures unchanged { OnErr result (session debugger.new ≡ session debugger.old) }
     ensures fault { IfErr result (λ fault. fault ≡ DebugFault.Memory) }
 {
@@ -121,7 +121,7 @@ fn obey_watch<A: Allocator + Copy>(
     address: u32,
 ) -> Result<Answer<A>, DebugFault>
     ensures ok { IfOk result (λ answer. reply (session debugger.old) (commands.Watch address)
-        ≡ Ok (outcome_of answer (session debugger.new))) }
+        ≡ Ok (reply_outcome answer (session debugger.new))) }
     ensures unchanged { OnErr result (session debugger.new ≡ session debugger.old) }
     ensures fault { IfErr result (λ fault. fault ≡ DebugFault.Memory) }
 {
@@ -141,7 +141,7 @@ fn obey_go<A: Allocator + Copy>(
     debugger: &mut Debugger<A>,
 ) -> Result<Answer<A>, DebugFault>
     ensures ok { IfOk result (λ answer. reply (session debugger.old) commands.Go
-        ≡ Ok (outcome_of answer (session debugger.new))) }
+        ≡ Ok (reply_outcome answer (session debugger.new))) }
     ensures unchanged { OnErr result (session debugger.new ≡ session debugger.old) }
     ensures fault { IfErr result (λ fault. fault ≡ DebugFault.Memory) }
 {
@@ -163,7 +163,7 @@ fn obey_rgo<A: Allocator + Copy>(
     debugger: &mut Debugger<A>,
 ) -> Result<Answer<A>, DebugFault>
     ensures ok { IfOk result (λ answer. reply (session debugger.old) commands.Rgo
-        ≡ Ok (outcome_of answer (session debugger.new))) }
+        ≡ Ok (reply_outcome answer (session debugger.new))) }
     ensures unchanged { OnErr result (session debugger.new ≡ session debugger.old) }
     ensures fault { IfErr result (λ fault. fault ≡ DebugFault.Memory) }
 {
@@ -187,7 +187,7 @@ fn obey_steps<A: Allocator + Copy>(
     to: u64,
 ) -> Result<Answer<A>, DebugFault>
     ensures ok { IfOk result (λ answer. reply (session debugger.now) (commands.Steps from to)
-        ≡ Ok (outcome_of answer (session debugger.now))) }
+        ≡ Ok (reply_outcome answer (session debugger.now))) }
     ensures fault { IfErr result (λ fault. fault ≢ DebugFault.Memory
         → reply (session debugger.now) (commands.Steps from to) ≡ Err fault) }
 {
@@ -212,7 +212,7 @@ fn obey_regs<A: Allocator + Copy>(
     number: u64,
 ) -> Result<Answer<A>, DebugFault>
     ensures ok { IfOk result (λ answer. reply (session debugger.now) (commands.Regs number)
-        ≡ Ok (outcome_of answer (session debugger.now))) }
+        ≡ Ok (reply_outcome answer (session debugger.now))) }
     ensures fault { IfErr result (λ fault. fault ≢ DebugFault.Memory
         → reply (session debugger.now) (commands.Regs number) ≡ Err fault) }
 {
@@ -235,7 +235,7 @@ fn obey_mem<A: Allocator + Copy>(
     count: u64,
 ) -> Result<Answer<A>, DebugFault>
     ensures ok { IfOk result (λ answer. reply (session debugger.now) (commands.Mem address count)
-        ≡ Ok (outcome_of answer (session debugger.now))) }
+        ≡ Ok (reply_outcome answer (session debugger.now))) }
     ensures fault { IfErr result (λ fault. fault ≢ DebugFault.Memory
         → reply (session debugger.now) (commands.Mem address count) ≡ Err fault) }
 {
@@ -257,7 +257,7 @@ pub fn obey<A: Allocator + Copy>(
     command: Command,
 ) -> Result<Answer<A>, DebugFault>
     ensures ok { IfOk result (λ answer. reply (session debugger.old) command
-        ≡ Ok (outcome_of answer (session debugger.new))) }
+        ≡ Ok (reply_outcome answer (session debugger.new))) }
     ensures unchanged { OnErr result (session debugger.new ≡ session debugger.old) }
     ensures fault { IfErr result (λ fault. fault ≢ DebugFault.Memory
         → reply (session debugger.old) command ≡ Err fault) }

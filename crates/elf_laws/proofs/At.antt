@@ -6,7 +6,7 @@ use Rattle.byteorder.specs.Numbers.{little_number-reads_back}
 use Rattle.elf_write.specs.Field.{bytes_of_all}
 use Rattle.elf_write.specs.declared.field.Field.{Field}
 use Rattle.elf_write.specs.declared.field.Field.TheVariants.{Byte, Half, Word}
-use Rattle.elf_laws.specs.Fields.{Row, byte, half, word, Stands, AllStand, Holds}
+use Rattle.elf_laws.specs.Fields.{FieldRow, byte, half, word, Stands, AllStand, HasBytesAt}
 
 pub record At (bytes : List ℕ) (place : ℕ) (part : List ℕ) : Type 0 where
   pub front : List ℕ
@@ -31,7 +31,7 @@ right_at bytes place next xs ys a e = record {
 behind : (bytes : List ℕ) (place : ℕ) (part : List ℕ) (a : At bytes place part) → drop place bytes ≡ part ++ a.back
 behind bytes place part a = subst (λ n. drop n bytes ≡ part ++ a.back) a.here (ap (drop (length a.front)) a.cut ∙ drop-append_seam a.front (part ++ a.back))
 
-pub held : (bytes : List ℕ) (place : ℕ) (part : List ℕ) → At bytes place part → Holds bytes place part
+pub held : (bytes : List ℕ) (place : ℕ) (part : List ℕ) → At bytes place part → HasBytesAt bytes place part
 held bytes place part a = ap (take (length part)) (behind bytes place part a) ∙ take-append_seam part a.back
 
 long : (bytes : List ℕ) (place : ℕ) (part : List ℕ) → At bytes place part → place + length part ≤ length bytes
@@ -50,7 +50,7 @@ abbrev pub AllFit : List Field → Type 0
 AllFit [] = Unit {0}
 AllFit (f ∷ fs) = Fits f × AllFit fs
 
-abbrev pub rows_of : ℕ → List Field → List Row
+abbrev pub rows_of : ℕ → List Field → List FieldRow
 rows_of offset [] = []
 rows_of offset (Byte n ∷ fs) = byte offset n ∷ rows_of (offset + 1) fs
 rows_of offset (Half n ∷ fs) = half offset n ∷ rows_of (offset + 2) fs

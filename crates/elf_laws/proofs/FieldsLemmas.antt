@@ -2,8 +2,8 @@
 use Rattle.std.proofs.Common.{◌≡◌, ℕ, ◌+◌, ◌-◌, ◌*◌, ◌/◌, ◌%◌, ◌^◌, ◌<◌, ◌≤◌, cond, eqb, List, [], ◌∷◌, ◌++◌, length, refl, ap, subst, ◌∙◌, arith, length-append, inl, inr}
 use Rattle.std.proofs.lemmas.Bool.{cases_Bool}
 use Rattle.std.proofs.lemmas.Bool.Decides.{nat_tests}
-use Rattle.asm_parse.specs.declared.statement.Section.{Section}
-use Rattle.asm_parse.specs.declared.statement.Section.TheVariants as section
+use Rattle.asm_statement.specs.declared.statement.Section.{Section}
+use Rattle.asm_statement.specs.declared.statement.Section.TheVariants as section
 use Rattle.asm_assemble.specs.Program.{ProgramValue, SymbolList, round_up, segment_size}
 use Rattle.asm_assemble.specs.declared.program.Symbol.{Symbol}
 use Rattle.elf_write.specs.Field.{bytes_of_all, zero_bytes}
@@ -18,7 +18,7 @@ use Rattle.elf_write.specs.declared.field.Field.TheVariants.{Byte, Half, Word}
 use Rattle.elf_write.proofs.LayoutLemmas.{Bounds, bounds}
 use Rattle.elf_write.proofs.ReadLemmas.{front_length}
 use Rattle.elf_write.proofs.SectionLemmas.{tables_end}
-use Rattle.elf_laws.specs.Fields.{AllStand, Holds, data_place, memory_size, data_end, symbols_place, local_symbols, listed, names_size, names_place, section_names_place, sections_place, program_headers, file_rows, load_rows, text_rows, data_rows, section_rows, symbol_rows, section_names, zeros, HasSections, HasSymbol, HasFields, WrittenHasFields}
+use Rattle.elf_laws.specs.Fields.{AllStand, HasBytesAt, data_place, memory_size, end_of_data, symbols_place, local_symbols, listed_symbols, names_size, names_place, section_names_place, sections_place, program_headers, file_rows, load_rows, text_rows, data_rows, section_rows, symbol_rows, written_section_names, zeros, HasSections, HasSymbol, HasFields, WrittenHasFields}
 use Rattle.elf_laws.proofs.At.{At, left_at, right_at, held, AllFit, header_stands}
 use Rattle.elf_laws.proofs.Tables.{tables_are, grows, entries_long, names_long, symbol_there, first_global}
 use Rattle.elf_laws.specs.Fields as own
@@ -40,14 +40,14 @@ low_word a =
     let h : a / 16777216 % 256 ≡ a % 2 ^ 32 / 16777216 % 256 = omega arith in
     four (a % 256) (a / 256 % 256) (a / 65536 % 256) (a / 16777216 % 256) (a % 2 ^ 32 % 256) (a % 2 ^ 32 / 256 % 256) (a % 2 ^ 32 / 65536 % 256) (a % 2 ^ 32 / 16777216 % 256) e f g h
 
-same_number : (s : Section) → tables.section_number s ≡ own.section_number s
+same_number : (s : Section) → tables.section_number s ≡ own.section_index s
 same_number section.Text = refl
 same_number section.Data = refl
 same_number section.Zeros = refl
 
 symbol_list : ℕ → Symbol → List Field
 symbol_list place s =
-    Word (place % 2 ^ 32) ∷ Word (s.address % 2 ^ 32) ∷ Word 0 ∷ Byte (cond s.global 16 0) ∷ Byte 0 ∷ Half (own.section_number s.section) ∷ []
+    Word (place % 2 ^ 32) ∷ Word (s.address % 2 ^ 32) ∷ Word 0 ∷ Byte (cond s.global 16 0) ∷ Byte 0 ∷ Half (own.section_index s.section) ∷ []
 
 same_fields : (place : ℕ) (s : Symbol) → bytes_of_all (symbol_fields place s) ≡ bytes_of_all (symbol_list place s)
 unfolding symbol_list
@@ -55,7 +55,7 @@ same_fields place s =
     ap (λ w. little_bytes 4 (place % 2 ^ 32) ++ (w ++ (little_bytes 4 0 ++ ((cond s.global 16 0 ∷ []) ++ ((0 ∷ []) ++ (little_bytes 2 (tables.section_number s.section) ++ [])))))) (low_word s.address)
     ∙ ap (λ n. little_bytes 4 (place % 2 ^ 32) ++ (little_bytes 4 (s.address % 2 ^ 32) ++ (little_bytes 4 0 ++ ((cond s.global 16 0 ∷ []) ++ ((0 ∷ []) ++ (little_bytes 2 n ++ [])))))) (same_number s.section)
 
-number_small : (s : Section) → own.section_number s < 2 ^ 16
+number_small : (s : Section) → own.section_index s < 2 ^ 16
 number_small section.Text = omega arith
 number_small section.Data = omega arith
 number_small section.Zeros = omega arith
@@ -82,7 +82,7 @@ entries_of t = t.entries
 abbrev names_in : tables.TablesValue → List ℕ
 names_in t = t.names
 
-has_symbol : (p : ProgramValue) → Bounds p → (before : SymbolList) (s : Entry) (after : SymbolList) → listed p.symbols ≡ before ++ s ∷ after → HasSymbol p (file p) before s
+has_symbol : (p : ProgramValue) → Bounds p → (before : SymbolList) (s : Entry) (after : SymbolList) → listed_symbols p.symbols ≡ before ++ s ∷ after → HasSymbol p (file p) before s
 has_symbol p b before s after cut =
     let there = symbol_there before s after in
     let whole : tables_of p ≡ with_symbols no_symbols (before ++ s ∷ after) = tables_are p.symbols ∙ ap (with_symbols no_symbols) cut in
@@ -111,7 +111,7 @@ has_symbol p b before s after cut =
 no_symbol_at : (p : ProgramValue) → Bounds p → At (file p) (symbols_place p) (zeros 16)
 unfolding no_symbols zero_bytes
 no_symbol_at p b =
-    let g = grows no_symbols (listed p.symbols) in
+    let g = grows no_symbols (listed_symbols p.symbols) in
     left_at (file p) (symbols_place p) (zeros 16) g.more_entries
     (moved (file p) (symbols_at p) (symbols_place p) (zeros 16 ++ g.more_entries)
     (changed (file p) (symbols_at p) (tables_of p).entries (zeros 16 ++ g.more_entries) (entries_at p b) (ap entries_of (tables_are p.symbols) ∙ g.entries)) (symbols_are p))
@@ -119,7 +119,7 @@ no_symbol_at p b =
 no_name_at : (p : ProgramValue) → Bounds p → At (file p) (names_place p) (0 ∷ [])
 unfolding no_symbols
 no_name_at p b =
-    let g = grows no_symbols (listed p.symbols) in
+    let g = grows no_symbols (listed_symbols p.symbols) in
     left_at (file p) (names_place p) (0 ∷ []) g.more_names
     (moved (file p) (names_at p) (names_place p) ((0 ∷ []) ++ g.more_names)
     (changed (file p) (names_at p) (tables_of p).names ((0 ∷ []) ++ g.more_names) (names_at_place p b) (ap names_in (tables_are p.symbols) ∙ g.names)) (names_are p))
@@ -241,17 +241,17 @@ add_160 n = omega arith
 add_240 : (n : ℕ) → n + 160 + 80 ≡ n + 240
 add_240 n = omega arith
 
-entries_size : (p : ProgramValue) → length (tables_of p).entries ≡ 16 * (1 + length (listed p.symbols))
-entries_size p = ap (λ (t : tables.TablesValue). length t.entries) (tables_are p.symbols) ∙ entries_before (listed p.symbols)
+entries_size : (p : ProgramValue) → length (tables_of p).entries ≡ 16 * (1 + length (listed_symbols p.symbols))
+entries_size p = ap (λ (t : tables.TablesValue). length t.entries) (tables_are p.symbols) ∙ entries_before (listed_symbols p.symbols)
 
-names_length : (p : ProgramValue) → length (tables_of p).names ≡ 1 + names_size (listed p.symbols)
-names_length p = ap (λ (t : tables.TablesValue). length t.names) (tables_are p.symbols) ∙ names_before (listed p.symbols)
+names_length : (p : ProgramValue) → length (tables_of p).names ≡ 1 + names_size (listed_symbols p.symbols)
+names_length p = ap (λ (t : tables.TablesValue). length t.names) (tables_are p.symbols) ∙ names_before (listed_symbols p.symbols)
 
 first_small : (p : ProgramValue) → (tables_of p).first_global < 2 ^ 32
 first_small p = let e = first_global p.symbols in omega (arith, e)
 
 symtab_rows : (p : ProgramValue) → Bounds p → AllStand (file p) (sections_place p + 160)
-    (section_rows 18 2 0 0 (symbols_place p % 2 ^ 32) (16 * (1 + length (listed p.symbols)) % 2 ^ 32) 5 ((1 + length (local_symbols p.symbols)) % 2 ^ 32) 4 16)
+    (section_rows 18 2 0 0 (symbols_place p % 2 ^ 32) (16 * (1 + length (listed_symbols p.symbols)) % 2 ^ 32) 5 ((1 + length (local_symbols p.symbols)) % 2 ^ 32) 4 16)
 unfolding section_fields section_list
 symtab_rows p b =
     subst (λ n. AllStand (file p) (sections_place p + 160) (section_rows 18 2 0 0 (symbols_place p % 2 ^ 32) (n % 2 ^ 32) 5 ((1 + length (local_symbols p.symbols)) % 2 ^ 32) 4 16)) (entries_size p) (
@@ -263,7 +263,7 @@ symtab_rows p b =
     (table_three p b).one)))
 
 strtab_rows : (p : ProgramValue) → Bounds p → AllStand (file p) (sections_place p + 160 + 40)
-    (section_rows 26 3 0 0 (names_place p % 2 ^ 32) ((1 + names_size (listed p.symbols)) % 2 ^ 32) 0 0 1 0)
+    (section_rows 26 3 0 0 (names_place p % 2 ^ 32) ((1 + names_size (listed_symbols p.symbols)) % 2 ^ 32) 0 0 1 0)
 unfolding section_fields section_list
 strtab_rows p b =
     subst (λ n. AllStand (file p) (sections_place p + 160 + 40) (section_rows 26 3 0 0 (names_place p % 2 ^ 32) (n % 2 ^ 32) 0 0 1 0)) (names_length p) (
@@ -306,16 +306,16 @@ data_section_rows p b =
     (record { address_fits = omega (arith, b.near); offset_fits = omega (arith, b.near); size_fits = omega (arith, b.small, b.given); info_fits = omega arith })
     (own_three p b).two
 
-bss_rows : (p : ProgramValue) → Bounds p → AllStand (file p) (sections_place p + 40 + 80) (section_rows 13 8 3 (0x10000 + round_up (data_place p + length p.bytes) 4) (data_end p) p.zeros 0 0 4 0)
+bss_rows : (p : ProgramValue) → Bounds p → AllStand (file p) (sections_place p + 40 + 80) (section_rows 13 8 3 (0x10000 + round_up (data_place p + length p.bytes) 4) (end_of_data p) p.zeros 0 0 4 0)
 unfolding section_fields section_list data_distance data_size sections.data_end
 bss_rows p b =
     let z = zeros_small (length p.bytes) p.zeros in
-    section_stands (file p) (sections_place p + 40 + 80) 13 8 3 (0x10000 + round_up (data_place p + length p.bytes) 4) (data_end p) p.zeros 0 0 4 0
+    section_stands (file p) (sections_place p + 40 + 80) 13 8 3 (0x10000 + round_up (data_place p + length p.bytes) 4) (end_of_data p) p.zeros 0 0 4 0
     (plain 13 8 3 0 4 0 (omega arith) (omega arith) (omega arith) (omega arith) (omega arith) (omega arith))
     (record { address_fits = zeros_place_small (data_place p + length p.bytes) (omega (arith, b.near, b.small, b.given)); offset_fits = omega (arith, b.near, b.small, b.given); size_fits = omega (arith, b.small, z); info_fits = omega arith })
     (own_three p b).last
 
-rows_moved : (bytes : List ℕ) (at next : ℕ) (rows : List own.Row) → AllStand bytes at rows → at ≡ next → AllStand bytes next rows
+rows_moved : (bytes : List ℕ) (at next : ℕ) (rows : List own.FieldRow) → AllStand bytes at rows → at ≡ next → AllStand bytes next rows
 rows_moved bytes at next rows h e = subst (λ n. AllStand bytes n rows) e h
 
 has_sections : (p : ProgramValue) → Bounds p → HasSections p (file p)
@@ -325,9 +325,9 @@ has_sections p b =
       none = none_rows p b;
       text_section = text_section_rows p b;
       data_section = rows_moved (file p) (s + 40 + 40) (s + 80) (section_rows 7 1 3 (0x10000 + data_place p) (4096 + data_place p) (length p.bytes) 0 0 4 0) (data_section_rows p b) (add_40 s);
-      bss = rows_moved (file p) (s + 40 + 80) (s + 120) (section_rows 13 8 3 (0x10000 + round_up (data_place p + length p.bytes) 4) (data_end p) p.zeros 0 0 4 0) (bss_rows p b) (add_80 s);
+      bss = rows_moved (file p) (s + 40 + 80) (s + 120) (section_rows 13 8 3 (0x10000 + round_up (data_place p + length p.bytes) 4) (end_of_data p) p.zeros 0 0 4 0) (bss_rows p b) (add_80 s);
       symtab = symtab_rows p b;
-      strtab = rows_moved (file p) (s + 160 + 40) (s + 200) (section_rows 26 3 0 0 (names_place p % 2 ^ 32) ((1 + names_size (listed p.symbols)) % 2 ^ 32) 0 0 1 0) (strtab_rows p b) (add_160 s);
+      strtab = rows_moved (file p) (s + 160 + 40) (s + 200) (section_rows 26 3 0 0 (names_place p % 2 ^ 32) ((1 + names_size (listed_symbols p.symbols)) % 2 ^ 32) 0 0 1 0) (strtab_rows p b) (add_160 s);
       shstrtab = rows_moved (file p) (s + 160 + 80) (s + 240) (section_rows 34 3 0 0 (section_names_place p % 2 ^ 32) 44 0 0 1 0) (shstrtab_rows p b) (add_240 s);
     }
 
@@ -336,28 +336,28 @@ headers_count : (p : ProgramValue) → header_count p ≡ program_headers p
 unfolding header_count data_size
 headers_count p = refl
 
-held_zeros : (bytes : List ℕ) (at n : ℕ) → At bytes at (zero_bytes n) → Holds bytes at (zeros n)
+held_zeros : (bytes : List ℕ) (at n : ℕ) → At bytes at (zero_bytes n) → HasBytesAt bytes at (zeros n)
 unfolding zero_bytes
 held_zeros bytes at n a = held bytes at (zeros n) a
 
-before_text_held : (p : ProgramValue) → Holds (file p) (52 + 32 * program_headers p) (zeros (4044 - 32 * program_headers p))
-before_text_held p = subst (λ n. Holds (file p) (52 + 32 * n) (zeros (4044 - 32 * n))) (headers_count p) (held_zeros (file p) (52 + 32 * header_count p) (4044 - 32 * header_count p) (zeros_at p))
+before_text_held : (p : ProgramValue) → HasBytesAt (file p) (52 + 32 * program_headers p) (zeros (4044 - 32 * program_headers p))
+before_text_held p = subst (λ n. HasBytesAt (file p) (52 + 32 * n) (zeros (4044 - 32 * n))) (headers_count p) (held_zeros (file p) (52 + 32 * header_count p) (4044 - 32 * header_count p) (zeros_at p))
 
-gap_held : (p : ProgramValue) → Holds (file p) (4096 + length p.text) (zeros (data_place p - length p.text))
+gap_held : (p : ProgramValue) → HasBytesAt (file p) (4096 + length p.text) (zeros (data_place p - length p.text))
 unfolding gap_of data_distance
 gap_held p = held_zeros (file p) (4096 + length p.text) (data_place p - length p.text) (left_at (file p) (4096 + length p.text) (gap_of p) p.bytes (gap_at p))
 
-data_held : (p : ProgramValue) → Bounds p → Holds (file p) (4096 + data_place p) p.bytes
+data_held : (p : ProgramValue) → Bounds p → HasBytesAt (file p) (4096 + data_place p) p.bytes
 unfolding data_distance
 data_held p b = held (file p) (4096 + data_place p) p.bytes (data_at p b)
 
-before_symbols_held : (p : ProgramValue) → Bounds p → Holds (file p) (data_end p) (zeros (symbols_place p - data_end p))
+before_symbols_held : (p : ProgramValue) → Bounds p → HasBytesAt (file p) (end_of_data p) (zeros (symbols_place p - end_of_data p))
 unfolding before_of symbols_at sections.data_end data_distance
-before_symbols_held p b = held_zeros (file p) (data_end p) (symbols_place p - data_end p) (left_at (file p) (data_end p) (before_of p) (tables_of p).entries (entries_joined_at p b))
+before_symbols_held p b = held_zeros (file p) (end_of_data p) (symbols_place p - end_of_data p) (left_at (file p) (end_of_data p) (before_of p) (tables_of p).entries (entries_joined_at p b))
 
-section_names_held : (p : ProgramValue) → Bounds p → Holds (file p) (section_names_place p) section_names
+section_names_held : (p : ProgramValue) → Bounds p → HasBytesAt (file p) (section_names_place p) written_section_names
 unfolding sections.section_names
-section_names_held p b = held (file p) (section_names_place p) section_names (moved (file p) (section_names_at p) (section_names_place p) section_names (section_names_at_place p b) (section_names_are p))
+section_names_held p b = held (file p) (section_names_place p) written_section_names (moved (file p) (section_names_at p) (section_names_place p) written_section_names (section_names_at_place p b) (section_names_are p))
 
 -- how much is written when the names of the sections are
 joined_length : (p : ProgramValue) → Bounds p → sections.data_end p + length (joined_tables p) ≡ section_names_at p + 44
@@ -374,9 +374,9 @@ unfolding sections_at
 before_sections_at p b =
     right_at (file p) (sections.data_end p) (section_names_at p + 44) (joined_tables p) (zero_bytes (round_up (section_names_at p + 44) 4 - (section_names_at p + 44))) (tables_at p b) (joined_length p b)
 
-before_sections_held : (p : ProgramValue) → Bounds p → Holds (file p) (section_names_place p + 44) (zeros (sections_place p - (section_names_place p + 44)))
+before_sections_held : (p : ProgramValue) → Bounds p → HasBytesAt (file p) (section_names_place p + 44) (zeros (sections_place p - (section_names_place p + 44)))
 before_sections_held p b =
-    subst (λ n. Holds (file p) (n + 44) (zeros (round_up (n + 44) 4 - (n + 44)))) (section_names_are p)
+    subst (λ n. HasBytesAt (file p) (n + 44) (zeros (round_up (n + 44) 4 - (n + 44)))) (section_names_are p)
     (held_zeros (file p) (section_names_at p + 44) (round_up (section_names_at p + 44) 4 - (section_names_at p + 44)) (before_sections_at p b))
 
 file_ends : (p : ProgramValue) → Bounds p → length (file p) ≡ sections_place p + 280

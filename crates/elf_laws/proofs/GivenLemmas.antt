@@ -18,12 +18,12 @@ use Rattle.elf_read.specs.Number.{word_at, half_at}
 use Rattle.elf_read.specs.Section.{section_at, sections_from}
 use Rattle.elf_read.specs.SymbolTable.{symbols_from, symbols_in, symbols_of, with_name, added}
 use Rattle.elf_read.specs.declared.section.SectionHeader.{SectionHeader}
-use Rattle.elf_laws.specs.Fields.{AllStand, Holds, section_rows, symbol_rows, listed, local_symbols, names_size, names_place, symbols_place, section_names_place, sections_place, data_end, data_place, zeros, HasFields}
+use Rattle.elf_laws.specs.Fields.{AllStand, HasBytesAt, section_rows, symbol_rows, listed_symbols, local_symbols, names_size, names_place, symbols_place, section_names_place, sections_place, end_of_data, data_place, zeros, HasFields}
 use Rattle.elf_laws.proofs.At.{held}
 use Rattle.elf_laws.proofs.Parts.{names_at_place, names_are}
 use Rattle.elf_laws.proofs.Tables.{tables_are, names_long, symbol_there, grows}
 use Rattle.elf_laws.proofs.FieldsLemmas.{written}
-use Rattle.elf_laws.specs.Given.{AreNamed, given, SymbolsComeBack}
+use Rattle.elf_laws.specs.Given.{AreNamed, symbol_given, SymbolsComeBack}
 use Rattle.elf_laws.proofs.Names.{name_is, named_both, named_filter, named_at, IsRead, all_read}
 
 -- ---- section headers
@@ -81,10 +81,10 @@ names_before : (before : SymbolList) → length (with_symbols no_symbols before)
 unfolding no_symbols
 names_before before = names_long no_symbols before
 
-names_length_is : (p : ProgramValue) → length (tables_of p).names ≡ 1 + names_size (listed p.symbols)
-names_length_is p = ap (λ (t : tables.TablesValue). length t.names) (tables_are p.symbols) ∙ names_before (listed p.symbols)
+names_length_is : (p : ProgramValue) → length (tables_of p).names ≡ 1 + names_size (listed_symbols p.symbols)
+names_length_is p = ap (λ (t : tables.TablesValue). length t.names) (tables_are p.symbols) ∙ names_before (listed_symbols p.symbols)
 
-names_read : (p : ProgramValue) → Bounds p → take (1 + names_size (listed p.symbols)) (drop (names_place p) (file p)) ≡ (tables_of p).names
+names_read : (p : ProgramValue) → Bounds p → take (1 + names_size (listed_symbols p.symbols)) (drop (names_place p) (file p)) ≡ (tables_of p).names
 names_read p b =
     subst (λ n. take n (drop (names_place p) (file p)) ≡ (tables_of p).names) (names_length_is p)
     (subst (λ n. take (length (tables_of p).names) (drop n (file p)) ≡ (tables_of p).names) (names_are p) (held (file p) (names_at p) (tables_of p).names (names_at_place p b)))
@@ -96,20 +96,20 @@ above n = omega arith
 -- places come one behind the other
 record InOrder (p : ProgramValue) : Type 0 where
   first : 52 ≤ symbols_place p
-  names : names_place p ≡ symbols_place p + 16 * (1 + length (listed p.symbols))
-  behind_names : section_names_place p ≡ names_place p + (1 + names_size (listed p.symbols))
+  names : names_place p ≡ symbols_place p + 16 * (1 + length (listed_symbols p.symbols))
+  behind_names : section_names_place p ≡ names_place p + (1 + names_size (listed_symbols p.symbols))
   end : section_names_place p + 44 ≤ sections_place p
 
 in_order : (p : ProgramValue) → InOrder p
 in_order p = record {
-  first = let e = above (data_end p) in omega (arith, e);
+  first = let e = above (end_of_data p) in omega (arith, e);
   names = refl;
   behind_names = refl;
   end = above (section_names_place p + 44);
 }
 
-symbol_read : (p : ProgramValue) (h : HasFields p (file p)) → AreNamed (listed p.symbols) → sections_place p + 280 < 2 ^ 32 → (before : SymbolList) (s : List ℕ × Symbol) (after : SymbolList)
-    → listed p.symbols ≡ before ++ s ∷ after → IsRead (tables_of p).names (file p) (symbols_place p + 16 + 16 * length before) s
+symbol_read : (p : ProgramValue) (h : HasFields p (file p)) → AreNamed (listed_symbols p.symbols) → sections_place p + 280 < 2 ^ 32 → (before : SymbolList) (s : List ℕ × Symbol) (after : SymbolList)
+    → listed_symbols p.symbols ≡ before ++ s ∷ after → IsRead (tables_of p).names (file p) (symbols_place p + 16 + 16 * length before) s
 unfolding word_at
 symbol_read p h named small before s after cut =
     let there = symbol_there before s after in
@@ -143,17 +143,17 @@ no_text = refl
 null_name : (p : ProgramValue) → name_in (tables_of p).names ≡ Some []
 unfolding no_symbols
 null_name p =
-    let g = grows no_symbols (listed p.symbols) in
+    let g = grows no_symbols (listed_symbols p.symbols) in
     ap (λ (t : tables.TablesValue). name_in t.names) (tables_are p.symbols) ∙ (ap name_in g.names ∙ name_is [] g.more_names no_text refl)
 
-null_place : (bytes : List ℕ) (at : ℕ) → Holds bytes at (zeros 16) → word_at bytes (at + 0) ≡ 0
+null_place : (bytes : List ℕ) (at : ℕ) → HasBytesAt bytes at (zeros 16) → word_at bytes (at + 0) ≡ 0
 unfolding word_at
 null_place bytes at h =
     let same : at + 0 ≡ at = omega arith in
     let whole : drop at bytes ≡ zeros 16 ++ drop 16 (drop at bytes) = sym (take-append-drop 16 (drop at bytes)) ∙ ap (λ xs. xs ++ drop 16 (drop at bytes)) h in
     ap (λ n. little_number 4 (drop n bytes)) same ∙ ap (little_number 4) whole
 
-all_named : (p : ProgramValue) → AreNamed p.symbols → AreNamed (listed p.symbols)
+all_named : (p : ProgramValue) → AreNamed p.symbols → AreNamed (listed_symbols p.symbols)
 all_named p h =
     named_both (local_symbols p.symbols) (filter (λ (s : List ℕ × Symbol). s.1.global) p.symbols)
     (named_filter (λ (s : List ℕ × Symbol). not s.1.global) p.symbols h) (named_filter (λ (s : List ℕ × Symbol). s.1.global) p.symbols h)
@@ -165,56 +165,56 @@ null_step names bytes at count e f =
     ∙ ap (λ o. with_name o (λ name. symbols_from names bytes (added [] name (word_at bytes (at + 4))) (at + 16) count)) f
 
 -- the symbols in the table
-table_read : (p : ProgramValue) (h : HasFields p (file p)) → AreNamed (listed p.symbols) → sections_place p + 280 < 2 ^ 32
-    → symbols_from (tables_of p).names (file p) [] (symbols_place p) (1 + length (listed p.symbols)) ≡ Ok (map given (listed p.symbols))
+table_read : (p : ProgramValue) (h : HasFields p (file p)) → AreNamed (listed_symbols p.symbols) → sections_place p + 280 < 2 ^ 32
+    → symbols_from (tables_of p).names (file p) [] (symbols_place p) (1 + length (listed_symbols p.symbols)) ≡ Ok (map symbol_given (listed_symbols p.symbols))
 table_read p h named small =
-    let one : 1 + length (listed p.symbols) ≡ suc (length (listed p.symbols)) = omega arith in
+    let one : 1 + length (listed_symbols p.symbols) ≡ suc (length (listed_symbols p.symbols)) = omega arith in
     ap (symbols_from (tables_of p).names (file p) [] (symbols_place p)) one
-    ∙ (null_step (tables_of p).names (file p) (symbols_place p) (length (listed p.symbols)) (null_place (file p) (symbols_place p) h.no_symbol) (null_name p)
-    ∙ all_read (tables_of p).names (file p) [] (symbols_place p + 16) (listed p.symbols) (symbol_read p h named small))
+    ∙ (null_step (tables_of p).names (file p) (symbols_place p) (length (listed_symbols p.symbols)) (null_place (file p) (symbols_place p) h.no_symbol) (null_name p)
+    ∙ all_read (tables_of p).names (file p) [] (symbols_place p + 16) (listed_symbols p.symbols) (symbol_read p h named small))
 
 -- the section headers
 symtab_is : (p : ProgramValue) (h : HasFields p (file p)) → sections_place p + 280 < 2 ^ 32
-    → section_at (file p) (sections_place p + 160) ≡ header 2 (symbols_place p) (16 * (1 + length (listed p.symbols))) 5 16
+    → section_at (file p) (sections_place p + 160) ≡ header 2 (symbols_place p) (16 * (1 + length (listed_symbols p.symbols))) 5 16
 symtab_is p h small =
     let o = in_order p in
     let begins : symbols_place p % 2 ^ 32 ≡ symbols_place p = low (symbols_place p) (omega (arith, o.names, o.behind_names, o.end)) in
-    let sized : 16 * (1 + length (listed p.symbols)) % 2 ^ 32 ≡ 16 * (1 + length (listed p.symbols)) = low (16 * (1 + length (listed p.symbols))) (omega (arith, o.names, o.behind_names, o.end)) in
-    section_is (file p) (sections_place p + 160) 18 2 0 0 (symbols_place p % 2 ^ 32) (16 * (1 + length (listed p.symbols)) % 2 ^ 32) 5 ((1 + length (local_symbols p.symbols)) % 2 ^ 32) 4 16 h.sections.symtab
-    ∙ (ap (λ n. header 2 n (16 * (1 + length (listed p.symbols)) % 2 ^ 32) 5 16) begins ∙ ap (λ n. header 2 (symbols_place p) n 5 16) sized)
+    let sized : 16 * (1 + length (listed_symbols p.symbols)) % 2 ^ 32 ≡ 16 * (1 + length (listed_symbols p.symbols)) = low (16 * (1 + length (listed_symbols p.symbols))) (omega (arith, o.names, o.behind_names, o.end)) in
+    section_is (file p) (sections_place p + 160) 18 2 0 0 (symbols_place p % 2 ^ 32) (16 * (1 + length (listed_symbols p.symbols)) % 2 ^ 32) 5 ((1 + length (local_symbols p.symbols)) % 2 ^ 32) 4 16 h.sections.symtab
+    ∙ (ap (λ n. header 2 n (16 * (1 + length (listed_symbols p.symbols)) % 2 ^ 32) 5 16) begins ∙ ap (λ n. header 2 (symbols_place p) n 5 16) sized)
 
 strtab_is : (p : ProgramValue) (h : HasFields p (file p)) → sections_place p + 280 < 2 ^ 32
-    → section_at (file p) (sections_place p + 200) ≡ header 3 (names_place p) (1 + names_size (listed p.symbols)) 0 0
+    → section_at (file p) (sections_place p + 200) ≡ header 3 (names_place p) (1 + names_size (listed_symbols p.symbols)) 0 0
 strtab_is p h small =
     let o = in_order p in
     let begins : names_place p % 2 ^ 32 ≡ names_place p = low (names_place p) (omega (arith, o.behind_names, o.end)) in
-    let sized : (1 + names_size (listed p.symbols)) % 2 ^ 32 ≡ 1 + names_size (listed p.symbols) = low (1 + names_size (listed p.symbols)) (omega (arith, o.behind_names, o.end)) in
-    section_is (file p) (sections_place p + 200) 26 3 0 0 (names_place p % 2 ^ 32) ((1 + names_size (listed p.symbols)) % 2 ^ 32) 0 0 1 0 h.sections.strtab
-    ∙ (ap (λ n. header 3 n ((1 + names_size (listed p.symbols)) % 2 ^ 32) 0 0) begins ∙ ap (λ n. header 3 (names_place p) n 0 0) sized)
+    let sized : (1 + names_size (listed_symbols p.symbols)) % 2 ^ 32 ≡ 1 + names_size (listed_symbols p.symbols) = low (1 + names_size (listed_symbols p.symbols)) (omega (arith, o.behind_names, o.end)) in
+    section_is (file p) (sections_place p + 200) 26 3 0 0 (names_place p % 2 ^ 32) ((1 + names_size (listed_symbols p.symbols)) % 2 ^ 32) 0 0 1 0 h.sections.strtab
+    ∙ (ap (λ n. header 3 n ((1 + names_size (listed_symbols p.symbols)) % 2 ^ 32) 0 0) begins ∙ ap (λ n. header 3 (names_place p) n 0 0) sized)
 
 seven_are : (p : ProgramValue) (h : HasFields p (file p)) → sections_place p + 280 < 2 ^ 32
     → sections_from (file p) (sections_place p) 7
-    ≡ header 0 0 0 0 0 ∷ header 1 4096 (length p.text) 0 0 ∷ header 1 (4096 + data_place p) (length p.bytes) 0 0 ∷ header 8 (data_end p) p.zeros 0 0
-    ∷ header 2 (symbols_place p) (16 * (1 + length (listed p.symbols))) 5 16 ∷ header 3 (names_place p) (1 + names_size (listed p.symbols)) 0 0 ∷ header 3 (section_names_place p % 2 ^ 32) 44 0 0 ∷ []
+    ≡ header 0 0 0 0 0 ∷ header 1 4096 (length p.text) 0 0 ∷ header 1 (4096 + data_place p) (length p.bytes) 0 0 ∷ header 8 (end_of_data p) p.zeros 0 0
+    ∷ header 2 (symbols_place p) (16 * (1 + length (listed_symbols p.symbols))) 5 16 ∷ header 3 (names_place p) (1 + names_size (listed_symbols p.symbols)) 0 0 ∷ header 3 (section_names_place p % 2 ^ 32) 44 0 0 ∷ []
 seven_are p h small =
     seven (file p) (sections_place p) _ _ _ _ _ _ _
     (section_is (file p) (sections_place p) 0 0 0 0 0 0 0 0 0 0 h.sections.none)
     (section_is (file p) (sections_place p + 40) 1 1 6 0x10000 4096 (length p.text) 0 0 4 0 h.sections.text_section)
     (section_is (file p) (sections_place p + 80) 7 1 3 (0x10000 + data_place p) (4096 + data_place p) (length p.bytes) 0 0 4 0 h.sections.data_section)
-    (section_is (file p) (sections_place p + 120) 13 8 3 (0x10000 + round_up (data_place p + length p.bytes) 4) (data_end p) p.zeros 0 0 4 0 h.sections.bss)
+    (section_is (file p) (sections_place p + 120) 13 8 3 (0x10000 + round_up (data_place p + length p.bytes) 4) (end_of_data p) p.zeros 0 0 4 0 h.sections.bss)
     (symtab_is p h small)
     (strtab_is p h small)
     (section_is (file p) (sections_place p + 240) 34 3 0 0 (section_names_place p % 2 ^ 32) 44 0 0 1 0 h.sections.shstrtab)
 
-in_file : (p : ProgramValue) (h : HasFields p (file p)) → Bounds p → AreNamed (listed p.symbols) → sections_place p + 280 < 2 ^ 32
-    → symbols_in (file p) (sections_from (file p) (sections_place p) 7) ≡ Ok (map given (listed p.symbols))
+in_file : (p : ProgramValue) (h : HasFields p (file p)) → Bounds p → AreNamed (listed_symbols p.symbols) → sections_place p + 280 < 2 ^ 32
+    → symbols_in (file p) (sections_from (file p) (sections_place p) 7) ≡ Ok (map symbol_given (listed_symbols p.symbols))
 in_file p h b named small =
     let o = in_order p in
     let long = h.ends in
     ap (symbols_in (file p)) (seven_are p h small)
-    ∙ (in_seven (file p) 4096 (length p.text) (4096 + data_place p) (length p.bytes) (data_end p) p.zeros (symbols_place p) (1 + length (listed p.symbols)) (names_place p) (1 + names_size (listed p.symbols)) (section_names_place p % 2 ^ 32)
+    ∙ (in_seven (file p) 4096 (length p.text) (4096 + data_place p) (length p.bytes) (end_of_data p) p.zeros (symbols_place p) (1 + length (listed_symbols p.symbols)) (names_place p) (1 + names_size (listed_symbols p.symbols)) (section_names_place p % 2 ^ 32)
     (omega (arith, o.names, o.behind_names, o.end, long)) (omega (arith, o.behind_names, o.end, long))
-    ∙ (ap (λ names. symbols_from names (file p) [] (symbols_place p) (1 + length (listed p.symbols))) (names_read p b)
+    ∙ (ap (λ names. symbols_from names (file p) [] (symbols_place p) (1 + length (listed_symbols p.symbols))) (names_read p b)
     ∙ table_read p h named small))
 
 not_none : (n : ℕ) → 0 < n → (n == 0) ≡ false

@@ -11,7 +11,7 @@ use Rattle.elf_read.specs.Name.{name_in, text_before}
 use Rattle.elf_read.specs.Symbol.{SymbolValue}
 use Rattle.elf_read.specs.SymbolTable.{Symbols, symbols_from, with_name, added}
 use Rattle.elf_read.specs.Number.{word_at}
-use Rattle.elf_laws.specs.Given.{IsName, AreNamed, given}
+use Rattle.elf_laws.specs.Given.{IsName, AreNamed, symbol_given}
 
 both_true : (a b : Bool) → (a && b) ≡ true → (a ≡ true) × (b ≡ true)
 both_true true b e = (refl, e)
@@ -81,7 +81,7 @@ goods ss = Ok ss
 -- symbols behind others, each 16 bytes behind the one before
 pub all_read : (names bytes : List ℕ) (done : List SymbolValue) (place : ℕ) (ss : SymbolList)
     → ((before : SymbolList) (s : List ℕ × Symbol) (after : SymbolList) → ss ≡ before ++ s ∷ after → IsRead names bytes (place + 16 * length before) s)
-    → symbols_from names bytes done place (length ss) ≡ Ok (done ++ map given ss)
+    → symbols_from names bytes done place (length ss) ≡ Ok (done ++ map symbol_given ss)
 unfolding symbols_from
 all_read names bytes done place [] h = ap goods (sym (append-nil done))
 all_read names bytes done place (s ∷ ss) h =
@@ -89,8 +89,8 @@ all_read names bytes done place (s ∷ ss) h =
     let here : IsRead names bytes place s = subst (λ n. IsRead names bytes n s) (no_way place) r in
     ap (λ o. with_name o (λ name. symbols_from names bytes (added done name (word_at bytes (place + 4))) (place + 16) (length ss))) here.name
     ∙ (ap (λ xs. symbols_from names bytes xs (place + 16) (length ss)) (ap (added done s.0) here.address ∙ add_one done s.0 s.1.address here.some)
-    ∙ (all_read names bytes (done ++ given s ∷ []) (place + 16) ss (λ before t after cut. subst (λ n. IsRead names bytes n t) (further place (length before)) (h (s ∷ before) t after (ap (λ xs. s ∷ xs) cut)))
-    ∙ ap goods (append_assoc done (given s ∷ []) (map given ss))))
+    ∙ (all_read names bytes (done ++ symbol_given s ∷ []) (place + 16) ss (λ before t after cut. subst (λ n. IsRead names bytes n t) (further place (length before)) (h (s ∷ before) t after (ap (λ xs. s ∷ xs) cut)))
+    ∙ ap goods (append_assoc done (symbol_given s ∷ []) (map symbol_given ss))))
   where
     no_way : (n : ℕ) → n + 0 ≡ n
     no_way n = omega arith

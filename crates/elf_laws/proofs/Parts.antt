@@ -3,22 +3,22 @@ use Rattle.std.proofs.Common.{◌≡◌, ℕ, ◌+◌, ◌-◌, ◌*◌, ◌%◌
 use Rattle.std.specs.Prelude.{◌==◌}
 use Rattle.std.proofs.lemmas.Bool.{cases_Bool}
 use Rattle.std.proofs.Math.ListN.{length-replicate}
-use Rattle.asm_parse.specs.declared.statement.Section.{Section}
-use Rattle.asm_parse.specs.declared.statement.Section.TheVariants as section
+use Rattle.asm_statement.specs.declared.statement.Section.{Section}
+use Rattle.asm_statement.specs.declared.statement.Section.TheVariants as section
 use Rattle.asm_assemble.specs.Program.{ProgramValue, round_up}
 use Rattle.elf_write.specs.Field.{zero_bytes}
 use Rattle.elf_write.specs.File.{file, file_with, content}
 use Rattle.elf_write.specs.Layout.{data_distance, data_size, header_count}
 use Rattle.elf_write.specs.Section as sections
 use Rattle.elf_write.specs.Section.{tables_of, symbols_at, names_at, section_names_at, sections_at, section_fields, joined_tables, table_bytes, text_section, data_section, zeros_section, symbols_section, names_section, section_names_section, own_sections, table_sections}
-use Rattle.elf_write.specs.Segment.{load_fields, text_header, data_header, file_header, front}
+use Rattle.elf_write.specs.Segment.{load_fields, text_header, data_header, file_header, front_segment}
 use Rattle.elf_write.specs.Table as tables
 use Rattle.elf_write.specs.Table.{symbol_fields, no_symbols, with_symbols}
 use Rattle.elf_write.specs.declared.field.Field.{Field}
 use Rattle.elf_write.specs.declared.field.Field.TheVariants.{Byte, Half, Word}
 use Rattle.elf_write.proofs.LayoutLemmas.{Bounds, few_headers}
 use Rattle.elf_write.proofs.ReadLemmas.{front_length}
-use Rattle.elf_laws.specs.Fields.{AllStand, data_place, memory_size, symbols_place, listed, names_size, names_place, section_names_place, sections_place, program_headers, file_rows, text_rows, data_rows}
+use Rattle.elf_laws.specs.Fields.{AllStand, data_place, memory_size, symbols_place, listed_symbols, names_size, names_place, section_names_place, sections_place, program_headers, file_rows, text_rows, data_rows}
 use Rattle.elf_laws.proofs.At.{At, all_at, left_at, right_at, AllFit, rows_of, header_stands, maybe_stands}
 use Rattle.elf_laws.proofs.Tables.{tables_are, entries_long, names_long}
 
@@ -36,16 +36,16 @@ symbols_are p = refl
 pub names_are : (p : ProgramValue) → names_at p ≡ names_place p
 unfolding names_at no_symbols zero_bytes
 names_are p =
-    let e : length (tables_of p).entries ≡ 16 + 16 * length (listed p.symbols) =
-    ap (λ (t : tables.TablesValue). length t.entries) (tables_are p.symbols) ∙ entries_long no_symbols (listed p.symbols) in
+    let e : length (tables_of p).entries ≡ 16 + 16 * length (listed_symbols p.symbols) =
+    ap (λ (t : tables.TablesValue). length t.entries) (tables_are p.symbols) ∙ entries_long no_symbols (listed_symbols p.symbols) in
     let s = symbols_are p in
     omega (arith, e, s)
 
 pub section_names_are : (p : ProgramValue) → section_names_at p ≡ section_names_place p
 unfolding section_names_at no_symbols
 section_names_are p =
-    let e : length (tables_of p).names ≡ 1 + names_size (listed p.symbols) =
-    ap (λ (t : tables.TablesValue). length t.names) (tables_are p.symbols) ∙ names_long no_symbols (listed p.symbols) in
+    let e : length (tables_of p).names ≡ 1 + names_size (listed_symbols p.symbols) =
+    ap (λ (t : tables.TablesValue). length t.names) (tables_are p.symbols) ∙ names_long no_symbols (listed_symbols p.symbols) in
     let n = names_are p in
     omega (arith, e, n)
 
@@ -107,7 +107,7 @@ abbrev pub tail_of : ProgramValue → List ℕ
 tail_of p = table_bytes p ++ (own_sections p ++ table_sections p)
 
 abbrev pub written_front : ProgramValue → List ℕ
-written_front p = front p (sections_at p % 2 ^ 32)
+written_front p = front_segment p (sections_at p % 2 ^ 32)
 
 pub file_parts : (p : ProgramValue) → At (file p) 0 (written_front p ++ (content p ++ tail_of p))
 unfolding file file_with

@@ -4,22 +4,22 @@ use Rattle.std.specs.Prelude.{IfOk, ◌==◌, ◌&&◌}
 use Rattle.std.specs.List.{list_all}
 use Rattle.std.specs.Char.{is_ascii_digit}
 use Rattle.asm_lex.specs.Lexemes.{Lexeme, Word, Number, Colon, lexed}
-use Rattle.asm_parse.specs.declared.fault.FaultKind.{FaultKind}
-use Rattle.asm_parse.specs.declared.fault.FaultKind.TheVariants as faults
-use Rattle.asm_parse.specs.declared.heads.Head.{Head}
-use Rattle.asm_parse.specs.declared.heads.Head.TheVariants as heads
-use Rattle.asm_parse.specs.declared.statement.Body.TheVariants as bodies
-use Rattle.asm_parse.specs.declared.statement.Directive.TheVariants as directives
-use Rattle.asm_parse.specs.declared.statement.Instruction.{Instruction}
-use Rattle.asm_parse.specs.declared.statement.Pseudo.{Pseudo}
-use Rattle.asm_parse.specs.declared.statement.Section.{Section}
-use Rattle.asm_parse.specs.declared.statement.Section.TheVariants as sections
-use Rattle.asm_parse.specs.Directives.{directive}
-use Rattle.asm_parse.specs.Heads.{head_of}
-use Rattle.asm_parse.specs.Operations.{◌>>-◌, instruction}
-use Rattle.asm_parse.specs.Statement.{StatementValue, BodyValue, DirectiveValue}
-use Rattle.asm_parse.specs.Statements.{as_pseudo, as_instruction, as_directive, headed, load_number, load_address, call, tail, is_bytes, is_zeros, allowed, by_head, body, label_of, lines_ended}
-use Rattle.asm_laws.specs.Reads.{Part, AreParts, behind_label, labelled, with_body, said, section_after, on_line, PartsSay, SourceSays, beginning, TextsSay}
+use Rattle.asm_statement.specs.declared.fault.FaultKind.{FaultKind}
+use Rattle.asm_statement.specs.declared.fault.FaultKind.TheVariants as faults
+use Rattle.asm_statement.specs.declared.heads.Head.{Head}
+use Rattle.asm_statement.specs.declared.heads.Head.TheVariants as heads
+use Rattle.asm_statement.specs.declared.statement.Body.TheVariants as bodies
+use Rattle.asm_statement.specs.declared.statement.Directive.TheVariants as directives
+use Rattle.asm_statement.specs.declared.statement.Instruction.{Instruction}
+use Rattle.asm_statement.specs.declared.statement.Pseudo.{Pseudo}
+use Rattle.asm_statement.specs.declared.statement.Section.{Section}
+use Rattle.asm_statement.specs.declared.statement.Section.TheVariants as sections
+use Rattle.asm_statement.specs.Directives.{directive}
+use Rattle.asm_statement.specs.Heads.{head_of}
+use Rattle.asm_statement.specs.Operations.{◌>>-◌, instruction}
+use Rattle.asm_statement.specs.Statement.{StatementValue, BodyValue, DirectiveValue}
+use Rattle.asm_statement.specs.Statements.{as_pseudo, as_instruction, as_directive, headed, load_number, load_address, call, tail, is_bytes, is_zeros, allowed_in_section, by_head, body, label_of, lines_ended}
+use Rattle.asm_laws.specs.Reads.{Part, AreParts, behind_label, labelled, with_body, said_by_part, section_after, on_line, PartsSay, SourceSays, beginning, TextsSay}
 use Rattle.elf_laws.specs.Labels.{IsWord}
 use Rattle.elf_laws.proofs.Each.{Each, each_both, each_cut, at_ok}
 use Rattle.elf_laws.proofs.Lexemes.{IsNamed, text_named}
@@ -87,11 +87,11 @@ chosen : (test : Bool) (r s : Result (Option BodyValue) FaultKind) → Nameless 
 chosen true r s h g = h
 chosen false r s h g = g
 
-allowed_named : (section : Section) (o : Option BodyValue) → IfSome o HasName → Nameless (allowed section o)
+allowed_named : (section : Section) (o : Option BodyValue) → IfSome o HasName → Nameless (allowed_in_section section o)
 allowed_named section None h = tt
 allowed_named section (Some b) h = chosen (is_zeros section && is_bytes b) (Err faults.Directive) (Ok (Some b)) tt h
 
-then_named : (section : Section) (r : Result (Option BodyValue) FaultKind) → Nameless r → Nameless (r >>- allowed section)
+then_named : (section : Section) (r : Result (Option BodyValue) FaultKind) → Nameless r → Nameless (r >>- allowed_in_section section)
 then_named section (Ok o) h = allowed_named section o h
 then_named section (Err f) h = tt
 
@@ -111,7 +111,7 @@ with_body_named labels (Ok None) h g = h
 with_body_named labels (Ok (Some b)) h g = each_both HasName labels (b ∷ []) h (g, tt)
 with_body_named labels (Err kind) h g = tt
 
-said_named : (section : Section) (p : Part) → Each IsNamed p.lexemes → IfOk (said section p) (Each HasName)
+said_named : (section : Section) (p : Part) → Each IsNamed p.lexemes → IfOk (said_by_part section p) (Each HasName)
 said_named section p h =
     with_body_named (labelled p.lexemes).0 (body section (labelled p.lexemes).1) (labels_named p.lexemes h) (body_named section (labelled p.lexemes).1)
 
@@ -132,7 +132,7 @@ cut_named line ls (p ∷ q ∷ ps) h g =
 parts_named : (source : ℕ) (section : Section) (ps : List Part) (ss : List StatementValue) → Each IsNamedPart ps → PartsSay source section ps ss → Each SaysName ss
 parts_named source section [] ss h e = subst (Each SaysName) (sym e) tt
 parts_named source section (p ∷ ps) ss h e =
-    let here : Each HasName e.0 = at_ok (Each HasName) (said section p) e.0 e.2 (said_named section p h.0) in
+    let here : Each HasName e.0 = at_ok (Each HasName) (said_by_part section p) e.0 e.2 (said_named section p h.0) in
     subst (Each SaysName) (sym e.3)
     (each_both SaysName (on_line source p.line e.0) e.1 (line_named source p.line e.0 here) (parts_named source (section_after section e.0) ps e.1 h.1 e.4))
 

@@ -7,12 +7,12 @@ use Rattle.std.proofs.lemmas.Bool.Decides.{nat_tests}
 use Rattle.std.proofs.lemmas.Str.{IsUtf8-from_ascii, is_utf8-from_IsUtf8}
 use Rattle.std.proofs.lemmas.Str.Ascii.{IsAscii-nil, IsAscii-cons}
 use Rattle.asm_lex.specs.Bytes.{is_name_byte}
-use Rattle.asm_parse.specs.Statement.{StatementValue, BodyValue}
-use Rattle.asm_parse.specs.Statements.{statements_of}
-use Rattle.asm_parse.specs.declared.statement.Body.TheVariants as bodies
-use Rattle.asm_parse.specs.declared.statement.Section.{Section}
+use Rattle.asm_statement.specs.Statement.{StatementValue, BodyValue}
+use Rattle.asm_statement.specs.Statements.{statements_of}
+use Rattle.asm_statement.specs.declared.statement.Body.TheVariants as bodies
+use Rattle.asm_statement.specs.declared.statement.Section.{Section}
 use Rattle.asm_assemble.specs.Assembled.{assembled}
-use Rattle.asm_assemble.specs.Placed.{Standing, Placed, symbol_at, symbols_in}
+use Rattle.asm_assemble.specs.Placed.{Standing, Placed, symbol_at, placed_symbols_in}
 use Rattle.asm_assemble.specs.Program.{ProgramValue, SymbolList}
 use Rattle.asm_assemble.specs.Sources.{assembled_texts}
 use Rattle.asm_assemble.specs.declared.program.Symbol.{Symbol}
@@ -73,8 +73,8 @@ one_own all section at (bodies.Instruction i) rest h more = more
 one_own all section at (bodies.Pseudo p) rest h more = more
 one_own all section at (bodies.Directive d) rest h more = more
 
-all_own : (all ss : List Standing) → Each SaysName (map (λ (s : Standing). s.statement) ss) → Each IsOwn (symbols_in all ss)
-unfolding symbols_in
+all_own : (all ss : List Standing) → Each SaysName (map (λ (s : Standing). s.statement) ss) → Each IsOwn (placed_symbols_in all ss)
+unfolding placed_symbols_in
 all_own all [] h = tt
 all_own all (s ∷ ss) h = one_own all s.section s.address s.statement.body _ h.0 (all_own all ss h.1)
 

@@ -6,7 +6,7 @@ use Rattle.asm_assemble.specs.Program.{SymbolList}
 use Rattle.asm_assemble.specs.declared.program.Symbol.{Symbol}
 use Rattle.elf_write.specs.Field.{bytes_of_all}
 use Rattle.elf_write.specs.Table.{TablesValue, symbol_fields, no_symbols, with_symbol, with_symbols, symbol_tables}
-use Rattle.elf_laws.specs.Fields.{listed, local_symbols, names_size}
+use Rattle.elf_laws.specs.Fields.{listed_symbols, local_symbols, names_size}
 
 abbrev Entry : Type 0
 Entry = List ℕ × Symbol
@@ -16,7 +16,7 @@ with_both t [] ys = refl
 with_both t (x ∷ xs) ys = with_both (with_symbol t x) xs ys
 
 -- the tables of a program's symbols are those of the listed symbols, one by one
-pub tables_are : (ss : SymbolList) → symbol_tables ss ≡ with_symbols no_symbols (listed ss)
+pub tables_are : (ss : SymbolList) → symbol_tables ss ≡ with_symbols no_symbols (listed_symbols ss)
 unfolding symbol_tables
 tables_are ss = sym (with_both no_symbols (local_symbols ss) (filter (λ (s : Entry). s.1.global) ss))
 

@@ -6,7 +6,7 @@ use Rattle.asm_assemble.specs.Program.{ProgramValue, SymbolList}
 use Rattle.asm_assemble.specs.declared.program.Symbol.{Symbol}
 use Rattle.elf_read.specs.Symbol.{SymbolValue}
 use Rattle.elf_read.specs.SymbolTable.{symbols_of}
-use Rattle.elf_laws.specs.Fields.{listed, memory_size, sections_place}
+use Rattle.elf_laws.specs.Fields.{listed_symbols, memory_size, sections_place}
 
 -- a name that a table of names holds: text, not empty, and with no zero byte in it
 pub record IsName (name : List ℕ) : Type 0 where
@@ -20,12 +20,12 @@ AreNamed [] = Unit {0}
 AreNamed (s ∷ ss) = IsName s.0 × (s.1.address < 2 ^ 32) × AreNamed ss
 
 -- a symbol as a file gives it
-abbrev pub given : (List ℕ × Symbol) → SymbolValue
-given s = record { name = s.0; address = s.1.address }
+abbrev pub symbol_given : (List ℕ × Symbol) → SymbolValue
+symbol_given s = record { name = s.0; address = s.1.address }
 
 -- of a program within the limit, with such symbols, the file gives all of them, first those that other files do not see, where it
 -- has fewer than 2^32 bytes
 abbrev pub SymbolsComeBack : (ProgramValue → List ℕ) → Type 0
 SymbolsComeBack file =
     (p : ProgramValue) → length p.text + memory_size p ≤ 2 ^ 24 → p.entry < 2 ^ 32 → AreNamed p.symbols
-    → sections_place p + 280 < 2 ^ 32 → symbols_of (file p) ≡ Ok (map given (listed p.symbols))
+    → sections_place p + 280 < 2 ^ 32 → symbols_of (file p) ≡ Ok (map symbol_given (listed_symbols p.symbols))

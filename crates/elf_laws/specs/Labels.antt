@@ -5,8 +5,8 @@ use Rattle.asm_lex.specs.Bytes.{is_digit, is_name_byte}
 use Rattle.asm_assemble.specs.Program.{ProgramValue, SymbolList}
 use Rattle.asm_assemble.specs.Sources.{assembled_texts}
 use Rattle.elf_read.specs.SymbolTable.{symbols_of}
-use Rattle.elf_laws.specs.Fields.{listed, memory_size}
-use Rattle.elf_laws.specs.Given.{AreNamed, given}
+use Rattle.elf_laws.specs.Fields.{listed_symbols, memory_size}
+use Rattle.elf_laws.specs.Given.{AreNamed, symbol_given}
 
 -- a name as a text has it: ASCII letters, digits, `_`, `.` and `$`, at least one, the first no digit
 pub record IsWord (name : List ℕ) : Type 0 where
@@ -36,4 +36,4 @@ LabelsAreNames = (texts : List (List ℕ)) (p : ProgramValue) → assembled_text
 abbrev pub TextsSymbolsComeBack : (ProgramValue → List ℕ) → Type 0
 TextsSymbolsComeBack file =
     (texts : List (List ℕ)) (p : ProgramValue) → assembled_texts texts ≡ Ok p → length (file p) < 2 ^ 32
-    → symbols_of (file p) ≡ Ok (map given (listed p.symbols))
+    → symbols_of (file p) ≡ Ok (map symbol_given (listed_symbols p.symbols))

@@ -12,7 +12,7 @@ use Rattle.image.specs.declared.span.Span.{Span}
 use Rattle.image.specs.Fault.{first_fault}
 use Rattle.elf_read.specs.File.{headers_fault, segment_of, byte_at, file_byte}
 use Rattle.image.specs.Image.{span_of, is_mapped, IsSound, HaveLowRights}
-use Rattle.elf_read.specs.ProgramHeader.{is_load, is_dynamic, is_outside, is_kept, header_span}
+use Rattle.elf_read.specs.ProgramHeader.{is_load, is_dynamic, is_outside, is_loaded_segment, header_span}
 use Rattle.image.specs.Spans.{is_filled, space_fault}
 use Rattle.image.proofs.RightsLemmas.{low}
 use Rattle.image.proofs.Sound.{sound_from, passed}
@@ -23,25 +23,25 @@ given bytes h load inside =
     let a = length-drop {A = ℕ} in
     grind (arith, nat_tests, common_steps)
 
-kept_spans : (bytes : List ℕ) (hs : List ProgramHeader) → list_any (is_outside (length bytes)) hs ≡ false → map span_of (map (segment_of bytes) (filter is_kept hs)) ≡ filter is_filled (map header_span (filter is_load hs))
+kept_spans : (bytes : List ℕ) (hs : List ProgramHeader) → list_any (is_outside (length bytes)) hs ≡ false → map span_of (map (segment_of bytes) (filter is_loaded_segment hs)) ≡ filter is_filled (map header_span (filter is_load hs))
 kept_spans bytes [] e = refl
 kept_spans bytes (h ∷ hs) e = elim (cases_Bool (is_outside (length bytes) h)) [
   | inl out ↦ (let no : list_any (is_outside (length bytes)) (h ∷ hs) ≡ true = rw out refl in cc)
-  | inr inside ↦ (let rest : map span_of (map (segment_of bytes) (filter is_kept hs)) ≡ filter is_filled (map header_span (filter is_load hs)) = kept_spans bytes hs (rw inside at e) in
+  | inr inside ↦ (let rest : map span_of (map (segment_of bytes) (filter is_loaded_segment hs)) ≡ filter is_filled (map header_span (filter is_load hs)) = kept_spans bytes hs (rw inside at e) in
       elim (cases_Bool (is_load h)) [
         | inl load ↦ (elim (cases_Bool (is_filled (header_span h))) [
-          | inl full ↦ (let keep : is_kept h ≡ true = rw (load, full) refl in
+          | inl full ↦ (let keep : is_loaded_segment h ≡ true = rw (load, full) refl in
               rw (keep, load) (rw full (rw (rest, given bytes h load inside) refl)))
-          | inr empty ↦ (let drop : is_kept h ≡ false = rw (load, empty) refl in
+          | inr empty ↦ (let drop : is_loaded_segment h ≡ false = rw (load, empty) refl in
               rw (drop, load) (rw empty rest))
         ])
-        | inr other ↦ (let drop : is_kept h ≡ false = rw other refl in rw (drop, other) rest)
+        | inr other ↦ (let drop : is_loaded_segment h ≡ false = rw other refl in rw (drop, other) rest)
       ])
 ]
 
-kept_mapped : (bytes : List ℕ) (hs : List ProgramHeader) → list_all is_mapped (map (segment_of bytes) (filter is_kept hs)) ≡ true
+kept_mapped : (bytes : List ℕ) (hs : List ProgramHeader) → list_all is_mapped (map (segment_of bytes) (filter is_loaded_segment hs)) ≡ true
 kept_mapped bytes [] = refl
-kept_mapped bytes (h ∷ hs) = elim (cases_Bool (is_kept h)) [
+kept_mapped bytes (h ∷ hs) = elim (cases_Bool (is_loaded_segment h)) [
   | inl keep ↦ rw keep (let full : is_mapped (segment_of bytes h) ≡ true = grind (arith, nat_tests) in rw (full, kept_mapped bytes hs) refl)
   | inr drop ↦ rw drop (kept_mapped bytes hs)
 ]
@@ -51,14 +51,14 @@ none_first (Some fault) b e = cc
 none_first None b e = (refl, e)
 
 -- segments and entry of a file whose program headers pass all checks are sound
-pub file_is_sound : (bytes : List ℕ) (entry : ℕ) (hs : List ProgramHeader) → headers_fault (length bytes) entry hs ≡ None → IsSound entry (map (segment_of bytes) (filter is_kept hs))
+pub file_is_sound : (bytes : List ℕ) (entry : ℕ) (hs : List ProgramHeader) → headers_fault (length bytes) entry hs ≡ None → IsSound entry (map (segment_of bytes) (filter is_loaded_segment hs))
 unfolding headers_fault
 file_is_sound bytes entry hs pass =
     let a = passed (list_any (is_outside (length bytes)) hs) _ _ pass in
     let b = none_first (space_fault (map header_span (filter is_load hs))) _ a.1 in
     let c = passed (list_any is_dynamic hs) _ _ b.1 in
     let d = passed (not (eqb (entry % 4) 0)) _ _ c.1 in
-    sound_from entry (map (segment_of bytes) (filter is_kept hs)) (map header_span (filter is_load hs)) (kept_mapped bytes hs) (kept_spans bytes hs a.0) b.0 (grind (arith, nat_tests))
+    sound_from entry (map (segment_of bytes) (filter is_loaded_segment hs)) (map header_span (filter is_load hs)) (kept_mapped bytes hs) (kept_spans bytes hs a.0) b.0 (grind (arith, nat_tests))
 
 -- a file's segments have only the low three bits of rights
 pub files_have_low : (bytes : List ℕ) (hs : List ProgramHeader) → HaveLowRights (map (segment_of bytes) hs)

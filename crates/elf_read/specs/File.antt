@@ -5,7 +5,7 @@ use Rattle.image.specs.Fault.{fault_if, first_fault}
 use Rattle.elf_read.specs.Header.{header_fault}
 use Rattle.image.specs.Image.{ImageValue, fault_or}
 use Rattle.elf_read.specs.Number.{word_at, half_at}
-use Rattle.elf_read.specs.ProgramHeader.{program_headers_from, is_load, is_dynamic, is_outside, is_kept, header_span}
+use Rattle.elf_read.specs.ProgramHeader.{program_headers_from, is_load, is_dynamic, is_outside, is_loaded_segment, header_span}
 use Rattle.image.specs.Segment.{SegmentValue}
 use Rattle.image.specs.Spans.{space_fault}
 use Rattle.elf_read.specs.Codes.{E_ENTRY, E_PHOFF, E_PHNUM, PROGRAM_HEADER_SIZE}
@@ -53,12 +53,12 @@ segment_of bytes h = record {
 unfoldable pub file_image : List ℕ → ImageValue
 file_image bytes = record {
   entry = word_at bytes E_ENTRY;
-  segments = map (segment_of bytes) (filter is_kept (program_headers_of bytes));
+  segments = map (segment_of bytes) (filter is_loaded_segment (program_headers_of bytes));
 }
 
 -- the first check that a file fails, else its image
-unfoldable pub loaded : List ℕ → Result ImageValue ElfFault
-loaded bytes = fault_or (elf_fault bytes) (file_image bytes)
+unfoldable pub loaded_image : List ℕ → Result ImageValue ElfFault
+loaded_image bytes = fault_or (elf_fault bytes) (file_image bytes)
 
 -- the byte of a segment at an address: 0 past its file bytes
 abbrev pub byte_at : SegmentValue → ℕ → ℕ

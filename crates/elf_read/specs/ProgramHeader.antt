@@ -35,8 +35,8 @@ abbrev pub is_outside : ℕ → ProgramHeader → Bool
 is_outside n h = is_load h && nat_lt 0 h.file_size && nat_lt n (h.offset + h.file_size)
 
 -- whether a header gives the image a segment
-abbrev pub is_kept : ProgramHeader → Bool
-is_kept h = is_load h && nat_lt 0 h.memory_size
+abbrev pub is_loaded_segment : ProgramHeader → Bool
+is_loaded_segment h = is_load h && nat_lt 0 h.memory_size
 
 -- the span of a header's segment, for the checks of places
 abbrev pub header_span : ProgramHeader → Span

@@ -25,9 +25,9 @@ abbrev pub is_symbol_table : SectionHeader → Bool
 is_symbol_table s = s.kind == SHT_SYMTAB
 
 -- whether a section lies past the end of a file of this many bytes
-abbrev pub is_past_end : ℕ → SectionHeader → Bool
-is_past_end n s = nat_lt n (s.offset + s.size)
+abbrev pub ends_behind_file : ℕ → SectionHeader → Bool
+ends_behind_file n s = nat_lt n (s.offset + s.size)
 
 -- the bytes of a section
-abbrev pub bytes_of : List ℕ → SectionHeader → List ℕ
-bytes_of bytes s = take s.size (drop s.offset bytes)
+abbrev pub section_bytes : List ℕ → SectionHeader → List ℕ
+section_bytes bytes s = take s.size (drop s.offset bytes)

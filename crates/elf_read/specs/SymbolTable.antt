@@ -3,7 +3,7 @@ use Rattle.std.specs.Prelude.{◌≡◌, ℕ, zero, suc, ◌+◌, ◌*◌, ◌/�
 use Rattle.std.specs.List.{find, slice_get}
 use Rattle.elf_read.specs.Name.{name_in}
 use Rattle.elf_read.specs.Number.{word_at, half_at}
-use Rattle.elf_read.specs.Section.{sections_from, is_symbol_table, is_past_end, bytes_of}
+use Rattle.elf_read.specs.Section.{sections_from, is_symbol_table, ends_behind_file, section_bytes}
 use Rattle.elf_read.specs.Symbol.{SymbolValue}
 use Rattle.elf_read.specs.Codes.{E_SHOFF, E_SHNUM, E_SHENTSIZE, HEADER_SIZE, SECTION_HEADER_SIZE, SYMBOL_SIZE, SHT_STRTAB, ST_NAME, ST_VALUE}
 use Rattle.elf_read.specs.declared.section.SectionHeader.{SectionHeader}
@@ -39,14 +39,14 @@ symbols_from names bytes done place (suc n) =
 -- whether a symbol table's sizes are invalid, or it lies past the end of a file of n bytes
 abbrev pub is_bad_table : ℕ → SectionHeader → Bool
 is_bad_table n table =
-    not (table.entry_size == SYMBOL_SIZE) || not (table.size % SYMBOL_SIZE == 0) || is_past_end n table
+    not (table.entry_size == SYMBOL_SIZE) || not (table.size % SYMBOL_SIZE == 0) || ends_behind_file n table
 
 -- the symbols of a table whose names are in the section that it links to
 abbrev pub symbols_named : List ℕ → SectionHeader → Option SectionHeader → Symbols
 symbols_named bytes table None = Err faults.BadTable
 symbols_named bytes table (Some names) =
-    refused_if (not (names.kind == SHT_STRTAB) || is_past_end (length bytes) names) faults.BadTable
-    (symbols_from (bytes_of bytes names) bytes [] table.offset (table.size / SYMBOL_SIZE))
+    refused_if (not (names.kind == SHT_STRTAB) || ends_behind_file (length bytes) names) faults.BadTable
+    (symbols_from (section_bytes bytes names) bytes [] table.offset (table.size / SYMBOL_SIZE))
 
 -- the symbols of a symbol table, if there is one
 abbrev pub symbols_of_table : List ℕ → List SectionHeader → Option SectionHeader → Symbols

@@ -1,10 +1,10 @@
 //! ELF files as images.
 ghost use Rattle.std.specs.Prelude.{◌≡◌, ◌+◌, ◌*◌, ◌<◌, ◌≤◌, ℕ, List, length, map, filter, IfOk};
 ghost use Rattle.std.specs.Bool.{OnFalse};
-ghost use Rattle.elf_read.specs.File.{loaded, headers_fault, is_table_outside, segment_of, byte_at, file_byte};
+ghost use Rattle.elf_read.specs.File.{loaded_image, headers_fault, is_table_outside, segment_of, byte_at, file_byte};
 ghost use Rattle.image.specs.Image.{Gives};
 ghost use Rattle.elf_read.specs.Number.{word_at, half_at};
-ghost use Rattle.elf_read.specs.ProgramHeader.{is_kept};
+ghost use Rattle.elf_read.specs.ProgramHeader.{is_loaded_segment};
 ghost use Rattle.elf_read.specs.Codes.{E_PHOFF, E_PHNUM, HEADER_SIZE, PROGRAM_HEADER_SIZE};
 ghost use Rattle.elf_read.specs.declared.program_header.ProgramHeader.{ProgramHeader};
 
@@ -30,9 +30,9 @@ pub fn a_segments_bytes_are_the_files()
 /// Otherwise the fault is the first check that fails, in the order of `ElfFault`; a check runs only
 /// after all before it have passed. Sections are ignored. Segment bytes are copied only after all
 /// checks have passed. System V ELF, "ELF Header", "Program Header".
-#[tactic(auto, using(crate::proofs::FileLemmas::file_is_sound, crate::proofs::FileLemmas::files_have_low), unfolding(crate::specs::File::loaded, crate::specs::File::elf_fault, crate::specs::File::file_image, crate::specs::File::program_headers_of))]
+#[tactic(auto, using(crate::proofs::FileLemmas::file_is_sound, crate::proofs::FileLemmas::files_have_low), unfolding(crate::specs::File::loaded_image, crate::specs::File::elf_fault, crate::specs::File::file_image, crate::specs::File::program_headers_of))]
 pub fn load<A: Allocator + Copy>(alloc: A, bytes: &[u8]) -> Result<Image<A>, ElfFault>
-    ensures { Gives result (loaded bytes.now) }
+    ensures { Gives result (loaded_image bytes.now) }
 {
     if let Some(fault) = check_header(bytes) {
         return Err(fault);
@@ -102,7 +102,7 @@ fn segments_of<A: Allocator + Copy>(
     bytes: &[u8],
     headers: &[ProgramHeader],
 ) -> Result<Vec<Segment<A>, A>, AllocError>
-    ensures { IfOk result (λ v. v.items ≡ map (segment_of bytes.now) (filter is_kept headers.now)) }
+    ensures { IfOk result (λ v. v.items ≡ map (segment_of bytes.now) (filter is_loaded_segment headers.now)) }
 {
     let mut segments = Vec::new(alloc);
     'headers: for header in headers {

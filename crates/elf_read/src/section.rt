@@ -1,7 +1,7 @@
 //! Section headers.
 ghost use Rattle.std.specs.Prelude.{◌≡◌, ◌+◌, ◌*◌, ◌≤◌, length, IfOk};
 ghost use Rattle.std.specs.List.{find, slice_get};
-ghost use Rattle.elf_read.specs.Section.{section_at, sections_from, is_symbol_table, is_past_end, bytes_of};
+ghost use Rattle.elf_read.specs.Section.{section_at, sections_from, is_symbol_table, ends_behind_file, section_bytes};
 
 use crate::elf::{
     SECTION_HEADER_SIZE, SH_ENTSIZE, SH_LINK, SH_OFFSET, SH_SIZE, SH_TYPE, SHT_SYMTAB,
@@ -83,7 +83,7 @@ pub fn section_of_number(sections: &[SectionHeader], number: u32) -> Option<Sect
 
 /// Whether a section lies past the end of a file of `len` bytes.
 pub fn is_past_end(section: SectionHeader, len: usize) -> bool
-    ensures { result ≡ is_past_end len section }
+    ensures { result ≡ ends_behind_file len section }
 {
     section.offset as u64 + section.size as u64 > len as u64
 }
@@ -91,7 +91,7 @@ pub fn is_past_end(section: SectionHeader, len: usize) -> bool
 /// The bytes of a section that ends within the file.
 pub fn bytes_of(bytes: &[u8], section: SectionHeader) -> &[u8]
     requires { section.offset + section.size ≤ length bytes.now }
-    ensures { result.now ≡ bytes_of bytes.now section }
+    ensures { result.now ≡ section_bytes bytes.now section }
 {
     let (_, rest) = bytes.split_at(section.offset as usize);
     let (own, _) = rest.split_at(section.size as usize);

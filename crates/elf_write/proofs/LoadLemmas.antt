@@ -4,13 +4,13 @@ use Rattle.std.proofs.lemmas.Bool.{cases_Bool}
 use Rattle.std.proofs.lemmas.Bool.Decides.{nat_tests}
 use Rattle.elf_read.specs.Number.{word_at}
 use Rattle.image.specs.Fault.{fault_if}
-use Rattle.elf_read.specs.ProgramHeader.{is_kept}
-use Rattle.elf_read.specs.File.{program_headers_of, segment_of, headers_fault, elf_fault, file_image, loaded}
+use Rattle.elf_read.specs.ProgramHeader.{is_loaded_segment}
+use Rattle.elf_read.specs.File.{program_headers_of, segment_of, headers_fault, elf_fault, file_image, loaded_image}
 use Rattle.image.specs.declared.fault.ElfFault.TheVariants as faults
 use Rattle.asm_assemble.specs.Program.{ProgramValue, IsWithinLimit}
 use Rattle.elf_write.specs.Field.{zero_bytes}
 use Rattle.elf_write.specs.Layout.{data_distance, data_size}
-use Rattle.elf_write.specs.Segment.{front}
+use Rattle.elf_write.specs.Segment.{front_segment}
 use Rattle.elf_write.specs.File.{content, file_with, file, program_segments, program_image}
 use Rattle.elf_write.specs.Section.{sections_at, table_bytes, own_sections, table_sections}
 use Rattle.elf_write.proofs.LayoutLemmas.{Bounds, bounds, few_headers}
@@ -20,17 +20,17 @@ pub fault_is : (p : ProgramValue) (sections : ℕ) (back : List ℕ) → Bounds 
 unfolding elf_fault headers_fault plain_file
 fault_is p sections back b fits =
     let rest : List ℕ = p.text ++ (zero_bytes (data_distance p - length p.text) ++ (p.bytes ++ back)) in
-    let long : 4096 + data_distance p + length p.bytes ≤ length (front p sections ++ rest) = unfold plain_file in file_length p sections back b.behind in
+    let long : 4096 + data_distance p + length p.bytes ≤ length (front_segment p sections ++ rest) = unfold plain_file in file_length p sections back b.behind in
     rw (header_passes p sections rest (few_headers p)) (
     rw (table_inside p sections rest) (
     rw (entry_read p sections rest fits) (
     rw (parts_read p sections rest (omega (arith, b.small)) (omega (arith, b.given, b.small)) (omega (arith, b.small)) (omega (arith, b.near))) (
-    rw (none_outside p (length (front p sections ++ rest)) b.behind long) (
+    rw (none_outside p (length (front_segment p sections ++ rest)) b.behind long) (
     rw (space_passes p b) (
     rw (none_dynamic p) refl))))))
 
 pub kept_pieces : (p : ProgramValue) (bytes : List ℕ) → take (length p.text) (drop 4096 bytes) ≡ p.text → take (length p.bytes) (drop (4096 + data_distance p) bytes) ≡ p.bytes
-    → map (segment_of bytes) (filter is_kept (loads_of p)) ≡ program_segments p
+    → map (segment_of bytes) (filter is_loaded_segment (loads_of p)) ≡ program_segments p
 unfolding program_segments
 kept_pieces p bytes text_is data_is = elim (cases_Bool (eqb (length p.text) 0)) [
   | inl no_text ↦ (elim (cases_Bool (eqb (data_size p) 0)) [
@@ -57,8 +57,8 @@ unfolding file_image
 image_is p sections back b fits =
     rw (entry_at p sections back fits, parts_at p sections back b, kept_pieces p (plain_file p sections back) (text_there p sections back) (data_there p sections back b.behind)) refl
 
-plain_loads : (p : ProgramValue) (sections : ℕ) (back : List ℕ) → IsWithinLimit p.text p.bytes p.zeros → p.entry < 2 ^ 32 → loaded (plain_file p sections back) ≡ program_image p
-unfolding loaded program_image
+plain_loads : (p : ProgramValue) (sections : ℕ) (back : List ℕ) → IsWithinLimit p.text p.bytes p.zeros → p.entry < 2 ^ 32 → loaded_image (plain_file p sections back) ≡ program_image p
+unfolding loaded_image program_image
 plain_loads p sections back placed fits =
     let b = bounds p placed in
     rw (fault_is p sections back b fits, image_is p sections back b fits) (elim (cases_Bool (eqb (p.entry % 4) 0)) [ inl e ↦ rw e refl | inr e ↦ rw e refl ])
@@ -67,12 +67,12 @@ same_file : (p : ProgramValue) (sections : ℕ) (back : List ℕ) → file_with 
 unfolding file_with content plain_file
 same_file p sections back =
     let gap : List ℕ = zero_bytes (data_distance p - length p.text) in
-    ap (λ t. front p sections ++ t) (append_assoc p.text (gap ++ p.bytes) back ∙ ap (λ t. p.text ++ t) (append_assoc gap p.bytes back))
+    ap (λ t. front_segment p sections ++ t) (append_assoc p.text (gap ++ p.bytes) back ∙ ap (λ t. p.text ++ t) (append_assoc gap p.bytes back))
 
 -- a written file loads as its program, whatever its sections hold
-pub loads_back : (p : ProgramValue) (sections : ℕ) (back : List ℕ) → IsWithinLimit p.text p.bytes p.zeros → p.entry < 2 ^ 32 → loaded (file_with p sections back) ≡ program_image p
-loads_back p sections back placed fits = ap loaded (same_file p sections back) ∙ plain_loads p sections back placed fits
+pub loads_back : (p : ProgramValue) (sections : ℕ) (back : List ℕ) → IsWithinLimit p.text p.bytes p.zeros → p.entry < 2 ^ 32 → loaded_image (file_with p sections back) ≡ program_image p
+loads_back p sections back placed fits = ap loaded_image (same_file p sections back) ∙ plain_loads p sections back placed fits
 
-pub file_loads : (bytes : List ℕ) (p : ProgramValue) → bytes ≡ file p → IsWithinLimit p.text p.bytes p.zeros → p.entry < 2 ^ 32 → loaded bytes ≡ program_image p
+pub file_loads : (bytes : List ℕ) (p : ProgramValue) → bytes ≡ file p → IsWithinLimit p.text p.bytes p.zeros → p.entry < 2 ^ 32 → loaded_image bytes ≡ program_image p
 unfolding file
-file_loads bytes p is placed fits = ap loaded is ∙ loads_back p (sections_at p % 2 ^ 32) (table_bytes p ++ (own_sections p ++ table_sections p)) placed fits
+file_loads bytes p is placed fits = ap loaded_image is ∙ loads_back p (sections_at p % 2 ^ 32) (table_bytes p ++ (own_sections p ++ table_sections p)) placed fits

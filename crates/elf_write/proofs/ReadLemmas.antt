@@ -15,31 +15,31 @@ use Rattle.elf_read.specs.declared.program_header.ProgramHeader.{ProgramHeader}
 use Rattle.asm_assemble.specs.Program.{ProgramValue}
 use Rattle.elf_write.specs.Field.{zero_bytes}
 use Rattle.elf_write.specs.Layout.{data_distance, data_size, header_count}
-use Rattle.elf_write.specs.Segment.{front, file_header, load_fields, text_header, data_header}
+use Rattle.elf_write.specs.Segment.{front_segment, file_header, load_fields, text_header, data_header}
 use Rattle.elf_write.proofs.LayoutLemmas.{Bounds, few_headers}
 
 -- a written file as a chain
 unfoldable pub plain_file : ProgramValue → ℕ → List ℕ → List ℕ
-plain_file p sections back = front p sections ++ (p.text ++ (zero_bytes (data_distance p - length p.text) ++ (p.bytes ++ back)))
+plain_file p sections back = front_segment p sections ++ (p.text ++ (zero_bytes (data_distance p - length p.text) ++ (p.bytes ++ back)))
 
 -- the fields of the header that the checks read
-pub entry_read : (p : ProgramValue) (sections : ℕ) (rest : List ℕ) → p.entry < 2 ^ 32 → word_at (front p sections ++ rest) 24 ≡ p.entry
+pub entry_read : (p : ProgramValue) (sections : ℕ) (rest : List ℕ) → p.entry < 2 ^ 32 → word_at (front_segment p sections ++ rest) 24 ≡ p.entry
 unfolding file_header word_at
 entry_read p sections rest fits = little_number-reads_back 4 p.entry [] fits
 
-pub count_read : (p : ProgramValue) (sections : ℕ) (rest : List ℕ) → header_count p ≤ 2 → half_at (front p sections ++ rest) 44 ≡ header_count p
+pub count_read : (p : ProgramValue) (sections : ℕ) (rest : List ℕ) → header_count p ≤ 2 → half_at (front_segment p sections ++ rest) 44 ≡ header_count p
 unfolding file_header half_at
 count_read p sections rest few = little_number-reads_back 2 (header_count p) [] (omega arith)
 
-pub place_read : (p : ProgramValue) (sections : ℕ) (rest : List ℕ) → word_at (front p sections ++ rest) 28 ≡ cond (eqb (header_count p) 0) 0 52
+pub place_read : (p : ProgramValue) (sections : ℕ) (rest : List ℕ) → word_at (front_segment p sections ++ rest) 28 ≡ cond (eqb (header_count p) 0) 0 52
 unfolding file_header word_at
 place_read p sections rest = little_number-reads_back 4 (cond (eqb (header_count p) 0) 0 52) [] (elim (cases_Bool (eqb (header_count p) 0)) [ inl e ↦ rw e (omega arith) | inr e ↦ rw e (omega arith) ])
 
-pub long_front : (p : ProgramValue) (sections : ℕ) (rest : List ℕ) → ltb (length (front p sections ++ rest)) 52 ≡ false
+pub long_front : (p : ProgramValue) (sections : ℕ) (rest : List ℕ) → ltb (length (front_segment p sections ++ rest)) 52 ≡ false
 unfolding file_header
 long_front p sections rest = grind (arith, nat_tests)
 
-pub header_passes : (p : ProgramValue) (sections : ℕ) (rest : List ℕ) → header_count p ≤ 2 → header_fault (front p sections ++ rest) ≡ None
+pub header_passes : (p : ProgramValue) (sections : ℕ) (rest : List ℕ) → header_count p ≤ 2 → header_fault (front_segment p sections ++ rest) ≡ None
 unfolding file_header header_fault word_at half_at
 header_passes p sections rest few =
     rw (long_front p sections rest, little_number-reads_back 2 (header_count p) [] (omega arith)) (
@@ -58,7 +58,7 @@ abbrev pub loads_of : ProgramValue → List ProgramHeader
 loads_of p = cond (eqb (length p.text) 0) [] (text_load p ∷ []) ++ cond (eqb (data_size p) 0) [] (data_load p ∷ [])
 
 pub parts_read : (p : ProgramValue) (sections : ℕ) (rest : List ℕ) → length p.text < 2 ^ 32 → length p.bytes < 2 ^ 32 → data_size p < 2 ^ 32 → 0x10000 + data_distance p < 2 ^ 32
-    → program_headers_of (front p sections ++ rest) ≡ loads_of p
+    → program_headers_of (front_segment p sections ++ rest) ≡ loads_of p
 unfolding file_header program_headers_of program_headers_from program_header_at word_at half_at header_count text_header data_header load_fields
 parts_read p sections rest t d m a = elim (cases_Bool (eqb (length p.text) 0)) [
   | inl no_text ↦ (elim (cases_Bool (eqb (data_size p) 0)) [
@@ -105,7 +105,7 @@ space_passes p b = elim (cases_Bool (eqb (length p.text) 0)) [
 ]
 
 -- the places of the parts of a file
-pub front_length : (p : ProgramValue) (sections : ℕ) → length (front p sections) ≡ 4096
+pub front_length : (p : ProgramValue) (sections : ℕ) → length (front_segment p sections) ≡ 4096
 unfolding zero_bytes file_header header_count text_header data_header load_fields
 front_length p sections = elim (cases_Bool (eqb (length p.text) 0)) [
   | inl no_text ↦ (elim (cases_Bool (eqb (data_size p) 0)) [
@@ -126,7 +126,7 @@ pub text_there : (p : ProgramValue) (sections : ℕ) (back : List ℕ) → take 
 unfolding plain_file
 text_there p sections back =
     let rest : List ℕ = p.text ++ (zero_bytes (data_distance p - length p.text) ++ (p.bytes ++ back)) in
-    let e : drop 4096 (front p sections ++ rest) ≡ rest = subst (λ n. drop n (front p sections ++ rest) ≡ rest) (front_length p sections) (drop-append_seam (front p sections) rest) in
+    let e : drop 4096 (front_segment p sections ++ rest) ≡ rest = subst (λ n. drop n (front_segment p sections ++ rest) ≡ rest) (front_length p sections) (drop-append_seam (front_segment p sections) rest) in
     ap (take (length p.text)) e ∙ take_front p.text (zero_bytes (data_distance p - length p.text) ++ (p.bytes ++ back))
 
 pub data_there : (p : ProgramValue) (sections : ℕ) (back : List ℕ) → length p.text ≤ data_distance p → take (length p.bytes) (drop (4096 + data_distance p) (plain_file p sections back)) ≡ p.bytes
@@ -135,7 +135,7 @@ data_there p sections back behind =
     let gap : ℕ = data_distance p - length p.text in
     let tail : List ℕ = p.bytes ++ back in
     let rest : List ℕ = p.text ++ (zero_bytes gap ++ tail) in
-    let e1 : drop (4096 + data_distance p) (front p sections ++ rest) ≡ drop (data_distance p) rest = subst (λ n. drop (n + data_distance p) (front p sections ++ rest) ≡ drop (data_distance p) rest) (front_length p sections) (drop-append-add (front p sections) rest (data_distance p)) in
+    let e1 : drop (4096 + data_distance p) (front_segment p sections ++ rest) ≡ drop (data_distance p) rest = subst (λ n. drop (n + data_distance p) (front_segment p sections ++ rest) ≡ drop (data_distance p) rest) (front_length p sections) (drop-append-add (front_segment p sections) rest (data_distance p)) in
     let whole : length p.text + gap ≡ data_distance p = omega arith in
     let e2 : drop (data_distance p) rest ≡ drop gap (zero_bytes gap ++ tail) = subst (λ n. drop n rest ≡ drop gap (zero_bytes gap ++ tail)) whole (drop-append-add p.text (zero_bytes gap ++ tail) gap) in
     let e3 : drop gap (zero_bytes gap ++ tail) ≡ tail = subst (λ n. drop n (zero_bytes gap ++ tail) ≡ tail) (length-replicate gap 0) (drop-append_seam (zero_bytes gap) tail) in
@@ -146,7 +146,7 @@ unfolding zero_bytes plain_file
 file_length p sections back behind =
     let gap : ℕ = data_distance p - length p.text in
     let tail : List ℕ = p.bytes ++ back in
-    let a = length-append (front p sections) (p.text ++ (zero_bytes gap ++ tail)) in
+    let a = length-append (front_segment p sections) (p.text ++ (zero_bytes gap ++ tail)) in
     let b = length-append p.text (zero_bytes gap ++ tail) in
     let c = length-append (zero_bytes gap) tail in
     let d = length-append p.bytes back in
@@ -178,12 +178,12 @@ none_dynamic p = elim (cases_Bool (eqb (length p.text) 0)) [
   | inr text ↦ (elim (cases_Bool (eqb (data_size p) 0)) [ inl no_data ↦ rw (text, no_data) refl | inr full ↦ rw (text, full) refl ])
 ]
 
-pub table_inside : (p : ProgramValue) (sections : ℕ) (rest : List ℕ) → is_table_outside (front p sections ++ rest) ≡ false
+pub table_inside : (p : ProgramValue) (sections : ℕ) (rest : List ℕ) → is_table_outside (front_segment p sections ++ rest) ≡ false
 unfolding is_table_outside
 table_inside p sections rest =
     let small = few_headers p in
-    let a = length-append (front p sections) rest in
+    let a = length-append (front_segment p sections) rest in
     let f = front_length p sections in
-    let n : ℕ = length (front p sections ++ rest) in
+    let n : ℕ = length (front_segment p sections ++ rest) in
     let room : ltb n (cond (eqb (header_count p) 0) 0 52 + 32 * header_count p) ≡ false = (elim (cases_Bool (eqb (header_count p) 0)) [ inl e ↦ rw e (grind (arith, nat_tests, a, f, small)) | inr e ↦ rw e (grind (arith, nat_tests, a, f, small)) ]) in
     rw (count_read p sections rest small, place_read p sections rest) (elim (cases_Bool (eqb (header_count p) 0)) [ inl e ↦ rw e refl | inr e ↦ rw room (rw e refl) ])

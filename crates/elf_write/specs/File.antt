@@ -9,7 +9,7 @@ use Rattle.image.specs.declared.fault.ElfFault.TheVariants as faults
 use Rattle.elf_write.specs.Field.{zero_bytes}
 use Rattle.elf_write.specs.Layout.{data_distance, data_size}
 use Rattle.elf_write.specs.Section.{sections_at, table_bytes, own_sections, table_sections}
-use Rattle.elf_write.specs.Segment.{front}
+use Rattle.elf_write.specs.Segment.{front_segment}
 
 -- the text, zero bytes up to the data, and the data
 unfoldable pub content : ProgramValue → List ℕ
@@ -17,7 +17,7 @@ content p = p.text ++ (zero_bytes (data_distance p - length p.text) ++ p.bytes)
 
 -- the file, given the offset of the section headers and the bytes after the data
 unfoldable pub file_with : ProgramValue → ℕ → List ℕ → List ℕ
-file_with p sections behind = front p sections ++ (content p ++ behind)
+file_with p sections behind = front_segment p sections ++ (content p ++ behind)
 
 -- the written file of a program
 unfoldable pub file : ProgramValue → List ℕ

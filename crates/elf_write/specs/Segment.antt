@@ -35,6 +35,6 @@ file_header p sections = bytes_of_all (
     ∷ Half SECTION_HEADER_SIZE ∷ Half 7 ∷ Half 6 ∷ [])
 
 -- the file up to the text
-abbrev pub front : ProgramValue → ℕ → List ℕ
-front p sections =
+abbrev pub front_segment : ProgramValue → ℕ → List ℕ
+front_segment p sections =
     file_header p sections ++ (text_header p ++ (data_header p ++ zero_bytes (4044 - 32 * header_count p)))

@@ -1,7 +1,7 @@
 -- The symbol table of a written file, and its names.
 use Rattle.std.specs.Prelude.{ℕ, ◌+◌, ◌%◌, ◌*◌, ◌^◌, Bool, true, false, not, if◌then◌else◌, List, [], ◌∷◌, ◌++◌, length, filter}
-use Rattle.asm_parse.specs.declared.statement.Section.{Section}
-use Rattle.asm_parse.specs.declared.statement.Section.TheVariants as section
+use Rattle.asm_statement.specs.declared.statement.Section.{Section}
+use Rattle.asm_statement.specs.declared.statement.Section.TheVariants as section
 use Rattle.asm_assemble.specs.Program.{SymbolList}
 use Rattle.asm_assemble.specs.declared.program.Symbol.{Symbol}
 use Rattle.elf_read.specs.Codes.{STB_GLOBAL}

@@ -1,6 +1,6 @@
 //! Numbers as bytes of a file.
 ghost use Rattle.std.specs.Prelude.{◌≡◌, ◌++◌, ◌<◌, ◌^◌, OnOk};
-ghost use Rattle.elf_write.specs.Field.{bytes_of, bytes_of_all, zero_bytes};
+ghost use Rattle.elf_write.specs.Field.{field_bytes, bytes_of_all, zero_bytes};
 
 use byteorder::{ByteOrder, LittleEndian};
 use std::alloc::{AllocError, Allocator};
@@ -25,7 +25,7 @@ pub fn write_fields<A: Allocator>(out: &mut Vec<u8, A>, fields: &[Field]) -> Res
 
 // Appends one number.
 fn write_field<A: Allocator>(out: &mut Vec<u8, A>, field: Field) -> Result<(), AllocError>
-    ensures { OnOk result (out.new.items ≡ out.old.items ++ bytes_of field) }
+    ensures { OnOk result (out.new.items ≡ out.old.items ++ field_bytes field) }
 {
     match field {
         Field::Byte(number) => {

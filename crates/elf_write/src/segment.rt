@@ -2,7 +2,7 @@
 ghost use Rattle.std.specs.Prelude.{◌≡◌, ◌++◌, OnOk};
 ghost use Rattle.elf_write.specs.Field.{bytes_of_all};
 ghost use Rattle.elf_write.specs.Layout.{header_count};
-ghost use Rattle.elf_write.specs.Segment.{load_fields, text_header, data_header, file_header, front};
+ghost use Rattle.elf_write.specs.Segment.{load_fields, text_header, data_header, file_header, front_segment};
 
 use crate::field::{Field, write_fields, write_zeros};
 use crate::layout::{PAGE, header_count, layout_of};
@@ -21,7 +21,7 @@ pub fn write_front<A: Allocator>(
     program: &Program<A>,
     sections: u32,
 ) -> Result<(), AllocError>
-    ensures { OnOk result (out.new.items ≡ out.old.items ++ front program.now sections) }
+    ensures { OnOk result (out.new.items ≡ out.old.items ++ front_segment program.now sections) }
 {
     let count = header_count(program);
     write_header(out, program, count, sections)?;

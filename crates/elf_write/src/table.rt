@@ -5,7 +5,7 @@ ghost use Rattle.elf_write.specs.Table.{with_symbol, with_symbols, no_symbols, s
 
 use crate::field::{Field, write_fields, write_zeros};
 use asm_assemble::Symbol;
-use asm_parse::Section;
+use asm_statement::Section;
 use elf_read::elf::STB_GLOBAL;
 use indexmap::IndexMap;
 use std::alloc::{AllocError, Allocator};

@@ -1,6 +1,6 @@
 //! Written files.
 ghost use Rattle.std.specs.Prelude.{◌≡◌, ◌++◌, OnOk, IfOk};
-ghost use Rattle.elf_read.specs.File.{loaded};
+ghost use Rattle.elf_read.specs.File.{loaded_image};
 ghost use Rattle.elf_write.specs.File.{file, content, program_image};
 ghost use Rattle.elf_write.specs.Section.{own_sections, table_sections};
 
@@ -27,7 +27,7 @@ pub fn write_elf<A: Allocator + Copy>(
     program: &Program<A>,
 ) -> Result<Vec<u8, A>, AllocError>
     ensures layout { IfOk result (λ v. v.items ≡ file program.now) }
-    ensures loads { IfOk result (λ v. loaded v.items ≡ program_image program.now) }
+    ensures loads { IfOk result (λ v. loaded_image v.items ≡ program_image program.now) }
 {
     // The proof of the law needs the program's sizes, and that its entry is an address; these calls
     // give them.

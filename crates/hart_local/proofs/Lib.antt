@@ -1,3 +1,4 @@
 pub mod TableLemmas
 pub mod CodeLemmas
 pub mod StepLemmas
+pub mod RunLemmas

@@ -1,3 +1,4 @@
 pub mod CodeMemory
 pub mod LocalStep
 pub mod Tables
+pub mod LocalRuns

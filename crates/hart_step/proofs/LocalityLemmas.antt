@@ -1,7 +1,7 @@
 -- What a step depends on: two sites that agree on it step alike.
 use Rattle.std.proofs.Common.{◌≡◌, ℕ, zero, suc, ◌+◌, ◌*◌, ◌^◌, ◌<◌, Bool, true, false, not, ◌&&◌, cond, eqb, leb, ltb, Option, Some, None, refl, ap, ap₂, subst, arith}
 use Rattle.std.proofs.lemmas.Bool.Decides.{nat_tests}
-use Rattle.mem_store.specs.Memory.{number_of, number_at, granted, to_execute, stored}
+use Rattle.mem_store.specs.Memory.{little_endian, number_at, granted, to_execute, stored}
 use Rattle.mem_store.specs.Access.{fetched}
 use Rattle.hart_reservations.specs.Marks.{Marks, names, word_of}
 use Rattle.isa_table.specs.Decoded.{decoded}
@@ -22,7 +22,7 @@ use Rattle.hart_step.specs.declared.hart.HartState.{HartState}
 use Rattle.hart_step.specs.declared.hart.HartState.TheVariants.{Running, Exited, Faulted}
 
 -- ---- numbers in memory
-number-same : (n : ℕ) (f g : ℕ → ℕ) → ((k : ℕ) → k < n → f k ≡ g k) → number_of n f ≡ number_of n g
+number-same : (n : ℕ) (f g : ℕ → ℕ) → ((k : ℕ) → k < n → f k ≡ g k) → little_endian n f ≡ little_endian n g
 number-same zero f g e = refl
 number-same (suc n) f g e =
     ap₂ (λ (low high : ℕ). low + high * 256 ^ n) (number-same n f g (λ k below. e k (omega arith))) (e n (omega arith))

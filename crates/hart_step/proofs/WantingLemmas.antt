@@ -9,7 +9,7 @@ use Rattle.isa_table.specs.declared.instr.Instr.{Instr}
 use Rattle.hart_step.specs.Fault.{fetch_cause_of}
 use Rattle.hart_step.specs.Effect.{Site}
 use Rattle.hart_step.specs.Step.{faults, executed, at_word, by_state, stepped}
-use Rattle.hart_step.specs.Wanting.{Stores, StepStores}
+use Rattle.hart_step.specs.Wanting.{DoesStore, StepStores}
 use Rattle.hart_step.specs.declared.hart.HartState.TheVariants.{Running}
 
 -- ---- the word there
@@ -56,7 +56,7 @@ step_taken (Err why) h refuse s new i runs there done = done
 -- the step of a hart whose instruction stores is one that stores
 pub step_stores : {T E : Type 0} (r : Result T E) (h : ℕ) (refuse : Bool) (s : Site) (i : Instr)
     → s.hart.state ≡ Running → Ok i ≡ instruction_at s.memory s.hart.pc
-    → OnErr r (Stores i s h refuse s.hart.registers) → OnErr r (StepStores h refuse s)
+    → OnErr r (DoesStore i s h refuse s.hart.registers) → OnErr r (StepStores h refuse s)
 unfolding instruction_at
 step_stores (Ok value) h refuse s i runs there stores = stores
 step_stores (Err why) h refuse s i runs there stores =

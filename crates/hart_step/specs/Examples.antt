@@ -14,8 +14,8 @@ spelling address [] bytes = bytes
 spelling address (word ∷ words) bytes = stored 4 address word (spelling (address + 4) words bytes)
 
 -- a program's words, and a number as the word of data
-abbrev pub memory_of : List ℕ → ℕ → Memory
-memory_of words number = record {
+abbrev pub example_memory : List ℕ → ℕ → Memory
+example_memory words number = record {
   rights = λ a. if nat_lt a 0x00012000 then Some 7 else None;
   bytes = spelling 0x00010000 words (stored 4 0x00011000 number (λ a. 0));
 }
@@ -26,7 +26,7 @@ before words number x1 x2 = site (record {
   registers = λ r. if r == 1 then x1 else if r == 2 then x2 else 0;
   pc = 0x00010000;
   state = Running;
-}) (memory_of words number) (λ h. None)
+}) (example_memory words number) (λ h. None)
 
 -- hart 0 has executed one word
 abbrev pub after : ℕ → ℕ → ℕ → ℕ → Site

@@ -13,12 +13,12 @@ use Rattle.hart_step.specs.declared.hart.HartState.TheVariants.{Running}
 
 -- an instruction of hart h, which has registers x, stores: a store or an AMO without a fault, or a
 -- store-conditional without a fault that succeeds
-abbrev pub Stores : Instr → Site → ℕ → Bool → Registers → Type 0
-Stores (Store op rs1 rs2 imm) s h refuse x = store_fault s.memory (store_size op) (wrap (x rs1 + imm)) ≡ None
-Stores (Amo op aq rl rd rs1 rs2) s h refuse x = store_fault s.memory 4 (x rs1) ≡ None
-Stores (StoreConditional aq rl rd rs1 rs2) s h refuse x =
+abbrev pub DoesStore : Instr → Site → ℕ → Bool → Registers → Type 0
+DoesStore (Store op rs1 rs2 imm) s h refuse x = store_fault s.memory (store_size op) (wrap (x rs1 + imm)) ≡ None
+DoesStore (Amo op aq rl rd rs1 rs2) s h refuse x = store_fault s.memory 4 (x rs1) ≡ None
+DoesStore (StoreConditional aq rl rd rs1 rs2) s h refuse x =
     (store_fault s.memory 4 (x rs1) ≡ None) × ((names (s.reserved h) (x rs1) && not refuse) ≡ true)
-Stores i s h refuse x = ⊥
+DoesStore i s h refuse x = ⊥
 
 -- hart h runs, and the word at its pc is an instruction that stores
 pub record StepStores (h : ℕ) (refuse : Bool) (s : Site) : Type 0 where
@@ -27,4 +27,4 @@ pub record StepStores (h : ℕ) (refuse : Bool) (s : Site) : Type 0 where
   pub instr : Instr
   pub fetches : fetched s.memory s.hart.pc ≡ Some word
   pub spells : decoded word ≡ Some instr
-  pub stores : Stores instr s h refuse s.hart.registers
+  pub stores : DoesStore instr s h refuse s.hart.registers

@@ -7,7 +7,7 @@ ghost use Rattle.hart_step.specs.Hart.{hart_of, registers_of, put};
 ghost use Rattle.hart_step.specs.Fault.{jump_fault, call_fault, fetch_cause_of};
 ghost use Rattle.hart_step.specs.Effect.{site, site_of, goes_on, next, exits};
 ghost use Rattle.hart_step.specs.Step.{unless, executed, stepped};
-ghost use Rattle.hart_step.specs.Wanting.{Stores, StepStores};
+ghost use Rattle.hart_step.specs.Wanting.{DoesStore, StepStores};
 ghost use Rattle.hart_reservations.specs.Limit.{most_harts};
 ghost use Rattle.hart_step.specs.declared.hart.HartState.TheVariants.{Running};
 
@@ -63,7 +63,7 @@ fn execute<S: Store>(
         ≡ executed (Some instr) s id refuse (registers_of hart.old.registers) hart.old.pc) }
     ensures err { OnErr result (IsTrue S.grows × (site_of hart.new (S.memory store.new) reserve.new
         ≡ site_of hart.old (S.memory store.old) reserve.old)) }
-    ensures stores { OnErr result (Stores instr (site_of hart.old (S.memory store.old) reserve.old)
+    ensures stores { OnErr result (DoesStore instr (site_of hart.old (S.memory store.old) reserve.old)
         id refuse (registers_of hart.old.registers)) }
 {
     match instr {

@@ -7,7 +7,7 @@ use crate::sentences::{BAD_BYTE, BAD_NUMBER, HEAD, OPEN_STRING};
 use crate::shape::{Row, rows_for};
 use crate::statement::{LineWords, Word, behind_labels, read_words};
 use asm_lex::{Kind, TextFault};
-use asm_parse::{Fault, FaultKind};
+use asm_statement::{Fault, FaultKind};
 use hint_text::{Sentence, Value, line_at, nearest, push_line, push_mark, push_sentence};
 use std::alloc::{AllocError, Allocator};
 

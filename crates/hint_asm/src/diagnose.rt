@@ -13,7 +13,7 @@ use crate::sentences::{
 use crate::shape::{Row, Shape, rows_for, shape_of};
 use crate::statement::Word;
 use asm_lex::Kind;
-use asm_parse::FaultKind;
+use asm_statement::FaultKind;
 use hint_text::{Form, Sentence, told_of};
 
 // Whether some name of rows is this one in lower case.

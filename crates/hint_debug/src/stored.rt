@@ -2,7 +2,7 @@
 
 ghost use Rattle.std.specs.Prelude.{◌≡◌, ◌-◌, ◌%◌, IfOk, IfSome, OnOk};
 ghost use Rattle.debug_session.specs.Session.{session, world_at};
-ghost use Rattle.debug_session.specs.Words.{word_at};
+ghost use Rattle.debug_session.specs.Words.{viewed_word};
 
 use debug_session::{Debugger, MoveFault, word_at};
 use isa_names::Word;
@@ -46,9 +46,9 @@ pub fn word_before<A: Allocator + Copy>(
 ) -> Result<Option<StoredWord>, MoveFault>
     ensures stays { OnOk result (session debugger.new ≡ session debugger.old) }
     ensures word { IfOk result (λ found. IfSome found (λ stored. stored.address ≡ address - address % 4)) }
-    ensures before { IfOk result (λ found. IfSome found (λ stored. stored.before ≡ word_at
+    ensures before { IfOk result (λ found. IfSome found (λ stored. stored.before ≡ viewed_word
         (world_at (session debugger.old) ((session debugger.old).position - 1)).memory stored.address)) }
-    ensures after { IfOk result (λ found. IfSome found (λ stored. stored.after ≡ word_at
+    ensures after { IfOk result (λ found. IfSome found (λ stored. stored.after ≡ viewed_word
         (world_at (session debugger.old) (session debugger.old).position).memory stored.address)) }
 {
     let address = address - address % 4;

@@ -17,10 +17,10 @@ label_before best (symbol ∷ symbols) address =
     else label_before best symbols address
 
 -- a segment has an address
-abbrev pub has_address : SegmentValue → ℕ → Bool
-has_address segment address = nat_le segment.base address && nat_lt (address - segment.base) segment.size
+abbrev pub segment_has : SegmentValue → ℕ → Bool
+segment_has segment address = nat_le segment.base address && nat_lt (address - segment.base) segment.size
 
 -- the first segment that has an address
-abbrev pub segment_at : List SegmentValue → ℕ → Option SegmentValue
-segment_at [] address = None
-segment_at (segment ∷ segments) address = if has_address segment address then Some segment else segment_at segments address
+abbrev pub segment_with : List SegmentValue → ℕ → Option SegmentValue
+segment_with [] address = None
+segment_with (segment ∷ segments) address = if segment_has segment address then Some segment else segment_with segments address

@@ -1,7 +1,7 @@
 //! Places in a program: by the label before them, and by their segment.
 
 ghost use Rattle.std.specs.Prelude.{◌≡◌, None, option_map};
-ghost use Rattle.hint_fault.specs.Places.{is_nearer, label_before, segment_at};
+ghost use Rattle.hint_fault.specs.Places.{is_nearer, label_before, segment_with};
 
 use elf_read::Symbol;
 use image::{Rights, Segment};
@@ -38,7 +38,7 @@ pub fn label_before<A: Allocator>(symbols: &[Symbol<A>], address: u32) -> Option
 
 /// The segment that has an address.
 pub fn segment_at<A: Allocator>(segments: &[Segment<A>], address: u32) -> Option<&Segment<A>>
-    ensures { option_map (λ s. s.now) result ≡ segment_at segments.now address }
+    ensures { option_map (λ s. s.now) result ≡ segment_with segments.now address }
 {
     'segments: for segment in segments {
         if segment.base <= address && address - segment.base < segment.size {

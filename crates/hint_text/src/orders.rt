@@ -29,9 +29,11 @@ const CALLED: Form = &[
 const MEANT: Form = &[Words("is "), First, Words(" meant?\n")];
 
 // No command is near.
-const THE_COMMANDS: Form = &[Words(
-    "the commands are asm, list, info, run, debug, threads, replay, lib, campaign, schedule, shrink and trace; a file stands behind the command\n",
-)];
+const THE_COMMANDS: Form = &[
+    Words("the commands are "),
+    First,
+    Words("; a file stands behind the command\n"),
+];
 
 // No hint.
 const NOTHING: Form = &[];
@@ -71,20 +73,37 @@ pub fn order_advice<A: Allocator + Copy>(
     mistake: Mistake,
     words: &[&str],
 ) -> Result<String<A>, AllocError> {
-    let sentence = order_sentence(alloc, mistake, words)?;
+    let commands = list_of(alloc, &COMMANDS)?;
+    let sentence = order_sentence(alloc, mistake, words, &commands)?;
     let mut text = String::new(alloc);
     push_sentence(&mut text, &sentence)?;
     Ok(text)
 }
 
-// The hint on a command line.
+// The names of commands, with commas between them and `and` before the last.
+fn list_of<A: Allocator>(alloc: A, rows: &[Row]) -> Result<String<A>, AllocError> {
+    let mut text = String::new(alloc);
+    'rows: for (place, row) in rows.iter().enumerate() {
+        let between = match (place, rows.len() - place) {
+            (0, _) => "",
+            (_, 1) => " and ",
+            _ => ", ",
+        };
+        text.push_str(between)?;
+        text.push_str(row.name)?;
+    }
+    Ok(text)
+}
+
+// The hint on a command line; `commands` lists the commands.
 fn order_sentence<'a, A: Allocator + Copy>(
     alloc: A,
     mistake: Mistake,
     words: &[&'a str],
+    commands: &'a str,
 ) -> Result<Sentence<'a>, AllocError> {
     match (mistake, words) {
-        (Mistake::Command, [_, name, ..]) => command_sentence(alloc, *name),
+        (Mistake::Command, [_, name, ..]) => command_sentence(alloc, *name, commands),
         (Mistake::Option, [_, name, rest @ ..]) => option_sentence(alloc, *name, rest),
         (Mistake::Other, [_, name, ..]) => Ok(example_of(*name)),
         (Mistake::NoCommand, _) => Ok(Sentence::of(NO_COMMAND, "")),
@@ -133,17 +152,18 @@ fn other_command(name: &str) -> Option<&'static str> {
     told_of(&OTHER_COMMANDS, name)
 }
 
-// The hint on a command that doesn't exist.
+// The hint on a command that doesn't exist; `commands` lists those that do.
 fn command_sentence<'a, A: Allocator + Copy>(
     alloc: A,
     name: &'a str,
+    commands: &'a str,
 ) -> Result<Sentence<'a>, AllocError> {
     if let Some(other) = other_command(name) {
         return Ok(Sentence::of_two(CALLED, name, other));
     }
     Ok(match near_command(alloc, name)? {
         Some(near) => Sentence::of(MEANT, near),
-        None => Sentence::of(THE_COMMANDS, ""),
+        None => Sentence::of(THE_COMMANDS, commands),
     })
 }
 

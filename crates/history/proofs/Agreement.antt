@@ -9,7 +9,7 @@ use Rattle.text_items.proofs.Agreement as texts
 use Rattle.history.specs.declared.entry.Entry.{Entry}
 use Rattle.history.specs.declared.history_text.HistoryFault.{HistoryFault}
 use Rattle.history.specs.declared.history_text.HistoryFault.TheVariants.{BadEntry, NoHart}
-use Rattle.history.specs.Grammar.{NamesEntry, Spells, Spoils}
+use Rattle.history.specs.Grammar.{NamesEntry, SpellsHistory, SpoilsHistory}
 use Rattle.history.specs.Reading.{before_plus, after_plus, entry_by, entry_of, entries_of}
 use Rattle.history.proofs.EntryLemmas.{before_plus-named, after_plus-named, plus_between, named_parts, named_plain, named_some, entry_named}
 
@@ -76,20 +76,20 @@ item_told : (harts : ℕ) → harts < 2 ^ 32 → (at : ℕ) (item : List ℕ)
 item_told harts few at item =
     numbers_told item harts at few _ _ (number_told (before_plus (unmarked item))) (number_told (after_plus (unmarked item)))
 
-pub spells_of : (harts : ℕ) (text : List ℕ) (entries : List Entry) → harts < 2 ^ 32 → entries_of harts text ≡ Ok entries → Spells harts text entries
+pub spells_of : (harts : ℕ) (text : List ℕ) (entries : List Entry) → harts < 2 ^ 32 → entries_of harts text ≡ Ok entries → SpellsHistory harts text entries
 spells_of harts text entries few e =
     texts.spells_of NamesEntry (λ e. e.hart < harts) BadEntry NoHart (entry_of harts) (item_told harts few) text entries e
 
-pub spoils_of : (harts : ℕ) (text : List ℕ) (fault : HistoryFault) → harts < 2 ^ 32 → entries_of harts text ≡ Err fault → Spoils harts 0 text fault
+pub spoils_of : (harts : ℕ) (text : List ℕ) (fault : HistoryFault) → harts < 2 ^ 32 → entries_of harts text ≡ Err fault → SpoilsHistory harts 0 text fault
 spoils_of harts text fault few e =
     texts.spoils_of NamesEntry (λ e. e.hart < harts) BadEntry NoHart (entry_of harts) (item_told harts few) text fault e
 
 -- a text that is read names harts that exist
-pub hart_within : (harts : ℕ) (text : List ℕ) (entries : List Entry) → Spells harts text entries → All (λ e. e.hart < harts) entries
+pub hart_within : (harts : ℕ) (text : List ℕ) (entries : List Entry) → SpellsHistory harts text entries → All (λ e. e.hart < harts) entries
 hart_within harts text entries spelled = texts.all_there NamesEntry (λ e. e.hart < harts) text entries spelled
 
 -- what a text spells is read
-pub entries_of-spelled : (harts : ℕ) (text : List ℕ) (entries : List Entry) → harts < 2 ^ 32 → Spells harts text entries
+pub entries_of-spelled : (harts : ℕ) (text : List ℕ) (entries : List Entry) → harts < 2 ^ 32 → SpellsHistory harts text entries
     → entries_of harts text ≡ Ok entries
 entries_of-spelled harts text entries few spelled =
     texts.values_of-spelled NamesEntry (λ e. e.hart < harts) (entry_of harts) named_plain named_some

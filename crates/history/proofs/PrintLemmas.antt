@@ -5,11 +5,11 @@ use Rattle.std.specs.Fmt.{decimal}
 use Rattle.std.specs.List.{All}
 use Rattle.text_items.proofs.PrintLemmas.{decimal_is_number, text_spells}
 use Rattle.history.specs.declared.entry.Entry.{Entry}
-use Rattle.history.specs.Grammar.{NamesEntry, Spells}
-use Rattle.history.specs.Printing.{item_text, history_text}
+use Rattle.history.specs.Grammar.{NamesEntry, SpellsHistory}
+use Rattle.history.specs.Printing.{entry_text, history_text}
 
 -- the item of an entry names it
-item_names : (e : Entry) → e.hart < 2 ^ 64 → e.local < 2 ^ 32 → NamesEntry (item_text e) e
+item_names : (e : Entry) → e.hart < 2 ^ 64 → e.local < 2 ^ 32 → NamesEntry (entry_text e) e
 item_names e hart local = record {
   hart_digits = decimal e.hart;
   local_digits = decimal e.local;
@@ -30,12 +30,12 @@ fits harts entries there small = λ k d inside. (there k d inside, small k d ins
 
 -- what is printed spells its history
 pub history_spells : (harts : ℕ) (entries : List Entry) → harts < 2 ^ 32 → All (λ e. e.hart < harts) entries
-    → All (λ e. e.local < 2 ^ 32) entries → Spells harts (history_text entries) entries
+    → All (λ e. e.local < 2 ^ 32) entries → SpellsHistory harts (history_text entries) entries
 history_spells harts entries few there small =
-    text_spells NamesEntry (λ e. e.hart < harts) (Fits harts) item_text
+    text_spells NamesEntry (λ e. e.hart < harts) (Fits harts) entry_text
     (λ e fit. item_names e (omega (arith, few, fit.0)) fit.1) entries there (fits harts entries there small)
 
 pub spells_printed : (text : List ℕ) (entries : List Entry) → text ≡ history_text entries
-    → (harts : ℕ) → harts < 2 ^ 32 → All (λ e. e.hart < harts) entries → All (λ e. e.local < 2 ^ 32) entries → Spells harts text entries
+    → (harts : ℕ) → harts < 2 ^ 32 → All (λ e. e.hart < harts) entries → All (λ e. e.local < 2 ^ 32) entries → SpellsHistory harts text entries
 spells_printed text entries e harts few there small =
-    subst (λ t. Spells harts t entries) (sym e) (history_spells harts entries few there small)
+    subst (λ t. SpellsHistory harts t entries) (sym e) (history_spells harts entries few there small)

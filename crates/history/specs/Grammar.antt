@@ -20,10 +20,10 @@ pub record NamesEntry (item : List ℕ) (e : Entry) : Type 0 where
   pub small : e.local < 2 ^ 32
 
 -- items with blanks between and around them, which denote these entries of the harts
-abbrev pub Spells : ℕ → List ℕ → List Entry → Type 0
-Spells harts text entries = texts.Spells NamesEntry (λ e. e.hart < harts) text entries
+abbrev pub SpellsHistory : ℕ → List ℕ → List Entry → Type 0
+SpellsHistory harts text entries = texts.Spells NamesEntry (λ e. e.hart < harts) text entries
 
 -- the text, which begins at an offset, has a bad item after good ones only: one that denotes no
 -- entry, or an entry of a hart that doesn't exist
-abbrev pub Spoils : ℕ → ℕ → List ℕ → HistoryFault → Type 0
-Spoils harts at text fault = texts.Spoils NamesEntry (λ e. e.hart < harts) BadEntry NoHart at text fault
+abbrev pub SpoilsHistory : ℕ → ℕ → List ℕ → HistoryFault → Type 0
+SpoilsHistory harts at text fault = texts.Spoils NamesEntry (λ e. e.hart < harts) BadEntry NoHart at text fault

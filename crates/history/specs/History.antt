@@ -12,10 +12,10 @@ abbrev pub entry : ℕ → ℕ → Bool → Entry
 entry hart local refuse = record { hart = hart; local = local; refuse = refuse }
 
 -- an entry is a plain choice of its hart for each local step, and then one with its mark
-abbrev pub choices_of : Entry → List Choice
-choices_of e = replicate e.local (choice e.hart false) ++ choice e.hart e.refuse ∷ []
+abbrev pub entry_choices : Entry → List Choice
+entry_choices e = replicate e.local (choice e.hart false) ++ choice e.hart e.refuse ∷ []
 
 -- one entry after another
 unfoldable pub expanded : List Entry → List Choice
 expanded [] = []
-expanded (e ∷ entries) = choices_of e ++ expanded entries
+expanded (e ∷ entries) = entry_choices e ++ expanded entries

@@ -2,3 +2,4 @@ pub mod History
 pub mod Grammar
 pub mod Reading
 pub mod Printing
+pub mod Plain

@@ -3,7 +3,7 @@
 
 ghost use Rattle.std.specs.Prelude.{◌≡◌, ◌<◌, ◌≢◌, drop, IfOk, IfErr};
 ghost use Rattle.std.specs.List.{All};
-ghost use Rattle.history.specs.Grammar.{Spells, Spoils};
+ghost use Rattle.history.specs.Grammar.{SpellsHistory, SpoilsHistory};
 ghost use Rattle.history.specs.Reading.{entry_of, entries_of};
 
 use crate::entry::Entry;
@@ -70,9 +70,9 @@ pub fn read_history<A: Allocator + Copy>(
     text: &[u8],
     harts: u32,
 ) -> Result<Vec<Entry, A>, HistoryFault>
-    ensures spelled { IfOk result (λ entries. Spells harts text.now entries.items) }
+    ensures spelled { IfOk result (λ entries. SpellsHistory harts text.now entries.items) }
     ensures spoiled { IfErr result (λ fault. fault ≢ HistoryFault.Memory
-        → Spoils harts 0 text.now fault) }
+        → SpoilsHistory harts 0 text.now fault) }
     ensures within { IfOk result (λ entries. All (λ e. e.hart < harts) entries.items) }
     ensures ok { IfOk result (λ entries. entries_of harts text.now ≡ Ok entries.items) }
     ensures err { IfErr result (λ fault. fault ≢ HistoryFault.Memory

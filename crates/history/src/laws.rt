@@ -4,20 +4,20 @@ ghost use Rattle.std.specs.Prelude.{◌≡◌, ℕ, ◌^◌, ◌<◌, ◌↔◌,
 ghost use Rattle.std.specs.List.{All};
 ghost use Rattle.std.specs.declared.result.Result.TheVariants.{Ok};
 ghost use Rattle.history.specs.declared.entry.Entry.{Entry};
-ghost use Rattle.history.specs.Grammar.{Spells};
+ghost use Rattle.history.specs.Grammar.{SpellsHistory};
 ghost use Rattle.history.specs.Printing.{history_text};
 ghost use Rattle.history.specs.Reading.{entries_of};
 
 /// Reading gives the history that a text spells, and none if it spells none.
 pub fn history_is_read_as_spelled()
     ensures { (harts : ℕ) (text : List ℕ) (entries : List Entry) → harts < 2 ^ 32
-        → (entries_of harts text ≡ Ok entries) ↔ Spells harts text entries }
+        → (entries_of harts text ≡ Ok entries) ↔ SpellsHistory harts text entries }
 {}
 
 /// No text spells two histories.
 pub fn one_history()
     ensures { (harts : ℕ) (text : List ℕ) (one other : List Entry) → harts < 2 ^ 32
-        → Spells harts text one → Spells harts text other → one ≡ other }
+        → SpellsHistory harts text one → SpellsHistory harts text other → one ≡ other }
 {}
 
 /// Reading what was printed gives the history, if each of its entries names one of the harts and

@@ -2,8 +2,8 @@
 
 ghost use Rattle.std.specs.Prelude.{◌≡◌, ℕ, ◌<◌, ◌^◌, Some, IfOk, string_bytes};
 ghost use Rattle.std.specs.List.{All};
-ghost use Rattle.history.specs.Grammar.{Spells};
-ghost use Rattle.history.specs.Printing.{item_text, history_text};
+ghost use Rattle.history.specs.Grammar.{SpellsHistory};
+ghost use Rattle.history.specs.Printing.{entry_text, history_text};
 
 use crate::entry::Entry;
 use std::alloc::{AllocError, Allocator};
@@ -14,7 +14,7 @@ use std::fmt;
 struct EntryItem(Entry);
 
 impl fmt::Display for EntryItem {
-    ghost output = { λ item. Some (item_text item.0) };
+    ghost output = { λ item. Some (entry_text item.0) };
 
     fn fmt<W: fmt::Write>(&self, f: &mut fmt::Formatter<W>) -> fmt::Result {
         let hart = self.0.hart;
@@ -36,7 +36,7 @@ pub fn print_history<A: Allocator + Copy>(
     ensures text { IfOk result (λ text. string_bytes text ≡ history_text entries.now) }
     ensures spells { IfOk result (λ text. (harts : ℕ) → harts < 2 ^ 32
         → All (λ e. e.hart < harts) entries.now → All (λ e. e.local < 2 ^ 32) entries.now
-        → Spells harts (string_bytes text) entries.now) }
+        → SpellsHistory harts (string_bytes text) entries.now) }
 {
     let mut text = String::new(alloc);
     let Some((first, rest)) = entries.split_first() else {

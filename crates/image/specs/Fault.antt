@@ -4,24 +4,24 @@ use Rattle.image.specs.declared.fault.ElfFault.{ElfFault}
 use Rattle.image.specs.declared.fault.ElfFault.TheVariants as faults
 
 -- the number of a check; out of memory has none
-abbrev pub number_of : ElfFault → Option ℕ
-number_of faults.Short = Some 1
-number_of faults.Magic = Some 2
-number_of faults.Class = Some 3
-number_of faults.Encoding = Some 4
-number_of faults.Version = Some 5
-number_of faults.FileType = Some 6
-number_of faults.Machine = Some 7
-number_of faults.Compressed = Some 8
-number_of faults.HeaderSize = Some 9
-number_of faults.OutsideFile = Some 10
-number_of faults.FileOverMem = Some 11
-number_of faults.PastEnd = Some 12
-number_of faults.Overlap = Some 13
-number_of faults.TooLarge = Some 14
-number_of faults.Dynamic = Some 15
-number_of faults.EntryAlign = Some 16
-number_of faults.Memory = None
+abbrev pub fault_number : ElfFault → Option ℕ
+fault_number faults.Short = Some 1
+fault_number faults.Magic = Some 2
+fault_number faults.Class = Some 3
+fault_number faults.Encoding = Some 4
+fault_number faults.Version = Some 5
+fault_number faults.FileType = Some 6
+fault_number faults.Machine = Some 7
+fault_number faults.Compressed = Some 8
+fault_number faults.HeaderSize = Some 9
+fault_number faults.OutsideFile = Some 10
+fault_number faults.FileOverMem = Some 11
+fault_number faults.PastEnd = Some 12
+fault_number faults.Overlap = Some 13
+fault_number faults.TooLarge = Some 14
+fault_number faults.Dynamic = Some 15
+fault_number faults.EntryAlign = Some 16
+fault_number faults.Memory = None
 
 -- the fault if the test holds, else the result of the later checks
 abbrev pub fault_if : Bool → ElfFault → Option ElfFault → Option ElfFault

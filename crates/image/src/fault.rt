@@ -1,6 +1,6 @@
 //! The faults of files and images.
 ghost use Rattle.std.specs.Prelude.{◌≡◌};
-ghost use Rattle.image.specs.Fault.{number_of};
+ghost use Rattle.image.specs.Fault.{fault_number};
 
 use thiserror::Error;
 
@@ -64,7 +64,7 @@ pub enum ElfFault {
 impl ElfFault {
     /// The number of the failed check, from 1 on; `None` for out of memory.
     pub fn number(&self) -> Option<u8>
-        ensures { result ≡ number_of self.now }
+        ensures { result ≡ fault_number self.now }
     {
         match self {
             ElfFault::Short => Some(1),

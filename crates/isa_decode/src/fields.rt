@@ -23,28 +23,28 @@ pub(crate) fn funct7(word: u32) -> u32
 
 /// Bits 11 to 7.
 pub(crate) fn rd(word: u32) -> Reg
-    ensures { result ≡ spec.rd word }
+    ensures { result ≡ spec.rd_of word }
 {
     Reg::new(((word >> 7) & 0x1f) as u8)
 }
 
 /// Bits 19 to 15.
 pub(crate) fn rs1(word: u32) -> Reg
-    ensures { result ≡ spec.rs1 word }
+    ensures { result ≡ spec.rs1_of word }
 {
     Reg::new(((word >> 15) & 0x1f) as u8)
 }
 
 /// Bits 24 to 20.
 pub(crate) fn rs2(word: u32) -> Reg
-    ensures { result ≡ spec.rs2 word }
+    ensures { result ≡ spec.rs2_of word }
 {
     Reg::new(((word >> 20) & 0x1f) as u8)
 }
 
 /// Bits 24 to 20, as a shift amount.
 pub(crate) fn shift_amount(word: u32) -> ShiftAmount
-    ensures { result ≡ spec.rs2 word }
+    ensures { result ≡ spec.rs2_of word }
 {
     ShiftAmount::new(((word >> 20) & 0x1f) as u8)
 }

@@ -3,7 +3,7 @@
 
 ghost use Rattle.std.specs.Prelude.{◌≡◌, ◌↔◌, Option, Some};
 ghost use Rattle.isa_table.specs.Decoded as spec;
-ghost use Rattle.isa_table.specs.Spells.{Spells};
+ghost use Rattle.isa_table.specs.Spells.{SpellsInstr};
 ghost use Rattle.isa_table.specs.declared.instr.Instr.{Instr};
 
 mod fields;
@@ -20,7 +20,7 @@ use operations::{amo_op, branch_op, immediate_op, load_op, register_op, shift_op
 /// words with a wrong fixed bit, and LR with rs2 not 0. Unprivileged ISA, "RV32/64G Instruction Set
 /// Listings".
 pub fn decode(word: u32) -> Option<Instr>
-    ensures spelled { (i : Instr) → (result ≡ Some i) ↔ Spells word i }
+    ensures spelled { (i : Instr) → (result ≡ Some i) ↔ SpellsInstr word i }
     ensures computed { result ≡ spec.decoded word }
 {
     instr_at(word)

@@ -2,7 +2,7 @@
 #![tactic(auto)]
 
 ghost use Rattle.std.specs.Prelude.{◌≡◌, ◌+◌, ◌*◌, ◌^◌, ◌<◌};
-ghost use Rattle.isa_table.specs.Spells.{Spells, bit};
+ghost use Rattle.isa_table.specs.Spells.{SpellsInstr, bit};
 ghost use Rattle.isa_table.specs.Table.{code, atomic_code};
 ghost use Rattle.isa_table.specs.Table as table;
 
@@ -24,7 +24,7 @@ use operations::{
 /// The word that spells an instruction. Unprivileged ISA, "RV32/64G Instruction Set Listings".
 #[tactic(auto, unfolding(isa_table::specs::Spells::word_of))]
 pub fn encode(instr: &Instr) -> u32
-    ensures { Spells result instr.now }
+    ensures { SpellsInstr result instr.now }
 {
     match *instr {
         Instr::Lui { rd, imm } => u_word(imm, rd, OPCODE_LUI),

@@ -35,21 +35,21 @@ bits word place width = word / 2 ^ place % 2 ^ width
 abbrev pub opcode : ℕ → ℕ
 opcode w = bits w 0 7
 
--- rd: bits 11 to 7
-abbrev pub rd : ℕ → ℕ
-rd w = bits w 7 5
+-- rd_of: bits 11 to 7
+abbrev pub rd_of : ℕ → ℕ
+rd_of w = bits w 7 5
 
 -- funct3: bits 14 to 12
 abbrev pub funct3 : ℕ → ℕ
 funct3 w = bits w 12 3
 
--- rs1: bits 19 to 15
-abbrev pub rs1 : ℕ → ℕ
-rs1 w = bits w 15 5
+-- rs1_of: bits 19 to 15
+abbrev pub rs1_of : ℕ → ℕ
+rs1_of w = bits w 15 5
 
--- rs2: bits 24 to 20
-abbrev pub rs2 : ℕ → ℕ
-rs2 w = bits w 20 5
+-- rs2_of: bits 24 to 20
+abbrev pub rs2_of : ℕ → ℕ
+rs2_of w = bits w 20 5
 
 -- funct7: bits 31 to 25
 abbrev pub funct7 : ℕ → ℕ
@@ -59,13 +59,13 @@ funct7 w = bits w 25 7
 abbrev pub funct5 : ℕ → ℕ
 funct5 w = bits w 27 5
 
--- aq: bit 26
-abbrev pub aq : ℕ → Bool
-aq w = bits w 26 1 == 1
+-- aq_of: bit 26
+abbrev pub aq_of : ℕ → Bool
+aq_of w = bits w 26 1 == 1
 
--- rl: bit 25
-abbrev pub rl : ℕ → Bool
-rl w = bits w 25 1 == 1
+-- rl_of: bit 25
+abbrev pub rl_of : ℕ → Bool
+rl_of w = bits w 25 1 == 1
 
 -- the immediate of the I format, sign-extended
 abbrev pub i_immediate : ℕ → ℕ
@@ -170,30 +170,30 @@ amo_op funct5 =
 -- a word with the opcode of JALR
 abbrev pub jalr_at : ℕ → Option Instr
 jalr_at w =
-    if funct3 w == 0 then Some (Jalr (rd w) (rs1 w) (i_immediate w)) else None
+    if funct3 w == 0 then Some (Jalr (rd_of w) (rs1_of w) (i_immediate w)) else None
 
 -- a word with the opcode of FENCE
 abbrev pub fence_at : ℕ → Option Instr
 fence_at w =
     if funct3 w == 0 then
-    Some (Fence (bits w 28 4) (bits w 24 4) (bits w 20 4) (rs1 w) (rd w)) else None
+    Some (Fence (bits w 28 4) (bits w 24 4) (bits w 20 4) (rs1_of w) (rd_of w)) else None
 
 -- a word with the opcode of the operations with an immediate: for these funct3 a shift
 abbrev pub immediate_at : ℕ → Option Instr
 immediate_at w =
     if (funct3 w == 1) || (funct3 w == 5) then
-    option_map (λ op. Shift op (rd w) (rs1 w) (rs2 w)) (shift_op (funct7 w) (funct3 w)) else
-    option_map (λ op. Immediate op (rd w) (rs1 w) (i_immediate w)) (immediate_op (funct3 w))
+    option_map (λ op. Shift op (rd_of w) (rs1_of w) (rs2_of w)) (shift_op (funct7 w) (funct3 w)) else
+    option_map (λ op. Immediate op (rd_of w) (rs1_of w) (i_immediate w)) (immediate_op (funct3 w))
 
--- a word with the opcode of the A extension; LR has zeros for rs2
+-- a word with the opcode of the A extension; LR has zeros for rs2_of
 abbrev pub atomic_at : ℕ → Option Instr
 atomic_at w =
     if funct3 w == 2 then
     (if funct5 w == 0b00010 then
-    (if rs2 w == 0 then Some (LoadReserved (aq w) (rl w) (rd w) (rs1 w)) else None) else
+    (if rs2_of w == 0 then Some (LoadReserved (aq_of w) (rl_of w) (rd_of w) (rs1_of w)) else None) else
     if funct5 w == 0b00011 then
-    Some (StoreConditional (aq w) (rl w) (rd w) (rs1 w) (rs2 w)) else
-    option_map (λ op. Amo op (aq w) (rl w) (rd w) (rs1 w) (rs2 w)) (amo_op (funct5 w)))
+    Some (StoreConditional (aq_of w) (rl_of w) (rd_of w) (rs1_of w) (rs2_of w)) else
+    option_map (λ op. Amo op (aq_of w) (rl_of w) (rd_of w) (rs1_of w) (rs2_of w)) (amo_op (funct5 w)))
     else None
 
 -- ECALL and EBREAK are one word each
@@ -205,19 +205,19 @@ system_at w =
 -- the instruction that a 32-bit word spells, or none
 unfoldable pub decoded : ℕ → Option Instr
 decoded w =
-    if opcode w == 0x37 then Some (Lui (rd w) (u_immediate w)) else
-    if opcode w == 0x17 then Some (Auipc (rd w) (u_immediate w)) else
-    if opcode w == 0x6f then Some (Jal (rd w) (j_immediate w)) else
+    if opcode w == 0x37 then Some (Lui (rd_of w) (u_immediate w)) else
+    if opcode w == 0x17 then Some (Auipc (rd_of w) (u_immediate w)) else
+    if opcode w == 0x6f then Some (Jal (rd_of w) (j_immediate w)) else
     if opcode w == 0x67 then jalr_at w else
     if opcode w == 0x63 then
-    option_map (λ op. Branch op (rs1 w) (rs2 w) (b_immediate w)) (branch_op (funct3 w)) else
+    option_map (λ op. Branch op (rs1_of w) (rs2_of w) (b_immediate w)) (branch_op (funct3 w)) else
     if opcode w == 0x03 then
-    option_map (λ op. Load op (rd w) (rs1 w) (i_immediate w)) (load_op (funct3 w)) else
+    option_map (λ op. Load op (rd_of w) (rs1_of w) (i_immediate w)) (load_op (funct3 w)) else
     if opcode w == 0x23 then
-    option_map (λ op. Store op (rs1 w) (rs2 w) (s_immediate w)) (store_op (funct3 w)) else
+    option_map (λ op. Store op (rs1_of w) (rs2_of w) (s_immediate w)) (store_op (funct3 w)) else
     if opcode w == 0x13 then immediate_at w else
     if opcode w == 0x33 then
-    option_map (λ op. Register op (rd w) (rs1 w) (rs2 w)) (register_op (funct7 w) (funct3 w)) else
+    option_map (λ op. Register op (rd_of w) (rs1_of w) (rs2_of w)) (register_op (funct7 w) (funct3 w)) else
     if opcode w == 0x0f then fence_at w else
     if opcode w == 0x73 then system_at w else
     if opcode w == 0x2f then atomic_at w else None

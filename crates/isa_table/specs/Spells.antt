@@ -71,22 +71,22 @@ operands (Amo op aq rl rd rs1 rs2) =
     (operand.Rd, rd) ∷ (operand.Rs1, rs1) ∷ (operand.Rs2, rs2) ∷ []
 
 -- a number for each operand, by which operands are compared
-abbrev pub place_of : Operand → ℕ
-place_of operand.Rd = 0
-place_of operand.Rs1 = 1
-place_of operand.Rs2 = 2
-place_of operand.Immediate = 3
-place_of operand.Amount = 4
-place_of operand.Mode = 5
-place_of operand.Pred = 6
-place_of operand.Succ = 7
-place_of operand.Aq = 8
-place_of operand.Rl = 9
+abbrev pub operand_index : Operand → ℕ
+operand_index operand.Rd = 0
+operand_index operand.Rs1 = 1
+operand_index operand.Rs2 = 2
+operand_index operand.Immediate = 3
+operand_index operand.Amount = 4
+operand_index operand.Mode = 5
+operand_index operand.Pred = 6
+operand_index operand.Succ = 7
+operand_index operand.Aq = 8
+operand_index operand.Rl = 9
 
 -- the value of an operand, by its name
-abbrev pub value_of : Operand → List (Operand × ℕ) → ℕ
-value_of name [] = 0
-value_of name (o ∷ os) = if place_of name == place_of o.0 then o.1 else value_of name os
+abbrev pub operand_value : Operand → List (Operand × ℕ) → ℕ
+operand_value name [] = 0
+operand_value name (o ∷ os) = if operand_index name == operand_index o.0 then o.1 else operand_value name os
 
 -- the operands are in the ranges of their formats
 abbrev pub InRange : Instr → Type 0
@@ -112,13 +112,13 @@ InRange (Amo op aq rl rd rs1 rs2) = (rd < 2 ^ 5) × (rs1 < 2 ^ 5) × (rs2 < 2 ^ 
 
 -- what a field adds to the word: its bits of the operand, at their place
 abbrev pub part_of : Instr → Field → ℕ
-part_of i f = value_of f.operand (operands i) / 2 ^ f.low % 2 ^ f.width * 2 ^ f.place
+part_of i f = operand_value f.operand (operands i) / 2 ^ f.low % 2 ^ f.width * 2 ^ f.place
 
 -- the fixed word of the instruction's row, and each field's bits at their place
 unfoldable pub word_of : Instr → ℕ
 word_of i = fixed_of (mnemonic_of i) + sum_by (part_of i) (fields_of (mnemonic_of i))
 
 -- the word spells the instruction
-pub record Spells (word : ℕ) (i : Instr) : Type 0 where
+pub record SpellsInstr (word : ℕ) (i : Instr) : Type 0 where
   pub word_is : word ≡ word_of i
   pub in_range : InRange i

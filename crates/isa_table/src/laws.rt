@@ -2,7 +2,7 @@
 ghost use Rattle.std.specs.Prelude.{◌≡◌, ◌↔◌, ◌<◌, ◌^◌, ℕ, Option, Some, None};
 ghost use Rattle.std.specs.Prelude.{slice_get, map, IsTrue};
 ghost use Rattle.std.specs.List.{list_all};
-ghost use Rattle.isa_table.specs.Spells.{Spells};
+ghost use Rattle.isa_table.specs.Spells.{SpellsInstr};
 ghost use Rattle.isa_table.specs.Decoded.{decoded};
 ghost use Rattle.isa_table.specs.Table.{rows, row_of, has_fields_apart};
 ghost use Rattle.isa_table.specs.Vectors.{instr_of};
@@ -12,12 +12,12 @@ ghost use Rattle.isa_table.specs.declared.vectors.TheConstants.{VECTORS, UNASSIG
 
 /// No word spells two instructions.
 pub fn one_instruction()
-    ensures { (word : ℕ) (i j : Instr) → Spells word i → Spells word j → i ≡ j }
+    ensures { (word : ℕ) (i j : Instr) → SpellsInstr word i → SpellsInstr word j → i ≡ j }
 {}
 
 /// A word decodes to the instruction that it spells, and to `None` if it spells none.
 pub fn decoded_is_spelled()
-    ensures { (word : ℕ) (i : Instr) → word < 2 ^ 32 → (decoded word ≡ Some i) ↔ Spells word i }
+    ensures { (word : ℕ) (i : Instr) → word < 2 ^ 32 → (decoded word ≡ Some i) ↔ SpellsInstr word i }
 {}
 
 /// Each mnemonic has a row.

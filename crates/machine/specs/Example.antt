@@ -6,21 +6,21 @@ use Rattle.machine.specs.Start.{started}
 use Rattle.machine.specs.declared.choice.Choice.{Choice}
 
 -- the bytes of words, little-endian
-abbrev pub bytes_of : List ℕ → List ℕ
-bytes_of [] = []
-bytes_of (w ∷ words) =
-    w % 256 ∷ w / 2 ^ 8 % 256 ∷ w / 2 ^ 16 % 256 ∷ w / 2 ^ 24 % 256 ∷ bytes_of words
+abbrev pub example_bytes : List ℕ → List ℕ
+example_bytes [] = []
+example_bytes (w ∷ words) =
+    w % 256 ∷ w / 2 ^ 8 % 256 ∷ w / 2 ^ 16 % 256 ∷ w / 2 ^ 24 % 256 ∷ example_bytes words
 
 -- words as a program at 0x00010000, in one segment of 8192 bytes with all rights
-abbrev pub image_of : List ℕ → ImageValue
-image_of words = record {
+abbrev pub example_image : List ℕ → ImageValue
+example_image words = record {
   entry = 0x00010000;
-  segments = record { base = 0x00010000; size = 8192; rights = 7; bytes = bytes_of words } ∷ [];
+  segments = record { base = 0x00010000; size = 8192; rights = 7; bytes = example_bytes words } ∷ [];
 }
 
 -- each hart stores its input at one address, loads the word that is there, and exits with it
 abbrev pub store_and_load : ImageValue
-store_and_load = image_of (
+store_and_load = example_image (
     0x000112B7 ∷  -- lui t0, 0x11
     0x00B2A023 ∷  -- sw a1, 0(t0)
     0x0002A503 ∷  -- lw a0, 0(t0)

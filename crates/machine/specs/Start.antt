@@ -36,6 +36,6 @@ abbrev pub IsStartable : List ℕ → Type 0
 IsStartable inputs = (0 < length inputs) × (length inputs ≤ most_harts)
 
 -- the reason why there cannot be a hart for each input
-abbrev pub Refuses : List ℕ → StartFault → Type 0
-Refuses inputs NoHarts = length inputs ≡ 0
-Refuses inputs TooManyHarts = most_harts < length inputs
+abbrev pub RefusesStart : List ℕ → StartFault → Type 0
+RefusesStart inputs NoHarts = length inputs ≡ 0
+RefusesStart inputs TooManyHarts = most_harts < length inputs

@@ -1,6 +1,6 @@
 //! The inputs of a program's harts.
 ghost use Rattle.std.specs.Prelude.{◌≡◌, ◌<◌, ◌^◌, All, IfOk, MatchResult, length};
-ghost use Rattle.machine.specs.Start.{IsStartable, Refuses};
+ghost use Rattle.machine.specs.Start.{IsStartable, RefusesStart};
 
 use hart_reservations::MAX_HARTS;
 use std::marker::Model;
@@ -39,7 +39,7 @@ impl Inputs {
     pub fn new(words: &[u32]) -> Result<Inputs, StartFault>
         ensures same { MatchResult result
             (λ inputs. (inputs ≡ words.now) × IsStartable words.now)
-            (λ fault. Refuses words.now fault) }
+            (λ fault. RefusesStart words.now fault) }
         ensures words { IfOk result (λ _. All (λ x. x < 2 ^ 32) words.now) }
     {
         if words.is_empty() {

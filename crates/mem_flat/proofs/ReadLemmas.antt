@@ -5,7 +5,7 @@ use Rattle.std.proofs.lemmas.Bool.Decides.{nat_tests}
 use Rattle.std.specs.Option.{MatchOption, is_some}
 use Rattle.std.specs.List.{slice_index}
 use Rattle.image.specs.Segment.{SegmentValue}
-use Rattle.mem_store.specs.Memory.{grants, all_below, granted, number_of, number_at}
+use Rattle.mem_store.specs.Memory.{grants, all_below, granted, little_endian, number_at}
 use Rattle.mem_store.specs.Access.{peeked, fetched}
 use Rattle.mem_store.specs.Image.{segment_at, rights_in, byte_in, segments_memory}
 use Rattle.mem_flat.specs.Blocks.{IsInOrder, StandsAt, number_if}
@@ -20,7 +20,7 @@ all_below_false : (n : ℕ) (p : ℕ → Bool) → p 0 ≡ false → all_below (
 all_below_false zero p h = rw h refl
 all_below_false (suc n) p h = rw (all_below_false n p h) refl
 
-pub number_same : (n : ℕ) (f h : ℕ → ℕ) → ((k : ℕ) → k < n → f k ≡ h k) → number_of n f ≡ number_of n h
+pub number_same : (n : ℕ) (f h : ℕ → ℕ) → ((k : ℕ) → k < n → f k ≡ h k) → little_endian n f ≡ little_endian n h
 number_same zero f h same = refl
 number_same (suc n) f h same = rw (number_same n f h (λ k low. same k (omega arith)), same n (omega arith)) refl
 
@@ -55,7 +55,7 @@ granted_here bs a n i o wanted b order stands is =
 
 -- the number that such an access reads
 pub number_here : (bs : List SegmentValue) (a n i o : ℕ) (b : SegmentValue) → IsInOrder bs → StandsAt bs a n i o → b ≡ get_or bs i b
-    → number_at (segments_memory bs).bytes n a ≡ number_of n (λ k. slice_index b.bytes (o + k))
+    → number_at (segments_memory bs).bytes n a ≡ little_endian n (λ k. slice_index b.bytes (o + k))
 number_here bs a n i o b order stands is = number_same n (λ k. (segments_memory bs).bytes (a + k)) (λ k. slice_index b.bytes (o + k)) (byte_here bs a n i o b order stands is)
 
 -- one byte in a block
@@ -91,7 +91,7 @@ refused_none bs a wanted e = ap (grants wanted) (rights_none bs a e)
 
 -- a number that is granted, or not
 pub given_number : (bs : List SegmentValue) (a n i o v wanted : ℕ) (b : SegmentValue) (g : Bool) → IsInOrder bs → StandsAt bs a (suc n) i o → b ≡ get_or bs i b → g ≡ grants wanted (Some b.rights) → g ≡ true
-    → v ≡ number_of (suc n) (λ k. slice_index b.bytes (o + k)) → Some v ≡ number_if wanted (segments_memory bs) (suc n) a
+    → v ≡ little_endian (suc n) (λ k. slice_index b.bytes (o + k)) → Some v ≡ number_if wanted (segments_memory bs) (suc n) a
 given_number bs a n i o v wanted b g order stands is test hit value =
     let granted_is : granted wanted (segments_memory bs) (suc n) a ≡ true = granted_here bs a n i o wanted b order stands is ∙ sym test ∙ hit in
     let number_is : number_at (segments_memory bs).bytes (suc n) a ≡ v = number_here bs a (suc n) i o b order stands is ∙ sym value in

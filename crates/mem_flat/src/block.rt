@@ -1,6 +1,6 @@
 //! The bytes of one segment.
 ghost use Rattle.std.specs.Prelude.{◌≡◌, ◌+◌, ◌^◌, ◌<◌, ◌≤◌, Some, IfOk, length, slice_index};
-ghost use Rattle.mem_store.specs.Memory.{grants, number_of};
+ghost use Rattle.mem_store.specs.Memory.{grants, little_endian};
 ghost use Rattle.mem_flat.specs.Blocks.{filled, block_after};
 
 use image::{Rights, Segment};
@@ -99,7 +99,7 @@ impl<A: Allocator> Block<A> {
     #[inline]
     pub fn read16(&self, offset: usize) -> u16
         requires { offset + 2 ≤ self.now.size }
-        ensures { result ≡ number_of 2 (λ k. slice_index self.now.bytes (offset + k)) }
+        ensures { result ≡ little_endian 2 (λ k. slice_index self.now.bytes (offset + k)) }
     {
         u16::from_le_bytes([self.bytes[offset], self.bytes[offset + 1]])
     }
@@ -108,7 +108,7 @@ impl<A: Allocator> Block<A> {
     #[inline]
     pub fn read32(&self, offset: usize) -> u32
         requires { offset + 4 ≤ self.now.size }
-        ensures { result ≡ number_of 4 (λ k. slice_index self.now.bytes (offset + k)) }
+        ensures { result ≡ little_endian 4 (λ k. slice_index self.now.bytes (offset + k)) }
     {
         u32::from_le_bytes([
             self.bytes[offset],

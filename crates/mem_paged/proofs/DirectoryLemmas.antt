@@ -4,7 +4,7 @@ use Rattle.std.proofs.lemmas.Bool.{cases_Bool, cases_eq, cases_lt}
 use Rattle.std.proofs.lemmas.Bool.Decides.{nat_tests}
 use Rattle.std.proofs.lemmas.Option.{slice_get_past, slice_get_within}
 use Rattle.std.specs.List.{slice_get}
-use Rattle.mem_paged.specs.Directory.{DirectoryValue, proposed, owned, place_if, place_of, with_page}
+use Rattle.mem_paged.specs.Directory.{DirectoryValue, proposed, owned, place_if, page_place, with_page}
 use Rattle.mem_paged.specs.Pages.{kept_at}
 
 pub some : {X : Type 0} (a b : X) → Some a ≡ Some b → a ≡ b
@@ -65,14 +65,14 @@ place_kept owners n m (Some j) ne = elim (cases_lt j (length owners)) [
 
 module _ (d : DirectoryValue) (n : ℕ) (from : d.first ≤ n) (to : n < d.first + length d.index) where
   -- a page that was added is there
-  pub place-added : place_of (with_page d n) n ≡ Some (length d.owners)
+  pub place-added : page_place (with_page d n) n ≡ Some (length d.owners)
   place-added =
       let low : ltb n d.first ≡ false = grind (arith, nat_tests) in
       let is : eqb n n ≡ true = search rules in
       rw (low, get-set_same d.index (n - d.first) (length d.owners) (omega arith), get-pushed d.owners n, is)
 
   -- and the others keep their places
-  pub place-others : (m : ℕ) → (m ≡ n → ⊥) → place_of (with_page d n) m ≡ place_of d m
+  pub place-others : (m : ℕ) → (m ≡ n → ⊥) → page_place (with_page d n) m ≡ page_place d m
   place-others m ne = elim (cases_Bool (ltb m d.first)) [
     | inl low ↦ rw low refl
     | inr high ↦ (let above : d.first ≤ m = grind (arith, nat_tests) in
@@ -82,28 +82,28 @@ module _ (d : DirectoryValue) (n : ℕ) (from : d.first ≤ n) (to : n < d.first
   ]
 
 -- an item at a place with an owner stays when one more is pushed
-pub kept-push : {X : Type 0} (d : DirectoryValue) (m : ℕ) (xs : List X) (y : X) → length xs ≡ length d.owners → kept_at (xs ++ y ∷ []) (place_of d m) ≡ kept_at xs (place_of d m)
-kept-push d m xs y len = at_place (place_of d m) refl
+pub kept-push : {X : Type 0} (d : DirectoryValue) (m : ℕ) (xs : List X) (y : X) → length xs ≡ length d.owners → kept_at (xs ++ y ∷ []) (page_place d m) ≡ kept_at xs (page_place d m)
+kept-push d m xs y len = at_place (page_place d m) refl
   where
-    at_place : (p : Option ℕ) → place_of d m ≡ p → kept_at (xs ++ y ∷ []) p ≡ kept_at xs p
+    at_place : (p : Option ℕ) → page_place d m ≡ p → kept_at (xs ++ y ∷ []) p ≡ kept_at xs p
     at_place None e = refl
     at_place (Some k) e =
         let low : k < length d.owners = slice_get_within d.owners k m (owner_of d.owners m k (proposed d m) e) in
         get-push xs y k (omega (arith, low, len))
 
 -- the item of a page stays when another page's is replaced
-pub kept-set_other : {X : Type 0} (d : DirectoryValue) (n m k : ℕ) (xs : List X) (y : X) → (m ≡ n → ⊥) → place_of d n ≡ Some k → kept_at (set xs k y) (place_of d m) ≡ kept_at xs (place_of d m)
-kept-set_other d n m k xs y ne has = at_place (place_of d m) refl
+pub kept-set_other : {X : Type 0} (d : DirectoryValue) (n m k : ℕ) (xs : List X) (y : X) → (m ≡ n → ⊥) → page_place d n ≡ Some k → kept_at (set xs k y) (page_place d m) ≡ kept_at xs (page_place d m)
+kept-set_other d n m k xs y ne has = at_place (page_place d m) refl
   where
     mine : slice_get d.owners k ≡ Some n
     mine = owner_of d.owners n k (proposed d n) has
 
-    at_place : (p : Option ℕ) → place_of d m ≡ p → kept_at (set xs k y) p ≡ kept_at xs p
+    at_place : (p : Option ℕ) → page_place d m ≡ p → kept_at (set xs k y) p ≡ kept_at xs p
     at_place None e = refl
     at_place (Some j) e = get-set_other xs k j y (λ is. ne (some m n (sym (owner_of d.owners m j (proposed d m) e) ∙ ap (slice_get d.owners) is ∙ mine)))
 
 -- no page above the highest
-pub place-past : (d : DirectoryValue) (n : ℕ) → d.first + length d.index ≤ n → place_of d n ≡ None
+pub place-past : (d : DirectoryValue) (n : ℕ) → d.first + length d.index ≤ n → page_place d n ≡ None
 place-past d n past =
     let low : ltb n d.first ≡ false = grind (arith, nat_tests) in
     let none : slice_get d.index (n - d.first) ≡ None = slice_get_past d.index (n - d.first) (omega arith) in

@@ -9,9 +9,9 @@ use Rattle.mem_store.specs.Memory.{grants, all_below, granted}
 use Rattle.mem_store.specs.Access.{written}
 use Rattle.mem_flat.specs.Blocks.{spelled}
 use Rattle.mem_flat.proofs.WriteLemmas.{spelled_in, spelled_out}
-use Rattle.mem_paged.specs.Directory.{DirectoryValue, proposed, place_of}
-use Rattle.mem_paged.specs.Pages.{right_at, byte_in, kept_at, spans_of, pages_memory}
-use Rattle.mem_paged.specs.Number.{width_of, value_of}
+use Rattle.mem_paged.specs.Directory.{DirectoryValue, proposed, page_place}
+use Rattle.mem_paged.specs.Pages.{right_at, byte_in_page, kept_at, spans_of, pages_memory}
+use Rattle.mem_paged.specs.Number.{width_of, stored_value}
 use Rattle.mem_paged.specs.Store.{memory_of}
 use Rattle.mem_paged.specs.Table.{pages_of}
 use Rattle.mem_paged.specs.Written.{IsWritten}
@@ -39,16 +39,16 @@ in_one_page (Byte v) a e = omega arith
 in_one_page (Half v) a e = omega arith
 in_one_page (Word v) a e = omega arith
 
-module _ (d : DirectoryValue) (rights : List (List Span)) (pages : List Page) (n k a v : ℕ) (p q : Page) (at : place_of d (a / 4096) ≡ Some k)
+module _ (d : DirectoryValue) (rights : List (List Span)) (pages : List Page) (n k a v : ℕ) (p q : Page) (at : page_place d (a / 4096) ≡ Some k)
     (is : slice_get pages k ≡ Some p) (inside : k < length pages) (long : length p.bytes ≡ 4096) (room : a % 4096 + n ≤ 4096) (new : q.bytes ≡ spelled n p.bytes (a % 4096) v) where
-  same_page : (x : ℕ) → x / 4096 ≡ a / 4096 → byte_in (kept_at (set pages k q) (place_of d (x / 4096))) (x % 4096) ≡ slice_index q.bytes (x % 4096)
+  same_page : (x : ℕ) → x / 4096 ≡ a / 4096 → byte_in_page (kept_at (set pages k q) (page_place d (x / 4096))) (x % 4096) ≡ slice_index q.bytes (x % 4096)
   same_page x e = rw (e, at, get-set_same pages k q inside)
 
-  same_old : (x : ℕ) → x / 4096 ≡ a / 4096 → byte_in (kept_at pages (place_of d (x / 4096))) (x % 4096) ≡ slice_index p.bytes (x % 4096)
+  same_old : (x : ℕ) → x / 4096 ≡ a / 4096 → byte_in_page (kept_at pages (page_place d (x / 4096))) (x % 4096) ≡ slice_index p.bytes (x % 4096)
   same_old x e = rw (e, at, is)
 
-  other_page : (x : ℕ) → (x / 4096 ≡ a / 4096 → ⊥) → byte_in (kept_at (set pages k q) (place_of d (x / 4096))) (x % 4096) ≡ byte_in (kept_at pages (place_of d (x / 4096))) (x % 4096)
-  other_page x ne = ap (λ o. byte_in o (x % 4096)) (kept-set_other d (a / 4096) (x / 4096) k pages q ne at)
+  other_page : (x : ℕ) → (x / 4096 ≡ a / 4096 → ⊥) → byte_in_page (kept_at (set pages k q) (page_place d (x / 4096))) (x % 4096) ≡ byte_in_page (kept_at pages (page_place d (x / 4096))) (x % 4096)
+  other_page x ne = ap (λ o. byte_in_page o (x % 4096)) (kept-set_other d (a / 4096) (x / 4096) k pages q ne at)
 
   pub page_stored : pages_memory d rights (set pages k q) ≡ written n a v (pages_memory d rights pages)
   page_stored = ap (λ b. record { rights = (pages_memory d rights pages).rights; bytes = b }) (fun_ext (λ x. elim (cases_Bool (leb a x && ltb x (a + n))) [
@@ -64,18 +64,18 @@ module _ (d : DirectoryValue) (rights : List (List Span)) (pages : List Page) (n
   ]))
 
 -- the same of a store, whose parts are read in order
-module _ {Z : Type 0} (s : PageStore Z) (a k : ℕ) (l : Layout Z) (same : l ≡ s.layout.value) (place : Some k ≡ place_of l.directory (a / 4096)) (inside : k < length l.directory.owners) where
+module _ {Z : Type 0} (s : PageStore Z) (a k : ℕ) (l : Layout Z) (same : l ≡ s.layout.value) (place : Some k ≡ page_place l.directory (a / 4096)) (inside : k < length l.directory.owners) where
   pub may_store : (number : Number) (w : ℕ) (g : Bool) (m : Layout Z) (p : PageRights Z) → a % width_of number ≡ 0 → w ≡ width_of number → m ≡ s.layout.value → p ≡ get_or m.rights.items k p
       → g ≡ all_below w (λ j. grants 2 (right_at p.spans.items (a % 4096 + j))) → g ≡ granted 2 (memory_of s) (width_of number) a
   may_store number w g m p aligned width is is_p test =
       granted_is s a k l same place inside (width_of number) 2 g m p is is_p (in_one_page number a aligned) (test ∙ ap (λ n. all_below n (λ j. grants 2 (right_at p.spans.items (a % 4096 + j)))) width)
 
-  pub after_store : (number : Number) (new : List Page) → a % width_of number ≡ 0 → IsWritten (width_of number) k (a % 4096) (value_of number) (pages_of s.table.chunks.items) new
-      → pages_memory s.layout.value.directory (spans_of s.layout.value.rights.items) new ≡ written (width_of number) a (value_of number) (memory_of s)
+  pub after_store : (number : Number) (new : List Page) → a % width_of number ≡ 0 → IsWritten (width_of number) k (a % 4096) (stored_value number) (pages_of s.table.chunks.items) new
+      → pages_memory s.layout.value.directory (spans_of s.layout.value.rights.items) new ≡ written (width_of number) a (stored_value number) (memory_of s)
   after_store number new aligned is =
       let there : k < length (pages_of s.table.chunks.items) = slice_get_within (pages_of s.table.chunks.items) k is.old_page is.there in
       ap (pages_memory s.layout.value.directory (spans_of s.layout.value.rights.items)) is.pages
-      ∙ page_stored s.layout.value.directory (spans_of s.layout.value.rights.items) (pages_of s.table.chunks.items) (width_of number) k a (value_of number) is.old_page is.new_page (at_place s a k l same place inside)
+      ∙ page_stored s.layout.value.directory (spans_of s.layout.value.rights.items) (pages_of s.table.chunks.items) (width_of number) k a (stored_value number) is.old_page is.new_page (at_place s a k l same place inside)
       is.there there is.long (in_one_page number a aligned) is.spells
 
   -- pages that are as they were
@@ -84,14 +84,14 @@ module _ {Z : Type 0} (s : PageStore Z) (a k : ℕ) (l : Layout Z) (same : l ≡
 
 -- pages with others after them
 module _ (d : DirectoryValue) (rights : List (List Span)) (pages new : List Page) (n : ℕ) (len : n ≡ length d.owners) (begins : take n new ≡ pages) where
-  kept-begun : (m : ℕ) (place : Option ℕ) → place_of d m ≡ place → kept_at new place ≡ kept_at pages place
+  kept-begun : (m : ℕ) (place : Option ℕ) → page_place d m ≡ place → kept_at new place ≡ kept_at pages place
   kept-begun m None e = refl
   kept-begun m (Some k) e =
       let low : k < length d.owners = slice_get_within d.owners k m (owner_of d.owners m k (proposed d m) e) in
       sym (ap (λ (l : List Page). slice_get l k) (sym begins) ∙ get-take n new k (omega (arith, low, len)))
 
   pub begun_memory : pages_memory d rights new ≡ pages_memory d rights pages
-  begun_memory = same_memory _ _ (λ x. refl) (λ x. ap (λ q. byte_in q (x % 4096)) (kept-begun (x / 4096) (place_of d (x / 4096)) refl))
+  begun_memory = same_memory _ _ (λ x. refl) (λ x. ap (λ q. byte_in_page q (x % 4096)) (kept-begun (x / 4096) (page_place d (x / 4096)) refl))
 
 -- the same of a table that begins with pages that were filled
 pub filled_memory : {Z : Type 0} (l m : Layout Z) (pages seen new : List Page) (n : ℕ) → l ≡ m → n ≡ length m.directory.owners → n ≡ length pages → seen ≡ pages → take (length seen) new ≡ seen

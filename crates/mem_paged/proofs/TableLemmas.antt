@@ -9,7 +9,7 @@ use Rattle.std.specs.List.{flat_map, slice_get}
 use Rattle.std.specs.Option.{option_map}
 use Rattle.std.specs.declared.rc.Rc.{Rc}
 use Rattle.mem_flat.specs.Blocks.{spelled}
-use Rattle.mem_paged.specs.Table.{values_of, pages_in, pages_of}
+use Rattle.mem_paged.specs.Table.{shared_values, pages_in, pages_of}
 use Rattle.mem_paged.specs.Written.{IsWritten}
 use Rattle.mem_paged.specs.declared.page.Page.{Page}
 use Rattle.mem_paged.specs.declared.chunk.Chunk.{Chunk}
@@ -73,7 +73,7 @@ pub raw_read : {X A : Type 0} (f : X → A) (items : List X) (n k : ℕ) (x : X)
 raw_read f items n k x len inside is = slice_get-map f items k ∙ ap (option_map f) (slice_get_read items n k x len inside is)
 
 -- ---- shared values
-pub shared_read : {X Z : Type 0} (items : List (Rc X Z)) (n k : ℕ) (r : Rc X Z) → n ≡ length items → k < n → r ≡ get_or items k r → slice_get (values_of items) k ≡ Some r.value
+pub shared_read : {X Z : Type 0} (items : List (Rc X Z)) (n k : ℕ) (r : Rc X Z) → n ≡ length items → k < n → r ≡ get_or items k r → slice_get (shared_values items) k ≡ Some r.value
 shared_read {X} {Z} items n k r len inside is = raw_read (λ (p : Rc X Z). p.value) items n k r len inside is
 
 whole_chunk : {Z : Type 0} (c : Chunk Z) → length (pages_in c) ≡ 64
@@ -84,14 +84,14 @@ pub page_read : {Z : Type 0} (chunks : List (Rc (Chunk Z) Z)) (n k : ℕ) (r : R
     → r ≡ get_or chunks (k / 64) r → c ≡ r.value → p ≡ get_or c.pages.items (k % 64) p → slice_get (pages_of chunks) k ≡ Some p.value
 unfolding pages_of
 page_read {Z} chunks n k r c p len inside is_r is_c is_p =
-    let chunk : slice_get (values_of chunks) (k / 64) ≡ Some r.value = shared_read chunks n (k / 64) r len (omega arith) is_r in
+    let chunk : slice_get (shared_values chunks) (k / 64) ≡ Some r.value = shared_read chunks n (k / 64) r len (omega arith) is_r in
     let is : p ≡ get_or r.value.pages.items (k % 64) p = is_p ∙ ap (λ (t : Chunk Z). get_or t.pages.items (k % 64) p) is_c in
-    get-pieces (λ (t : Chunk Z). pages_in t) (λ (t : Chunk Z). whole_chunk t) (values_of chunks) k r.value chunk
+    get-pieces (λ (t : Chunk Z). pages_in t) (λ (t : Chunk Z). whole_chunk t) (shared_values chunks) k r.value chunk
     ∙ shared_read r.value.pages.items _ (k % 64) p r.value.pages.ok.0 (omega (arith, r.value.whole)) is
 
 -- ---- one page that is written
 pub page_written : {Z : Type 0} (items : List (Rc Page Z)) (m n k offset value : ℕ) (r q : Rc Page Z) → m ≡ length items → k < m → r ≡ get_or items k r → length r.value.bytes ≡ 4096
-    → q.value.bytes ≡ spelled n r.value.bytes offset value → IsWritten n k offset value (values_of items) (values_of (set items k q))
+    → q.value.bytes ≡ spelled n r.value.bytes offset value → IsWritten n k offset value (shared_values items) (shared_values (set items k q))
 page_written {Z} items m n k offset value r q len inside is long new = record {
   old_page = r.value;
   new_page = q.value;
@@ -102,7 +102,7 @@ page_written {Z} items m n k offset value r q len inside is long new = record {
 }
 
 -- one that is not
-pub page_kept : {Z : Type 0} (items : List (Rc Page Z)) (k : ℕ) (r q : Rc Page Z) → r ≡ get_or items k r → q.value ≡ r.value → values_of (set items k q) ≡ values_of items
+pub page_kept : {Z : Type 0} (items : List (Rc Page Z)) (k : ℕ) (r q : Rc Page Z) → r ≡ get_or items k r → q.value ≡ r.value → shared_values (set items k q) ≡ shared_values items
 page_kept {Z} items k r q is same = map-set_same (λ (p : Rc Page Z). p.value) items k q r (same ∙ ap (λ (p : Rc Page Z). p.value) is)
 
 -- one that is written in a copy of the pages
@@ -121,15 +121,15 @@ pub chunk_written : {Z : Type 0} (chunks : List (Rc (Chunk Z) Z)) (m n k offset 
     → IsWritten n (k % 64) offset value (pages_in r.value) (pages_in q.value) → IsWritten n k offset value (pages_of chunks) (pages_of (set chunks (k / 64) q))
 unfolding pages_of
 chunk_written {Z} chunks m n k offset value r q len inside is new =
-    let chunk : slice_get (values_of chunks) (k / 64) ≡ Some r.value = shared_read chunks m (k / 64) r len (omega arith) is in
+    let chunk : slice_get (shared_values chunks) (k / 64) ≡ Some r.value = shared_read chunks m (k / 64) r len (omega arith) is in
     record {
       old_page = new.old_page;
       new_page = new.new_page;
-      there = get-pieces (λ (t : Chunk Z). pages_in t) (λ (t : Chunk Z). whole_chunk t) (values_of chunks) k r.value chunk ∙ new.there;
+      there = get-pieces (λ (t : Chunk Z). pages_in t) (λ (t : Chunk Z). whole_chunk t) (shared_values chunks) k r.value chunk ∙ new.there;
       long = new.long;
       spells = new.spells;
       pages = ap (flat_map (λ (t : Chunk Z). pages_in t)) (map-set (λ (t : Rc (Chunk Z) Z). t.value) chunks (k / 64) q)
-          ∙ set-pieces (λ (t : Chunk Z). pages_in t) (λ (t : Chunk Z). whole_chunk t) (values_of chunks) k r.value q.value new.new_page chunk new.pages;
+          ∙ set-pieces (λ (t : Chunk Z). pages_in t) (λ (t : Chunk Z). whole_chunk t) (shared_values chunks) k r.value q.value new.new_page chunk new.pages;
     }
 
 -- a chunk that has the same pages
@@ -138,58 +138,58 @@ pub chunk_kept : {Z : Type 0} (chunks : List (Rc (Chunk Z) Z)) (m i : ℕ) (r q 
 unfolding pages_of
 chunk_kept {Z} chunks m i r q len inside is same =
     ap (flat_map (λ (t : Chunk Z). pages_in t)) (map-set (λ (t : Rc (Chunk Z) Z). t.value) chunks i q)
-    ∙ set-same (λ (t : Chunk Z). pages_in t) (values_of chunks) i r.value q.value (shared_read chunks m i r len inside is) same
+    ∙ set-same (λ (t : Chunk Z). pages_in t) (shared_values chunks) i r.value q.value (shared_read chunks m i r len inside is) same
 
 -- chunks that share their values have the same pages
-pub same_chunks : {Z : Type 0} (cs ds : List (Rc (Chunk Z) Z)) (seen : List (Rc (Chunk Z) Z)) → values_of cs ≡ values_of seen → seen ≡ ds → pages_of cs ≡ pages_of ds
+pub same_chunks : {Z : Type 0} (cs ds : List (Rc (Chunk Z) Z)) (seen : List (Rc (Chunk Z) Z)) → shared_values cs ≡ shared_values seen → seen ≡ ds → pages_of cs ≡ pages_of ds
 unfolding pages_of
-same_chunks {Z} cs ds seen same is = ap (flat_map (λ (t : Chunk Z). pages_in t)) (same ∙ ap (λ (ts : List (Rc (Chunk Z) Z)). values_of ts) is)
+same_chunks {Z} cs ds seen same is = ap (flat_map (λ (t : Chunk Z). pages_in t)) (same ∙ ap (λ (ts : List (Rc (Chunk Z) Z)). shared_values ts) is)
 
 -- ---- pages that are put together
 -- no chunk
-pub no_chunks : {Z : Type 0} (chunks : List (Rc (Chunk Z) Z)) (pages : List (Rc Page Z)) → chunks ≡ [] → pages_of chunks ≡ values_of (take (0 * 64) pages)
+pub no_chunks : {Z : Type 0} (chunks : List (Rc (Chunk Z) Z)) (pages : List (Rc Page Z)) → chunks ≡ [] → pages_of chunks ≡ shared_values (take (0 * 64) pages)
 unfolding pages_of
-no_chunks {Z} chunks pages none = ap (λ (cs : List (Rc (Chunk Z) Z)). flat_map (λ (t : Chunk Z). pages_in t) (values_of cs)) none
+no_chunks {Z} chunks pages none = ap (λ (cs : List (Rc (Chunk Z) Z)). flat_map (λ (t : Chunk Z). pages_in t) (shared_values cs)) none
 
 -- one chunk more
-pub chunk_more : {Z : Type 0} (chunks after : List (Rc (Chunk Z) Z)) (q : Rc (Chunk Z) Z) (c : Chunk Z) (pages rest part : List (Rc Page Z)) (i : ℕ) → pages_of chunks ≡ values_of (take (i * 64) pages)
-    → rest ≡ drop (i * 64) pages → part ≡ take 64 rest → pages_in c ≡ values_of part → q.value ≡ c → after ≡ chunks ++ q ∷ [] → pages_of after ≡ values_of (take ((i + 1) * 64) pages)
+pub chunk_more : {Z : Type 0} (chunks after : List (Rc (Chunk Z) Z)) (q : Rc (Chunk Z) Z) (c : Chunk Z) (pages rest part : List (Rc Page Z)) (i : ℕ) → pages_of chunks ≡ shared_values (take (i * 64) pages)
+    → rest ≡ drop (i * 64) pages → part ≡ take 64 rest → pages_in c ≡ shared_values part → q.value ≡ c → after ≡ chunks ++ q ∷ [] → pages_of after ≡ shared_values (take ((i + 1) * 64) pages)
 unfolding pages_of
 chunk_more {Z} chunks after q c pages rest part i was is_rest is_part has is_q is =
     let piece : part ≡ take 64 (drop (i * 64) pages) = is_part ∙ ap (take 64) is_rest in
     let next : i * 64 + 64 ≡ (i + 1) * 64 = omega arith in
-    let new : pages_in q.value ≡ values_of (take 64 (drop (i * 64) pages)) =
-    ap (λ (t : Chunk Z). pages_in t) is_q ∙ has ∙ ap (λ (ps : List (Rc Page Z)). values_of ps) piece in
-    ap (λ (cs : List (Rc (Chunk Z) Z)). flat_map (λ (t : Chunk Z). pages_in t) (values_of cs)) is
+    let new : pages_in q.value ≡ shared_values (take 64 (drop (i * 64) pages)) =
+    ap (λ (t : Chunk Z). pages_in t) is_q ∙ has ∙ ap (λ (ps : List (Rc Page Z)). shared_values ps) piece in
+    ap (λ (cs : List (Rc (Chunk Z) Z)). flat_map (λ (t : Chunk Z). pages_in t) (shared_values cs)) is
     ∙ ap (flat_map (λ (t : Chunk Z). pages_in t)) (map-append (λ (t : Rc (Chunk Z) Z). t.value) chunks (q ∷ []))
-    ∙ flat_map-append (λ (t : Chunk Z). pages_in t) (values_of chunks) (q.value ∷ [])
+    ∙ flat_map-append (λ (t : Chunk Z). pages_in t) (shared_values chunks) (q.value ∷ [])
     ∙ ap (λ (l : List Page). l ++ (pages_in q.value ++ [])) was
-    ∙ ap (λ (l : List Page). values_of (take (i * 64) pages) ++ l) (append-nil (pages_in q.value) ∙ new)
+    ∙ ap (λ (l : List Page). shared_values (take (i * 64) pages) ++ l) (append-nil (pages_in q.value) ∙ new)
     ∙ sym (map-append (λ (t : Rc Page Z). t.value) (take (i * 64) pages) (take 64 (drop (i * 64) pages)))
-    ∙ ap (λ (ps : List (Rc Page Z)). values_of ps) (sym (take-add (i * 64) 64 pages) ∙ ap (λ (n : ℕ). take n pages) next)
+    ∙ ap (λ (ps : List (Rc Page Z)). shared_values ps) (sym (take-add (i * 64) 64 pages) ∙ ap (λ (n : ℕ). take n pages) next)
 
 -- all of them
-pub all_chunks : {Z : Type 0} (chunks : List (Rc (Chunk Z) Z)) (pages : List (Rc Page Z)) (n : ℕ) → pages_of chunks ≡ values_of (take n pages) → length pages ≤ n → pages_of chunks ≡ values_of pages
-all_chunks {Z} chunks pages n is long = is ∙ ap (λ (ps : List (Rc Page Z)). values_of ps) (take_all n pages long)
+pub all_chunks : {Z : Type 0} (chunks : List (Rc (Chunk Z) Z)) (pages : List (Rc Page Z)) (n : ℕ) → pages_of chunks ≡ shared_values (take n pages) → length pages ≤ n → pages_of chunks ≡ shared_values pages
+all_chunks {Z} chunks pages n is long = is ∙ ap (λ (ps : List (Rc Page Z)). shared_values ps) (take_all n pages long)
 
 -- pages, and others after them
-pub begins_first : {Z : Type 0} (pages all : List (Rc Page Z)) → values_of all ≡ values_of pages → take (length pages) (values_of all) ≡ values_of pages
+pub begins_first : {Z : Type 0} (pages all : List (Rc Page Z)) → shared_values all ≡ shared_values pages → take (length pages) (shared_values all) ≡ shared_values pages
 begins_first {Z} pages all same =
-    ap (take (length pages)) same ∙ take_all (length pages) (values_of pages) (omega (arith, length-map pages (λ (p : Rc Page Z). p.value)))
+    ap (take (length pages)) same ∙ take_all (length pages) (shared_values pages) (omega (arith, length-map pages (λ (p : Rc Page Z). p.value)))
 
 pub begins_more : {Z : Type 0} (pages all after : List (Rc Page Z)) (q : Rc Page Z) (n : ℕ) → n ≡ length all → length pages ≤ n → after ≡ all ++ q ∷ []
-    → take (length pages) (values_of all) ≡ values_of pages → take (length pages) (values_of after) ≡ values_of pages
+    → take (length pages) (shared_values all) ≡ shared_values pages → take (length pages) (shared_values after) ≡ shared_values pages
 begins_more {Z} pages all after q n len long is begins =
-    let room : length pages ≤ length (values_of all) = omega (arith, len, long, length-map all (λ (p : Rc Page Z). p.value)) in
-    ap (λ (ps : List (Rc Page Z)). take (length pages) (values_of ps)) is
+    let room : length pages ≤ length (shared_values all) = omega (arith, len, long, length-map all (λ (p : Rc Page Z). p.value)) in
+    ap (λ (ps : List (Rc Page Z)). take (length pages) (shared_values ps)) is
     ∙ ap (take (length pages)) (map-append (λ (p : Rc Page Z). p.value) all (q ∷ []))
-    ∙ take-append-le (length pages) (values_of all) (q.value ∷ []) room
+    ∙ take-append-le (length pages) (shared_values all) (q.value ∷ []) room
     ∙ begins
 
 -- a table of pages that were wrapped, with others after them
-pub table_begins : {Z : Type 0} (pages : List Page) (shared seen all seen_all : List (Rc Page Z)) (chunks : List (Rc (Chunk Z) Z)) → values_of shared ≡ pages → seen ≡ shared
-    → take (length seen) (values_of all) ≡ values_of seen → seen_all ≡ all → pages_of chunks ≡ values_of seen_all → take (length pages) (pages_of chunks) ≡ pages
+pub table_begins : {Z : Type 0} (pages : List Page) (shared seen all seen_all : List (Rc Page Z)) (chunks : List (Rc (Chunk Z) Z)) → shared_values shared ≡ pages → seen ≡ shared
+    → take (length seen) (shared_values all) ≡ shared_values seen → seen_all ≡ all → pages_of chunks ≡ shared_values seen_all → take (length pages) (pages_of chunks) ≡ pages
 table_begins {Z} pages shared seen all seen_all chunks wrapped is begins is_all has =
-    let same : values_of seen ≡ pages = ap (λ (ps : List (Rc Page Z)). values_of ps) is ∙ wrapped in
+    let same : shared_values seen ≡ pages = ap (λ (ps : List (Rc Page Z)). shared_values ps) is ∙ wrapped in
     let long : length pages ≡ length seen = sym (ap (λ (ps : List Page). length ps) same) ∙ length-map seen (λ (p : Rc Page Z). p.value) in
-    ap (λ (n : ℕ). take n (pages_of chunks)) long ∙ ap (take (length seen)) (has ∙ ap (λ (ps : List (Rc Page Z)). values_of ps) is_all) ∙ begins ∙ same
+    ap (λ (n : ℕ). take n (pages_of chunks)) long ∙ ap (take (length seen)) (has ∙ ap (λ (ps : List (Rc Page Z)). shared_values ps) is_all) ∙ begins ∙ same

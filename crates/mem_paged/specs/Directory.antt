@@ -22,8 +22,8 @@ place_if owners n None = None
 place_if owners n (Some k) = owned k n (slice_get owners k)
 
 -- the place of page n, if it exists
-abbrev pub place_of : DirectoryValue → ℕ → Option ℕ
-place_of d n = place_if d.owners n (proposed d n)
+abbrev pub page_place : DirectoryValue → ℕ → Option ℕ
+page_place d n = place_if d.owners n (proposed d n)
 
 -- the directory with page n at the next place
 abbrev pub with_page : DirectoryValue → ℕ → DirectoryValue

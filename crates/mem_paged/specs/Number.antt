@@ -10,7 +10,7 @@ width_of (Half value) = 2
 width_of (Word value) = 4
 
 -- the value of a number
-abbrev pub value_of : Number → ℕ
-value_of (Byte value) = value
-value_of (Half value) = value
-value_of (Word value) = value
+abbrev pub stored_value : Number → ℕ
+stored_value (Byte value) = value
+stored_value (Half value) = value
+stored_value (Word value) = value

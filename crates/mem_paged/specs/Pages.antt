@@ -1,7 +1,7 @@
 -- Pages of 4096 bytes as a memory.
 use Rattle.std.specs.Prelude.{ℕ, ◌+◌, ◌/◌, ◌%◌, Bool, ◌&&◌, nat_le, nat_lt, if◌then◌else◌, Option, Some, None, List, [], ◌∷◌, map, slice_get, slice_index}
 use Rattle.mem_store.specs.Memory.{Memory}
-use Rattle.mem_paged.specs.Directory.{DirectoryValue, place_of}
+use Rattle.mem_paged.specs.Directory.{DirectoryValue, page_place}
 use Rattle.mem_paged.specs.declared.page.Page.{Page}
 use Rattle.mem_paged.specs.declared.page_rights.Span.{Span}
 use Rattle.mem_paged.specs.declared.page_rights.PageRights.{PageRights}
@@ -29,9 +29,9 @@ abbrev pub spans_of : {Z : Type 0} → List (PageRights Z) → List (List Span)
 spans_of {Z} rights = map (λ (r : PageRights Z). r.spans.items) rights
 
 -- a page's byte at an offset, 0 if there is no page
-abbrev pub byte_in : Option Page → ℕ → ℕ
-byte_in None offset = 0
-byte_in (Some p) offset = slice_index p.bytes offset
+abbrev pub byte_in_page : Option Page → ℕ → ℕ
+byte_in_page None offset = 0
+byte_in_page (Some p) offset = slice_index p.bytes offset
 
 -- the item at a place, if there is a place
 abbrev pub kept_at : {X : Type 0} → List X → Option ℕ → Option X
@@ -41,6 +41,6 @@ kept_at xs (Some k) = slice_get xs k
 -- the memory of pages: an address is in page (address / 4096), at offset (address % 4096)
 abbrev pub pages_memory : DirectoryValue → List (List Span) → List Page → Memory
 pages_memory d rights pages = record {
-  rights = λ a. right_in (kept_at rights (place_of d (a / 4096))) (a % 4096);
-  bytes = λ a. byte_in (kept_at pages (place_of d (a / 4096))) (a % 4096);
+  rights = λ a. right_in (kept_at rights (page_place d (a / 4096))) (a % 4096);
+  bytes = λ a. byte_in_page (kept_at pages (page_place d (a / 4096))) (a % 4096);
 }

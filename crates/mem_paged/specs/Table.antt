@@ -6,13 +6,13 @@ use Rattle.mem_paged.specs.declared.page.Page.{Page}
 use Rattle.mem_paged.specs.declared.chunk.Chunk.{Chunk}
 
 -- the values of shared pointers
-abbrev pub values_of : {X Z : Type 0} → List (Rc X Z) → List X
-values_of {X} {Z} items = map (λ (p : Rc X Z). p.value) items
+abbrev pub shared_values : {X Z : Type 0} → List (Rc X Z) → List X
+shared_values {X} {Z} items = map (λ (p : Rc X Z). p.value) items
 
 -- the pages of a chunk
 abbrev pub pages_in : {Z : Type 0} → Chunk Z → List Page
-pages_in c = values_of c.pages.items
+pages_in c = shared_values c.pages.items
 
 -- the pages of chunks, in order
 unfoldable pub pages_of : {Z : Type 0} → List (Rc (Chunk Z) Z) → List Page
-pages_of {Z} chunks = flat_map (λ (c : Chunk Z). pages_in c) (values_of chunks)
+pages_of {Z} chunks = flat_map (λ (c : Chunk Z). pages_in c) (shared_values chunks)

@@ -1,6 +1,6 @@
 //! The places of pages.
 ghost use Rattle.std.specs.Prelude.{◌≡◌, ◌+◌, ◌<◌, ◌≤◌, [], length, IfOk, IfSome, OnOk};
-ghost use Rattle.mem_paged.specs.Directory.{place_of, with_page};
+ghost use Rattle.mem_paged.specs.Directory.{page_place, with_page};
 
 use std::alloc::{AllocError, Allocator};
 use std::marker::Model;
@@ -47,7 +47,7 @@ impl<A: Allocator> Directory<A> {
     /// The place of a page, if the page exists.
     #[inline]
     pub fn place(&self, number: u32) -> Option<usize>
-        ensures value { result ≡ place_of self.now number }
+        ensures value { result ≡ page_place self.now number }
         ensures inside { IfSome result (λ k. k < length self.now.owners) }
     {
         if number < self.first {

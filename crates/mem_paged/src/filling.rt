@@ -1,7 +1,7 @@
 //! Fills pages.
 ghost use Rattle.std.specs.Prelude.{◌≡◌, ◌<◌, ◌≤◌, ◌+◌, ◌^◌, ◌/◌, ◌%◌, ◌*◌, None, Some, IfOk, OnOk, All, length};
 ghost use Rattle.mem_store.specs.Image.{image_memory};
-ghost use Rattle.mem_paged.specs.Directory.{place_of};
+ghost use Rattle.mem_paged.specs.Directory.{page_place};
 ghost use Rattle.mem_paged.specs.Building.{built, unmapped, over, IsEven, IsCovered};
 ghost use Rattle.mem_paged.specs.Runs.{with_run};
 
@@ -43,9 +43,9 @@ impl<A: Allocator + Copy> Building<A> {
         requires even { IsEven self.old }
         requires from { self.old.directory.first ≤ number }
         requires to { number < self.old.directory.first + length self.old.directory.index }
-        requires new { place_of self.old.directory number ≡ None }
+        requires new { page_place self.old.directory number ≡ None }
         ensures even { IfOk result (λ k. IsEven self.new × (k < length self.new.directory.owners)) }
-        ensures placed { IfOk result (λ k. place_of self.new.directory number ≡ Some k) }
+        ensures placed { IfOk result (λ k. page_place self.new.directory number ≡ Some k) }
         ensures memory { OnOk result (built self.new ≡ built self.old) }
         ensures room { OnOk result ((self.new.directory.first ≡ self.old.directory.first)
             × (length self.new.directory.index ≡ length self.old.directory.index)) }
@@ -66,7 +66,7 @@ impl<A: Allocator + Copy> Building<A> {
         requires from { self.old.directory.first ≤ number }
         requires to { number < self.old.directory.first + length self.old.directory.index }
         ensures even { IfOk result (λ k. IsEven self.new × (k < length self.new.directory.owners)) }
-        ensures placed { IfOk result (λ k. place_of self.new.directory number ≡ Some k) }
+        ensures placed { IfOk result (λ k. page_place self.new.directory number ≡ Some k) }
         ensures memory { OnOk result (built self.new ≡ built self.old) }
         ensures room { OnOk result ((self.new.directory.first ≡ self.old.directory.first)
             × (length self.new.directory.index ≡ length self.old.directory.index)) }
@@ -90,7 +90,7 @@ impl<A: Allocator + Copy> Building<A> {
     ) -> Result<(), AllocError>
         requires even { IsEven self.old }
         requires inside { place < length self.old.directory.owners }
-        requires placed { place_of self.old.directory (address / 4096) ≡ Some place }
+        requires placed { page_place self.old.directory (address / 4096) ≡ Some place }
         requires in_page { address % 4096 + count ≤ 4096 }
         requires small { first + count ≤ 2 ^ 32 }
         ensures even { OnOk result (IsEven self.new) }

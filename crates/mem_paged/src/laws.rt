@@ -1,7 +1,7 @@
 //! Laws of each memory that can be copied.
 ghost use Rattle.std.specs.Prelude.{◌≡◌, IfOk};
 ghost use Rattle.mem_store.specs.Access.{Stores};
-ghost use Rattle.mem_paged.specs.Number.{width_of, value_of};
+ghost use Rattle.mem_paged.specs.Number.{width_of, stored_value};
 
 use crate::number::Number;
 use mem_store::{FromImage, Store, StoreFault};
@@ -9,7 +9,7 @@ use std::alloc::{AllocError, Allocator};
 
 /// Stores a number of any width.
 pub fn store_number<S: Store>(store: &mut S, address: u32, number: Number) -> Result<(), StoreFault>
-    ensures { Stores S.grows (width_of number) address (value_of number)
+    ensures { Stores S.grows (width_of number) address (stored_value number)
         (S.memory store.old) (S.memory store.new) result }
 {
     match number {
@@ -28,7 +28,7 @@ pub fn store_into_original<A: Allocator, S: FromImage<A>>(
     number: Number,
 ) -> Result<(S, Result<(), StoreFault>), AllocError>
     ensures copied { IfOk result (λ r. S.memory r.0 ≡ S.memory store.old) }
-    ensures stored { IfOk result (λ r. Stores S.grows (width_of number) address (value_of number)
+    ensures stored { IfOk result (λ r. Stores S.grows (width_of number) address (stored_value number)
         (S.memory store.old) (S.memory store.new) r.1) }
 {
     let copy = store.copy(alloc)?;
@@ -44,7 +44,7 @@ pub fn store_into_copy<A: Allocator, S: FromImage<A>>(
     number: Number,
 ) -> Result<(S, Result<(), StoreFault>), AllocError>
     ensures kept { S.memory store.new ≡ S.memory store.old }
-    ensures stored { IfOk result (λ r. Stores S.grows (width_of number) address (value_of number)
+    ensures stored { IfOk result (λ r. Stores S.grows (width_of number) address (stored_value number)
         (S.memory store.old) (S.memory r.0) r.1) }
 {
     let mut copy = store.copy(alloc)?;

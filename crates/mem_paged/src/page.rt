@@ -1,8 +1,8 @@
 //! Pages.
 ghost use Rattle.std.specs.Prelude.{◌≡◌, ℕ, ◌+◌, ◌^◌, ◌≤◌, length, slice_index};
-ghost use Rattle.mem_store.specs.Memory.{number_of};
+ghost use Rattle.mem_store.specs.Memory.{little_endian};
 ghost use Rattle.mem_flat.specs.Blocks.{spelled};
-ghost use Rattle.mem_paged.specs.Number.{width_of, value_of};
+ghost use Rattle.mem_paged.specs.Number.{width_of, stored_value};
 ghost use Rattle.mem_paged.specs.Runs.{byte_of_run};
 
 use crate::number::Number;
@@ -34,7 +34,7 @@ impl Page {
     #[inline]
     pub fn read16(&self, at: usize) -> u16
         requires { at + 2 ≤ 4096 }
-        ensures { result ≡ number_of 2 (λ k. slice_index self.now.bytes (at + k)) }
+        ensures { result ≡ little_endian 2 (λ k. slice_index self.now.bytes (at + k)) }
     {
         u16::from_le_bytes([self.bytes[at], self.bytes[at + 1]])
     }
@@ -43,7 +43,7 @@ impl Page {
     #[inline]
     pub fn read32(&self, at: usize) -> u32
         requires { at + 4 ≤ 4096 }
-        ensures { result ≡ number_of 4 (λ k. slice_index self.now.bytes (at + k)) }
+        ensures { result ≡ little_endian 4 (λ k. slice_index self.now.bytes (at + k)) }
     {
         u32::from_le_bytes([
             self.bytes[at],
@@ -57,7 +57,7 @@ impl Page {
     #[inline]
     pub fn write(&mut self, at: usize, number: Number)
         requires { at + width_of number ≤ 4096 }
-        ensures value { self.new.bytes ≡ spelled (width_of number) self.old.bytes at (value_of number) }
+        ensures value { self.new.bytes ≡ spelled (width_of number) self.old.bytes at (stored_value number) }
         ensures whole { length self.old.bytes ≡ 4096 }
     {
         match number {

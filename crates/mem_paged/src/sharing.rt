@@ -1,6 +1,6 @@
 //! Shared values.
 ghost use Rattle.std.specs.Prelude.{◌≡◌, IfOk, vec_len, length};
-ghost use Rattle.mem_paged.specs.Table.{pages_in, pages_of, values_of};
+ghost use Rattle.mem_paged.specs.Table.{pages_in, pages_of, shared_values};
 
 use crate::chunk::Chunk;
 use crate::page::Page;
@@ -13,7 +13,7 @@ pub fn share<T: Drop, A: Allocator + Copy>(
     alloc: A,
     items: &[Rc<T, A>],
 ) -> Result<Vec<Rc<T, A>, A>, AllocError>
-    ensures values { IfOk result (λ cs. values_of cs.items ≡ values_of items.now) }
+    ensures values { IfOk result (λ cs. shared_values cs.items ≡ shared_values items.now) }
     ensures len { IfOk result (λ cs. vec_len cs ≡ length items.now) }
 {
     let mut copies = Vec::with_capacity(alloc, items.len())?;
@@ -29,7 +29,7 @@ pub fn chunk_of<A: Allocator + Copy>(
     pages: &[Rc<Page, A>],
 ) -> Result<Chunk<A>, AllocError>
     requires { length pages.now ≡ 64 }
-    ensures { IfOk result (λ c. pages_in c ≡ values_of pages.now) }
+    ensures { IfOk result (λ c. pages_in c ≡ shared_values pages.now) }
 {
     let pages = share(alloc, pages)?;
     Ok(Chunk { pages })

@@ -3,7 +3,7 @@ ghost use Rattle.std.specs.Prelude.{◌≡◌, ◌+◌, ◌*◌, ◌/◌, ◌%�
 ghost use Rattle.mem_flat.specs.Kept.{IsCodeOf};
 ghost use Rattle.mem_paged.specs.Building.{built, IsEven};
 ghost use Rattle.mem_paged.specs.Store.{memory_of};
-ghost use Rattle.mem_paged.specs.Table.{pages_of, values_of};
+ghost use Rattle.mem_paged.specs.Table.{pages_of, shared_values};
 
 use crate::building::Building;
 use crate::chunk::{CHUNK_PAGES, Chunk};
@@ -18,7 +18,7 @@ use std::rc::Rc;
 
 // Wraps each page, to be shared.
 fn wrapped<A: Allocator + Copy>(alloc: A, pages: &[Page]) -> Result<Vec<Rc<Page, A>, A>, AllocError>
-    ensures values { IfOk result (λ ps. values_of ps.items ≡ pages.now) }
+    ensures values { IfOk result (λ ps. shared_values ps.items ≡ pages.now) }
     ensures len { IfOk result (λ ps. vec_len ps ≡ length pages.now) }
 {
     let mut shared = Vec::with_capacity(alloc, pages.len())?;
@@ -34,7 +34,7 @@ fn padded<A: Allocator + Copy>(
     pages: &[Rc<Page, A>],
 ) -> Result<Vec<Rc<Page, A>, A>, AllocError>
     ensures begins { IfOk result (λ ps.
-        take (length pages.now) (values_of ps.items) ≡ values_of pages.now) }
+        take (length pages.now) (shared_values ps.items) ≡ shared_values pages.now) }
     ensures whole { IfOk result (λ ps. vec_len ps ≡ (length pages.now / 64 + 1) * 64) }
 {
     let blank = Rc::new(
@@ -56,7 +56,7 @@ fn chunks_of<A: Allocator + Copy>(
     pages: &[Rc<Page, A>],
 ) -> Result<Vec<Rc<Chunk<A>, A>, A>, AllocError>
     requires { length pages.now % 64 ≡ 0 }
-    ensures pages { IfOk result (λ cs. pages_of cs.items ≡ values_of pages.now) }
+    ensures pages { IfOk result (λ cs. pages_of cs.items ≡ shared_values pages.now) }
     ensures count { IfOk result (λ cs. vec_len cs * 64 ≡ length pages.now) }
 {
     let mut chunks = Vec::with_capacity(alloc, pages.len() / CHUNK_PAGES)?;

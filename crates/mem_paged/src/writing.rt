@@ -2,7 +2,7 @@
 ghost use Rattle.std.specs.Prelude.{◌≡◌, ◌+◌, ◌*◌, ◌<◌, ◌≤◌, ◌%◌, length, vec_len, OnOk, OnErr, true};
 ghost use Rattle.mem_store.specs.Access.{Stores};
 ghost use Rattle.mem_flat.specs.Blocks.{spelled};
-ghost use Rattle.mem_paged.specs.Number.{width_of, value_of};
+ghost use Rattle.mem_paged.specs.Number.{width_of, stored_value};
 ghost use Rattle.mem_paged.specs.Store.{memory_of};
 ghost use Rattle.mem_paged.specs.Table.{pages_in, pages_of};
 ghost use Rattle.mem_paged.specs.Written.{Writes};
@@ -26,7 +26,7 @@ fn write<A: Allocator>(
 ) -> Result<(), AllocError>
     requires { at + width_of number ≤ 4096 }
     ensures ok { OnOk result (page.new.value.bytes
-        ≡ spelled (width_of number) page.old.value.bytes at (value_of number)) }
+        ≡ spelled (width_of number) page.old.value.bytes at (stored_value number)) }
     ensures err { OnErr result (page.new.value ≡ page.old.value) }
     ensures whole { OnOk result (length page.old.value.bytes ≡ 4096) }
 {
@@ -45,7 +45,7 @@ impl<A: Allocator> Chunk<A> {
     fn write(&mut self, alloc: A, index: usize, at: usize, number: Number) -> Result<(), AllocError>
         requires index { index < 64 }
         requires room { at + width_of number ≤ 4096 }
-        ensures { Writes (width_of number) index at (value_of number)
+        ensures { Writes (width_of number) index at (stored_value number)
             (pages_in self.old) (pages_in self.new) result }
     {
         match write(alloc, &mut self.pages[index], at, number) {
@@ -66,7 +66,7 @@ fn write_chunk<A: Allocator + Copy>(
 ) -> Result<(), AllocError>
     requires index { index < 64 }
     requires room { at + width_of number ≤ 4096 }
-    ensures { Writes (width_of number) index at (value_of number)
+    ensures { Writes (width_of number) index at (stored_value number)
         (pages_in chunk.old.value) (pages_in chunk.new.value) result }
 {
     if let Some(chunk) = Rc::get_mut(chunk) {
@@ -90,7 +90,7 @@ impl<A: Allocator + Copy> Table<A> {
     ) -> Result<(), AllocError>
         requires inside { place < 64 * vec_len self.old.chunks }
         requires room { at + width_of number ≤ 4096 }
-        ensures writes { Writes (width_of number) place at (value_of number)
+        ensures writes { Writes (width_of number) place at (stored_value number)
             (pages_of self.old.chunks.items) (pages_of self.new.chunks.items) result }
         ensures count { vec_len self.new.chunks ≡ vec_len self.old.chunks }
     {
@@ -113,7 +113,7 @@ impl<A: Allocator + Copy> PageStore<A> {
     #[inline]
     pub fn put(&mut self, address: u32, number: Number) -> Result<(), StoreFault>
         requires { address % width_of number ≡ 0 }
-        ensures { Stores true (width_of number) address (value_of number)
+        ensures { Stores true (width_of number) address (stored_value number)
             (memory_of self.old) (memory_of self.new) result }
     {
         let Some(place) = self.layout.directory.place(address / PAGE_SIZE as u32) else {

@@ -32,13 +32,13 @@ abbrev pub granted : ℕ → Memory → ℕ → ℕ → Bool
 granted wanted m n address = all_below n (λ k. grants wanted (m.rights (address + k)))
 
 -- n bytes as a number, little-endian (Unprivileged ISA, "RV32I")
-abbrev pub number_of : ℕ → (ℕ → ℕ) → ℕ
-number_of zero byte = 0
-number_of (suc n) byte = number_of n byte + byte n * 256 ^ n
+abbrev pub little_endian : ℕ → (ℕ → ℕ) → ℕ
+little_endian zero byte = 0
+little_endian (suc n) byte = little_endian n byte + byte n * 256 ^ n
 
 -- the number in the n bytes from an address on
 abbrev pub number_at : (ℕ → ℕ) → ℕ → ℕ → ℕ
-number_at bytes n address = number_of n (λ k. bytes (address + k))
+number_at bytes n address = little_endian n (λ k. bytes (address + k))
 
 -- the bytes in which the n from an address on spell the low digits of a value
 abbrev pub stored : ℕ → ℕ → ℕ → (ℕ → ℕ) → ℕ → ℕ

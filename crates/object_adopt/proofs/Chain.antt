@@ -1,4 +1,5 @@
--- A chain of adopt-commit objects that the harts go through one after another: its invariant, and the forms of its changes.
+-- A chain of adopt-commit objects that the harts go through one after another: its invariant, and
+-- the forms of its changes.
 use Rattle.std.proofs.Common.{◌≡◌, ◌≢◌, ℕ, suc, ◌+◌, ◌-◌, ◌*◌, ◌%◌, ◌^◌, ◌<◌, ◌≤◌, if◌then◌else◌, ◌==◌, List, length, set, Some, refl, sym, ap, ◌∙◌, ◌⊎◌, inl, inr, arith, eq-eqb, ne_eqb, subst}
 use Rattle.std.proofs.lemmas.List.{length-set}
 use Rattle.mem_store.specs.Access.{fetched}
@@ -12,8 +13,10 @@ use Rattle.object_adopt.proofs.Records.{Ghost, Sound, with_ghost, presence_of, m
 use Rattle.object_adopt.proofs.Instructions.{Point, At1, place, code, stand}
 use Rattle.object_adopt.proofs.Object.{Obj, View, Facts, Frame, Stable, then_is, keeps}
 
--- a program that has the object's instructions from `first` on, for n harts: how many data words stand before its first object, how many objects
--- it chains, 512 bytes apart, what a hart has spent that comes to each, its register 21 then; its other places, and what holds of a hart there. Only its own view counts
+-- a program that has the object's instructions from `first` on, for n harts: how many data words
+-- stand before its first object, how many objects it chains, 512 bytes apart, what a hart has spent
+-- that comes to each, its register 21 then; its other places, and what holds of a hart there. Only
+-- its own view counts
 pub record Program (n : ℕ) : Type 1 where
   pub text : List ℕ
   pub zeros : ℕ
@@ -33,7 +36,8 @@ pub record Program (n : ℕ) : Type 1 where
   pub size : (r : ℕ) → r < rounds → 4 * shift + 512 * r + 16 * n ≤ zeros × r < 4
   pub fetch : (words : ℕ → ℕ) (p : Point) → place p < 116 → fetched (shaped_memory text zeros words) (first + place p) ≡ Some (code p)
 
--- what is kept beside the machine: the words by object, and for each object and hart its ghost and what it brings; and which object it is at
+-- what is kept beside the machine: the words by object, and for each object and hart its ghost and
+-- what it brings; and which object it is at
 pub record Ghosts : Type 0 where
   pub words : ℕ → ℕ → ℕ
   pub ghosts : ℕ → ℕ → Ghost

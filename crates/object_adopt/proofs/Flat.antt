@@ -1,4 +1,5 @@
--- The data words of several objects, by object and by place in it: 128 words each, behind so many words that are no object's and are 0.
+-- The data words of several objects, by object and by place in it: 128 words each, behind so many
+-- words that are no object's and are 0.
 use Rattle.std.proofs.Common.{◌≡◌, ◌≢◌, ℕ, ◌+◌, ◌-◌, ◌*◌, ◌/◌, ◌%◌, ◌<◌, ◌≤◌, Bool, true, false, nat_lt, if◌then◌else◌, ◌==◌, refl, ap, ◌⊎◌, inl, inr, arith, eq-eqb, ne_eqb, le-ltb, lt-ltb}
 use Rattle.object_library.proofs.Shape.{with_word}
 use Rattle.object_library.proofs.Harts.{same_or_not}

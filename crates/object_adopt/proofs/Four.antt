@@ -1,4 +1,5 @@
--- The Rounds object: four adopt-commit objects in a row, its first and last instructions, and those that lead from one object to the next.
+-- The Rounds object: four adopt-commit objects in a row, its first and last instructions, and those
+-- that lead from one object to the next.
 use Rattle.std.proofs.Common.{◌≡◌, ◌≢◌, ℕ, zero, suc, ◌+◌, ◌-◌, ◌*◌, ◌<◌, ◌≤◌, Bool, true, false, List, length, Some, refl, ap, ◌⊎◌, inl, inr, arith, eq-eqb, ne_eqb}
 use Rattle.image.specs.Image.{ImageValue}
 use Rattle.mem_store.specs.Access.{fetched}

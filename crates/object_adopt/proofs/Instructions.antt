@@ -1,4 +1,5 @@
--- The 29 instructions of an adopt-commit object, from its first one's place on (At30 is the place past them), and what the step of a hart at each of them comes to.
+-- The 29 instructions of an adopt-commit object, from its first one's place on (At30 is the place
+-- past them), and what the step of a hart at each of them comes to.
 use Rattle.std.proofs.Common.{◌≡◌, ℕ, ◌+◌, ◌-◌, ◌*◌, ◌%◌, ◌≤◌, Bool, true, false, List, length, set, Option, Some, ap, ◌∙◌, eq-eqb}
 use Rattle.mem_store.specs.Access.{fetched}
 use Rattle.hart_reservations.specs.Marks.{Marks}

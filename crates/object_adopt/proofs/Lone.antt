@@ -1,4 +1,5 @@
--- Harts that pass through one object, wherever it stands: a chain of one object without places of its own.
+-- Harts that pass through one object, wherever it stands: a chain of one object without places of
+-- its own.
 use Rattle.std.proofs.Common.{◌≡◌, ◌≢◌, ℕ, ◌+◌, ◌*◌, ◌%◌, ◌^◌, ◌<◌, ◌≤◌, Bool, if◌then◌else◌, ◌==◌, List, [], ◌∷◌, length, get_or, refl, sym, ap, ◌∙◌, ◌⊎◌, inl, inr, arith, subst}
 use Rattle.std.specs.List.{AllByRecursion, All, Contains}
 use Rattle.std.proofs.lemmas.List.Elements.{recursion_from_All}

@@ -4,8 +4,8 @@ use Rattle.hart_step.specs.Hart.{Registers}
 use Rattle.object_adopt.proofs.Records.{Ghost, presence_of, mark_of}
 use Rattle.object_adopt.proofs.Instructions.{Point, At1, At2, At3, At4, At5, At6, At7, At8, At9, At10, At11, At12, At13, At14, At15, At16, At17, At18, At19, At20, At21, At22, At23, At24, At25, At26, At27, At28, At29, At30}
 
--- an object: for how many harts, where its records are, what a hart has spent that comes to it, what its register 21 is then, what each
--- hart brings, which harts came, and its words
+-- an object: for how many harts, where its records are, what a hart has spent that comes to it,
+-- what its register 21 is then, what each hart brings, which harts came, and its words
 pub record Obj : Type 1 where
   pub n : ℕ
   pub base : ℕ

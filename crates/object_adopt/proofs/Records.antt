@@ -7,8 +7,8 @@ use Rattle.object_library.proofs.Harts.{same_or_not}
 abbrev pub Mixed : (n : ℕ) (input : ℕ → ℕ) (was : ℕ → Type 0) → Type 0
 Mixed n input was = record { j : ℕ; k : ℕ; first : was j; second : was k; apart : input j ≢ input k }
 
--- what is kept of each hart beside the machine: how many records it has looked at, what it will mark, how many marks it has passed, whether it
--- still may commit, and its value
+-- what is kept of each hart beside the machine: how many records it has looked at, what it will
+-- mark, how many marks it has passed, whether it still may commit, and its value
 pub record Ghost : Type 0 where
   pub cleared : ℕ
   pub sign : ℕ

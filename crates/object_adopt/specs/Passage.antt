@@ -1,4 +1,5 @@
--- An adopt-commit object by itself: where it stands, how harts come to it, and the rule that they keep where they come out of it.
+-- An adopt-commit object by itself: where it stands, how harts come to it, and the rule that they
+-- keep where they come out of it.
 use Rattle.std.specs.Prelude.{◌≡◌, ◌≢◌, ◌⊎◌, ℕ, ◌+◌, ◌*◌, ◌^◌, ◌<◌, ◌≤◌, List, [], ◌∷◌, length, slice_index, slice_index_or}
 use Rattle.std.specs.List.{All}
 use Rattle.mem_store.specs.Image.{image_memory}
@@ -57,8 +58,8 @@ base_of shift = 0x00011000 + 4 * shift
 abbrev pub past_of : ℕ → ℕ
 past_of index = place_of index + 116
 
--- a text has the object's instructions from number `index` on, and behind `shift` words of the data there is room for a record of four words
--- for each of n harts
+-- a text has the object's instructions from number `index` on, and behind `shift` words of the data
+-- there is room for a record of four words for each of n harts
 pub record HasObject (text : List ℕ) (zeros index shift n : ℕ) : Type 0 where
   pub short : length text ≤ 1024
   pub whole : index + 29 ≤ length text
@@ -74,7 +75,8 @@ untouched text zeros harts reserved = record { harts = harts; memory = image_mem
 abbrev pub running : Registers → ℕ → HartValue
 running registers pc = record { registers = registers; pc = pc; state = Running }
 
--- hart k of n is about to enter the object, and brings this value; register 21, s5, which the object leaves alone, is the same in all harts
+-- hart k of n is about to enter the object, and brings this value; register 21, s5, which the
+-- object leaves alone, is the same in all harts
 pub record Enters (index shift count n k value : ℕ) (hart : HartValue) : Type 0 where
   pub registers : Registers
   pub stands : hart ≡ running registers (place_of index)
@@ -97,8 +99,8 @@ StayBefore past w [] = Unit {0}
 StayBefore past w (c ∷ choices) =
     ((d : HartValue) → (slice_index_or w.harts c.hart d).pc ≢ past) × StayBefore past (step w c) choices
 
--- what holds after every passage of 1 to 32 harts through an object, wherever it stands, whatever they bring, and in every schedule in which
--- who has come out of it waits
+-- what holds after every passage of 1 to 32 harts through an object, wherever it stands, whatever
+-- they bring, and in every schedule in which who has come out of it waits
 abbrev pub InEveryPassage : (ℕ → ℕ → ℕ → List ℕ → List Choice → List HartValue → Type 0) → Type 0
 InEveryPassage Rule =
     (text : List ℕ) (zeros index shift count : ℕ) (values : List ℕ) (harts : List HartValue) (reserved : Marks) (choices : List Choice)
@@ -107,8 +109,8 @@ InEveryPassage Rule =
     → StayBefore (past_of index) (untouched text zeros harts reserved) choices
     → Rule (past_of index) (base_of shift) count values choices (run (untouched text zeros harts reserved) choices).harts
 
--- adopt-commit (Gafni, "Round-by-Round Fault Detectors", 1998), of harts that come to this place: register 20, s4, has a hart's value, and
--- register 19, s3, is 1 where it commits to it
+-- adopt-commit (Gafni, "Round-by-Round Fault Detectors", 1998), of harts that come to this place:
+-- register 20, s4, has a hart's value, and register 19, s3, is 1 where it commits to it
 pub record KeepsPassage (past base count : ℕ) (values : List ℕ) (choices : List Choice) (harts : List HartValue) : Type 0 where
   -- a hart comes out with the value of a hart that was chosen
   pub valid : All (λ h. h.pc ≡ past → IsProposed values choices (h.registers 20)) harts
@@ -118,7 +120,8 @@ pub record KeepsPassage (past base count : ℕ) (values : List ℕ) (choices : L
   pub committed : All (λ h. All (λ k. h.pc ≡ past → k.pc ≡ past → h.registers 19 ≡ 1 → h.registers 20 ≡ k.registers 20) harts) harts
   -- where the harts that were chosen bring the same value, each hart that has come out commits
   pub convergent : AreAlike values choices → All (λ h. h.pc ≡ past → h.registers 19 ≡ 1) harts
-  -- a hart that has come out still has the address of the records, the number of harts and its count, as whoever chains objects needs
+  -- a hart that has come out still has the address of the records, the number of harts and its
+  -- count, as whoever chains objects needs
   pub framed : All (λ h. h.pc ≡ past → (h.registers 8 ≡ base) × (h.registers 12 ≡ length values) × (h.registers 21 ≡ count)) harts
   -- no hart has stopped
   pub sound : All (λ h. h.state ≡ Running) harts

@@ -1,4 +1,5 @@
-//! Adopt-commit by loads and stores, once and four times over: the images, what holds in all of their runs, and the rule of one object.
+//! Adopt-commit by loads and stores, once and four times over: the images, what holds in all of
+//! their runs, and the rule of one object.
 #![tactic(auto)]
 
 pub use adopt::{adopt_image, adopt_in_every_run};

@@ -1,4 +1,5 @@
--- Every run of the races by one atomic instruction, Swap and Add: an invariant by program point, and the bound on own steps.
+-- Every run of the races by one atomic instruction, Swap and Add: an invariant by program point,
+-- and the bound on own steps.
 use Rattle.std.proofs.Common.{◌≡◌, ◌≢◌, ℕ, zero, suc, ◌+◌, ◌*◌, ◌/◌, ◌%◌, ◌^◌, ◌<◌, ◌≤◌, Bool, true, false, List, [], ◌∷◌, length, get_or, set, Option, Some, None, refl, sym, ap, ◌∙◌, ◌⊎◌, inl, inr, arith, eq-eqb, ne_eqb, subst}
 use Rattle.std.specs.List.{AllByRecursion, All, Contains}
 use Rattle.std.proofs.lemmas.List.Elements.{recursion_from_All}

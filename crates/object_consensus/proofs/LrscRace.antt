@@ -1,5 +1,5 @@
--- Every run of the race by load-reserved and store-conditional, with any number of harts: an invariant by program point, and the
--- bound on own steps.
+-- Every run of the race by load-reserved and store-conditional, with any number of harts: an
+-- invariant by program point, and the bound on own steps.
 use Rattle.std.proofs.Common.{◌≡◌, ◌≢◌, ℕ, ◌+◌, ◌*◌, ◌%◌, ◌^◌, ◌<◌, ◌≤◌, Bool, true, false, not, ◌&&◌, List, [], ◌∷◌, length, get_or, set, Option, Some, None, refl, sym, ap, ◌∙◌, ◌⊎◌, inl, inr, arith, eq-eqb, ne_eqb, subst}
 use Rattle.std.specs.List.{AllByRecursion, All, Contains}
 use Rattle.std.proofs.lemmas.List.Elements.{recursion_from_All}
@@ -48,7 +48,8 @@ stand Out x = record { registers = x; pc = 0x1003C; state = Exited (x 10) }
 abbrev input : List ℕ → ℕ → ℕ
 input inputs h = get_or inputs h 0
 
--- what a hart's facts look at, beside its registers: its slot, its reservation, its choices so far and those of them that refused
+-- what a hart's facts look at, beside its registers: its slot, its reservation, its choices so far
+-- and those of them that refused
 record View : Type 0 where
   slot : ℕ
   kept : Option ℕ

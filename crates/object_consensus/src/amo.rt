@@ -1,4 +1,5 @@
-//! Consensus of two harts by one atomic instruction: the images, and what holds in all of their runs.
+//! Consensus of two harts by one atomic instruction: the images, and what holds in all of their
+//! runs.
 
 ghost use Rattle.std.specs.Prelude.{◌≡◌, IfOk};
 ghost use Rattle.image.specs.Image.{ImageValue};
@@ -10,24 +11,24 @@ use image::Image;
 use object_library::{Kind, make_image};
 use std::alloc::{AllocError, Allocator};
 
-/// Two harts that run an image that is Swap's agree, whatever their inputs are and however they are scheduled; each has
-/// exited when it was chosen 15 times, so also when it was 18 times.
+/// Two harts that run an image that is Swap's agree, whatever their inputs are and however they are
+/// scheduled; each has exited when it was chosen 15 times, so also when it was 18 times.
 pub fn swap_in_every_run()
     ensures agreed { (m : ImageValue) → IsSame m (image_of Swap) → EveryRun (λ n. n ≡ 2) m KeepsConsensus }
     ensures ended { (m : ImageValue) → IsSame m (image_of Swap) → EveryRun (λ n. n ≡ 2) m (EndsAfter (λ n r. 15)) }
     ensures bounded { (m : ImageValue) → IsSame m (image_of Swap) → EveryRun (λ n. n ≡ 2) m (EndsAfter (λ n r. 18)) }
 {}
 
-/// Two harts that run an image that is Add's agree, whatever their inputs are and however they are scheduled; each has
-/// exited when it was chosen 15 times, so also when it was 18 times.
+/// Two harts that run an image that is Add's agree, whatever their inputs are and however they are
+/// scheduled; each has exited when it was chosen 15 times, so also when it was 18 times.
 pub fn add_in_every_run()
     ensures agreed { (m : ImageValue) → IsSame m (image_of Add) → EveryRun (λ n. n ≡ 2) m KeepsConsensus }
     ensures ended { (m : ImageValue) → IsSame m (image_of Add) → EveryRun (λ n. n ≡ 2) m (EndsAfter (λ n r. 15)) }
     ensures bounded { (m : ImageValue) → IsSame m (image_of Add) → EveryRun (λ n. n ≡ 2) m (EndsAfter (λ n r. 18)) }
 {}
 
-/// The image of Swap. In each of its runs two harts agree, and each has exited when it was chosen 15 times, so also
-/// when it was 18 times.
+/// The image of Swap. In each of its runs two harts agree, and each has exited when it was chosen
+/// 15 times, so also when it was 18 times.
 pub fn swap_image<A: Allocator + Copy>(alloc: A) -> Result<Image<A>, AllocError>
     ensures image { IfOk result (λ m. m ≡ image_of Swap) }
     ensures agreed { IfOk result (λ m. EveryRun (λ n. n ≡ 2) m KeepsConsensus) }
@@ -38,8 +39,8 @@ pub fn swap_image<A: Allocator + Copy>(alloc: A) -> Result<Image<A>, AllocError>
     Ok(image)
 }
 
-/// The image of Add. In each of its runs two harts agree, and each has exited when it was chosen 15 times, so also
-/// when it was 18 times.
+/// The image of Add. In each of its runs two harts agree, and each has exited when it was chosen 15
+/// times, so also when it was 18 times.
 pub fn add_image<A: Allocator + Copy>(alloc: A) -> Result<Image<A>, AllocError>
     ensures image { IfOk result (λ m. m ≡ image_of Add) }
     ensures agreed { IfOk result (λ m. EveryRun (λ n. n ≡ 2) m KeepsConsensus) }

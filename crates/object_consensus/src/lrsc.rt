@@ -10,9 +10,10 @@ use image::Image;
 use object_library::{Kind, make_image};
 use std::alloc::{AllocError, Allocator};
 
-/// As many harts as an image of LrSc has slots, up to 32, agree, whatever their inputs are and however they are scheduled,
-/// and whichever store-conditionals are refused; each has exited when it was chosen 17 times, and four times more for each
-/// of its own choices that refuse; so also when it was chosen 21 times and these.
+/// As many harts as an image of LrSc has slots, up to 32, agree, whatever their inputs are and
+/// however they are scheduled, and whichever store-conditionals are refused; each has exited when
+/// it was chosen 17 times, and four times more for each of its own choices that refuse; so also
+/// when it was chosen 21 times and these.
 pub fn lrsc_in_every_run()
     ensures agreed { (slots : ℕ) (m : ImageValue) → slots ≤ 32 → IsSame m (image_for slots)
         → EveryRun (λ n. n ≤ slots) m KeepsConsensus }
@@ -22,9 +23,9 @@ pub fn lrsc_in_every_run()
         → EveryRun (λ n. n ≤ slots) m (EndsAfter (λ n r. 21 + 4 * r)) }
 {}
 
-/// The image of LrSc, with a slot for each hart that a machine can have, which are 32. In each run of 1 to 32 harts they agree, and
-/// each has exited when it was chosen 17 times, and four times more for each of its own choices that refuse; so also when it
-/// was chosen 21 times and these.
+/// The image of LrSc, with a slot for each hart that a machine can have, which are 32. In each run
+/// of 1 to 32 harts they agree, and each has exited when it was chosen 17 times, and four times
+/// more for each of its own choices that refuse; so also when it was chosen 21 times and these.
 pub fn lrsc_image<A: Allocator + Copy>(alloc: A) -> Result<Image<A>, AllocError>
     ensures image { IfOk result (λ m. m ≡ image_of LrSc) }
     ensures agreed { IfOk result (λ m. EveryRun (λ n. n ≤ 32) m KeepsConsensus) }

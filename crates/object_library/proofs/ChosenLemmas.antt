@@ -10,7 +10,7 @@ use Rattle.object_library.specs.declared.kind.Kind.{Kind}
 use Rattle.object_library.specs.declared.kind.Kind.TheVariants.{Swap, Add, LrSc, AdoptCommit, Rounds}
 use Rattle.object_library.specs.declared.verdict.Verdict.TheVariants as verdict
 use Rattle.object_library.specs.Counts.{chosen}
-use Rattle.object_library.specs.Rules.{IsProposed, KeepsConsensus, KeepsAdoptCommit, Keeps}
+use Rattle.object_library.specs.Rules.{IsProposed, KeepsConsensus, KeepsAdoptCommit, KeepsRule}
 use Rattle.object_library.specs.Judging.{is_kept, verdict_of}
 use Rattle.object_library.proofs.JudgeLemmas.{eqb-decides, kept-decides}
 
@@ -58,7 +58,7 @@ module _ (inputs : List ℕ) (a b : List Choice) (harts : List HartValue) (alike
     sound = kept.sound;
   }
 
-keeps : (kind : Kind) (inputs : List ℕ) (a b : List Choice) (harts : List HartValue) → ChooseAlike a b → Keeps kind inputs a harts → Keeps kind inputs b harts
+keeps : (kind : Kind) (inputs : List ℕ) (a b : List Choice) (harts : List HartValue) → ChooseAlike a b → KeepsRule kind inputs a harts → KeepsRule kind inputs b harts
 keeps Swap inputs a b harts alike kept = consensus inputs a b harts alike kept
 keeps Add inputs a b harts alike kept = consensus inputs a b harts alike kept
 keeps LrSc inputs a b harts alike kept = consensus inputs a b harts alike kept

@@ -11,7 +11,7 @@ use Rattle.machine.specs.declared.choice.Choice.{Choice}
 use Rattle.object_library.specs.declared.kind.Kind.{Kind}
 use Rattle.object_library.specs.declared.kind.Kind.TheVariants.{Swap, Add, LrSc, AdoptCommit, Rounds}
 use Rattle.object_library.specs.Counts.{chosen}
-use Rattle.object_library.specs.Rules.{is_exited, is_faulted, value_of, flag_of, HasExited, IsProposed, AreAlike, KeepsConsensus, KeepsAdoptCommit, Keeps}
+use Rattle.object_library.specs.Rules.{is_exited, is_faulted, value_of, flag_of, HasExited, IsProposed, AreAlike, KeepsConsensus, KeepsAdoptCommit, KeepsRule}
 use Rattle.object_library.specs.Judging.{holds, is_like, is_proposed, are_alike, agrees, decides, adopts_or_commits, is_consensus, is_adopt_commit, is_kept}
 
 -- ---- tests of one thing
@@ -179,17 +179,17 @@ module _ (inputs : List ℕ) (choices : List Choice) (harts : List HartValue) wh
       (λ h. Decides-and (not (is_faulted h.state)) (adopts_or_commits (are_alike inputs choices) inputs choices harts h) (isnt-decides (is_faulted h.state)) (commits-at h)) harts)
 
 -- by kind
-pub kept-decides : (kind : Kind) (inputs : List ℕ) (choices : List Choice) (harts : List HartValue) → Decides (is_kept kind inputs choices harts) (Keeps kind inputs choices harts)
+pub kept-decides : (kind : Kind) (inputs : List ℕ) (choices : List Choice) (harts : List HartValue) → Decides (is_kept kind inputs choices harts) (KeepsRule kind inputs choices harts)
 kept-decides Swap inputs choices harts = consensus-decides inputs choices harts
 kept-decides Add inputs choices harts = consensus-decides inputs choices harts
 kept-decides LrSc inputs choices harts = consensus-decides inputs choices harts
 kept-decides AdoptCommit inputs choices harts = adopt_commit-decides inputs choices harts
 kept-decides Rounds inputs choices harts = adopt_commit-decides inputs choices harts
 
-pub kept_if : (kind : Kind) (inputs : List ℕ) (choices : List Choice) (harts : List HartValue) → is_kept kind inputs choices harts ≡ true → Keeps kind inputs choices harts
+pub kept_if : (kind : Kind) (inputs : List ℕ) (choices : List Choice) (harts : List HartValue) → is_kept kind inputs choices harts ≡ true → KeepsRule kind inputs choices harts
 kept_if kind inputs choices harts = (kept-decides kind inputs choices harts).0
 
-pub broken_if : (kind : Kind) (inputs : List ℕ) (choices : List Choice) (harts : List HartValue) → is_kept kind inputs choices harts ≡ false → Keeps kind inputs choices harts → ⊥
+pub broken_if : (kind : Kind) (inputs : List ℕ) (choices : List Choice) (harts : List HartValue) → is_kept kind inputs choices harts ≡ false → KeepsRule kind inputs choices harts → ⊥
 broken_if kind inputs choices harts e kept = let q : false ≡ true = sym e ∙ (kept-decides kind inputs choices harts).1 kept in absurd (cc)
 
 -- ---- a test of the code's harts, one after another

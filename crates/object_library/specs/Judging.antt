@@ -26,14 +26,14 @@ is_like (Some a) None = false
 is_like (Some a) (Some b) = a == b
 
 -- the hart that was chosen first
-abbrev pub first_hart : List Choice → ℕ
-first_hart [] = 0
-first_hart (c ∷ choices) = c.hart
+abbrev pub first_chosen : List Choice → ℕ
+first_chosen [] = 0
+first_chosen (c ∷ choices) = c.hart
 
 -- whether all chosen harts have the first one's input
 abbrev pub are_alike : List ℕ → List Choice → Bool
 are_alike inputs choices =
-    list_all (λ d. is_like (slice_get inputs (first_hart choices)) (slice_get inputs d.hart)) choices
+    list_all (λ d. is_like (slice_get inputs (first_chosen choices)) (slice_get inputs d.hart)) choices
 
 -- whether hart k, if it has exited, has hart h's value
 abbrev pub agrees : HartValue → HartValue → Bool

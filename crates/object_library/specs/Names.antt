@@ -6,12 +6,12 @@ use Rattle.object_library.specs.declared.verdict.Verdict.{Verdict}
 use Rattle.object_library.specs.declared.verdict.Verdict.TheVariants.{Kept, Broken}
 
 -- a kind's name
-abbrev pub name_of : Kind → List ℕ
-name_of Swap = codes "swap"
-name_of Add = codes "add"
-name_of LrSc = codes "lrsc"
-name_of AdoptCommit = codes "adopt"
-name_of Rounds = codes "rounds"
+abbrev pub object_name : Kind → List ℕ
+object_name Swap = codes "swap"
+object_name Add = codes "add"
+object_name LrSc = codes "lrsc"
+object_name AdoptCommit = codes "adopt"
+object_name Rounds = codes "rounds"
 
 -- a verdict's name
 abbrev pub verdict_name : Verdict → List ℕ

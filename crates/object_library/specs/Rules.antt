@@ -82,9 +82,9 @@ EndsAfter bound inputs choices harts =
     → HasExited (slice_index_or harts h d)
 
 -- the rule of each kind
-abbrev pub Keeps : Kind → List ℕ → List Choice → List HartValue → Type 0
-Keeps Swap inputs choices harts = KeepsConsensus inputs choices harts
-Keeps Add inputs choices harts = KeepsConsensus inputs choices harts
-Keeps LrSc inputs choices harts = KeepsConsensus inputs choices harts
-Keeps AdoptCommit inputs choices harts = KeepsAdoptCommit inputs choices harts
-Keeps Rounds inputs choices harts = KeepsAdoptCommit inputs choices harts
+abbrev pub KeepsRule : Kind → List ℕ → List Choice → List HartValue → Type 0
+KeepsRule Swap inputs choices harts = KeepsConsensus inputs choices harts
+KeepsRule Add inputs choices harts = KeepsConsensus inputs choices harts
+KeepsRule LrSc inputs choices harts = KeepsConsensus inputs choices harts
+KeepsRule AdoptCommit inputs choices harts = KeepsAdoptCommit inputs choices harts
+KeepsRule Rounds inputs choices harts = KeepsAdoptCommit inputs choices harts

@@ -4,9 +4,9 @@ use Rattle.object_library.specs.declared.kind.Kind.{Kind}
 use Rattle.object_library.specs.declared.kind.Kind.TheVariants.{Swap, Add, LrSc, AdoptCommit, Rounds}
 
 -- lines, each ended by LF
-abbrev pub text_of : List (List ℕ) → List ℕ
-text_of [] = []
-text_of (line ∷ lines) = line ++ (10 ∷ text_of lines)
+abbrev pub source_text : List (List ℕ) → List ℕ
+source_text [] = []
+source_text (line ∷ lines) = line ++ (10 ∷ source_text lines)
 
 -- the race by one atomic instruction
 abbrev pub race_lines : List ℕ → List (List ℕ)
@@ -166,8 +166,8 @@ rounds_lines =
 
 -- the source of an object
 abbrev pub source_of : Kind → List ℕ
-source_of Swap = text_of (race_lines (codes "amoswap.w t2, t1, (s0)"))
-source_of Add = text_of (race_lines (codes "amoadd.w t2, t1, (s0)"))
-source_of LrSc = text_of lrsc_lines
-source_of AdoptCommit = text_of adopt_commit_lines
-source_of Rounds = text_of rounds_lines
+source_of Swap = source_text (race_lines (codes "amoswap.w t2, t1, (s0)"))
+source_of Add = source_text (race_lines (codes "amoadd.w t2, t1, (s0)"))
+source_of LrSc = source_text lrsc_lines
+source_of AdoptCommit = source_text adopt_commit_lines
+source_of Rounds = source_text rounds_lines

@@ -2,7 +2,7 @@
 
 ghost use Rattle.std.specs.Prelude.{◌≡◌};
 ghost use Rattle.object_library.specs.Images.{words_of, zeros_of};
-ghost use Rattle.object_library.specs.Names.{name_of};
+ghost use Rattle.object_library.specs.Names.{object_name};
 ghost use Rattle.object_library.specs.Sources.{source_of};
 
 use crate::kind::Kind;
@@ -25,7 +25,7 @@ pub(crate) struct Entry {
 
 /// The entry of a kind.
 pub(crate) fn entry_of(kind: Kind) -> Entry
-    ensures name { result.name.now ≡ name_of kind }
+    ensures name { result.name.now ≡ object_name kind }
     ensures source { result.source.now ≡ source_of kind }
     ensures words { result.words.now ≡ words_of kind }
     ensures zeros { result.zeros ≡ zeros_of kind }

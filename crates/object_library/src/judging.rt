@@ -2,8 +2,8 @@
 ghost use Rattle.std.specs.Prelude.{◌≡◌, ◌||◌, ◌&&◌, ◌==◌, not, Bool, true, false, map, slice_get};
 ghost use Rattle.std.specs.List.{list_all};
 ghost use Rattle.hart_step.specs.Hart.{hart_of};
-ghost use Rattle.object_library.specs.Rules.{Keeps, is_exited, is_faulted};
-ghost use Rattle.object_library.specs.Judging.{first_hart, is_kept, verdict_of, is_consensus, is_adopt_commit, is_proposed, are_alike, agrees, decides, adopts_or_commits, holds, is_like};
+ghost use Rattle.object_library.specs.Rules.{KeepsRule, is_exited, is_faulted};
+ghost use Rattle.object_library.specs.Judging.{first_chosen, is_kept, verdict_of, is_consensus, is_adopt_commit, is_proposed, are_alike, agrees, decides, adopts_or_commits, holds, is_like};
 ghost use Rattle.object_library.specs.declared.verdict.Verdict.TheVariants as verdict;
 
 use crate::kind::Kind;
@@ -14,8 +14,8 @@ use machine::Choice;
 /// Whether harts satisfy the rule of a kind, given their inputs and the choices of their run.
 #[tactic(auto, using(crate::proofs::JudgeLemmas::kept_if, crate::proofs::JudgeLemmas::broken_if))]
 pub fn judge(kind: Kind, inputs: &[u32], choices: &[Choice], harts: &[Hart]) -> Verdict
-    ensures kept { result ≡ verdict.Kept → Keeps kind inputs.now choices.now (map hart_of harts.now) }
-    ensures broken { result ≡ verdict.Broken → Keeps kind inputs.now choices.now (map hart_of harts.now) → ⊥ }
+    ensures kept { result ≡ verdict.Kept → KeepsRule kind inputs.now choices.now (map hart_of harts.now) }
+    ensures broken { result ≡ verdict.Broken → KeepsRule kind inputs.now choices.now (map hart_of harts.now) → ⊥ }
     ensures verdict { result ≡ verdict_of kind inputs.now choices.now (map hart_of harts.now) }
 {
     if keeps(kind, inputs, choices, harts) {
@@ -156,7 +156,7 @@ fn are_alike(inputs: &[u32], choices: &[Choice]) -> bool
 
 // The hart that was chosen first, or 0.
 fn first_hart(choices: &[Choice]) -> u32
-    ensures { result ≡ first_hart choices.now }
+    ensures { result ≡ first_chosen choices.now }
 {
     match choices {
         [first, ..] => first.hart,

@@ -1,7 +1,7 @@
 //! The kinds of objects.
 
 ghost use Rattle.std.specs.Prelude.{◌≡◌, ◌↔◌, Some};
-ghost use Rattle.object_library.specs.Names.{name_of};
+ghost use Rattle.object_library.specs.Names.{object_name};
 
 use crate::entry::entry_of;
 
@@ -35,14 +35,14 @@ impl Kind {
 
     /// The kind's name on the command line.
     pub fn name(self) -> &'static str
-        ensures { result.now ≡ name_of self }
+        ensures { result.now ≡ object_name self }
     {
         entry_of(self).name
     }
 
     /// The kind with this name, or `None` if there is none.
     pub fn of_name(name: &str) -> Option<Kind>
-        ensures { (kind : Kind) → (result ≡ Some kind) ↔ (name.now ≡ name_of kind) }
+        ensures { (kind : Kind) → (result ≡ Some kind) ↔ (name.now ≡ object_name kind) }
     {
         match name {
             "swap" => Some(Kind::Swap),

@@ -7,7 +7,7 @@ use Rattle.object_library.specs.declared.verdict.Verdict.{Verdict}
 use Rattle.object_library.specs.declared.verdict.Verdict.TheVariants.{Kept, Broken}
 use Rattle.byte_io.specs.declared.status.Status.{Status}
 use Rattle.byte_io.specs.declared.status.Status.TheVariants as status
-use Rattle.ends.specs.Ends.{verdict_on}
+use Rattle.outcome.specs.Ends.{verdict_on}
 use Rattle.outcome.specs.Outcome.{outcome_of}
 use Rattle.outcome.specs.declared.expect.Exit.{Exit}
 use Rattle.outcome.specs.declared.expect.Exit.TheVariants.{May, Must}
@@ -24,9 +24,9 @@ breaks (Some Kept) = false
 breaks (Some Broken) = true
 
 -- whether there is no rule, and harts have faulted
-abbrev pub faults : Option Verdict → ℕ → Bool
-faults None faulted = nat_lt 0 faulted
-faults (Some verdict) faulted = false
+abbrev pub has_faults : Option Verdict → ℕ → Bool
+has_faults None faulted = nat_lt 0 faulted
+has_faults (Some verdict) faulted = false
 
 -- whether each hart must exit, and some still run
 abbrev pub hangs : Exit → Bool → Bool
@@ -36,7 +36,7 @@ hangs Must running = running
 -- whether a run has failed
 abbrev pub fails : Exit → Outcome → Bool
 fails exit outcome =
-    breaks outcome.verdict || (faults outcome.verdict outcome.faulted || hangs exit (nat_lt 0 outcome.running))
+    breaks outcome.verdict || (has_faults outcome.verdict outcome.faulted || hangs exit (nat_lt 0 outcome.running))
 
 -- the status of runs, given whether a rule is broken in one, and whether one has failed
 abbrev pub status_by : Bool → Bool → Status

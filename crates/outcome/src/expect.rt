@@ -2,11 +2,11 @@
 
 ghost use Rattle.std.specs.Prelude.{◌≡◌, ℕ, IfOk, List, map};
 ghost use Rattle.sched_run.specs.Chosen.{harts_of};
-ghost use Rattle.ends.specs.Ends.{verdict_on};
+ghost use Rattle.outcome.specs.Ends.{verdict_on};
 ghost use Rattle.hart_step.specs.Hart.{hart_of};
 ghost use Rattle.machine.specs.Chosen.{is_chosen};
 ghost use Rattle.machine.specs.declared.choice.Choice.{Choice};
-ghost use Rattle.outcome.specs.Expect.{breaks, fails, faults, hangs, status_by};
+ghost use Rattle.outcome.specs.Expect.{breaks, fails, has_faults, hangs, status_by};
 
 use crate::run_outcome::Outcome;
 use byte_io::Status;
@@ -127,7 +127,7 @@ fn breaks(verdict: Option<Verdict>) -> bool
 
 // Whether there is no rule, and harts have faulted.
 fn faults(verdict: Option<Verdict>, faulted: usize) -> bool
-    ensures { result ≡ faults verdict faulted }
+    ensures { result ≡ has_faults verdict faulted }
 {
     match verdict {
         None => faulted > 0,

@@ -1,6 +1,6 @@
 -- What the loader's answer says of a program that is a file.
 use Rattle.std.proofs.Common.{◌≡◌, ◌≢◌, ℕ, List, Ok, Err, refl, ap}
-use Rattle.elf_read.specs.File.{loaded}
+use Rattle.elf_read.specs.File.{loaded_image}
 use Rattle.image.specs.Image.{ImageValue, Fails}
 use Rattle.image.specs.declared.fault.ElfFault.{ElfFault}
 use Rattle.image.specs.declared.fault.ElfFault.TheVariants as elf
@@ -10,11 +10,11 @@ use Rattle.program_open.specs.declared.program.ProgramForm.TheVariants as form
 use Rattle.program_open.specs.declared.command_fault.CommandFault.TheVariants as fault
 
 -- a file that loads gives its image
-pub file_loads : (bytes : List ℕ) (image : ImageValue) → loaded bytes ≡ Ok image → program_of form.Elf bytes ≡ Ok image
+pub file_loads : (bytes : List ℕ) (image : ImageValue) → loaded_image bytes ≡ Ok image → program_of form.Elf bytes ≡ Ok image
 file_loads bytes image e = ap image_of_file e
 
 -- a file that is refused gives the loader's fault
-pub file_fails : (bytes : List ℕ) (why : ElfFault) → Fails why (loaded bytes) → fault_of_elf why ≢ fault.Memory
+pub file_fails : (bytes : List ℕ) (why : ElfFault) → Fails why (loaded_image bytes) → fault_of_elf why ≢ fault.Memory
     → program_of form.Elf bytes ≡ Err (fault_of_elf why)
 file_fails bytes elf.Memory h other = absurd (other refl)
 file_fails bytes elf.Short h other = ap image_of_file h

@@ -16,13 +16,13 @@ abbrev pub word_bytes : ℕ → List ℕ
 word_bytes word = word % 256 ∷ word / 256 % 256 ∷ word / 65536 % 256 ∷ word / 16777216 % 256 ∷ []
 
 -- the bytes of words, in order
-abbrev pub bytes_of : List ℕ → List ℕ
-bytes_of [] = []
-bytes_of (word ∷ words) = word_bytes word ++ bytes_of words
+abbrev pub hex_bytes : List ℕ → List ℕ
+hex_bytes [] = []
+hex_bytes (word ∷ words) = word_bytes word ++ hex_bytes words
 
 -- one segment with all rights, which begins with the words; the first of them is the entry
 abbrev pub hex_segment : List ℕ → SegmentValue
-hex_segment words = record { base = hex_base; size = hex_size; rights = 7; bytes = bytes_of words }
+hex_segment words = record { base = hex_base; size = hex_size; rights = 7; bytes = hex_bytes words }
 
 abbrev pub hex_image_of : List ℕ → ImageValue
 hex_image_of words = record { entry = hex_base; segments = hex_segment words ∷ [] }

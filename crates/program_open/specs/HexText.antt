@@ -22,25 +22,25 @@ hex_after n [] = Some n
 hex_after n (b ∷ bs) = elim (hex_digit_of b) [ None ↦ None | Some d ↦ hex_after (16 * n + d) bs ]
 
 -- the word of eight hexadecimal digits
-abbrev pub word_of : List ℕ → Option ℕ
-word_of text = if length text == 8 then hex_after 0 text else None
+abbrev pub hex_word : List ℕ → Option ℕ
+hex_word text = if length text == 8 then hex_after 0 text else None
 
 -- these words, and then those of a result
-abbrev pub followed_by : List ℕ → Result (List ℕ) HexFault → Result (List ℕ) HexFault
-followed_by words (Ok more) = Ok (words ++ more)
-followed_by words (Err fault) = Err fault
+abbrev pub words_before : List ℕ → Result (List ℕ) HexFault → Result (List ℕ) HexFault
+words_before words (Ok more) = Ok (words ++ more)
+words_before words (Err fault) = Err fault
 
 -- a word and those that follow, or the fault of the item with this number
 abbrev pub word_then : Option ℕ → ℕ → Result (List ℕ) HexFault → Result (List ℕ) HexFault
 word_then None number rest = Err (BadWord number)
-word_then (Some word) number rest = followed_by (word ∷ []) rest
+word_then (Some word) number rest = words_before (word ∷ []) rest
 
 -- the words of items that are numbered from a number on, or the first fault
 abbrev pub words_named : ℕ → List Item → Result (List ℕ) HexFault
 words_named number [] = Ok []
 words_named number (item ∷ items) = if number == most_words then Err (TooMany most_words)
-    else word_then (word_of item.text) number (words_named (number + 1) items)
+    else word_then (hex_word item.text) number (words_named (number + 1) items)
 
 -- the words of a text
-abbrev pub words_of : List ℕ → Result (List ℕ) HexFault
-words_of text = words_named 0 (items_from 0 text)
+abbrev pub hex_words : List ℕ → Result (List ℕ) HexFault
+hex_words text = words_named 0 (items_from 0 text)

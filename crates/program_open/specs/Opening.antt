@@ -5,7 +5,7 @@ use Rattle.std.specs.declared.result.Result.TheVariants.{Ok, Err}
 use Rattle.hart_reservations.specs.Limit.{most_harts}
 use Rattle.image.specs.Image.{ImageValue}
 use Rattle.machine.specs.declared.choice.Choice.{Choice}
-use Rattle.sched_text.specs.Reading.{choices_of}
+use Rattle.sched_text.specs.Reading.{choices_read}
 use Rattle.sched_text.specs.declared.choice_text.ChoiceFault.{ChoiceFault}
 use Rattle.program_open.specs.Program.{program_of}
 use Rattle.program_open.specs.CommandFaults.{fault_of_choices}
@@ -33,4 +33,4 @@ after_program harts next (Err why) = Err why
 -- a run of a program and a choice text with this number of inputs, opened
 unfoldable pub opening : ProgramForm → ℕ → List ℕ → List ℕ → Opened
 opening form harts program text = after_program harts
-    (λ image. with_choices image (choices_of harts text)) (program_of form program)
+    (λ image. with_choices image (choices_read harts text)) (program_of form program)

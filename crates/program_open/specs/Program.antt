@@ -2,11 +2,11 @@
 use Rattle.std.specs.Prelude.{ℕ, List}
 use Rattle.std.specs.declared.result.Result.{Result}
 use Rattle.std.specs.declared.result.Result.TheVariants.{Ok, Err}
-use Rattle.elf_read.specs.File.{loaded}
+use Rattle.elf_read.specs.File.{loaded_image}
 use Rattle.image.specs.Image.{ImageValue}
 use Rattle.image.specs.declared.fault.ElfFault.{ElfFault}
 use Rattle.program_open.specs.HexImage.{hex_image_of}
-use Rattle.program_open.specs.HexText.{words_of}
+use Rattle.program_open.specs.HexText.{hex_words}
 use Rattle.program_open.specs.CommandFaults.{fault_of_elf, fault_of_hex}
 use Rattle.program_open.specs.declared.hex.HexFault.{HexFault}
 use Rattle.program_open.specs.declared.program.ProgramForm.{ProgramForm}
@@ -25,5 +25,5 @@ image_of_file (Err why) = Err (fault_of_elf why)
 
 -- the image of a program
 abbrev pub program_of : ProgramForm → List ℕ → Result ImageValue CommandFault
-program_of form.Hex bytes = image_of_hex (words_of bytes)
-program_of form.Elf bytes = image_of_file (loaded bytes)
+program_of form.Hex bytes = image_of_hex (hex_words bytes)
+program_of form.Elf bytes = image_of_file (loaded_image bytes)

@@ -1,7 +1,7 @@
 //! Programs as texts of hexadecimal words.
 
 ghost use Rattle.std.specs.Prelude.{◌≡◌, ◌≢◌, ◌≤◌, ◌<◌, ◌^◌, IfOk, IfErr, IfSome, vec_len};
-ghost use Rattle.program_open.specs.HexText.{hex_digit_of, most_words, word_of, words_of};
+ghost use Rattle.program_open.specs.HexText.{hex_digit_of, most_words, hex_word, hex_words};
 
 use std::alloc::Allocator;
 use text_items::next_item;
@@ -42,7 +42,7 @@ fn hex_digit(byte: u8) -> Option<u8>
 
 // The word that eight hexadecimal digits write.
 fn read_word(item: &[u8]) -> Option<u32>
-    ensures { result ≡ word_of item.now }
+    ensures { result ≡ hex_word item.now }
 {
     if item.len() != DIGITS {
         return None;
@@ -60,8 +60,8 @@ fn read_word(item: &[u8]) -> Option<u32>
 /// Reads at most `MOST_WORDS` words of eight hexadecimal digits of either case, between blanks
 /// (space, tab, LF, CR). The fault is that of the first bad item.
 pub fn read_hex<A: Allocator + Copy>(alloc: A, bytes: &[u8]) -> Result<Vec<u32, A>, HexFault>
-    ensures ok { IfOk result (λ words. words_of bytes.now ≡ Ok words.items) }
-    ensures err { IfErr result (λ fault. fault ≢ HexFault.Memory → words_of bytes.now ≡ Err fault) }
+    ensures ok { IfOk result (λ words. hex_words bytes.now ≡ Ok words.items) }
+    ensures err { IfErr result (λ fault. fault ≢ HexFault.Memory → hex_words bytes.now ≡ Err fault) }
     ensures few { IfOk result (λ words. vec_len words ≤ most_words) }
 {
     let mut words = Vec::new(alloc);

@@ -1,7 +1,7 @@
 //! The image of a program of words.
 
 ghost use Rattle.std.specs.Prelude.{◌≡◌, ◌≤◌, length, IfOk};
-ghost use Rattle.program_open.specs.HexImage.{bytes_of, hex_image_of, word_bytes};
+ghost use Rattle.program_open.specs.HexImage.{hex_bytes, hex_image_of, word_bytes};
 ghost use Rattle.program_open.specs.HexText.{most_words};
 
 use image::{Image, Rights, Segment};
@@ -39,7 +39,7 @@ pub fn hex_image<A: Allocator + Copy>(alloc: A, words: &[u32]) -> Result<Image<A
 
 // The bytes of words, each little-endian.
 fn bytes<A: Allocator + Copy>(alloc: A, words: &[u32]) -> Result<Vec<u8, A>, AllocError>
-    ensures { IfOk result (λ bytes. bytes.items ≡ bytes_of words.now) }
+    ensures { IfOk result (λ bytes. bytes.items ≡ hex_bytes words.now) }
 {
     let mut bytes = Vec::new(alloc);
     for word in words {

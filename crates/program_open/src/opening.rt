@@ -5,7 +5,7 @@ ghost use Rattle.std.specs.Prelude.{◌≡◌, ◌≢◌, ◌^◌, ◌-◌, ◌<
 ghost use Rattle.std.specs.List.{All};
 ghost use Rattle.image.specs.Image.{ImageValue};
 ghost use Rattle.machine.specs.Start.{IsStartable};
-ghost use Rattle.sched_text.specs.Reading.{choices_of};
+ghost use Rattle.sched_text.specs.Reading.{choices_read};
 ghost use Rattle.program_open.specs.Opening.{opening, with_choices};
 ghost use Rattle.program_open.specs.Program.{program_of};
 ghost use Rattle.program_open.specs.CommandFaults.{IfNames, IsRefusal};
@@ -47,7 +47,7 @@ pub fn open_text<A: Allocator + Copy, P: Source, C: Source>(
     ensures opened { IfOk result (λ run.
         IfSome (P.left program.old) (λ p. IfSome (C.left choices.old) (λ c.
         opening form (length inputs.now) p c
-        ≡ with_choices run.image (choices_of (length inputs.now) run.text.items)))) }
+        ≡ with_choices run.image (choices_read (length inputs.now) run.text.items)))) }
     ensures refused { IfErr result (λ fault. IsRefusal fault
         → IfSome (P.left program.old) (λ p. IfSome (C.left choices.old) (λ c.
         opening form (length inputs.now) p c ≡ Err fault))) }
@@ -60,14 +60,8 @@ pub fn open_text<A: Allocator + Copy, P: Source, C: Source>(
         → IfSome (P.left program.old) (λ p. (image : ImageValue) × (program_of form p ≡ Ok image)) }
     ensures inputs_first { result ≡ Err (CommandFault.Read Input.Choices) → IsStartable inputs.now }
 {
-    let image = match read_image(alloc, form, program) {
-        Ok(image) => image,
-        Err(fault) => return Err(fault),
-    };
-    let inputs = match Inputs::new(inputs) {
-        Ok(inputs) => inputs,
-        Err(fault) => return Err(CommandFault::from(fault)),
-    };
+    let image = read_image(alloc, form, program)?;
+    let inputs = Inputs::new(inputs)?;
     match read_all(alloc, choices) {
         Ok(text) => Ok(OpenText {
             image,
@@ -121,16 +115,11 @@ pub fn open_run<A: Allocator + Copy, P: Source, C: Source>(
         → IfSome (P.left program.old) (λ p. (image : ImageValue) × (program_of form p ≡ Ok image)) }
     ensures inputs_first { result ≡ Err (CommandFault.Read Input.Choices) → IsStartable inputs.now }
 {
-    let run = match open_text(alloc, form, inputs, program, choices) {
-        Ok(run) => run,
-        Err(fault) => return Err(fault),
-    };
-    match read_choices(alloc, &run.text, run.inputs.harts()) {
-        Ok(choices) => Ok(OpenRun {
-            image: run.image,
-            inputs: run.inputs,
-            choices,
-        }),
-        Err(fault) => Err(CommandFault::from(fault)),
-    }
+    let run = open_text(alloc, form, inputs, program, choices)?;
+    let choices = read_choices(alloc, &run.text, run.inputs.harts())?;
+    Ok(OpenRun {
+        image: run.image,
+        inputs: run.inputs,
+        choices,
+    })
 }

@@ -65,10 +65,7 @@ fn read_hex_program<A: Allocator + Copy>(alloc: A, bytes: &[u8]) -> Result<Image
     ensures err { IfErr result (λ fault. fault ≢ CommandFault.Memory
         → program_of ProgramForm.Hex bytes.now ≡ Err fault) }
 {
-    let words = match read_hex(alloc, bytes) {
-        Ok(words) => words,
-        Err(fault) => return Err(CommandFault::from(fault)),
-    };
+    let words = read_hex(alloc, bytes)?;
     match hex_image(alloc, &words) {
         Ok(image) => Ok(image),
         Err(_) => Err(CommandFault::Memory),

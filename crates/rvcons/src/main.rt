@@ -2,13 +2,13 @@
 #![tactic(auto)]
 
 use byte_io::Status;
-use cli_campaign::run_campaign;
-use cli_debug::converse;
-use cli_files::{assemble, print_source, show_file};
+use cli_campaign::obey_campaign;
+use cli_debug::obey_debug;
+use cli_files::{obey_asm, obey_file, obey_lib};
 use cli_orders::{Order, read_line};
 use cli_report::{Audience, explain_line, out_of_memory, read_arguments, refuse};
-use cli_run::run_schedule;
-use cli_runs::{print_schedule, replay_history, run_on_threads, shrink_schedule, trace_run};
+use cli_run::obey_run;
+use cli_runs::{obey_replay, obey_schedule, obey_shrink, obey_threads, obey_trace};
 use cmd_run::FileView;
 use object_library::KIND_NAMES;
 use std::io::{Input, IsTerminal};
@@ -50,18 +50,18 @@ fn obey<R: Files + AllocGlobal + Print + Eprint + Env + Threads + Wait + Sync + 
         return out_of_memory(rt);
     };
     match read_line(rt.alloc(), words.as_slice(), KIND_NAMES) {
-        Ok(Order::Asm(order)) => assemble(rt, audience, &order),
-        Ok(Order::Debug(order)) => converse(rt, audience, talk, &order),
-        Ok(Order::Lib(order)) => print_source(rt, &order),
-        Ok(Order::List(order)) => show_file(rt, audience, FileView::Listing, &order),
-        Ok(Order::Info(order)) => show_file(rt, audience, FileView::Facts, &order),
-        Ok(Order::Run(order)) => run_schedule(rt, audience, &order),
-        Ok(Order::Threads(order)) => run_on_threads(rt, audience, &order),
-        Ok(Order::Replay(order)) => replay_history(rt, audience, &order),
-        Ok(Order::Campaign(order)) => run_campaign(rt, audience, &order),
-        Ok(Order::Schedule(order)) => print_schedule(rt, audience, &order),
-        Ok(Order::Shrink(order)) => shrink_schedule(rt, audience, &order),
-        Ok(Order::Trace(order)) => trace_run(rt, audience, &order),
+        Ok(Order::Asm(order)) => obey_asm(rt, audience, &order),
+        Ok(Order::Debug(order)) => obey_debug(rt, audience, talk, &order),
+        Ok(Order::Lib(order)) => obey_lib(rt, &order),
+        Ok(Order::List(order)) => obey_file(rt, audience, FileView::Listing, &order),
+        Ok(Order::Info(order)) => obey_file(rt, audience, FileView::Facts, &order),
+        Ok(Order::Run(order)) => obey_run(rt, audience, &order),
+        Ok(Order::Threads(order)) => obey_threads(rt, audience, &order),
+        Ok(Order::Replay(order)) => obey_replay(rt, audience, &order),
+        Ok(Order::Campaign(order)) => obey_campaign(rt, audience, &order),
+        Ok(Order::Schedule(order)) => obey_schedule(rt, audience, &order),
+        Ok(Order::Shrink(order)) => obey_shrink(rt, audience, &order),
+        Ok(Order::Trace(order)) => obey_trace(rt, audience, &order),
         Err(fault) => {
             let status = refuse(rt, &fault);
             explain_line(rt, audience, words.as_slice(), &fault);

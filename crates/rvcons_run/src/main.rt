@@ -5,7 +5,7 @@
 use byte_io::Status;
 use cli_args::read_run;
 use cli_report::{Audience, bad_line, explain_line, out_of_memory, read_arguments, refuse};
-use cli_run::run_schedule;
+use cli_run::obey_run;
 use object_library::KIND_NAMES;
 use std::io::IsTerminal;
 use std::process::ExitCode;
@@ -34,7 +34,7 @@ fn obey<R: Files + AllocGlobal + Print + Eprint + Env>(rt: &R, audience: Audienc
         return out_of_memory(rt);
     };
     match read_run(rt.alloc(), words.as_slice(), KIND_NAMES) {
-        Ok(Some(order)) => run_schedule(rt, audience, &order),
+        Ok(Some(order)) => obey_run(rt, audience, &order),
         Ok(None) => bad_line(
             rt,
             "this is the program of run alone: the other commands are those of the whole program",

@@ -10,7 +10,7 @@ use Rattle.sched_draw.proofs.RefusalLemmas.{even-within, usual-choices}
 use Rattle.sched_draw.specs.Refusing.{IsOneIn}
 use Rattle.sched_draw.specs.Seeds.{seeded_choices}
 use Rattle.sched_draw.proofs.BurstLemmas.{burst_choices-within}
-use Rattle.sched_draw.specs.Priorities.{Drawing, after_choice, choices_drawn, drawing_of, next_choice}
+use Rattle.sched_draw.specs.Priorities.{PriorityDrawing, after_priority_choice, priority_choices_drawn, priority_drawing, next_priority_choice}
 use Rattle.sched_draw.proofs.PriorityLemmas.{after-below, next-below, order-there}
 use Rattle.sched_draw.specs.Schedules.{choices_of, drawn_choices, ordered_choices, is_of_harts}
 use Rattle.sched_draw.specs.Turns.{plain_choice}
@@ -20,14 +20,14 @@ use Rattle.sched_draw.specs.declared.schedule.Schedule.TheVariants.{Turns, Only,
 use Rattle.sched_draw.specs.declared.order.Order.{Order}
 use Rattle.sched_draw.specs.declared.order.Order.TheVariants.{Even, Bursts, Priorities}
 
-drawn-within : (refusals : Refusals) (n place steps : ℕ) (d : Drawing) (w : World) → 0 < n → All (λ h. h < n) d.order
-    → All (λ c. c.hart < n) (choices_drawn refusals place steps d w)
-unfolding choices_drawn
+drawn-within : (refusals : Refusals) (n place steps : ℕ) (d : PriorityDrawing) (w : World) → 0 < n → All (λ h. h < n) d.order
+    → All (λ c. c.hart < n) (priority_choices_drawn refusals place steps d w)
+unfolding priority_choices_drawn
 drawn-within refusals n place zero d w some all = All-nil (λ (c : Choice). c.hart < n)
 drawn-within refusals n place (suc steps) d w some all =
-    let c = next_choice refusals w.harts d in
-    let e = after_choice place w.harts d in
-    All-cons (λ (c : Choice). c.hart < n) c (choices_drawn refusals (place + 1) steps e (step w c)) (next-below refusals n w.harts d some all)
+    let c = next_priority_choice refusals w.harts d in
+    let e = after_priority_choice place w.harts d in
+    All-cons (λ (c : Choice). c.hart < n) c (priority_choices_drawn refusals (place + 1) steps e (step w c)) (next-below refusals n w.harts d some all)
     (drawn-within refusals n (place + 1) steps e (step w c) some (after-below n place w.harts d some all))
 
 ordered-within : (order : Order) (refusals : Refusals) (w : World) (n steps seed : ℕ) → 0 < n
@@ -35,7 +35,7 @@ ordered-within : (order : Order) (refusals : Refusals) (w : World) (n steps seed
 ordered-within Even refusals w n steps seed some = even-within refusals n steps seed some
 ordered-within (Bursts mean) refusals w n steps seed some = burst_choices-within refusals n mean.choices steps seed some
 ordered-within (Priorities depth) refusals w n steps seed some =
-    drawn-within refusals n 0 steps (drawing_of n depth.number steps seed) w some (order-there n depth.number steps seed)
+    drawn-within refusals n 0 steps (priority_drawing n depth.number steps seed) w some (order-there n depth.number steps seed)
 
 pub drawn_choices-within : (draw : Draw) (w : World) (n steps seed : ℕ) → 0 < n → All (λ c. c.hart < n) (drawn_choices draw w n steps seed)
 unfolding drawn_choices

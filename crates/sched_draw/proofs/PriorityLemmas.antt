@@ -15,80 +15,80 @@ use Rattle.machine.proofs.RunLaws.{run_length}
 use Rattle.sched_draw.specs.Seeds.{generator_of}
 use Rattle.sched_draw.specs.Refusing.{is_refused}
 use Rattle.sched_draw.specs.declared.refusals.Refusals.{Refusals}
-use Rattle.sched_draw.specs.Priorities.{Drawing, with_hart, with_harts, with_point, with_points, drawing_of, goes, runs, first_running, next_choice, fallen, is_point, order_after, after_choice, choices_drawn, priority_choices, NeverWaits}
+use Rattle.sched_draw.specs.Priorities.{PriorityDrawing, with_priority_hart, with_harts, with_point, with_points, priority_drawing, goes, runs, first_running, next_priority_choice, fallen, is_point, order_after, after_priority_choice, priority_choices_drawn, priority_choices, NeverWaits}
 
 -- ---- drawing
-pub hart_placed : (d : Drawing) (hart word n : ℕ) (g : Lcg) (order : List ℕ) → (word, g) ≡ pcg32 d.generator → n ≡ length d.order
-    → order ≡ insert d.order (word % (n + 1)) hart → record { order = order; points = d.points; generator = g } ≡ with_hart hart d
-unfolding with_hart
+pub hart_placed : (d : PriorityDrawing) (hart word n : ℕ) (g : Lcg) (order : List ℕ) → (word, g) ≡ pcg32 d.generator → n ≡ length d.order
+    → order ≡ insert d.order (word % (n + 1)) hart → record { order = order; points = d.points; generator = g } ≡ with_priority_hart hart d
+unfolding with_priority_hart
 hart_placed d hart word n g order took long is =
-    ap {A = List ℕ} {B = Drawing} (λ xs. record { order = xs; points = d.points; generator = g })
+    ap {A = List ℕ} {B = PriorityDrawing} (λ xs. record { order = xs; points = d.points; generator = g })
     (is ∙ ap (λ m. insert d.order (word % (m + 1)) hart) long)
-    ∙ ap {A = ℕ × Lcg} {B = Drawing} (λ p. record { order = insert d.order (p.0 % (length d.order + 1)) hart; points = d.points; generator = p.1 }) took
+    ∙ ap {A = ℕ × Lcg} {B = PriorityDrawing} (λ p. record { order = insert d.order (p.0 % (length d.order + 1)) hart; points = d.points; generator = p.1 }) took
 
-pub point_placed : (d : Drawing) (steps word : ℕ) (g : Lcg) (points : List ℕ) → (word, g) ≡ pcg32 d.generator
+pub point_placed : (d : PriorityDrawing) (steps word : ℕ) (g : Lcg) (points : List ℕ) → (word, g) ≡ pcg32 d.generator
     → points ≡ d.points ++ word % steps ∷ [] → record { order = d.order; points = points; generator = g } ≡ with_point steps d
 unfolding with_point
 point_placed d steps word g points took is =
-    ap {A = List ℕ} {B = Drawing} (λ xs. record { order = d.order; points = xs; generator = g }) is
-    ∙ ap {A = ℕ × Lcg} {B = Drawing} (λ p. record { order = d.order; points = d.points ++ p.0 % steps ∷ []; generator = p.1 }) took
+    ap {A = List ℕ} {B = PriorityDrawing} (λ xs. record { order = d.order; points = xs; generator = g }) is
+    ∙ ap {A = ℕ × Lcg} {B = PriorityDrawing} (λ p. record { order = d.order; points = d.points ++ p.0 % steps ∷ []; generator = p.1 }) took
 
-pub no_hart : (d : Drawing) → d ≡ with_harts 0 d
+pub no_hart : (d : PriorityDrawing) → d ≡ with_harts 0 d
 unfolding with_harts
 no_hart d = refl
 
-harts-suc : (n : ℕ) (d : Drawing) → with_harts (suc n) d ≡ with_hart n (with_harts n d)
+harts-suc : (n : ℕ) (d : PriorityDrawing) → with_harts (suc n) d ≡ with_priority_hart n (with_harts n d)
 unfolding with_harts
 harts-suc n d = refl
 
 -- a hart more
-pub harts-more : (n m : ℕ) (d e f : Drawing) → m ≡ n + 1 → e ≡ with_harts n d → f ≡ with_hart n e → f ≡ with_harts m d
+pub harts-more : (n m : ℕ) (d e f : PriorityDrawing) → m ≡ n + 1 → e ≡ with_harts n d → f ≡ with_priority_hart n e → f ≡ with_harts m d
 harts-more n m d e f more so_far is =
     let s : suc n ≡ m = omega (arith, more) in
-    is ∙ ap (with_hart n) so_far ∙ sym (harts-suc n d) ∙ ap (λ k. with_harts k d) s
+    is ∙ ap (with_priority_hart n) so_far ∙ sym (harts-suc n d) ∙ ap (λ k. with_harts k d) s
 
-pub no_point : (steps : ℕ) (d : Drawing) → d ≡ with_points steps 0 d
+pub no_point : (steps : ℕ) (d : PriorityDrawing) → d ≡ with_points steps 0 d
 unfolding with_points
 no_point steps d = refl
 
-points-suc : (steps n : ℕ) (d : Drawing) → with_points steps (suc n) d ≡ with_point steps (with_points steps n d)
+points-suc : (steps n : ℕ) (d : PriorityDrawing) → with_points steps (suc n) d ≡ with_point steps (with_points steps n d)
 unfolding with_points
 points-suc steps n d = refl
 
 -- a change point more
-pub points-more : (steps n m : ℕ) (d e f : Drawing) → m ≡ n + 1 → e ≡ with_points steps n d → f ≡ with_point steps e → f ≡ with_points steps m d
+pub points-more : (steps n m : ℕ) (d e f : PriorityDrawing) → m ≡ n + 1 → e ≡ with_points steps n d → f ≡ with_point steps e → f ≡ with_points steps m d
 points-more steps n m d e f more so_far is =
     let s : suc n ≡ m = omega (arith, more) in
     is ∙ ap (with_point steps) so_far ∙ sym (points-suc steps n d) ∙ ap (λ k. with_points steps k d) s
 
-pub all_drawn : (harts depth steps seed : ℕ) (e f : Drawing) (g : Lcg) → g ≡ generator_of seed
+pub all_drawn : (harts depth steps seed : ℕ) (e f : PriorityDrawing) (g : Lcg) → g ≡ generator_of seed
     → e ≡ with_harts harts (record { order = []; points = []; generator = g }) → f ≡ with_points steps (depth - 1) e
-    → f ≡ drawing_of harts depth steps seed
-unfolding drawing_of
+    → f ≡ priority_drawing harts depth steps seed
+unfolding priority_drawing
 all_drawn harts depth steps seed e f g begun ordered pointed =
     pointed ∙ ap (with_points steps (depth - 1)) (ordered ∙ ap (λ h. with_harts harts (record { order = []; points = []; generator = h })) begun)
 
 -- ---- the next choice
-pub chosen : (refusals : Refusals) (harts : List HartValue) (d : Drawing) (hart word : ℕ) (g : Lcg) → hart ≡ first_running harts d.order
+pub chosen : (refusals : Refusals) (harts : List HartValue) (d : PriorityDrawing) (hart word : ℕ) (g : Lcg) → hart ≡ first_running harts d.order
     → (word, g) ≡ pcg32 d.generator → (refuse : Bool) → refuse ≡ is_refused refusals word
-    → record { hart = hart; refuse = refuse } ≡ next_choice refusals harts d
-unfolding next_choice
+    → record { hart = hart; refuse = refuse } ≡ next_priority_choice refusals harts d
+unfolding next_priority_choice
 chosen refusals harts d hart word g first took refuse refused =
     ap {A = Bool} {B = Choice} (λ r. record { hart = hart; refuse = r }) refused
     ∙ ap {A = ℕ} {B = Choice} (λ h. record { hart = h; refuse = is_refused refusals word }) first
     ∙ ap {A = ℕ × Lcg} {B = Choice} (λ p. record { hart = first_running harts d.order; refuse = is_refused refusals p.0 }) took
 
-pub left_behind : (place : ℕ) (harts : List HartValue) (d e : Drawing) (hart word : ℕ) (g : Lcg) → hart ≡ first_running harts d.order
+pub left_behind : (place : ℕ) (harts : List HartValue) (d e : PriorityDrawing) (hart word : ℕ) (g : Lcg) → hart ≡ first_running harts d.order
     → (word, g) ≡ pcg32 d.generator → e ≡ record { order = order_after place hart d; points = d.points; generator = g }
-    → e ≡ after_choice place harts d
-unfolding after_choice
+    → e ≡ after_priority_choice place harts d
+unfolding after_priority_choice
 left_behind place harts d e hart word g first took is =
     is
-    ∙ ap {A = ℕ} {B = Drawing} (λ h. record { order = order_after place h d; points = d.points; generator = g }) first
-    ∙ ap {A = ℕ × Lcg} {B = Drawing} (λ p. record { order = order_after place (first_running harts d.order) d; points = d.points; generator = p.1 }) took
+    ∙ ap {A = ℕ} {B = PriorityDrawing} (λ h. record { order = order_after place h d; points = d.points; generator = g }) first
+    ∙ ap {A = ℕ × Lcg} {B = PriorityDrawing} (λ p. record { order = order_after place (first_running harts d.order) d; points = d.points; generator = p.1 }) took
 
 -- ---- the order has each hart
-points-order : (steps n : ℕ) (d : Drawing) → (with_points steps n d).order ≡ d.order
+points-order : (steps n : ℕ) (d : PriorityDrawing) → (with_points steps n d).order ≡ d.order
 unfolding with_points with_point
 points-order steps zero d = refl
 points-order steps (suc n) d = points-order steps n d
@@ -96,8 +96,8 @@ points-order steps (suc n) d = points-order steps n d
 place_within : (word n : ℕ) → word % (n + 1) ≤ n
 place_within word n = let below : word % (n + 1) < n + 1 = mod-lt word (omega arith) in omega (arith, below)
 
-harts-length : (n : ℕ) (d : Drawing) → d.order ≡ [] → length (with_harts n d).order ≡ n
-unfolding with_harts with_hart
+harts-length : (n : ℕ) (d : PriorityDrawing) → d.order ≡ [] → length (with_harts n d).order ≡ n
+unfolding with_harts with_priority_hart
 harts-length zero d none = ap length none
 harts-length (suc n) d none =
     let e = with_harts n d in
@@ -116,12 +116,12 @@ inserted-old xs i x y there =
     either (inl front) = Contains-append_left (take i xs) (x ∷ drop i xs) y front
     either (inr back) = Contains-append_right (take i xs) (x ∷ drop i xs) y (Contains-append_right (x ∷ []) (drop i xs) y back)
 
-harts-each : (n : ℕ) (d : Drawing) (hart : ℕ) → hart < n → Contains (with_harts n d).order hart
-unfolding with_harts with_hart
+harts-each : (n : ℕ) (d : PriorityDrawing) (hart : ℕ) → hart < n → Contains (with_harts n d).order hart
+unfolding with_harts with_priority_hart
 harts-each zero d hart below = absurd (omega (arith, below))
 harts-each (suc n) d hart below = either (hart == n) refl (λ lower. harts-each n d hart lower)
   where
-    e : Drawing
+    e : PriorityDrawing
     e = with_harts n d
 
     i : ℕ
@@ -134,8 +134,8 @@ harts-each (suc n) d hart below = either (hart == n) refl (λ lower. harts-each 
         let differs : hart ≢ n = λ same. true≢false (sym (eq-eqb hart n same) ∙ other) in
         inserted-old e.order i n hart (lower (omega (arith, below, differs)))
 
-harts-there : (n : ℕ) (d : Drawing) → d.order ≡ [] → All (λ h. h < n) (with_harts n d).order
-unfolding with_harts with_hart
+harts-there : (n : ℕ) (d : PriorityDrawing) → d.order ≡ [] → All (λ h. h < n) (with_harts n d).order
+unfolding with_harts with_priority_hart
 harts-there zero d none = rw none (All-nil (λ h. h < 0))
 harts-there (suc n) d none =
     let e = with_harts n d in
@@ -144,43 +144,43 @@ harts-there (suc n) d none =
     All-append (λ h. h < suc n) (take i e.order) (n ∷ drop i e.order) (All-take (λ h. h < suc n) i e.order all)
     (All-cons (λ h. h < suc n) n (drop i e.order) (omega arith) (All-drop (λ h. h < suc n) i e.order all))
 
-pub order-length : (harts depth steps seed : ℕ) → length (drawing_of harts depth steps seed).order ≡ harts
-unfolding drawing_of
+pub order-length : (harts depth steps seed : ℕ) → length (priority_drawing harts depth steps seed).order ≡ harts
+unfolding priority_drawing
 order-length harts depth steps seed = ap length (points-order steps (depth - 1) _) ∙ harts-length harts _ refl
 
-pub order-each : (harts depth steps seed hart : ℕ) → hart < harts → Contains (drawing_of harts depth steps seed).order hart
-unfolding drawing_of
+pub order-each : (harts depth steps seed hart : ℕ) → hart < harts → Contains (priority_drawing harts depth steps seed).order hart
+unfolding priority_drawing
 order-each harts depth steps seed hart below = rw (points-order steps (depth - 1) _) (harts-each harts _ hart below)
 
-pub order-there : (harts depth steps seed : ℕ) → All (λ h. h < harts) (drawing_of harts depth steps seed).order
-unfolding drawing_of
+pub order-there : (harts depth steps seed : ℕ) → All (λ h. h < harts) (priority_drawing harts depth steps seed).order
+unfolding priority_drawing
 order-there harts depth steps seed = rw (points-order steps (depth - 1) _) (harts-there harts _ refl)
 
 -- ---- change points
-harts-points : (n : ℕ) (d : Drawing) → (with_harts n d).points ≡ d.points
-unfolding with_harts with_hart
+harts-points : (n : ℕ) (d : PriorityDrawing) → (with_harts n d).points ≡ d.points
+unfolding with_harts with_priority_hart
 harts-points zero d = refl
 harts-points (suc n) d = harts-points n d
 
-points-count : (steps n : ℕ) (d : Drawing) → d.points ≡ [] → length (with_points steps n d).points ≡ n
+points-count : (steps n : ℕ) (d : PriorityDrawing) → d.points ≡ [] → length (with_points steps n d).points ≡ n
 unfolding with_points with_point
 points-count steps zero d none = ap length none
 points-count steps (suc n) d none =
     length_push (with_points steps n d).points ((pcg32 (with_points steps n d).generator).0 % steps)
     ∙ ap (λ k. k + 1) (points-count steps n d none) ∙ omega arith
 
-points-within : (steps n : ℕ) (d : Drawing) → d.points ≡ [] → 0 < steps → All (λ p. p < steps) (with_points steps n d).points
+points-within : (steps n : ℕ) (d : PriorityDrawing) → d.points ≡ [] → 0 < steps → All (λ p. p < steps) (with_points steps n d).points
 unfolding with_points with_point
 points-within steps zero d none some = rw none (All-nil (λ p. p < steps))
 points-within steps (suc n) d none some =
     All-push (λ p. p < steps) (with_points steps n d).points _ (points-within steps n d none some) (mod-lt _ some)
 
-pub points-length : (harts depth steps seed : ℕ) → length (drawing_of harts depth steps seed).points ≡ depth - 1
-unfolding drawing_of
+pub points-length : (harts depth steps seed : ℕ) → length (priority_drawing harts depth steps seed).points ≡ depth - 1
+unfolding priority_drawing
 points-length harts depth steps seed = points-count steps (depth - 1) _ (harts-points harts _)
 
-pub points-there : (harts depth steps seed : ℕ) → 0 < steps → All (λ p. p < steps) (drawing_of harts depth steps seed).points
-unfolding drawing_of
+pub points-there : (harts depth steps seed : ℕ) → 0 < steps → All (λ p. p < steps) (priority_drawing harts depth steps seed).points
+unfolding priority_drawing
 points-there harts depth steps seed some = points-within steps (depth - 1) _ (harts-points harts _) some
 
 -- ---- the first hart that runs
@@ -230,14 +230,14 @@ first-below n harts (h ∷ order) some all =
     either true going later = rw (first-head harts h order going) (All-head (λ k. k < n) h order all)
     either false stopped later = rw (first-next harts h order stopped) later
 
-pub next-below : (refusals : Refusals) (n : ℕ) (harts : List HartValue) (d : Drawing) → 0 < n → All (λ h. h < n) d.order
-    → (next_choice refusals harts d).hart < n
-unfolding next_choice
+pub next-below : (refusals : Refusals) (n : ℕ) (harts : List HartValue) (d : PriorityDrawing) → 0 < n → All (λ h. h < n) d.order
+    → (next_priority_choice refusals harts d).hart < n
+unfolding next_priority_choice
 next-below refusals n harts d some all = first-below n harts d.order some all
 
-pub after-below : (n place : ℕ) (harts : List HartValue) (d : Drawing) → 0 < n → All (λ h. h < n) d.order
-    → All (λ h. h < n) (after_choice place harts d).order
-unfolding after_choice
+pub after-below : (n place : ℕ) (harts : List HartValue) (d : PriorityDrawing) → 0 < n → All (λ h. h < n) d.order
+    → All (λ h. h < n) (after_priority_choice place harts d).order
+unfolding after_priority_choice
 after-below n place harts d some all = either (is_point place d.points) refl
   where
     hart : ℕ
@@ -273,8 +273,8 @@ fallen-keeps hart order k there = either (k == hart) refl
         Contains-append_left (filter (λ o. not (o == hart)) order) (hart ∷ []) k
         (filter-keeps (λ o. not (o == hart)) order k (ap not other) there)
 
-after-keeps : (place : ℕ) (harts : List HartValue) (d : Drawing) (k : ℕ) → Contains d.order k → Contains (after_choice place harts d).order k
-unfolding after_choice
+after-keeps : (place : ℕ) (harts : List HartValue) (d : PriorityDrawing) (k : ℕ) → Contains d.order k → Contains (after_priority_choice place harts d).order k
+unfolding after_priority_choice
 after-keeps place harts d k there = either (is_point place d.points)
   where
     either : (b : Bool) → Contains (if b then fallen (first_running harts d.order) d.order else d.order) k
@@ -293,25 +293,25 @@ step_length : (w : World) (c : Choice) → length (step w c).harts ≡ length w.
 unfolding run
 step_length w c = run_length w (c ∷ [])
 
-never : (refusals : Refusals) (steps place : ℕ) (d : Drawing) (w : World) → ((k : ℕ) → k < length w.harts → Contains d.order k)
-    → NeverWaits w (choices_drawn refusals place steps d w)
-unfolding choices_drawn next_choice
+never : (refusals : Refusals) (steps place : ℕ) (d : PriorityDrawing) (w : World) → ((k : ℕ) → k < length w.harts → Contains d.order k)
+    → NeverWaits w (priority_choices_drawn refusals place steps d w)
+unfolding priority_choices_drawn next_priority_choice
 never refusals zero place d w each = tt
 never refusals (suc steps) place d w each = (
   λ k going. first-runs w.harts d.order k (each k (runs-there w.harts k going)) going,
-  never refusals steps (place + 1) (after_choice place w.harts d) (step w (next_choice refusals w.harts d))
-      (λ k below. after-keeps place w.harts d k (each k (subst (λ n. k < n) (step_length w (next_choice refusals w.harts d)) below))),
+  never refusals steps (place + 1) (after_priority_choice place w.harts d) (step w (next_priority_choice refusals w.harts d))
+      (λ k below. after-keeps place w.harts d k (each k (subst (λ n. k < n) (step_length w (next_priority_choice refusals w.harts d)) below))),
 )
 
 pub never_waits : (w : World) (refusals : Refusals) (depth steps seed : ℕ)
     → NeverWaits w (priority_choices w (length w.harts) depth refusals steps seed)
 never_waits w refusals depth steps seed =
-    never refusals steps 0 (drawing_of (length w.harts) depth steps seed) w (λ k below. order-each (length w.harts) depth steps seed k below)
+    never refusals steps 0 (priority_drawing (length w.harts) depth steps seed) w (λ k below. order-each (length w.harts) depth steps seed k below)
 
-pub falls : (refusals : Refusals) (place other : ℕ) (harts later : List HartValue) (d : Drawing) → is_point place d.points ≡ true
-    → Contains d.order other → other ≢ (next_choice refusals harts d).hart → runs later other ≡ true
-    → (next_choice refusals later (after_choice place harts d)).hart ≢ (next_choice refusals harts d).hart
-unfolding next_choice after_choice
+pub falls : (refusals : Refusals) (place other : ℕ) (harts later : List HartValue) (d : PriorityDrawing) → is_point place d.points ≡ true
+    → Contains d.order other → other ≢ (next_priority_choice refusals harts d).hart → runs later other ≡ true
+    → (next_priority_choice refusals later (after_priority_choice place harts d)).hart ≢ (next_priority_choice refusals harts d).hart
+unfolding next_priority_choice after_priority_choice
 falls refusals place other harts later d there has differs going same =
     let hart = first_running harts d.order in
     let front = filter (λ o. not (o == hart)) d.order in
@@ -323,29 +323,29 @@ falls refusals place other harts later d there has differs going same =
     true≢false (sym among ∙ ap not (eq-eqb (first_running later (front ++ hart ∷ [])) hart is))
 
 -- ---- one more choice at a time
-drawn-suc : (refusals : Refusals) (place n : ℕ) (d : Drawing) (w : World)
-    → choices_drawn refusals place (suc n) d w
-    ≡ next_choice refusals w.harts d
-    ∷ choices_drawn refusals (place + 1) n (after_choice place w.harts d) (step w (next_choice refusals w.harts d))
-unfolding choices_drawn
+drawn-suc : (refusals : Refusals) (place n : ℕ) (d : PriorityDrawing) (w : World)
+    → priority_choices_drawn refusals place (suc n) d w
+    ≡ next_priority_choice refusals w.harts d
+    ∷ priority_choices_drawn refusals (place + 1) n (after_priority_choice place w.harts d) (step w (next_priority_choice refusals w.harts d))
+unfolding priority_choices_drawn
 drawn-suc refusals place n d w = refl
 
 -- the next choice of a run, and those after it
-pub drawn-next : (refusals : Refusals) (place n : ℕ) (d e : Drawing) (w : World) (harts : List HartValue) (c : Choice) → w.harts ≡ harts
-    → c ≡ next_choice refusals harts d → e ≡ after_choice place harts d
-    → choices_drawn refusals place (n + 1) d w ≡ c ∷ choices_drawn refusals (place + 1) n e (step w c)
+pub drawn-next : (refusals : Refusals) (place n : ℕ) (d e : PriorityDrawing) (w : World) (harts : List HartValue) (c : Choice) → w.harts ≡ harts
+    → c ≡ next_priority_choice refusals harts d → e ≡ after_priority_choice place harts d
+    → priority_choices_drawn refusals place (n + 1) d w ≡ c ∷ priority_choices_drawn refusals (place + 1) n e (step w c)
 drawn-next refusals place n d e w harts c stand choice state =
     let s : n + 1 ≡ suc n = omega arith in
-    let here : next_choice refusals w.harts d ≡ c = ap (λ hs. next_choice refusals hs d) stand ∙ sym choice in
-    let there : after_choice place w.harts d ≡ e = ap (λ hs. after_choice place hs d) stand ∙ sym state in
-    ap (λ k. choices_drawn refusals place k d w) s ∙ drawn-suc refusals place n d w
-    ∙ ap₂ (λ x f. x ∷ choices_drawn refusals (place + 1) n f (step w x)) here there
+    let here : next_priority_choice refusals w.harts d ≡ c = ap (λ hs. next_priority_choice refusals hs d) stand ∙ sym choice in
+    let there : after_priority_choice place w.harts d ≡ e = ap (λ hs. after_priority_choice place hs d) stand ∙ sym state in
+    ap (λ k. priority_choices_drawn refusals place k d w) s ∙ drawn-suc refusals place n d w
+    ∙ ap₂ (λ x f. x ∷ priority_choices_drawn refusals (place + 1) n f (step w x)) here there
 
 -- a run of no step has no choice, for however many steps its change points are drawn
 pub some_steps : (refusals : Refusals) (harts depth steps seed : ℕ) (w : World) (places : ℕ) → places ≡ max steps 1
-    → choices_drawn refusals 0 steps (drawing_of harts depth places seed) w ≡ priority_choices w harts depth refusals steps seed
-unfolding choices_drawn
+    → priority_choices_drawn refusals 0 steps (priority_drawing harts depth places seed) w ≡ priority_choices w harts depth refusals steps seed
+unfolding priority_choices_drawn
 some_steps refusals harts depth zero seed w places is = refl
 some_steps refusals harts depth (suc steps) seed w places is =
     let same : places ≡ suc steps = omega (arith, is) in
-    ap (λ n. choices_drawn refusals 0 (suc steps) (drawing_of harts depth n seed) w) same
+    ap (λ n. priority_choices_drawn refusals 0 (suc steps) (priority_drawing harts depth n seed) w) same

@@ -10,32 +10,32 @@ use Rattle.rand_core.specs.Steps.{first_words}
 use Rattle.sched_draw.specs.Seeds as plain
 use Rattle.sched_draw.specs.NoSteps.{no_even, no_usual}
 use Rattle.sched_draw.proofs.SeedLemmas as plain_drawn
-use Rattle.sched_draw.specs.Refusing.{is_refused, IsOneIn, choice_of_word, choices_drawn, even_choices}
+use Rattle.sched_draw.specs.Refusing.{is_refused, IsOneIn, choice_of_word, even_choices_drawn, even_choices}
 use Rattle.sched_draw.specs.declared.refusals.Refusals.{Refusals}
 use Rattle.sched_draw.specs.declared.refusals.Refusals.TheVariants.{Never, OneIn}
 
 drawn-suc : (refusals : Refusals) (harts n : ℕ) (g : Lcg)
-    → choices_drawn refusals harts (suc n) g ≡ choice_of_word refusals harts (pcg32 g).0 ∷ choices_drawn refusals harts n (pcg32 g).1
-unfolding choices_drawn first_words
+    → even_choices_drawn refusals harts (suc n) g ≡ choice_of_word refusals harts (pcg32 g).0 ∷ even_choices_drawn refusals harts n (pcg32 g).1
+unfolding even_choices_drawn first_words
 drawn-suc refusals harts n g = refl
 
 -- a word draws the next choice
 pub drawn-next : (refusals : Refusals) (harts n : ℕ) (g h : Lcg) (word : ℕ) (c : Choice) → (word, h) ≡ pcg32 g
     → c ≡ choice_of_word refusals harts word
-    → choices_drawn refusals harts (n + 1) g ≡ c ∷ choices_drawn refusals harts n h
+    → even_choices_drawn refusals harts (n + 1) g ≡ c ∷ even_choices_drawn refusals harts n h
 drawn-next refusals harts n g h word c took choice =
     let s : n + 1 ≡ suc n = omega arith in
-    ap (λ k. choices_drawn refusals harts k g) s ∙ drawn-suc refusals harts n g
-    ∙ ap₂ (λ d i. d ∷ choices_drawn refusals harts n i) (ap (λ p. choice_of_word refusals harts p.0) (sym took) ∙ sym choice)
+    ap (λ k. even_choices_drawn refusals harts k g) s ∙ drawn-suc refusals harts n g
+    ∙ ap₂ (λ d i. d ∷ even_choices_drawn refusals harts n i) (ap (λ p. choice_of_word refusals harts p.0) (sym took) ∙ sym choice)
     (ap (λ p. p.1) (sym took))
 
 -- ---- what is true of each word's choice is true of all choices
 all-drawn : (P : Choice → Type 0) (refusals : Refusals) (harts : ℕ) → ((word : ℕ) → P (choice_of_word refusals harts word))
-    → (steps : ℕ) (g : Lcg) → All P (choices_drawn refusals harts steps g)
+    → (steps : ℕ) (g : Lcg) → All P (even_choices_drawn refusals harts steps g)
 all-drawn P refusals harts each zero g = subst (All P) (sym (no_even refusals harts g)) (All-nil P)
 all-drawn P refusals harts each (suc steps) g =
     subst (All P) (sym (drawn-suc refusals harts steps g))
-    (All-cons P (choice_of_word refusals harts (pcg32 g).0) (choices_drawn refusals harts steps (pcg32 g).1) (each (pcg32 g).0)
+    (All-cons P (choice_of_word refusals harts (pcg32 g).0) (even_choices_drawn refusals harts steps (pcg32 g).1) (each (pcg32 g).0)
     (all-drawn P refusals harts each steps (pcg32 g).1))
 
 word-within : (refusals : Refusals) (harts word : ℕ) → 0 < harts → (choice_of_word refusals harts word).hart < harts
@@ -52,13 +52,13 @@ unfolding is_refused
 usual-word Never word usual = absurd usual
 usual-word (OneIn chance) word usual = ap (λ n. word / 65536 % n == 0) usual
 
-usual-choice : (refusals : Refusals) (harts word : ℕ) → IsOneIn 16 refusals → choice_of_word refusals harts word ≡ plain.choice_of_word harts word
-unfolding choice_of_word plain.choice_of_word
+usual-choice : (refusals : Refusals) (harts word : ℕ) → IsOneIn 16 refusals → choice_of_word refusals harts word ≡ plain.usual_choice_of_word harts word
+unfolding choice_of_word plain.usual_choice_of_word
 usual-choice refusals harts word usual =
     ap {A = Bool} {B = Choice} (λ b. record { hart = word % harts; refuse = b }) (usual-word refusals word usual)
 
 usual-drawn : (refusals : Refusals) (harts steps : ℕ) (g : Lcg) → IsOneIn 16 refusals
-    → choices_drawn refusals harts steps g ≡ plain.choices_drawn harts steps g
+    → even_choices_drawn refusals harts steps g ≡ plain.usual_choices_drawn harts steps g
 usual-drawn refusals harts zero g usual = no_even refusals harts g ∙ sym (no_usual harts g)
 usual-drawn refusals harts (suc steps) g usual =
     drawn-suc refusals harts steps g

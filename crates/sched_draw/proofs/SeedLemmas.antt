@@ -4,17 +4,17 @@ use Rattle.machine.specs.declared.choice.Choice.{Choice}
 use Rattle.rand_pcg.specs.Lcg.{Lcg}
 use Rattle.rand_pcg.specs.Pcg.{pcg32}
 use Rattle.rand_core.specs.Steps.{first_words}
-use Rattle.sched_draw.specs.Seeds.{choice_of_word, choices_drawn}
+use Rattle.sched_draw.specs.Seeds.{usual_choice_of_word, usual_choices_drawn}
 
 pub drawn-suc : (harts n : ℕ) (g : Lcg)
-    → choices_drawn harts (suc n) g ≡ choice_of_word harts (pcg32 g).0 ∷ choices_drawn harts n (pcg32 g).1
-unfolding choices_drawn first_words
+    → usual_choices_drawn harts (suc n) g ≡ usual_choice_of_word harts (pcg32 g).0 ∷ usual_choices_drawn harts n (pcg32 g).1
+unfolding usual_choices_drawn first_words
 drawn-suc harts n g = refl
 
 -- a word draws the next choice
-pub drawn-next : (harts n : ℕ) (g h : Lcg) (word : ℕ) (c : Choice) → (word, h) ≡ pcg32 g → c ≡ choice_of_word harts word
-    → choices_drawn harts (n + 1) g ≡ c ∷ choices_drawn harts n h
+pub drawn-next : (harts n : ℕ) (g h : Lcg) (word : ℕ) (c : Choice) → (word, h) ≡ pcg32 g → c ≡ usual_choice_of_word harts word
+    → usual_choices_drawn harts (n + 1) g ≡ c ∷ usual_choices_drawn harts n h
 drawn-next harts n g h word c took choice =
     let s : n + 1 ≡ suc n = omega arith in
-    ap (λ k. choices_drawn harts k g) s ∙ drawn-suc harts n g
-    ∙ ap₂ (λ d i. d ∷ choices_drawn harts n i) (ap (λ p. choice_of_word harts p.0) (sym took) ∙ sym choice) (ap (λ p. p.1) (sym took))
+    ap (λ k. usual_choices_drawn harts k g) s ∙ drawn-suc harts n g
+    ∙ ap₂ (λ d i. d ∷ usual_choices_drawn harts n i) (ap (λ p. usual_choice_of_word harts p.0) (sym took) ∙ sym choice) (ap (λ p. p.1) (sym took))

@@ -9,19 +9,19 @@ use Rattle.sched_draw.specs.Refusing as refusing
 use Rattle.sched_draw.specs.Seeds as seeds
 use Rattle.sched_draw.specs.declared.refusals.Refusals.{Refusals}
 
-pub no_usual : (harts : ℕ) (g : Lcg) → seeds.choices_drawn harts 0 g ≡ []
-unfolding seeds.choices_drawn first_words
+pub no_usual : (harts : ℕ) (g : Lcg) → seeds.usual_choices_drawn harts 0 g ≡ []
+unfolding seeds.usual_choices_drawn first_words
 no_usual harts g = refl
 
-pub no_even : (refusals : Refusals) (harts : ℕ) (g : Lcg) → refusing.choices_drawn refusals harts 0 g ≡ []
-unfolding refusing.choices_drawn first_words
+pub no_even : (refusals : Refusals) (harts : ℕ) (g : Lcg) → refusing.even_choices_drawn refusals harts 0 g ≡ []
+unfolding refusing.even_choices_drawn first_words
 no_even refusals harts g = refl
 
-pub no_bursts : (d : bursts.Drawing) → bursts.choices_drawn 0 d ≡ []
-unfolding bursts.choices_drawn
+pub no_bursts : (d : bursts.BurstDrawing) → bursts.burst_choices_drawn 0 d ≡ []
+unfolding bursts.burst_choices_drawn
 no_bursts d = refl
 
-pub no_priorities : (refusals : Refusals) (place : ℕ) (d : priorities.Drawing) (w : World)
-    → priorities.choices_drawn refusals place 0 d w ≡ []
-unfolding priorities.choices_drawn
+pub no_priorities : (refusals : Refusals) (place : ℕ) (d : priorities.PriorityDrawing) (w : World)
+    → priorities.priority_choices_drawn refusals place 0 d w ≡ []
+unfolding priorities.priority_choices_drawn
 no_priorities refusals place d w = refl

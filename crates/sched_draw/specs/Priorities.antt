@@ -16,26 +16,26 @@ use Rattle.sched_draw.specs.Refusing.{is_refused}
 use Rattle.sched_draw.specs.declared.refusals.Refusals.{Refusals}
 
 -- the state of drawing: harts by priority, change points, and the generator of the next words
-pub record Drawing : Type 0 where
+pub record PriorityDrawing : Type 0 where
   pub order : List ℕ
   pub points : List ℕ
   pub generator : Lcg
 
 -- a hart joins the order at a drawn place: before one of those in it, or after all
-unfoldable pub with_hart : ℕ → Drawing → Drawing
-with_hart hart d = record {
+unfoldable pub with_priority_hart : ℕ → PriorityDrawing → PriorityDrawing
+with_priority_hart hart d = record {
   order = insert d.order ((pcg32 d.generator).0 % (length d.order + 1)) hart;
   points = d.points;
   generator = (pcg32 d.generator).1;
 }
 
 -- n harts join, from hart 0 on
-unfoldable pub with_harts : ℕ → Drawing → Drawing
+unfoldable pub with_harts : ℕ → PriorityDrawing → PriorityDrawing
 with_harts zero d = d
-with_harts (suc harts) d = with_hart harts (with_harts harts d)
+with_harts (suc harts) d = with_priority_hart harts (with_harts harts d)
 
 -- a change point is at a word's remainder by the number of steps
-unfoldable pub with_point : ℕ → Drawing → Drawing
+unfoldable pub with_point : ℕ → PriorityDrawing → PriorityDrawing
 with_point steps d = record {
   order = d.order;
   points = d.points ++ (pcg32 d.generator).0 % steps ∷ [];
@@ -43,13 +43,13 @@ with_point steps d = record {
 }
 
 -- n change points
-unfoldable pub with_points : ℕ → ℕ → Drawing → Drawing
+unfoldable pub with_points : ℕ → ℕ → PriorityDrawing → PriorityDrawing
 with_points steps zero d = d
 with_points steps (suc points) d = with_point steps (with_points steps points d)
 
 -- the state at a seed: the order of the harts is drawn, then `depth - 1` change points
-unfoldable pub drawing_of : ℕ → ℕ → ℕ → ℕ → Drawing
-drawing_of harts depth steps seed =
+unfoldable pub priority_drawing : ℕ → ℕ → ℕ → ℕ → PriorityDrawing
+priority_drawing harts depth steps seed =
     with_points steps (depth - 1) (with_harts harts (record { order = []; points = []; generator = generator_of seed }))
 
 -- whether a hart has not stopped
@@ -72,8 +72,8 @@ first_running harts [] = 0
 first_running harts (number ∷ order) = if runs harts number then number else first_running harts order
 
 -- the next choice is of the first hart that runs, and refused if a word is one that refuses
-unfoldable pub next_choice : Refusals → List HartValue → Drawing → Choice
-next_choice refusals harts d =
+unfoldable pub next_priority_choice : Refusals → List HartValue → PriorityDrawing → Choice
+next_priority_choice refusals harts d =
     record { hart = first_running harts d.order; refuse = is_refused refusals (pcg32 d.generator).0 }
 
 -- a hart moved to the end of an order
@@ -85,27 +85,27 @@ abbrev pub is_point : ℕ → List ℕ → Bool
 is_point place points = list_any (λ point. point == place) points
 
 -- the order after a choice of a hart
-abbrev pub order_after : ℕ → ℕ → Drawing → List ℕ
+abbrev pub order_after : ℕ → ℕ → PriorityDrawing → List ℕ
 order_after place hart d = if is_point place d.points then fallen hart d.order else d.order
 
 -- the state after the choice at a step
-unfoldable pub after_choice : ℕ → List HartValue → Drawing → Drawing
-after_choice place harts d = record {
+unfoldable pub after_priority_choice : ℕ → List HartValue → PriorityDrawing → PriorityDrawing
+after_priority_choice place harts d = record {
   order = order_after place (first_running harts d.order) d;
   points = d.points;
   generator = (pcg32 d.generator).1;
 }
 
 -- the next n choices of a run from a world and a step on, each made in the world before it
-unfoldable pub choices_drawn : Refusals → ℕ → ℕ → Drawing → World → List Choice
-choices_drawn refusals place zero d world = []
-choices_drawn refusals place (suc steps) d world =
-    next_choice refusals world.harts d
-    ∷ choices_drawn refusals (place + 1) steps (after_choice place world.harts d) (step world (next_choice refusals world.harts d))
+unfoldable pub priority_choices_drawn : Refusals → ℕ → ℕ → PriorityDrawing → World → List Choice
+priority_choices_drawn refusals place zero d world = []
+priority_choices_drawn refusals place (suc steps) d world =
+    next_priority_choice refusals world.harts d
+    ∷ priority_choices_drawn refusals (place + 1) steps (after_priority_choice place world.harts d) (step world (next_priority_choice refusals world.harts d))
 
 -- the choices of a run of n steps from a world, by the priorities that a seed draws
 abbrev pub priority_choices : World → ℕ → ℕ → Refusals → ℕ → ℕ → List Choice
-priority_choices world harts depth refusals steps seed = choices_drawn refusals 0 steps (drawing_of harts depth steps seed) world
+priority_choices world harts depth refusals steps seed = priority_choices_drawn refusals 0 steps (priority_drawing harts depth steps seed) world
 
 -- in a run from a world each choice is of a hart that runs, as long as one does
 abbrev pub NeverWaits : World → List Choice → Type 0

@@ -23,9 +23,9 @@ unfoldable pub choice_of_word : Refusals → ℕ → ℕ → Choice
 choice_of_word refusals harts word = record { hart = word % harts; refuse = is_refused refusals word }
 
 -- the choices of the next words of a generator
-unfoldable pub choices_drawn : Refusals → ℕ → ℕ → Lcg → List Choice
-choices_drawn refusals harts steps generator = map (choice_of_word refusals harts) (first_words pcg32 steps generator)
+unfoldable pub even_choices_drawn : Refusals → ℕ → ℕ → Lcg → List Choice
+even_choices_drawn refusals harts steps generator = map (choice_of_word refusals harts) (first_words pcg32 steps generator)
 
 -- the choices of n steps that the generator of a seed draws, one word each
 abbrev pub even_choices : Refusals → ℕ → ℕ → ℕ → List Choice
-even_choices refusals harts steps seed = choices_drawn refusals harts steps (generator_of seed)
+even_choices refusals harts steps seed = even_choices_drawn refusals harts steps (generator_of seed)

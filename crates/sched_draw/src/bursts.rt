@@ -2,7 +2,7 @@
 
 ghost use Rattle.std.specs.Prelude.{◌≡◌, ℕ, ◌+◌, ◌-◌, ◌*◌, ◌%◌, ◌<◌, ◌≤◌};
 ghost use Rattle.sched_draw.specs.Limits.{most_mean};
-ghost use Rattle.sched_draw.specs.Bursts.{Drawing, drawing_of, burst_drawn, in_burst, next_choice, after_choice, choices_drawn};
+ghost use Rattle.sched_draw.specs.Bursts.{BurstDrawing, burst_drawing, burst_drawn, in_burst, next_burst_choice, after_burst_choice, burst_choices_drawn};
 ghost use Rattle.sched_draw.specs.NoSteps.{no_bursts};
 
 use crate::chooser::Drawer;
@@ -26,7 +26,7 @@ pub(crate) struct Bursts {
 }
 
 impl Model for Bursts {
-    ghost Value = { Drawing };
+    ghost Value = { BurstDrawing };
 
     ghost view = { λ b. record {
       harts = b.harts;
@@ -42,10 +42,10 @@ impl Model for Bursts {
 
 impl Bursts {
     /// The state at a seed, with bursts of this mean length and these refusals.
-    #[tactic(auto, unfolding(crate::specs::Bursts::drawing_of))]
+    #[tactic(auto, unfolding(crate::specs::Bursts::burst_drawing))]
     pub(crate) fn new(harts: u32, mean: Mean, refusals: Refusals, seed: u64) -> Bursts
         requires { 0 < harts }
-        ensures begun { result ≡ drawing_of harts mean.choices refusals seed }
+        ensures begun { result ≡ burst_drawing harts mean.choices refusals seed }
         ensures harts { result.harts ≡ harts }
     {
         Bursts {
@@ -75,8 +75,8 @@ impl Bursts {
     // Draws the next choice. One word decides whether its store-conditional is refused; if a burst
     // begins, two words before it give the hart and the length.
     fn next_choice(&mut self) -> Choice
-        ensures choice { result ≡ next_choice self.old }
-        ensures state { self.new ≡ after_choice self.old }
+        ensures choice { result ≡ next_burst_choice self.old }
+        ensures state { self.new ≡ after_burst_choice self.old }
         ensures within { result.hart < self.old.harts }
     {
         self.begin_burst();
@@ -90,7 +90,7 @@ impl Bursts {
 }
 
 impl Drawer for Bursts {
-    ghost drawn = { λ b _ n. choices_drawn n b };
+    ghost drawn = { λ b _ n. burst_choices_drawn n b };
 
     ghost harts = { λ b. b.harts };
 

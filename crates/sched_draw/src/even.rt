@@ -60,10 +60,10 @@ impl Usual {
 }
 
 impl Drawer for Usual {
-    ghost use Rattle.sched_draw.specs.Seeds.{choices_drawn};
+    ghost use Rattle.sched_draw.specs.Seeds.{usual_choices_drawn};
     ghost use Rattle.sched_draw.specs.NoSteps.{no_usual};
 
-    ghost drawn = { λ u _ n. choices_drawn u.harts n u.generator };
+    ghost drawn = { λ u _ n. usual_choices_drawn u.harts n u.generator };
 
     ghost harts = { λ u. u.harts };
 
@@ -106,10 +106,10 @@ impl Even {
 }
 
 impl Drawer for Even {
-    ghost use Rattle.sched_draw.specs.Refusing.{choices_drawn};
+    ghost use Rattle.sched_draw.specs.Refusing.{even_choices_drawn};
     ghost use Rattle.sched_draw.specs.NoSteps.{no_even};
 
-    ghost drawn = { λ e _ n. choices_drawn e.refusals e.harts n e.generator };
+    ghost drawn = { λ e _ n. even_choices_drawn e.refusals e.harts n e.generator };
 
     ghost harts = { λ e. e.harts };
 

@@ -5,7 +5,7 @@ ghost use Rattle.std.specs.List.{All, Contains};
 ghost use Rattle.hart_step.specs.Hart.{HartValue};
 ghost use Rattle.machine.specs.World.{World};
 ghost use Rattle.sched_draw.specs.Bursts as bursts;
-ghost use Rattle.sched_draw.specs.Priorities.{Drawing, drawing_of, is_point, runs, next_choice, after_choice, priority_choices, NeverWaits};
+ghost use Rattle.sched_draw.specs.Priorities.{PriorityDrawing, priority_drawing, is_point, runs, next_priority_choice, after_priority_choice, priority_choices, NeverWaits};
 ghost use Rattle.sched_draw.specs.Refusing.{even_choices, is_refused, IsOneIn};
 ghost use Rattle.sched_draw.specs.Schedules.{drawn_choices};
 ghost use Rattle.sched_draw.specs.Seeds.{seeded_choices};
@@ -39,29 +39,29 @@ pub fn one_in_1_refuses_each()
 
 /// A burst is of one hart: the next choices, as many as are left of it, all name its hart.
 pub fn a_burst_is_of_one_hart()
-    ensures { (steps : ℕ) (d : bursts.Drawing) → steps ≤ (bursts.in_burst d).left
-        → All (λ c. c.hart ≡ (bursts.in_burst d).hart) (bursts.choices_drawn steps d) }
+    ensures { (steps : ℕ) (d : bursts.BurstDrawing) → steps ≤ (bursts.in_burst d).left
+        → All (λ c. c.hart ≡ (bursts.in_burst d).hart) (bursts.burst_choices_drawn steps d) }
 {}
 
 /// A burst that begins is of an existing hart, and has 1 to `2 * mean - 1` choices.
 pub fn a_burst_begins_within_its_bounds()
-    ensures there { (d : bursts.Drawing) → 0 < d.harts → (bursts.burst_drawn d).hart < d.harts }
-    ensures some { (d : bursts.Drawing) → 0 < (bursts.burst_drawn d).left }
-    ensures most { (d : bursts.Drawing) → 0 < d.mean → (bursts.burst_drawn d).left ≤ 2 * d.mean - 1 }
+    ensures there { (d : bursts.BurstDrawing) → 0 < d.harts → (bursts.burst_drawn d).hart < d.harts }
+    ensures some { (d : bursts.BurstDrawing) → 0 < (bursts.burst_drawn d).left }
+    ensures most { (d : bursts.BurstDrawing) → 0 < d.mean → (bursts.burst_drawn d).left ≤ 2 * d.mean - 1 }
 {}
 
 /// The order that a seed draws has each hart, and no other number; as it is as long as the number
 /// of harts, it has each once.
 pub fn each_hart_has_a_place()
-    ensures count { (harts depth steps seed : ℕ) → length (drawing_of harts depth steps seed).order ≡ harts }
-    ensures each { (harts depth steps seed hart : ℕ) → hart < harts → Contains (drawing_of harts depth steps seed).order hart }
-    ensures there { (harts depth steps seed : ℕ) → All (λ h. h < harts) (drawing_of harts depth steps seed).order }
+    ensures count { (harts depth steps seed : ℕ) → length (priority_drawing harts depth steps seed).order ≡ harts }
+    ensures each { (harts depth steps seed hart : ℕ) → hart < harts → Contains (priority_drawing harts depth steps seed).order hart }
+    ensures there { (harts depth steps seed : ℕ) → All (λ h. h < harts) (priority_drawing harts depth steps seed).order }
 {}
 
 /// A seed draws `depth - 1` change points, each at a step of the run.
 pub fn change_points_are_places()
-    ensures count { (harts depth steps seed : ℕ) → length (drawing_of harts depth steps seed).points ≡ depth - 1 }
-    ensures there { (harts depth steps seed : ℕ) → 0 < steps → All (λ p. p < steps) (drawing_of harts depth steps seed).points }
+    ensures count { (harts depth steps seed : ℕ) → length (priority_drawing harts depth steps seed).points ≡ depth - 1 }
+    ensures there { (harts depth steps seed : ℕ) → 0 < steps → All (λ p. p < steps) (priority_drawing harts depth steps seed).points }
 {}
 
 /// A stopped hart is never chosen while another runs.
@@ -73,7 +73,7 @@ pub fn a_stopped_hart_waits()
 /// A hart that falls at a change point is last: the next choice, whatever the harts' states by
 /// then, is not of it while another runs.
 pub fn a_change_point_lets_a_hart_fall()
-    ensures { (refusals : Refusals) (place other : ℕ) (harts later : List HartValue) (d : Drawing) → is_point place d.points ≡ true
-        → Contains d.order other → other ≢ (next_choice refusals harts d).hart → runs later other ≡ true
-        → (next_choice refusals later (after_choice place harts d)).hart ≢ (next_choice refusals harts d).hart }
+    ensures { (refusals : Refusals) (place other : ℕ) (harts later : List HartValue) (d : PriorityDrawing) → is_point place d.points ≡ true
+        → Contains d.order other → other ≢ (next_priority_choice refusals harts d).hart → runs later other ≡ true
+        → (next_priority_choice refusals later (after_priority_choice place harts d)).hart ≢ (next_priority_choice refusals harts d).hart }
 {}

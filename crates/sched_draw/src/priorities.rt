@@ -2,11 +2,11 @@
 
 ghost use Rattle.std.specs.Prelude.{◌≡◌, ◌-◌, ◌<◌, IfOk, map};
 ghost use Rattle.hart_step.specs.Hart.{hart_of};
-ghost use Rattle.sched_draw.specs.Priorities.{runs, first_running, with_hart, with_harts, with_point, with_points};
-ghost use Rattle.sched_draw.specs.Priorities.{drawing_of, fallen, order_after, next_choice, after_choice};
+ghost use Rattle.sched_draw.specs.Priorities.{runs, first_running, with_priority_hart, with_harts, with_point, with_points};
+ghost use Rattle.sched_draw.specs.Priorities.{priority_drawing, fallen, order_after, next_priority_choice, after_priority_choice};
 ghost use Rattle.std.specs.List.{All};
 ghost use Rattle.machine.specs.World.{World};
-ghost use Rattle.sched_draw.specs.Priorities.{choices_drawn, priority_choices};
+ghost use Rattle.sched_draw.specs.Priorities.{priority_choices_drawn, priority_choices};
 ghost use Rattle.sched_draw.specs.Drawn.{drawing};
 ghost use Rattle.sched_draw.specs.NoSteps.{no_priorities};
 
@@ -72,7 +72,7 @@ impl<A: Allocator + Copy> Priorities<A> {
         seed: u64,
     ) -> Result<Priorities<A>, AllocError>
         requires { 0 < steps }
-        ensures { IfOk result (λ priorities. drawing priorities ≡ drawing_of harts depth.number steps seed) }
+        ensures { IfOk result (λ priorities. drawing priorities ≡ priority_drawing harts depth.number steps seed) }
     {
         let depth = depth.number();
         let mut priorities = Priorities {
@@ -89,7 +89,7 @@ impl<A: Allocator + Copy> Priorities<A> {
 impl<A: Allocator> Priorities<A> {
     // Inserts a hart at a drawn place in the order.
     fn draw_place(&mut self, hart: u32) -> Result<(), AllocError>
-        ensures { IfOk result (λ _. drawing self.new ≡ with_hart hart (drawing self.old)) }
+        ensures { IfOk result (λ _. drawing self.new ≡ with_priority_hart hart (drawing self.old)) }
     {
         let word = self.generator.next_word();
         let place = word as usize % (self.order.len() + 1);
@@ -149,9 +149,9 @@ impl<A: Allocator> Priorities<A> {
         refusals: Refusals,
     ) -> Result<Choice, AllocError>
         ensures choice { IfOk result (λ choice.
-            choice ≡ next_choice refusals (map hart_of harts.now) (drawing self.old)) }
+            choice ≡ next_priority_choice refusals (map hart_of harts.now) (drawing self.old)) }
         ensures state { IfOk result (λ _.
-            drawing self.new ≡ after_choice place (map hart_of harts.now) (drawing self.old)) }
+            drawing self.new ≡ after_priority_choice place (map hart_of harts.now) (drawing self.old)) }
     {
         let hart = first_running(&self.order, harts);
         let word = self.generator.next_word();
@@ -182,7 +182,7 @@ impl<A: Allocator + Copy> ByPriorities<A> {
         steps: u64,
         seed: u64,
     ) -> Result<ByPriorities<A>, AllocError>
-        ensures choices { IfOk result (λ p. (w : World) → choices_drawn p.refusals 0 steps (drawing p.priorities.value) w
+        ensures choices { IfOk result (λ p. (w : World) → priority_choices_drawn p.refusals 0 steps (drawing p.priorities.value) w
             ≡ priority_choices w harts depth.number refusals steps seed) }
         ensures there { IfOk result (λ p. All (λ h. h < harts) p.priorities.value.order.items) }
     {
@@ -196,7 +196,7 @@ impl<A: Allocator + Copy> ByPriorities<A> {
 }
 
 impl<A: Allocator> Chooser for ByPriorities<A> {
-    ghost choices = { λ p step n w. choices_drawn p.refusals step n (drawing p.priorities.value) w };
+    ghost choices = { λ p step n w. priority_choices_drawn p.refusals step n (drawing p.priorities.value) w };
 
     ghost IsFor = { λ p n. (0 < n) × All (λ h. h < n) p.priorities.value.order.items };
 

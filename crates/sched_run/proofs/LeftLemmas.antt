@@ -7,11 +7,11 @@ use Rattle.std.specs.List.{slice_split, onto_first}
 use Rattle.std.proofs.lemmas.List.{drop_more}
 use Rattle.std.proofs.lemmas.List.Splits.{slice_split-cons_yes, slice_split-cons_no}
 use Rattle.machine.specs.declared.choice.Choice.{Choice}
-use Rattle.text_items.specs.Items.{is_blank, items_of_parts, items_from, span_of, IsFirstItem}
+use Rattle.text_items.specs.Items.{is_blank, items_of_parts, items_from, text_between, IsFirstItem}
 use Rattle.text_items.specs.Reading.{values_named, value_then, followed_by}
 use Rattle.sched_text.specs.declared.run.Run.{Run}
 use Rattle.sched_text.specs.declared.choice_text.ChoiceFault.{ChoiceFault}
-use Rattle.sched_text.specs.Runs.{run, equal_choices, expanded}
+use Rattle.sched_text.specs.Runs.{choice_run, equal_choices, expanded_runs}
 use Rattle.sched_text.specs.Reading.{run_of, expanded_after}
 use Rattle.std.specs.Char.{digit_value}
 use Rattle.std.proofs.lemmas.Str.{digit_value_digit}
@@ -42,7 +42,7 @@ taken_again harts text old new choice from more =
 
 -- ---- one item less
 run_then : (r : Run) (more : Result (List Run) ChoiceFault) → expanded_after [] (value_then (Ok r) more) ≡ expanded_after (equal_choices r) more
-unfolding expanded
+unfolding expanded_runs
 run_then r (Ok runs) = refl
 run_then r (Err fault) = refl
 
@@ -58,17 +58,17 @@ item_left harts text old new named none first choice count =
 
 -- an item of one choice is read, and its choice
 pub digit_left : (harts hart : ℕ) (text : List ℕ) (old new : Reading) → old.more ≡ 0 → new.more ≡ 0
-    → runs_after harts text old.from ≡ value_then (Ok (run (plain hart) 1)) (runs_after harts text new.from)
+    → runs_after harts text old.from ≡ value_then (Ok (choice_run (plain hart) 1)) (runs_after harts text new.from)
     → left_of harts text old ≡ followed_by (plain hart ∷ []) (left_of harts text new)
 digit_left harts hart text old new none still first =
     ap (λ n. expanded_after (replicate n old.choice) (runs_after harts text old.from)) none
-    ∙ ap (expanded_after []) first ∙ run_then (run (plain hart) 1) (runs_after harts text new.from)
+    ∙ ap (expanded_after []) first ∙ run_then (choice_run (plain hart) 1) (runs_after harts text new.from)
     ∙ once_less (plain hart) 1 0 (runs_after harts text new.from) (omega arith)
     ∙ ap (λ n. followed_by (plain hart ∷ []) (expanded_after (replicate n new.choice) (runs_after harts text new.from))) (sym still)
 
 -- the first item from an offset on is read, and those after it
 pub first_read : (harts from begin end behind : ℕ) (text : List ℕ) (r : Result Run ChoiceFault) → IsFirstItem from text begin end
-    → run_of harts begin (span_of begin end text) ≡ r → items_from end text ≡ items_from behind text
+    → run_of harts begin (text_between begin end text) ≡ r → items_from end text ≡ items_from behind text
     → runs_after harts text from ≡ value_then r (runs_after harts text behind)
 first_read harts from begin end behind text r first read same =
     ap (values_named (run_of harts)) first.first
@@ -77,13 +77,13 @@ first_read harts from begin end behind text r first read same =
 
 -- nothing is left, or a bad item
 pub nothing_left : (harts : ℕ) (text : List ℕ) (r : Reading) → r.more ≡ 0 → items_from r.from text ≡ [] → left_of harts text r ≡ Ok []
-unfolding expanded
+unfolding expanded_runs
 nothing_left harts text r none end =
     ap (λ n. expanded_after (replicate n r.choice) (runs_after harts text r.from)) none
     ∙ ap (λ items. expanded_after [] (values_named (run_of harts) items)) end
 
 pub fault_left : (harts begin end : ℕ) (text : List ℕ) (r : Reading) (fault : ChoiceFault) → r.more ≡ 0 → IsFirstItem r.from text begin end
-    → run_of harts begin (span_of begin end text) ≡ Err fault → left_of harts text r ≡ Err fault
+    → run_of harts begin (text_between begin end text) ≡ Err fault → left_of harts text r ≡ Err fault
 fault_left harts begin end text r fault none first bad =
     ap (λ n. expanded_after (replicate n r.choice) (runs_after harts text r.from)) none
     ∙ ap (expanded_after []) (first_read harts r.from begin end end text (Err fault) first bad refl)
@@ -122,14 +122,14 @@ byte_item from byte text inside is plain blank =
 -- a digit of a hart that exists, and a blank after it
 pub digit_first : (harts from hart : ℕ) (text : List ℕ) → harts < 2 ^ 32 → from + 1 < length text → get_or text from 0 ≡ hart + 48 → hart < 10
     → hart < harts → is_blank (get_or text (from + 1) 0) ≡ true
-    → runs_after harts text from ≡ value_then (Ok (run (plain hart) 1)) (runs_after harts text (from + 2))
+    → runs_after harts text from ≡ value_then (Ok (choice_run (plain hart) 1)) (runs_after harts text (from + 2))
 digit_first harts from hart text few inside is low there blank =
     ap (values_named (run_of harts)) (byte_item from (hart + 48) text inside is (digit_plain hart low) blank)
     ∙ ap (λ r. value_then r (runs_after harts text (from + 2))) (digit_run harts from hart ((hart + 48) ∷ []) refl low there few)
 
 -- ---- two digits
 two_digits_named : (tens ones : ℕ) → 0 < tens → tens < 10 → ones < 10
-    → NamesRun ((tens + 48) ∷ (ones + 48) ∷ []) (run (plain (10 * tens + ones)) 1)
+    → NamesRun ((tens + 48) ∷ (ones + 48) ∷ []) (choice_run (plain (10 * tens + ones)) 1)
 two_digits_named tens ones some low high =
     let first : digit_value (tens + 48) + 48 ≡ tens + 48 = digit_value_digit (tens + 48) (omega (arith, low)) in
     let second : digit_value (ones + 48) + 48 ≡ ones + 48 = digit_value_digit (ones + 48) (omega (arith, high)) in
@@ -170,7 +170,7 @@ two_byte_item from a b text inside is_a is_b plain_a plain_b blank =
 pub two_digits_first : (harts from tens ones : ℕ) (text : List ℕ) → harts < 2 ^ 32 → from + 2 < length text
     → get_or text from 0 ≡ tens + 48 → get_or text (from + 1) 0 ≡ ones + 48 → 0 < tens → tens < 10 → ones < 10
     → 10 * tens + ones < harts → is_blank (get_or text (from + 2) 0) ≡ true
-    → runs_after harts text from ≡ value_then (Ok (run (plain (10 * tens + ones)) 1)) (runs_after harts text (from + 3))
+    → runs_after harts text from ≡ value_then (Ok (choice_run (plain (10 * tens + ones)) 1)) (runs_after harts text (from + 3))
 two_digits_first harts from tens ones text few inside is_tens is_ones some low high there blank =
     ap (values_named (run_of harts))
     (two_byte_item from (tens + 48) (ones + 48) text inside is_tens is_ones (digit_plain tens low) (digit_plain ones high) blank)

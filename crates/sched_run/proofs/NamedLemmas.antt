@@ -1,4 +1,4 @@
--- A run that an item denotes is of a hart that exists, and has at least one choice.
+-- A choice_run that an item denotes is of a hart that exists, and has at least one choice.
 use Rattle.std.proofs.Common.{◌≡◌, ℕ, ◌<◌, Bool, true, false, List, [], ◌∷◌, Option, Some, None, Ok, Err, refl, arith, ap, subst, ltb-true}
 use Rattle.std.specs.Prelude.{◌&&◌, if◌then◌else◌, nat_lt}
 use Rattle.std.specs.declared.result.Result.{Result}
@@ -6,7 +6,7 @@ use Rattle.text_items.specs.Numbers.{number_of, has_mark, unmarked, before_byte,
 use Rattle.sched_text.specs.declared.run.Run.{Run}
 use Rattle.sched_text.specs.declared.choice_text.ChoiceFault.{ChoiceFault}
 use Rattle.sched_text.specs.declared.choice_text.ChoiceFault.TheVariants.{NoHart}
-use Rattle.sched_text.specs.Runs.{run}
+use Rattle.sched_text.specs.Runs.{choice_run}
 use Rattle.sched_text.specs.Reading.{count_in, count_of, run_by, run_of}
 
 number_or : Option ℕ → ℕ
@@ -44,7 +44,7 @@ by_parts (Some h) None harts at refuse r some e = absurd (cc)
 by_parts (Some h) (Some n) harts at refuse r some e = by (nat_lt h harts) refl e
   where
     by : (b : Bool) → nat_lt h harts ≡ b
-        → ◌≡◌ {A = Result Run ChoiceFault} (if b then Ok (run (record { hart = h; refuse = refuse }) n) else Err (NoHart at)) (Ok r)
+        → ◌≡◌ {A = Result Run ChoiceFault} (if b then Ok (choice_run (record { hart = h; refuse = refuse }) n) else Err (NoHart at)) (Ok r)
         → (r.choice.hart < harts) × (0 < r.count)
     by true is same = (subst (λ k. k < harts) (ap hart_or same) (ltb-true h harts is), subst (λ k. 0 < k) (ap count_or same) (some n refl))
     by false is same = absurd (cc)

@@ -7,7 +7,7 @@ use Rattle.machine.specs.declared.choice.Choice.{Choice}
 use Rattle.machine.proofs.WorldLemmas.{run_append, run_none}
 use Rattle.text_items.specs.Reading.{followed_by}
 use Rattle.sched_text.specs.declared.choice_text.ChoiceFault.{ChoiceFault}
-use Rattle.sched_text.specs.Reading.{choices_of}
+use Rattle.sched_text.specs.Reading.{choices_read}
 use Rattle.sched_run.specs.Harts.{Harts, with_hart}
 use Rattle.sched_run.specs.Leads.{LeadsTo}
 use Rattle.sched_run.proofs.ChosenLemmas.{choice_chosen}
@@ -16,7 +16,7 @@ use Rattle.sched_run.proofs.ChosenLemmas.{choice_chosen}
 -- those that are left
 pub record SoFar (harts : ℕ) (text : List ℕ) (left : Result (List Choice) ChoiceFault) (old now : World) (chosen : Harts) : Type 0 where
   pub done : List Choice
-  pub read : choices_of harts text ≡ followed_by done left
+  pub read : choices_read harts text ≡ followed_by done left
   pub led : now ≡ run old done
   pub told : (k : ℕ) → chosen k ≡ is_chosen done k
 
@@ -35,7 +35,7 @@ run_one w c = refl
 
 -- no choice was taken
 pub begun : (harts : ℕ) (text : List ℕ) (left : Result (List Choice) ChoiceFault) (w : World) (chosen : Harts)
-    → left ≡ choices_of harts text → chosen ≡ (λ _. false) → SoFar harts text left w w chosen
+    → left ≡ choices_read harts text → chosen ≡ (λ _. false) → SoFar harts text left w w chosen
 begun harts text left w chosen whole none = record {
   done = [];
   read = sym whole ∙ after_none left;
@@ -66,5 +66,5 @@ all_run harts text left old now chosen none s = record {
 
 -- a bad item is left
 pub item_bad : (harts : ℕ) (text : List ℕ) (left : Result (List Choice) ChoiceFault) (old now : World) (chosen : Harts) (fault : ChoiceFault)
-    → left ≡ Err fault → SoFar harts text left old now chosen → choices_of harts text ≡ Err fault
+    → left ≡ Err fault → SoFar harts text left old now chosen → choices_read harts text ≡ Err fault
 item_bad harts text left old now chosen fault bad s = s.read ∙ ap (followed_by s.done) bad

@@ -1,6 +1,6 @@
 //! The first fault of a choice text, found before the run.
 ghost use Rattle.std.specs.Prelude.{◌≡◌, ◌<◌, ℕ, Err, IfNone, IfSome, length, slice_index};
-ghost use Rattle.sched_text.specs.Reading.{choices_of};
+ghost use Rattle.sched_text.specs.Reading.{choices_read};
 ghost use Rattle.sched_run.specs.Spelled.{IsSpelled};
 
 use memchr::memchr;
@@ -11,7 +11,7 @@ use text_items::next_item;
 /// minutes of steps, so it is checked before it is run. A text without counts runs about as fast as
 /// it is checked, and gives `None`.
 pub fn early_fault(text: &[u8], harts: u32) -> Option<ChoiceFault>
-    ensures fault { IfSome result (λ fault. choices_of harts text.now ≡ Err fault) }
+    ensures fault { IfSome result (λ fault. choices_read harts text.now ≡ Err fault) }
     // `None` for a text with a `*` means that it spells choices.
     ensures looked { IfNone result ((k : ℕ) → k < length text.now → slice_index text.now k ≡ 42
         → IsSpelled harts text.now) }
@@ -24,7 +24,7 @@ pub fn early_fault(text: &[u8], harts: u32) -> Option<ChoiceFault>
 
 // The fault of the first bad item, if there is one.
 fn first_fault(text: &[u8], harts: u32) -> Option<ChoiceFault>
-    ensures fault { IfSome result (λ fault. choices_of harts text.now ≡ Err fault) }
+    ensures fault { IfSome result (λ fault. choices_read harts text.now ≡ Err fault) }
     ensures none { IfNone result (IsSpelled harts text.now) }
 {
     let mut from = 0;

@@ -3,8 +3,8 @@
 ghost use Rattle.std.specs.Prelude.{◌≡◌, ◌+◌, ◌<◌, ◌≤◌, ◌^◌, ℕ, [], ◌∷◌, true, false, Ok, Err, List, IfNone, IfSome, MatchOption, length};
 ghost use Rattle.text_items.specs.Items.{items_from};
 ghost use Rattle.text_items.specs.Reading.{followed_by, value_then};
-ghost use Rattle.sched_text.specs.Runs.{run};
-ghost use Rattle.sched_text.specs.Reading.{choices_of};
+ghost use Rattle.sched_text.specs.Runs.{choice_run};
+ghost use Rattle.sched_text.specs.Reading.{choices_read};
 ghost use Rattle.sched_run.specs.Left.{plain, runs_after, left_of, most_left};
 
 use machine::Choice;
@@ -27,7 +27,7 @@ pub struct Reading {
 impl Reading {
     /// At the start of a text.
     pub fn begin() -> Self
-        ensures at_front { (harts : ℕ) (text : List ℕ) → left_of harts text result ≡ choices_of harts text }
+        ensures at_front { (harts : ℕ) (text : List ℕ) → left_of harts text result ≡ choices_read harts text }
         ensures within { result.from ≡ 0 }
         ensures nothing { result.more ≡ 0 }
     {
@@ -160,7 +160,7 @@ fn digit_at(text: &[u8], from: usize, harts: u32) -> Option<u32>
     ensures within { IfSome result (λ hart. from + 2 ≤ length text.now) }
     ensures there { IfSome result (λ hart. hart < harts) }
     ensures first { IfSome result (λ hart. runs_after harts text.now from
-        ≡ value_then (Ok (run (plain hart) 1)) (runs_after harts text.now (from + 2))) }
+        ≡ value_then (Ok (choice_run (plain hart) 1)) (runs_after harts text.now (from + 2))) }
 {
     let after = from + 1;
     if after >= text.len() {
@@ -181,7 +181,7 @@ fn two_digits_at(text: &[u8], from: usize, harts: u32) -> Option<u32>
     ensures within { IfSome result (λ hart. from + 3 ≤ length text.now) }
     ensures there { IfSome result (λ hart. hart < harts) }
     ensures first { IfSome result (λ hart. runs_after harts text.now from
-        ≡ value_then (Ok (run (plain hart) 1)) (runs_after harts text.now (from + 3))) }
+        ≡ value_then (Ok (choice_run (plain hart) 1)) (runs_after harts text.now (from + 3))) }
 {
     let after = from + 2;
     if after >= text.len() {

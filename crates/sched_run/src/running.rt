@@ -3,7 +3,7 @@ ghost use Rattle.std.specs.Prelude.{◌≡◌, ◌<◌, ◌≤◌, Err, IfOk, If
 ghost use Rattle.hart_reservations.specs.Limit.{most_harts};
 ghost use Rattle.machine.specs.World.{step};
 ghost use Rattle.machine.specs.State.{state};
-ghost use Rattle.sched_text.specs.Reading.{choices_of};
+ghost use Rattle.sched_text.specs.Reading.{choices_read};
 ghost use Rattle.sched_run.specs.Chosen.{harts_of};
 ghost use Rattle.sched_run.specs.Leads.{LeadsTo};
 
@@ -25,7 +25,7 @@ pub fn run_choices<A: Allocator>(
     requires there { length (state machine.old).harts ≡ harts }
     ensures ran { IfOk result (λ chosen.
         LeadsTo harts text.now (state machine.old) (state machine.new) (harts_of chosen)) }
-    ensures refused { IfErr result (λ fault. choices_of harts text.now ≡ Err fault) }
+    ensures refused { IfErr result (λ fault. choices_read harts text.now ≡ Err fault) }
 {
     let mut chosen = Chosen::new();
     let mut reading = Reading::begin();

@@ -1,4 +1,4 @@
--- What an item that names a run says of its bytes.
+-- What an item that names a choice_run says of its bytes.
 use Rattle.std.proofs.Common.{◌≡◌, ℕ, ◌+◌, ◌^◌, ◌<◌, ◌≤◌, lit<, inl, inr, ◌⊎◌, Bool, true, false, List, [], ◌∷◌, ◌++◌, length, drop, get_or, Option, Some, None, Ok, refl, arith, ap, sym, ◌∙◌, lt-ltb, ltb-true, ltb-false, length-append, append_assoc, append-nil, subst}
 use Rattle.std.proofs.lemmas.List.Elements.{All-nil, All-cons, All-append}
 use Rattle.std.specs.Prelude.{◌&&◌, if◌then◌else◌, nat_lt}
@@ -10,7 +10,7 @@ use Rattle.text_items.specs.Numbers.{IsNumber, mark_of, number_of, has_mark, bef
 use Rattle.text_items.proofs.Numbers.{NumberTold, number_told, has_mark-marked, before_mark-marked, has_mark-number, digits_plain, mark_plain, number_read}
 use Rattle.text_items.proofs.ByteLemmas.{HasNone, digits_have_none, have_none-append, before_byte-there, from_byte-there, before_byte-none, from_byte-none}
 use Rattle.sched_text.specs.declared.run.Run.{Run}
-use Rattle.sched_text.specs.Runs.{run}
+use Rattle.sched_text.specs.Runs.{choice_run}
 use Rattle.sched_text.specs.Grammar.{Counts, NamesRun}
 use Rattle.sched_text.specs.Reading.{count_in, count_of, run_by, run_of}
 
@@ -115,7 +115,7 @@ module _ (item : List ℕ) (r : Run) (n : NamesRun item r) where
   mark_named : has_mark (before_byte 42 item) ≡ r.choice.refuse
   mark_named = ap has_mark front_named ∙ (marked_parts n.digits r.choice.refuse n.number).0
 
-  -- the run that an item names is read
+  -- the choice_run that an item names is read
   pub run_named : (harts at : ℕ) → harts < 2 ^ 32 → r.choice.hart < harts → run_of harts at item ≡ Ok r
   run_named harts at few below =
       let there : nat_lt r.choice.hart harts ≡ true = lt-ltb r.choice.hart harts below in
@@ -135,7 +135,7 @@ counted_plain [] n once = All-nil plain
 counted_plain (star ∷ digits) n counts =
     All-cons plain star digits (ap is_blank counts.0) (digits_plain digits counts.1.numeral.1)
 
--- an item that names a run has no blank
+-- an item that names a choice_run has no blank
 pub named_plain : (item : List ℕ) (r : Run) → NamesRun item r → All (λ b. is_blank b ≡ false) item
 named_plain item r n =
     subst (All (λ b. is_blank b ≡ false)) (sym n.text)
@@ -149,7 +149,7 @@ named_some item r n =
 
 -- ---- a single digit
 
-digit_named : (b hart : ℕ) → b ≡ hart + 48 → hart < 10 → NamesRun (b ∷ []) (run (record { hart = hart; refuse = false }) 1)
+digit_named : (b hart : ℕ) → b ≡ hart + 48 → hart < 10 → NamesRun (b ∷ []) (choice_run (record { hart = hart; refuse = false }) 1)
 digit_named b hart is few =
     let value : digit_value b + 48 ≡ b = digit_value_digit b (omega (arith, is, few)) in
     record {
@@ -163,6 +163,6 @@ digit_named b hart is few =
 
 -- it is read as one choice of its hart
 pub digit_run : (harts at hart : ℕ) (item : List ℕ) → item ≡ (hart + 48) ∷ [] → hart < 10 → hart < harts → harts < 2 ^ 32
-    → run_of harts at item ≡ Ok (run (record { hart = hart; refuse = false }) 1)
+    → run_of harts at item ≡ Ok (choice_run (record { hart = hart; refuse = false }) 1)
 digit_run harts at hart item is few there below =
     ap (run_of harts at) is ∙ run_named ((hart + 48) ∷ []) _ (digit_named (hart + 48) hart refl few) harts at below there

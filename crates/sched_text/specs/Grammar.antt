@@ -8,7 +8,7 @@ use Rattle.text_items.specs.Spelling as texts
 use Rattle.sched_text.specs.declared.run.Run.{Run}
 use Rattle.sched_text.specs.declared.choice_text.ChoiceFault.{ChoiceFault}
 use Rattle.sched_text.specs.declared.choice_text.ChoiceFault.TheVariants.{BadChoice, NoHart}
-use Rattle.sched_text.specs.Runs.{expanded}
+use Rattle.sched_text.specs.Runs.{expanded_runs}
 
 -- nothing after a choice is a count of 1; `*` and a number from 1 to 16777216 is that count
 abbrev pub Counts : List ℕ → ℕ → Type 0
@@ -29,12 +29,12 @@ abbrev pub SpellsRuns : ℕ → List ℕ → List Run → Type 0
 SpellsRuns harts text runs = texts.Spells NamesRun (λ r. r.choice.hart < harts) text runs
 
 -- the text spells the choices of runs
-pub record Spells (harts : ℕ) (text : List ℕ) (choices : List Choice) : Type 0 where
+pub record SpellsChoices (harts : ℕ) (text : List ℕ) (choices : List Choice) : Type 0 where
   pub runs : List Run
   pub spelled : SpellsRuns harts text runs
-  pub in_order : choices ≡ expanded runs
+  pub in_order : choices ≡ expanded_runs runs
 
 -- the text, which begins at an offset, has a bad item after good ones only: one that denotes no
 -- run, or a run of a hart that doesn't exist
-abbrev pub Spoils : ℕ → ℕ → List ℕ → ChoiceFault → Type 0
-Spoils harts at text fault = texts.Spoils NamesRun (λ r. r.choice.hart < harts) BadChoice NoHart at text fault
+abbrev pub SpoilsChoices : ℕ → ℕ → List ℕ → ChoiceFault → Type 0
+SpoilsChoices harts at text fault = texts.Spoils NamesRun (λ r. r.choice.hart < harts) BadChoice NoHart at text fault

@@ -4,17 +4,17 @@ use Rattle.machine.specs.declared.choice.Choice.{Choice}
 use Rattle.sched_text.specs.declared.run.Run.{Run}
 
 -- n times a choice
-abbrev pub run : Choice → ℕ → Run
-run choice count = record { choice = choice; count = count }
+abbrev pub choice_run : Choice → ℕ → Run
+choice_run choice count = record { choice = choice; count = count }
 
--- the choices of a run
+-- the choices of a choice_run
 abbrev pub equal_choices : Run → List Choice
 equal_choices r = replicate r.count r.choice
 
--- the choices of one run after another
-unfoldable pub expanded : List Run → List Choice
-expanded [] = []
-expanded (r ∷ runs) = equal_choices r ++ expanded runs
+-- the choices of one choice_run after another
+unfoldable pub expanded_runs : List Run → List Choice
+expanded_runs [] = []
+expanded_runs (r ∷ runs) = equal_choices r ++ expanded_runs runs
 
 -- whether two choices are equal
 abbrev pub same_mark : Bool → Bool → Bool
@@ -26,9 +26,9 @@ same_choice c d = c.hart == d.hart && same_mark c.refuse d.refuse
 
 -- n of a choice, then the longest runs of a list, of at most 16777216 choices each
 unfoldable pub runs_from : Choice → ℕ → List Choice → List Run
-runs_from c n [] = run c n ∷ []
+runs_from c n [] = choice_run c n ∷ []
 runs_from c n (d ∷ choices) =
-    if same_choice c d && nat_lt n 16777216 then runs_from c (n + 1) choices else run c n ∷ runs_from d 1 choices
+    if same_choice c d && nat_lt n 16777216 then runs_from c (n + 1) choices else choice_run c n ∷ runs_from d 1 choices
 
 -- from the front, the longest runs of a list, of at most 16777216 choices each
 abbrev pub longest_runs : List Choice → List Run

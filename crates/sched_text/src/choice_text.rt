@@ -3,9 +3,9 @@
 
 ghost use Rattle.std.specs.Prelude.{◌≡◌, ◌+◌, ◌++◌, ◌∷◌, [], ◌<◌, ◌≢◌, IfOk, IfErr, IfSome, OnOk};
 ghost use Rattle.std.specs.List.{All};
-ghost use Rattle.sched_text.specs.Grammar.{Spells, Spoils};
+ghost use Rattle.sched_text.specs.Grammar.{SpellsChoices, SpoilsChoices};
 ghost use Rattle.sched_text.specs.Runs.{equal_choices};
-ghost use Rattle.sched_text.specs.Reading.{count_of, run_of, choices_of};
+ghost use Rattle.sched_text.specs.Reading.{count_of, run_of, choices_read};
 
 use crate::run::{MOST_EQUAL, Run};
 use machine::Choice;
@@ -117,13 +117,13 @@ pub fn read_choices<A: Allocator + Copy>(
     text: &[u8],
     harts: u32,
 ) -> Result<Vec<Choice, A>, ChoiceFault>
-    ensures spelled { IfOk result (λ choices. Spells harts text.now choices.items) }
+    ensures spelled { IfOk result (λ choices. SpellsChoices harts text.now choices.items) }
     ensures spoiled { IfErr result (λ fault. fault ≢ ChoiceFault.Memory
-        → Spoils harts 0 text.now fault) }
+        → SpoilsChoices harts 0 text.now fault) }
     ensures within { IfOk result (λ choices. All (λ c. c.hart < harts) choices.items) }
-    ensures ok { IfOk result (λ choices. choices_of harts text.now ≡ Ok choices.items) }
+    ensures ok { IfOk result (λ choices. choices_read harts text.now ≡ Ok choices.items) }
     ensures err { IfErr result (λ fault. fault ≢ ChoiceFault.Memory
-        → choices_of harts text.now ≡ Err fault) }
+        → choices_read harts text.now ≡ Err fault) }
 {
     let mut choices = Vec::new(alloc);
     let mut from = 0;

@@ -4,30 +4,30 @@ ghost use Rattle.std.specs.Prelude.{◌≡◌, ℕ, ◌^◌, ◌<◌, ◌↔◌,
 ghost use Rattle.std.specs.List.{All};
 ghost use Rattle.std.specs.declared.result.Result.TheVariants.{Ok};
 ghost use Rattle.machine.specs.declared.choice.Choice.{Choice};
-ghost use Rattle.sched_text.specs.Grammar.{Spells};
+ghost use Rattle.sched_text.specs.Grammar.{SpellsChoices};
 ghost use Rattle.sched_text.specs.Printing.{choices_text, runs_text};
-ghost use Rattle.sched_text.specs.Reading.{choices_of};
+ghost use Rattle.sched_text.specs.Reading.{choices_read};
 
 /// Reading gives the list that a text spells, and no list if it spells none.
 pub fn read_as_spelled()
     ensures { (harts : ℕ) (text : List ℕ) (choices : List Choice) → harts < 2 ^ 32
-        → (choices_of harts text ≡ Ok choices) ↔ Spells harts text choices }
+        → (choices_read harts text ≡ Ok choices) ↔ SpellsChoices harts text choices }
 {}
 
 /// No text spells two lists.
 pub fn one_list()
     ensures { (harts : ℕ) (text : List ℕ) (one other : List Choice) → harts < 2 ^ 32
-        → Spells harts text one → Spells harts text other → one ≡ other }
+        → SpellsChoices harts text one → SpellsChoices harts text other → one ≡ other }
 {}
 
 /// Reading what was printed gives the list, if each of its choices names one of the harts.
 pub fn printed_is_read()
     ensures { (harts : ℕ) (choices : List Choice) → harts < 2 ^ 32
-        → All (λ c. c.hart < harts) choices → choices_of harts (choices_text choices) ≡ Ok choices }
+        → All (λ c. c.hart < harts) choices → choices_read harts (choices_text choices) ≡ Ok choices }
 {}
 
 /// Reading what was printed by runs gives the list, if each of its choices names one of the harts.
 pub fn printed_runs_are_read()
     ensures { (harts : ℕ) (choices : List Choice) → harts < 2 ^ 32
-        → All (λ c. c.hart < harts) choices → choices_of harts (runs_text choices) ≡ Ok choices }
+        → All (λ c. c.hart < harts) choices → choices_read harts (runs_text choices) ≡ Ok choices }
 {}

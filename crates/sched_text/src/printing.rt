@@ -2,7 +2,7 @@
 
 ghost use Rattle.std.specs.Prelude.{◌≡◌, ℕ, ◌<◌, ◌^◌, ◌&&◌, nat_lt, true, Some, IfOk, string_bytes};
 ghost use Rattle.std.specs.List.{All};
-ghost use Rattle.sched_text.specs.Grammar.{Spells};
+ghost use Rattle.sched_text.specs.Grammar.{SpellsChoices};
 ghost use Rattle.sched_text.specs.Runs.{same_choice};
 ghost use Rattle.sched_text.specs.Printing.{item_text, choices_text, run_text, runs_text};
 
@@ -55,7 +55,7 @@ pub fn print_choices<A: Allocator + Copy>(
 ) -> Result<String<A>, AllocError>
     ensures text { IfOk result (λ text. string_bytes text ≡ choices_text choices.now) }
     ensures spells { IfOk result (λ text. (harts : ℕ) → harts < 2 ^ 32
-        → All (λ c. c.hart < harts) choices.now → Spells harts (string_bytes text) choices.now) }
+        → All (λ c. c.hart < harts) choices.now → SpellsChoices harts (string_bytes text) choices.now) }
 {
     let mut text = String::new(alloc);
     let Some((first, rest)) = choices.split_first() else {
@@ -88,7 +88,7 @@ pub fn print_runs<A: Allocator + Copy>(
 ) -> Result<String<A>, AllocError>
     ensures text { IfOk result (λ text. string_bytes text ≡ runs_text choices.now) }
     ensures spells { IfOk result (λ text. (harts : ℕ) → harts < 2 ^ 32
-        → All (λ c. c.hart < harts) choices.now → Spells harts (string_bytes text) choices.now) }
+        → All (λ c. c.hart < harts) choices.now → SpellsChoices harts (string_bytes text) choices.now) }
 {
     let mut text = String::new(alloc);
     let Some((first, rest)) = choices.split_first() else {

@@ -1,7 +1,8 @@
 //! Properties without a clause: the sources of the library assemble to the words of GNU as.
 use crate::program_tests::are_words;
-use asm_assemble::{TEXT_BASE, assemble};
-use asm_parse::AsmFault;
+use asm_assemble::TEXT_BASE;
+use asm_statement::AsmFault;
+use cmd_asm::assemble;
 use std::alloc::Global;
 
 const SWAP: &str = ".globl _start

@@ -1,9 +1,9 @@
 //! Properties without a clause: words from the manual's tables and from GNU as, each fault at its
-//! limit, and out of memory.
-use asm_assemble::{Program, Symbol, TEXT_BASE, assemble};
-use asm_parse::{AsmFault, Section};
+//! limit.
+use asm_assemble::{Program, Symbol, TEXT_BASE};
+use asm_statement::{AsmFault, Section};
+use cmd_asm::assemble;
 use std::alloc::Global;
-use test_refusing::Refusing;
 
 // A source, and the words of its text.
 type Words = (&'static str, &'static [u32]);
@@ -463,31 +463,4 @@ fn are_in_order(alloc: Global) -> Result<bool, AsmFault> {
 #[test]
 fn symbols_keep_their_order(rt: HostRuntime) {
     assert!(rt; are_in_order(rt.alloc()) == Ok(true));
-}
-
-// A source of each phase, with 12 bytes of data.
-const EACH_PHASE: &str =
-    ".globl a\na: nop\n1: j 1b\nj 1f\n1: la a0, a\n.align 3\n.data\nb: .word 1, a\n.zero 3\n.ascii \"x\"";
-
-// Whether 12 bytes of data are made, or out of memory is reported.
-fn is_told(heap: &Refusing<Global>) -> bool {
-    match assemble(heap, [EACH_PHASE].as_slice()) {
-        Ok(program) => program.bytes().len() == 12,
-        Err(fault) => fault == AsmFault::Memory && heap.refused(),
-    }
-}
-
-#[test]
-fn each_refused_request_is_told(rt: HostRuntime) -> Result<(), u64> {
-    for passed in 0..200u64 {
-        let heap = Refusing::new(rt.alloc(), passed);
-        if !is_told(&heap) {
-            return Err(passed);
-        }
-        if !heap.refused() {
-            assert!(rt; passed > 0, "no memory is asked for");
-            return Ok(());
-        }
-    }
-    Err(200)
 }

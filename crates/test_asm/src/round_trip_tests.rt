@@ -1,7 +1,8 @@
 //! Properties without a clause: a listing is made if memory suffices, and out of memory.
-use asm_assemble::{Program, assemble};
-use asm_parse::AsmFault;
-use asm_round_trip::{list, list_source};
+use asm_assemble::Program;
+use asm_round_trip::list_source;
+use asm_statement::AsmFault;
+use cmd_asm::assemble;
 use std::alloc::{AllocError, Global};
 use test_refusing::Refusing;
 
@@ -98,34 +99,4 @@ fn each_refused_request_of_a_source_is_told(rt: HostRuntime) -> Result<(), u64> 
         }
     }
     Err(1000)
-}
-
-// A word and a byte.
-const FIVE_BYTES_LISTING: &str =
-    "addi zero, zero, 0  # 00010000 00000013\n.byte 0x01  # 00010004\n";
-
-// Whether a program is listed, or out of memory is reported.
-fn is_list_told(heap: &Refusing<Global>) -> bool {
-    let Ok(program) = assemble(heap, ["nop\n.byte 1"].as_slice()) else {
-        return heap.refused();
-    };
-    match list(heap, &program) {
-        Ok(text) => text.as_str() == FIVE_BYTES_LISTING,
-        Err(AllocError) => heap.refused(),
-    }
-}
-
-#[test]
-fn each_refused_request_of_a_list_is_told(rt: HostRuntime) -> Result<(), u64> {
-    for passed in 0..200u64 {
-        let heap = Refusing::new(rt.alloc(), passed);
-        if !is_list_told(&heap) {
-            return Err(passed);
-        }
-        if !heap.refused() {
-            assert!(rt; passed > 0, "no memory is asked for");
-            return Ok(());
-        }
-    }
-    Err(200)
 }

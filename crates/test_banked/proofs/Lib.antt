@@ -1,1 +1,2 @@
 mod ProgramLemmas
+pub mod JoinedLemmas

@@ -2,26 +2,23 @@
 use Rattle.std.proofs.Common.{◌≡◌, ℕ, zero, suc, ◌%◌, List, [], ◌∷◌, Some, length, sym, ap, subst, ◌∙◌}
 use Rattle.std.specs.Prelude.{slice_get}
 use Rattle.image.specs.Image.{ImageValue}
-use Rattle.bank_runs.specs.Merged.{most_banks}
+use Rattle.bank_laws.specs.Merged.{most_banks}
 use Rattle.bank_memory.specs.BankLog.{BankLog}
 use Rattle.bank_hart_log.specs.HartLog.{HartLogValue}
 use Rattle.bank_merge.specs.Logs.{AreOfOne, IsHartOf, IsBankOf}
-use Rattle.bank_threads.specs.Banked as run
+use Rattle.bank_threads.specs.Banked.{IsHartOfRun}
 
 -- what `are_of_harts` says
 abbrev pub Harts : ImageValue → List ℕ → ℕ → List (ℕ × ℕ) → List HartLogValue → Type 0
 Harts image inputs budget plan logs = (length logs ≡ length inputs)
-    × ((h : ℕ) (l : HartLogValue) → slice_get logs h ≡ Some l → run.IsHartOf image inputs budget plan h l)
+    × ((h : ℕ) (l : HartLogValue) → slice_get logs h ≡ Some l → IsHartOfRun image inputs budget plan h l)
 
 -- what `are_of_banks` says
 abbrev pub Banks : ImageValue → List ℕ → List BankLog → Type 0
 Banks image inputs banks = (length banks ≡ most_banks)
-    × ((b : ℕ) (k : BankLog) → slice_get banks b ≡ Some k → run.IsBankOf image inputs b k)
+    × ((b : ℕ) (k : BankLog) → slice_get banks b ≡ Some k → IsBankOf image inputs b k)
 
-bank_of : (image : ImageValue) (inputs : List ℕ) (b : ℕ) (k : BankLog) → run.IsBankOf image inputs b k → IsBankOf image inputs b k
-bank_of image inputs b k is = record { same_image = is.same_image; same_inputs = is.same_inputs; number = is.number }
-
-hart_of : (image : ImageValue) (inputs : List ℕ) (budget : ℕ) (plan : List (ℕ × ℕ)) (h : ℕ) (l : HartLogValue) → run.IsHartOf image inputs budget plan h l → IsHartOf image inputs h l
+hart_of : (image : ImageValue) (inputs : List ℕ) (budget : ℕ) (plan : List (ℕ × ℕ)) (h : ℕ) (l : HartLogValue) → IsHartOfRun image inputs budget plan h l → IsHartOf image inputs h l
 hart_of image inputs budget plan h l is = record { same_image = is.same_image; same_inputs = is.same_inputs; number = is.number }
 
 pub of_run : (image : ImageValue) (inputs : List ℕ) (budget : ℕ) (plan : List (ℕ × ℕ)) (logs : List HartLogValue) (banks : List BankLog)
@@ -34,7 +31,7 @@ of_run image inputs budget plan logs banks entry harts are_banks = record {
     harts = harts.0;
     sixteen = are_banks.0;
     of_harts = λ h l at. hart_of image inputs budget plan h l (harts.1 h l at);
-    of_banks = λ b k at. bank_of image inputs b k (are_banks.1 b k at);
+    of_banks = are_banks.1;
   };
 }
 
@@ -53,6 +50,6 @@ by_hand image inputs log logs banks entry one is are_logs are_banks = record {
     harts = ap length are_logs ∙ sym one;
     sixteen = are_banks.0;
     of_harts = λ h l at. one_hart image inputs log is h l (ap (λ (ls : List HartLogValue). slice_get ls h) (sym are_logs) ∙ at);
-    of_banks = λ b k at. bank_of image inputs b k (are_banks.1 b k at);
+    of_banks = are_banks.1;
   };
 }

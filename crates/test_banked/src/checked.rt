@@ -1,9 +1,9 @@
 //! Runs over banks that are merged, and replayed choice by choice.
+use crate::joined_reservations::joined;
 use crate::merging::{Lack, merged_with};
 use bank_hart_log::HartLog;
 use bank_laws::LoggedAccess;
 use bank_memory::Bank;
-use bank_reservations::joined;
 use bank_threads::{Banked, run_banked};
 use hart_reservations::Reserve;
 use hart_step::{Hart, HartState};
@@ -14,7 +14,7 @@ use mem_store::Store;
 use std::alloc::Allocator;
 use std::sync::Wait;
 use std::thread::Threads;
-use test_programs::{Program, plan_of, program_image};
+use test_images::{Program, plan_of, program_image};
 use thread_gate::{Gate, Plan};
 
 /// A run over banks, and its choices.
@@ -170,19 +170,4 @@ pub fn checked<A: Allocator + Copy + Send + Sync, G: Gate + Sync, R: Threads + W
         return Err(Lack::Memory);
     };
     Ok(Done { choices, harts })
-}
-
-/// The exit status of all harts, if it is the same.
-pub fn one_value(harts: &[Hart]) -> Option<u32> {
-    let mut value = None;
-    for hart in harts {
-        let HartState::Exited(status) = hart.state else {
-            return None;
-        };
-        if value.is_some() && value != Some(status) {
-            return None;
-        }
-        value = Some(status);
-    }
-    value
 }

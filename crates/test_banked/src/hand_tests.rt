@@ -8,16 +8,12 @@ use bank_merge::{MergeFault, merge};
 use bank_order::LogSegment;
 use image::Image;
 use std::alloc::{AllocError, Allocator};
-use test_programs::{Program, program_image};
+use test_images::{Program, program_image};
 
 /// The first store of the hart of `STORES` with the input 7.
+#[rattlefmt::skip]
 pub const FIRST: LoggedAccess = LoggedAccess {
-    stamp: 1,
-    hart: 0,
-    kind: LoggedKind::Store,
-    word: 0,
-    before: [0, 0, 0, 0],
-    after: [7, 0, 0, 0],
+    stamp: 1, hart: 0, kind: LoggedKind::Store, word: 0, before: [0, 0, 0, 0], after: [7, 0, 0, 0],
     mark: false,
 };
 
@@ -71,71 +67,24 @@ struct Row {
     fault: Option<MergeFault>,
 }
 
+#[rattlefmt::skip]
 const ROWS: [Row; 8] = [
-    Row {
-        name: "two additions",
-        program: ADDITIONS,
-        first: (1, None),
-        second: (2, None),
-        accesses: &[],
-        fault: None,
-    },
-    Row {
-        name: "the last stamps",
-        program: ADDITIONS,
-        first: (LAST - 1, None),
-        second: (LAST, None),
-        accesses: &[],
-        fault: None,
-    },
-    Row {
-        name: "equal stamps",
-        program: ADDITIONS,
-        first: (2, None),
-        second: (2, None),
-        accesses: &[],
-        fault: Some(MergeFault::OutOfOrder),
-    },
-    Row {
-        name: "falling stamps",
-        program: ADDITIONS,
-        first: (3, None),
-        second: (2, None),
-        accesses: &[],
-        fault: Some(MergeFault::OutOfOrder),
-    },
-    Row {
-        name: "two stores",
-        program: STORES,
-        first: (1, Some(FIRST)),
-        second: (2, Some(SECOND)),
-        accesses: &[FIRST, SECOND],
-        fault: None,
-    },
-    Row {
-        name: "a store in the hart's log alone",
-        program: STORES,
-        first: (1, Some(FIRST)),
-        second: (2, Some(SECOND)),
-        accesses: &[FIRST],
-        fault: Some(MergeFault::Unmatched),
-    },
-    Row {
-        name: "a store in the bank's log alone",
-        program: ADDITIONS,
-        first: (1, None),
-        second: (2, None),
-        accesses: &[FIRST],
-        fault: Some(MergeFault::Unmatched),
-    },
-    Row {
-        name: "the same with equal stamps",
-        program: ADDITIONS,
-        first: (2, None),
-        second: (2, None),
-        accesses: &[FIRST],
-        fault: Some(MergeFault::Unmatched),
-    },
+    Row { name: "two additions", program: ADDITIONS, first: (1, None), second: (2, None),
+        accesses: &[], fault: None },
+    Row { name: "the last stamps", program: ADDITIONS, first: (LAST - 1, None),
+        second: (LAST, None), accesses: &[], fault: None },
+    Row { name: "equal stamps", program: ADDITIONS, first: (2, None), second: (2, None),
+        accesses: &[], fault: Some(MergeFault::OutOfOrder) },
+    Row { name: "falling stamps", program: ADDITIONS, first: (3, None), second: (2, None),
+        accesses: &[], fault: Some(MergeFault::OutOfOrder) },
+    Row { name: "two stores", program: STORES, first: (1, Some(FIRST)), second: (2, Some(SECOND)),
+        accesses: &[FIRST, SECOND], fault: None },
+    Row { name: "a store in the hart's log alone", program: STORES, first: (1, Some(FIRST)),
+        second: (2, Some(SECOND)), accesses: &[FIRST], fault: Some(MergeFault::Unmatched) },
+    Row { name: "a store in the bank's log alone", program: ADDITIONS, first: (1, None),
+        second: (2, None), accesses: &[FIRST], fault: Some(MergeFault::Unmatched) },
+    Row { name: "the same with equal stamps", program: ADDITIONS, first: (2, None),
+        second: (2, None), accesses: &[FIRST], fault: Some(MergeFault::Unmatched) },
 ];
 
 // Number of choices of a row's merged logs.

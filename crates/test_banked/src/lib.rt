@@ -1,13 +1,17 @@
-//! Tests of `bank_hart_log`, `bank_merge`, `bank_reservations`, `history_choices`, `bank_worker`
-//! and `bank_threads`.
+//! Tests of the crates of banks, from `bank_memory` to `bank_threads`.
 #![tactic(auto)]
 
+pub use joined_reservations::joined;
+
+#[cfg(test)]
+mod bank_histories;
+#[cfg(test)]
+mod bank_tests;
 #[cfg(test)]
 mod checked;
 #[cfg(test)]
-mod gates;
-#[cfg(test)]
 mod hand_tests;
+mod joined_reservations;
 #[cfg(test)]
 mod memory_tests;
 #[cfg(test)]

@@ -2,23 +2,21 @@
 //! memory is back. Also choices as histories.
 ghost use Rattle.bank_merge.specs.Logs.{AreOfOne};
 
-use crate::checked::{checked, one_value};
+use crate::checked::checked;
 use crate::hand_tests::{FIRST, SECOND, segment};
 use crate::merging::{ByHand, by_hand};
 use crate::programs::STORES;
 use bank_hart_log::HartLog;
 use bank_memory::Bank;
 use bank_merge::{MergeFault, merge};
-use history::{Entry, print_history};
-use history_choices::history_of;
+use history::{Entry, history_of, print_history};
 use image::Image;
 use machine::Choice;
 use object_library::Kind;
 use std::alloc::{AllocError, Allocator, Global};
 use std::sync::Wait;
 use std::thread::Threads;
-use test_images::PROGRAM_START;
-use test_programs::{Program, program_image};
+use test_images::{PROGRAM_START, Program, one_value, program_image};
 use test_refusing::{Call, Refusing, Shortage, tried};
 use thread_gate::OpenGate;
 
@@ -228,15 +226,13 @@ impl Call for Asking {
     }
 }
 
+#[rattlefmt::skip]
+const ASKING: [Asking; 4] = [Asking::Segment, Asking::Access, Asking::Merging, Asking::History];
+
 #[test]
 fn each_call_tells_want_of_memory(rt: HostRuntime) {
-    for call in [
-        Asking::Segment,
-        Asking::Access,
-        Asking::Merging,
-        Asking::History,
-    ] {
-        assert!(rt; tried(rt.alloc(), &call).is_ok());
+    for call in &ASKING {
+        assert!(rt; tried(rt.alloc(), call).is_ok());
     }
 }
 

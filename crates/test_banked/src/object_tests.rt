@@ -7,7 +7,7 @@ use object_library::{Kind, Verdict, judge};
 use std::alloc::Allocator;
 use std::sync::Wait;
 use std::thread::Threads;
-use test_programs::Program;
+use test_images::{Program, pairs_of};
 use thread_gate::OpenGate;
 
 // An object, and its harts' inputs.
@@ -25,17 +25,6 @@ const RUNS: u32 = 1000;
 // More choices than a hart of any object needs.
 const BUDGET: u32 = 500;
 
-// Pairs drawn from a number, of harts that may not exist, and of low numbers.
-fn pairs_of(number: u32) -> [(u32, u32); 4] {
-    let mut pairs = [(0, 0); 4];
-    let mut drawn = number;
-    for pair in &mut pairs {
-        drawn = drawn.wrapping_mul(1_664_525).wrapping_add(1_013_904_223);
-        *pair = ((drawn >> 26) % 5, (drawn >> 20) % 32);
-    }
-    pairs
-}
-
 // Runs an object; returns its verdict, if all its harts have stopped.
 fn verdict_of<A: Allocator + Copy + Send + Sync, R: Threads + Wait + Sync>(
     rt: &R,
@@ -51,7 +40,7 @@ fn verdict_of<A: Allocator + Copy + Send + Sync, R: Threads + Wait + Sync>(
         program,
         inputs,
         BUDGET,
-        &pairs_of(number),
+        &pairs_of(number, 5),
         &OpenGate,
     )?;
     if done

@@ -1,5 +1,5 @@
 //! Programs for tests.
-use test_programs::Program;
+use test_images::Program;
 
 /// Each hart does nothing, twice.
 pub const ADDITIONS: Program = Program::Fixed(&[

@@ -1,13 +1,12 @@
 //! Runs over banks that are merged and replayed, and harts that meet.
-use crate::checked::{checked, one_value};
-use crate::gates::{Meeting, Place};
+use crate::checked::checked;
 use crate::merging::Lack;
 use crate::programs::RESERVE_AND_STORE;
 use object_library::Kind;
 use std::alloc::Allocator;
 use std::sync::Wait;
 use std::thread::Threads;
-use test_programs::{Program, STORE_OVER_NEXT};
+use test_images::{Meeting, Place, Program, STORE_OVER_NEXT, one_value};
 use thread_gate::OpenGate;
 
 const LR_SC: Program = Program::Object(Kind::LrSc);
@@ -15,23 +14,12 @@ const LR_SC: Program = Program::Object(Kind::LrSc);
 const SWAP: Program = Program::Object(Kind::Swap);
 
 // A program, its inputs, the budget, the plan, and the possible exit statuses, if harts exit.
+#[rattlefmt::skip]
 const ROWS: [(Program, &[u32], u32, &[(u32, u32)], &[Option<u32>]); 8] = [
     (STORE_OVER_NEXT, &[7, 9], 7, &[], &[Some(5)]),
     (STORE_OVER_NEXT, &[7, 9, 11], 6, &[], &[None]),
-    (
-        LR_SC,
-        &[3, 5, 7, 9],
-        100,
-        &[],
-        &[Some(3), Some(5), Some(7), Some(9)],
-    ),
-    (
-        LR_SC,
-        &[3, 5],
-        100,
-        &[(0, 7), (1, 7), (1, 8), (2, 3)],
-        &[Some(3), Some(5)],
-    ),
+    (LR_SC, &[3, 5, 7, 9], 100, &[], &[Some(3), Some(5), Some(7), Some(9)]),
+    (LR_SC, &[3, 5], 100, &[(0, 7), (1, 7), (1, 8), (2, 3)], &[Some(3), Some(5)]),
     (SWAP, &[7, 9], 18, &[], &[Some(7), Some(9)]),
     (SWAP, &[7, 9], 0, &[], &[None]),
     (RESERVE_AND_STORE, &[7, 9], 1, &[], &[None]),

@@ -6,7 +6,7 @@ use bank_worker::{Job, StepFault, work};
 use std::alloc::{AllocError, Allocator};
 use std::collections::BTreeSet;
 use std::sync::Wait;
-use test_programs::program_image;
+use test_images::program_image;
 use thread_gate::OpenGate;
 
 // A load of the word at 0.

@@ -1,6 +1,5 @@
 //! Swap of two harts over banks, one after the other: the example of `docs/BANKS.md`.
 use crate::checked::{Merged, machine_after, run_merged};
-use crate::gates::Holding;
 use crate::merging::{Lack, banks_of, merged_with};
 use bank_hart_log::HartLog;
 use bank_laws::LoggedAccess;
@@ -14,7 +13,7 @@ use sched_text::print_runs;
 use std::alloc::{AllocError, Allocator};
 use std::sync::Wait;
 use std::thread::Threads;
-use test_programs::{Program, plan_of, program_image};
+use test_images::{Holding, Program, plan_of, program_image};
 use thread_gate::Plan;
 
 const WORDS: [u32; 2] = [7, 9];
@@ -25,13 +24,9 @@ const BUDGET: u32 = 100;
 type Step = (u64, u32, Option<u32>);
 
 // What each hart does.
+#[rattlefmt::skip]
 const STEPS: [&[Step]; 2] = [
-    &[
-        (1, 3, Some(1)),
-        (3, 1, Some(0)),
-        (4, 4, Some(2)),
-        (5, 3, None),
-    ],
+    &[(1, 3, Some(1)), (3, 1, Some(0)), (4, 4, Some(2)), (5, 3, None)],
     &[(1, 3, Some(2)), (2, 1, Some(0)), (3, 4, None)],
 ];
 

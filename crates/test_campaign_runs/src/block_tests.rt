@@ -1,7 +1,6 @@
 //! What no clause says: that memory is found, and that the runs of threads are those of plain machines.
 ghost use Rattle.std.specs.Prelude.{◌≤◌};
 
-use crate::object_files::object_file;
 use crate::plain_runs::plain_ending;
 use crate::plans::{Order, Plan, answered, campaign_of, program_of};
 use campaign_runs::{Block, HartResult, Report, SeedEnd, Seeds, run_block};
@@ -12,7 +11,7 @@ use outcome::Exit;
 use program_open::CommandFault;
 use std::alloc::{AllocError, Global};
 use std::thread::Threads;
-use test_images::{CONDITIONAL, writable_program};
+use test_images::{CONDITIONAL, object_file, writable_program};
 
 // Runs of so many steps, told apart by what harts left.
 fn plan_of(first: u64, count: u64, steps: u32) -> Plan {

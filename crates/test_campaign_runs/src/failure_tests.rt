@@ -1,17 +1,16 @@
 //! What no clause says: failures beside the lines of a campaign, what is refused, devices that fail.
-use crate::object_files::object_file;
 use crate::plain_runs::plain_ending;
 use crate::plans::{Order, Plan, Program, REPORTS, answered, campaign_of, program_of};
-use byte_io::{FullSink, MemorySource, Status};
+use byte_io::{FullSink, MemorySource, Status, Unheard};
 use campaign_runs::Report;
 use cmd_campaign::{Finished, campaign_engine};
 use image::ElfFault;
 use object_library::Kind;
 use outcome::Exit;
 use program_open::{CommandFault, Input, ProgramForm, read_program};
-use progress::Unheard;
 use std::alloc::{AllocError, Global};
 use std::thread::Threads;
+use test_images::object_file;
 
 // Which lines of a campaign are bad.
 #[derive(Clone, Copy)]
@@ -141,13 +140,9 @@ fn failures_are_the_bad_lines_of_the_campaign(rt: HostRuntime) {
 }
 
 // Two harts of Swap that must exit, in 28 steps.
+#[rattlefmt::skip]
 const MUST: Plan = Plan {
-    first: 3,
-    count: 100,
-    steps: 28,
-    order: Order::Usual,
-    rule: None,
-    exit: Exit::Must,
+    first: 3, count: 100, steps: 28, order: Order::Usual, rule: None, exit: Exit::Must,
 };
 
 // The first seed of which a plain machine's run leaves a hart that runs; none where there is none.

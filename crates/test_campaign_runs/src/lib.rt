@@ -6,8 +6,6 @@ mod block_tests;
 #[cfg(test)]
 mod failure_tests;
 #[cfg(test)]
-mod object_files;
-#[cfg(test)]
 mod plain_runs;
 #[cfg(test)]
 mod plans;

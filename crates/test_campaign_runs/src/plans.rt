@@ -1,13 +1,12 @@
 //! Campaigns as rows of tables, and what the engine answers and writes.
 ghost use Rattle.std.specs.Prelude.{◌+◌, ◌≤◌, ◌^◌, IfSome};
 
-use byte_io::{Failing, MemorySink, MemorySource};
+use byte_io::{Failing, MemorySink, MemorySource, Unheard};
 use campaign_runs::{Campaign, Report};
 use cmd_campaign::{Finished, campaign_engine};
 use object_library::Kind;
 use outcome::{Exit, Expect};
 use program_open::CommandFault;
-use progress::Unheard;
 use sched_draw::{Depth, Draw, Mean, Order as HartOrder, Refusals};
 use std::alloc::Global;
 use std::thread::Threads;

@@ -46,19 +46,12 @@ impl Call for OneSeed {
     }
 }
 
+#[rattlefmt::skip]
 const SEEDS: [OneSeed; 4] = [
-    OneSeed {
-        order: Order::Usual,
-    },
-    OneSeed {
-        order: Order::Never,
-    },
-    OneSeed {
-        order: Order::Bursts,
-    },
-    OneSeed {
-        order: Order::Priorities,
-    },
+    OneSeed { order: Order::Usual },
+    OneSeed { order: Order::Never },
+    OneSeed { order: Order::Bursts },
+    OneSeed { order: Order::Priorities },
 ];
 
 #[test]

@@ -1,5 +1,4 @@
-//! What no clause says: worked summaries, and summaries beside runs that are counted one by one.
-use crate::object_files::object_file;
+//! What no clause says: worked lines and summaries, and summaries beside runs that are counted one by one.
 use crate::plain_runs::plain_ending;
 use crate::plans::{Order, Plan, Program, answered, program_of};
 use byte_io::Status;
@@ -10,8 +9,9 @@ use outcome::Exit;
 use program_open::{ProgramForm, read_program};
 use std::alloc::{AllocError, Global};
 use std::thread::Threads;
+use test_images::object_file;
 
-// A plan, what its summary says of an object, and how it ends.
+// A plan, what is reported of an object's runs, and how the campaign ends.
 struct Worked {
     kind: Kind,
     inputs: &'static [u32],
@@ -22,10 +22,26 @@ struct Worked {
     first_failure: Option<u64>,
 }
 
-// By priorities, a hart of Swap wins in 11 steps, and then the other comes to its end in 15: in 26 of
+// Four harts of LrSc agree under each seed, and three harts of Swap never keep its rule once the
+// third has stored. By priorities, a hart of Swap wins in 11 steps, and then the other comes to its end in 15: in 26 of
 // them. A hart of Swap alone takes 11, and one of LrSc alone 16, if nothing is refused.
 #[rattlefmt::skip]
-const WORKED: [Worked; 13] = [
+const WORKED: [Worked; 18] = [
+    Worked { kind: Kind::LrSc, inputs: &[4, 5, 6, 7],
+        plan: Plan { first: 5, count: 2, steps: 600, order: Order::Usual, rule: Some(Kind::LrSc), exit: Exit::May }, report: Report::Lines,
+        text: "seed 5 exited 4 faulted 0 running 0 kept\nseed 6 exited 4 faulted 0 running 0 kept\n", status: Status::Done, first_failure: None },
+    Worked { kind: Kind::AdoptCommit, inputs: &[4, 5, 6, 7],
+        plan: Plan { first: 5, count: 2, steps: 900, order: Order::Usual, rule: Some(Kind::AdoptCommit), exit: Exit::May }, report: Report::Lines,
+        text: "seed 5 exited 4 faulted 0 running 0 kept\nseed 6 exited 4 faulted 0 running 0 kept\n", status: Status::Done, first_failure: None },
+    Worked { kind: Kind::Rounds, inputs: &[4, 5, 6, 7],
+        plan: Plan { first: 5, count: 2, steps: 4000, order: Order::Usual, rule: Some(Kind::Rounds), exit: Exit::May }, report: Report::Lines,
+        text: "seed 5 exited 4 faulted 0 running 0 kept\nseed 6 exited 4 faulted 0 running 0 kept\n", status: Status::Done, first_failure: None },
+    Worked { kind: Kind::Swap, inputs: &[7, 9, 5],
+        plan: Plan { first: 5, count: 2, steps: 300, order: Order::Usual, rule: Some(Kind::Swap), exit: Exit::May }, report: Report::Lines,
+        text: "seed 5 exited 2 faulted 1 running 0 broken\nseed 6 exited 2 faulted 1 running 0 broken\n", status: Status::Broken, first_failure: Some(5) },
+    Worked { kind: Kind::Swap, inputs: &[7, 9, 5],
+        plan: Plan { first: 5, count: 2, steps: 0, order: Order::Usual, rule: Some(Kind::Swap), exit: Exit::May }, report: Report::Lines,
+        text: "seed 5 exited 0 faulted 0 running 3 kept\nseed 6 exited 0 faulted 0 running 3 kept\n", status: Status::Done, first_failure: None },
     Worked { kind: Kind::LrSc, inputs: &[4, 5, 6, 7],
         plan: Plan { first: 5, count: 2, steps: 600, order: Order::Usual, rule: Some(Kind::LrSc), exit: Exit::May }, report: Report::Summary,
         text: "seeds 2 first 5 exited 4 faulted 0 running 0 kept\n", status: Status::Done, first_failure: None },
@@ -67,7 +83,7 @@ const WORKED: [Worked; 13] = [
         text: "seeds 2 first 5 exited 2 faulted 1 running 0 broken\n", status: Status::Broken, first_failure: Some(5) },
 ];
 
-// Whether a summary is as wanted; none where there is no file.
+// Whether a campaign reports what is wanted; none where there is no file.
 fn is_worked(rt: &(impl Threads + Sync), alloc: Global, row: &Worked) -> Option<bool> {
     let file = object_file(alloc, row.kind).ok()?;
     let program = program_of(&file, row.inputs);

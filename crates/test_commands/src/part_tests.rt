@@ -20,91 +20,20 @@ fn hart(a0: u32, a1: u32, pc: u32, state: HartState) -> Hart {
 }
 
 // a0, a1, pc and state of a hart, and its line.
+#[rattlefmt::skip]
 const ENDS: [(u32, u32, u32, HartState, &str); 12] = [
-    (
-        9,
-        7,
-        0x10010,
-        HartState::Exited(9),
-        "hart 0 exited a0 00000009 a1 00000007\n",
-    ),
-    (
-        1,
-        2,
-        0x10000,
-        HartState::Running,
-        "hart 1 running pc 00010000\n",
-    ),
-    (
-        0,
-        0,
-        0xffff_fffc,
-        HartState::Faulted(Cause::FetchAccess),
-        "hart 2 faulted FetchAccess pc fffffffc\n",
-    ),
-    (
-        0,
-        0,
-        0x10000,
-        HartState::Faulted(Cause::Illegal),
-        "hart 3 faulted Illegal pc 00010000\n",
-    ),
-    (
-        0,
-        0,
-        0x10000,
-        HartState::Faulted(Cause::LoadMisaligned),
-        "hart 4 faulted LoadMisaligned pc 00010000\n",
-    ),
-    (
-        0,
-        0,
-        0x10008,
-        HartState::Faulted(Cause::LoadAccess),
-        "hart 5 faulted LoadAccess pc 00010008\n",
-    ),
-    (
-        0,
-        0,
-        0x10000,
-        HartState::Faulted(Cause::StoreMisaligned),
-        "hart 6 faulted StoreMisaligned pc 00010000\n",
-    ),
-    (
-        0,
-        0,
-        0x10000,
-        HartState::Faulted(Cause::StoreAccess),
-        "hart 7 faulted StoreAccess pc 00010000\n",
-    ),
-    (
-        0,
-        0,
-        0x10000,
-        HartState::Faulted(Cause::JumpMisaligned),
-        "hart 8 faulted JumpMisaligned pc 00010000\n",
-    ),
-    (
-        0,
-        0,
-        0x10000,
-        HartState::Faulted(Cause::BadCall),
-        "hart 9 faulted BadCall pc 00010000\n",
-    ),
-    (
-        0,
-        0,
-        0x10000,
-        HartState::Faulted(Cause::Break),
-        "hart 10 faulted Break pc 00010000\n",
-    ),
-    (
-        0xabcd_ef01,
-        0xffff_ffff,
-        0,
-        HartState::Exited(1),
-        "hart 11 exited a0 abcdef01 a1 ffffffff\n",
-    ),
+    (9, 7, 0x10010, HartState::Exited(9), "hart 0 exited a0 00000009 a1 00000007\n"),
+    (1, 2, 0x10000, HartState::Running, "hart 1 running pc 00010000\n"),
+    (0, 0, 0xffff_fffc, HartState::Faulted(Cause::FetchAccess), "hart 2 faulted FetchAccess pc fffffffc\n"),
+    (0, 0, 0x10000, HartState::Faulted(Cause::Illegal), "hart 3 faulted Illegal pc 00010000\n"),
+    (0, 0, 0x10000, HartState::Faulted(Cause::LoadMisaligned), "hart 4 faulted LoadMisaligned pc 00010000\n"),
+    (0, 0, 0x10008, HartState::Faulted(Cause::LoadAccess), "hart 5 faulted LoadAccess pc 00010008\n"),
+    (0, 0, 0x10000, HartState::Faulted(Cause::StoreMisaligned), "hart 6 faulted StoreMisaligned pc 00010000\n"),
+    (0, 0, 0x10000, HartState::Faulted(Cause::StoreAccess), "hart 7 faulted StoreAccess pc 00010000\n"),
+    (0, 0, 0x10000, HartState::Faulted(Cause::JumpMisaligned), "hart 8 faulted JumpMisaligned pc 00010000\n"),
+    (0, 0, 0x10000, HartState::Faulted(Cause::BadCall), "hart 9 faulted BadCall pc 00010000\n"),
+    (0, 0, 0x10000, HartState::Faulted(Cause::Break), "hart 10 faulted Break pc 00010000\n"),
+    (0xabcd_ef01, 0xffff_ffff, 0, HartState::Exited(1), "hart 11 exited a0 abcdef01 a1 ffffffff\n"),
 ];
 
 // No rule is judged, and harts may run.

@@ -1,11 +1,9 @@
-//! What no clause says: worked sources, their files as they load, and devices and memory that fail.
+//! What no clause says: worked sources, their files as they load, and devices that fail.
 use byte_io::{Failing, FullSink, MemorySink, MemorySource, Status};
 use cmd_asm::{AssemblyFault, assembled_file, listing_engine, write_file};
 use elf_read::load;
-use image::ElfFault;
 use object_library::{Kind, certify, source};
 use std::alloc::Global;
-use test_refusing::Refusing;
 
 // Sources and their listings.
 #[rattlefmt::skip]
@@ -91,39 +89,6 @@ fn files_have_their_lengths(rt: HostRuntime) {
     assert!(rt; length_of_file(rt.alloc(), source(Kind::Swap)) == Some(8576));
 }
 
-// The fault that a beginning of the file of Swap loads with; none where it loads.
-fn fault_of_beginning(length: usize) -> Option<ElfFault> {
-    if length < 52 {
-        Some(ElfFault::Short)
-    } else if length < 4156 {
-        Some(ElfFault::OutsideFile)
-    } else {
-        None
-    }
-}
-
-// How long the shortest beginning of a file is that neither loads nor has its fault; none where there is no such.
-fn wrong_beginning(alloc: Global, file: &[u8]) -> Option<usize> {
-    for length in 0..=file.len() {
-        let (beginning, _) = file.split_at(length);
-        if load(alloc, beginning).err() != fault_of_beginning(length) {
-            return Some(length);
-        }
-    }
-    None
-}
-
-// And that of the file of Swap; nothing where there is no file.
-fn wrong_beginning_of_swap(alloc: Global) -> Option<Option<usize>> {
-    let file = file_of(alloc, source(Kind::Swap))?;
-    Some(wrong_beginning(alloc, &file))
-}
-
-#[test]
-fn each_beginning_of_a_file_loads_or_has_its_fault(rt: HostRuntime) {
-    assert!(rt; wrong_beginning_of_swap(rt.alloc()) == Some(None));
-}
-
 // Whether the file of a kind's source is that of an object of the kind; nothing where it doesn't load.
 fn is_recognized(alloc: Global, of: Kind, kind: Kind) -> Option<bool> {
     let file = file_of(alloc, source(of))?;
@@ -150,27 +115,4 @@ fn listed_in_vain(alloc: Global) -> Result<Status, AssemblyFault> {
 fn a_sink_that_takes_nothing_has_failed(rt: HostRuntime) {
     assert!(rt; listed_in_vain(rt.alloc()) == Err(AssemblyFault::Write));
     assert!(rt; write_file(&mut FullSink::new(), b"bytes") == Err(AssemblyFault::Write));
-}
-
-// Whether the request behind so many was refused where a file is made; nothing where its answer is wrong.
-fn is_refused(host: Global, passed: u64) -> Option<bool> {
-    let heap = Refusing::new(host, passed);
-    let mut sources = [MemorySource::new(b"_start: li a0, 0x800\n.data\nx: .word 5\n")];
-    let is_right = match assembled_file(&heap, &mut sources) {
-        Ok(file) => file.len() > 4440,
-        Err(fault) => fault == AssemblyFault::Memory && heap.refused(),
-    };
-    if is_right { Some(heap.refused()) } else { None }
-}
-
-#[test]
-fn each_refused_request_is_told(rt: HostRuntime) {
-    for passed in 0..200u64 {
-        let told = is_refused(rt.alloc(), passed);
-        assert!(rt; told.is_some(), "{passed}");
-        if told == Some(false) {
-            return assert!(rt; passed > 0, "no memory is asked for");
-        }
-    }
-    assert!(rt; false, "memory is asked for without end");
 }

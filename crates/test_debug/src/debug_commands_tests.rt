@@ -1,12 +1,11 @@
-//! What no clause says: worked sessions, line by line, and refused memory.
+//! What no clause says: worked sessions, line by line.
 use debug_session::Debugger;
 use debug_text::{Answer, DebugFault, command};
 use image::Image;
 use machine::Inputs;
 use program_open::{hex_image, read_hex};
 use sched_text::read_choices;
-use std::alloc::{AllocError, Allocator, Global};
-use test_refusing::Refusing;
+use std::alloc::{AllocError, Global};
 
 // A program in hexadecimal, the inputs, the choices, and lines with what is shown for each.
 struct Session {
@@ -185,18 +184,13 @@ s7 00000000\ns8 00000000\ns9 00000000\ns10 00000000\ns11 00000000\nt3 00000000\n
 ];
 
 // The image of a program in hexadecimal.
-fn image_of<A: Allocator + Copy>(alloc: A, program: &str) -> Option<Image<A>> {
+fn image_of(alloc: Global, program: &str) -> Option<Image<Global>> {
     let words = read_hex(alloc, program.as_bytes()).ok()?;
     hex_image(alloc, &words).ok()
 }
 
 // A debugger of a program's run, at its start.
-fn begin<A: Allocator + Copy>(
-    alloc: A,
-    program: &str,
-    inputs: &[u32],
-    choices: &str,
-) -> Option<Debugger<A>> {
+fn begin(alloc: Global, program: &str, inputs: &[u32], choices: &str) -> Option<Debugger<Global>> {
     let image = image_of(alloc, program)?;
     let inputs = Inputs::new(inputs).ok()?;
     let choices = read_choices(alloc, choices.as_bytes(), inputs.harts()).ok()?;
@@ -204,11 +198,11 @@ fn begin<A: Allocator + Copy>(
 }
 
 // What is shown for a line, or `quit`.
-fn shown<A: Allocator + Copy>(
-    alloc: A,
-    debugger: &mut Debugger<A>,
+fn shown(
+    alloc: Global,
+    debugger: &mut Debugger<Global>,
     line: &str,
-) -> Result<String<A>, AllocError> {
+) -> Result<String<Global>, AllocError> {
     match command(alloc, debugger, line) {
         Ok(Answer::Text(text)) => Ok(text),
         Ok(Answer::Quit) => String::from_str(alloc, "quit"),
@@ -218,12 +212,7 @@ fn shown<A: Allocator + Copy>(
 }
 
 // Whether this is shown for a line.
-fn is_shown<A: Allocator + Copy>(
-    alloc: A,
-    debugger: &mut Debugger<A>,
-    line: &str,
-    wanted: &str,
-) -> bool {
+fn is_shown(alloc: Global, debugger: &mut Debugger<Global>, line: &str, wanted: &str) -> bool {
     match shown(alloc, debugger, line) {
         Ok(text) => text.as_str() == wanted,
         Err(_) => false,
@@ -250,75 +239,5 @@ fn sessions_are_answered_line_by_line(rt: HostRuntime) {
         if let Some(line) = wrong_line(rt.alloc(), session) {
             assert!(rt; false, "{name}: {line}");
         }
-    }
-}
-
-// Lines that lead to a place, each line that is tried there with each of its requests refused, and its answer.
-const BEFORE: [&str; 3] = ["break 0x0001002c", "watch 0x00011000", "goto 7"];
-
-const TRIED: [(&str, &str); 12] = [
-    ("where", "step 7 of 26\n"),
-    ("goto 3", "step 3 of 26\n"),
-    ("forward", "step 8 of 26\n"),
-    ("back 2", "step 5 of 26\n"),
-    ("break 0", "break 00000000\n"),
-    ("watch 7", "watch 00000004\n"),
-    ("go", "break h0 0001002c\nstep 22 of 26\n"),
-    ("rgo", "watch 00011000\nstep 6 of 26\n"),
-    ("steps 6 7", "6 h1 00010018 beq t2, zero, 0x0001002c\n"),
-    ("mem 0 1", "00000000 --------\n"),
-    ("goto 27", "past end\n"),
-    ("jump", "bad command\n"),
-];
-
-// A debugger of the first session's run, after the lines that lead to the place.
-fn placed<A: Allocator + Copy>(alloc: A) -> Option<Debugger<A>> {
-    let mut debugger = begin(alloc, SWAP, &[7, 9], ONE_THEN_ZERO)?;
-    for line in &BEFORE {
-        if shown(alloc, &mut debugger, line).is_err() {
-            return None;
-        }
-    }
-    Some(debugger)
-}
-
-// Whether a line is answered; or its want of memory is told where some was refused, and has changed nothing, so that the line is then
-// answered as wanted.
-fn is_tried<'a>(
-    heap: &'a Refusing<Global>,
-    debugger: &mut Debugger<&'a Refusing<Global>>,
-    line: &str,
-    wanted: &str,
-) -> bool {
-    if shown(heap, debugger, line).is_ok() {
-        return true;
-    }
-    heap.refused() && debugger.position() == 7 && is_shown(heap, debugger, line, wanted)
-}
-
-// Whether the request behind so many was refused where a line is tried; nothing where its answer is wrong.
-fn is_refused(host: Global, line: &str, wanted: &str, passed: u64) -> Option<bool> {
-    let heap = Refusing::new(host, passed);
-    let is_right = match placed(&heap) {
-        Some(mut debugger) => is_tried(&heap, &mut debugger, line, wanted),
-        None => heap.refused(),
-    };
-    if is_right { Some(heap.refused()) } else { None }
-}
-
-// How many requests are made where a line is tried; nothing where an answer is wrong, or where memory is asked for without end.
-fn requests_of(host: Global, line: &str, wanted: &str) -> Option<u64> {
-    for passed in 0..200u64 {
-        if !is_refused(host, line, wanted, passed)? {
-            return Some(passed);
-        }
-    }
-    None
-}
-
-#[test]
-fn each_refused_request_changes_nothing(rt: HostRuntime) {
-    for (line, wanted) in &TRIED {
-        assert!(rt; requests_of(rt.alloc(), line, wanted).is_some(), "{line}");
     }
 }

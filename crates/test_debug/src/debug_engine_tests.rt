@@ -1,22 +1,10 @@
-//! What no clause says: a transcript, lines that are no text, devices that fail, and refused memory.
-use byte_io::{Failing, MemorySink, MemorySource, Status};
+//! What no clause says: a transcript, lines that are no text, and devices that fail.
+use byte_io::{Failing, MemorySink, MemorySource, Status, Unheard};
 use cmd_debug::{DebugEngineFault, debug_engine};
 use image::ElfFault;
 use program_open::{CommandFault, Input};
-use progress::Unheard;
-use std::alloc::{AllocError, Allocator, Global};
-use test_refusing::Refusing;
-
-// An ELF file of 92 bytes with one segment: `addi a7, zero, 93` and `ecall`.
-#[rattlefmt::skip]
-static EXITS: [u8; 92] = [
-    127, 69, 76, 70, 1, 1, 1, 0, 0, 0, 0, 0, 0, 0, 0, 0,
-    2, 0, 243, 0, 1, 0, 0, 0, 0, 0, 1, 0, 52, 0, 0, 0,
-    0, 0, 0, 0, 0, 0, 0, 0, 52, 0, 32, 0, 1, 0, 40, 0,
-    0, 0, 0, 0, 1, 0, 0, 0, 84, 0, 0, 0, 0, 0, 1, 0,
-    0, 0, 1, 0, 8, 0, 0, 0, 8, 0, 0, 0, 5, 0, 0, 0,
-    4, 0, 0, 0, 147, 8, 208, 5, 115, 0, 0, 0,
-];
+use std::alloc::{AllocError, Global};
+use test_images::EXITS;
 
 const CHOICES: &[u8] = b"0 1 0 1";
 
@@ -56,14 +44,10 @@ struct Session {
     answers: &'static [u8],
 }
 
+#[rattlefmt::skip]
 const ANSWERED: Session = Session {
-    name: "a session is answered",
-    program: &EXITS,
-    inputs: &[7, 9],
-    commands: COMMANDS,
-    passed: ALL,
-    result: Ok(Status::Done),
-    answers: TRANSCRIPT,
+    name: "a session is answered", program: &EXITS, inputs: &[7, 9], commands: COMMANDS,
+    passed: ALL, result: Ok(Status::Done), answers: TRANSCRIPT,
 };
 
 // The first line of the commands and its end have seven bytes.
@@ -91,9 +75,8 @@ const SESSIONS: [Session; 10] = [
 ];
 
 // How a session ends that is held with these commands, and what it has answered.
-fn held<A: Allocator + Copy>(
-    alloc: A,
-    host: Global,
+fn held(
+    alloc: Global,
     session: &Session,
     commands: &[u8],
 ) -> (
@@ -104,7 +87,7 @@ fn held<A: Allocator + Copy>(
     let mut program = Failing::new(MemorySource::new(session.program), passed.program);
     let mut choices = Failing::new(MemorySource::new(CHOICES), passed.choices);
     let mut commands = Failing::new(MemorySource::new(commands), passed.commands);
-    let mut sink = Failing::new(MemorySink::new(host), passed.sink);
+    let mut sink = Failing::new(MemorySink::new(alloc), passed.sink);
     let result = debug_engine(
         alloc,
         session.inputs,
@@ -119,7 +102,7 @@ fn held<A: Allocator + Copy>(
 
 // Whether a session ends and is answered as wanted.
 fn is_held(alloc: Global, session: &Session) -> bool {
-    let (result, sink) = held(alloc, alloc, session, session.commands);
+    let (result, sink) = held(alloc, session, session.commands);
     result == session.result && sink.device().bytes() == session.answers
 }
 
@@ -164,7 +147,7 @@ fn commands_of(alloc: Global, line: &LongLine) -> Result<Vec<u8, Global>, AllocE
 // Whether a long line is answered as wanted.
 fn is_long_line_held(alloc: Global, line: &LongLine) -> Result<bool, AllocError> {
     let commands = commands_of(alloc, line)?;
-    let (result, sink) = held(alloc, alloc, &ANSWERED, &commands);
+    let (result, sink) = held(alloc, &ANSWERED, &commands);
     Ok(result == Ok(Status::Done) && sink.device().bytes() == line.answers)
 }
 
@@ -174,38 +157,4 @@ fn a_line_of_any_length_is_the_command_that_it_is(rt: HostRuntime) {
         let name = line.name;
         assert!(rt; is_long_line_held(rt.alloc(), line) == Ok(true), "{name}");
     }
-}
-
-// Whether a session that wants memory may end so with these answers.
-fn may_want(end: Result<Status, DebugEngineFault>, answers: &[u8]) -> bool {
-    match end {
-        Err(DebugEngineFault::Refused(CommandFault::Memory)) => answers.is_empty(),
-        Err(DebugEngineFault::Memory) => TRANSCRIPT.starts_with(answers),
-        _ => end == Ok(Status::Done) && answers == TRANSCRIPT,
-    }
-}
-
-// Whether the request behind so many was refused in a session; nothing where its answer is wrong.
-fn is_refused(host: Global, passed: u64) -> Option<bool> {
-    let heap = Refusing::new(host, passed);
-    let (result, sink) = held(&heap, host, &ANSWERED, COMMANDS);
-    let is_refused = heap.refused();
-    let is_whole = result == Ok(Status::Done) && sink.device().bytes() == TRANSCRIPT;
-    if is_whole || (is_refused && may_want(result, sink.device().bytes())) {
-        Some(is_refused)
-    } else {
-        None
-    }
-}
-
-#[test]
-fn a_session_survives_each_refused_request(rt: HostRuntime) {
-    for passed in 0..2000u64 {
-        let told = is_refused(rt.alloc(), passed);
-        assert!(rt; told.is_some(), "after {passed}");
-        if told == Some(false) {
-            return;
-        }
-    }
-    assert!(rt; false, "memory is asked for without end");
 }

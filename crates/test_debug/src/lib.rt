@@ -1,4 +1,4 @@
-//! Tests of whole commands over faked sources and sinks: `asm_engine`, `debug_commands` and `debug_engine`.
+//! Tests of `cmd_asm`, `debug_text`, `cmd_debug` and the crates of hints.
 #![tactic(auto)]
 
 #[cfg(test)]
@@ -7,3 +7,7 @@ mod asm_engine_tests;
 mod debug_commands_tests;
 #[cfg(test)]
 mod debug_engine_tests;
+#[cfg(test)]
+mod told_tests;
+#[cfg(test)]
+mod words_tests;

@@ -1,6 +1,15 @@
 //! Calls of a memory, for any implementation, each with its expected result.
 
-use mem_store::{AccessFault, Store, StoreFault};
+use image::ElfFault;
+use mem_store::{AccessFault, FromImage, Store, StoreFault};
+use std::alloc::Global;
+use test_images::{Part, checked_image};
+
+/// A memory of segments.
+pub(crate) fn store_of<S: FromImage<Global>>(alloc: Global, parts: &[Part]) -> Result<S, ElfFault> {
+    let image = checked_image(alloc, 0, parts)?;
+    S::from_image(alloc, &image).map_err(|_| ElfFault::Memory)
+}
 
 /// A call: the address, the value to store there, and the result.
 pub(crate) enum Call {
@@ -30,14 +39,25 @@ fn is_answered<S: Store>(store: &mut S, call: &Call) -> bool {
     }
 }
 
-/// Makes calls in order, up to the first that does not give its result; returns the number that do.
-pub(crate) fn count_answered<S: Store>(store: &mut S, calls: &[Call]) -> usize {
+// Makes calls in order, up to the first that does not give its result; returns the number that do.
+fn count_answered<S: Store>(store: &mut S, calls: &[Call]) -> usize {
     for (number, call) in calls.iter().enumerate() {
         if !is_answered(store, call) {
             return number;
         }
     }
     calls.len()
+}
+
+/// The number of calls on a memory of segments that give their results, up to the first that does
+/// not.
+pub(crate) fn count_on<S: FromImage<Global>>(
+    alloc: Global,
+    parts: &[Part],
+    calls: &[Call],
+) -> Result<usize, ElfFault> {
+    let mut store: S = store_of(alloc, parts)?;
+    Ok(count_answered(&mut store, calls))
 }
 
 /// Flags of a segment at 0 that begins with 5, and the accesses that they allow there.
@@ -57,11 +77,26 @@ pub(crate) const GRANTS: [Grants; 4] = [
     Grants { flags: 4, loads: true, fetches: false, stores: false },
 ];
 
-/// Whether a memory allows the accesses of a row at 0. An allowed store is made.
-pub(crate) fn has_grants<S: Store>(store: &mut S, row: &Grants) -> bool {
+// Whether a memory allows the accesses of a row at 0. An allowed store is made.
+fn has_grants<S: Store>(store: &mut S, row: &Grants) -> bool {
     store.load32(0).is_ok() == row.loads
         && store.fetch(0).is_some() == row.fetches
         && store.may_store32(0).is_ok() == row.stores
         && store.store32(0, 6).is_ok() == row.stores
         && store.peek(0) == Some(if row.stores { 6 } else { 5 })
+}
+
+/// Whether a memory of one segment with a row's flags allows the row's accesses.
+pub(crate) fn is_granted<S: FromImage<Global>>(
+    alloc: Global,
+    row: &Grants,
+) -> Result<bool, ElfFault> {
+    let part = Part {
+        base: 0,
+        size: 8,
+        flags: row.flags,
+        bytes: &[5],
+    };
+    let mut store: S = store_of(alloc, &[part])?;
+    Ok(has_grants(&mut store, row))
 }

@@ -30,9 +30,9 @@ struct Row {
     fault: Option<ElfFault>,
 }
 
-/// The limit of each check.
+/// The limit of each check, and pairs of neighbours in the order of the checks that both fail.
 #[rattlefmt::skip]
-const LIMITS: [Row; 12] = [
+const CHECKS: [Row; 15] = [
     Row { name: "nothing", entry: 0, parts: &[], fault: None },
     Row { name: "one shared byte", entry: 0, parts: &[(0x1000, 0x11, 0), (0x1010, 0x10, 0)], fault: Some(ElfFault::Overlap) },
     Row { name: "one shared byte, later first", entry: 0, parts: &[(0x1010, 0x10, 0), (0x1000, 0x11, 0)], fault: Some(ElfFault::Overlap) },
@@ -45,11 +45,6 @@ const LIMITS: [Row; 12] = [
     Row { name: "past the last page", entry: 0, parts: &[(0xffff_f000, 4097, 0)], fault: Some(ElfFault::PastEnd) },
     Row { name: "more file bytes", entry: 0, parts: &[(0x1000, 3, 4)], fault: Some(ElfFault::FileOverMem) },
     Row { name: "entry 2", entry: 2, parts: &[(0x1000, 4, 4)], fault: Some(ElfFault::EntryAlign) },
-];
-
-/// Two failed checks, for pairs of neighbours in the order of the checks.
-#[rattlefmt::skip]
-const PAIRS: [Row; 3] = [
     Row { name: "11 before 12", entry: 2, parts: &[(0xffff_f000, 4097, 0), (0, 0, 1)], fault: Some(ElfFault::FileOverMem) },
     Row { name: "13 before 14", entry: 2, parts: &[(0, 0x100_0001, 0), (0, 1, 0)], fault: Some(ElfFault::Overlap) },
     Row { name: "14 before 16", entry: 2, parts: &[(0, 0x100_0001, 0)], fault: Some(ElfFault::TooLarge) },
@@ -62,15 +57,8 @@ fn fault_of(alloc: Global, row: &Row) -> Result<Option<ElfFault>, AllocError> {
 }
 
 #[test]
-fn each_check_has_its_limit(rt: HostRuntime) {
-    for row in &LIMITS {
-        assert!(rt; fault_of(rt.alloc(), row) == Ok(row.fault), "{}", row.name);
-    }
-}
-
-#[test]
-fn the_first_check_refuses(rt: HostRuntime) {
-    for row in &PAIRS {
+fn each_check_has_its_limit_and_its_place(rt: HostRuntime) {
+    for row in &CHECKS {
         assert!(rt; fault_of(rt.alloc(), row) == Ok(row.fault), "{}", row.name);
     }
 }

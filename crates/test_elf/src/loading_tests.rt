@@ -7,39 +7,14 @@ use image::{ElfFault, Image, Rights, Segment};
 use std::alloc::{AllocError, Global};
 
 /// A file of 128 bytes: two adjacent segments, with bytes 1 to 12 after the headers.
+#[rattlefmt::skip]
 pub(crate) const WORDS: [u32; 32] = [
-    0x464c_457f,
-    0x0001_0101,
-    0,
-    0, // the class, the byte order and the version
-    0x00f3_0002,
-    1,
-    0x0001_0000,
-    52,
-    0,
-    0, // executable, RISC-V; the entry; program headers at 52
-    0x0020_0034,
-    0x0028_0002,
-    0, // the sizes of the headers; two program headers
-    1,
-    116,
-    0x0001_0000,
-    0,
-    8,
-    12,
-    5,
-    4096, // offset, address, p_paddr, file and memory size, r-x
-    1,
-    124,
-    0x0001_000c,
-    0,
-    4,
-    4,
-    6,
-    4096, // the same, rw-
-    0x0403_0201,
-    0x0807_0605,
-    0x0c0b_0a09,
+    0x464c_457f, 0x0001_0101, 0, 0, // the class, the byte order and the version
+    0x00f3_0002, 1, 0x0001_0000, 52, 0, 0, // executable, RISC-V; the entry; program headers at 52
+    0x0020_0034, 0x0028_0002, 0, // the sizes of the headers; two program headers
+    1, 116, 0x0001_0000, 0, 8, 12, 5, 4096, // offset, address, p_paddr, file and memory size, r-x
+    1, 124, 0x0001_000c, 0, 4, 4, 6, 4096, // the same, rw-
+    0x0403_0201, 0x0807_0605, 0x0c0b_0a09,
 ];
 
 // The fault of the file of `WORDS` with other words at some places.
@@ -51,8 +26,9 @@ fn fault_of(alloc: Global, patches: &[Patch]) -> Result<Option<ElfFault>, AllocE
 /// A place, the word that replaces the one there, and the fault of the file.
 type WordRow = (usize, u32, Option<ElfFault>);
 
-/// For each check of the file's header: files that fail it, and the nearest files that pass.
-const FILE_HEADERS: [WordRow; 38] = [
+/// For each check files that fail it, and the nearest files that pass.
+const CHECKS: [WordRow; 58] = [
+    // of the file's header
     (8, 0xffff_ffff, None),
     (0, 0x464c_457e, Some(ElfFault::Magic)),
     (0, 0x464c_447f, Some(ElfFault::Magic)),
@@ -91,10 +67,7 @@ const FILE_HEADERS: [WordRow; 38] = [
     (24, 0x0001_0003, Some(ElfFault::EntryAlign)),
     (24, 0x0001_0004, None),
     (24, 0xffff_fffc, None),
-];
-
-/// For each check of a program header: files that fail it, and the nearest files that pass.
-const PROGRAM_HEADERS: [WordRow; 20] = [
+    // of a program header
     (56, 120, None),
     (56, 121, Some(ElfFault::OutsideFile)),
     (56, 0xffff_ffff, Some(ElfFault::OutsideFile)),
@@ -117,32 +90,14 @@ const PROGRAM_HEADERS: [WordRow; 20] = [
     (84, 4, None),
 ];
 
-// The number of rows whose files have the expected fault, up to the first that has not.
-fn count_refused(alloc: Global, rows: &[WordRow]) -> Result<usize, AllocError> {
-    for (number, (place, word, wanted)) in rows.iter().enumerate() {
-        if fault_of(alloc, &[(*place, *word)])? != *wanted {
-            return Ok(number);
-        }
+#[test]
+fn each_check_refuses_its_files_alone(rt: HostRuntime) {
+    for (place, word, fault) in &CHECKS {
+        assert!(rt;
+            fault_of(rt.alloc(), &[(*place, *word)]) == Ok(*fault),
+            "{word} at {place}"
+        );
     }
-    Ok(rows.len())
-}
-
-#[test]
-fn each_check_of_the_file_header_refuses_its_files_alone(
-    rt: HostRuntime,
-) -> Result<(), AllocError> {
-    let refused = count_refused(rt.alloc(), &FILE_HEADERS)?;
-    assert!(rt; refused == FILE_HEADERS.len(), "row {refused}");
-    Ok(())
-}
-
-#[test]
-fn each_check_of_a_program_header_refuses_its_files_alone(
-    rt: HostRuntime,
-) -> Result<(), AllocError> {
-    let refused = count_refused(rt.alloc(), &PROGRAM_HEADERS)?;
-    assert!(rt; refused == PROGRAM_HEADERS.len(), "row {refused}");
-    Ok(())
 }
 
 /// The file of `WORDS` with other words at some places, and its fault.
@@ -152,9 +107,9 @@ struct Patched {
     fault: Option<ElfFault>,
 }
 
-/// Fields that matter only in some files.
 #[rattlefmt::skip]
-const FIELDS: [Patched; 9] = [
+const PATCHED: [Patched; 20] = [
+    // Fields that matter only in some files.
     Patched { name: "no headers, and their size is 0", patches: &[(40, 52), (44, 0x0028_0000)], fault: None },
     Patched { name: "no headers, and the file's header has another size", patches: &[(40, 51), (44, 0x0028_0000)], fault: Some(ElfFault::HeaderSize) },
     Patched { name: "no headers, and their place is outside", patches: &[(28, 0xffff_ffff), (44, 0x0028_0000)], fault: None },
@@ -164,22 +119,7 @@ const FIELDS: [Patched; 9] = [
     Patched { name: "another header past the end", patches: &[(84, 4), (92, 0xffff_ffff)], fault: None },
     Patched { name: "another header inside a segment", patches: &[(84, 6), (92, 0x0001_0000)], fault: None },
     Patched { name: "another header's large size", patches: &[(84, 6), (104, 0xffff_ffff)], fault: None },
-];
-
-#[test]
-fn fields_are_looked_at_where_they_count(rt: HostRuntime) {
-    for row in &FIELDS {
-        assert!(rt;
-            fault_of(rt.alloc(), row.patches) == Ok(row.fault),
-            "{}",
-            row.name
-        );
-    }
-}
-
-/// Segments at the end of memory.
-#[rattlefmt::skip]
-const ENDS: [Patched; 7] = [
+    // Segments at the end of memory.
     Patched { name: "the last page", patches: &[(60, 0xffff_f000), (72, 4096)], fault: None },
     Patched { name: "a byte more than the last page", patches: &[(60, 0xffff_f000), (72, 4097)], fault: Some(ElfFault::PastEnd) },
     Patched { name: "an empty segment inside another", patches: &[(92, 0x0001_0004), (100, 0), (104, 0)], fault: None },
@@ -187,22 +127,7 @@ const ENDS: [Patched; 7] = [
     Patched { name: "the last address", patches: &[(92, 0xffff_ffff), (100, 1), (104, 1)], fault: None },
     Patched { name: "past the last address", patches: &[(92, 0xffff_ffff), (100, 1), (104, 2)], fault: Some(ElfFault::PastEnd) },
     Patched { name: "sizes that are 2^32 together", patches: &[(60, 0), (72, 0x8000_0000), (92, 0x8000_0000), (104, 0x8000_0000)], fault: Some(ElfFault::TooLarge) },
-];
-
-#[test]
-fn segments_are_measured_up_to_the_last_address(rt: HostRuntime) {
-    for row in &ENDS {
-        assert!(rt;
-            fault_of(rt.alloc(), row.patches) == Ok(row.fault),
-            "{}",
-            row.name
-        );
-    }
-}
-
-/// Headers may overlap one another, and the bytes of a segment.
-#[rattlefmt::skip]
-const SHARED_BYTES: [Patched; 4] = [
+    // Headers may overlap one another, and the bytes of a segment.
     Patched { name: "a program header in the file's header, and one behind it", patches: &[(28, 20)], fault: Some(ElfFault::Overlap) },
     Patched { name: "a program header in the file's header", patches: &[(28, 20), (44, 0x0028_0001)], fault: None },
     Patched { name: "a segment filled from its own header", patches: &[(56, 52)], fault: None },
@@ -210,8 +135,8 @@ const SHARED_BYTES: [Patched; 4] = [
 ];
 
 #[test]
-fn headers_may_share_bytes(rt: HostRuntime) {
-    for row in &SHARED_BYTES {
+fn fields_are_looked_at_where_they_count(rt: HostRuntime) {
+    for row in &PATCHED {
         assert!(rt;
             fault_of(rt.alloc(), row.patches) == Ok(row.fault),
             "{}",

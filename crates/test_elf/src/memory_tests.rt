@@ -1,17 +1,13 @@
 //! Properties without a clause: that calls succeed, and their results on independent rows.
 
-use crate::calls::{Call, GRANTS, Grants, count_answered, has_grants};
+use crate::calls::{Call, GRANTS, count_on, is_granted, store_of};
 use image::ElfFault;
 use mem_flat::FlatStore;
 use mem_store::{AccessFault, FromImage, Store, StoreFault};
 use std::alloc::Global;
-use test_images::{Part, checked_image};
+use test_images::Part;
 
-// A memory of segments.
-fn store_of(alloc: Global, parts: &[Part]) -> Result<FlatStore<Global>, ElfFault> {
-    let image = checked_image(alloc, 0, parts)?;
-    FlatStore::from_image(alloc, &image).map_err(|_| ElfFault::Memory)
-}
+type Flat = FlatStore<Global>;
 
 /// Adjacent segments that split the word at 0x1004, the later one first, and a segment at the top.
 #[rattlefmt::skip]
@@ -20,12 +16,6 @@ const THREE_SEGMENTS: [Part; 3] = [
     Part { base: 0x1000, size: 6, flags: 6, bytes: &[1, 2, 3, 4, 5, 6] },
     Part { base: 0xffff_fff8, size: 8, flags: 7, bytes: &[9] },
 ];
-
-// The number of calls on the three segments that give their results, up to the first that does not.
-fn count_of_three(alloc: Global, calls: &[Call]) -> Result<usize, ElfFault> {
-    let mut store = store_of(alloc, &THREE_SEGMENTS)?;
-    Ok(count_answered(&mut store, calls))
-}
 
 // The first half of the word at 0x1004 is not executable.
 static CROSSING: [Call; 13] = [
@@ -46,7 +36,7 @@ static CROSSING: [Call; 13] = [
 
 #[test]
 fn loads_and_stores_cross_adjacent_segments(rt: HostRuntime) -> Result<(), ElfFault> {
-    let answered = count_of_three(rt.alloc(), &CROSSING)?;
+    let answered = count_on::<Flat>(rt.alloc(), &THREE_SEGMENTS, &CROSSING)?;
     assert!(rt; answered == CROSSING.len(), "call {answered}");
     Ok(())
 }
@@ -67,7 +57,7 @@ static MISALIGNED: [Call; 11] = [
 
 #[test]
 fn misaligned_wins_over_a_missing_right(rt: HostRuntime) -> Result<(), ElfFault> {
-    let answered = count_of_three(rt.alloc(), &MISALIGNED)?;
+    let answered = count_on::<Flat>(rt.alloc(), &THREE_SEGMENTS, &MISALIGNED)?;
     assert!(rt; answered == MISALIGNED.len(), "call {answered}");
     Ok(())
 }
@@ -82,33 +72,25 @@ static AT_THE_LAST_ADDRESS: [Call; 5] = [
 
 #[test]
 fn the_last_address_is_mapped(rt: HostRuntime) -> Result<(), ElfFault> {
-    let answered = count_of_three(rt.alloc(), &AT_THE_LAST_ADDRESS)?;
+    let answered = count_on::<Flat>(rt.alloc(), &THREE_SEGMENTS, &AT_THE_LAST_ADDRESS)?;
     assert!(rt; answered == AT_THE_LAST_ADDRESS.len(), "call {answered}");
     Ok(())
-}
-
-// Whether a memory of one segment with a row's flags allows the row's accesses.
-fn is_granted(alloc: Global, row: &Grants) -> Result<bool, ElfFault> {
-    let part = Part {
-        base: 0,
-        size: 8,
-        flags: row.flags,
-        bytes: &[5],
-    };
-    let mut store = store_of(alloc, &[part])?;
-    Ok(has_grants(&mut store, row))
 }
 
 #[test]
 fn rights_grant_what_they_name(rt: HostRuntime) {
     for row in &GRANTS {
-        assert!(rt; is_granted(rt.alloc(), row) == Ok(true), "{}", row.flags);
+        assert!(rt;
+            is_granted::<Flat>(rt.alloc(), row) == Ok(true),
+            "{}",
+            row.flags
+        );
     }
 }
 
 // Whether a copy has the bytes from before a store.
 fn copy_is_kept(alloc: Global) -> Result<bool, ElfFault> {
-    let mut store = store_of(alloc, &THREE_SEGMENTS)?;
+    let mut store: Flat = store_of(alloc, &THREE_SEGMENTS)?;
     let copy = store.copy(alloc).map_err(|_| ElfFault::Memory)?;
     Ok(
         store.store32(0x1000, 0) == Ok(())

@@ -1,7 +1,7 @@
 //! Properties of a memory of pages without a clause: that calls succeed, the state when out of
 //! memory, and results on independent rows.
 
-use crate::calls::{Call, GRANTS, Grants, count_answered, has_grants};
+use crate::calls::{Call, GRANTS, count_on, is_granted, store_of};
 use image::{ElfFault, Image};
 use mem_paged::{Number, PageStore, store_into_copy, store_into_original, store_number};
 use mem_store::{AccessFault, FromImage, Store, StoreFault};
@@ -9,18 +9,7 @@ use std::alloc::{AllocError, Allocator, Global};
 use test_images::{Part, checked_image};
 use test_refusing::Refusing;
 
-// A memory of segments.
-fn store_of(alloc: Global, parts: &[Part]) -> Result<PageStore<Global>, ElfFault> {
-    let image = checked_image(alloc, 0, parts)?;
-    PageStore::from_image(alloc, &image).map_err(|_| ElfFault::Memory)
-}
-
-// The number of calls on a memory of segments that give their results, up to the first that does
-// not.
-fn count_on(alloc: Global, parts: &[Part], calls: &[Call]) -> Result<usize, ElfFault> {
-    let mut store = store_of(alloc, parts)?;
-    Ok(count_answered(&mut store, calls))
-}
+type Paged = PageStore<Global>;
 
 /// Segments that share the page from 0x11000 on: one extends into it from the page before, one has
 /// its next two bytes.
@@ -45,7 +34,7 @@ static ON_THE_SHARED_PAGE: [Call; 9] = [
 
 #[test]
 fn segments_share_a_page(rt: HostRuntime) -> Result<(), ElfFault> {
-    let answered = count_on(rt.alloc(), &SHARED_PAGE, &ON_THE_SHARED_PAGE)?;
+    let answered = count_on::<Paged>(rt.alloc(), &SHARED_PAGE, &ON_THE_SHARED_PAGE)?;
     assert!(rt; answered == ON_THE_SHARED_PAGE.len(), "call {answered}");
     Ok(())
 }
@@ -81,7 +70,7 @@ static AT_THE_ENDS: [Call; 22] = [
 
 #[test]
 fn each_width_at_the_ends_of_a_page(rt: HostRuntime) -> Result<(), ElfFault> {
-    let answered = count_on(rt.alloc(), &THREE_PAGES, &AT_THE_ENDS)?;
+    let answered = count_on::<Paged>(rt.alloc(), &THREE_PAGES, &AT_THE_ENDS)?;
     assert!(rt; answered == AT_THE_ENDS.len(), "call {answered}");
     Ok(())
 }
@@ -105,27 +94,19 @@ static ON_FIRST_AND_LAST: [Call; 8] = [
 
 #[test]
 fn the_first_and_the_last_page_are_mapped(rt: HostRuntime) -> Result<(), ElfFault> {
-    let answered = count_on(rt.alloc(), &FIRST_AND_LAST, &ON_FIRST_AND_LAST)?;
+    let answered = count_on::<Paged>(rt.alloc(), &FIRST_AND_LAST, &ON_FIRST_AND_LAST)?;
     assert!(rt; answered == ON_FIRST_AND_LAST.len(), "call {answered}");
     Ok(())
-}
-
-// Whether a memory of one segment with a row's flags allows the row's accesses.
-fn is_granted(alloc: Global, row: &Grants) -> Result<bool, ElfFault> {
-    let part = Part {
-        base: 0,
-        size: 8,
-        flags: row.flags,
-        bytes: &[5],
-    };
-    let mut store = store_of(alloc, &[part])?;
-    Ok(has_grants(&mut store, row))
 }
 
 #[test]
 fn rights_grant_what_they_name(rt: HostRuntime) {
     for row in &GRANTS {
-        assert!(rt; is_granted(rt.alloc(), row) == Ok(true), "{}", row.flags);
+        assert!(rt;
+            is_granted::<Paged>(rt.alloc(), row) == Ok(true),
+            "{}",
+            row.flags
+        );
     }
 }
 
@@ -146,7 +127,7 @@ const NUMBERS: [(u32, Number); 6] = [
 // Whether a number stored into a memory of zeros is visible there, and not in a copy made before.
 fn is_copy_kept(
     alloc: Global,
-    store: &mut PageStore<Global>,
+    store: &mut Paged,
     address: u32,
     number: Number,
 ) -> Result<bool, AllocError> {
@@ -156,11 +137,7 @@ fn is_copy_kept(
 }
 
 // Whether a word stored into a copy is visible there, and not in the original.
-fn is_original_kept(
-    alloc: Global,
-    store: &mut PageStore<Global>,
-    word: u32,
-) -> Result<bool, AllocError> {
+fn is_original_kept(alloc: Global, store: &mut Paged, word: u32) -> Result<bool, AllocError> {
     let before = store.load32(word);
     let (copy, stored) = store_into_copy(alloc, store, word, Number::Word(7))?;
     Ok(stored == Ok(()) && copy.load32(word) == Ok(7) && store.load32(word) == before)
@@ -168,7 +145,7 @@ fn is_original_kept(
 
 // Whether neither a copy nor its original changes when a number is stored into the other.
 fn are_apart(alloc: Global, address: u32, number: Number) -> Result<bool, ElfFault> {
-    let mut store = store_of(alloc, &TWO_PAGES)?;
+    let mut store: Paged = store_of(alloc, &TWO_PAGES)?;
     let copy = is_copy_kept(alloc, &mut store, address, number);
     let original = is_original_kept(alloc, &mut store, address - address % 4);
     Ok(copy == Ok(true) && original == Ok(true))
@@ -298,7 +275,7 @@ const WORDS_BY_CHUNK: [(u32, u32); 6] = [
 ];
 
 // Stores the words; returns whether each store succeeds.
-fn are_stored(store: &mut PageStore<Global>) -> bool {
+fn are_stored(store: &mut Paged) -> bool {
     for (address, value) in &WORDS_BY_CHUNK {
         if store.store32(*address, *value) != Ok(()) {
             return false;
@@ -311,16 +288,16 @@ fn are_stored(store: &mut PageStore<Global>) -> bool {
 #[derive(Drop)]
 struct Copies {
     /// A copy made before the words were stored.
-    first: PageStore<Global>,
+    first: Paged,
     /// The memory that they were stored into.
-    store: PageStore<Global>,
+    store: Paged,
     /// A copy made after that.
-    copy: PageStore<Global>,
+    copy: Paged,
 }
 
 // Makes the three; `None` when out of memory, or if a store fails.
 fn copies_of(alloc: Global) -> Option<Copies> {
-    let mut store = store_of(alloc, &CHUNKS).ok()?;
+    let mut store: Paged = store_of(alloc, &CHUNKS).ok()?;
     let first = store.copy(alloc).ok()?;
     if !are_stored(&mut store) {
         return None;
@@ -426,7 +403,7 @@ fn a_segment_reaches_over_pages(rt: HostRuntime) -> Result<(), ElfFault> {
         flags: 6,
         bytes: SEVENS.as_slice(),
     };
-    let answered = count_on(rt.alloc(), &[part], &OVER_PAGES)?;
+    let answered = count_on::<Paged>(rt.alloc(), &[part], &OVER_PAGES)?;
     assert!(rt; answered == OVER_PAGES.len(), "call {answered}");
     Ok(())
 }

@@ -1,24 +1,26 @@
 //! Tests what no clause says of failing devices: that each engine gives its full answer if none
 //! fails. Each device of each engine fails at its first call, then at its second, and so on, until
 //! it isn't called that often.
-use byte_io::{Failing, FullSink, MemorySink, MemorySource, Status};
+ghost use Rattle.std.specs.Prelude.{◌≡◌};
+
+use byte_io::{Failing, FullSink, MemorySink, MemorySource, Status, Unheard};
 use cmd_asm::{AssemblyFault, assembled_file, listing_engine, write_file};
-use cmd_campaign::campaign_engine;
+use cmd_campaign::{Campaign, Report, campaign_engine};
 use cmd_debug::{DebugEngineFault, debug_engine};
 use cmd_replay::replay_engine;
 use cmd_run::{Exit, Expect, FileView, file_engine, run_engine};
 use cmd_schedule::{Plan, schedule_engine};
 use object_library::{Kind, source};
 use program_open::{CommandFault, Input, ProgramForm, deliver, write_text};
-use progress::Unheard;
-use sched_draw::Schedule;
+use sched_draw::{Draw, Schedule};
 use std::alloc::Global;
 use std::thread::Threads;
-use test_campaigns::plain_campaign;
+use test_images::{EXITS, EXITS_FACTS, EXITS_LISTING};
 
 #[derive(Clone, Copy)]
 enum Engine {
     Run,
+    RunHex,
     List,
     Info,
     Replay,
@@ -48,8 +50,10 @@ struct Row {
 }
 
 #[rattlefmt::skip]
-const ROWS: [Row; 10] = [
+const ROWS: [Row; 11] = [
     Row { name: "run", engine: Engine::Run, devices: &[Device::Program, Device::Schedule, Device::Output] },
+    Row { name: "run in hexadecimal", engine: Engine::RunHex,
+        devices: &[Device::Program, Device::Schedule, Device::Output] },
     Row { name: "list", engine: Engine::List, devices: &[Device::Program, Device::Output] },
     Row { name: "info", engine: Engine::Info, devices: &[Device::Program, Device::Output] },
     Row { name: "replay", engine: Engine::Replay, devices: &[Device::Program, Device::Schedule, Device::Output] },
@@ -106,23 +110,7 @@ fn checked(outcome: Outcome, written: &[u8], full: &[u8]) -> Outcome {
     }
 }
 
-// An ELF file of 92 bytes with one segment: `addi a7, zero, 93` and `ecall`.
-#[rattlefmt::skip]
-static EXITS: [u8; 92] = [
-    127, 69, 76, 70, 1, 1, 1, 0, 0, 0, 0, 0, 0, 0, 0, 0,
-    2, 0, 243, 0, 1, 0, 0, 0, 0, 0, 1, 0, 52, 0, 0, 0,
-    0, 0, 0, 0, 0, 0, 0, 0, 52, 0, 32, 0, 1, 0, 40, 0,
-    0, 0, 0, 0, 1, 0, 0, 0, 84, 0, 0, 0, 0, 0, 1, 0,
-    0, 0, 1, 0, 8, 0, 0, 0, 8, 0, 0, 0, 5, 0, 0, 0,
-    4, 0, 0, 0, 147, 8, 208, 5, 115, 0, 0, 0,
-];
-
 const ENDS: &str = "hart 0 running pc 00010000\nhart 1 running pc 00010000\n";
-
-const FACTS: &str = "entry 00010000\nsegment 00010000 8 r-x\nsymbols none\nlibrary none\n";
-
-const LISTING: &str =
-    "# segment 00010000 8\naddi a7, zero, 93  # 00010000 05d00893\necall  # 00010004 00000073\n";
 
 const SEEDS: &str =
     "seed 5 exited 1 faulted 0 running 0\nseed 6 exited 1 faulted 0 running 0\nseed 7 exited 1 faulted 0 running 0\n";
@@ -144,23 +132,22 @@ fn told(answer: Result<Status, CommandFault>) -> Outcome {
     }
 }
 
-fn run(alloc: Global, failure: Failure) -> Outcome {
+// No rule is judged, and harts may run.
+const UNJUDGED: Expect = Expect {
+    rule: None,
+    exit: Exit::May,
+};
+
+// A jump to itself, in hexadecimal.
+const LOOP: &[u8] = b"0000006F";
+
+fn run(alloc: Global, failure: Failure, form: ProgramForm, file: &[u8]) -> Outcome {
     // No choice, in three pieces.
     let blanks = [b' '; 40_000];
-    let mut program = Failing::new(MemorySource::new(&EXITS), failure.calls(Device::Program));
+    let mut program = Failing::new(MemorySource::new(file), failure.calls(Device::Program));
     let mut choices = Failing::new(MemorySource::new(&blanks), failure.calls(Device::Schedule));
     let mut sink = Failing::new(MemorySink::new(alloc), failure.calls(Device::Output));
-    let answer = run_engine(
-        alloc,
-        ProgramForm::Elf,
-        &[7, 9],
-        Expect {
-            rule: None,
-            exit: Exit::May,
-        },
-        &mut program,
-        &mut choices,
-    );
+    let answer = run_engine(alloc, form, &[7, 9], UNJUDGED, &mut program, &mut choices);
     let result = deliver(&mut sink, answer);
     checked(told(result), sink.device().bytes(), ENDS.as_bytes())
 }
@@ -184,6 +171,21 @@ fn replay(alloc: Global, failure: Failure) -> Outcome {
     checked(told(result), sink.device().bytes(), ENDS.as_bytes())
 }
 
+// A campaign of three seeds, with a line for each. Its harts may still run at the end.
+fn three_seeds() -> Campaign
+    ensures first { result.first ≡ 5 }
+    ensures count { result.count ≡ 3 }
+{
+    Campaign {
+        first: 5,
+        count: 3,
+        steps: 2,
+        draw: Draw::usual(),
+        expect: UNJUDGED,
+        report: Report::Lines,
+    }
+}
+
 fn campaign<R: Threads + Sync>(rt: &R, alloc: Global, failure: Failure) -> Outcome {
     let mut program = Failing::new(MemorySource::new(&EXITS), failure.calls(Device::Program));
     let mut sink = Failing::new(MemorySink::new(alloc), failure.calls(Device::Output));
@@ -191,7 +193,7 @@ fn campaign<R: Threads + Sync>(rt: &R, alloc: Global, failure: Failure) -> Outco
         rt,
         alloc,
         &[7],
-        plain_campaign(5, 3, 2, None),
+        three_seeds(),
         &mut program,
         &mut sink,
         &mut Unheard,
@@ -286,9 +288,10 @@ fn use_engine<R: Threads + Sync>(
     failure: Failure,
 ) -> Outcome {
     match engine {
-        Engine::Run => run(alloc, failure),
-        Engine::List => show(alloc, failure, FileView::Listing, LISTING.as_bytes()),
-        Engine::Info => show(alloc, failure, FileView::Facts, FACTS.as_bytes()),
+        Engine::Run => run(alloc, failure, ProgramForm::Elf, &EXITS),
+        Engine::RunHex => run(alloc, failure, ProgramForm::Hex, LOOP),
+        Engine::List => show(alloc, failure, FileView::Listing, EXITS_LISTING.as_bytes()),
+        Engine::Info => show(alloc, failure, FileView::Facts, EXITS_FACTS.as_bytes()),
         Engine::Replay => replay(alloc, failure),
         Engine::Campaign => campaign(rt, alloc, failure),
         Engine::Assemble => assemble(alloc, failure),
@@ -351,7 +354,7 @@ fn full_campaign<R: Threads + Sync>(rt: &R, alloc: Global) -> Result<Status, Com
         rt,
         alloc,
         &[7],
-        plain_campaign(5, 3, 2, None),
+        three_seeds(),
         &mut program,
         &mut FullSink::new(),
         &mut Unheard,

@@ -2,8 +2,7 @@
 //! suffices, with each once.
 use machine::Choice;
 use sched_run::Chosen;
-use std::alloc::{AllocError, Allocator, Global};
-use test_refusing::{Call, tried};
+use std::alloc::{AllocError, Global};
 
 fn count_at_first(alloc: Global) -> Result<usize, AllocError> {
     Ok(Chosen::new().choices(alloc)?.len())
@@ -36,22 +35,4 @@ fn are_three_chosen(alloc: Global) -> Result<bool, AllocError> {
 #[test]
 fn each_hart_is_chosen_once(rt: HostRuntime) {
     assert!(rt; are_three_chosen(rt.alloc()) == Ok(true));
-}
-
-/// The list of all 32 harts.
-struct AllHarts;
-
-impl Call for AllHarts {
-    fn answer<A: Allocator + Copy>(&self, alloc: A, _host: Global) -> Result<bool, AllocError> {
-        let mut chosen = Chosen::new();
-        for hart in 0..32usize {
-            chosen.add(hart);
-        }
-        Ok(chosen.choices(alloc)?.len() == 32)
-    }
-}
-
-#[test]
-fn each_refused_request_is_told(rt: HostRuntime) {
-    assert!(rt; tried(rt.alloc(), &AllHarts).is_ok());
 }

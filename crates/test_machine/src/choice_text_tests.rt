@@ -1,26 +1,7 @@
-//! Tests what no clause says: example texts, the faults' texts, and refused memory.
+//! Tests what no clause says: example texts, and the faults' texts.
 use machine::Choice;
 use sched_text::{ChoiceFault, read_choices};
-use std::alloc::{AllocError, Allocator, Global};
-use test_refusing::{Call, tried};
-
-macro_rules! plain {
-    ($hart:literal) => {
-        Choice {
-            hart: $hart,
-            refuse: false,
-        }
-    };
-}
-
-macro_rules! refused {
-    ($hart:literal) => {
-        Choice {
-            hart: $hart,
-            refuse: true,
-        }
-    };
-}
+use std::alloc::{AllocError, Global};
 
 /// A text of two harts and its choices.
 struct Worked {
@@ -127,23 +108,4 @@ fn faults_have_texts(rt: HostRuntime) {
     for (fault, text) in &TEXTS_OF_FAULTS {
         assert!(rt; has_text(rt.alloc(), *fault, text) == Ok(true), "{text}");
     }
-}
-
-/// The reading of 19 choices.
-struct Reading;
-
-impl Call for Reading {
-    fn answer<A: Allocator + Copy>(&self, alloc: A, _host: Global) -> Result<bool, AllocError> {
-        let text = "0 1 0! 1 0 1 1! 0 1 0 0 0 1 1 1 0 1 0 1";
-        match read_choices(alloc, text.as_bytes(), 2) {
-            Ok(choices) => Ok(choices.len() == 19),
-            Err(ChoiceFault::Memory) => Err(AllocError),
-            Err(_) => Ok(false),
-        }
-    }
-}
-
-#[test]
-fn each_refused_request_is_told(rt: HostRuntime) {
-    assert!(rt; tried(rt.alloc(), &Reading).is_ok());
 }

@@ -1,7 +1,6 @@
-//! Tests what no clause says: example history texts, the faults' texts, and refused memory.
+//! Tests what no clause says: example history texts, and the faults' texts.
 use history::{Entry, HistoryFault, print_history, read_history};
-use std::alloc::{AllocError, Allocator, Global};
-use test_refusing::{Call, tried};
+use std::alloc::{AllocError, Global};
 
 macro_rules! plain {
     ($hart:literal, $local:literal) => {
@@ -109,7 +108,7 @@ const PRINTED: [Worked; 3] = [
     Worked { text: "0+3 1+4294967295!\n", entries: &[plain!(0, 3), refused!(1, 4_294_967_295)] },
 ];
 
-fn is_printed<A: Allocator + Copy>(alloc: A, row: &Worked) -> Result<bool, AllocError> {
+fn is_printed(alloc: Global, row: &Worked) -> Result<bool, AllocError> {
     Ok(print_history(alloc, row.entries)?.as_str() == row.text)
 }
 
@@ -118,45 +117,4 @@ fn histories_are_printed(rt: HostRuntime) {
     for row in &PRINTED {
         assert!(rt; is_printed(rt.alloc(), row) == Ok(true), "{}", row.text);
     }
-}
-
-/// The reading of 19 entries.
-struct Reading;
-
-impl Call for Reading {
-    fn answer<A: Allocator + Copy>(&self, alloc: A, _host: Global) -> Result<bool, AllocError> {
-        let text = "0+1 1+0 0+2! 1+1 0+0 1+3 1+1! 0+0 1+4 0+9 0+0 0+1 1+2 1+0 1+1 0+0 1+5 0+6 1+7";
-        match read_history(alloc, text.as_bytes(), 2) {
-            Ok(entries) => Ok(entries.len() == 19),
-            Err(HistoryFault::Memory) => Err(AllocError),
-            Err(_) => Ok(false),
-        }
-    }
-}
-
-#[test]
-fn each_refused_request_of_reading_is_told(rt: HostRuntime) {
-    assert!(rt; tried(rt.alloc(), &Reading).is_ok());
-}
-
-/// The printing of four entries.
-const FOUR_ENTRIES: Worked = Worked {
-    text: "0+3 1+4294967295! 1+0 0+1\n",
-    entries: &[
-        plain!(0, 3),
-        refused!(1, 4_294_967_295),
-        plain!(1, 0),
-        plain!(0, 1),
-    ],
-};
-
-impl Call for Worked {
-    fn answer<A: Allocator + Copy>(&self, alloc: A, _host: Global) -> Result<bool, AllocError> {
-        is_printed(alloc, self)
-    }
-}
-
-#[test]
-fn each_refused_request_of_printing_is_told(rt: HostRuntime) {
-    assert!(rt; tried(rt.alloc(), &FOUR_ENTRIES).is_ok());
 }

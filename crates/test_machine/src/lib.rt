@@ -2,6 +2,26 @@
 //! `hart_local`.
 #![tactic(auto)]
 
+// A hart's choice that refuses no store-conditional.
+macro_rules! plain {
+    ($hart:literal) => {
+        Choice {
+            hart: $hart,
+            refuse: false,
+        }
+    };
+}
+
+// One that does.
+macro_rules! refused {
+    ($hart:literal) => {
+        Choice {
+            hart: $hart,
+            refuse: true,
+        }
+    };
+}
+
 #[cfg(test)]
 mod choice_run_tests;
 #[cfg(test)]

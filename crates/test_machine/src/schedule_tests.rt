@@ -5,25 +5,7 @@ use rand_pcg::Lcg64Xsh32;
 use sched_draw::{Draw, Schedule, list_schedule, seeded_generator};
 use sched_text::{print_choices, print_runs, read_choices};
 use std::alloc::{AllocError, Allocator, Global};
-use test_refusing::{Call, Refusing, tried};
-
-macro_rules! plain {
-    ($hart:literal) => {
-        Choice {
-            hart: $hart,
-            refuse: false,
-        }
-    };
-}
-
-macro_rules! refused {
-    ($hart:literal) => {
-        Choice {
-            hart: $hart,
-            refuse: true,
-        }
-    };
-}
+use test_refusing::Refusing;
 
 /// A form of printed choices.
 #[derive(Clone, Copy)]
@@ -41,29 +23,28 @@ struct Printed {
     text: &'static str,
 }
 
-/// Texts in the printed form.
+/// Choices one by one, and by runs.
 #[rattlefmt::skip]
-const CHOICES: [Printed; 5] = [
+const PRINTED: [Printed; 13] = [
     Printed { form: Form::Choices, choices: &[], text: "" },
     Printed { form: Form::Choices, choices: &[plain!(0), plain!(1), refused!(0)], text: "0 1 0!\n" },
     Printed { form: Form::Choices, choices: &[refused!(7)], text: "7!\n" },
     Printed { form: Form::Choices, choices: &[plain!(10), plain!(4294967295)], text: "10 4294967295\n" },
     Printed { form: Form::Choices, choices: &[plain!(0), plain!(0)], text: "0 0\n" },
-];
-
-/// Lists printed by runs.
-#[rattlefmt::skip]
-const RUNS: [Printed; 6] = [
+    Printed { form: Form::Choices, choices: &FIVE_CHOICES, text: "3 0! 7 2! 0\n" },
     Printed { form: Form::Runs, choices: &[], text: "" },
     Printed { form: Form::Runs, choices: &[plain!(0)], text: "0\n" },
     Printed { form: Form::Runs, choices: &[plain!(0), plain!(0), plain!(0), refused!(1), refused!(1), plain!(0)], text: "0*3 1!*2 0\n" },
     Printed { form: Form::Runs, choices: &[refused!(1), plain!(1), plain!(1)], text: "1! 1*2\n" },
     Printed { form: Form::Runs, choices: &[plain!(0), plain!(1), plain!(0)], text: "0 1 0\n" },
     Printed { form: Form::Runs, choices: &[refused!(31), refused!(31)], text: "31!*2\n" },
+    Printed { form: Form::Runs,
+        choices: &[plain!(3), plain!(3), refused!(0), plain!(7), plain!(7), plain!(0)],
+        text: "3*2 0! 7*2 0\n" },
 ];
 
 // Whether choices are printed as in a row.
-fn is_printed<A: Allocator + Copy>(alloc: A, row: &Printed) -> Result<bool, AllocError> {
+fn is_printed(alloc: Global, row: &Printed) -> Result<bool, AllocError> {
     let text = match row.form {
         Form::Choices => print_choices(alloc, row.choices)?,
         Form::Runs => print_runs(alloc, row.choices)?,
@@ -73,14 +54,7 @@ fn is_printed<A: Allocator + Copy>(alloc: A, row: &Printed) -> Result<bool, Allo
 
 #[test]
 fn choices_are_printed(rt: HostRuntime) {
-    for row in &CHOICES {
-        assert!(rt; is_printed(rt.alloc(), row) == Ok(true), "{}", row.text);
-    }
-}
-
-#[test]
-fn runs_are_printed(rt: HostRuntime) {
-    for row in &RUNS {
+    for row in &PRINTED {
         assert!(rt; is_printed(rt.alloc(), row) == Ok(true), "{}", row.text);
     }
 }
@@ -110,37 +84,14 @@ fn a_run_is_cut_at_its_longest(rt: HostRuntime) {
     assert!(rt; is_run_cut(rt.alloc()) == Ok(true));
 }
 
-impl Call for Printed {
-    fn answer<A: Allocator + Copy>(&self, alloc: A, _host: Global) -> Result<bool, AllocError> {
-        is_printed(alloc, self)
-    }
-}
-
-#[rattlefmt::skip]
-static FOUR_RUNS: Printed = Printed {
-    form: Form::Runs,
-    choices: &[plain!(3), plain!(3), refused!(0), plain!(7), plain!(7), plain!(0)],
-    text: "3*2 0! 7*2 0\n",
-};
-
-#[test]
-fn each_refused_request_of_print_runs_is_told(rt: HostRuntime) {
-    assert!(rt; tried(rt.alloc(), &FOUR_RUNS).is_ok());
-}
-
 /// Five choices of different harts.
-#[rattlefmt::skip]
-static FIVE_CHOICES: Printed = Printed {
-    form: Form::Choices,
-    choices: &[plain!(3), refused!(0), plain!(7), refused!(2), plain!(0)],
-    text: "3 0! 7 2! 0\n",
-};
+const FIVE_CHOICES: [Choice; 5] = [plain!(3), refused!(0), plain!(7), refused!(2), plain!(0)];
 
 // Whether the printed text of five choices is read as their list.
 fn is_read_back(alloc: Global) -> Option<bool> {
-    let text = print_choices(alloc, FIVE_CHOICES.choices).ok()?;
+    let text = print_choices(alloc, &FIVE_CHOICES).ok()?;
     let read = read_choices(alloc, text.as_bytes(), 8).ok()?;
-    Some(read.as_slice() == FIVE_CHOICES.choices)
+    Some(read.as_slice() == FIVE_CHOICES.as_slice())
 }
 
 #[test]
@@ -171,13 +122,9 @@ fn harts_take_turns(rt: HostRuntime) {
 }
 
 /// The words that the demo of PCG's C code prints of the generator with state 42 and stream 54.
+#[rattlefmt::skip]
 const PUBLISHED_WORDS: [u32; 6] = [
-    0xa15c_02b7,
-    0x7b47_f409,
-    0xba1d_3330,
-    0x83d2_f293,
-    0xbfa4_784b,
-    0xcbed_606e,
+    0xa15c_02b7, 0x7b47_f409, 0xba1d_3330, 0x83d2_f293, 0xbfa4_784b, 0xcbed_606e,
 ];
 
 #[test]
@@ -227,11 +174,6 @@ fn seeded_choices_follow_the_words(rt: HostRuntime) {
     for seed in [0, 1, 5, u64::MAX] {
         assert!(rt; is_seeded(rt.alloc(), seed) == Ok(true), "seed {seed}");
     }
-}
-
-#[test]
-fn each_refused_request_is_told(rt: HostRuntime) {
-    assert!(rt; tried(rt.alloc(), &FIVE_CHOICES).is_ok());
 }
 
 // Whether nine steps of two harts of a schedule fail if the first request is refused.

@@ -6,7 +6,7 @@ use machine::{Choice, Inputs, Machine};
 use mem_flat::FlatStore;
 use mem_store::Store;
 use object_library::{Kind, Verdict, judge, make_image};
-use std::alloc::{AllocError, Allocator};
+use std::alloc::{AllocError, Allocator, Global};
 
 // Schedules are counted modulo this prime.
 const MODULUS: u64 = 1_000_000_007;
@@ -201,8 +201,10 @@ fn is_kept<A: Allocator>(search: &Search, place: &Place<A>) -> bool {
     verdict_on(search, place.chosen, harts) == Verdict::Kept
 }
 
-// What is gone through of an object: its inputs, the bound on a hart's own choices, after which it has exited, and how many choices.
+// What is gone through of an object: its name, its inputs, the bound on a hart's own choices, after
+// which it has exited, and how many choices.
 struct Search {
+    name: &'static str,
     kind: Kind,
     inputs: [u32; 2],
     bound: usize,
@@ -213,36 +215,24 @@ struct Search {
 // A hart is chosen as often as its bound says and no more, since it has exited then and a further choice changes nothing. So of Swap, Add
 // and AdoptCommit these are all schedules, `(2 * bound)! / (bound! * bound!)`. Of Rounds they are the `2 ^ 140` of 140 choices, after which
 // both harts have exited in some.
-const SWAP: Search = Search {
-    kind: Kind::Swap,
-    inputs: [7, 9],
-    bound: 15,
-    choices: 30,
-    schedules: 155_117_520,
-};
+#[rattlefmt::skip]
+const CONSENSUS: [Search; 2] = [
+    Search { name: "Swap", kind: Kind::Swap, inputs: [7, 9], bound: 15, choices: 30,
+        schedules: 155_117_520 },
+    Search { name: "Add", kind: Kind::Add, inputs: [7, 9], bound: 15, choices: 30,
+        schedules: 155_117_520 },
+];
 
-const ADD: Search = Search {
-    kind: Kind::Add,
-    inputs: [7, 9],
-    bound: 15,
-    choices: 30,
-    schedules: 155_117_520,
-};
-
+#[rattlefmt::skip]
 const ADOPT_COMMIT: Search = Search {
-    kind: Kind::AdoptCommit,
-    inputs: [0, 0xffff_ffff],
-    bound: 47,
-    choices: 94,
+    name: "AdoptCommit", kind: Kind::AdoptCommit, inputs: [0, 0xffff_ffff], bound: 47, choices: 94,
     schedules: 791_779_091,
 };
 
+#[rattlefmt::skip]
 const ROUNDS: Search = Search {
-    kind: Kind::Rounds,
-    inputs: [0, 0xffff_ffff],
-    bound: 194,
-    choices: 140,
-    schedules: 373798577,
+    name: "Rounds", kind: Kind::Rounds, inputs: [0, 0xffff_ffff], bound: 194, choices: 140,
+    schedules: 373_798_577,
 };
 
 // Goes through the schedules of a search, and answers how many there are: in each state that they and their beginnings reach the rule is
@@ -262,26 +252,24 @@ fn schedules_of<A: Allocator + Copy>(alloc: A, search: &Search) -> Result<Option
     Ok(Some(places.iter().flatten().fold(0, sum)))
 }
 
-#[test]
-fn every_schedule_of_swap_keeps_the_rule(rt: HostRuntime) {
-    let found = schedules_of(rt.alloc(), &SWAP);
-    assert!(rt; found.ok().flatten() == Some(SWAP.schedules));
+// Whether these are all schedules of a search, and each of them keeps the rule.
+fn are_all_kept(alloc: Global, search: &Search) -> bool {
+    schedules_of(alloc, search).ok().flatten() == Some(search.schedules)
 }
 
 #[test]
-fn every_schedule_of_add_keeps_the_rule(rt: HostRuntime) {
-    let found = schedules_of(rt.alloc(), &ADD);
-    assert!(rt; found.ok().flatten() == Some(ADD.schedules));
+fn every_schedule_of_consensus_keeps_the_rule(rt: HostRuntime) {
+    for search in &CONSENSUS {
+        assert!(rt; are_all_kept(rt.alloc(), search), "{}", search.name);
+    }
 }
 
 #[test]
 fn every_schedule_of_adopt_commit_keeps_the_rule(rt: HostRuntime) {
-    let found = schedules_of(rt.alloc(), &ADOPT_COMMIT);
-    assert!(rt; found.ok().flatten() == Some(ADOPT_COMMIT.schedules));
+    assert!(rt; are_all_kept(rt.alloc(), &ADOPT_COMMIT));
 }
 
 #[test]
 fn every_schedule_of_rounds_keeps_the_rule(rt: HostRuntime) {
-    let found = schedules_of(rt.alloc(), &ROUNDS);
-    assert!(rt; found.ok().flatten() == Some(ROUNDS.schedules));
+    assert!(rt; are_all_kept(rt.alloc(), &ROUNDS));
 }

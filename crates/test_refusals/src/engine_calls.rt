@@ -1,5 +1,5 @@
 //! Engines, and the calls on which they and the program stand. Sinks have ample memory.
-use byte_io::{MemorySink, MemorySource, ReadFault, Status, read_all};
+use byte_io::{MemorySink, MemorySource, ReadFault, Status, Unheard, read_all};
 use cli_args::{LineFault, read_inputs};
 use cli_orders::read_plan;
 use cmd_asm::{AssemblyFault, assembled_file, listing_engine};
@@ -10,15 +10,16 @@ use cmd_schedule::{Plan, schedule_engine};
 use hart_step::{Hart, HartState};
 use object_library::{Kind, source};
 use program_open::{CommandFault, HexFault, ProgramForm, deliver, hex_image, read_hex};
-use progress::Unheard;
 use sched_draw::Schedule;
 use std::alloc::{AllocError, Allocator, Global};
+use test_images::{EXITS, EXITS_FACTS, EXITS_LISTING};
 use test_refusing::{Call, tried};
 
 // A call.
 #[derive(Clone, Copy)]
 enum EngineCall {
     Run,
+    RunHex,
     List,
     Info,
     Replay,
@@ -35,8 +36,9 @@ enum EngineCall {
 }
 
 // All of them.
-const CALLS: [(&str, EngineCall); 14] = [
+const CALLS: [(&str, EngineCall); 15] = [
     ("run", EngineCall::Run),
+    ("run in hexadecimal", EngineCall::RunHex),
     ("list", EngineCall::List),
     ("info", EngineCall::Info),
     ("replay", EngineCall::Replay),
@@ -55,9 +57,10 @@ const CALLS: [(&str, EngineCall); 14] = [
 impl Call for EngineCall {
     fn answer<A: Allocator + Copy>(&self, alloc: A, host: Global) -> Result<bool, AllocError> {
         match self {
-            EngineCall::Run => is_run(alloc, host),
-            EngineCall::List => is_shown(alloc, host, FileView::Listing, LISTING),
-            EngineCall::Info => is_shown(alloc, host, FileView::Facts, FACTS),
+            EngineCall::Run => is_run(alloc, host, &ELF),
+            EngineCall::RunHex => is_run(alloc, host, &HEX),
+            EngineCall::List => is_shown(alloc, host, FileView::Listing, EXITS_LISTING),
+            EngineCall::Info => is_shown(alloc, host, FileView::Facts, EXITS_FACTS),
             EngineCall::Replay => is_replayed(alloc, host),
             EngineCall::Debug => is_debugged(alloc, host),
             EngineCall::Schedule => is_scheduled(alloc),
@@ -72,22 +75,6 @@ impl Call for EngineCall {
         }
     }
 }
-
-// An ELF file of 92 bytes with one segment: `addi a7, zero, 93` and `ecall`.
-#[rattlefmt::skip]
-static EXITS: [u8; 92] = [
-    127, 69, 76, 70, 1, 1, 1, 0, 0, 0, 0, 0, 0, 0, 0, 0,
-    2, 0, 243, 0, 1, 0, 0, 0, 0, 0, 1, 0, 52, 0, 0, 0,
-    0, 0, 0, 0, 0, 0, 0, 0, 52, 0, 32, 0, 1, 0, 40, 0,
-    0, 0, 0, 0, 1, 0, 0, 0, 84, 0, 0, 0, 0, 0, 1, 0,
-    0, 0, 1, 0, 8, 0, 0, 0, 8, 0, 0, 0, 5, 0, 0, 0,
-    4, 0, 0, 0, 147, 8, 208, 5, 115, 0, 0, 0,
-];
-
-const FACTS: &str = "entry 00010000\nsegment 00010000 8 r-x\nsymbols none\nlibrary none\n";
-
-const LISTING: &str =
-    "# segment 00010000 8\naddi a7, zero, 93  # 00010000 05d00893\necall  # 00010004 00000073\n";
 
 const ENDS: &str = "hart 0 exited a0 00000000 a1 00000007\nhart 1 running pc 00010000\n";
 
@@ -127,20 +114,43 @@ const UNJUDGED: Expect = Expect {
     exit: Exit::May,
 };
 
-fn is_run<A: Allocator + Copy>(alloc: A, host: Global) -> Result<bool, AllocError> {
-    let mut program = MemorySource::new(&EXITS);
-    let mut choices = MemorySource::new(b"0 0");
+// A program, the choices of two harts with the inputs 7 and 9, and their ends.
+struct Run {
+    form: ProgramForm,
+    program: &'static [u8],
+    choices: &'static [u8],
+    ends: &'static str,
+}
+
+const ELF: Run = Run {
+    form: ProgramForm::Elf,
+    program: &EXITS,
+    choices: b"0 0",
+    ends: ENDS,
+};
+
+// Each hart stores its input at one address, loads the word that is there, and exits with it.
+const HEX: Run = Run {
+    form: ProgramForm::Hex,
+    program: b"000112B7 00B2A023 0002A503 05D00893 00000073",
+    choices: b"0 0 1 1 0 0 0 1 1 1",
+    ends: "hart 0 exited a0 00000009 a1 00000007\nhart 1 exited a0 00000009 a1 00000009\n",
+};
+
+fn is_run<A: Allocator + Copy>(alloc: A, host: Global, run: &Run) -> Result<bool, AllocError> {
+    let mut program = MemorySource::new(run.program);
+    let mut choices = MemorySource::new(run.choices);
     let mut sink = MemorySink::new(host);
     let answer = run_engine(
         alloc,
-        ProgramForm::Elf,
+        run.form,
         &[7, 9],
         UNJUDGED,
         &mut program,
         &mut choices,
     );
     let ending = deliver(&mut sink, answer);
-    answer_of(end_of_run(ending), sink.bytes(), ENDS)
+    answer_of(end_of_run(ending), sink.bytes(), run.ends)
 }
 
 fn is_shown<A: Allocator + Copy>(

@@ -7,7 +7,7 @@ use mem_flat::FlatStore;
 use mem_paged::PageStore;
 use mem_store::{FromImage, Store, StoreFault};
 use std::alloc::{AllocError, Allocator, Global};
-use test_images::{PROGRAM_START, Part, image_of};
+use test_images::{PROGRAM_START, Part, bytes_of, image_of};
 use test_refusing::{Call, tried};
 
 // A call.
@@ -40,74 +40,19 @@ const CALLS: [(&str, FileCall); 10] = [
 ];
 
 // A file of 232 bytes: one segment with `ecall`, a symbol table with one symbol, and its names.
+#[rattlefmt::skip]
 const WORDS: [u32; 58] = [
-    0x464c_457f,
-    0x0001_0101,
-    0,
-    0,
-    0x00f3_0002,
-    1,
-    0x0001_0000,
-    52,
-    84,
-    0, // the entry; one program header at 52, three sections at 84
-    0x0020_0034,
-    0x0028_0001,
-    3, // the sizes of the headers
-    1,
-    228,
-    0x0001_0000,
-    0,
-    4,
-    4,
-    5,
-    4, // the segment, at 52
-    0,
-    0,
-    0,
-    0,
-    0,
-    0,
-    0,
-    0,
-    0,
-    0, // the null section, at 84
-    0,
-    2,
-    0,
-    0,
-    204,
-    16,
-    2,
-    0,
-    4,
-    16, // the symbol table, at 124
-    0,
-    3,
-    0,
-    0,
-    220,
-    8,
-    0,
-    0,
-    1,
-    0, // its names, at 164
-    1,
-    0x0001_0000,
-    0,
-    0, // "end", at 204
-    0x646e_6500,
-    0, // the names, at 220
+    // the entry; one program header at 52, three sections at 84
+    0x464c_457f, 0x0001_0101, 0, 0, 0x00f3_0002, 1, 0x0001_0000, 52, 84, 0,
+    0x0020_0034, 0x0028_0001, 3, // the sizes of the headers
+    1, 228, 0x0001_0000, 0, 4, 4, 5, 4, // the segment, at 52
+    0, 0, 0, 0, 0, 0, 0, 0, 0, 0, // the null section, at 84
+    0, 2, 0, 0, 204, 16, 2, 0, 4, 16, // the symbol table, at 124
+    0, 3, 0, 0, 220, 8, 0, 0, 1, 0, // its names, at 164
+    1, 0x0001_0000, 0, 0, // "end", at 204
+    0x646e_6500, 0, // the names, at 220
     0x0000_0073, // the text, at 228
 ];
-
-fn file<A: Allocator>(alloc: A) -> Result<Vec<u8, A>, AllocError> {
-    let mut bytes = Vec::new(alloc);
-    for word in WORDS {
-        bytes.extend_from_slice(&word.to_le_bytes())?;
-    }
-    Ok(bytes)
-}
 
 impl Call for FileCall {
     fn answer<A: Allocator + Copy>(&self, alloc: A, _host: Global) -> Result<bool, AllocError> {
@@ -127,7 +72,7 @@ impl Call for FileCall {
 }
 
 fn is_loaded<A: Allocator + Copy>(alloc: A) -> Result<bool, AllocError> {
-    let bytes = file(alloc)?;
+    let bytes = bytes_of(alloc, &WORDS)?;
     match load(alloc, &bytes) {
         Ok(image) => Ok(image.segments().len() == 1),
         Err(ElfFault::Memory) => Err(AllocError),
@@ -136,7 +81,7 @@ fn is_loaded<A: Allocator + Copy>(alloc: A) -> Result<bool, AllocError> {
 }
 
 fn has_symbols<A: Allocator + Copy>(alloc: A) -> Result<bool, AllocError> {
-    let bytes = file(alloc)?;
+    let bytes = bytes_of(alloc, &WORDS)?;
     match symbols(alloc, &bytes) {
         Ok(found) => Ok(found.len() == 1),
         Err(SymFault::Memory) => Err(AllocError),
@@ -145,19 +90,10 @@ fn has_symbols<A: Allocator + Copy>(alloc: A) -> Result<bool, AllocError> {
 }
 
 // `ecall` at 0x10000, and four bytes that may be written at 0x11000.
+#[rattlefmt::skip]
 const TWO_SEGMENTS: [Part; 2] = [
-    Part {
-        base: 0x0001_0000,
-        size: 4,
-        flags: 5,
-        bytes: &[0x73, 0, 0, 0],
-    },
-    Part {
-        base: 0x0001_1000,
-        size: 4,
-        flags: 6,
-        bytes: &[1],
-    },
+    Part { base: 0x0001_0000, size: 4, flags: 5, bytes: &[0x73, 0, 0, 0] },
+    Part { base: 0x0001_1000, size: 4, flags: 6, bytes: &[1] },
 ];
 
 fn is_image<A: Allocator + Copy>(alloc: A) -> Result<bool, AllocError> {

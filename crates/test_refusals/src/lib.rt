@@ -1,4 +1,5 @@
-//! Tests of want of memory: each call that asks for memory is made with each of its requests refused in turn, once and for good.
+//! Tests of running out of memory: each call that allocates is made with each of its requests
+//! refused in turn, once and for good.
 #![tactic(auto)]
 
 #[cfg(test)]

@@ -65,24 +65,26 @@ fn has_turns<A: Allocator + Copy>(alloc: A) -> Result<bool, AllocError> {
 
 fn are_choices_printed<A: Allocator + Copy>(alloc: A) -> Result<bool, AllocError> {
     let text = print_choices(alloc, &CHOICES)?;
-    Ok(text.as_str() == "0 0 1!\n")
+    Ok(text.as_str() == "3 3 0! 7 7 0\n")
 }
 
 fn are_runs_printed<A: Allocator + Copy>(alloc: A) -> Result<bool, AllocError> {
     let text = print_runs(alloc, &CHOICES)?;
-    Ok(text.as_str() == "0*2 1!\n")
+    Ok(text.as_str() == "3*2 0! 7*2 0\n")
 }
 
 fn has_chosen<A: Allocator + Copy>(alloc: A) -> Result<bool, AllocError> {
     let mut chosen = Chosen::new();
-    chosen.add(31);
+    for hart in 0..32usize {
+        chosen.add(hart);
+    }
     let choices = chosen.choices(alloc)?;
-    Ok(choices.len() == 1)
+    Ok(choices.len() == 32)
 }
 
 fn is_history_printed<A: Allocator + Copy>(alloc: A) -> Result<bool, AllocError> {
     let text = print_history(alloc, &ENTRIES)?;
-    Ok(text.as_str() == "0+3 1+0!\n")
+    Ok(text.as_str() == "0+3 1+4294967295! 1+0 0+1\n")
 }
 
 const TURN: Choice = Choice {
@@ -90,26 +92,22 @@ const TURN: Choice = Choice {
     refuse: false,
 };
 
-const CHOICES: [Choice; 3] = [
-    TURN,
-    TURN,
-    Choice {
-        hart: 1,
-        refuse: true,
-    },
+#[rattlefmt::skip]
+const CHOICES: [Choice; 6] = [
+    Choice { hart: 3, refuse: false },
+    Choice { hart: 3, refuse: false },
+    Choice { hart: 0, refuse: true },
+    Choice { hart: 7, refuse: false },
+    Choice { hart: 7, refuse: false },
+    Choice { hart: 0, refuse: false },
 ];
 
-const ENTRIES: [Entry; 2] = [
-    Entry {
-        hart: 0,
-        local: 3,
-        refuse: false,
-    },
-    Entry {
-        hart: 1,
-        local: 0,
-        refuse: true,
-    },
+#[rattlefmt::skip]
+const ENTRIES: [Entry; 4] = [
+    Entry { hart: 0, local: 3, refuse: false },
+    Entry { hart: 1, local: 4_294_967_295, refuse: true },
+    Entry { hart: 1, local: 0, refuse: false },
+    Entry { hart: 0, local: 1, refuse: false },
 ];
 
 // A machine with two harts, at its start.
@@ -183,8 +181,9 @@ fn is_read<A: Allocator + Copy>(alloc: A) -> Result<bool, AllocError> {
 }
 
 fn is_history<A: Allocator + Copy>(alloc: A) -> Result<bool, AllocError> {
-    match read_history(alloc, b"0+1 1+0 0+2! 1+1 0+0 1+3 1+1! 0+0 1+4", 2) {
-        Ok(entries) => Ok(entries.len() == 9),
+    let text = "0+1 1+0 0+2! 1+1 0+0 1+3 1+1! 0+0 1+4 0+9 0+0 0+1 1+2 1+0 1+1 0+0 1+5 0+6 1+7";
+    match read_history(alloc, text.as_bytes(), 2) {
+        Ok(entries) => Ok(entries.len() == 19),
         Err(HistoryFault::Memory) => Err(AllocError),
         Err(_) => Ok(false),
     }

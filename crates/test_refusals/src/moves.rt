@@ -124,9 +124,12 @@ fn placed<A: Allocator + Copy>(alloc: A, place: Place) -> Result<Debugger<A>, Al
     }
 }
 
-// Whether a debugger stands at a place to which it has moved.
+// Whether a debugger stands at a place to which it has moved, and its first hart at the jump.
 fn is_at<A: Allocator + Copy>(debugger: &Debugger<A>, place: Place) -> bool {
-    debugger.position() == place.position && debugger.cost() == place.cost
+    let pc = debugger.machine().ends().first().map(|hart| hart.pc);
+    debugger.position() == place.position
+        && debugger.cost() == place.cost
+        && pc == Some(0x0001_0008)
 }
 
 impl Call for MoveCall {
@@ -135,9 +138,20 @@ impl Call for MoveCall {
         let mut debugger = placed(alloc, place)?;
         match make(alloc, &mut debugger, *self) {
             Ok(is_full) => Ok(is_full),
-            Err(MoveFault::Memory) if is_at(&debugger, place) => Err(AllocError),
+            Err(MoveFault::Memory) if is_at(&debugger, place) => {
+                answer_of_second(make(alloc, &mut debugger, *self))
+            }
             Err(_) => Ok(false),
         }
+    }
+}
+
+// Whether a call that was refused memory gives its full answer when it is made again, or is refused
+// memory again.
+fn answer_of_second(made: Result<bool, MoveFault>) -> Result<bool, AllocError> {
+    match made {
+        Ok(true) | Err(MoveFault::Memory) => Err(AllocError),
+        _ => Ok(false),
     }
 }
 

@@ -1,8 +1,10 @@
 //! Calls that make statements, programs, listings and files of texts.
-use asm_assemble::{Program, assemble};
+use asm_assemble::Program;
 use asm_lex::{TextFault, scan_text, tokens};
-use asm_parse::{AsmFault, statements};
+use asm_parse::statements;
 use asm_round_trip::{list, list_source};
+use asm_statement::AsmFault;
+use cmd_asm::assemble;
 use elf_write::write_elf;
 use object_library::{Kind, source};
 use std::alloc::{AllocError, Allocator, Global};

@@ -1,23 +1,27 @@
 //! What no clause says of `shrink`: worked programs, whose only minimal failing lists were found by hand; failing devices.
 use crate::worked::{CROSSED, LOST, NEEDS_SC, OWN_INPUT, TWO_FAULTS, file_of};
 use byte_io::{Failing, FullSink, MemorySink, MemorySource, Status};
-use cmd_shrink::shrink_engine;
+use cmd_shrink::{Unheard, shrink_engine};
 use object_library::Kind;
 use outcome::{Exit, Expect};
 use program_open::{CommandFault, Input, deliver};
 use sched_draw::{Draw, Schedule, list_schedule};
 use sched_text::{print_choices, read_choices};
-use shrink_list::Unheard;
 use std::alloc::Global;
 
-// A program, its inputs, what is expected of its runs, a choice text, and the text that is left of it.
+// A program, its inputs, what is expected of its runs, a choice text, how many reads of it pass,
+// and the text that is left of it or the fault.
 struct Row {
     source: &'static str,
     inputs: &'static [u32],
     expect: Expect,
     given: &'static str,
-    left: &'static str,
+    passed: u64,
+    answer: Result<&'static str, CommandFault>,
 }
+
+// All reads pass.
+const ALL: u64 = u64::MAX;
 
 // No hart may fault, but it may run.
 const NO_FAULT: Expect = Expect {
@@ -37,102 +41,68 @@ const AGREED: Expect = Expect {
     exit: Exit::May,
 };
 
-// Hart 0 needs 14 steps to its EBREAK, hart 1 nine to its AMO, all of them between hart 0's load and its store.
-const UPDATE_LOST: Row = Row {
-    source: LOST,
-    inputs: &[2, 2],
-    expect: NO_FAULT,
-    given: "0*3 1*12 0*14 1*3",
-    left: "0*3 1*9 0*11\n",
-};
-
-// What stands behind the failure goes, and so do marks of steps that are no store-conditionals.
-const MARKS_GO: Row = Row {
-    source: LOST,
-    inputs: &[2, 2],
-    expect: NO_FAULT,
-    given: "0! 0*2 1!*5 1*7 0*14 1 0! 1!*3 0!*40",
-    left: "0*3 1*9 0*11\n",
-};
-
-// Hart 0 alone would stop after as many steps, but at its EBREAK: hart 1's store is needed for the fault that the given run has.
-const SAME_FAULT: Row = Row {
-    source: TWO_FAULTS,
-    inputs: &[0, 0],
-    expect: NO_FAULT,
-    given: "1*6 0*8",
-    left: "1*4 0*6\n",
-};
-
-// The mark of the store-conditional is the one that is needed.
-const ONE_MARK: Row = Row {
-    source: NEEDS_SC,
-    inputs: &[0, 0],
-    expect: NO_FAULT,
-    given: "1 0!*6 1!*9 0!*3",
-    left: "0*3 0! 0*2\n",
-};
-
-// Both harts have to exit for the rule to be broken.
-const BROKEN_RULE: Row = Row {
-    source: OWN_INPUT,
-    inputs: &[7, 9],
-    expect: AGREED,
-    given: "0!*5 1*6",
-    left: "0*4 1*4\n",
-};
-
-// Each hart has taken the lock that the other wants. Before the last of these steps either could still take both.
-const DEADLOCK: Row = Row {
-    source: CROSSED,
-    inputs: &[0, 0],
-    expect: ALL_EXIT,
-    given: "0*9 1!*20",
-    left: "0*8 1*8\n",
-};
-
-// A fault counts before a hang.
-const FAULT_FIRST: Row = Row {
-    source: LOST,
-    inputs: &[2, 2],
-    expect: ALL_EXIT,
-    given: "0*3 1*12 0*14",
-    left: "0*3 1*9 0*11\n",
-};
-
-const WORKED: [Row; 7] = [
-    UPDATE_LOST,
-    MARKS_GO,
-    SAME_FAULT,
-    ONE_MARK,
-    BROKEN_RULE,
-    DEADLOCK,
-    FAULT_FIRST,
+#[rattlefmt::skip]
+const ROWS: [Row; 15] = [
+    // Hart 0 needs 14 steps to its EBREAK, hart 1 nine to its AMO, all of them between hart 0's
+    // load and its store.
+    Row { source: LOST, inputs: &[2, 2], expect: NO_FAULT, given: "0*3 1*12 0*14 1*3", passed: ALL,
+        answer: Ok("0*3 1*9 0*11\n") },
+    // What stands behind the failure goes, and so do marks of steps that are no store-conditionals.
+    Row { source: LOST, inputs: &[2, 2], expect: NO_FAULT,
+        given: "0! 0*2 1!*5 1*7 0*14 1 0! 1!*3 0!*40", passed: ALL, answer: Ok("0*3 1*9 0*11\n") },
+    // Hart 0 alone would stop after as many steps, but at its EBREAK: hart 1's store is needed for
+    // the fault that the given run has.
+    Row { source: TWO_FAULTS, inputs: &[0, 0], expect: NO_FAULT, given: "1*6 0*8", passed: ALL,
+        answer: Ok("1*4 0*6\n") },
+    // The mark of the store-conditional is the one that is needed.
+    Row { source: NEEDS_SC, inputs: &[0, 0], expect: NO_FAULT, given: "1 0!*6 1!*9 0!*3",
+        passed: ALL, answer: Ok("0*3 0! 0*2\n") },
+    // Both harts have to exit for the rule to be broken.
+    Row { source: OWN_INPUT, inputs: &[7, 9], expect: AGREED, given: "0!*5 1*6", passed: ALL,
+        answer: Ok("0*4 1*4\n") },
+    // Each hart has taken the lock that the other wants. Before the last of these steps either
+    // could still take both.
+    Row { source: CROSSED, inputs: &[0, 0], expect: ALL_EXIT, given: "0*9 1!*20", passed: ALL,
+        answer: Ok("0*8 1*8\n") },
+    // A fault counts before a hang.
+    Row { source: LOST, inputs: &[2, 2], expect: ALL_EXIT, given: "0*3 1*12 0*14", passed: ALL,
+        answer: Ok("0*3 1*9 0*11\n") },
+    // What doesn't fail, where too few steps are no hang, and what is refused.
+    Row { source: LOST, inputs: &[2, 2], expect: NO_FAULT, given: "0*15 1*15", passed: ALL,
+        answer: Err(CommandFault::NothingFails) },
+    Row { source: LOST, inputs: &[2, 2], expect: NO_FAULT, given: "", passed: ALL,
+        answer: Err(CommandFault::NothingFails) },
+    Row { source: CROSSED, inputs: &[0, 0], expect: ALL_EXIT, given: "0*8 1*6", passed: ALL,
+        answer: Err(CommandFault::NothingFails) },
+    Row { source: OWN_INPUT, inputs: &[7, 9], expect: NO_FAULT, given: "0*5 1*6", passed: ALL,
+        answer: Err(CommandFault::NothingFails) },
+    Row { source: OWN_INPUT, inputs: &[7, 7], expect: AGREED, given: "0*5 1*6", passed: ALL,
+        answer: Err(CommandFault::NothingFails) },
+    Row { source: LOST, inputs: &[], expect: NO_FAULT, given: "0 2", passed: ALL,
+        answer: Err(CommandFault::NoHarts) },
+    Row { source: LOST, inputs: &[2, 2], expect: NO_FAULT, given: "0 2", passed: ALL,
+        answer: Err(CommandFault::NoHart(2)) },
+    Row { source: TWO_FAULTS, inputs: &[0, 0], expect: NO_FAULT, given: "1*6 0*8", passed: 0,
+        answer: Err(CommandFault::Read(Input::Choices)) },
 ];
-
-// What is shrunk, and how many reads of the choices pass.
-#[derive(Clone, Copy)]
-struct Given {
-    source: &'static str,
-    inputs: &'static [u32],
-    expect: Expect,
-    passed: u64,
-}
 
 // What a shrinking of these choices answers, and what it has written; none for want of memory.
 fn shrunk(
     alloc: Global,
-    given: Given,
+    source: &str,
+    inputs: &[u32],
+    expect: Expect,
     choices: &[u8],
+    passed: u64,
 ) -> Option<(Result<Status, CommandFault>, MemorySink<Global>)> {
-    let file = file_of(alloc, given.source)?;
+    let file = file_of(alloc, source)?;
     let mut program = MemorySource::new(&file);
-    let mut choices = Failing::new(MemorySource::new(choices), given.passed);
+    let mut choices = Failing::new(MemorySource::new(choices), passed);
     let mut sink = MemorySink::new(alloc);
     let answer = shrink_engine(
         alloc,
-        given.inputs,
-        given.expect,
+        inputs,
+        expect,
         &mut program,
         &mut choices,
         &mut Unheard,
@@ -141,64 +111,20 @@ fn shrunk(
     Some((ending, sink))
 }
 
-// Whether this text is left of a row.
-fn is_left(alloc: Global, row: &Row) -> Option<bool> {
-    let given = Given {
-        source: row.source,
-        inputs: row.inputs,
-        expect: row.expect,
-        passed: u64::MAX,
-    };
-    let (ending, sink) = shrunk(alloc, given, row.given.as_bytes())?;
-    Some(ending == Ok(Status::Done) && sink.bytes() == row.left.as_bytes())
+// Whether this text is left of a row; or it is refused so, and nothing is written.
+fn is_answered(alloc: Global, row: &Row) -> Option<bool> {
+    let given = row.given.as_bytes();
+    let (ending, sink) = shrunk(alloc, row.source, row.inputs, row.expect, given, row.passed)?;
+    Some(match row.answer {
+        Ok(left) => ending == Ok(Status::Done) && sink.bytes() == left.as_bytes(),
+        Err(fault) => ending == Err(fault) && sink.bytes().is_empty(),
+    })
 }
 
 #[test]
-fn worked_lists_are_shrunk(rt: HostRuntime) {
-    for row in &WORKED {
-        let given = row.given;
-        assert!(rt; is_left(rt.alloc(), row) == Some(true), "{given}");
-    }
-}
-
-// What is refused, and the fault.
-struct Refused {
-    given: Given,
-    choices: &'static str,
-    fault: CommandFault,
-}
-
-// Too few steps are no hang.
-#[rattlefmt::skip]
-const REFUSED: [Refused; 8] = [
-    Refused { given: Given { source: LOST, inputs: &[2, 2], expect: NO_FAULT, passed: u64::MAX }, choices: "0*15 1*15",
-        fault: CommandFault::NothingFails },
-    Refused { given: Given { source: LOST, inputs: &[2, 2], expect: NO_FAULT, passed: u64::MAX }, choices: "",
-        fault: CommandFault::NothingFails },
-    Refused { given: Given { source: CROSSED, inputs: &[0, 0], expect: ALL_EXIT, passed: u64::MAX }, choices: "0*8 1*6",
-        fault: CommandFault::NothingFails },
-    Refused { given: Given { source: OWN_INPUT, inputs: &[7, 9], expect: NO_FAULT, passed: u64::MAX }, choices: "0*5 1*6",
-        fault: CommandFault::NothingFails },
-    Refused { given: Given { source: OWN_INPUT, inputs: &[7, 7], expect: AGREED, passed: u64::MAX }, choices: "0*5 1*6",
-        fault: CommandFault::NothingFails },
-    Refused { given: Given { source: LOST, inputs: &[], expect: NO_FAULT, passed: u64::MAX }, choices: "0 2",
-        fault: CommandFault::NoHarts },
-    Refused { given: Given { source: LOST, inputs: &[2, 2], expect: NO_FAULT, passed: u64::MAX }, choices: "0 2",
-        fault: CommandFault::NoHart(2) },
-    Refused { given: Given { source: TWO_FAULTS, inputs: &[0, 0], expect: NO_FAULT, passed: 0 }, choices: "1*6 0*8",
-        fault: CommandFault::Read(Input::Choices) },
-];
-
-// Whether a shrinking is refused so, and nothing is written.
-fn is_refused(alloc: Global, row: &Refused) -> Option<bool> {
-    let (ending, sink) = shrunk(alloc, row.given, row.choices.as_bytes())?;
-    Some(ending == Err(row.fault) && sink.bytes().is_empty())
-}
-
-#[test]
-fn what_does_not_fail_or_is_not_read_is_refused(rt: HostRuntime) {
-    for (number, row) in REFUSED.iter().enumerate() {
-        assert!(rt; is_refused(rt.alloc(), row) == Some(true), "{number}");
+fn worked_lists_are_shrunk_or_refused(rt: HostRuntime) {
+    for (number, row) in ROWS.iter().enumerate() {
+        assert!(rt; is_answered(rt.alloc(), row) == Some(true), "{number}");
     }
 }
 
@@ -238,13 +164,7 @@ fn seeded_text(alloc: Global, seed: u64) -> Option<String<Global>> {
 // How many choices are left of a seed's, where updates are lost under it.
 fn left_of(alloc: Global, seed: u64) -> Option<usize> {
     let text = seeded_text(alloc, seed)?;
-    let given = Given {
-        source: LOST,
-        inputs: &[2, 2],
-        expect: NO_FAULT,
-        passed: u64::MAX,
-    };
-    let (ending, sink) = shrunk(alloc, given, text.as_bytes())?;
+    let (ending, sink) = shrunk(alloc, LOST, &[2, 2], NO_FAULT, text.as_bytes(), ALL)?;
     if ending.is_err() {
         return None;
     }

@@ -1,4 +1,4 @@
-//! Tests of `shrink`: worked programs, a list of choices over a plain test, failing devices, each request refused in turn.
+//! Tests of `cmd_shrink`.
 #![tactic(auto)]
 
 #[cfg(test)]

@@ -1,8 +1,8 @@
 //! Lists shrunk over a plain test, through the bound.
 ghost use Rattle.std.specs.Prelude.{◌≤◌, length};
 
+use cmd_shrink::{ChoicesLeft, Failing, shrink_choices};
 use machine::Choice;
-use shrink_list::{ChoicesLeft, Failing, shrink_choices};
 use std::alloc::{AllocError, Global};
 
 // A list fails that has so many choices or more.
@@ -36,27 +36,13 @@ impl ChoicesLeft for Noted {
     }
 }
 
+#[rattlefmt::skip]
 const GIVEN: [Choice; 5] = [
-    Choice {
-        hart: 0,
-        refuse: true,
-    },
-    Choice {
-        hart: 1,
-        refuse: false,
-    },
-    Choice {
-        hart: 2,
-        refuse: true,
-    },
-    Choice {
-        hart: 1,
-        refuse: true,
-    },
-    Choice {
-        hart: 0,
-        refuse: false,
-    },
+    Choice { hart: 0, refuse: true },
+    Choice { hart: 1, refuse: false },
+    Choice { hart: 2, refuse: true },
+    Choice { hart: 1, refuse: true },
+    Choice { hart: 0, refuse: false },
 ];
 
 // Whether three choices are left where three fail, all of them without marks, and it is told so; nothing for want of memory.

@@ -1,10 +1,9 @@
 //! Each request of a shrinking refused in turn, once and for good.
 use crate::worked::{TWO_FAULTS, file_of};
 use byte_io::{MemorySink, MemorySource, Status};
-use cmd_shrink::shrink_engine;
+use cmd_shrink::{Unheard, shrink_engine};
 use outcome::{Exit, Expect};
 use program_open::{CommandFault, deliver};
-use shrink_list::Unheard;
 use std::alloc::{AllocError, Allocator, Global};
 use test_refusing::{Call, Wrong, tried};
 

@@ -1,10 +1,9 @@
-//! Properties without a clause: worked texts, each fault, and out of memory.
-use asm_parse::{
+//! Properties without a clause: worked texts and each fault.
+use asm_parse::statements;
+use asm_statement::{
     AsmFault, Body, Directive, FaultKind, Immediate, Instruction, Section, Statement, Target,
-    statements,
 };
 use std::alloc::{AllocError, Global};
-use test_refusing::Refusing;
 
 // The number of statements of a source; `None` on a fault.
 fn count_of(alloc: Global, source: &str) -> Option<usize> {
@@ -412,31 +411,4 @@ fn second_begins_in_text(alloc: Global) -> Result<bool, AsmFault> {
 #[test]
 fn each_source_begins_in_text(rt: HostRuntime) {
     assert!(rt; second_begins_in_text(rt.alloc()) == Ok(true));
-}
-
-// Seven statements.
-const SEVEN: &str =
-    "a: nop\n.word 1, 2, 3, 4, 5, x\n.ascii \"abcdefghijkl\"\n.globl a, b\n.half 1\nj a";
-
-// Whether seven statements are parsed, or out of memory is reported.
-fn is_told(heap: &Refusing<Global>) -> bool {
-    match statements(heap, [SEVEN].as_slice()) {
-        Ok(all) => all.len() == 7,
-        Err(fault) => fault == AsmFault::Memory && heap.refused(),
-    }
-}
-
-#[test]
-fn each_refused_request_is_told(rt: HostRuntime) -> Result<(), u64> {
-    for passed in 0..100u64 {
-        let heap = Refusing::new(rt.alloc(), passed);
-        if !is_told(&heap) {
-            return Err(passed);
-        }
-        if !heap.refused() {
-            assert!(rt; passed > 0, "no memory is asked for");
-            return Ok(());
-        }
-    }
-    Err(100)
 }

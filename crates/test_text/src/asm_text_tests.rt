@@ -243,32 +243,6 @@ fn faults_have_texts(rt: HostRuntime) {
     }
 }
 
-// A text of 26 tokens.
-const LETTERS: &str = "a b c d e f g h i j k l m n o p q r s t u v w x y z";
-
-// Whether 26 tokens are read, or out of memory is reported.
-fn is_told(heap: &Refusing<Global>) -> bool {
-    match tokens(heap, LETTERS) {
-        Ok(all) => all.len() == 26,
-        Err(fault) => fault == TextFault::Memory && heap.refused(),
-    }
-}
-
-#[test]
-fn each_refused_request_is_told(rt: HostRuntime) -> Result<(), u64> {
-    for passed in 0..100u64 {
-        let heap = Refusing::new(rt.alloc(), passed);
-        if !is_told(&heap) {
-            return Err(passed);
-        }
-        if !heap.refused() {
-            assert!(rt; passed > 0, "no memory is asked for");
-            return Ok(());
-        }
-    }
-    Err(100)
-}
-
 // A lexeme of each kind, and then a fault.
 const EACH_LEXEME: &str = "a 1 1b 1f \"b\" , ( ) + - % : ; @\n08";
 

@@ -1,19 +1,14 @@
-//! What no clause says of books: that segments are taken where memory is left, worked histories, and refused memory.
+//! What no clause says of books: that segments are taken where memory is left; worked histories.
 use crate::images::{LR_SC, STORE_AND_LOAD, SWAP, book_of};
 use hart_step::HartState;
 use history::print_history;
-use std::alloc::{Allocator, Global};
-use test_programs::Program;
-use test_refusing::Refusing;
+use std::alloc::Global;
+use test_images::Program;
 use thread_book::{Book, PresentFault, Segment};
 
 // Lets a hart run until it stops; each segment is as long as it can be. The step behind the local ones of one entry, told by its
 // place in the history, is refused its store-conditional.
-fn run_out<A: Allocator + Copy>(
-    book: &mut Book<A>,
-    hart: u32,
-    refused: usize,
-) -> Result<(), PresentFault> {
+fn run_out(book: &mut Book<Global>, hart: u32, refused: usize) -> Result<(), PresentFault> {
     let Ok(mut segment) = book.segment(hart) else {
         return Err(PresentFault::NoHart);
     };
@@ -42,39 +37,16 @@ struct Run {
     status: u32,
 }
 
+#[rattlefmt::skip]
 const RUNS: [Run; 4] = [
-    Run {
-        program: SWAP,
-        inputs: &[7, 9],
-        harts: &[1, 0],
-        refused: NONE,
-        history: "1+3 1+1 1+4 0+3 0+1 0+4 0+3\n",
-        status: 9,
-    },
-    Run {
-        program: LR_SC,
-        inputs: &[6],
-        harts: &[0],
-        refused: 2,
-        history: "0+3 0+1 0+1! 0+1 0+1 0+4 0+2\n",
-        status: 6,
-    },
-    Run {
-        program: Program::Writable(&STORE_AND_LOAD),
-        inputs: &[5],
-        harts: &[0],
-        refused: NONE,
-        history: "0+0 0+0 0+0 0+0 0+0\n",
-        status: 5,
-    },
-    Run {
-        program: Program::Writable(&STORE_AND_LOAD),
-        inputs: &[5, 8],
-        harts: &[1, 0],
-        refused: NONE,
-        history: "1+0 1+0 1+0 1+0 1+0 0+0 0+0 0+0 0+0 0+0\n",
-        status: 5,
-    },
+    Run { program: SWAP, inputs: &[7, 9], harts: &[1, 0], refused: NONE,
+        history: "1+3 1+1 1+4 0+3 0+1 0+4 0+3\n", status: 9 },
+    Run { program: LR_SC, inputs: &[6], harts: &[0], refused: 2,
+        history: "0+3 0+1 0+1! 0+1 0+1 0+4 0+2\n", status: 6 },
+    Run { program: Program::Writable(&STORE_AND_LOAD), inputs: &[5], harts: &[0], refused: NONE,
+        history: "0+0 0+0 0+0 0+0 0+0\n", status: 5 },
+    Run { program: Program::Writable(&STORE_AND_LOAD), inputs: &[5, 8], harts: &[1, 0],
+        refused: NONE, history: "1+0 1+0 1+0 1+0 1+0 0+0 0+0 0+0 0+0 0+0\n", status: 5 },
 ];
 
 // The book of a run; None where something is refused.
@@ -138,46 +110,4 @@ fn is_presented_within_limits(alloc: Global) -> Option<bool> {
 #[test]
 fn a_segment_stops_at_its_limit(rt: HostRuntime) {
     assert!(rt; is_presented_within_limits(rt.alloc()) == Some(true));
-}
-
-// Whether a segment of three local steps is presented: at once, or with a request refused at the second try, all being as it was.
-fn is_presented<A: Allocator + Copy>(
-    heap: &Refusing<Global>,
-    book: &mut Book<A>,
-    segment: &mut Segment<A>,
-) -> bool {
-    if let Err(fault) = book.present(segment) {
-        let is_told = fault == PresentFault::Memory && heap.refused();
-        let is_kept = book.history().is_empty() && segment.local() == 3;
-        if !is_told || !is_kept || book.present(segment) != Ok(()) {
-            return false;
-        }
-    }
-    book.history().len() == 1
-}
-
-// Whether a book is made and a segment presented, or want of memory is told.
-fn is_told(heap: &Refusing<Global>) -> bool {
-    let Some(mut book) = book_of(heap, SWAP, &[7, 9]) else {
-        return heap.refused();
-    };
-    let Ok(mut segment) = book.segment(0) else {
-        return false;
-    };
-    segment.advance(u32::MAX);
-    is_presented(heap, &mut book, &mut segment)
-}
-
-#[test]
-fn each_refused_request_changes_nothing(rt: HostRuntime) -> Result<(), u64> {
-    for passed in 0..400u64 {
-        let heap = Refusing::new(rt.alloc(), passed);
-        if !is_told(&heap) {
-            return Err(passed);
-        }
-        if !heap.refused() {
-            return Ok(());
-        }
-    }
-    Err(400)
 }

@@ -2,7 +2,7 @@
 use machine::Inputs;
 use object_library::Kind;
 use std::alloc::Allocator;
-use test_programs::{Program, program_image};
+use test_images::{Program, program_image};
 use thread_book::Book;
 
 /// Consensus of two harts by `amoswap.w`.

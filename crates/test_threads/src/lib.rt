@@ -1,4 +1,5 @@
-//! Tests of runs in which a hart's local steps are taken apart from the others' steps: `book`, `hart_threads` and `replays`.
+//! Tests of runs in which a hart takes its local steps apart from the others: `thread_book`,
+//! `thread_run` and `history`.
 #![tactic(auto)]
 
 #[cfg(test)]

@@ -1,5 +1,5 @@
 //! What no clause says of books and seats: that want of memory is told only where a request was refused, once or for good, and leaves all
-//! as it was.
+//! as it was, so that the same call succeeds once memory is back.
 use crate::images::{SWAP, book_of};
 use crate::seat_tests::shared_swap;
 use std::alloc::{AllocError, Allocator, Global};
@@ -15,9 +15,12 @@ fn present_one<A: Allocator + Copy>(
 ) -> Result<bool, AllocError> {
     match book.present(segment) {
         Ok(()) => Ok(book.history().len() == 1 && segment.local() == 0),
-        Err(PresentFault::Memory) if book.history().is_empty() && segment.local() == 3 => Err(
-            AllocError,
-        ),
+        Err(PresentFault::Memory) if book.history().is_empty() && segment.local() == 3 => {
+            match book.present(segment) {
+                Ok(()) | Err(PresentFault::Memory) => Err(AllocError),
+                Err(_) => Ok(false),
+            }
+        }
         Err(_) => Ok(false),
     }
 }
@@ -45,7 +48,10 @@ fn commit_one<A: Allocator + Copy, R: Wait>(
 ) -> Result<bool, AllocError> {
     match seat.commit(rt, shared, false) {
         Ok(()) => Ok(seat.local() == 0),
-        Err(CommitFault::Memory) if seat.local() == 3 => Err(AllocError),
+        Err(CommitFault::Memory) if seat.local() == 3 => match seat.commit(rt, shared, false) {
+            Ok(()) | Err(CommitFault::Memory) => Err(AllocError),
+            Err(_) => Ok(false),
+        },
         Err(_) => Ok(false),
     }
 }

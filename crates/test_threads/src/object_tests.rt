@@ -9,12 +9,10 @@ use mem_flat::FlatStore;
 use object_library::{Kind, Verdict, judge};
 use std::alloc::{AllocError, Allocator, Global};
 use std::sync::Wait;
-use std::sync::atomic::{AtomicU64, Ordering};
-use std::thread;
 use std::thread::Threads;
-use test_programs::Program;
+use test_images::{Holding, Program, pairs_of};
 use thread_book::Book;
-use thread_gate::{Gate, OpenGate};
+use thread_gate::OpenGate;
 
 // How often a hart is chosen at most.
 const BUDGET: u32 = 500;
@@ -78,53 +76,22 @@ struct Object {
 const RUNS: u32 = 1000;
 
 // Objects of consensus.
+#[rattlefmt::skip]
 const CONSENSUS: [Object; 4] = [
-    Object {
-        name: "Swap",
-        kind: Kind::Swap,
-        inputs: &[7, 9],
-        runs: RUNS,
-        bound: 9,
-    },
-    Object {
-        name: "Add",
-        kind: Kind::Add,
-        inputs: &[4, 6],
-        runs: RUNS,
-        bound: 9,
-    },
-    Object {
-        name: "LrSc of four harts",
-        kind: Kind::LrSc,
-        inputs: &[3, 5, 7, 9],
-        runs: RUNS,
-        bound: 9,
-    },
-    Object {
-        name: "LrSc of eight harts",
-        kind: Kind::LrSc,
-        inputs: &[1, 2, 3, 4, 5, 6, 7, 8],
-        runs: RUNS,
-        bound: 9,
-    },
+    Object { name: "Swap", kind: Kind::Swap, inputs: &[7, 9], runs: RUNS, bound: 9 },
+    Object { name: "Add", kind: Kind::Add, inputs: &[4, 6], runs: RUNS, bound: 9 },
+    Object { name: "LrSc of four harts", kind: Kind::LrSc, inputs: &[3, 5, 7, 9], runs: RUNS,
+        bound: 9 },
+    Object { name: "LrSc of eight harts", kind: Kind::LrSc, inputs: &[1, 2, 3, 4, 5, 6, 7, 8],
+        runs: RUNS, bound: 9 },
 ];
 
 // Objects of adopt-commit.
+#[rattlefmt::skip]
 const ADOPT_COMMIT: [Object; 2] = [
-    Object {
-        name: "AdoptCommit",
-        kind: Kind::AdoptCommit,
-        inputs: &[2, 2, 5],
-        runs: RUNS,
-        bound: 9,
-    },
-    Object {
-        name: "Rounds",
-        kind: Kind::Rounds,
-        inputs: &[2, 2, 5],
-        runs: RUNS,
-        bound: 9,
-    },
+    Object { name: "AdoptCommit", kind: Kind::AdoptCommit, inputs: &[2, 2, 5], runs: RUNS,
+        bound: 9 },
+    Object { name: "Rounds", kind: Kind::Rounds, inputs: &[2, 2, 5], runs: RUNS, bound: 9 },
 ];
 
 // An object of as many harts as there may be, each with a thread.
@@ -138,18 +105,6 @@ const ALL_HARTS: Object = Object {
     runs: 50,
     bound: 33,
 };
-
-// Pairs that follow from a number, of harts below a bound, which may not be there, and of low numbers.
-fn pairs_of(number: u32, bound: u32) -> [(u32, u32); 4] {
-    let mut pairs = [(0, 0); 4];
-    let mut drawn = number;
-    for pair in &mut pairs {
-        drawn = drawn.wrapping_mul(1_664_525).wrapping_add(1_013_904_223);
-        let hart = (drawn >> 26).checked_rem(bound).unwrap_or(0);
-        *pair = (hart, (drawn >> 20) % 32);
-    }
-    pairs
-}
 
 // Whether a run that has these choices has the same ends when it is done again, each hart has stopped, and the rule is kept.
 fn is_right(alloc: Global, object: &Object, book: &Book<Global>, choices: &[Choice]) -> bool {
@@ -208,32 +163,6 @@ fn thirty_two_harts_agree(rt: HostRuntime) {
     assert!(rt; broken_run(&rt, rt.alloc(), &ALL_HARTS).is_none());
 }
 
-// How long a hart is held.
-const TURNS: u32 = 10_000_000;
-
-// Holds a hart at its first segment until the others have had so many.
-#[derive(Drop)]
-struct Holding {
-    held: u32,
-    enough: u64,
-    others: AtomicU64,
-}
-
-impl Gate for Holding {
-    fn arrive(&self, hart: u32, _count: u32) {
-        if hart != self.held {
-            self.others.fetch_add(1, Ordering::SeqCst);
-            return;
-        }
-        for _ in 0..TURNS {
-            if self.others.load(Ordering::SeqCst) >= self.enough {
-                return;
-            }
-            thread::yield_now();
-        }
-    }
-}
-
 // A run of two harts.
 const TWO: Order = Order {
     program: SWAP,
@@ -249,11 +178,7 @@ fn all_take<R: Threads + Wait + Sync>(
     held: u32,
     value: u32,
 ) -> Option<bool> {
-    let gate = Holding {
-        held,
-        enough: 3,
-        others: AtomicU64::new(0),
-    };
+    let gate = Holding::new(held, 3);
     let book = run(rt, alloc, &TWO, &gate).ok()?;
     let ends = book.machine().ends();
     Some(
@@ -282,11 +207,7 @@ const FOUR: Order = Order {
 
 // Whether three harts of LrSc go on while one is held, and all stop.
 fn go_on<R: Threads + Wait + Sync>(rt: &R, alloc: Global) -> Option<bool> {
-    let gate = Holding {
-        held: 0,
-        enough: 9,
-        others: AtomicU64::new(0),
-    };
+    let gate = Holding::new(0, 9);
     let book = run(rt, alloc, &FOUR, &gate).ok()?;
     // Of nine segments three at most are not committed yet.
     let are_first = book.history().iter().take(6).all(|entry| entry.hart != 0);

@@ -1,18 +1,12 @@
 //! What no clause says of the harts that a history chooses: that their list is had where memory is left, and each once.
-use history::read_history;
-use history_replay::chosen_harts;
+use history::{chosen_harts, read_history};
 use machine::Choice;
 use std::alloc::Global;
 
+#[rattlefmt::skip]
 const CHOSEN: [Choice; 2] = [
-    Choice {
-        hart: 2,
-        refuse: false,
-    },
-    Choice {
-        hart: 0,
-        refuse: false,
-    },
+    Choice { hart: 2, refuse: false },
+    Choice { hart: 0, refuse: false },
 ];
 
 // Whether a history of two harts chooses each once, in the order of their first entries.

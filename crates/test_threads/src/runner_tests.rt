@@ -2,32 +2,17 @@
 //! memory.
 use crate::images::{LR_SC, STORE_AND_LOAD, SWAP};
 use crate::runs::{Order, run};
-use hart_step::{Hart, HartState};
+use hart_step::HartState;
 use history::print_history;
 use std::alloc::Global;
 use std::sync::Wait;
-use std::sync::atomic::{AtomicU64, Ordering};
-use std::thread;
 use std::thread::Threads;
-use test_programs::{Program, STORE_OVER_NEXT};
+use test_images::{Meeting, Place, Program, STORE_OVER_NEXT, one_value};
 use test_refusing::{Refusing, Shortage};
-use thread_gate::{Gate, OpenGate};
+use thread_gate::OpenGate;
 use thread_run::RunFault;
 
-// What all harts exited with, if they did so with one value.
-fn one_value(harts: &[Hart]) -> Option<u32> {
-    let mut value = None;
-    for hart in harts {
-        let HartState::Exited(status) = hart.state else {
-            return None;
-        };
-        if value.is_some() && value != Some(status) {
-            return None;
-        }
-        value = Some(status);
-    }
-    value
-}
+const STORING: Program = Program::Writable(&STORE_AND_LOAD);
 
 // A run of one hart, the history, and what the hart exits with.
 struct Worked {
@@ -37,95 +22,32 @@ struct Worked {
     value: Option<u32>,
 }
 
+#[rattlefmt::skip]
 const WORKED: [Worked; 8] = [
-    Worked {
-        name: "LrSc, refused once",
-        order: Order {
-            program: LR_SC,
-            inputs: &[6],
-            budget: 100,
-            pairs: &[(0, 7)],
-        },
-        history: "0+3 0+1 0+1! 0+1 0+1 0+4 0+2\n",
-        value: Some(6),
-    },
-    Worked {
-        name: "LrSc, another plan",
-        order: Order {
-            program: LR_SC,
-            inputs: &[6],
-            budget: 100,
-            pairs: &[(0, 6), (1, 7)],
-        },
-        history: "0+3 0+1 0+1 0+4 0+2\n",
-        value: Some(6),
-    },
-    Worked {
-        name: "LrSc, budget 8",
-        order: Order {
-            program: LR_SC,
-            inputs: &[6],
-            budget: 8,
-            pairs: &[(0, 7)],
-        },
-        history: "0+3 0+1 0+1!\n",
-        value: None,
-    },
-    Worked {
-        name: "Swap, budget 0",
-        order: Order {
-            program: SWAP,
-            inputs: &[7],
-            budget: 0,
-            pairs: &[],
-        },
-        history: "",
-        value: None,
-    },
-    Worked {
-        name: "Swap, budget 3",
-        order: Order {
-            program: SWAP,
-            inputs: &[7],
-            budget: 3,
-            pairs: &[],
-        },
-        history: "0+2\n",
-        value: None,
-    },
-    Worked {
-        name: "Swap, budget 4",
-        order: Order {
-            program: SWAP,
-            inputs: &[7],
-            budget: 4,
-            pairs: &[],
-        },
-        history: "0+3\n",
-        value: None,
-    },
-    Worked {
-        name: "store and load",
-        order: Order {
-            program: Program::Writable(&STORE_AND_LOAD),
-            inputs: &[5],
-            budget: 100,
-            pairs: &[],
-        },
-        history: "0+0 0+0 0+0 0+0 0+0\n",
-        value: Some(5),
-    },
-    Worked {
-        name: "store over the next one",
-        order: Order {
-            program: STORE_OVER_NEXT,
-            inputs: &[9],
-            budget: 7,
-            pairs: &[],
-        },
-        history: "0+0 0+0 0+0 0+0 0+0 0+0 0+0\n",
-        value: Some(5),
-    },
+    Worked { name: "LrSc, refused once",
+        order: Order { program: LR_SC, inputs: &[6], budget: 100, pairs: &[(0, 7)] },
+        history: "0+3 0+1 0+1! 0+1 0+1 0+4 0+2\n", value: Some(6) },
+    Worked { name: "LrSc, another plan",
+        order: Order { program: LR_SC, inputs: &[6], budget: 100, pairs: &[(0, 6), (1, 7)] },
+        history: "0+3 0+1 0+1 0+4 0+2\n", value: Some(6) },
+    Worked { name: "LrSc, budget 8",
+        order: Order { program: LR_SC, inputs: &[6], budget: 8, pairs: &[(0, 7)] },
+        history: "0+3 0+1 0+1!\n", value: None },
+    Worked { name: "Swap, budget 0",
+        order: Order { program: SWAP, inputs: &[7], budget: 0, pairs: &[] }, history: "",
+        value: None },
+    Worked { name: "Swap, budget 3",
+        order: Order { program: SWAP, inputs: &[7], budget: 3, pairs: &[] }, history: "0+2\n",
+        value: None },
+    Worked { name: "Swap, budget 4",
+        order: Order { program: SWAP, inputs: &[7], budget: 4, pairs: &[] }, history: "0+3\n",
+        value: None },
+    Worked { name: "store and load",
+        order: Order { program: STORING, inputs: &[5], budget: 100, pairs: &[] },
+        history: "0+0 0+0 0+0 0+0 0+0\n", value: Some(5) },
+    Worked { name: "store over the next one",
+        order: Order { program: STORE_OVER_NEXT, inputs: &[9], budget: 7, pairs: &[] },
+        history: "0+0 0+0 0+0 0+0 0+0 0+0 0+0\n", value: Some(5) },
 ];
 
 // Whether a run leaves its history and its value; None where memory or a thread is refused.
@@ -151,37 +73,16 @@ struct Many {
     values: &'static [u32],
 }
 
+#[rattlefmt::skip]
 const MANY: [Many; 3] = [
-    Many {
-        name: "LrSc",
-        order: Order {
-            program: LR_SC,
-            inputs: &[3, 5, 7, 9],
-            budget: 100,
-            pairs: &[],
-        },
-        values: &[3, 5, 7, 9],
-    },
-    Many {
-        name: "Swap",
-        order: Order {
-            program: SWAP,
-            inputs: &[7, 9],
-            budget: 18,
-            pairs: &[],
-        },
-        values: &[7, 9],
-    },
-    Many {
-        name: "store over the next one",
-        order: Order {
-            program: STORE_OVER_NEXT,
-            inputs: &[7, 9],
-            budget: 7,
-            pairs: &[],
-        },
-        values: &[5],
-    },
+    Many { name: "LrSc",
+        order: Order { program: LR_SC, inputs: &[3, 5, 7, 9], budget: 100, pairs: &[] },
+        values: &[3, 5, 7, 9] },
+    Many { name: "Swap", order: Order { program: SWAP, inputs: &[7, 9], budget: 18, pairs: &[] },
+        values: &[7, 9] },
+    Many { name: "store over the next one",
+        order: Order { program: STORE_OVER_NEXT, inputs: &[7, 9], budget: 7, pairs: &[] },
+        values: &[5] },
 ];
 
 // The one value that a run's harts exit with; None where there is none, or memory or a thread is refused.
@@ -228,35 +129,6 @@ fn no_budget_leaves_the_opening_state(rt: HostRuntime) {
     assert!(rt; is_at_start(&rt, rt.alloc(), &IDLE) == Some(true));
 }
 
-// How long a hart waits for the other one.
-const TURNS: u32 = 10_000_000;
-
-// Holds each of two harts at its first segment until the other one arrives.
-#[derive(Drop)]
-struct Meeting {
-    arrived: [AtomicU64; 2],
-    met: AtomicU64,
-}
-
-impl Gate for Meeting {
-    fn arrive(&self, hart: u32, _count: u32) {
-        if hart >= 2 {
-            return;
-        }
-        if self.arrived[hart as usize].swap(1, Ordering::SeqCst) == 1 {
-            return;
-        }
-        let other = 1 - hart;
-        for _ in 0..TURNS {
-            if self.arrived[other as usize].load(Ordering::SeqCst) == 1 {
-                self.met.fetch_add(1, Ordering::SeqCst);
-                return;
-            }
-            thread::yield_now();
-        }
-    }
-}
-
 // A run of two harts.
 const MEETING: Order = Order {
     program: SWAP,
@@ -267,12 +139,9 @@ const MEETING: Order = Order {
 
 // How many harts of that run meet; None where it is refused.
 fn met<R: Threads + Wait + Sync>(rt: &R, alloc: Global) -> Option<u64> {
-    let gate = Meeting {
-        arrived: [AtomicU64::new(0), AtomicU64::new(0)],
-        met: AtomicU64::new(0),
-    };
+    let gate = Meeting::new(Place::Segment);
     run(rt, alloc, &MEETING, &gate).ok()?;
-    Some(gate.met.load(Ordering::SeqCst))
+    Some(gate.met())
 }
 
 #[test]

@@ -3,7 +3,7 @@ use machine::Inputs;
 use std::alloc::Allocator;
 use std::sync::Wait;
 use std::thread::Threads;
-use test_programs::{Program, plan_of, program_image};
+use test_images::{Program, plan_of, program_image};
 use thread_book::Book;
 use thread_gate::Gate;
 use thread_run::{RunFault, run_threads};

@@ -6,8 +6,7 @@ use history::print_history;
 use object_library::Kind;
 use std::alloc::{Allocator, Global};
 use std::sync::Wait;
-use test_programs::Program;
-use test_refusing::Refusing;
+use test_images::Program;
 use thread_book::SegmentFault;
 use thread_run::{CommitFault, Seat, Shared};
 
@@ -46,23 +45,16 @@ struct TwoSeats {
     history: &'static str,
 }
 
+#[rattlefmt::skip]
 const STALE: TwoSeats = TwoSeats {
-    program: SWAP,
-    inputs: &[7, 9],
-    local: 2,
-    refused: Some(CommitFault::Stale),
-    left: 2,
+    program: SWAP, inputs: &[7, 9], local: 2, refused: Some(CommitFault::Stale), left: 2,
     history: "0+0\n",
 };
 
 // A jump to itself leaves the slot as it was, so that the other seat still fits.
+#[rattlefmt::skip]
 const FITS: TwoSeats = TwoSeats {
-    program: LOOP,
-    inputs: &[7],
-    local: 0,
-    refused: None,
-    left: 0,
-    history: "0+0 0+0\n",
+    program: LOOP, inputs: &[7], local: 0, refused: None, left: 0, history: "0+0 0+0\n",
 };
 
 // Whether two seats of hart 0 are committed, one behind the other, as they are to be.
@@ -104,55 +96,20 @@ struct Across {
     refused: Option<CommitFault>,
 }
 
+#[rattlefmt::skip]
 const ACROSS: [Across; 6] = [
-    Across {
-        name: "the same inputs",
-        inputs: &[7, 9],
-        hart: 0,
-        program: SWAP,
-        others: &[7, 9],
-        refused: None,
-    },
-    Across {
-        name: "another hart's input",
-        inputs: &[7, 9],
-        hart: 1,
-        program: SWAP,
-        others: &[8, 9],
-        refused: None,
-    },
-    Across {
-        name: "another input",
-        inputs: &[7, 9],
-        hart: 0,
-        program: SWAP,
-        others: &[8, 9],
-        refused: Some(CommitFault::Stale),
-    },
-    Across {
-        name: "a hart more",
-        inputs: &[7, 9],
-        hart: 0,
-        program: SWAP,
-        others: &[7, 9, 5],
-        refused: Some(CommitFault::Stale),
-    },
-    Across {
-        name: "no such hart",
-        inputs: &[7, 9],
-        hart: 1,
-        program: SWAP,
-        others: &[7],
-        refused: Some(CommitFault::Stale),
-    },
-    Across {
-        name: "another program",
-        inputs: &[7, 9],
-        hart: 0,
-        program: ADD,
-        others: &[7, 9],
-        refused: Some(CommitFault::Stale),
-    },
+    Across { name: "the same inputs", inputs: &[7, 9], hart: 0, program: SWAP, others: &[7, 9],
+        refused: None },
+    Across { name: "another hart's input", inputs: &[7, 9], hart: 1, program: SWAP, others: &[8, 9],
+        refused: None },
+    Across { name: "another input", inputs: &[7, 9], hart: 0, program: SWAP, others: &[8, 9],
+        refused: Some(CommitFault::Stale) },
+    Across { name: "a hart more", inputs: &[7, 9], hart: 0, program: SWAP, others: &[7, 9, 5],
+        refused: Some(CommitFault::Stale) },
+    Across { name: "no such hart", inputs: &[7, 9], hart: 1, program: SWAP, others: &[7],
+        refused: Some(CommitFault::Stale) },
+    Across { name: "another program", inputs: &[7, 9], hart: 0, program: ADD, others: &[7, 9],
+        refused: Some(CommitFault::Stale) },
 ];
 
 // Whether a seat with two local steps is committed to another book as the row says.
@@ -269,45 +226,4 @@ fn are_two<R: Wait>(rt: &R, alloc: Global) -> Option<bool> {
 #[test]
 fn hart_that_is_not_there_has_no_seat(rt: HostRuntime) {
     assert!(rt; are_two(&rt, rt.alloc()) == Some(true));
-}
-
-// Whether a seat of three local steps is committed: at once, or with a request refused at the second try, being as it was.
-fn is_committed<A: Allocator + Copy, R: Wait>(
-    rt: &R,
-    heap: &Refusing<Global>,
-    shared: &Shared<A>,
-    seat: &mut Seat<A>,
-) -> bool {
-    if let Err(fault) = seat.commit(rt, shared, false) {
-        let is_told = fault == CommitFault::Memory && heap.refused();
-        if !is_told || seat.local() != 3 || seat.commit(rt, shared, false) != Ok(()) {
-            return false;
-        }
-    }
-    seat.local() == 0
-}
-
-// Whether a book is shared and a seat committed, or want of memory is told.
-fn is_told<R: Wait>(rt: &R, heap: &Refusing<Global>) -> bool {
-    let Some(shared) = shared_swap(heap) else {
-        return heap.refused();
-    };
-    let Ok(mut seat) = shared.seat(rt, 0) else {
-        return false;
-    };
-    seat.advance_local(u32::MAX) == 3 && is_committed(rt, heap, &shared, &mut seat)
-}
-
-#[test]
-fn refused_commit_changes_no_seat(rt: HostRuntime) -> Result<(), u64> {
-    for passed in 0..400u64 {
-        let heap = Refusing::new(rt.alloc(), passed);
-        if !is_told(&rt, &heap) {
-            return Err(passed);
-        }
-        if !heap.refused() {
-            return Ok(());
-        }
-    }
-    Err(400)
 }

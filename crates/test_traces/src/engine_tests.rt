@@ -106,61 +106,23 @@ struct Told {
     parts: &'static [&'static str],
 }
 
+#[rattlefmt::skip]
 const TOLD: [Told; 9] = [
-    Told {
-        name: "all",
-        from: 1,
-        to: None,
-        parts: &[HEAD, "1,\"to\":3", AT_START, FIRST, SECOND, THIRD],
-    },
-    Told {
-        name: "from 0",
-        from: 0,
-        to: None,
-        parts: &[HEAD, "1,\"to\":3", AT_START, FIRST, SECOND, THIRD],
-    },
-    Told {
-        name: "from 2",
-        from: 2,
-        to: None,
-        parts: &[HEAD, "2,\"to\":3", AFTER_1, SECOND, THIRD],
-    },
-    Told {
-        name: "to 2",
-        from: 1,
-        to: Some(2),
-        parts: &[HEAD, "1,\"to\":2", AT_START, FIRST, SECOND],
-    },
-    Told {
-        name: "2 alone",
-        from: 2,
-        to: Some(2),
-        parts: &[HEAD, "2,\"to\":2", AFTER_1, SECOND],
-    },
-    Told {
-        name: "from the last",
-        from: 3,
-        to: Some(99),
-        parts: &[HEAD, "3,\"to\":3", AT_END, THIRD],
-    },
-    Told {
-        name: "behind the last",
-        from: 4,
-        to: None,
-        parts: &[HEAD, "4,\"to\":3", AT_END],
-    },
-    Told {
-        name: "far behind the last",
-        from: 9,
-        to: Some(99),
-        parts: &[HEAD, "9,\"to\":8", AT_END],
-    },
-    Told {
-        name: "none",
-        from: 2,
-        to: Some(1),
-        parts: &[HEAD, "2,\"to\":1", AFTER_1],
-    },
+    Told { name: "all", from: 1, to: None,
+        parts: &[HEAD, "1,\"to\":3", AT_START, FIRST, SECOND, THIRD] },
+    Told { name: "from 0", from: 0, to: None,
+        parts: &[HEAD, "1,\"to\":3", AT_START, FIRST, SECOND, THIRD] },
+    Told { name: "from 2", from: 2, to: None,
+        parts: &[HEAD, "2,\"to\":3", AFTER_1, SECOND, THIRD] },
+    Told { name: "to 2", from: 1, to: Some(2),
+        parts: &[HEAD, "1,\"to\":2", AT_START, FIRST, SECOND] },
+    Told { name: "2 alone", from: 2, to: Some(2), parts: &[HEAD, "2,\"to\":2", AFTER_1, SECOND] },
+    Told { name: "from the last", from: 3, to: Some(99),
+        parts: &[HEAD, "3,\"to\":3", AT_END, THIRD] },
+    Told { name: "behind the last", from: 4, to: None, parts: &[HEAD, "4,\"to\":3", AT_END] },
+    Told { name: "far behind the last", from: 9, to: Some(99),
+        parts: &[HEAD, "9,\"to\":8", AT_END] },
+    Told { name: "none", from: 2, to: Some(1), parts: &[HEAD, "2,\"to\":1", AFTER_1] },
 ];
 
 // Whether choices are told so.
@@ -231,55 +193,19 @@ struct Refused {
     fault: CommandFault,
 }
 
+#[rattlefmt::skip]
 const REFUSED: [Refused; 6] = [
-    Refused {
-        run: Run {
-            inputs: &[],
-            words: "05d0089",
-            choices: "x",
-        },
-        fault: CommandFault::BadWord(0),
-    },
-    Refused {
-        run: Run {
-            inputs: &[],
-            words: EXITS,
-            choices: "x",
-        },
-        fault: CommandFault::NoHarts,
-    },
-    Refused {
-        run: Run {
-            inputs: &[0; 33],
-            words: EXITS,
-            choices: "x",
-        },
-        fault: CommandFault::TooManyHarts,
-    },
-    Refused {
-        run: Run {
-            inputs: &[7],
-            words: EXITS,
-            choices: "0 x",
-        },
-        fault: CommandFault::BadChoice(2),
-    },
-    Refused {
-        run: Run {
-            inputs: &[7],
-            words: EXITS,
-            choices: "0*9 1",
-        },
-        fault: CommandFault::NoHart(4),
-    },
-    Refused {
-        run: Run {
-            inputs: &[7],
-            words: EXITS,
-            choices: "0*0",
-        },
-        fault: CommandFault::BadChoice(0),
-    },
+    Refused { run: Run { inputs: &[], words: "05d0089", choices: "x" },
+        fault: CommandFault::BadWord(0) },
+    Refused { run: Run { inputs: &[], words: EXITS, choices: "x" }, fault: CommandFault::NoHarts },
+    Refused { run: Run { inputs: &[0; 33], words: EXITS, choices: "x" },
+        fault: CommandFault::TooManyHarts },
+    Refused { run: Run { inputs: &[7], words: EXITS, choices: "0 x" },
+        fault: CommandFault::BadChoice(2) },
+    Refused { run: Run { inputs: &[7], words: EXITS, choices: "0*9 1" },
+        fault: CommandFault::NoHart(4) },
+    Refused { run: Run { inputs: &[7], words: EXITS, choices: "0*0" },
+        fault: CommandFault::BadChoice(0) },
 ];
 
 // Whether a run is refused so, and nothing is written.

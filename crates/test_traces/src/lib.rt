@@ -1,4 +1,4 @@
-//! Tests of traces: whole outputs of worked programs; what is refused; each request refused in turn.
+//! Tests of `cmd_trace`.
 #![tactic(auto)]
 
 #[cfg(test)]

@@ -4,7 +4,7 @@ use Rattle.std.proofs.lemmas.List.Splits.{slice_split_at, slice_split_none, slic
 use Rattle.std.proofs.lemmas.List.Elements.{All-nil, All-cons, All-append}
 use Rattle.std.specs.List.{All, slice_split, onto_first}
 use Rattle.std.specs.declared.result.Result.{Result}
-use Rattle.text_items.specs.Items.{is_blank, items_of_parts, items_from, span_of, IsFirstItem}
+use Rattle.text_items.specs.Items.{is_blank, items_of_parts, items_from, text_between, IsFirstItem}
 use Rattle.text_items.specs.Spelling.{is_end, Spells, Spoils}
 use Rattle.text_items.specs.Reading.{value_then, followed_by, values_named, values_of}
 use Rattle.text_items.proofs.ItemLemmas.{part_is_item}
@@ -175,17 +175,17 @@ followed_by-more values value (Err fault) = refl
 module _ {A F : Type 0} (read : ℕ → List ℕ → Result A F) (from begin end : ℕ) (text : List ℕ) (old : List A)
     (at : IsFirstItem from text begin end)
     (so_far : values_of read text ≡ followed_by old (values_named read (items_from from text))) where
-  next : (r : Result A F) → read begin (span_of begin end text) ≡ r
+  next : (r : Result A F) → read begin (text_between begin end text) ≡ r
       → values_of read text ≡ followed_by old (value_then r (values_named read (items_from end text)))
   next r e =
       so_far ∙ ap (λ items. followed_by old (values_named read items)) at.first
       ∙ ap (λ value. followed_by old (value_then value (values_named read (items_from end text)))) e
 
-  pub goes_on : (value : A) → read begin (span_of begin end text) ≡ Ok value
+  pub goes_on : (value : A) → read begin (text_between begin end text) ≡ Ok value
       → values_of read text ≡ followed_by (old ++ value ∷ []) (values_named read (items_from end text))
   goes_on value e = next (Ok value) e ∙ followed_by-more old value (values_named read (items_from end text))
 
-  pub stops : (fault : F) → read begin (span_of begin end text) ≡ Err fault → values_of read text ≡ Err fault
+  pub stops : (fault : F) → read begin (text_between begin end text) ≡ Err fault → values_of read text ≡ Err fault
   stops fault e = next (Err fault) e
 
 -- reading has come to the end of a text

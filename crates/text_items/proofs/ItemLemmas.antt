@@ -6,7 +6,7 @@ use Rattle.std.proofs.lemmas.List.Sums.{prefix_len_passes, prefix_len_stops, pre
 use Rattle.std.proofs.lemmas.List.{drop_more}
 use Rattle.std.proofs.lemmas.List.Splits.{slice_split_first, slice_split_none, slice_split-cons_yes}
 use Rattle.std.specs.List.{slice_split, position_or_len, prefix_len, onto_first}
-use Rattle.text_items.specs.Items.{is_blank, items_of_parts, items_from, span_of}
+use Rattle.text_items.specs.Items.{is_blank, items_of_parts, items_from, text_between}
 
 no_blank : (b : Bool) → not b ≡ true → b ≡ false
 no_blank true h = sym h
@@ -141,7 +141,7 @@ module _ (from : ℕ) (text : List ℕ) (p q : ℕ) (blanks : p ≡ prefix_len i
       = after_blanks ∙ ended (drop from text) (ap (position_or_len is_blank) (sym after_blanks) ∙ sym bytes ∙ none) in
       skipped ∙ ap (λ xs. items_of_parts (from + p) (slice_split is_blank xs)) end
 
-  pub first_from : 0 < q → items_from from text ≡ record { at = from + p; text = span_of (from + p) (from + p + q) text } ∷ items_from (from + p + q) text
+  pub first_from : 0 < q → items_from from text ≡ record { at = from + p; text = text_between (from + p) (from + p + q) text } ∷ items_from (from + p + q) text
   first_from some =
       let rest = drop (from + p) text in
       let wide : from + p + q - (from + p) ≡ q = omega arith in

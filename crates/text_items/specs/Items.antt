@@ -23,8 +23,8 @@ abbrev pub items_from : ℕ → List ℕ → List Item
 items_from at text = items_of_parts at (slice_split is_blank (drop at text))
 
 -- the bytes from one offset to another
-abbrev pub span_of : ℕ → ℕ → List ℕ → List ℕ
-span_of begin end text = take (end - begin) (drop begin text)
+abbrev pub text_between : ℕ → ℕ → List ℕ → List ℕ
+text_between begin end text = take (end - begin) (drop begin text)
 
 -- the first item from an offset on is between two offsets
 pub record IsFirstItem (from : ℕ) (text : List ℕ) (begin end : ℕ) : Type 0 where
@@ -32,4 +32,4 @@ pub record IsFirstItem (from : ℕ) (text : List ℕ) (begin end : ℕ) : Type 0
   pub nonempty : begin < end
   pub within : end ≤ length text
   pub first : items_from from text
-      ≡ record { at = begin; text = span_of begin end text } ∷ items_from end text
+      ≡ record { at = begin; text = text_between begin end text } ∷ items_from end text

@@ -13,10 +13,10 @@ use Rattle.machine.specs.Start.{started}
 use Rattle.machine.specs.declared.choice.Choice.{Choice}
 use Rattle.machine.proofs.WorldLemmas.{run_append, run_none}
 use Rattle.machine.proofs.RunLaws.{run_length, length-started}
-use Rattle.hart_local_runs.specs.LocalRuns.{plain_choices, with_hart}
-use Rattle.hart_local_runs.proofs.RunLemmas.{run_of_walk, code_of_run}
+use Rattle.hart_local.specs.LocalRuns.{plain_choices, with_walked_hart}
+use Rattle.hart_local.proofs.RunLemmas.{run_of_walk, code_of_run}
 use Rattle.history.specs.declared.entry.Entry.{Entry}
-use Rattle.history.specs.History.{choice, choices_of, expanded}
+use Rattle.history.specs.History.{choice, entry_choices, expanded}
 use Rattle.thread_book.specs.Book.{replayed}
 
 -- ---- histories
@@ -24,11 +24,11 @@ expanded-append : (xs ys : List Entry) → expanded (xs ++ ys) ≡ expanded xs +
 unfolding expanded
 expanded-append [] ys = refl
 expanded-append (e ∷ xs) ys =
-    ap (λ l. choices_of e ++ l) (expanded-append xs ys) ∙ sym (append_assoc (choices_of e) (expanded xs) (expanded ys))
+    ap (λ l. entry_choices e ++ l) (expanded-append xs ys) ∙ sym (append_assoc (entry_choices e) (expanded xs) (expanded ys))
 
-expanded-one : (e : Entry) → expanded (e ∷ []) ≡ choices_of e
+expanded-one : (e : Entry) → expanded (e ∷ []) ≡ entry_choices e
 unfolding expanded
-expanded-one e = append-nil (choices_of e)
+expanded-one e = append-nil (entry_choices e)
 
 -- no entry
 pub replayed-none : (image : ImageValue) (inputs : List ℕ) → replayed image inputs [] ≡ started image inputs
@@ -37,11 +37,11 @@ replayed-none image inputs = run_none (started image inputs)
 
 -- one entry more
 pub replayed-more : (image : ImageValue) (inputs : List ℕ) (history : List Entry) (e : Entry)
-    → replayed image inputs (history ++ e ∷ []) ≡ run (replayed image inputs history) (choices_of e)
+    → replayed image inputs (history ++ e ∷ []) ≡ run (replayed image inputs history) (entry_choices e)
 unfolding replayed
 replayed-more image inputs history e =
     ap (run (started image inputs)) (expanded-append history (e ∷ []) ∙ ap (λ l. expanded history ++ l) (expanded-one e))
-    ∙ run_append (started image inputs) (expanded history) (choices_of e)
+    ∙ run_append (started image inputs) (expanded history) (entry_choices e)
 
 -- a hart for each input
 pub replayed-harts : (image : ImageValue) (inputs : List ℕ) (history : List Entry) → length (replayed image inputs history).harts ≡ length inputs
@@ -63,7 +63,7 @@ locals_are h (suc n) = ap (λ (cs : List Choice). choice h false ∷ cs) (locals
 -- an entry is its hart after the local steps, and then one step
 pub run_entry : (w : World) (e : Entry) (v u : HartValue) → slice_get w.harts e.hart ≡ Some v
     → walk (code_in w.memory) e.local v ≡ Some u
-    → run w (choices_of e) ≡ step (with_hart w e.hart u) (choice e.hart e.refuse)
+    → run w (entry_choices e) ≡ step (with_walked_hart w e.hart u) (choice e.hart e.refuse)
 unfolding run
 run_entry w e v u there walked =
     run_append w (replicate e.local (choice e.hart false)) (choice e.hart e.refuse ∷ [])

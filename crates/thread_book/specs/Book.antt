@@ -24,9 +24,9 @@ abbrev pub world_of : BookValue → World
 world_of b = replayed b.image b.inputs b.history
 
 -- a hart of the book's world, if it exists
-abbrev pub slot_of : BookValue → ℕ → Option HartValue
-slot_of b h = slice_get (world_of b).harts h
+abbrev pub hart_in_book : BookValue → ℕ → Option HartValue
+hart_in_book b h = slice_get (world_of b).harts h
 
 -- the code of the book's program
-abbrev pub code_of : BookValue → List SegmentValue
-code_of b = code_segments b.image
+abbrev pub book_code : BookValue → List SegmentValue
+book_code b = code_segments b.image

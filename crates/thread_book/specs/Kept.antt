@@ -9,7 +9,7 @@ use Rattle.history.specs.declared.entry.Entry.{Entry}
 use Rattle.thread_book.specs.Book.{replayed}
 
 -- the world is the replay of the history, and the code that of the image
-pub record IsKept (image : ImageValue) (inputs : List ℕ) (history : List Entry) (code : List SegmentValue) (world : World) : Type 0 where
+pub record IsBookKept (image : ImageValue) (inputs : List ℕ) (history : List Entry) (code : List SegmentValue) (world : World) : Type 0 where
   pub replay : world ≡ replayed image inputs history
   pub code_is : code ≡ code_segments image
   pub memory : segments_memory code ≡ code_in (image_memory image)

@@ -2,8 +2,8 @@
 use Rattle.std.specs.Prelude.{◌≡◌, ℕ, ◌<◌, ◌≤◌, false, [], ◌∷◌, ◌++◌, length, Some}
 use Rattle.hart_step.specs.Hart.{hart_of}
 use Rattle.machine.specs.World.{run}
-use Rattle.history.specs.History.{entry, choices_of}
-use Rattle.thread_book.specs.Book.{BookValue, world_of, slot_of, code_of}
+use Rattle.history.specs.History.{entry, entry_choices}
+use Rattle.thread_book.specs.Book.{BookValue, world_of, hart_in_book, book_code}
 use Rattle.thread_book.specs.Segment.{SegmentState}
 use Rattle.thread_book.specs.declared.fault.SegmentFault.{SegmentFault}
 use Rattle.thread_book.specs.declared.fault.SegmentFault.TheVariants as segment
@@ -12,7 +12,7 @@ use Rattle.thread_book.specs.declared.fault.PresentFault.TheVariants as present
 
 -- the book's hart and its code are those that the segment began with
 abbrev pub IsCurrent : BookValue → SegmentState → Type 0
-IsCurrent b s = (slot_of b s.hart ≡ Some (hart_of s.slot)) × (s.code ≡ code_of b)
+IsCurrent b s = (hart_in_book b s.hart ≡ Some (hart_of s.slot)) × (s.code ≡ book_code b)
 
 -- an empty segment of hart h, as the hart is in the book
 pub record IsFresh (b : BookValue) (h : ℕ) (s : SegmentState) : Type 0 where
@@ -27,7 +27,7 @@ pub record IsPresented (b : BookValue) (s : SegmentState) (new_b : BookValue) (n
   pub there : s.hart < length b.inputs
   pub current : IsCurrent b s
   pub book : new_b ≡ record b { history = b.history ++ entry s.hart s.local s.refuse ∷ [] }
-  pub world : world_of new_b ≡ run (world_of b) (choices_of (entry s.hart s.local s.refuse))
+  pub world : world_of new_b ≡ run (world_of b) (entry_choices (entry s.hart s.local s.refuse))
   pub segment : IsFresh new_b s.hart new_s
 
 -- the reason why a book gives no segment of hart h
@@ -36,7 +36,7 @@ GivesNone b h segment.NoHart = length b.inputs ≤ h
 GivesNone b h segment.Memory = h < length b.inputs
 
 -- the reason why a book does not take a segment
-abbrev pub Refuses : BookValue → SegmentState → PresentFault → Type 0
-Refuses b s present.NoHart = length b.inputs ≤ s.hart
-Refuses b s present.Stale = (s.hart < length b.inputs) × (IsCurrent b s → ⊥)
-Refuses b s present.Memory = (s.hart < length b.inputs) × IsCurrent b s
+abbrev pub RefusesToTake : BookValue → SegmentState → PresentFault → Type 0
+RefusesToTake b s present.NoHart = length b.inputs ≤ s.hart
+RefusesToTake b s present.Stale = (s.hart < length b.inputs) × (IsCurrent b s → ⊥)
+RefusesToTake b s present.Memory = (s.hart < length b.inputs) × IsCurrent b s

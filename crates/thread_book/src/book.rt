@@ -2,7 +2,7 @@
 ghost use Rattle.std.specs.Prelude.{◌≡◌, ◌<◌, [], length, Some, IfOk, IfErr};
 ghost use Rattle.hart_step.specs.Hart.{hart_of};
 ghost use Rattle.machine.specs.State.{state};
-ghost use Rattle.thread_book.specs.Book.{replayed, world_of, slot_of};
+ghost use Rattle.thread_book.specs.Book.{replayed, world_of, hart_in_book};
 ghost use Rattle.thread_book.specs.Present.{IsFresh, GivesNone};
 
 use crate::fault::SegmentFault;
@@ -32,7 +32,7 @@ impl<A: Allocator> Model for Book<A> {
     ghost use Rattle.std.specs.Arc.{arc_value};
     ghost use Rattle.machine.specs.State.{state};
     ghost use Rattle.thread_book.specs.Book.{BookValue};
-    ghost use Rattle.thread_book.specs.Kept.{IsKept};
+    ghost use Rattle.thread_book.specs.Kept.{IsBookKept};
 
     ghost Value = { BookValue };
 
@@ -42,7 +42,7 @@ impl<A: Allocator> Model for Book<A> {
       history = b.history.items;
     } };
 
-    ghost invariant = { λ b. IsKept b.image b.inputs b.history.items
+    ghost invariant = { λ b. IsBookKept b.image b.inputs b.history.items
         (arc_value b.code) (state b.machine) };
 }
 
@@ -97,7 +97,7 @@ impl<A: Allocator> Book<A> {
     /// One hart after the history.
     pub fn hart(&self, number: usize) -> &Hart
         requires { number < length self.now.inputs }
-        ensures { slot_of self.now number ≡ Some (hart_of result.now) }
+        ensures { hart_in_book self.now number ≡ Some (hart_of result.now) }
     {
         self.machine.hart(number)
     }

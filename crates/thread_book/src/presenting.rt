@@ -5,8 +5,8 @@ ghost use Rattle.hart_step.specs.Hart.{hart_of};
 ghost use Rattle.hart_local.specs.CodeMemory.{code_in};
 ghost use Rattle.machine.specs.World.{run};
 ghost use Rattle.machine.specs.State.{state};
-ghost use Rattle.history.specs.History.{entry, choices_of};
-ghost use Rattle.thread_book.specs.Present.{IsPresented, IsCurrent, Refuses};
+ghost use Rattle.history.specs.History.{entry, entry_choices};
+ghost use Rattle.thread_book.specs.Present.{IsPresented, IsCurrent, RefusesToTake};
 
 use crate::book::Book;
 use crate::fault::PresentFault;
@@ -31,7 +31,7 @@ impl<A: Allocator> Book<A> {
     /// history, all at this moment. The segment is then empty and current.
     pub fn present(&mut self, segment: &mut Segment<A>) -> Result<(), PresentFault>
         ensures ok { OnOk result (IsPresented self.old segment.old self.new segment.new) }
-        ensures fault { IfErr result (λ fault. Refuses self.old segment.old fault) }
+        ensures fault { IfErr result (λ fault. RefusesToTake self.old segment.old fault) }
         ensures unchanged { OnErr result ((self.new ≡ self.old) × (segment.new ≡ segment.old)) }
     {
         let number = segment.hart() as usize;
@@ -58,7 +58,7 @@ fn enter<A: Allocator>(machine: &mut Machine<FlatStore<A>, A>, segment: &Segment
         ≡ Some (hart_of segment.now.slot) }
     requires code { segments_memory segment.now.code ≡ code_in (state machine.old).memory }
     ensures { state machine.new ≡ run (state machine.old)
-        (choices_of (entry segment.now.hart segment.now.local segment.now.refuse)) }
+        (entry_choices (entry segment.now.hart segment.now.local segment.now.refuse)) }
 {
     let choice = Choice {
         hart: segment.hart,

@@ -13,12 +13,12 @@ use Rattle.machine.specs.World.{World}
 use Rattle.machine.specs.Start.{first_harts, started}
 use Rattle.machine.specs.declared.choice.Choice.{Choice}
 use Rattle.history.specs.declared.entry.Entry.{Entry}
-use Rattle.history.specs.History.{entry, choices_of, expanded}
-use Rattle.thread_book.specs.Book.{BookValue, world_of, slot_of}
+use Rattle.history.specs.History.{entry, entry_choices, expanded}
+use Rattle.thread_book.specs.Book.{BookValue, world_of, hart_in_book}
 use Rattle.thread_book.specs.Segment.{SegmentState}
 use Rattle.thread_book.specs.Present.{IsPresented}
 use Rattle.thread_book.proofs.RunLemmas.{replayed-none}
-use Rattle.thread_run.specs.Own.{own, owned}
+use Rattle.thread_run.specs.Own.{own_count, own_choices}
 use Rattle.thread_gate.specs.Plan.{is_planned}
 use Rattle.thread_gate.specs.Stopped.{is_stopped}
 use Rattle.thread_run.specs.Plan.{IsFlagged}
@@ -45,13 +45,13 @@ done_as done slot slot' made local local' budget budget' is slots locals budgets
 
 -- ---- one entry more
 flagged_more : (plan : List (ℕ × ℕ)) (before : List Choice) (entries : List Entry) (e : Entry) → IsFlagged plan before entries
-    → e.refuse ≡ is_planned plan e.hart (own (before ++ expanded entries) e.hart + e.local) → IsFlagged plan before (entries ++ e ∷ [])
+    → e.refuse ≡ is_planned plan e.hart (own_count (before ++ expanded entries) e.hart + e.local) → IsFlagged plan before (entries ++ e ∷ [])
 unfolding expanded
-flagged_more plan before [] e f is = (is ∙ ap (λ l. is_planned plan e.hart (own l e.hart + e.local)) (append-nil before), tt)
+flagged_more plan before [] e f is = (is ∙ ap (λ l. is_planned plan e.hart (own_count l e.hart + e.local)) (append-nil before), tt)
 flagged_more plan before (x ∷ entries) e f is = (
   f.0,
-  flagged_more plan (before ++ choices_of x) entries e f.1
-      (is ∙ ap (λ l. is_planned plan e.hart (own l e.hart + e.local)) (sym (append_assoc before (choices_of x) (expanded entries)))),
+  flagged_more plan (before ++ entry_choices x) entries e f.1
+      (is ∙ ap (λ l. is_planned plan e.hart (own_count l e.hart + e.local)) (sym (append_assoc before (entry_choices x) (expanded entries)))),
 )
 
 -- a seat's segment was taken in
@@ -72,14 +72,14 @@ run_on image inputs budget plan b b' s t counts made tickets left done r here wa
     let now = made + s.local + 1 in
     let inside : h < length inputs = omega (arith, r.long) in
     let history : b'.history ≡ b.history ++ e ∷ [] = ap (λ (x : BookValue). x.history) p.book in
-    let choices : expanded b'.history ≡ expanded b.history ++ choices_of e = ap expanded history ∙ expanded-more b.history e in
-    let counted = λ (j : ℕ). ap (λ l. own l j) choices ∙ own-append (expanded b.history) (choices_of e) j in
-    let mine : owned b' h ≡ now = omega (arith, counted h, own_same s.local h s.refuse, r.counted h inside, was) in
-    let before : owned b h ≡ made = omega (arith, r.counted h inside, was) in
-    let theirs : (j : ℕ) → j ≢ h → owned b' j ≡ owned b j = λ j apart. omega (arith, counted j, own_other s.local h j s.refuse apart) in
-    let slot : slot_of b' h ≡ Some (hart_of t.slot) = ap (slot_of b') (sym p.segment.hart) ∙ p.segment.current.0 in
-    let kept : (j : ℕ) → j ≢ h → slot_of b' j ≡ slot_of b j
-    = λ j apart. ap (λ (w : World). slice_get w.harts j) p.world ∙ others_stay (choices_of e) (world_of b) j (own_other s.local h j s.refuse apart) in
+    let choices : expanded b'.history ≡ expanded b.history ++ entry_choices e = ap expanded history ∙ expanded-more b.history e in
+    let counted = λ (j : ℕ). ap (λ l. own_count l j) choices ∙ own-append (expanded b.history) (entry_choices e) j in
+    let mine : own_choices b' h ≡ now = omega (arith, counted h, own_same s.local h s.refuse, r.counted h inside, was) in
+    let before : own_choices b h ≡ made = omega (arith, r.counted h inside, was) in
+    let theirs : (j : ℕ) → j ≢ h → own_choices b' j ≡ own_choices b j = λ j apart. omega (arith, counted j, own_other s.local h j s.refuse apart) in
+    let slot : hart_in_book b' h ≡ Some (hart_of t.slot) = ap (hart_in_book b') (sym p.segment.hart) ∙ p.segment.current.0 in
+    let kept : (j : ℕ) → j ≢ h → hart_in_book b' j ≡ hart_in_book b j
+    = λ j apart. ap (λ (w : World). slice_get w.harts j) p.world ∙ others_stay (entry_choices e) (world_of b) j (own_other s.local h j s.refuse apart) in
     let was_open : is_done budget b h ≡ false =
     or_false _ _ (ap has_stopped p.current.0 ∙ running) (ap (λ n. n == budget) before ∙ not_yet made budget (omega arith)) in
     let is_now : is_done budget b' h ≡ done =
@@ -91,7 +91,7 @@ run_on image inputs budget plan b b' s t counts made tickets left done r here wa
       same_inputs = ap (λ (x : BookValue). x.inputs) p.book ∙ r.same_inputs;
       long = length-set counts h now ∙ r.long;
       counted = λ j l. elim (eq_or_not j h) [
-        | inl same ↦ ap (λ k. slice_index (set counts h now) k) same ∙ get_or-set_same counts h now 0 here ∙ sym mine ∙ ap (owned b') (sym same)
+        | inl same ↦ ap (λ k. slice_index (set counts h now) k) same ∙ get_or-set_same counts h now 0 here ∙ sym mine ∙ ap (own_choices b') (sym same)
         | inr apart ↦ get_or-set_other counts h j now 0 apart ∙ r.counted j l ∙ sym (theirs j apart)
       ];
       spent = λ j l. elim (eq_or_not j h) [
@@ -107,10 +107,10 @@ run_on image inputs budget plan b b' s t counts made tickets left done r here wa
 
 -- ---- the end
 -- a hart that needs no further choice has ended
-done_is : (b : BookValue) (budget h : ℕ) → is_done budget b h ≡ true → owned b h ≤ budget → HasEnded b budget h
-done_is b budget h e le = go (has_stopped (slot_of b h)) (owned b h) refl refl e
+done_is : (b : BookValue) (budget h : ℕ) → is_done budget b h ≡ true → own_choices b h ≤ budget → HasEnded b budget h
+done_is b budget h e le = go (has_stopped (hart_in_book b h)) (own_choices b h) refl refl e
   where
-    go : (stopped : Bool) (n : ℕ) → has_stopped (slot_of b h) ≡ stopped → owned b h ≡ n → (stopped || (n == budget)) ≡ true → HasEnded b budget h
+    go : (stopped : Bool) (n : ℕ) → has_stopped (hart_in_book b h) ≡ stopped → own_choices b h ≡ n → (stopped || (n == budget)) ≡ true → HasEnded b budget h
     go true n s is t = inl (s, le)
     go false n s is t = inr (is ∙ (let same : n ≡ budget = grind (arith, nat_tests) in same))
 
@@ -140,13 +140,13 @@ first_runs entry n k (x ∷ inputs) (suc h) = first_runs entry n (k + 1) inputs 
 abbrev pub begun : ImageValue → List ℕ → BookValue
 begun image inputs = record { image = image; inputs = inputs; history = [] }
 
-all_run : (image : ImageValue) (inputs : List ℕ) (h : ℕ) → has_stopped (slot_of (begun image inputs) h) ≡ false
+all_run : (image : ImageValue) (inputs : List ℕ) (h : ℕ) → has_stopped (hart_in_book (begun image inputs) h) ≡ false
 unfolding started
 all_run image inputs h =
     ap (λ (w : World). has_stopped (slice_get w.harts h)) (replayed-none image inputs) ∙ first_runs image.entry (length inputs) 0 inputs h
 
-none_owned : (image : ImageValue) (inputs : List ℕ) (h : ℕ) → owned (begun image inputs) h ≡ 0
-none_owned image inputs h = ap (λ (cs : List Choice). own cs h) expanded-none ∙ own-none h
+none_owned : (image : ImageValue) (inputs : List ℕ) (h : ℕ) → own_choices (begun image inputs) h ≡ 0
+none_owned image inputs h = ap (λ (cs : List Choice). own_count cs h) expanded-none ∙ own-none h
 
 run_begun : (image : ImageValue) (inputs : List ℕ) (budget : ℕ) (plan : List (ℕ × ℕ)) → 0 < budget
     → IsRunning image inputs budget plan (begun image inputs) (replicate (length inputs) 0) (length inputs)

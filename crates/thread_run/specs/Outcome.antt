@@ -4,9 +4,9 @@ use Rattle.std.specs.List.{All}
 use Rattle.image.specs.Image.{ImageValue}
 use Rattle.hart_step.specs.Hart.{HartValue}
 use Rattle.history.specs.declared.entry.Entry.{Entry}
-use Rattle.thread_book.specs.Book.{BookValue, slot_of}
+use Rattle.thread_book.specs.Book.{BookValue, hart_in_book}
 use Rattle.thread_gate.specs.Stopped.{is_stopped}
-use Rattle.thread_run.specs.Own.{owned}
+use Rattle.thread_run.specs.Own.{own_choices}
 use Rattle.thread_run.specs.Plan.{IsFlagged}
 
 -- whether a hart exists and has stopped
@@ -17,7 +17,7 @@ has_stopped (Some v) = is_stopped v.state
 -- hart h has stopped and was chosen at most this often, or was chosen exactly this often
 abbrev pub HasEnded : BookValue → ℕ → ℕ → Type 0
 HasEnded b budget h =
-    ((has_stopped (slot_of b h) ≡ true) × (owned b h ≤ budget)) ⊎ (owned b h ≡ budget)
+    ((has_stopped (hart_in_book b h) ≡ true) × (own_choices b h ≤ budget)) ⊎ (own_choices b h ≡ budget)
 
 -- the entry is of one of n harts, and all its choices are within the budget
 abbrev pub IsWithin : ℕ → ℕ → Entry → Type 0

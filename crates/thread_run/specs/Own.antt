@@ -5,10 +5,10 @@ use Rattle.history.specs.History.{expanded}
 use Rattle.thread_book.specs.Book.{BookValue}
 
 -- the number of choices of hart h
-unfoldable pub own : List Choice → ℕ → ℕ
-own [] h = 0
-own (c ∷ choices) h = (if c.hart == h then 1 else 0) + own choices h
+unfoldable pub own_count : List Choice → ℕ → ℕ
+own_count [] h = 0
+own_count (c ∷ choices) h = (if c.hart == h then 1 else 0) + own_count choices h
 
 -- the number of choices of hart h in a book
-abbrev pub owned : BookValue → ℕ → ℕ
-owned b h = own (expanded b.history) h
+abbrev pub own_choices : BookValue → ℕ → ℕ
+own_choices b h = own_count (expanded b.history) h

@@ -2,14 +2,14 @@
 use Rattle.std.specs.Prelude.{◌≡◌, ℕ, zero, suc, ◌+◌, ◌<◌, ◌≤◌, ◌==◌, ◌||◌, Bool, List, [], length, slice_index, if◌then◌else◌}
 use Rattle.std.specs.List.{All}
 use Rattle.image.specs.Image.{ImageValue}
-use Rattle.thread_book.specs.Book.{BookValue, slot_of}
-use Rattle.thread_run.specs.Own.{owned}
+use Rattle.thread_book.specs.Book.{BookValue, hart_in_book}
+use Rattle.thread_run.specs.Own.{own_choices}
 use Rattle.thread_run.specs.Plan.{IsFlagged}
 use Rattle.thread_run.specs.Outcome.{has_stopped, IsWithin}
 
 -- whether hart h is done: it has stopped or used its budget up
 abbrev pub is_done : ℕ → BookValue → ℕ → Bool
-is_done budget b h = has_stopped (slot_of b h) || (owned b h == budget)
+is_done budget b h = has_stopped (hart_in_book b h) || (own_choices b h == budget)
 
 -- the number of the first n harts that are not done
 abbrev pub open_below : (ℕ → Bool) → ℕ → ℕ
@@ -21,7 +21,7 @@ pub record IsRunning (image : ImageValue) (inputs : List ℕ) (budget : ℕ) (pl
   pub same_image : b.image ≡ image
   pub same_inputs : b.inputs ≡ inputs
   pub long : length counts ≡ length inputs
-  pub counted : (h : ℕ) → h < length inputs → slice_index counts h ≡ owned b h
+  pub counted : (h : ℕ) → h < length inputs → slice_index counts h ≡ own_choices b h
   pub spent : (h : ℕ) → h < length inputs → slice_index counts h ≤ budget
   pub flagged : IsFlagged plan [] b.history
   pub within : All (IsWithin (length inputs) budget) b.history

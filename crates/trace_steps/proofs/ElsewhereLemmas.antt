@@ -16,7 +16,7 @@ use Rattle.hart_step.proofs.LocalityLemmas.{steps_alike}
 use Rattle.isa_table.specs.Decoded.{decoded}
 use Rattle.machine.specs.World.{World, step_of, step, run}
 use Rattle.machine.specs.declared.choice.Choice.{Choice}
-use Rattle.trace_steps.specs.Told.{nobody, hart_at, word_met, told_access, told}
+use Rattle.trace_steps.specs.Told.{nobody, hart_at, word_met, told_access, told_choice}
 use Rattle.trace_steps.specs.Tells.{tells}
 use Rattle.trace_steps.specs.declared.told.Told.{Told}
 use Rattle.trace_steps.specs.Covers.{covers, IsElsewhere}
@@ -36,10 +36,10 @@ access_here (Exited status) s = refl
 access_here (Faulted cause) s = refl
 
 -- the access that is told of a hart that is there is that of its step
-told-access : (w : World) (c : Choice) → (told w c).access
+told-access : (w : World) (c : Choice) → (told_choice w c).access
     ≡ option_map (told_access w.memory (step w c).memory)
     (access_if (option_and_then decoded (word_met (hart_at w c.hart).state w.memory (hart_at w c.hart).pc)) (hart_at w c.hart).registers)
-unfolding told
+unfolding told_choice
 told-access w c = refl
 
 step-bytes : (w : World) (c : Choice) (a : ℕ) (o : Option HartValue) → slice_get w.harts c.hart ≡ o
@@ -51,7 +51,7 @@ step-bytes w c a (Some h) there out =
     (record { hart = refl; rights = refl; reserved = refl; fetched = λ k e. refl; accessed = λ b e. refl }) in
     (alike.outside a (subst (λ (x : HartValue). is_inside (access_of (site x w.memory w.reserved)) a ≡ false) here out)).0
 
-step_elsewhere : (w : World) (c : Choice) (a : ℕ) → IsElsewhere a (told w c) → (step w c).memory.bytes a ≡ w.memory.bytes a
+step_elsewhere : (w : World) (c : Choice) (a : ℕ) → IsElsewhere a (told_choice w c) → (step w c).memory.bytes a ≡ w.memory.bytes a
 unfolding step
 step_elsewhere w c a out =
     let h = hart_at w c.hart in
@@ -66,5 +66,5 @@ pub elsewhere_stays : (w : World) (choices : List Choice) (a : ℕ) → All (IsE
 unfolding tells run
 elsewhere_stays w [] a all = refl
 elsewhere_stays w (c ∷ choices) a all =
-    elsewhere_stays (step w c) choices a (All-tail (IsElsewhere a) (told w c) (tells (step w c) choices) all)
-    ∙ step_elsewhere w c a (All-head (IsElsewhere a) (told w c) (tells (step w c) choices) all)
+    elsewhere_stays (step w c) choices a (All-tail (IsElsewhere a) (told_choice w c) (tells (step w c) choices) all)
+    ∙ step_elsewhere w c a (All-head (IsElsewhere a) (told_choice w c) (tells (step w c) choices) all)

@@ -21,7 +21,7 @@ use Rattle.hart_step.specs.declared.hart.HartState.TheVariants.{Running, Exited,
 use Rattle.machine.specs.World.{World, step_of, step}
 use Rattle.machine.specs.declared.choice.Choice.{Choice}
 use Rattle.trace_steps.specs.Destination.{destination, unless_zero}
-use Rattle.trace_steps.specs.Told.{nobody, hart_at, word_met, written_in, written_of, told}
+use Rattle.trace_steps.specs.Told.{nobody, hart_at, word_met, written_in, written_of, told_choice}
 use Rattle.trace_steps.specs.Covers.{IsNotWritten}
 
 -- a register that isn't the destination of an instruction, if it has one
@@ -130,10 +130,10 @@ unfolding stepped
 stepped_stays s h refuse r = by-stated s.hart.state s h refuse r refl
 
 -- ---- in a world
-told-written : (w : World) (c : Choice) → (told w c).written
+told-written : (w : World) (c : Choice) → (told_choice w c).written
     ≡ option_map (written_of (hart_at (step w c) c.hart)) (written_in (hart_at (step w c) c.hart).state
     (option_and_then decoded (word_met (hart_at w c.hart).state w.memory (hart_at w c.hart).pc)))
-unfolding told
+unfolding told_choice
 told-written w c = refl
 
 -- the hart after the step
@@ -148,7 +148,7 @@ after_nobody : (w : World) (c : Choice) → slice_get w.harts c.hart ≡ None �
 unfolding step
 after_nobody w c none = ap (λ (o : Option HartValue). hart_at (step_of w c o) c.hart) none
 
-pub unwritten_stays : (w : World) (c : Choice) (r : ℕ) → IsNotWritten r (told w c).written
+pub unwritten_stays : (w : World) (c : Choice) (r : ℕ) → IsNotWritten r (told_choice w c).written
     → (hart_at (step w c) c.hart).registers r ≡ (hart_at w c.hart).registers r
 unwritten_stays w c r other = go (slice_get w.harts c.hart) refl
   where

@@ -16,7 +16,7 @@ use Rattle.machine.specs.World.{World, placed, step}
 use Rattle.machine.specs.declared.choice.Choice.{Choice}
 use Rattle.trace_steps.specs.Known.{Knows, KnowsBut}
 use Rattle.trace_steps.specs.Met.{IsMet}
-use Rattle.trace_steps.specs.Told.{hart_at, nobody, word_met, told_access, written_in, written_of, told_of, told}
+use Rattle.trace_steps.specs.Told.{hart_at, nobody, word_met, told_access, written_in, written_of, told_of, told_choice}
 use Rattle.trace_steps.specs.declared.met.Met.{Met}
 use Rattle.trace_steps.specs.declared.told.Told.{Told}
 use Rattle.trace_steps.specs.declared.told.ToldAccess.{ToldAccess}
@@ -67,8 +67,8 @@ told_of_parts met c old new before after access wrote reserved is a w r there =
 
 -- what was told of the hart that stood there is what the choice did
 pub told_whole : (t : Told) (c : Choice) (h : HartValue) (w after : World) → slice_get w.harts c.hart ≡ Some h → after ≡ step w c
-    → t ≡ told_of c h (hart_at after c.hart) w after → t ≡ told w c
-unfolding told
+    → t ≡ told_of c h (hart_at after c.hart) w after → t ≡ told_choice w c
+unfolding told_choice
 told_whole t c h w after there stepping tells =
     tells ∙ ap (λ x. told_of c h (hart_at x c.hart) w x) stepping
     ∙ ap (λ x. told_of c x (hart_at (step w c) c.hart) w (step w c)) (sym (hart_there w c.hart h there))

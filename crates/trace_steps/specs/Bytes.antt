@@ -8,7 +8,8 @@ abbrev pub are_mapped : Memory → ℕ → ℕ → Bool
 are_mapped m n address =
     nat_le (address + n) (2 ^ 32) && all_below n (λ k. is_some (m.rights (address + k)))
 
--- the number that n bytes spell, the lowest first, whatever their rights; none where they are not all mapped
+-- the number that n bytes spell, the lowest first, whatever their rights; none where they are not
+-- all mapped
 abbrev pub number_there : Memory → ℕ → ℕ → Option ℕ
 number_there m n address = if are_mapped m n address then Some (number_at m.bytes n address) else None
 
@@ -17,6 +18,6 @@ abbrev pub IsSize : ℕ → Type 0
 IsSize n = (n ≡ 1) ⊎ (n ≡ 2) ⊎ (n ≡ 4)
 
 -- the number that the bytes of an access spell, if there is one
-abbrev pub number_in : Memory → Option Access → Option ℕ
-number_in m None = None
-number_in m (Some a) = number_there m a.size a.address
+abbrev pub bytes_number : Memory → Option Access → Option ℕ
+bytes_number m None = None
+bytes_number m (Some a) = number_there m a.size a.address

@@ -3,12 +3,13 @@ use Rattle.std.specs.Prelude.{ℕ, ◌==◌, if◌then◌else◌, Option, Some, 
 use Rattle.isa_table.specs.declared.instr.Instr.{Instr}
 use Rattle.isa_table.specs.declared.instr.Instr.TheVariants.{Lui, Auipc, Jal, Jalr, Branch, Load, Store, Immediate, Shift, Register, Fence, Ecall, Ebreak, LoadReserved, StoreConditional, Amo}
 
--- a register, but x0, which ignores what is written to it (Unprivileged ISA, "Programmers' Model for Base Integer ISA")
+-- a register, but x0, which ignores what is written to it (Unprivileged ISA, "Programmers' Model
+-- for Base Integer ISA")
 abbrev pub unless_zero : ℕ → Option ℕ
 unless_zero rd = if rd == 0 then None else Some rd
 
--- the register that an instruction writes, if it writes one. That of a fence is reserved for finer fences, and isn't written
--- (Unprivileged ISA, "Memory Ordering Instructions")
+-- the register that an instruction writes, if it writes one. That of a fence is reserved for finer
+-- fences, and isn't written (Unprivileged ISA, "Memory Ordering Instructions")
 abbrev pub destination : Instr → Option ℕ
 destination (Lui rd imm) = unless_zero rd
 destination (Auipc rd imm) = unless_zero rd

@@ -3,5 +3,5 @@ use Rattle.std.specs.Prelude.{ℕ, slice_index}
 use Rattle.trace_steps.specs.declared.latest.Latest.{Latest}
 
 -- the word that each hart reserved last
-abbrev pub words_of : Latest → ℕ → ℕ
-words_of l = slice_index l.words
+abbrev pub latest_words : Latest → ℕ → ℕ
+latest_words l = slice_index l.words

@@ -41,7 +41,8 @@ told_access before after a = record {
   after = number_there after a.size a.address;
 }
 
--- the register that an instruction wrote of a hart that is in this state after it; a hart that has faulted wrote none
+-- the register that an instruction wrote of a hart that is in this state after it; a hart that has
+-- faulted wrote none
 abbrev pub written_in : HartState → Option Instr → Option ℕ
 written_in Running instr = option_and_then destination instr
 written_in (Exited status) instr = option_and_then destination instr
@@ -51,7 +52,8 @@ written_in (Faulted cause) instr = None
 abbrev pub written_of : HartValue → ℕ → Written
 written_of h register = record { register = register; value = h.registers register }
 
--- what choice c did to its hart, which was `old` before and is `new` after, of worlds before and after
+-- what choice c did to its hart, which was `old` before and is `new` after, of worlds before and
+-- after
 abbrev pub told_of : Choice → HartValue → HartValue → World → World → Told
 told_of c old new before after =
     let word = word_met old.state before.memory old.pc in
@@ -69,5 +71,5 @@ told_of c old new before after =
     }
 
 -- what a choice does in a world
-unfoldable pub told : World → Choice → Told
-told w c = told_of c (hart_at w c.hart) (hart_at (step w c) c.hart) w (step w c)
+unfoldable pub told_choice : World → Choice → Told
+told_choice w c = told_of c (hart_at w c.hart) (hart_at (step w c) c.hart) w (step w c)

@@ -1,6 +1,6 @@
 //! The number that bytes of memory spell.
 ghost use Rattle.std.specs.Prelude.{◌≡◌, IfSome};
-ghost use Rattle.trace_steps.specs.Bytes.{number_there, number_in, IsSize};
+ghost use Rattle.trace_steps.specs.Bytes.{number_there, bytes_number, IsSize};
 
 use hart_step::Access;
 use mem_store::Store;
@@ -77,10 +77,11 @@ fn number_there<S: Store>(store: &S, size: u32, address: u32) -> Option<u32>
     }
 }
 
-/// The number that the bytes of an access spell, whatever their rights; none where they are not all mapped, or there is no access.
+/// The number that the bytes of an access spell, whatever their rights; none where they are not all
+/// mapped, or there is no access.
 pub fn number_in<S: Store>(store: &S, access: Option<Access>) -> Option<u32>
     requires { IfSome access (λ a. IsSize a.size) }
-    ensures { result ≡ number_in (S.memory store.now) access }
+    ensures { result ≡ bytes_number (S.memory store.now) access }
 {
     let access = access?;
     number_there(store, access.size, access.address)

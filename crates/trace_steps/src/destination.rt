@@ -60,7 +60,8 @@ fn written_of(hart: &Hart, register: Reg) -> Written
     }
 }
 
-/// The register that an instruction wrote of a hart, as it is after the step; a hart that has faulted wrote none.
+/// The register that an instruction wrote of a hart, as it is after the step; a hart that has
+/// faulted wrote none.
 pub fn written(hart: &Hart, instr: Option<Instr>) -> Option<Written>
     ensures { result ≡ option_map (written_of (hart_of hart.now)) (written_in hart.now.state instr) }
 {

@@ -3,28 +3,30 @@ ghost use Rattle.std.specs.Prelude.{◌≡◌, ℕ, ◌<◌, List, ◌++◌, Som
 ghost use Rattle.std.specs.List.{All};
 ghost use Rattle.machine.specs.World.{World, step, run};
 ghost use Rattle.machine.specs.declared.choice.Choice.{Choice};
-ghost use Rattle.trace_steps.specs.Told.{hart_at, told};
+ghost use Rattle.trace_steps.specs.Told.{hart_at, told_choice};
 ghost use Rattle.trace_steps.specs.Tells.{tells};
 ghost use Rattle.trace_steps.specs.Covers.{IsNotWritten, IsElsewhere, IsOfAnother};
 
-/// What is told of choices after choices is what is told of the earlier ones, and then of the later ones from where those lead.
+/// What is told of choices after choices is what is told of the earlier ones, and then of the later
+/// ones from where those lead.
 #[tactic(auto, using(crate::proofs::TellLemmas::tells_append))]
 pub fn told_list_goes_on()
     ensures { (w : World) (choices more : List Choice)
         → tells w (choices ++ more) ≡ tells w choices ++ tells (run w choices) more }
 {}
 
-/// Each choice of a list is told once, in its place, as what it does in the world that those before it lead to.
+/// Each choice of a list is told once, in its place, as what it does in the world that those before
+/// it lead to.
 #[tactic(auto, using(crate::proofs::TellLemmas::told_in_place))]
 pub fn each_choice_is_told_where_it_stands()
     ensures { (w : World) (choices : List Choice) (k : ℕ) (c : Choice) → slice_get choices k ≡ Some c
-        → slice_get (tells w choices) k ≡ Some (told (run w (take k choices)) c) }
+        → slice_get (tells w choices) k ≡ Some (told_choice (run w (take k choices)) c) }
 {}
 
 /// A step changes no register of its hart but the one that is told.
 #[tactic(auto, using(crate::proofs::RegisterLemmas::unwritten_stays))]
 pub fn registers_change_where_they_are_told()
-    ensures { (w : World) (c : Choice) (r : ℕ) → IsNotWritten r (told w c).written
+    ensures { (w : World) (c : Choice) (r : ℕ) → IsNotWritten r (told_choice w c).written
         → (hart_at (step w c) c.hart).registers r ≡ (hart_at w c.hart).registers r }
 {}
 
@@ -35,7 +37,8 @@ pub fn memory_changes_where_it_is_told()
         → (run w choices).memory.bytes a ≡ w.memory.bytes a }
 {}
 
-/// A hart of which nothing is told, is at the end of a run what it was at its start: registers, pc, and whether it runs.
+/// A hart of which nothing is told, is at the end of a run what it was at its start: registers, pc,
+/// and whether it runs.
 #[tactic(auto, using(crate::proofs::TellLemmas::untold_stays))]
 pub fn hart_that_is_not_told_stays()
     ensures { (w : World) (choices : List Choice) (k : ℕ) → All (IsOfAnother k) (tells w choices)

@@ -4,11 +4,11 @@ ghost use Rattle.mem_store.specs.Memory.{Memory};
 ghost use Rattle.hart_step.specs.Hart.{HartValue};
 ghost use Rattle.machine.specs.Machine.{world};
 ghost use Rattle.machine.specs.World.{World, step};
-ghost use Rattle.trace_steps.specs.Bytes.{number_in, IsSize};
+ghost use Rattle.trace_steps.specs.Bytes.{bytes_number, IsSize};
 ghost use Rattle.trace_steps.specs.Known.{Knows};
-ghost use Rattle.trace_steps.specs.Latest.{words_of};
+ghost use Rattle.trace_steps.specs.Latest.{latest_words};
 ghost use Rattle.trace_steps.specs.Met.{IsMet};
-ghost use Rattle.trace_steps.specs.Told.{hart_at, told_access, told_of, told};
+ghost use Rattle.trace_steps.specs.Told.{hart_at, told_access, told_of, told_choice};
 
 use crate::bytes::number_in;
 use crate::destination::written;
@@ -27,7 +27,7 @@ fn told_access<S: Store>(
     before: Option<u32>,
 ) -> Option<ToldAccess>
     requires { IfSome access (λ a. IsSize a.size) }
-    ensures { (m : Memory) → before ≡ number_in m access
+    ensures { (m : Memory) → before ≡ bytes_number m access
         → result ≡ option_map (told_access m (S.memory store.now)) access }
 {
     let after = number_in(store, access);
@@ -53,7 +53,7 @@ fn tell<S: Store, A: Allocator>(
     met: Met,
 ) -> Told
     requires there { choice.hart < length (world S.memory machine.now).harts }
-    requires known { Knows (words_of latest.now) (world S.memory machine.now).reserved }
+    requires known { Knows (latest_words latest.now) (world S.memory machine.now).reserved }
     requires size { IfSome met.access (λ a. IsSize a.size) }
     ensures { (old : HartValue) (before : World) → IsMet met old before.memory
         → result ≡ told_of choice old (hart_at (world S.memory machine.now) choice.hart)
@@ -74,18 +74,19 @@ fn tell<S: Store, A: Allocator>(
     }
 }
 
-/// Does a choice, and tells what it did. `latest` has to know the machine's reservations, and then knows those after the step. Only
-/// the memory of the host may refuse, and then nothing has changed.
+/// Does a choice, and tells what it did. `latest` has to know the machine's reservations, and then
+/// knows those after the step. Only the memory of the host may refuse, and then nothing has
+/// changed.
 pub fn tell_step<S: Store, A: Allocator>(
     machine: &mut Machine<S, A>,
     latest: &mut Latest,
     choice: Choice,
 ) -> Result<Told, AllocError>
     requires there { choice.hart < length (world S.memory machine.old).harts }
-    requires known { Knows (words_of latest.old) (world S.memory machine.old).reserved }
+    requires known { Knows (latest_words latest.old) (world S.memory machine.old).reserved }
     ensures stepped { OnOk result (world S.memory machine.new ≡ step (world S.memory machine.old) choice) }
-    ensures told { IfOk result (λ t. t ≡ told (world S.memory machine.old) choice) }
-    ensures known { Knows (words_of latest.new) (world S.memory machine.new).reserved }
+    ensures told { IfOk result (λ t. t ≡ told_choice (world S.memory machine.old) choice) }
+    ensures known { Knows (latest_words latest.new) (world S.memory machine.new).reserved }
     ensures unchanged { OnErr result (world S.memory machine.new ≡ world S.memory machine.old) }
     ensures refused { OnErr result (IsTrue S.grows) }
     ensures harts { length (world S.memory machine.new).harts

@@ -11,13 +11,15 @@ pub struct Told {
     pub choice: Choice,
     /// Where its hart stood before the step, a byte address.
     pub pc: u32,
-    /// The instruction word at `pc`; none where it may not be fetched, and where the hart had stopped before.
+    /// The instruction word at `pc`; none where it may not be fetched, and where the hart had
+    /// stopped before.
     pub word: Option<u32>,
     /// The instruction that the word spells; none where it spells none.
     pub instr: Option<Instr>,
     /// The access of data that the instruction has, also where it is a fault.
     pub access: Option<ToldAccess>,
-    /// The register that the step wrote: none where the instruction has no destination, where that is `x0`, and where the hart faulted.
+    /// The register that the step wrote: none where the instruction has no destination, where that
+    /// is `x0`, and where the hart faulted.
     pub written: Option<Written>,
     /// The address of the word that the hart has reserved after the step.
     pub reserved: Option<u32>,
@@ -36,7 +38,8 @@ pub struct ToldAccess {
     pub address: u32,
     /// How many they are: 1, 2 or 4.
     pub size: u32,
-    /// The number that they spelled before the step, the lowest byte first; none where they are not all mapped.
+    /// The number that they spelled before the step, the lowest byte first; none where they are not
+    /// all mapped.
     pub before: Option<u32>,
     /// The number that they spell after the step.
     pub after: Option<u32>,

@@ -2,11 +2,11 @@ use Rattle.std.proofs.Common.{◌≡◌, ℕ, ◌+◌, ◌-◌, ◌<◌, ◌≤�
 use Rattle.std.specs.Prelude.{◌==◌, if◌then◌else◌}
 use Rattle.std.proofs.lemmas.Grind.{common_steps}
 use Rattle.trace_steps.specs.declared.told.Told.{Told}
-use Rattle.trace_text.specs.Table.{cell_text, columns_from, names_from, rules_of}
+use Rattle.trace_text.specs.Table.{table_cell, columns_from, names_from, rules_of}
 
 -- what stands in the column of a hart, and its bar
 abbrev column : Told → ℕ → List ℕ
-column told h = (if h == told.choice.hart then cell_text told else 32 ∷ []) ++ codes " |"
+column told h = (if h == told.choice.hart then table_cell told else 32 ∷ []) ++ codes " |"
 
 -- while harts are left, the next one's name stands first
 names_more : (h n : ℕ) → h < n → names_from h (n - h) ≡ codes " Hart " ++ (decimal h ++ (codes " |" ++ names_from (h + 1) (n - (h + 1))))
@@ -57,7 +57,7 @@ columns_more : (told : Told) (h n : ℕ) → h < n → columns_from told h (n - 
 unfolding columns_from
 columns_more told h n left =
     let e : n - h ≡ suc (n - (h + 1)) = omega arith in
-    rw e (sym (bar_joins (if h == told.choice.hart then cell_text told else 32 ∷ []) (codes " |") (columns_from told (h + 1) (n - (h + 1)))))
+    rw e (sym (bar_joins (if h == told.choice.hart then table_cell told else 32 ∷ []) (codes " |") (columns_from told (h + 1) (n - (h + 1)))))
 
 -- behind the last stands LF
 pub columns_done : (told : Told) (h n : ℕ) → n ≤ h → columns_from told h (n - h) ≡ 10 ∷ []
@@ -66,7 +66,7 @@ columns_done told h n none = let e : n - h ≡ 0 = omega arith in rw e refl
 
 -- one column more
 pub next_column : (before longer all : List ℕ) (told : Told) (h n : ℕ) → h < n
-    → longer ≡ before ++ ((if h == told.choice.hart then cell_text told else 32 ∷ []) ++ codes " |")
+    → longer ≡ before ++ ((if h == told.choice.hart then table_cell told else 32 ∷ []) ++ codes " |")
     → before ++ columns_from told h (n - h) ≡ all
     → longer ++ columns_from told (h + 1) (n - (h + 1)) ≡ all
 next_column before longer all told h n left is_longer so_far =

@@ -1,7 +1,8 @@
 -- The texts of objects and arrays, with no blank between tokens. RFC 8259, sections 4 and 5.
 use Rattle.std.specs.Prelude.{ℕ, List, [], ◌∷◌, ◌++◌}
 
--- a member: its name between quotes, a colon and the text of its value. It has to be a name with nothing to escape
+-- a member: its name between quotes, a colon and the text of its value. It has to be a name with
+-- nothing to escape
 unfoldable pub member : List ℕ → List ℕ → List ℕ
 member name value = 34 ∷ (name ++ (34 ∷ 58 ∷ value))
 

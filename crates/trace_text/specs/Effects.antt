@@ -13,24 +13,25 @@ use Rattle.trace_text.specs.declared.effect.Effect.{Effect}
 use Rattle.trace_text.specs.declared.effect.Effect.TheVariants as effect
 
 -- the list of a thing that may be absent
-abbrev pub listed : Option Effect → List Effect
-listed None = []
-listed (Some e) = e ∷ []
+abbrev pub effect_list : Option Effect → List Effect
+effect_list None = []
+effect_list (Some e) = e ∷ []
 
--- a store-conditional writes 0 into its register where it stored, and another number where it did not (Unprivileged ISA,
--- "Load-Reserved/Store-Conditional Instructions")
-abbrev pub result_of : ℕ → Effect
-result_of value = if value == 0 then effect.Succeeds else effect.Fails
+-- a store-conditional writes 0 into its register where it stored, and another number where it did
+-- not (Unprivileged ISA, "Load-Reserved/Store-Conditional Instructions")
+abbrev pub sc_result : ℕ → Effect
+sc_result value = if value == 0 then effect.Succeeds else effect.Fails
 
 -- of a store-conditional whether it succeeded, by what it wrote into its register
 abbrev pub outcome_by : AccessKind → ℕ → Option Effect
 outcome_by Load value = None
 outcome_by Store value = None
 outcome_by LoadReserved value = None
-outcome_by StoreConditional value = Some (result_of value)
+outcome_by StoreConditional value = Some (sc_result value)
 outcome_by Amo value = None
 
--- the same, where there is an access and a register was written: nothing is told of one whose register is x0
+-- the same, where there is an access and a register was written: nothing is told of one whose
+-- register is x0
 unfoldable pub outcome : Option ToldAccess → Option Written → Option Effect
 outcome None written = None
 outcome (Some a) None = None
@@ -53,17 +54,17 @@ bytes_unless_failed None bytes = bytes
 bytes_unless_failed (Some w) bytes = if w.value == 0 then bytes else None
 
 -- those of an instruction of this kind
-abbrev pub bytes_by : AccessKind → Option Written → Option Effect → Option Effect
-bytes_by Load written bytes = None
-bytes_by Store written bytes = bytes
-bytes_by LoadReserved written bytes = None
-bytes_by StoreConditional written bytes = bytes_unless_failed written bytes
-bytes_by Amo written bytes = bytes
+abbrev pub effect_bytes : AccessKind → Option Written → Option Effect → Option Effect
+effect_bytes Load written bytes = None
+effect_bytes Store written bytes = bytes
+effect_bytes LoadReserved written bytes = None
+effect_bytes StoreConditional written bytes = bytes_unless_failed written bytes
+effect_bytes Amo written bytes = bytes
 
 -- those of an instruction that accesses bytes
 unfoldable pub bytes_stored : Option ToldAccess → Option Written → Option Effect
 bytes_stored None written = None
-bytes_stored (Some a) written = bytes_by a.kind written (bytes_set a.address a.before a.after)
+bytes_stored (Some a) written = effect_bytes a.kind written (bytes_set a.address a.before a.after)
 
 -- that the hart stopped itself
 unfoldable pub exit_of : HartState → Option Effect
@@ -74,8 +75,8 @@ exit_of (Faulted cause) = None
 -- what an instruction did that was no fault
 abbrev pub step_effects : Told → List Effect
 step_effects told =
-    listed (outcome told.access told.written) ++ (listed (register_set told.written)
-    ++ (listed (bytes_stored told.access told.written) ++ listed (exit_of told.state)))
+    effect_list (outcome told.access told.written) ++ (effect_list (register_set told.written)
+    ++ (effect_list (bytes_stored told.access told.written) ++ effect_list (exit_of told.state)))
 
 -- where no word was fetched, the hart had stopped before, unless it may not fetch there
 abbrev pub without_word_by : Cause → Effect

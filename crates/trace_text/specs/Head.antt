@@ -10,13 +10,13 @@ use Rattle.trace_text.specs.declared.head.HartThen.{HartThen}
 use Rattle.trace_text.specs.declared.head.Span.{Span}
 
 -- so many registers from register r on, each behind a comma, and the closing bracket
-unfoldable pub registers_from : Registers → ℕ → ℕ → List ℕ
-registers_from x r zero = 93 ∷ []
-registers_from x r (suc count) = 44 ∷ (decimal (x r) ++ registers_from x (r + 1) count)
+unfoldable pub head_registers : Registers → ℕ → ℕ → List ℕ
+head_registers x r zero = 93 ∷ []
+head_registers x r (suc count) = 44 ∷ (decimal (x r) ++ head_registers x (r + 1) count)
 
 -- the values of x0 to x31
 unfoldable pub registers_value : Registers → List ℕ
-registers_value x = 91 ∷ (decimal (x 0) ++ registers_from x 1 31)
+registers_value x = 91 ∷ (decimal (x 0) ++ head_registers x 1 31)
 
 -- a hart, and the address of the word that it has reserved
 abbrev pub then_of : HartThen → HartValue × Option ℕ

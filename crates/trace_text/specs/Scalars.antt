@@ -1,4 +1,5 @@
--- The texts of JSON's values that are neither strings nor made of others. RFC 8259, sections 3 and 6.
+-- The texts of JSON's values that are neither strings nor made of others. RFC 8259, sections 3 and
+-- 6.
 use Rattle.std.specs.Prelude.{ℕ, Bool, true, false, List, codes, decimal, Option, Some, None}
 
 -- a flag's word

@@ -44,31 +44,33 @@ unfoldable pub effects_text : List Effect → List ℕ
 effects_text [] = []
 effects_text (e ∷ effects) = 32 ∷ (effect_text e ++ more_effects effects)
 
--- the canonical line of the word at an address as code behind a blank, nothing where it is no instruction or there is none
+-- the canonical line of the word at an address as code behind a blank, nothing where it is no
+-- instruction or there is none
 unfoldable pub instr_text : ℕ → Option ℕ → Option Instr → List ℕ
 instr_text pc None instr = []
 instr_text pc (Some word) None = []
 instr_text pc (Some word) (Some instr) = 32 ∷ 96 ∷ (flat_map cell_byte (line_text pc word) ++ 96 ∷ [])
 
 -- that the choice has the mark
-unfoldable pub mark_text : Bool → List ℕ
-mark_text true = codes " (refused)"
-mark_text false = []
+unfoldable pub table_mark : Bool → List ℕ
+table_mark true = codes " (refused)"
+table_mark false = []
 
 -- what stands in the column of the choice's hart
-unfoldable pub cell_text : Told → List ℕ
-cell_text told =
-    instr_text told.pc told.word told.instr ++ (effects_text (effects_of told) ++ mark_text told.choice.refuse)
+unfoldable pub table_cell : Told → List ℕ
+table_cell told =
+    instr_text told.pc told.word told.instr ++ (effects_text (effects_of told) ++ table_mark told.choice.refuse)
 
--- the columns of so many harts from number h on, and LF: only the choice's hart has something in its own
+-- the columns of so many harts from number h on, and LF: only the choice's hart has something in
+-- its own
 unfoldable pub columns_from : Told → ℕ → ℕ → List ℕ
 columns_from told h zero = 10 ∷ []
 columns_from told h (suc count) =
-    (if h == told.choice.hart then cell_text told else 32 ∷ []) ++ (codes " |" ++ columns_from told (h + 1) count)
+    (if h == told.choice.hart then table_cell told else 32 ∷ []) ++ (codes " |" ++ columns_from told (h + 1) count)
 
 -- the row of choice k and of what it did, for so many harts
-unfoldable pub row_of : Told → ℕ → ℕ → List ℕ
-row_of told k harts = codes "| " ++ (decimal k ++ (codes " |" ++ columns_from told 0 harts))
+unfoldable pub table_row : Told → ℕ → ℕ → List ℕ
+table_row told k harts = codes "| " ++ (decimal k ++ (codes " |" ++ columns_from told 0 harts))
 
 -- the names of the columns of so many harts from number h on, and LF
 unfoldable pub names_from : ℕ → ℕ → List ℕ

@@ -6,7 +6,7 @@ use Rattle.trace_text.specs.Scalars.{number_or_null}
 use Rattle.isa_table.specs.declared.instr.Instr.{Instr}
 use Rattle.isa_names.specs.Names.{abi}
 use Rattle.isa_disasm.specs.Lines.{line_text}
-use Rattle.ends.specs.Ends.{cause_name}
+use Rattle.outcome.specs.Ends.{cause_name}
 use Rattle.hart_step.specs.declared.hart.Cause.{Cause}
 use Rattle.hart_step.specs.declared.hart.HartState.{HartState}
 use Rattle.hart_step.specs.declared.hart.HartState.TheVariants.{Running, Exited, Faulted}

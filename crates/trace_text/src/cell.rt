@@ -4,7 +4,7 @@ ghost use Rattle.std.specs.Prelude.{◌≡◌, ◌++◌, ◌∷◌, [], flat_map
 ghost use Rattle.isa_names.specs.Digits.{word_text};
 ghost use Rattle.trace_text.specs.declared.effect.Effect.TheVariants.{Sets, Stores};
 ghost use Rattle.trace_text.specs.Effects.{effects_of};
-ghost use Rattle.trace_text.specs.Table.{cell_byte, cell_text, effect_text, effects_text, hex, instr_text, mark_text, more_effects};
+ghost use Rattle.trace_text.specs.Table.{cell_byte, table_cell, effect_text, effects_text, hex, instr_text, table_mark, more_effects};
 
 use crate::effect::Effect;
 use crate::effects::effects_of;
@@ -164,9 +164,9 @@ fn push_instr<A: Allocator>(
 }
 
 // Appends that the choice has the mark, where it has it.
-#[tactic(auto, unfolding(crate::specs::Table::mark_text))]
+#[tactic(auto, unfolding(crate::specs::Table::table_mark))]
 fn push_mark<A: Allocator>(out: &mut Vec<u8, A>, refuse: bool) -> Result<(), AllocError>
-    ensures { OnOk result (out.new.items ≡ out.old.items ++ mark_text refuse) }
+    ensures { OnOk result (out.new.items ≡ out.old.items ++ table_mark refuse) }
 {
     if refuse {
         return out.extend_from_slice(b" (refused)");
@@ -175,13 +175,13 @@ fn push_mark<A: Allocator>(out: &mut Vec<u8, A>, refuse: bool) -> Result<(), All
 }
 
 /// Appends what stands in the column of a choice's hart.
-#[tactic(auto, unfolding(crate::specs::Table::cell_text))]
+#[tactic(auto, unfolding(crate::specs::Table::table_cell))]
 pub(crate) fn push_cell<A: Allocator + Copy>(
     alloc: A,
     out: &mut Vec<u8, A>,
     told: &Told,
 ) -> Result<(), AllocError>
-    ensures { OnOk result (out.new.items ≡ out.old.items ++ cell_text told.now) }
+    ensures { OnOk result (out.new.items ≡ out.old.items ++ table_cell told.now) }
 {
     let effects = effects_of(alloc, told)?;
     push_instr(alloc, out, told.pc, told.word, told.instr)?;

@@ -1,7 +1,7 @@
 //! What a choice did, as the things that its row tells.
 
 ghost use Rattle.std.specs.Prelude.{◌≡◌, ◌++◌, IfOk, OnOk};
-ghost use Rattle.trace_text.specs.Effects.{bytes_set, bytes_stored, effects_of, exit_of, listed, outcome, register_set, result_of, step_effects, without_word};
+ghost use Rattle.trace_text.specs.Effects.{bytes_set, bytes_stored, effects_of, exit_of, effect_list, outcome, register_set, sc_result, step_effects, without_word};
 
 use crate::effect::Effect;
 use hart_step::{AccessKind, Cause, HartState};
@@ -10,7 +10,7 @@ use trace_steps::{Told, ToldAccess, Written};
 
 // Whether a store-conditional stored, by what it wrote into its register.
 fn result_of(value: u32) -> Effect
-    ensures { result ≡ result_of value }
+    ensures { result ≡ sc_result value }
 {
     if value == 0 {
         Effect::Succeeds
@@ -92,7 +92,7 @@ fn without_word(state: HartState) -> Effect
 
 // Appends a thing that may be absent.
 fn add<A: Allocator>(effects: &mut Vec<Effect, A>, effect: Option<Effect>) -> Result<(), AllocError>
-    ensures { OnOk result (effects.new.items ≡ effects.old.items ++ listed effect) }
+    ensures { OnOk result (effects.new.items ≡ effects.old.items ++ effect_list effect) }
 {
     if let Some(effect) = effect {
         effects.push(effect)?;

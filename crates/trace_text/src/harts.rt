@@ -4,7 +4,7 @@ ghost use Rattle.std.specs.Prelude.{◌≡◌, ◌++◌, ◌∷◌, [], codes, d
 ghost use Rattle.hart_step.specs.Hart.{hart_of, registers_of};
 ghost use Rattle.trace_text.specs.Composites.{member, array, more_elements};
 ghost use Rattle.trace_text.specs.Scalars.{number_or_null};
-ghost use Rattle.trace_text.specs.Head.{hart_object, registers_from, registers_value, then_of};
+ghost use Rattle.trace_text.specs.Head.{hart_object, head_registers, registers_value, then_of};
 ghost use Rattle.trace_text.specs.Values.{end_value};
 
 use crate::head::HartThen;
@@ -17,7 +17,7 @@ use std::alloc::{AllocError, Allocator};
 #[tactic(auto, using(crate::proofs::HeadLemmas::registers_more, crate::proofs::HeadLemmas::registers_done))]
 fn push_more_registers<A: Allocator>(out: &mut Vec<u8, A>, hart: &Hart) -> Result<(), AllocError>
     ensures { OnOk result (out.new.items
-        ≡ out.old.items ++ registers_from (registers_of hart.now.registers) 1 31) }
+        ≡ out.old.items ++ head_registers (registers_of hart.now.registers) 1 31) }
 {
     'registers: for number in 1..32 {
         out.push(b',')?;

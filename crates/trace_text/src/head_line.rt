@@ -77,8 +77,9 @@ fn push_object<A: Allocator>(
     push_lists(out, symbols, harts)
 }
 
-/// Appends the head line of a trace: where the program begins, a byte address, each hart's input, which choices are told, the symbols
-/// of the file, and the harts as they are before the first choice that is told.
+/// Appends the head line of a trace: where the program begins, a byte address, each hart's input,
+/// which choices are told, the symbols of the file, and the harts as they are before the first
+/// choice that is told.
 #[tactic(auto, unfolding(crate::specs::Head::head_line))]
 pub fn push_head<A: Allocator>(
     out: &mut Vec<u8, A>,

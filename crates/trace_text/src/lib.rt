@@ -1,4 +1,5 @@
-//! What a trace writes: the lines of JSON and the rows of a table in Markdown, and the values of JSON that the lines are made of.
+//! What a trace writes: the lines of JSON and the rows of a table in Markdown, and the values of
+//! JSON that the lines are made of.
 #![tactic(auto)]
 
 pub use array::push_numbers;

@@ -17,8 +17,8 @@ fn digit_of(number: u8) -> u8
     }
 }
 
-// Appends what stands in a string for a byte: itself, but for the quote, the backslash and the control characters, which have to be
-// escaped.
+// Appends what stands in a string for a byte: itself, but for the quote, the backslash and the
+// control characters, which have to be escaped.
 #[tactic(auto, unfolding(json::specs::Print::escape_byte))]
 fn push_byte<A: Allocator>(out: &mut Vec<u8, A>, byte: u8) -> Result<(), AllocError>
     ensures { OnOk result (out.new.items ≡ out.old.items ++ escape_byte byte) }
@@ -59,8 +59,9 @@ fn push_escaped<A: Allocator>(out: &mut Vec<u8, A>, bytes: &[u8]) -> Result<(), 
     Ok(())
 }
 
-/// Appends a string: the text between quotes. In it the quote and the backslash stand behind a backslash, the control characters
-/// U+0000 to U+001F have their short escapes where there are such, and else `\u` and four digits; all others stand as they are.
+/// Appends a string: the text between quotes. In it the quote and the backslash stand behind a
+/// backslash, the control characters U+0000 to U+001F have their short escapes where there are
+/// such, and else `\u` and four digits; all others stand as they are.
 pub fn push_string<A: Allocator>(out: &mut Vec<u8, A>, text: &str) -> Result<(), AllocError>
     ensures { OnOk result (out.new.items ≡ out.old.items ++ quoted text.now) }
 {

@@ -1,7 +1,7 @@
 //! The rows of a table.
 
 ghost use Rattle.std.specs.Prelude.{◌≡◌, ◌++◌, ◌∷◌, [], codes, OnOk, if◌then◌else◌, ◌==◌};
-ghost use Rattle.trace_text.specs.Table.{cell_text, columns_from, head_rows, names_from, row_of, rules_of};
+ghost use Rattle.trace_text.specs.Table.{table_cell, columns_from, head_rows, names_from, table_row, rules_of};
 
 use crate::cell::push_cell;
 use crate::scalar::push_number;
@@ -53,7 +53,7 @@ fn push_column<A: Allocator + Copy>(
     hart: u32,
 ) -> Result<(), AllocError>
     ensures { OnOk result (out.new.items ≡ out.old.items
-        ++ ((if hart == told.now.choice.hart then cell_text told.now else 32 ∷ []) ++ codes " |")) }
+        ++ ((if hart == told.now.choice.hart then table_cell told.now else 32 ∷ []) ++ codes " |")) }
 {
     if hart == told.choice.hart {
         push_cell(alloc, out, told)?;
@@ -81,7 +81,7 @@ fn push_columns<A: Allocator + Copy>(
 }
 
 /// Appends the row of choice `k`, counted from 1, and of what it did, for so many harts.
-#[tactic(auto, unfolding(crate::specs::Table::row_of))]
+#[tactic(auto, unfolding(crate::specs::Table::table_row))]
 pub fn push_row<A: Allocator + Copy>(
     alloc: A,
     out: &mut Vec<u8, A>,
@@ -89,7 +89,7 @@ pub fn push_row<A: Allocator + Copy>(
     k: u64,
     harts: u32,
 ) -> Result<(), AllocError>
-    ensures { OnOk result (out.new.items ≡ out.old.items ++ row_of told.now k harts) }
+    ensures { OnOk result (out.new.items ≡ out.old.items ++ table_row told.now k harts) }
 {
     out.extend_from_slice(b"| ")?;
     push_number(out, k)?;

@@ -15,7 +15,8 @@ use isa_table::Instr;
 use std::alloc::{AllocError, Allocator};
 use trace_steps::{ToldAccess, Written};
 
-/// Appends the canonical line of a word at an address, or `null` where it is no instruction or there is none.
+/// Appends the canonical line of a word at an address, or `null` where it is no instruction or
+/// there is none.
 #[tactic(auto, unfolding(crate::specs::Values::text_value))]
 pub(crate) fn push_text<A: Allocator>(
     alloc: A,

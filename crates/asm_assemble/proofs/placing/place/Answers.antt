@@ -1,6 +1,6 @@
 use Rattle.std.proofs.Common.{◌+◌, ◌^◌, length, ap, arith}
 use Rattle.asm_assemble.specs.Program.{symbol_list}
-use Rattle.asm_assemble.specs.Cursors.{address}
+use Rattle.asm_assemble.specs.Cursors.{cursor_address}
 use Rattle.asm_assemble.specs.Placing.{is_at, placing}
 use Rattle.asm_assemble.proofs.New.{is_new}
 use Rattle.asm_assemble.proofs.Within.{within_count, within_next}
@@ -15,7 +15,7 @@ statements-init g c = record {
 
 pub define-requires : goal.define-requires
 define-requires g c =
-    is_new (symbol_list c.statements.symbols.entries) (is_at c.args.heavy c.statements.i) (address c.statements.cursor) c.index-statements-i.result.body (cc)
+    is_new (symbol_list c.statements.symbols.entries) (is_at c.args.heavy c.statements.i) (cursor_address c.statements.cursor) c.index-statements-i.result.body (cc)
 
 pub step-cursor-requires : goal.step-cursor-requires
 step-cursor-requires g c =

@@ -1,7 +1,8 @@
 use Rattle.std.proofs.Common.{◌≡◌, drop, map}
 use Rattle.asm_lex.specs.Lexemes.{seen}
-use Rattle.asm_parse.specs.Directives.{each, listed, parts_seen, name}
+use Rattle.asm_statement.specs.Directives.{each, comma_separated, parts_seen}
+use Rattle.asm_statement.specs.Shapes.{name}
 use Rattle.asm_parse.proofs.directives.names.Given as goal
 
 abbrev pub invariant-parts : goal.invariant-parts
-invariant-parts g l = each name l.names.items (parts_seen (drop l.part-index l.part-items)) ≡ listed name (map seen l.lexemes)
+invariant-parts g l = each name l.names.items (parts_seen (drop l.part-index l.part-items)) ≡ comma_separated name (map seen l.lexemes)

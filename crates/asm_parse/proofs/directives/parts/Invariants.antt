@@ -1,6 +1,6 @@
 use Rattle.std.proofs.Common.{◌≡◌, ◌≤◌, ◌-◌, take, drop, map}
 use Rattle.asm_lex.specs.Lexemes.{seen}
-use Rattle.asm_parse.specs.Directives.{parts, parts_from, parts_seen}
+use Rattle.asm_statement.specs.Directives.{parts, parts_from, parts_seen}
 use Rattle.asm_parse.proofs.directives.parts.Given as goal
 
 abbrev pub invariant-lexemes : goal.invariant-lexemes

@@ -1,6 +1,6 @@
 use Rattle.std.proofs.Common.{◌≡◌, drop, map}
 use Rattle.asm_lex.specs.Lexemes.{seen}
-use Rattle.asm_parse.specs.Directives.{texts, texts_from, parts_seen}
+use Rattle.asm_statement.specs.Directives.{texts, texts_from, parts_seen}
 use Rattle.asm_parse.proofs.directives.texts.Given as goal
 
 abbrev pub invariant-parts : goal.invariant-parts

@@ -1,6 +1,6 @@
 use Rattle.std.proofs.Common.{◌∙◌, ℕ, Bool, not, ◌&&◌, arith}
 use Rattle.std.specs.Prelude.{◌==◌}
-use Rattle.asm_parse.specs.Heads.{head_of, head_names}
+use Rattle.asm_statement.specs.Heads.{head_of, head_names}
 use Rattle.asm_parse.proofs.Beginnings.{kept, found_among, found_with}
 use Rattle.asm_parse.proofs.heads.head_of.Goals as goal
 

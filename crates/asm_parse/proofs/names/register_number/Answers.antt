@@ -1,6 +1,6 @@
 use Rattle.std.proofs.Common.{◌∙◌, ℕ, Bool, not, ◌&&◌, arith}
 use Rattle.std.specs.Prelude.{◌==◌}
-use Rattle.asm_parse.specs.Names.{register_number, register_names}
+use Rattle.asm_statement.specs.Names.{register_number, register_names}
 use Rattle.asm_parse.proofs.Beginnings.{kept, found_among, found_with}
 use Rattle.asm_parse.proofs.names.register_number.Goals as goal
 

@@ -1,6 +1,6 @@
 use Rattle.std.proofs.Common.{◌≡◌, ◌≤◌, ◌-◌, length, drop, map}
 use Rattle.asm_lex.specs.Lexemes.{seen}
-use Rattle.asm_parse.specs.Statements.{labels_from}
+use Rattle.asm_statement.specs.Statements.{labels_from}
 use Rattle.asm_parse.proofs.read.push_labels.Given as goal
 
 abbrev pub invariant-labels : goal.invariant-labels

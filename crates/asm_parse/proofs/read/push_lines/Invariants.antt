@@ -1,6 +1,6 @@
 use Rattle.std.proofs.Common.{◌≡◌, ◌≤◌, ◌+◌, ◌-◌, [], length, drop, map}
 use Rattle.asm_lex.specs.Lexemes.{lexed, seen}
-use Rattle.asm_parse.specs.Statements.{read_from}
+use Rattle.asm_statement.specs.Statements.{read_from}
 use Rattle.asm_parse.proofs.read.push_lines.Given as goal
 
 abbrev pub invariant-lexemes : goal.invariant-lexemes

@@ -1,5 +1,5 @@
 use Rattle.std.proofs.Common.{◌≡◌, drop}
-use Rattle.asm_parse.specs.Statements.{sources_from, statements_of, texts_of}
+use Rattle.asm_statement.specs.Statements.{sources_from, statements_of, texts_of}
 use Rattle.asm_parse.proofs.read.statements.Given as goal
 
 abbrev pub invariant-sources : goal.invariant-sources

@@ -1,5 +1,5 @@
 use Rattle.std.proofs.Common.{◌≡◌, ◌≤◌, ◌-◌, length, drop}
-use Rattle.asm_parse.specs.Texts.{said_from}
+use Rattle.asm_statement.specs.Texts.{said_from}
 use Rattle.asm_parse.proofs.texts.push_text.Given as goal
 
 abbrev pub invariant-bytes : goal.invariant-bytes

@@ -7,7 +7,7 @@ use Rattle.hart_step.specs.Effect.{site}
 use Rattle.hart_step.specs.Hart.{hart_of}
 use Rattle.hart_step.specs.Step.{stepped}
 use Rattle.bank_step.specs.declared.words.Word.{Word}
-use Rattle.bank_step.specs.Told.{access_if, told_memory, word_by}
+use Rattle.bank_step.specs.Told.{touched_if, told_memory, word_by}
 use Rattle.bank_step.proofs.StepLemmas.{instruction_stays, told_leaves}
 use Rattle.bank_step.proofs.steps.told_step.Goals as goal
 
@@ -34,7 +34,7 @@ returns g c = λ c' v ok code touched asked.
     told_leaves m (told_memory (image_memory c.step_hart.new.store.image.now) c.step_hart.new.store.code c.step_hart.new.store.touched c.step_hart.new.store.target)
     h (hart_of c.step_hart.new.hart) c' v c.args.succeeds ok memory.code memory.touched target access r (marks c.step_hart.new.reserve)
     code touched
-    (c.access_if-access.ensures ∙ ap (λ found. access_if found h) (c.look_up-known.ensures.found ∙ ap (λ (t : Option Word). instruction_at (told_memory m memory.code memory.touched t) pc) c.requires))
+    (c.access_if-access.ensures ∙ ap (λ found. touched_if found h) (c.look_up-known.ensures.found ∙ ap (λ (t : Option Word). instruction_at (told_memory m memory.code memory.touched t) pc) c.requires))
     (c.word_by-target.ensures ∙ ap (λ (t : Option Word). word_by (told_memory m memory.code memory.touched t).bytes access) c.requires)
     asked
     (c.reserve_of-reserve.ensures ∙ ap (λ (t : Option Word). if c.args.succeeds then option_map (λ (w : Word). w.address) t else None) c.begin.ensures.touched)

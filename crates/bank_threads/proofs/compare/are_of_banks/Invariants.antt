@@ -1,4 +1,4 @@
-use Rattle.bank_threads.specs.Banked.{IsBankOf}
+use Rattle.bank_merge.specs.Logs.{IsBankOf}
 use Rattle.bank_threads.proofs.ListLemmas.{Below}
 use Rattle.bank_threads.proofs.compare.are_of_banks.Given as goal
 

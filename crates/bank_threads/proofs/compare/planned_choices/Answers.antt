@@ -1,7 +1,7 @@
 use Rattle.std.proofs.Common.{arith, ap, ◌≡◌, ◌+◌, ◌∙◌, refl}
 use Rattle.bank_laws.specs.Segments.{LoggedSegment}
 use Rattle.thread_gate.specs.Plan.{is_planned}
-use Rattle.bank_threads.proofs.ListLemmas.{drop_here, drop_none}
+use Rattle.bank_merge.proofs.ListLemmas.{drop_here, drop_none}
 use Rattle.bank_threads.proofs.ChoiceLemmas.{goes_first, goes_next, goes_last, flag_is}
 use Rattle.bank_threads.proofs.compare.planned_choices.Goals as goal
 

@@ -1,6 +1,6 @@
 use Rattle.std.proofs.Common.{◌≡◌, ◌<◌, length, ap, subst, sym, ◌∙◌, arith}
 use Rattle.std.specs.List.{list_all}
-use Rattle.bank_access_order.specs.AccessOrder.{logs_of}
+use Rattle.bank_merge.specs.AccessOrder.{bank_logs}
 use Rattle.bank_hart_log.specs.HartLog.{HartLogValue}
 use Rattle.bank_threads.specs.Ordered.{IsOrderedHart}
 use Rattle.bank_threads.proofs.ListLemmas.{each_yes, get_inside, get_it}
@@ -15,6 +15,6 @@ returns g c = λ all. (
       let answer = each_yes c.in_ok-answers.answers.items h (omega (arith, low, answered))
       (sym (ap (list_all (λ answer. answer)) c.deref.ensures.value) ∙ (sym c.are_yes.ensures ∙ all)) in
       let look = (c.in_ok-answers.ensures.each h _ low).1 in
-      subst (λ (x : HartLogValue). IsOrderedHart c.args.image.now c.args.inputs.now c.args.budget c.args.plan.now.keys (logs_of c.args.banks.now) h x)
+      subst (λ (x : HartLogValue). IsOrderedHart c.args.image.now c.args.inputs.now c.args.budget c.args.plan.now.keys (bank_logs c.args.banks.now) h x)
       (get_it c.args.logs.now h l at) (look.met l answer),
 )

@@ -1,6 +1,6 @@
 use Rattle.std.proofs.Common.{◌≡◌, ◌∷◌, ◌++◌, [], Some, None, take, arith, ap, sym, ◌∙◌}
 use Rattle.std.specs.List.{slice_split}
-use Rattle.cli_args.specs.Inputs.{is_comma, input_of, inputs_of_parts, followed_by}
+use Rattle.cli_args.specs.Inputs.{ends_part, input_of, inputs_of_parts, inputs_then}
 use Rattle.cli_args.proofs.InputLemmas.{bad_input, last_input, goes_on}
 use Rattle.cli_args.proofs.inputs.read_inputs.Goals as goal
 
@@ -26,5 +26,5 @@ parts-preserved g c =
     let part : input_of (take end rest) ≡ Some c.in-Some.input
     = ap input_of (sym c.split_at.ensures.front) ∙ sym c.in-Some.ensures in
     goes_on c.args.text.now rest end c.parts.inputs.items c.part_len-end.ensures.count c.parts.invariant c.in-Some.input part (omega (arith, c.part_len-end.ensures.within))
-    ∙ ap (λ xs. followed_by (c.parts.inputs.items ++ c.in-Some.input ∷ []) (inputs_of_parts (slice_split is_comma xs))) (sym c.split_at-in-parts.ensures.back)
-    ∙ ap (λ xs. followed_by xs (inputs_of_parts (slice_split is_comma c.split_at-in-parts.result.1.now))) (sym c.in-Ok.ensures.items)
+    ∙ ap (λ xs. inputs_then (c.parts.inputs.items ++ c.in-Some.input ∷ []) (inputs_of_parts (slice_split ends_part xs))) (sym c.split_at-in-parts.ensures.back)
+    ∙ ap (λ xs. inputs_then xs (inputs_of_parts (slice_split ends_part c.split_at-in-parts.result.1.now))) (sym c.in-Ok.ensures.items)

@@ -1,6 +1,6 @@
 use Rattle.std.proofs.Common.{◌≡◌, ◌∷◌, ◌++◌, ◌||◌, ◌&&◌, ◌==◌, [], Some, None, take, arith, ap, sym, ◌∙◌}
 use Rattle.std.specs.List.{slice_split}
-use Rattle.cli_args.specs.Inputs.{is_comma}
+use Rattle.cli_args.specs.Inputs.{ends_part}
 use Rattle.cli_orders.specs.Plan.{pair_of, pairs_of_parts, pairs_then}
 use Rattle.cli_orders.proofs.PlanLemmas.{bad_pair, last_pair, goes_on, has_pair-more}
 use Rattle.cli_orders.proofs.plan.read_plan.Goals as goal
@@ -34,6 +34,6 @@ parts-preserved g c =
     = ap pair_of (sym c.split_at.ensures.front) ∙ sym c.in-Some.ensures in (
       old ++ pair ∷ [],
       goes_on c.args.text.now rest end old c.part_len-end.ensures.count c.parts.invariant.1 pair part (omega (arith, c.part_len-end.ensures.within))
-          ∙ ap (λ xs. pairs_then (old ++ pair ∷ []) (pairs_of_parts (slice_split is_comma xs))) (sym c.split_at-in-parts.ensures.back),
+          ∙ ap (λ xs. pairs_then (old ++ pair ∷ []) (pairs_of_parts (slice_split ends_part xs))) (sym c.split_at-in-parts.ensures.back),
       λ h n. c.in-Ok.ensures h n ∙ ap (λ b. b || (pair.0 == h && pair.1 == n)) (c.parts.invariant.2 h n) ∙ sym (has_pair-more old pair h n),
     )

@@ -1,6 +1,6 @@
 use Rattle.std.proofs.Common.{◌≡◌, Err, IfSome, rules, map, string_bytes, subst, sym}
 use Rattle.cmd_asm.proofs.AssemblyLemmas.{program_is, statement_is_wrong}
-use Rattle.cmd_asm.specs.Assembly.{program_of, IsRefusal}
+use Rattle.cmd_asm.specs.Assembly.{program_of_sources, IsSourceFault}
 use Rattle.cmd_asm.specs.Sources.{all_known}
 use Rattle.cmd_asm.proofs.assembling.assembled_program.Goals as goal
 
@@ -11,6 +11,6 @@ returns-in-Ok-assemble-clause-ok g c =
 
 pub returns-clause-err : goal.returns-clause-err
 returns-clause-err g c =
-    subst (λ fault. IsRefusal fault → IfSome (all_known (map g.S.Source.left c.args.sources.now)) (λ all. program_of all ≡ Err fault)) (sym c.from.ensures)
+    subst (λ fault. IsSourceFault fault → IfSome (all_known (map g.S.Source.left c.args.sources.now)) (λ all. program_of_sources all ≡ Err fault)) (sym c.from.ensures)
     (statement_is_wrong _ (map string_bytes c.in-Ok.texts.items) (map (λ s. s.now) c.deref-2.result.now)
     c.in-Ok.ensures.texts (search rules) c.in-Err-assemble.fault c.in-Err-assemble.ensures.value)

@@ -1,6 +1,6 @@
 use Rattle.std.proofs.Common.{◌||◌, map, refl, rules, ap, sym, ◌∙◌}
-use Rattle.campaign_runs.specs.Runs.{end_of, endings_of}
-use Rattle.cmd_campaign.specs.Status.{any_breaks, first_failure, first_of}
+use Rattle.campaign_runs.specs.Runs.{seed_ending, endings_of}
+use Rattle.cmd_campaign.specs.Status.{any_breaks, first_failure, first_or}
 use Rattle.cmd_campaign.proofs.BlockLemmas.{at_end, at_start, endings_none, fewer, goes_on, halts_between, halts_in_block, room, split}
 use Rattle.cmd_campaign.proofs.engine.run_blocks.Goals as goal
 
@@ -19,13 +19,13 @@ pub record_block-requires-clause-fits : goal.record_block-requires-clause-fits
 record_block-requires-clause-fits g c =
     room c.args.campaign c.args.image.now c.args.inputs.now _ _ _ _ _ _ _ c.deref.result.now c.blocks-2.invariant.0
     (split c.args.campaign c.args.image.now c.args.inputs.now _ _ _ _ c.in-Some.ensures.order
-    (ap (map end_of) c.deref.ensures.value ∙ c.in-Ok.ensures)) c.see_count.ensures
+    (ap (map seed_ending) c.deref.ensures.value ∙ c.in-Ok.ensures)) c.see_count.ensures
 
 pub returns-in-Err-record_block-clause-begun : goal.returns-in-Err-record_block-clause-begun
 returns-in-Err-record_block-clause-begun g c =
     halts_in_block c.args.campaign.report c.args.campaign.expect.exit _ _ _ _ _ _ _ _ _ _
     (split c.args.campaign c.args.image.now c.args.inputs.now _ _ _ _ c.in-Some.ensures.order
-    (ap (map end_of) c.deref.ensures.value ∙ c.in-Ok.ensures)) c.blocks-2.invariant.0
+    (ap (map seed_ending) c.deref.ensures.value ∙ c.in-Ok.ensures)) c.blocks-2.invariant.0
     c.in-Err-record_block.ensures.begun
 
 pub blocks-2-smaller : goal.blocks-2-smaller
@@ -33,13 +33,13 @@ blocks-2-smaller g c = fewer c.in-Some.block.first c.in-Some.block.count _ _ c.i
 
 pub blocks-2-preserved : goal.blocks-2-preserved
 blocks-2-preserved g c = (
-  goes_on c.args.campaign.report c.args.campaign.expect.exit _ _ (map end_of c.deref.result.now) _ _ _ _ _ _ _ _ _ _
+  goes_on c.args.campaign.report c.args.campaign.expect.exit _ _ (map seed_ending c.deref.result.now) _ _ _ _ _ _ _ _ _ _
       (split c.args.campaign c.args.image.now c.args.inputs.now _ _ _ _ c.in-Some.ensures.order
-      (ap (map end_of) c.deref.ensures.value ∙ c.in-Ok.ensures))
+      (ap (map seed_ending) c.deref.ensures.value ∙ c.in-Ok.ensures))
       c.in-Ok-record_block.ensures.written c.in-Ok-record_block.ensures.counted
-      (c.add.ensures.broken ∙ ap (λ ends. c.blocks-2.found.is_broken || any_breaks (map end_of ends))
+      (c.add.ensures.broken ∙ ap (λ ends. c.blocks-2.found.is_broken || any_breaks (map seed_ending ends))
       (c.deref-in-Some.ensures.value ∙ sym c.deref.ensures.value))
-      (c.add.ensures.first ∙ ap (λ ends. first_of c.blocks-2.found.first_failure (first_failure c.args.campaign.expect.exit (map end_of ends)))
+      (c.add.ensures.first ∙ ap (λ ends. first_or c.blocks-2.found.first_failure (first_failure c.args.campaign.expect.exit (map seed_ending ends)))
       (c.deref-in-Some.ensures.value ∙ sym c.deref.ensures.value))
       c.blocks-2.invariant.0,
   search rules,

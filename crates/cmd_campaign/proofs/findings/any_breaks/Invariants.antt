@@ -1,8 +1,8 @@
 use Rattle.std.proofs.Common.{◌≡◌, drop, map}
-use Rattle.campaign_runs.specs.Runs.{end_of}
+use Rattle.campaign_runs.specs.Runs.{seed_ending}
 use Rattle.cmd_campaign.specs.Status.{any_breaks}
 use Rattle.cmd_campaign.proofs.findings.any_breaks.Given as goal
 
 -- none so far
 abbrev pub invariant-ends : goal.invariant-ends
-invariant-ends g l = any_breaks (map end_of (drop l.end-index l.ends)) ≡ any_breaks (map end_of l.ends)
+invariant-ends g l = any_breaks (map seed_ending (drop l.end-index l.ends)) ≡ any_breaks (map seed_ending l.ends)

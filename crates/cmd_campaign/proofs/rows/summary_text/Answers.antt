@@ -1,7 +1,7 @@
-use Rattle.campaign_runs.specs.Tally.{rows_of}
+use Rattle.campaign_runs.specs.Tally.{tally_rows}
 use Rattle.cmd_campaign.proofs.RowLemmas.{one_line_more}
 use Rattle.cmd_campaign.proofs.rows.summary_text.Goals as goal
 
 pub rows-preserved : goal.rows-preserved
 rows-preserved g c =
-    one_line_more (rows_of c.args.tally.now) c.rows.place _ _ _ _ c.row.ensures c.in_ok-push_row.ensures c.rows.invariant
+    one_line_more (tally_rows c.args.tally.now) c.rows.place _ _ _ _ c.row.ensures c.in_ok-push_row.ensures c.rows.invariant

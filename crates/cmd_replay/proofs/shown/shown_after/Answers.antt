@@ -2,7 +2,7 @@ use Rattle.std.proofs.Common.{◌≡◌, map, ap, sym, ◌∙◌}
 use Rattle.hart_step.specs.Hart.{hart_of}
 use Rattle.history.specs.History.{expanded}
 use Rattle.cmd_run.specs.Run.{shown_with}
-use Rattle.ends.specs.Ends.{verdict_on}
+use Rattle.outcome.specs.Ends.{verdict_on}
 use Rattle.outcome.specs.declared.expect.Exit.TheVariants.{May}
 use Rattle.cmd_replay.proofs.ShownLemmas.{verdict_alike}
 use Rattle.cmd_replay.proofs.shown.shown_after.Goals as goal

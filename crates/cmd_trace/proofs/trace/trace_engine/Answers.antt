@@ -1,9 +1,9 @@
 use Rattle.std.proofs.Common.{◌≡◌, ◌⊎◌, length, Err}
 use Rattle.std.specs.Io.KnownBytes.{Keeps}
-use Rattle.sched_text.specs.Reading.{choices_of}
+use Rattle.sched_text.specs.Reading.{choices_read}
 use Rattle.program_open.specs.Answers.{BeginsToPrint, Prints}
 use Rattle.program_open.specs.Opening.{with_choices}
-use Rattle.cmd_trace.specs.Answer.{after_opening, trace_answer}
+use Rattle.cmd_trace.specs.Answer.{trace_after, trace_answer}
 use Rattle.cmd_trace.proofs.AnswerLemmas.{known_answer}
 use Rattle.cmd_trace.proofs.trace.trace_engine.Goals as goal
 
@@ -15,8 +15,8 @@ returns-in-Ok-trace_run-clause-done g c =
     known_answer (λ a. Prints a c.in-Ok-trace_run.status (g.K.Sink.held c.args.sink.now) (g.K.Sink.held c.trace_run.new.sink))
     (g.P.Source.left c.args.program.now) (g.C.Source.left c.args.choices.now)
     (trace_answer c.args.form c.args.plan c.args.inputs.now)
-    (after_opening c.args.plan c.in-Ok.run'.program.symbols.items c.in-Ok.run'.inputs
-    (with_choices c.in-Ok.run'.program.image (choices_of (length c.in-Ok.run'.inputs) c.in-Ok.run'.text.items)))
+    (trace_after c.args.plan c.in-Ok.run'.program.symbols.items c.in-Ok.run'.inputs
+    (with_choices c.in-Ok.run'.program.image (choices_read (length c.in-Ok.run'.inputs) c.in-Ok.run'.text.items)))
     (c.in-Ok.ensures.opened c.args.plan)
     c.in-Ok-trace_run.ensures.done
 
@@ -25,8 +25,8 @@ returns-clause-refused g c refusal =
     known_answer (λ a. a ≡ Err c.in-Err-trace_run.fault)
     (g.P.Source.left c.args.program.now) (g.C.Source.left c.args.choices.now)
     (trace_answer c.args.form c.args.plan c.args.inputs.now)
-    (after_opening c.args.plan c.in-Ok.run'.program.symbols.items c.in-Ok.run'.inputs
-    (with_choices c.in-Ok.run'.program.image (choices_of (length c.in-Ok.run'.inputs) c.in-Ok.run'.text.items)))
+    (trace_after c.args.plan c.in-Ok.run'.program.symbols.items c.in-Ok.run'.inputs
+    (with_choices c.in-Ok.run'.program.image (choices_read (length c.in-Ok.run'.inputs) c.in-Ok.run'.text.items)))
     (c.in-Ok.ensures.opened c.args.plan)
     (c.in-Err-trace_run.ensures.refused refusal)
 
@@ -35,8 +35,8 @@ returns-clause-begun g c is =
     known_answer (λ a. BeginsToPrint a (g.K.Sink.held c.args.sink.now) (g.K.Sink.held c.trace_run.new.sink))
     (g.P.Source.left c.args.program.now) (g.C.Source.left c.args.choices.now)
     (trace_answer c.args.form c.args.plan c.args.inputs.now)
-    (after_opening c.args.plan c.in-Ok.run'.program.symbols.items c.in-Ok.run'.inputs
-    (with_choices c.in-Ok.run'.program.image (choices_of (length c.in-Ok.run'.inputs) c.in-Ok.run'.text.items)))
+    (trace_after c.args.plan c.in-Ok.run'.program.symbols.items c.in-Ok.run'.inputs
+    (with_choices c.in-Ok.run'.program.image (choices_read (length c.in-Ok.run'.inputs) c.in-Ok.run'.text.items)))
     (c.in-Ok.ensures.opened c.args.plan)
     (c.in-Err-trace_run.ensures.begun is)
 
@@ -46,7 +46,7 @@ returns-clause-halted g c is =
     ⊎ BeginsToPrint a (g.K.Sink.held c.args.sink.now) (g.K.Sink.held c.trace_run.new.sink))
     (g.P.Source.left c.args.program.now) (g.C.Source.left c.args.choices.now)
     (trace_answer c.args.form c.args.plan c.args.inputs.now)
-    (after_opening c.args.plan c.in-Ok.run'.program.symbols.items c.in-Ok.run'.inputs
-    (with_choices c.in-Ok.run'.program.image (choices_of (length c.in-Ok.run'.inputs) c.in-Ok.run'.text.items)))
+    (trace_after c.args.plan c.in-Ok.run'.program.symbols.items c.in-Ok.run'.inputs
+    (with_choices c.in-Ok.run'.program.image (choices_read (length c.in-Ok.run'.inputs) c.in-Ok.run'.text.items)))
     (c.in-Ok.ensures.opened c.args.plan)
     (c.in-Err-trace_run.ensures.halted is)

@@ -1,19 +1,19 @@
 use Rattle.std.proofs.Common.{ℕ, ◌++◌, length, ◌-◌, ◌∙◌, List, [], drop, ap, subst, sym}
 use Rattle.machine.specs.State.{state}
-use Rattle.sched_text.specs.Reading.{choices_of}
+use Rattle.sched_text.specs.Reading.{choices_read}
 use Rattle.cmd_trace.specs.Output.{SoFar}
-use Rattle.cmd_trace.specs.Trace.{head_of, told_entries, trace_text}
+use Rattle.cmd_trace.specs.Trace.{trace_head, told_entries, trace_text}
 use Rattle.cmd_trace.proofs.OutputLemmas.{sent_all}
 use Rattle.cmd_trace.proofs.WholeLemmas.{head_waits}
 use Rattle.cmd_trace.proofs.writing.write_trace.Goals as goal
 
 pub returns-in-Err-write_entries-clause-begun : goal.returns-in-Err-write_entries-clause-begun
 returns-in-Err-write_entries-clause-begun g c choices read counted =
-    let has = c.in-Ok.ensures.has choices (ap (λ (text : List ℕ). choices_of (length c.args.run.now.inputs) text) c.deref.ensures.value ∙ read) in
+    let has = c.in-Ok.ensures.has choices (ap (λ (text : List ℕ). choices_read (length c.args.run.now.inputs) text) c.deref.ensures.value ∙ read) in
     let skipped = c.skip.ensures choices has in
     let waits = head_waits c.args.plan c.args.run.now.program.image c.args.run.now.program.symbols.items c.args.run.now.inputs choices c.args.count c.span_of-span.result
     (state c.in-Ok.teller.machine) (state c.skip.new.self.machine) c.push_head_of.new.buffer.items (g.K.Sink.held c.args.sink.now) c.span_of-span.ensures.value counted
-    c.in-Ok.ensures.world skipped.0 (c.in-Ok-push_head_of.ensures ∙ ap (λ (l : List ℕ). l ++ head_of c.args.plan.form c.args.run.now.program.image.entry c.args.run.now.inputs
+    c.in-Ok.ensures.world skipped.0 (c.in-Ok-push_head_of.ensures ∙ ap (λ (l : List ℕ). l ++ trace_head c.args.plan.form c.args.run.now.program.image.entry c.args.run.now.inputs
     c.span_of-span.result c.args.run.now.program.symbols.items (state c.skip.new.self.machine)) c.new-buffer.ensures.items) in
     let rest = drop (c.span_of-span.result.from - 1) choices in
     let all = trace_text c.args.plan c.args.run.now.program.image c.args.run.now.program.symbols.items c.args.run.now.inputs choices in
@@ -23,11 +23,11 @@ returns-in-Err-write_entries-clause-begun g c choices read counted =
 
 pub returns-in-Ok-flush-clause-told : goal.returns-in-Ok-flush-clause-told
 returns-in-Ok-flush-clause-told g c choices read counted =
-    let has = c.in-Ok.ensures.has choices (ap (λ (text : List ℕ). choices_of (length c.args.run.now.inputs) text) c.deref.ensures.value ∙ read) in
+    let has = c.in-Ok.ensures.has choices (ap (λ (text : List ℕ). choices_read (length c.args.run.now.inputs) text) c.deref.ensures.value ∙ read) in
     let skipped = c.skip.ensures choices has in
     let waits = head_waits c.args.plan c.args.run.now.program.image c.args.run.now.program.symbols.items c.args.run.now.inputs choices c.args.count c.span_of-span.result
     (state c.in-Ok.teller.machine) (state c.skip.new.self.machine) c.push_head_of.new.buffer.items (g.K.Sink.held c.args.sink.now) c.span_of-span.ensures.value counted
-    c.in-Ok.ensures.world skipped.0 (c.in-Ok-push_head_of.ensures ∙ ap (λ (l : List ℕ). l ++ head_of c.args.plan.form c.args.run.now.program.image.entry c.args.run.now.inputs
+    c.in-Ok.ensures.world skipped.0 (c.in-Ok-push_head_of.ensures ∙ ap (λ (l : List ℕ). l ++ trace_head c.args.plan.form c.args.run.now.program.image.entry c.args.run.now.inputs
     c.span_of-span.result c.args.run.now.program.symbols.items (state c.skip.new.self.machine)) c.new-buffer.ensures.items) in
     let rest = drop (c.span_of-span.result.from - 1) choices in
     let all = trace_text c.args.plan c.args.run.now.program.image c.args.run.now.program.symbols.items c.args.run.now.inputs choices in
@@ -39,11 +39,11 @@ returns-in-Ok-flush-clause-told g c choices read counted =
 
 pub returns-clause-begun : goal.returns-clause-begun
 returns-clause-begun g c choices read counted =
-    let has = c.in-Ok.ensures.has choices (ap (λ (text : List ℕ). choices_of (length c.args.run.now.inputs) text) c.deref.ensures.value ∙ read) in
+    let has = c.in-Ok.ensures.has choices (ap (λ (text : List ℕ). choices_read (length c.args.run.now.inputs) text) c.deref.ensures.value ∙ read) in
     let skipped = c.skip.ensures choices has in
     let waits = head_waits c.args.plan c.args.run.now.program.image c.args.run.now.program.symbols.items c.args.run.now.inputs choices c.args.count c.span_of-span.result
     (state c.in-Ok.teller.machine) (state c.skip.new.self.machine) c.push_head_of.new.buffer.items (g.K.Sink.held c.args.sink.now) c.span_of-span.ensures.value counted
-    c.in-Ok.ensures.world skipped.0 (c.in-Ok-push_head_of.ensures ∙ ap (λ (l : List ℕ). l ++ head_of c.args.plan.form c.args.run.now.program.image.entry c.args.run.now.inputs
+    c.in-Ok.ensures.world skipped.0 (c.in-Ok-push_head_of.ensures ∙ ap (λ (l : List ℕ). l ++ trace_head c.args.plan.form c.args.run.now.program.image.entry c.args.run.now.inputs
     c.span_of-span.result c.args.run.now.program.symbols.items (state c.skip.new.self.machine)) c.new-buffer.ensures.items) in
     let rest = drop (c.span_of-span.result.from - 1) choices in
     let all = trace_text c.args.plan c.args.run.now.program.image c.args.run.now.program.symbols.items c.args.run.now.inputs choices in

@@ -1,6 +1,6 @@
 use Rattle.std.proofs.Common.{Some, ap, map, sym, ◌∙◌}
 use Rattle.hart_step.specs.Hart.{hart_of}
-use Rattle.ends.specs.Ends.{verdict_on}
+use Rattle.outcome.specs.Ends.{verdict_on}
 use Rattle.object_library.specs.Judging.{verdict_of}
 use Rattle.object_library.proofs.ChosenLemmas.{same_verdict}
 use Rattle.outcome.proofs.expect.verdict_after.Goals as goal

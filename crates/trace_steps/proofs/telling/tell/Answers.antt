@@ -5,13 +5,13 @@ use Rattle.hart_reservations.specs.Marks.{Marks}
 use Rattle.hart_step.specs.Hart.{hart_of}
 use Rattle.machine.specs.Machine.{world}
 use Rattle.trace_steps.specs.Known.{Knows}
-use Rattle.trace_steps.specs.Latest.{words_of}
+use Rattle.trace_steps.specs.Latest.{latest_words}
 use Rattle.trace_steps.specs.Told.{told_access}
 use Rattle.trace_steps.proofs.StepLemmas.{hart_there, told_of_parts}
 use Rattle.trace_steps.proofs.telling.tell.Goals as goal
 
 pub reserved-requires-clause-known : goal.reserved-requires-clause-known
-reserved-requires-clause-known g c = subst (λ (r : Marks). Knows (words_of c.args.latest.now) r) (sym c.reserve.ensures) c.requires.known
+reserved-requires-clause-known g c = subst (λ (r : Marks). Knows (latest_words c.args.latest.now) r) (sym c.reserve.ensures) c.requires.known
 
 pub returns : goal.returns
 returns g c old before is =

@@ -1,6 +1,6 @@
 use Rattle.std.proofs.Common.{rules, ◌≡◌, ◌++◌, ◌∷◌, [], codes, ◌<◌}
 use Rattle.std.specs.Prelude.{◌==◌, if◌then◌else◌}
-use Rattle.trace_text.specs.Table.{cell_text}
+use Rattle.trace_text.specs.Table.{table_cell}
 use Rattle.trace_text.proofs.TableLemmas.{next_column}
 use Rattle.trace_text.proofs.table.push_columns.Goals as goal
 
@@ -11,5 +11,5 @@ harts-preserved g c =
     let before = c.harts.out.items in
     let longer = c.push_column.new.out.items in
     let left : h < c.args.harts = search rules in
-    let is_longer : longer ≡ before ++ ((if h == told.choice.hart then cell_text told else 32 ∷ []) ++ codes " |") = search rules in
+    let is_longer : longer ≡ before ++ ((if h == told.choice.hart then table_cell told else 32 ∷ []) ++ codes " |") = search rules in
     next_column before longer _ told h c.args.harts left is_longer c.harts.invariant

@@ -1,6 +1,6 @@
 use Rattle.std.proofs.Common.{refl, sym, subst, ap, ◌∙◌, List, [], ◌∷◌, ◌++◌}
 use Rattle.bank_laws.specs.Segments.{LoggedSegment}
-use Rattle.bank_hart_log.specs.HartLog.{with_access, HoldsIn}
+use Rattle.bank_hart_log.specs.HartLog.{with_access, HartLogHolds}
 use Rattle.bank_step.specs.Told.{as_touch}
 use Rattle.bank_hart_log.proofs.LogLemmas.{holds_push, seen_fits}
 use Rattle.bank_hart_log.proofs.log.HartLog.add_touch.Goals as goal
@@ -18,6 +18,6 @@ invariant_of-self-2 g c =
     (record { hart = c.in-Some.hart; named = c.self.inside.named }) r a c.args.found.bytes c.args.found.mark c.segment.inside.local
     c.self.invariant c.self.view_is c.requires (ap (λ (x : LoggedSegment). x.local) c.segment.view_is) c.in-Some.ensures.1 refl
     (record { access_is = c.touch_word.ensures.access; slot_after_is = c.touch_word.ensures.slot }) in
-    subst (λ (es : List LoggedSegment). HoldsIn image inputs h es r.hart r.named 0 r.hart)
+    subst (λ (es : List LoggedSegment). HartLogHolds image inputs h es r.hart r.named 0 r.hart)
     (sym (c.in-Ok.ensures.items ∙ ap (λ (x : LoggedSegment). log ++ x ∷ []) c.with_access.ensures))
     (holds_push image inputs h log c.self.inside.hart c.self.inside.named c.self.inside.walked c.self.inside.reached (with_access e a) r c.self.invariant is.0 is.1)

@@ -3,13 +3,13 @@ use Rattle.hart_reservations.specs.Marks.{Marks}
 use Rattle.hart_step.specs.Hart.{hart_of}
 use Rattle.machine.specs.State.{state}
 use Rattle.trace_steps.specs.Known.{Knows}
-use Rattle.trace_steps.specs.Latest.{words_of}
+use Rattle.trace_steps.specs.Latest.{latest_words}
 use Rattle.cmd_trace.proofs.EntryLemmas.{hart_more, read_hart, within_harts}
 use Rattle.cmd_trace.proofs.teller.Teller.harts.Goals as goal
 
 pub reserved-requires-clause-known : goal.reserved-requires-clause-known
 reserved-requires-clause-known g c =
-    subst (λ (r : Marks). Knows (words_of c.args.self.now.latest) r) (sym c.reserve.ensures) c.args.self.now.known
+    subst (λ (r : Marks). Knows (latest_words c.args.self.now.latest) r) (sym c.reserve.ensures) c.args.self.now.known
 
 pub harts-preserved : goal.harts-preserved
 harts-preserved g c =

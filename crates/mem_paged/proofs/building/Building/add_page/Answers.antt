@@ -1,12 +1,12 @@
 use Rattle.std.proofs.Common.{Some, ap, ◌∙◌, sym}
-use Rattle.mem_paged.specs.Directory.{DirectoryValue, place_of}
+use Rattle.mem_paged.specs.Directory.{DirectoryValue, page_place}
 use Rattle.mem_paged.proofs.DirectoryLemmas.{place-added}
 use Rattle.mem_paged.proofs.BuildLemmas.{page_added, zero_page}
 use Rattle.mem_paged.proofs.building.Building.add_page.Goals as goal
 
 pub returns-clause-placed : goal.returns-clause-placed
 returns-clause-placed g c =
-    ap (λ (d : DirectoryValue). place_of d c.args.number) c.in_ok-place.ensures.added ∙ place-added _ _ c.requires.from c.requires.to ∙ sym (ap Some c.in_ok-place.ensures.place)
+    ap (λ (d : DirectoryValue). page_place d c.args.number) c.in_ok-place.ensures.added ∙ place-added _ _ c.requires.from c.requires.to ∙ sym (ap Some c.in_ok-place.ensures.place)
 
 pub returns-clause-memory : goal.returns-clause-memory
 returns-clause-memory g c =

@@ -1,11 +1,11 @@
 use Rattle.std.proofs.Common.{ap, sym, subst, ◌≢◌, ◌∙◌}
-use Rattle.sched_draw.specs.Bursts.{Drawing, in_burst}
+use Rattle.sched_draw.specs.Bursts.{BurstDrawing, in_burst}
 use Rattle.sched_draw.proofs.BurstLemmas.{drawn, same}
 use Rattle.sched_draw.proofs.bursts.Bursts.begin_burst.Goals as goal
 
 pub returns-then-self-eq0-clause-state : goal.returns-then-self-eq0-clause-state
 returns-then-self-eq0-clause-state c =
-    let d : Drawing = record {
+    let d : BurstDrawing = record {
       harts = c.self.inside.harts;
       mean = c.self.inside.mean;
       refusals = c.self.inside.refusals;
@@ -19,4 +19,4 @@ returns-then-self-eq0-clause-state c =
 
 pub returns-else-self-eq0-clause-state : goal.returns-else-self-eq0-clause-state
 returns-else-self-eq0-clause-state c =
-    sym (same c.args.self.now (subst (λ (d : Drawing). d.left ≢ 0) c.self.view_is c.if-self-eq0.false))
+    sym (same c.args.self.now (subst (λ (d : BurstDrawing). d.left ≢ 0) c.self.view_is c.if-self-eq0.false))

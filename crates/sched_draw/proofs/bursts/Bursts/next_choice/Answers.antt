@@ -1,5 +1,5 @@
 use Rattle.std.proofs.Common.{ap, subst, ◌<◌, ◌∙◌}
-use Rattle.sched_draw.specs.Bursts.{Drawing}
+use Rattle.sched_draw.specs.Bursts.{BurstDrawing}
 use Rattle.sched_draw.proofs.BurstLemmas.{chosen, left_behind, in_burst-harts}
 use Rattle.sched_draw.proofs.bursts.Bursts.next_choice.Goals as goal
 
@@ -31,4 +31,4 @@ returns-clause-state c =
 pub returns-clause-within : goal.returns-clause-within
 returns-clause-within c =
     subst (λ n. c.self.inside.hart < n)
-    (ap (λ (d : Drawing). d.harts) (c.self.view_is ∙ c.begin_burst.ensures.state) ∙ in_burst-harts c.args.self.now) c.self.invariant.0
+    (ap (λ (d : BurstDrawing). d.harts) (c.self.view_is ∙ c.begin_burst.ensures.state) ∙ in_burst-harts c.args.self.now) c.self.invariant.0

@@ -1,17 +1,17 @@
 use Rattle.std.proofs.Common.{◌≡◌, ◌<◌, ap, sym, subst, ◌∙◌}
 use Rattle.std.specs.List.{All}
 use Rattle.sched_draw.specs.Drawn.{drawing}
-use Rattle.sched_draw.specs.Priorities.{Drawing, choices_drawn, drawing_of}
+use Rattle.sched_draw.specs.Priorities.{PriorityDrawing, priority_choices_drawn, priority_drawing}
 use Rattle.sched_draw.proofs.PriorityLemmas.{order-there, some_steps}
 use Rattle.sched_draw.proofs.priorities.ByPriorities.new.Goals as goal
 
 pub returns-clause-choices : goal.returns-clause-choices
 returns-clause-choices g c = λ w.
-    ap (λ p. choices_drawn c.args.refusals 0 c.args.steps (drawing p) w) c.in_ok-new.ensures.ok
-    ∙ ap (λ d. choices_drawn c.args.refusals 0 c.args.steps d w) c.in_ok-priorities.ensures
+    ap (λ p. priority_choices_drawn c.args.refusals 0 c.args.steps (drawing p) w) c.in_ok-new.ensures.ok
+    ∙ ap (λ d. priority_choices_drawn c.args.refusals 0 c.args.steps d w) c.in_ok-priorities.ensures
     ∙ some_steps c.args.refusals c.args.harts c.args.depth.number c.args.steps c.args.seed w _ c.max.ensures
 
 pub returns-clause-there : goal.returns-clause-there
 returns-clause-there g c =
-    subst (λ (d : Drawing). All (λ h. h < c.args.harts) d.order) (sym (ap (λ p. drawing p) c.in_ok-new.ensures.ok ∙ c.in_ok-priorities.ensures))
+    subst (λ (d : PriorityDrawing). All (λ h. h < c.args.harts) d.order) (sym (ap (λ p. drawing p) c.in_ok-new.ensures.ok ∙ c.in_ok-priorities.ensures))
     (order-there c.args.harts c.args.depth.number c.max.result c.args.seed)

@@ -1,6 +1,6 @@
 use Rattle.std.proofs.Common.{ap, ap₂, ◌∙◌}
 use Rattle.sched_draw.specs.Drawn.{drawing}
-use Rattle.sched_draw.specs.Priorities.{drawing_of, with_harts}
+use Rattle.sched_draw.specs.Priorities.{priority_drawing, with_harts}
 use Rattle.sched_draw.proofs.PriorityLemmas.{all_drawn}
 use Rattle.sched_draw.proofs.priorities.Priorities.new.Goals as goal
 
@@ -12,4 +12,4 @@ returns g c =
     ∙ ap₂ (λ order points. with_harts c.args.harts (record { order = order; points = points; generator = c.seeded_generator.result }))
     c.in_ok-with_capacity.ensures.items c.in_ok-with_capacity-2.ensures.items)
     c.in_ok-draw_points.ensures
-    ∙ ap (λ n. drawing_of c.args.harts n c.args.steps c.args.seed) c.number-depth.ensures.is
+    ∙ ap (λ n. priority_drawing c.args.harts n c.args.steps c.args.seed) c.number-depth.ensures.is

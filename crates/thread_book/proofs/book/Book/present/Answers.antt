@@ -3,14 +3,14 @@ use Rattle.std.specs.Arc.{arc_value}
 use Rattle.mem_store.specs.Image.{segments_memory}
 use Rattle.machine.specs.State.{state}
 use Rattle.history.specs.History.{entry}
-use Rattle.thread_book.specs.Book.{BookValue, code_of}
+use Rattle.thread_book.specs.Book.{BookValue, book_code}
 use Rattle.thread_book.proofs.PresentLemmas.{kept_code, kept_more, presented}
 use Rattle.thread_book.proofs.book.Book.present.Goals as goal
 
 pub enter-requires-clause-code : goal.enter-requires-clause-code
 enter-requires-clause-code g c =
     let b = c.self.inside in
-    ap segments_memory (c.if-not-is_current.ensures.1 ∙ sym (ap (λ (v : BookValue). code_of v) c.self.view_is))
+    ap segments_memory (c.if-not-is_current.ensures.1 ∙ sym (ap (λ (v : BookValue). book_code v) c.self.view_is))
     ∙ kept_code b.image b.inputs b.history.items (arc_value b.code) (state b.machine) c.self.invariant
 
 pub invariant_of-self-2 : goal.invariant_of-self-2

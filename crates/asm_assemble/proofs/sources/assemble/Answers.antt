@@ -1,8 +1,0 @@
-use Rattle.std.proofs.Common.{rules}
-use Rattle.asm_parse.specs.Statements.{texts_of}
-use Rattle.asm_assemble.proofs.PlacedSources.{only_program}
-use Rattle.asm_assemble.proofs.sources.assemble.Goals as goal
-
-pub returns-clause-only : goal.returns-clause-only
-returns-clause-only g c =
-    only_program (texts_of c.args.sources.now) c.in_ok-statements.statements.items c.assemble_statements.result c.in_ok-statements.ensures (search rules)

@@ -1,0 +1,10 @@
+pub mod Fault
+pub mod Statement
+pub mod Answer
+pub mod Names
+pub mod Heads
+pub mod Shapes
+pub mod Operations
+pub mod Texts
+pub mod Directives
+pub mod Statements

@@ -1,7 +1,0 @@
-use Rattle.std.proofs.Common.{◌≡◌, drop}
-use Rattle.bank_access_order.specs.AccessOrder.{of_hart}
-use Rattle.bank_access_order.proofs.places.place_behind.Given as goal
-
--- no access of the hart was passed
-abbrev pub invariant-accesses : goal.invariant-accesses
-invariant-accesses l = of_hart l.hart (drop l.place l.log) ≡ of_hart l.hart (drop l.from l.log)

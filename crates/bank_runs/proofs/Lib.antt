@@ -1,2 +1,0 @@
-pub mod WorldLemmas
-pub mod MergedLemmas

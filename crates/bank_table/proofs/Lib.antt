@@ -1,3 +1,0 @@
-pub mod WordLemmas
-pub mod EffectLemmas
-pub mod StepLemmas

@@ -1,4 +1,0 @@
-pub mod Words
-pub mod Carried
-pub mod Table
-pub mod Shown

@@ -1,9 +1,0 @@
-use Rattle.std.proofs.Common.{◌≡◌}
-use Rattle.machine.specs.State.{state}
-use Rattle.machine.specs.World.{run}
-use Rattle.sched_draw.specs.Turns.{turns}
-use Rattle.cmd_shrink.proofs.going_on.go_on_by_turns.Given as goal
-
--- the steps so far were taken
-abbrev pub invariant-steps : goal.invariant-steps
-invariant-steps g l = state l.machine ≡ run (state l.fn.machine) (turns l.harts l.i)

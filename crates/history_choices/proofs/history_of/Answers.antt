@@ -1,5 +1,0 @@
-use Rattle.history_choices.proofs.PlainLemmas.{expands}
-use Rattle.history_choices.proofs.history_of.Goals as goal
-
-pub returns-clause-choices : goal.returns-clause-choices
-returns-clause-choices g c = expands c.in_ok-history.history.items c.args.choices.now c.in_ok-history.ensures

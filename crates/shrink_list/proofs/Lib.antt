@@ -1,3 +1,0 @@
-pub mod LessLemmas
-pub mod WeightLemmas
-pub mod NeededLemmas

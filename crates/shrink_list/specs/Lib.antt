@@ -1,3 +1,0 @@
-pub mod Less
-pub mod Edits
-pub mod Minimal

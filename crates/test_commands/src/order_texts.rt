@@ -1,0 +1,163 @@
+//! What is read of a command line, as a text: its command, and the texts of its arguments by their
+//! names.
+use cli_args::RunOrder;
+use cli_orders::{
+    AsmOrder, CampaignOrder, DebugOrder, FileOrder, LibOrder, Locks, Order, ReplayOrder,
+    ScheduleOrder, ShrinkOrder, ThreadsOrder, TraceOrder,
+};
+use std::alloc::{AllocError, Global};
+
+// The arguments of an order: their names and texts; `None` for one that isn't given.
+type Fields<'a> = &'a [(&'a str, Option<&'a str>)];
+
+// The text of a flag.
+fn flag(is_set: bool) -> Option<&'static str> {
+    if is_set { Some("yes") } else { None }
+}
+
+// The text of a command with these arguments.
+fn text_with(alloc: Global, command: &str, fields: Fields<'_>) -> Result<String, AllocError> {
+    let mut text = String::new(alloc);
+    text.push_str(command)?;
+    for (name, value) in fields {
+        if let Some(value) = value {
+            write!(text, " {name}={value}")?;
+        }
+    }
+    Ok(text)
+}
+
+/// The text of an order.
+pub(crate) fn order_text(alloc: Global, order: &Order) -> Result<String, AllocError> {
+    match order {
+        Order::Asm(order) => asm_text(alloc, order),
+        Order::List(order) => file_text(alloc, "list", order),
+        Order::Info(order) => file_text(alloc, "info", order),
+        Order::Run(order) => run_text(alloc, order),
+        Order::Debug(order) => debug_text(alloc, order),
+        Order::Threads(order) => threads_text(alloc, order),
+        Order::Replay(order) => replay_text(alloc, order),
+        Order::Lib(order) => lib_text(alloc, order),
+        Order::Campaign(order) => campaign_text(alloc, order),
+        Order::Schedule(order) => schedule_text(alloc, order),
+        Order::Shrink(order) => shrink_text(alloc, order),
+        Order::Trace(order) => trace_text(alloc, order),
+    }
+}
+
+fn asm_text(alloc: Global, order: &AsmOrder) -> Result<String, AllocError> {
+    let mut text = text_with(alloc, "asm", &[("out", order.out)])?;
+    for source in &order.sources {
+        write!(text, " IN={source}")?;
+    }
+    Ok(text)
+}
+
+fn file_text(alloc: Global, command: &str, order: &FileOrder) -> Result<String, AllocError> {
+    text_with(alloc, command, &[("FILE", Some(order.file))])
+}
+
+fn run_text(alloc: Global, order: &RunOrder) -> Result<String, AllocError> {
+    let fields = &[
+        ("hex", flag(order.hex)),
+        ("FILE", Some(order.file)),
+        ("inputs", Some(order.inputs)),
+        ("choices", Some(order.choices)),
+        ("rule", order.rule),
+        ("must-exit", flag(order.must_exit)),
+    ];
+    text_with(alloc, "run", fields)
+}
+
+fn debug_text(alloc: Global, order: &DebugOrder) -> Result<String, AllocError> {
+    let fields = &[
+        ("FILE", Some(order.file)),
+        ("inputs", Some(order.inputs)),
+        ("choices", Some(order.choices)),
+    ];
+    text_with(alloc, "debug", fields)
+}
+
+fn threads_text(alloc: Global, order: &ThreadsOrder) -> Result<String, AllocError> {
+    let fields = &[
+        ("FILE", Some(order.file)),
+        ("inputs", Some(order.inputs)),
+        ("budget", Some(order.budget)),
+        ("refuse", order.refuse),
+        ("history", order.history),
+        ("rule", order.rule),
+        ("banked", flag(order.locks == Locks::Banks)),
+    ];
+    text_with(alloc, "threads", fields)
+}
+
+fn replay_text(alloc: Global, order: &ReplayOrder) -> Result<String, AllocError> {
+    let fields = &[
+        ("FILE", Some(order.file)),
+        ("inputs", Some(order.inputs)),
+        ("history", Some(order.history)),
+        ("rule", order.rule),
+    ];
+    text_with(alloc, "replay", fields)
+}
+
+fn lib_text(alloc: Global, order: &LibOrder) -> Result<String, AllocError> {
+    text_with(alloc, "lib", &[("K", Some(order.object))])
+}
+
+fn campaign_text(alloc: Global, order: &CampaignOrder) -> Result<String, AllocError> {
+    let fields = &[
+        ("FILE", Some(order.file)),
+        ("inputs", Some(order.inputs)),
+        ("first", Some(order.first)),
+        ("count", Some(order.count)),
+        ("steps", Some(order.steps)),
+        ("rule", order.rule),
+        ("failures", flag(order.failures)),
+        ("summary", flag(order.summary)),
+        ("outcomes", flag(order.outcomes)),
+        ("schedule", order.draw),
+        ("refusals", order.refusals),
+        ("must-exit", flag(order.must_exit)),
+    ];
+    text_with(alloc, "campaign", fields)
+}
+
+fn schedule_text(alloc: Global, order: &ScheduleOrder) -> Result<String, AllocError> {
+    let fields = &[
+        ("harts", Some(order.harts)),
+        ("steps", Some(order.steps)),
+        ("seed", order.seed),
+        ("turns", flag(order.turns)),
+        ("only", order.only),
+        ("schedule", order.draw),
+        ("refusals", order.refusals),
+        ("inputs", order.inputs),
+        ("FILE", order.file),
+    ];
+    text_with(alloc, "schedule", fields)
+}
+
+fn shrink_text(alloc: Global, order: &ShrinkOrder) -> Result<String, AllocError> {
+    let fields = &[
+        ("FILE", Some(order.file)),
+        ("inputs", Some(order.inputs)),
+        ("choices", Some(order.choices)),
+        ("rule", order.rule),
+        ("must-exit", flag(order.must_exit)),
+    ];
+    text_with(alloc, "shrink", fields)
+}
+
+fn trace_text(alloc: Global, order: &TraceOrder) -> Result<String, AllocError> {
+    let fields = &[
+        ("hex", flag(order.hex)),
+        ("FILE", Some(order.file)),
+        ("inputs", Some(order.inputs)),
+        ("choices", Some(order.choices)),
+        ("from", order.from),
+        ("to", order.to),
+        ("table", flag(order.table)),
+    ];
+    text_with(alloc, "trace", fields)
+}
