@@ -1,4 +1,5 @@
--- Each statement that was read has registers in range, and none of instructions and bytes stands among the zeros.
+-- Each statement that was read has registers in range, and none of instructions and bytes stands
+-- among the zeros.
 use Rattle.std.proofs.Common.{◌≡◌, ℕ, ◌+◌, Bool, true, false, cond, List, [], ◌∷◌, ◌++◌, map, Option, Some, None, Result, Ok, Err, IfSome, refl, sym, ap, subst, ◌∙◌, arith}
 use Rattle.std.specs.Prelude.{IfOk, unwrap_or, ◌&&◌, ◌==◌}
 use Rattle.std.specs.List.{list_all}

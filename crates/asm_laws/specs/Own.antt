@@ -1,5 +1,5 @@
--- What an assembled text gives: each of its instructions stands at its address, in the image that its file loads as and in
--- its listing.
+-- What an assembled text gives: each of its instructions stands at its address, in the image that
+-- its file loads as and in its listing.
 use Rattle.std.specs.Prelude.{◌≡◌, ℕ, ◌+◌, ◌%◌, ◌^◌, ◌<◌, ◌==◌, if◌then◌else◌, List, [], ◌∷◌, ◌++◌, length, Ok, IfSome, codes}
 use Rattle.std.specs.Int.{w32, to_le_bytes}
 use Rattle.std.specs.Fmt.{decimal}
@@ -40,8 +40,8 @@ pub record HasWord (image : ImageValue) (address : ℕ) (i : Instr) : Type 0 whe
   pub spells : SpellsInstr word i
   pub stands : StandsInImage image address (to_le_bytes w32 word)
 
--- lines have the canonical line of a word that spells the instruction, with the lines of the text's bytes before it in front
--- and the lines of those after it behind
+-- lines have the canonical line of a word that spells the instruction, with the lines of the text's
+-- bytes before it in front and the lines of those after it behind
 pub record HasLine (text lines : List ℕ) (address : ℕ) (i : Instr) : Type 0 where
   pub word : ℕ
   pub fits : word < 2 ^ 32
@@ -52,7 +52,8 @@ pub record HasLine (text lines : List ℕ) (address : ℕ) (i : Instr) : Type 0 
   pub at_address : 0x10000 + length before ≡ address
   pub shown : lines ≡ listing 0x10000 before ++ word_entry address word (listing (address + 4) behind)
 
--- the instructions that a statement is are shown at their addresses: one, or the one or two of a pseudo-instruction
+-- the instructions that a statement is are shown at their addresses: one, or the one or two of a
+-- pseudo-instruction
 abbrev pub Shows : (Section → ℕ → Instr → Type 0) → SymbolList → List Standing → Standing → List Standing → BodyValue → Type 0
 Shows shown symbols before s after (body.Instruction i) =
     (j : Instr) × IsInstr symbols before s after i j × shown s.section s.address j
@@ -63,8 +64,8 @@ Shows shown symbols before s after (body.Label name) = Unit {0}
 Shows shown symbols before s after (body.LocalLabel digits) = Unit {0}
 Shows shown symbols before s after (body.Directive d) = Unit {0}
 
--- the program is of the statements that the texts say, these stand where one map of labels puts them, and each instruction statement's
--- instructions are shown
+-- the program is of the statements that the texts say, these stand where one map of labels puts
+-- them, and each instruction statement's instructions are shown
 pub record GivesOwn (shown : Section → ℕ → Instr → Type 0) (texts : List (List ℕ)) (p : ProgramValue) : Type 0 where
   pub statements : List StatementValue
   pub said : TextsSay 0 texts statements
@@ -89,14 +90,15 @@ pub record ListsOwn (texts : List (List ℕ)) (p : ProgramValue) (lines : List �
   pub lists : lines ≡ listing 0x10000 p.text
   pub gives : GivesOwn (InLines p.text lines) texts p
 
--- the listing of an image of a text: a head, and the canonical lines from 0x00010000 on; of no text, nothing
+-- the listing of an image of a text: a head, and the canonical lines from 0x00010000 on; of no
+-- text, nothing
 abbrev pub image_lines : List ℕ → List ℕ
 image_lines text =
     if length text == 0 then []
     else codes "# segment 00010000 " ++ (decimal (length text) ++ (10 ∷ listing 0x10000 text))
 
--- bytes load as a program's image, its listing is the canonical lines of the program's text, and each instruction has its
--- word in the image
+-- bytes load as a program's image, its listing is the canonical lines of the program's text, and
+-- each instruction has its word in the image
 pub record LoadsOwn (texts : List (List ℕ)) (p : ProgramValue) (bytes : List ℕ) : Type 0 where
   pub image : ImageValue
   pub loads : loaded_image bytes ≡ Ok image

@@ -1,6 +1,7 @@
--- The statements of source texts, as a relation: a text is cut at the ends of statements, lines are numbered, each part has its
--- labels and its body, and the section of each is that of the last change before it in its source. `asm_statement` says how they
--- are read one after another; the laws of src/reads.rt say that both are the same.
+-- The statements of source texts, as a relation: a text is cut at the ends of statements, lines are
+-- numbered, each part has its labels and its body, and the section of each is that of the last
+-- change before it in its source. `asm_statement` says how they are read one after another; the
+-- laws of src/reads.rt say that both are the same.
 use Rattle.std.specs.Prelude.{◌≡◌, ℕ, ◌+◌, ◌==◌, ◌⊎◌, List, [], ◌∷◌, ◌++◌, Bool, true, false, if◌then◌else◌, Option, Some, None, Result, Ok, Err, map}
 use Rattle.asm_lex.specs.Lexemes.{Lexeme, lexed}
 use Rattle.asm_statement.specs.declared.fault.Fault.{Fault}
@@ -24,7 +25,8 @@ abbrev pub HasNoEnd : List Lexeme → Type 0
 HasNoEnd [] = Unit {0}
 HasNoEnd (l ∷ ls) = (ends_statement l ≡ false) × HasNoEnd ls
 
--- lexemes from a line on are these parts with one end between each two; each end of a line begins the next line
+-- lexemes from a line on are these parts with one end between each two; each end of a line begins
+-- the next line
 abbrev pub AreParts : ℕ → List Lexeme → List Part → Type 0
 AreParts line ls [] = ⊥
 AreParts line ls (p ∷ []) = (p.line ≡ line) × HasNoEnd p.lexemes × (ls ≡ p.lexemes)
@@ -72,7 +74,8 @@ PartsSay source section (p ∷ ps) ss =
     (here : List BodyValue) × (more : List StatementValue) × (said_by_part section p ≡ Ok here)
     × (ss ≡ on_line source p.line here ++ more) × PartsSay source (section_after section here) ps more
 
--- a part is the first that is wrong, and has this fault; where the text has a fault of a token, its last part has that
+-- a part is the first that is wrong, and has this fault; where the text has a fault of a token, its
+-- last part has that
 abbrev pub PartsFail : ℕ → Section → Bool → List Part → Fault → Type 0
 PartsFail source section whole [] fault = ⊥
 PartsFail source section false (p ∷ []) fault = fault ≡ record { kind = faults.Token; source = source; line = p.line }

@@ -1,4 +1,5 @@
-//! The laws of texts and files: sources are read as what they say, and their file and listing give their own instructions.
+//! The laws of texts and files: sources are read as what they say, and their file and listing give
+//! their own instructions.
 #![tactic(auto)]
 
 pub use own::{listed_is_own, written_is_own};

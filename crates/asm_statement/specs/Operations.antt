@@ -1,4 +1,4 @@
--- Instructions with their operands. A wrong shape comes before a name that is no register_operand.
+-- Instructions with their operands. A wrong shape comes before a name that is no register.
 use Rattle.std.specs.Prelude.{ℕ, pos, negsuc, List, [], ◌∷◌, Option, Some, None, Result, Ok, Err, is_some, if◌then◌else◌}
 use Rattle.asm_lex.specs.Lexemes.{Lexeme, Word, Comma}
 use Rattle.isa_table.specs.declared.mnemonic.RegisterOp.{RegisterOp}
@@ -49,15 +49,15 @@ registers_and read ls = shaped (two_names_in_front ls) (λ n. shaped (read n.2) 
 unfoldable pub register_and_memory : List Lexeme → Result (ℕ × ℕ × Immediate) FaultKind
 register_and_memory ls = shaped (name_in_front ls) (λ n. shaped (memory n.1) (λ m. two_registers n.0 m.1 >>- λ r. Ok (r.0, r.1, m.0)))
 
--- `r, ` and a last register_operand in this shape
+-- `r, ` and a last register in this shape
 unfoldable pub two_with_last : (List Lexeme → Option (List ℕ)) → List Lexeme → Result (ℕ × ℕ) FaultKind
 two_with_last last ls = shaped (name_in_front ls) (λ n. shaped (last n.1) (λ b. two_registers n.0 b))
 
--- `r, s, ` and a last register_operand in this shape
+-- `r, s, ` and a last register in this shape
 unfoldable pub three_with_last : (List Lexeme → Option (List ℕ)) → List Lexeme → Result (ℕ × ℕ × ℕ) FaultKind
 three_with_last last ls = shaped (two_names_in_front ls) (λ n. shaped (last n.2) (λ c. three_registers n.0 n.1 c))
 
--- `target`, with this link register_operand
+-- `target`, with this link register
 unfoldable pub jump : ℕ → List Lexeme → Result Instruction FaultKind
 jump rd ls = shaped (target ls) (λ t. Ok (i.Jal rd t))
 
@@ -67,7 +67,7 @@ jal ls =
     if is_some (name_in_front ls) then (register_and target ls >>- λ o. Ok (i.Jal o.0 o.1))
     else jump 1 ls
 
--- `rs`, with this link register_operand
+-- `rs`, with this link register
 unfoldable pub jump_register : ℕ → List Lexeme → Result Instruction FaultKind
 jump_register rd ls = shaped (name ls) (λ rs1. register_operand rs1 >>- λ rs1. Ok (i.Jalr rd rs1 (immediates.Number (pos 0))))
 

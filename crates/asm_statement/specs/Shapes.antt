@@ -185,6 +185,6 @@ abbrev known : Option ℕ → Result ℕ FaultKind
 known (Some r) = Ok r
 known None = Err faults.Register
 
--- the register_operand with a name, or the fault `Register`
+-- the register with a name, or the fault `Register`
 unfoldable pub register_operand : List ℕ → Result ℕ FaultKind
 register_operand name = known (register_of name)

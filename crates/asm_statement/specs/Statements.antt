@@ -30,7 +30,7 @@ use Rattle.asm_statement.specs.Operations.{◌>>-◌, shaped, register_and, inst
 unfoldable pub load_number : List Lexeme → Result Pseudo FaultKind
 load_number ls = register_and number ls >>- λ o. Ok (pseudos.Li o.0 o.1)
 
--- the address of a symbol, for this register_operand
+-- the address of a symbol, for this register
 abbrev pub addressed : List ℕ → Option Value → Result Pseudo FaultKind
 addressed rd (Some (values.Symbol name offset)) = register_operand rd >>- λ rd. Ok (pseudos.La rd name offset)
 addressed rd (Some (values.Number n)) = Err faults.Operands

@@ -75,8 +75,8 @@ fn order_of<'a>(alloc: Global, matches: &ArgMatches<'a>) -> Result<Option<Order<
     Ok(plain_order(name, found))
 }
 
-/// The order that the words give, the first of which is the program's name. Help lists the library's
-/// objects by `objects`, their names.
+/// The order that the words give, the first of which is the program's name. Help lists the
+/// library's objects by `objects`, their names.
 pub fn read_line<'a>(
     alloc: Global,
     words: &'a [&'a str],

@@ -51,7 +51,8 @@ end_of_data p = 4096 + data_place p + length p.bytes
 abbrev pub symbols_place : ProgramValue → ℕ
 symbols_place p = round_up (end_of_data p) 4
 
--- the symbols as they are listed: first those that other files do not see, both in order of definition
+-- the symbols as they are listed: first those that other files do not see, both in order of
+-- definition
 abbrev pub local_symbols : SymbolList → SymbolList
 local_symbols ss = filter (λ s. not s.1.global) ss
 
@@ -77,7 +78,8 @@ sections_place p = round_up (section_names_place p + 44) 4
 abbrev pub program_headers : ProgramValue → ℕ
 program_headers p = (if length p.text == 0 then 0 else 1) + (if memory_size p == 0 then 0 else 1)
 
--- the file's header: 7F 45 4C 46, 32 bits, lowest byte first, version 1, an executable file of RISC-V
+-- the file's header: 7F 45 4C 46, 32 bits, lowest byte first, version 1, an executable file of
+-- RISC-V
 abbrev pub file_rows : ProgramValue → List FieldRow
 file_rows p =
     word 0 0x464C457F ∷ byte 4 1 ∷ byte 5 1 ∷ byte 6 1 ∷ byte 7 0 ∷ word 8 0 ∷ word 12 0
@@ -86,7 +88,8 @@ file_rows p =
     ∷ word 36 0 ∷ half 40 52 ∷ half 42 32 ∷ half 44 (program_headers p)
     ∷ half 46 40 ∷ half 48 7 ∷ half 50 6 ∷ []
 
--- a program header: offset, address twice, sizes in the file and in memory, rights, and the multiple of 4096
+-- a program header: offset, address twice, sizes in the file and in memory, rights, and the
+-- multiple of 4096
 abbrev pub load_rows : ℕ → ℕ → ℕ → ℕ → ℕ → List FieldRow
 load_rows offset address file_size memory_size rights =
     word 0 1 ∷ word 4 offset ∷ word 8 address ∷ word 12 address ∷ word 16 file_size ∷ word 20 memory_size ∷ word 24 rights ∷ word 28 4096 ∷ []
@@ -101,7 +104,8 @@ data_rows p =
     if memory_size p == 0 then []
     else load_rows (4096 + data_place p) (0x10000 + data_place p) (length p.bytes) (memory_size p) 6
 
--- a section header: name, type, flags, address, offset, size, link, info, alignment, size of an entry
+-- a section header: name, type, flags, address, offset, size, link, info, alignment, size of an
+-- entry
 abbrev pub section_rows : ℕ → ℕ → ℕ → ℕ → ℕ → ℕ → ℕ → ℕ → ℕ → ℕ → List FieldRow
 section_rows name kind flags address offset size link info align entry =
     word 0 name ∷ word 4 kind ∷ word 8 flags ∷ word 12 address ∷ word 16 offset ∷ word 20 size ∷ word 24 link

@@ -23,8 +23,8 @@ AreNamed (s ∷ ss) = IsName s.0 × (s.1.address < 2 ^ 32) × AreNamed ss
 abbrev pub symbol_given : (List ℕ × Symbol) → SymbolValue
 symbol_given s = record { name = s.0; address = s.1.address }
 
--- of a program within the limit, with such symbols, the file gives all of them, first those that other files do not see, where it
--- has fewer than 2^32 bytes
+-- of a program within the limit, with such symbols, the file gives all of them, first those that
+-- other files do not see, where it has fewer than 2^32 bytes
 abbrev pub SymbolsComeBack : (ProgramValue → List ℕ) → Type 0
 SymbolsComeBack file =
     (p : ProgramValue) → length p.text + memory_size p ≤ 2 ^ 24 → p.entry < 2 ^ 32 → AreNamed p.symbols

@@ -8,7 +8,8 @@ use Rattle.elf_read.specs.SymbolTable.{symbols_of}
 use Rattle.elf_laws.specs.Fields.{listed_symbols, memory_size}
 use Rattle.elf_laws.specs.Given.{AreNamed, symbol_given}
 
--- a name as a text has it: ASCII letters, digits, `_`, `.` and `$`, at least one, the first no digit
+-- a name as a text has it: ASCII letters, digits, `_`, `.` and `$`, at least one, the first no
+-- digit
 pub record IsWord (name : List ℕ) : Type 0 where
   pub some : 0 < length name
   pub no_digit_first : is_digit (slice_index name 0) ≡ false
@@ -18,8 +19,8 @@ abbrev pub AreWords : SymbolList → Type 0
 AreWords [] = Unit {0}
 AreWords (s ∷ ss) = IsWord s.0 × AreWords ss
 
--- a program's symbols have such names, which a table of names holds, and addresses of 32 bits; it is within the limit and begins at
--- an address
+-- a program's symbols have such names, which a table of names holds, and addresses of 32 bits; it
+-- is within the limit and begins at an address
 pub record HasNames (p : ProgramValue) : Type 0 where
   pub words : AreWords p.symbols
   pub named : AreNamed p.symbols

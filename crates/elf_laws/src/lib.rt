@@ -1,4 +1,5 @@
-//! The laws of written files: each field is at its place, and the symbols that are read of a file are its program's.
+//! The laws of written files: each field is at its place, and the symbols that are read of a file
+//! are its program's.
 #![tactic(auto)]
 
 pub use fields::written_fields;

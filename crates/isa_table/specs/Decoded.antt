@@ -35,7 +35,7 @@ bits word place width = word / 2 ^ place % 2 ^ width
 abbrev pub opcode : ℕ → ℕ
 opcode w = bits w 0 7
 
--- rd_of: bits 11 to 7
+-- rd: bits 11 to 7
 abbrev pub rd_of : ℕ → ℕ
 rd_of w = bits w 7 5
 
@@ -43,11 +43,11 @@ rd_of w = bits w 7 5
 abbrev pub funct3 : ℕ → ℕ
 funct3 w = bits w 12 3
 
--- rs1_of: bits 19 to 15
+-- rs1: bits 19 to 15
 abbrev pub rs1_of : ℕ → ℕ
 rs1_of w = bits w 15 5
 
--- rs2_of: bits 24 to 20
+-- rs2: bits 24 to 20
 abbrev pub rs2_of : ℕ → ℕ
 rs2_of w = bits w 20 5
 
@@ -59,11 +59,11 @@ funct7 w = bits w 25 7
 abbrev pub funct5 : ℕ → ℕ
 funct5 w = bits w 27 5
 
--- aq_of: bit 26
+-- aq: bit 26
 abbrev pub aq_of : ℕ → Bool
 aq_of w = bits w 26 1 == 1
 
--- rl_of: bit 25
+-- rl: bit 25
 abbrev pub rl_of : ℕ → Bool
 rl_of w = bits w 25 1 == 1
 

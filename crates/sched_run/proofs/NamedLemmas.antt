@@ -1,4 +1,4 @@
--- A choice_run that an item denotes is of a hart that exists, and has at least one choice.
+-- A run that an item denotes is of a hart that exists, and has at least one choice.
 use Rattle.std.proofs.Common.{◌≡◌, ℕ, ◌<◌, Bool, true, false, List, [], ◌∷◌, Option, Some, None, Ok, Err, refl, arith, ap, subst, ltb-true}
 use Rattle.std.specs.Prelude.{◌&&◌, if◌then◌else◌, nat_lt}
 use Rattle.std.specs.declared.result.Result.{Result}

@@ -21,7 +21,7 @@ use Rattle.sched_text.proofs.ItemLemmas.{CountTold, count_told, digits_named, co
 use Rattle.sched_text.proofs.ExpandLemmas.{all_expanded}
 
 module _ (item : List ℕ) where
-  -- a number, a mark and a count name a choice_run
+  -- a number, a mark and a count name a run
   parts_name : (hart count : ℕ) → IsNumber (unmarked (before_byte 42 item)) → digits_value 10 (unmarked (before_byte 42 item)) ≡ hart
       → Counts (from_byte 42 item) count
       → NamesRun item (choice_run (record { hart = hart; refuse = has_mark (before_byte 42 item) }) count)

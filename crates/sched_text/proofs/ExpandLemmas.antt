@@ -65,7 +65,7 @@ unfolding expanded_runs
 longest-expanded [] = refl
 longest-expanded (c ∷ choices) = runs_from-expanded c 1 choices
 
--- each choice_run has at least one choice and at most n, all of which the list has
+-- each run has at least one choice and at most n, all of which the list has
 abbrev pub IsCounted : Run → Type 0
 IsCounted r = (1 ≤ r.count) × (r.count ≤ 16777216)
 

@@ -1,4 +1,4 @@
--- What an item that names a choice_run says of its bytes.
+-- What an item that names a run says of its bytes.
 use Rattle.std.proofs.Common.{◌≡◌, ℕ, ◌+◌, ◌^◌, ◌<◌, ◌≤◌, lit<, inl, inr, ◌⊎◌, Bool, true, false, List, [], ◌∷◌, ◌++◌, length, drop, get_or, Option, Some, None, Ok, refl, arith, ap, sym, ◌∙◌, lt-ltb, ltb-true, ltb-false, length-append, append_assoc, append-nil, subst}
 use Rattle.std.proofs.lemmas.List.Elements.{All-nil, All-cons, All-append}
 use Rattle.std.specs.Prelude.{◌&&◌, if◌then◌else◌, nat_lt}
@@ -115,7 +115,7 @@ module _ (item : List ℕ) (r : Run) (n : NamesRun item r) where
   mark_named : has_mark (before_byte 42 item) ≡ r.choice.refuse
   mark_named = ap has_mark front_named ∙ (marked_parts n.digits r.choice.refuse n.number).0
 
-  -- the choice_run that an item names is read
+  -- the run that an item names is read
   pub run_named : (harts at : ℕ) → harts < 2 ^ 32 → r.choice.hart < harts → run_of harts at item ≡ Ok r
   run_named harts at few below =
       let there : nat_lt r.choice.hart harts ≡ true = lt-ltb r.choice.hart harts below in
@@ -135,7 +135,7 @@ counted_plain [] n once = All-nil plain
 counted_plain (star ∷ digits) n counts =
     All-cons plain star digits (ap is_blank counts.0) (digits_plain digits counts.1.numeral.1)
 
--- an item that names a choice_run has no blank
+-- an item that names a run has no blank
 pub named_plain : (item : List ℕ) (r : Run) → NamesRun item r → All (λ b. is_blank b ≡ false) item
 named_plain item r n =
     subst (All (λ b. is_blank b ≡ false)) (sym n.text)

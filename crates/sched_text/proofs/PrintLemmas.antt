@@ -73,7 +73,7 @@ pub spells_printed : (text : List ℕ) (choices : List Choice) → text ≡ choi
     → (harts : ℕ) → harts < 2 ^ 32 → All (λ c. c.hart < harts) choices → SpellsChoices harts text choices
 spells_printed text choices e harts few within = subst (λ t. SpellsChoices harts t choices) (sym e) (text_spells harts choices few within)
 
--- ---- a list, one item per choice_run
+-- ---- a list, one item per run
 abbrev fits_text : ℕ → Run → Type 0
 fits_text harts r = (r.choice.hart < harts) × IsCounted r
 
@@ -148,14 +148,14 @@ text_from-last c n = refl
 
 module _ (text whole : List ℕ) (c : Choice) (n i : ℕ) (rest : List Choice) (none : Choice)
     (so_far : text ++ text_from c n (drop i rest) ≡ whole) where
-  -- the choice_run goes on
+  -- the run goes on
   pub print_more : i < length rest → same_choice c (get_or rest i none) && nat_lt n 16777216 ≡ true
       → text ++ text_from c (n + 1) (drop (i + 1) rest) ≡ whole
   print_more inside e =
       ap (λ xs. text ++ xs) (sym (ap (text_from c n) (drop_more rest i none inside) ∙ text_from-more c n (get_or rest i none) (drop (i + 1) rest) e))
       ∙ so_far
 
-  -- the choice_run has ended, and another begins
+  -- the run has ended, and another begins
   pub print_next : (after : List ℕ) → i < length rest → same_choice c (get_or rest i none) && nat_lt n 16777216 ≡ false
       → after ≡ text ++ (run_text (choice_run c n) ++ 32 ∷ [])
       → after ++ text_from (get_or rest i none) 1 (drop (i + 1) rest) ≡ whole
@@ -167,7 +167,7 @@ module _ (text whole : List ℕ) (c : Choice) (n i : ℕ) (rest : List Choice) (
       ∙ ap (λ xs. text ++ xs) (sym (ap (text_from c n) (drop_more rest i none inside) ∙ text_from-next c n d (drop (i + 1) rest) e))
       ∙ so_far
 
-  -- the last choice_run
+  -- the last run
   pub print_last : (after : List ℕ) → length rest ≤ i → after ≡ text ++ (run_text (choice_run c n) ++ 10 ∷ []) → after ≡ whole
   print_last after end written =
       let none_left : drop i rest ≡ [] = search (rules, common_steps, end) in

@@ -20,14 +20,14 @@ abbrev pub count_of : List ℕ → Option ℕ
 count_of [] = Some 1
 count_of (star ∷ digits) = count_in (number_of digits)
 
--- the choice_run of a hart's choices, if number and count are valid and the hart exists
+-- the run of a hart's choices, if number and count are valid and the hart exists
 abbrev pub run_by : Option ℕ → Option ℕ → ℕ → ℕ → Bool → Result Run ChoiceFault
 run_by None count harts at refuse = Err (BadChoice at)
 run_by (Some hart) None harts at refuse = Err (BadChoice at)
 run_by (Some hart) (Some count) harts at refuse =
     if nat_lt hart harts then Ok (choice_run (record { hart = hart; refuse = refuse }) count) else Err (NoHart at)
 
--- the choice_run that an item denotes, for this number of harts
+-- the run that an item denotes, for this number of harts
 abbrev pub run_of : ℕ → ℕ → List ℕ → Result Run ChoiceFault
 run_of harts at item =
     run_by (number_of (unmarked (before_byte 42 item))) (count_of (from_byte 42 item)) harts at (has_mark (before_byte 42 item))

@@ -7,11 +7,11 @@ use Rattle.sched_text.specs.declared.run.Run.{Run}
 abbrev pub choice_run : Choice → ℕ → Run
 choice_run choice count = record { choice = choice; count = count }
 
--- the choices of a choice_run
+-- the choices of a run
 abbrev pub equal_choices : Run → List Choice
 equal_choices r = replicate r.count r.choice
 
--- the choices of one choice_run after another
+-- the choices of one run after another
 unfoldable pub expanded_runs : List Run → List Choice
 expanded_runs [] = []
 expanded_runs (r ∷ runs) = equal_choices r ++ expanded_runs runs

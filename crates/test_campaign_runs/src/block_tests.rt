@@ -1,4 +1,5 @@
-//! What no clause says: that memory is found, and that the runs of threads are those of plain machines.
+//! What no clause says: that memory is found, and that the runs of threads are those of plain
+//! machines.
 ghost use Rattle.std.specs.Prelude.{◌≤◌};
 
 use crate::plain_runs::plain_ending;
@@ -175,8 +176,8 @@ fn left_behind<'a>(
     Some(left)
 }
 
-// Whether the blocks of a campaign of so many seeds are the campaign as a whole; none where memory is
-// refused.
+// Whether the blocks of a campaign of so many seeds are the campaign as a whole; none where memory
+// is refused.
 fn are_blocks_whole<R: Threads + Sync>(rt: &R, alloc: Global, count: u64) -> Option<bool>
     requires { count ≤ 5000 }
 {

@@ -1,4 +1,5 @@
-//! What no clause says: failures beside the lines of a campaign, what is refused, devices that fail.
+//! What no clause says: failures beside the lines of a campaign, what is refused, devices that
+//! fail.
 use crate::plain_runs::plain_ending;
 use crate::plans::{Order, Plan, Program, REPORTS, answered, campaign_of, program_of};
 use byte_io::{FullSink, MemorySource, Status, Unheard};
@@ -48,8 +49,8 @@ struct Bad {
     status: Status,
 }
 
-// With 8 and 12 steps some seeds of three harts of Swap are bad and some are not. With 26 steps some
-// of two harts have both exited and some have not.
+// With 8 and 12 steps some seeds of three harts of Swap are bad and some are not. With 26 steps
+// some of two harts have both exited and some have not.
 #[rattlefmt::skip]
 const BAD: [Bad; 8] = [
     Bad { inputs: &[7, 9, 5], plan: Plan { first: 3, count: 5000, steps: 8, order: Order::Usual, rule: Some(Kind::Swap), exit: Exit::May },

@@ -1,6 +1,6 @@
-//! Each request for memory of a tally, of the counting of a block's runs, of a summary's text and of
-//! a block's failures refused in turn. The runs themselves ask in threads, which can't be handed such
-//! an allocator.
+//! Each request for memory of a tally, of the counting of a block's runs, of a summary's text and
+//! of a block's failures refused in turn. The runs themselves ask in threads, which can't be handed
+//! such an allocator.
 ghost use Rattle.std.specs.Prelude.{◌≡◌, IfOk, length};
 
 use byte_io::MemorySink;

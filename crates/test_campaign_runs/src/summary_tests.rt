@@ -1,4 +1,5 @@
-//! What no clause says: worked lines and summaries, and summaries beside runs that are counted one by one.
+//! What no clause says: worked lines and summaries, and summaries beside runs that are counted one
+//! by one.
 use crate::plain_runs::plain_ending;
 use crate::plans::{Order, Plan, Program, answered, program_of};
 use byte_io::Status;
@@ -23,8 +24,9 @@ struct Worked {
 }
 
 // Four harts of LrSc agree under each seed, and three harts of Swap never keep its rule once the
-// third has stored. By priorities, a hart of Swap wins in 11 steps, and then the other comes to its end in 15: in 26 of
-// them. A hart of Swap alone takes 11, and one of LrSc alone 16, if nothing is refused.
+// third has stored. By priorities, a hart of Swap wins in 11 steps, and then the other comes to its
+// end in 15: in 26 of them. A hart of Swap alone takes 11, and one of LrSc alone 16, if nothing is
+// refused.
 #[rattlefmt::skip]
 const WORKED: [Worked; 18] = [
     Worked { kind: Kind::LrSc, inputs: &[4, 5, 6, 7],
@@ -145,8 +147,8 @@ fn count_run(
     Ok(())
 }
 
-// The runs of plain machines over the seeds of a plan, counted one by one; none where the file is no
-// program.
+// The runs of plain machines over the seeds of a plan, counted one by one; none where the file is
+// no program.
 fn counts_of(alloc: Global, program: Program, plan: Plan) -> Option<Vec<Counted, Global>> {
     let image = read_program(alloc, ProgramForm::Elf, program.file).ok()?;
     let mut rows: Vec<Counted, Global> = Vec::new(alloc);

@@ -89,7 +89,8 @@ fn files_have_their_lengths(rt: HostRuntime) {
     assert!(rt; length_of_file(rt.alloc(), source(Kind::Swap)) == Some(8576));
 }
 
-// Whether the file of a kind's source is that of an object of the kind; nothing where it doesn't load.
+// Whether the file of a kind's source is that of an object of the kind; nothing where it doesn't
+// load.
 fn is_recognized(alloc: Global, of: Kind, kind: Kind) -> Option<bool> {
     let file = file_of(alloc, source(of))?;
     let image = load(alloc, &file).ok()?;

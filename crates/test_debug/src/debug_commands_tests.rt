@@ -219,7 +219,8 @@ fn is_shown(alloc: Global, debugger: &mut Debugger<Global>, line: &str, wanted: 
     }
 }
 
-// The first line of a session for which something else is shown, or the name of a session that doesn't begin.
+// The first line of a session for which something else is shown, or the name of a session that
+// doesn't begin.
 fn wrong_line(alloc: Global, session: &Session) -> Option<&'static str> {
     let Some(mut debugger) = begin(alloc, session.program, session.inputs, session.choices) else {
         return Some(session.name);

@@ -1,5 +1,5 @@
-//! What is told of command lines, sources and lines at the debugger, and marks, with each request for memory refused in turn; `tests/people` has typical
-//! mistakes.
+//! What is told of command lines, sources and lines at the debugger, and marks, with each request
+//! for memory refused in turn; `tests/people` has typical mistakes.
 use asm_statement::{Fault, FaultKind};
 use hint_asm::{SourceText, asm_advice};
 use hint_debug::line_advice;

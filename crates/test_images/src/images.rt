@@ -44,7 +44,8 @@ pub fn checked_image<A: Allocator + Copy>(
     }
 }
 
-/// The image of rows that no check refuses, entered at an address; or `AllocError` where memory is refused.
+/// The image of rows that no check refuses, entered at an address; or `AllocError` where memory is
+/// refused.
 pub fn image_of<A: Allocator + Copy>(
     alloc: A,
     entry: u32,
@@ -72,8 +73,8 @@ pub const STORES_INPUT: [u32; 3] = [
     0x0000_006f, // jal zero, 0
 ];
 
-/// Each hart reserves a word, stores its address there if the reservation holds, loads it, and exits with what the
-/// store-conditional answered.
+/// Each hart reserves a word, stores its address there if the reservation holds, loads it, and
+/// exits with what the store-conditional answered.
 pub const CONDITIONAL: [u32; 6] = [
     0x0001_1437, // lui s0, 0x11
     0x1004_22af, // lr.w t0, (s0)

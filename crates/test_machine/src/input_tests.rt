@@ -16,7 +16,8 @@ const COUNTS: [(usize, Result<u32, StartFault>); 4] = [
     (33, Err(StartFault::TooManyHarts)),
 ];
 
-// How many harts there are for the first so many words, which are given back; none where they aren't.
+// How many harts there are for the first so many words, which are given back; none where they
+// aren't.
 fn harts_of(count: usize) -> Option<Result<u32, StartFault>> {
     let words = WORDS.get(..count)?;
     match Inputs::new(words) {

@@ -1,5 +1,5 @@
-//! Tests of `machine`'s inputs, `sched_text`, `sched_run`, `sched_draw`, `history`, `debug_session` and
-//! `hart_local`.
+//! Tests of `machine`'s inputs, `sched_text`, `sched_run`, `sched_draw`, `history`, `debug_session`
+//! and `hart_local`.
 #![tactic(auto)]
 
 // A hart's choice that refuses no store-conditional.

@@ -27,7 +27,8 @@ fn commits(hart: Option<Hart>, state: HartState, input: u32) -> bool {
     })
 }
 
-/// Whether the hart runs a step before its last one, and has ended behind it; none where there is no such hart.
+/// Whether the hart runs a step before its last one, and has ended behind it; none where there is
+/// no such hart.
 fn ends_alone(alloc: Global, row: &Alone) -> Option<bool> {
     let input = *row.inputs.get(row.hart as usize)?;
     let before = hart_after(alloc, row, row.last.saturating_sub(1)).ok()?;

@@ -1,5 +1,6 @@
-//! Every schedule of two harts, step by step. A state is what the two harts and their data words are; schedules that have chosen each
-//! hart as often and lead to the same state go on as one, and how many they are is counted.
+//! Every schedule of two harts, step by step. A state is what the two harts and their data words
+//! are; schedules that have chosen each hart as often and lead to the same state go on as one, and
+//! how many they are is counted.
 
 use hart_step::{Hart, HartState};
 use machine::{Choice, Inputs, Machine};
@@ -31,8 +32,8 @@ fn word_at<S: Store>(store: &S, address: u32) -> u32 {
     }
 }
 
-// The words that two harts may store to: of each of four objects two records with value, presence and mark. Swap and Add have
-// the first three.
+// The words that two harts may store to: of each of four objects two records with value, presence
+// and mark. Swap and Add have the first three.
 #[rattlefmt::skip]
 const DATA: [u32; 24] = [
     0x0001_1000, 0x0001_1004, 0x0001_1008, 0x0001_1010, 0x0001_1014, 0x0001_1018,
@@ -178,7 +179,8 @@ fn choice_of(hart: u32) -> Choice {
     }
 }
 
-// The verdict on harts of which each was chosen so often. Of the choices the rule asks which harts they name, so one of each does.
+// The verdict on harts of which each was chosen so often. Of the choices the rule asks which harts
+// they name, so one of each does.
 fn verdict_on(search: &Search, chosen: [usize; 2], harts: &[Hart]) -> Verdict {
     let [first, second] = chosen;
     let [a, b] = [choice_of(0), choice_of(1)];
@@ -190,7 +192,8 @@ fn verdict_on(search: &Search, chosen: [usize; 2], harts: &[Hart]) -> Verdict {
     }
 }
 
-// Whether the rule is kept at a place, and a hart that was chosen as often as its bound says has exited.
+// Whether the rule is kept at a place, and a hart that was chosen as often as its bound says has
+// exited.
 fn is_kept<A: Allocator>(search: &Search, place: &Place<A>) -> bool {
     let harts = place.machine.ends();
     for (hart, often) in harts.iter().zip(place.chosen) {
@@ -212,9 +215,10 @@ struct Search {
     schedules: u64,
 }
 
-// A hart is chosen as often as its bound says and no more, since it has exited then and a further choice changes nothing. So of Swap, Add
-// and AdoptCommit these are all schedules, `(2 * bound)! / (bound! * bound!)`. Of Rounds they are the `2 ^ 140` of 140 choices, after which
-// both harts have exited in some.
+// A hart is chosen as often as its bound says and no more, since it has exited then and a further
+// choice changes nothing. So of Swap, Add and AdoptCommit these are all schedules, `(2 * bound)! /
+// (bound! * bound!)`. Of Rounds they are the `2 ^ 140` of 140 choices, after which both harts have
+// exited in some.
 #[rattlefmt::skip]
 const CONSENSUS: [Search; 2] = [
     Search { name: "Swap", kind: Kind::Swap, inputs: [7, 9], bound: 15, choices: 30,
@@ -235,8 +239,9 @@ const ROUNDS: Search = Search {
     schedules: 373_798_577,
 };
 
-// Goes through the schedules of a search, and answers how many there are: in each state that they and their beginnings reach the rule is
-// kept, and a hart that was chosen as often as its bound says has exited. `None`: in one of them it is not so.
+// Goes through the schedules of a search, and answers how many there are: in each state that they
+// and their beginnings reach the rule is kept, and a hart that was chosen as often as its bound
+// says has exited. `None`: in one of them it is not so.
 fn schedules_of<A: Allocator + Copy>(alloc: A, search: &Search) -> Result<Option<u64>, AllocError> {
     let mut column = Vec::new(alloc);
     column.push(first_place(alloc, search)?)?;

@@ -1,5 +1,5 @@
-//! Names, recognition and verdicts: harts made by hand, for each clause of a rule one row that breaks it, and rows that keep
-//! all.
+//! Names, recognition and verdicts: harts made by hand, for each clause of a rule one row that
+//! breaks it, and rows that keep all.
 
 use hart_step::{Cause, Hart, HartState};
 use image::{Image, Rights, Segment};
@@ -163,7 +163,8 @@ fn parts_of_text() -> ([u32; 4], &'static [u32]) {
     }
 }
 
-/// Swap's image with its text in two segments, at this entry, of these rights, and with so many zeros; and whether it is Swap's.
+/// Swap's image with its text in two segments, at this entry, of these rights, and with so many
+/// zeros; and whether it is Swap's.
 struct Parted {
     name: &'static str,
     entry: u32,

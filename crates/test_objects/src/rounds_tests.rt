@@ -30,7 +30,8 @@ struct Worked {
 
 const ONES: u32 = 0xffff_ffff;
 
-// The ends are those that another simulator printed of the same words; a hart that has not exited stands at its last instruction.
+// The ends are those that another simulator printed of the same words; a hart that has not exited
+// stands at its last instruction.
 #[rattlefmt::skip]
 static WORKED: [Worked; 9] = [
     Worked { name: "one hart", inputs: &[5], strict: 0, alone: [(0, 34), (0, 0)], harts: &[(true, 5, 1)] },

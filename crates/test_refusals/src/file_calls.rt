@@ -142,7 +142,8 @@ fn is_paged<A: Allocator + Copy>(alloc: A) -> Result<bool, AllocError> {
     Ok(has_words(&store))
 }
 
-// Whether a store into a page that a copy shares was answered: where it is refused, neither has changed.
+// Whether a store into a page that a copy shares was answered: where it is refused, neither has
+// changed.
 fn answer_of_store<S: Store>(
     stored: Result<(), StoreFault>,
     store: &S,

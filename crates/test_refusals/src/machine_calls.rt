@@ -1,4 +1,5 @@
-//! Calls that make and copy machines, that let paged machines go on, and that make, read and print schedules and histories.
+//! Calls that make and copy machines, that let paged machines go on, and that make, read and print
+//! schedules and histories.
 use debug_session::byte_at;
 use history::{Entry, HistoryFault, print_history, read_history};
 use machine::{Choice, Inputs, Machine};
@@ -146,7 +147,8 @@ fn step<A: Allocator + Copy>(
     machine.step(choice)
 }
 
-// Whether a step that stores 7 into a page that a copied machine shares was answered: where it is refused, the hart stands where it stood.
+// Whether a step that stores 7 into a page that a copied machine shares was answered: where it is
+// refused, the hart stands where it stood.
 fn answer_of_step<A: Allocator + Copy>(
     stepped: Result<(), AllocError>,
     machine: &Machine<PageStore<A>, A>,

@@ -1,4 +1,5 @@
-//! Calls of a debugger, each at one place: how it is made, its moves, its breakpoints and its commands.
+//! Calls of a debugger, each at one place: how it is made, its moves, its breakpoints and its
+//! commands.
 use debug_session::{Debugger, MoveFault, Stop};
 use debug_text::{Answer, DebugFault, command};
 use machine::{Choice, Inputs};
@@ -6,7 +7,8 @@ use std::alloc::{AllocError, Allocator, Global};
 use test_images::{STORES_INPUT, writable_program};
 use test_refusing::{Call, tried};
 
-// A call, behind three of six choices; those with `Far` behind 600 of a thousand, with checkpoints between.
+// A call, behind three of six choices; those with `Far` behind 600 of a thousand, with checkpoints
+// between.
 #[derive(Clone, Copy)]
 enum MoveCall {
     At,
@@ -84,7 +86,8 @@ fn begin<A: Allocator + Copy>(
     Debugger::new(alloc, image, inputs, choices)
 }
 
-// Where a call is made: how many choices there are, behind how many, and what the move there has cost.
+// Where a call is made: how many choices there are, behind how many, and what the move there has
+// cost.
 #[derive(Clone, Copy)]
 struct Place {
     choices: u32,

@@ -1,5 +1,5 @@
-//! An allocator for tests that refuses one request, or that and all behind it, so that a test can let each request of a call fail in
-//! turn.
+//! An allocator for tests that refuses one request, or that and all behind it, so that a test can
+//! let each request of a call fail in turn.
 #![tactic(auto)]
 
 pub use trying::{Call, Wrong, tried};
@@ -23,17 +23,20 @@ impl Shortage {
     pub const BOTH: [Shortage; 2] = [Shortage::Once, Shortage::ForGood];
 }
 
-/// Passes requests on to `inner`, but refuses the one that comes after a given number of others, and where it is asked to all behind it.
-/// Several threads may share it. `&Refusing<B>` is an allocator that can be copied.
+/// Passes requests on to `inner`, but refuses the one that comes after a given number of others,
+/// and where it is asked to all behind it. Several threads may share it. `&Refusing<B>` is an
+/// allocator that can be copied.
 pub struct Refusing<B: Allocator> {
     inner: B,
-    // Twice the number of requests that are still passed on, and 1 more where the refusal is for good: one cell for both, so that
-    // threads agree on the first request that is refused. It goes below 0, and so to the largest numbers, at that request.
+    // Twice the number of requests that are still passed on, and 1 more where the refusal is for
+    // good: one cell for both, so that threads agree on the first request that is refused. It goes
+    // below 0, and so to the largest numbers, at that request.
     left: AtomicU64,
 }
 
 impl<B: Allocator> Refusing<B> {
-    /// Passes on `passed` requests, fewer than 2^62, refuses the next one, and passes on all that follow it.
+    /// Passes on `passed` requests, fewer than 2^62, refuses the next one, and passes on all that
+    /// follow it.
     pub fn new(inner: B, passed: u64) -> Refusing<B> {
         Refusing::of(inner, passed, Shortage::Once)
     }

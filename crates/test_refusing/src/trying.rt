@@ -4,8 +4,8 @@ use std::alloc::{AllocError, Allocator, Global};
 
 /// A call that asks for memory.
 pub trait Call {
-    /// Makes the call: whether it gave its full answer, or that it told want of memory and left all as it was. What it writes is kept by
-    /// `host`, whose memory is ample.
+    /// Makes the call: whether it gave its full answer, or that it told want of memory and left all
+    /// as it was. What it writes is kept by `host`, whose memory is ample.
     fn answer<A: Allocator + Copy>(&self, alloc: A, host: Global) -> Result<bool, AllocError>;
 }
 
@@ -14,8 +14,8 @@ pub trait Call {
 pub enum Wrong {
     /// It asks for no memory.
     AsksForNone,
-    /// Where memory is short behind so many requests, it gave something else than its full answer or want of memory; or it tells of
-    /// want where none was refused.
+    /// Where memory is short behind so many requests, it gave something else than its full answer
+    /// or want of memory; or it tells of want where none was refused.
     Behind(Shortage, u64),
     /// It asks for memory without end.
     Endless(Shortage),
@@ -24,7 +24,8 @@ pub enum Wrong {
 // More requests than a call makes.
 const MOST: u64 = 3000;
 
-// How many requests a call makes: it is made with each of them refused in turn, until none is left to refuse.
+// How many requests a call makes: it is made with each of them refused in turn, until none is left
+// to refuse.
 fn requests_of<C: Call>(host: Global, call: &C, shortage: Shortage) -> Result<u64, Wrong> {
     for passed in 0..MOST {
         let heap = Refusing::of(host, passed, shortage);
@@ -42,8 +43,8 @@ fn requests_of<C: Call>(host: Global, call: &C, shortage: Shortage) -> Result<u6
     Err(Wrong::Endless(shortage))
 }
 
-/// Makes a call with each of its requests refused in turn, once and for good, until it is made with none refused, and says what is wrong
-/// with it.
+/// Makes a call with each of its requests refused in turn, once and for good, until it is made with
+/// none refused, and says what is wrong with it.
 pub fn tried<C: Call>(host: Global, call: &C) -> Result<(), Wrong> {
     for shortage in Shortage::BOTH {
         if requests_of(host, call, shortage)? == 0 {

@@ -1,4 +1,5 @@
-//! What no clause says of `shrink`: worked programs, whose only minimal failing lists were found by hand; failing devices.
+//! What no clause says of `shrink`: worked programs, whose only minimal failing lists were found by
+//! hand; failing devices.
 use crate::worked::{CROSSED, LOST, NEEDS_SC, OWN_INPUT, TWO_FAULTS, file_of};
 use byte_io::{Failing, FullSink, MemorySink, MemorySource, Status};
 use cmd_shrink::{Unheard, shrink_engine};
@@ -172,7 +173,8 @@ fn left_of(alloc: Global, seed: u64) -> Option<usize> {
     Some(left.len())
 }
 
-// The 14 steps of hart 0 to its EBREAK and the nine of hart 1 to its AMO are the least that an update is lost in.
+// The 14 steps of hart 0 to its EBREAK and the nine of hart 1 to its AMO are the least that an
+// update is lost in.
 #[test]
 fn seeds_shrink_to_the_steps_that_lose_an_update(rt: HostRuntime) {
     for seed in [2, 4, 5, 7, 8, 10] {

@@ -45,7 +45,8 @@ const GIVEN: [Choice; 5] = [
     Choice { hart: 0, refuse: false },
 ];
 
-// Whether three choices are left where three fail, all of them without marks, and it is told so; nothing for want of memory.
+// Whether three choices are left where three fail, all of them without marks, and it is told so;
+// nothing for want of memory.
 fn are_three_left(alloc: Global) -> Option<bool> {
     let mut noted = Noted {
         last_left: 0,

@@ -3,7 +3,8 @@ use byte_io::MemorySource;
 use cmd_asm::assembled_file;
 use std::alloc::Allocator;
 
-// Stores 1 into a word where another hart may store too, and stops at an EBREAK where the update of one was lost.
+// Stores 1 into a word where another hart may store too, and stops at an EBREAK where the update of
+// one was lost.
 pub(crate) const LOST: &str = ".globl _start
 _start:
     la s0, counter
@@ -28,7 +29,8 @@ counter: .word 0
 done: .word 0
 ";
 
-// Hart 1 stores into a word; hart 0 stops at an EBREAK where it finds none there, and else at an ECALL that is none.
+// Hart 1 stores into a word; hart 0 stops at an EBREAK where it finds none there, and else at an
+// ECALL that is none.
 pub(crate) const TWO_FAULTS: &str = ".globl _start
 _start:
     la s0, flag

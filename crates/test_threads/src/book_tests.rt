@@ -6,8 +6,8 @@ use std::alloc::Global;
 use test_images::Program;
 use thread_book::{Book, PresentFault, Segment};
 
-// Lets a hart run until it stops; each segment is as long as it can be. The step behind the local ones of one entry, told by its
-// place in the history, is refused its store-conditional.
+// Lets a hart run until it stops; each segment is as long as it can be. The step behind the local
+// ones of one entry, told by its place in the history, is refused its store-conditional.
 fn run_out(book: &mut Book<Global>, hart: u32, refused: usize) -> Result<(), PresentFault> {
     let Ok(mut segment) = book.segment(hart) else {
         return Err(PresentFault::NoHart);
@@ -26,8 +26,8 @@ fn run_out(book: &mut Book<Global>, hart: u32, refused: usize) -> Result<(), Pre
 // The place of no entry.
 const NONE: usize = usize::MAX;
 
-// A run in segments: its program, the inputs, the harts in the order in which they run, the entry whose store-conditional is
-// refused, the history, and what hart 0 exits with.
+// A run in segments: its program, the inputs, the harts in the order in which they run, the entry
+// whose store-conditional is refused, the history, and what hart 0 exits with.
 struct Run {
     program: Program,
     inputs: &'static [u32],

@@ -1,5 +1,6 @@
-//! What no clause says of books and seats: that want of memory is told only where a request was refused, once or for good, and leaves all
-//! as it was, so that the same call succeeds once memory is back.
+//! What no clause says of books and seats: that want of memory is told only where a request was
+//! refused, once or for good, and leaves all as it was, so that the same call succeeds once memory
+//! is back.
 use crate::images::{SWAP, book_of};
 use crate::seat_tests::shared_swap;
 use std::alloc::{AllocError, Allocator, Global};

@@ -1,5 +1,6 @@
-//! What no clause says of the library's objects on threads: that runs under plans of any kind come to their end, and that a hart
-//! which is held holds up nobody. Their rules hold by law of each history; here each history is done again beside.
+//! What no clause says of the library's objects on threads: that runs under plans of any kind come
+//! to their end, and that a hart which is held holds up nobody. Their rules hold by law of each
+//! history; here each history is done again beside.
 use crate::images::{LR_SC, SWAP};
 use crate::runs::{Order, run};
 use hart_step::HartState;
@@ -63,7 +64,8 @@ fn does_again<A: Allocator + Copy>(alloc: A, book: &Book<A>, choices: &[Choice])
     take(&mut machine, choices) && machine.ends() == book.machine().ends()
 }
 
-// An object: its kind, its harts' inputs, how many runs it has, and the bound of the harts in their plans.
+// An object: its kind, its harts' inputs, how many runs it has, and the bound of the harts in their
+// plans.
 struct Object {
     name: &'static str,
     kind: Kind,
@@ -106,7 +108,8 @@ const ALL_HARTS: Object = Object {
     bound: 33,
 };
 
-// Whether a run that has these choices has the same ends when it is done again, each hart has stopped, and the rule is kept.
+// Whether a run that has these choices has the same ends when it is done again, each hart has
+// stopped, and the rule is kept.
 fn is_right(alloc: Global, object: &Object, book: &Book<Global>, choices: &[Choice]) -> bool {
     let ends = book.machine().ends();
     does_again(alloc, book, choices)
@@ -114,7 +117,8 @@ fn is_right(alloc: Global, object: &Object, book: &Book<Global>, choices: &[Choi
         && judge(object.kind, object.inputs, choices, ends) == Verdict::Kept
 }
 
-// Runs an object under the plan of a number, does its history again and judges it; None where a run or memory is refused.
+// Runs an object under the plan of a number, does its history again and judges it; None where a run
+// or memory is refused.
 fn keeps_rule<R: Threads + Wait + Sync>(
     rt: &R,
     alloc: Global,

@@ -1,4 +1,5 @@
-//! What no clause says of the harts that a history chooses: that their list is had where memory is left, and each once.
+//! What no clause says of the harts that a history chooses: that their list is had where memory is
+//! left, and each once.
 use history::{chosen_harts, read_history};
 use machine::Choice;
 use std::alloc::Global;

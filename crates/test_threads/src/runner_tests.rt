@@ -1,5 +1,5 @@
-//! What no clause says of runs of threads: that they come to their end, that harts run at once, worked histories, and refused
-//! memory.
+//! What no clause says of runs of threads: that they come to their end, that harts run at once,
+//! worked histories, and refused memory.
 use crate::images::{LR_SC, STORE_AND_LOAD, SWAP};
 use crate::runs::{Order, run};
 use hart_step::HartState;
@@ -85,7 +85,8 @@ const MANY: [Many; 3] = [
         values: &[5] },
 ];
 
-// The one value that a run's harts exit with; None where there is none, or memory or a thread is refused.
+// The one value that a run's harts exit with; None where there is none, or memory or a thread is
+// refused.
 fn value_of<R: Threads + Wait + Sync>(rt: &R, alloc: Global, order: &Order) -> Option<u32> {
     let book = run(rt, alloc, order, &OpenGate).ok()?;
     one_value(book.machine().ends())
@@ -189,8 +190,8 @@ fn short_run<R: Threads + Wait + Sync>(
     }
 }
 
-// Refuses each request in turn; the number of the first one at which a run ends wrongly, or the last where memory is asked for
-// without end.
+// Refuses each request in turn; the number of the first one at which a run ends wrongly, or the
+// last where memory is asked for without end.
 fn each_is_told<R: Threads + Wait + Sync>(
     rt: &R,
     host: Global,

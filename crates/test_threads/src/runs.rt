@@ -8,7 +8,8 @@ use thread_book::Book;
 use thread_gate::Gate;
 use thread_run::{RunFault, run_threads};
 
-/// What is run: a program with a hart for each input, how often each hart is chosen at most, and the pairs of its plan.
+/// What is run: a program with a hart for each input, how often each hart is chosen at most, and
+/// the pairs of its plan.
 #[derive(Clone, Copy)]
 pub struct Order<'a> {
     pub program: Program,

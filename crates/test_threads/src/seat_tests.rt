@@ -1,5 +1,5 @@
-//! What no clause says of seats: that they are had and committed to the shared book where memory is left, worked histories, and
-//! refused memory.
+//! What no clause says of seats: that they are had and committed to the shared book where memory is
+//! left, worked histories, and refused memory.
 use crate::images::{LR_SC, SWAP, book_of};
 use hart_step::HartState;
 use history::print_history;
@@ -34,8 +34,9 @@ fn has_history(alloc: Global, shared: Shared<Global>, wanted: &str) -> Option<bo
     Some(text.as_str() == wanted)
 }
 
-// Two seats of one hart, of which the first is committed: the program and its inputs, the local steps of the second seat, how its
-// commit is refused, its local steps behind that, and the history.
+// Two seats of one hart, of which the first is committed: the program and its inputs, the local
+// steps of the second seat, how its commit is refused, its local steps behind that, and the
+// history.
 struct TwoSeats {
     program: Program,
     inputs: &'static [u32],
@@ -85,8 +86,8 @@ fn both_seats_of_a_loop_are_committed(rt: HostRuntime) {
     assert!(rt; leave_history(&rt, rt.alloc(), &FITS) == Some(true));
 }
 
-// A seat that goes into another book: the inputs of the book of Swap in which it is had, its hart, the other book, and whether that
-// refuses the seat.
+// A seat that goes into another book: the inputs of the book of Swap in which it is had, its hart,
+// the other book, and whether that refuses the seat.
 struct Across {
     name: &'static str,
     inputs: &'static [u32],
@@ -131,7 +132,8 @@ fn entries_of(shared: Shared<Global>) -> usize {
     book.history().len()
 }
 
-// Whether a seat goes into another book, or is refused there, as the row says, and nothing comes into its own.
+// Whether a seat goes into another book, or is refused there, as the row says, and nothing comes
+// into its own.
 fn goes_across<R: Wait>(rt: &R, alloc: Global, row: &Across) -> Option<bool> {
     let home = shared_of(alloc, SWAP, row.inputs)?;
     let other = shared_of(alloc, row.program, row.others)?;

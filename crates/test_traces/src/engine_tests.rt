@@ -1,4 +1,5 @@
-//! Whole outputs of `trace`, worked by hand; which choices are told; long outputs; what is refused; failing devices.
+//! Whole outputs of `trace`, worked by hand; which choices are told; long outputs; what is refused;
+//! failing devices.
 use crate::worked::EXITS;
 use byte_io::{Failing, FullSink, MemorySink, MemorySource, Status};
 use cmd_trace::{TraceForm, TracePlan, trace_engine};

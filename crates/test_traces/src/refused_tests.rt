@@ -52,7 +52,8 @@ impl<'a> Call for Tracing<'a> {
     }
 }
 
-// Whether a trace in this form, of so many lines, tells want of memory; None where there is no file for it.
+// Whether a trace in this form, of so many lines, tells want of memory; None where there is no file
+// for it.
 fn is_told(host: Global, form: TraceForm, lines: usize) -> Option<bool> {
     let file = file_of(host, EACH_ACCESS)?;
     let tracing = Tracing {

@@ -3,7 +3,8 @@ use byte_io::MemorySource;
 use cmd_asm::assembled_file;
 use std::alloc::Allocator;
 
-/// Each kind of access of a word at 0x00011000, whose first value is 5, and of the bytes behind it; at last a load that is misaligned.
+/// Each kind of access of a word at 0x00011000, whose first value is 5, and of the bytes behind it;
+/// at last a load that is misaligned.
 pub(crate) const EACH_ACCESS: &str = ".globl _start
 _start:
     lui s0, 0x11
