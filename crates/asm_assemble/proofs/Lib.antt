@@ -21,4 +21,3 @@ pub mod PlacedOneMap
 pub mod PlacedOneValue
 pub mod PlacedOneProgram
 pub mod PlacedParts
-pub mod PlacedSources

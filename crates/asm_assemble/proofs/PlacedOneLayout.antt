@@ -6,10 +6,9 @@ use Rattle.asm_statement.specs.declared.statement.Section.{Section}
 use Rattle.asm_statement.specs.declared.statement.Section.TheVariants as sections
 use Rattle.asm_assemble.specs.declared.cursor.Cursor.{Cursor}
 use Rattle.asm_assemble.specs.Program.{text_start}
-use Rattle.asm_assemble.specs.Program.{ProgramValue}
 use Rattle.asm_assemble.specs.Cursors.{cursor_address, address_in, stepped_cursor, cursor_after}
 use Rattle.asm_assemble.specs.Assembled.{start_at, data_base, zeros_base, first_cursor}
-use Rattle.asm_assemble.specs.Placed.{Standing, Bases, placed_base, placed_section_behind, taken, IsNextMultiple, StandsThere, ArePlaced}
+use Rattle.asm_assemble.specs.Placed.{Standing, Bases, placed_base, placed_section_behind, taken, IsNextMultiple, StandsThere, AreStanding}
 use Rattle.asm_assemble.proofs.PlacedCuts.{laid, stood, Each, each_of}
 use Rattle.asm_assemble.proofs.PlacedAddresses.{IsBehind, behind_more, behind_all}
 use Rattle.asm_assemble.proofs.PlacedBases.{bases_of, same_end, next_page, next_word}
@@ -64,9 +63,9 @@ pub record IsOneLayout (ss : List StatementValue) (all : List Standing) (bases :
   pub places : all ≡ laid (first_cursor ss) ss
   pub sections_begin : bases ≡ bases_of ss
 
-pub one_layout : (ss : List StatementValue) (p : ProgramValue) (all : List Standing) (bases : Bases) → ArePlaced ss p all bases → IsOneLayout ss all bases
+pub one_layout : (ss : List StatementValue) (all : List Standing) (bases : Bases) → AreStanding ss all bases → IsOneLayout ss all bases
 unfolding start_at data_base zeros_base first_cursor
-one_layout ss p all bases h =
+one_layout ss all bases h =
     let start = start_at bases.data_base bases.zeros_base in
     let begins : IsBehind bases [] start = begins_behind bases ss h.begins.text_begins in
     let places : all ≡ laid start ss = laid_so bases [] start all begins (each_of (λ before s after. StandsThere bases before s) all [] all h.stands refl)

@@ -162,7 +162,7 @@ phases_go ss p h =
 
 pub placed_is_assembled : (ss : List StatementValue) (p : ProgramValue) → Placed ss p → assembled ss ≡ Ok p
 placed_is_assembled ss p h =
-    let one : IsOneLayout ss h.all h.bases = one_layout ss p h.all h.bases h.placed in
+    let one : IsOneLayout ss h.all h.bases = one_layout ss h.all h.bases h.placed.standing in
     phases_go ss p (subst (ArePlaced ss p (laid (first_cursor ss) ss)) one.sections_begin (subst (λ all. ArePlaced ss p all h.bases) one.places h.placed))
 
 pub one_program : (ss : List StatementValue) (p q : ProgramValue) → Placed ss p → Placed ss q → p ≡ q

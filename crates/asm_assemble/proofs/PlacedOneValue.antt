@@ -149,7 +149,7 @@ unfolding defined
 is_defined o to e = rw e refl
 
 -- ---- targets
-target_is : (symbols : SymbolList) (locals : List Local) (done : List Standing) (next : Cursor) (after : List StatementValue) (source : ℕ) (target : Target) (to : ℕ)
+pub target_is : (symbols : SymbolList) (locals : List Local) (done : List Standing) (next : Cursor) (after : List StatementValue) (source : ℕ) (target : Target) (to : ℕ)
     → AreFound locals done → IsTarget symbols done source (laid next after) target to
     → operand_target symbols (local_target locals next after source target) target ≡ Ok to
 unfolding operand_target local_target back_of
@@ -165,7 +165,7 @@ only_distance : (at to offset : ℕ) → (at + offset) % 2 ^ 32 ≡ to % 2 ^ 32 
 unfolding distance
 only_distance at to offset e small = omega (arith, e, small)
 
-offset_is : (width : ℕ) (symbols : SymbolList) (locals : List Local) (done : List Standing) (next : Cursor) (after : List StatementValue) (s : Standing) (target : Target) (offset : ℕ)
+pub offset_is : (width : ℕ) (symbols : SymbolList) (locals : List Local) (done : List Standing) (next : Cursor) (after : List StatementValue) (s : Standing) (target : Target) (offset : ℕ)
     → AreFound locals done → IsOffset width symbols done s (laid next after) target offset
     → offset_to width symbols (local_target locals next after s.statement.source target) s.address target ≡ Ok offset
 unfolding offset_to offset_of

@@ -132,7 +132,7 @@ unfolding defined
 was_defined (Some at) to e = ap some (good_is at to e)
 was_defined None to e = absurd cc
 
-is_target : (symbols : SymbolList) (locals : List Local) (done : List Standing) (next : Cursor) (after : List StatementValue) (source : ℕ) (target : Target) (to : ℕ)
+pub is_target : (symbols : SymbolList) (locals : List Local) (done : List Standing) (next : Cursor) (after : List StatementValue) (source : ℕ) (target : Target) (to : ℕ)
     → AreLast locals done → operand_target symbols (local_target locals next after source target) target ≡ Ok to
     → IsTarget symbols done source (laid next after) target to
 unfolding operand_target local_target back_of
@@ -165,7 +165,7 @@ is_word : (at to : ℕ) → distance at to < 2 ^ 32
 unfolding distance
 is_word at to = omega arith
 
-is_offset : (width : ℕ) (symbols : SymbolList) (locals : List Local) (done : List Standing) (next : Cursor) (after : List StatementValue) (s : Standing) (target : Target) (offset : ℕ)
+pub is_offset : (width : ℕ) (symbols : SymbolList) (locals : List Local) (done : List Standing) (next : Cursor) (after : List StatementValue) (s : Standing) (target : Target) (offset : ℕ)
     → AreLast locals done → offset_to width symbols (local_target locals next after s.statement.source target) s.address target ≡ Ok offset
     → IsOffset width symbols done s (laid next after) target offset
 unfolding offset_to

@@ -9,7 +9,7 @@ use Rattle.asm_assemble.specs.Cursors.{cursor_after}
 use Rattle.asm_assemble.specs.Placing.{globals_from, placing}
 use Rattle.asm_assemble.specs.Valuing.{Images, valuing, no_bytes}
 use Rattle.asm_assemble.specs.Assembled.{start_at, first_cursor, heavy_of, program_entry, program_of_placed, assembled}
-use Rattle.asm_assemble.specs.Placed.{taken, StandsThere, placed_symbols_in, IsFit, Holds, Placed}
+use Rattle.asm_assemble.specs.Placed.{taken, StandsThere, AreStanding, placed_symbols_in, IsFit, Holds, Placed}
 use Rattle.asm_assemble.proofs.PlacedCuts.{laid, each_cut, laid_statements}
 use Rattle.asm_assemble.proofs.PlacedAddresses.{IsBehind, all_stand, behind_all}
 use Rattle.asm_assemble.proofs.PlacedBases.{bases_of, behind_none, are_bases}
@@ -30,12 +30,22 @@ behind_base : (base n size : ℕ) → n ≡ base + size → n - base ≡ size
 behind_base base n size e = omega (arith, e)
 
 -- the symbols of all statements
-symbols_are : (ss : List StatementValue) (symbols : SymbolList)
+pub symbols_are : (ss : List StatementValue) (symbols : SymbolList)
     → placing (globals_from [] ss) [] (heavy_of (first_cursor ss) (cursor_after (first_cursor ss) ss) ss) 0 (first_cursor ss) ss ≡ Ok symbols
     → symbols ≡ placed_symbols_in (laid (first_cursor ss) ss) (laid (first_cursor ss) ss)
 symbols_are ss symbols e =
     let start = first_cursor ss in
     placed_symbols (globals_from [] ss) [] (heavy_of start (cursor_after start ss) ss) 0 start ss symbols e ∙ symbols_laid start ss start ss
+
+-- the statements at the cursor's places
+pub are_standing : (ss : List StatementValue) → AreStanding ss (laid (first_cursor ss) ss) (bases_of ss)
+are_standing ss =
+    let start = first_cursor ss in
+    record {
+      statements = laid_statements start ss;
+      begins = are_bases ss;
+      stands = each_cut (λ before s after. StandsThere (bases_of ss) before s) [] (laid start ss) (all_stand (bases_of ss) [] start ss (behind_none ss));
+    }
 
 -- a program whose phases went well
 phases_placed : (ss : List StatementValue) (symbols : SymbolList) (images : Images)
@@ -56,9 +66,7 @@ phases_placed ss symbols images placed valued =
       all = all;
       bases = bases;
       placed = record {
-        statements = laid_statements start ss;
-        begins = are_bases ss;
-        stands = each_cut (λ before s after. StandsThere bases before s) [] all (all_stand bases [] start ss (behind_none ss));
+        standing = are_standing ss;
         symbols = symbols_are ss symbols placed;
         fits = each_cut (λ before s after. IsFit symbols (placed_symbols_in all before) s.address s.statement.body) [] all
             (all_fit start ss symbols (heavy_of start end ss) 0 [] start ss placed);

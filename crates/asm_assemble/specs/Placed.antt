@@ -6,7 +6,6 @@ use Rattle.std.specs.Prelude.{List, [], ◌∷◌, ◌++◌, length, map, Some, 
 use Rattle.std.specs.List.{sum_by, flat_map, list_any}
 use Rattle.std.specs.Str.{bytes_eq}
 use Rattle.asm_statement.specs.Statement.{StatementValue, BodyValue}
-use Rattle.asm_statement.specs.Statements.{statements_of}
 use Rattle.asm_statement.specs.declared.fault.Fault.{Fault}
 use Rattle.asm_statement.specs.declared.statement.Section.{Section}
 use Rattle.asm_statement.specs.declared.statement.Section.TheVariants as sections
@@ -220,13 +219,16 @@ Holds sections.Zeros bases p before s after = Unit {0}
 
 -- ---- the program
 
--- a program has these statements at these places
-pub record ArePlaced (ss : List StatementValue) (p : ProgramValue) (all : List Standing) (bases : Bases) : Type 0 where
-  -- the statements are in order, each at its section's base plus the sizes before it
+-- statements are in order, each at its section's base plus the sizes before it
+pub record AreStanding (ss : List StatementValue) (all : List Standing) (bases : Bases) : Type 0 where
   pub statements : map (λ (s : Standing). s.statement) all ≡ ss
   pub begins : AreBases bases all
   pub stands : (before : List Standing) (s : Standing) (after : List Standing) → all ≡ before ++ s ∷ after
       → StandsThere bases before s
+
+-- a program has these statements at these places
+pub record ArePlaced (ss : List StatementValue) (p : ProgramValue) (all : List Standing) (bases : Bases) : Type 0 where
+  pub standing : AreStanding ss all bases
   -- the symbols are the labels in order, each once and at its address; instructions are aligned
   pub symbols : p.symbols ≡ placed_symbols_in all all
   pub fits : (before : List Standing) (s : Standing) (after : List Standing) → all ≡ before ++ s ∷ after
@@ -246,12 +248,6 @@ pub record Placed (ss : List StatementValue) (p : ProgramValue) : Type 0 where
   pub all : List Standing
   pub bases : Bases
   pub placed : ArePlaced ss p all bases
-
--- a program of sources: it has their statements where one symbol table puts them
-pub record IsProgramOf (texts : List (List ℕ)) (p : ProgramValue) : Type 0 where
-  pub statements : List StatementValue
-  pub read : statements_of texts ≡ Ok statements
-  pub placed : Placed statements p
 
 -- ---- laws
 

@@ -1,5 +1,11 @@
 pub mod Parts
 pub mod ReadsLemmas
+pub mod TokensLemmas
+pub mod Phases
+pub mod Misplaced
+pub mod Misvalued
+pub mod FaultsLemmas
+pub mod ProgramsLemmas
 pub mod Words
 pub mod Ranges
 pub mod Operands

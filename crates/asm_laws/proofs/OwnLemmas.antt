@@ -88,9 +88,9 @@ shows_body shown bases p g before s after (body.Directive d) w f h = tt
 shows_at : (shown : Section → ℕ → Instr → Type 0) (ss : List StatementValue) (p : ProgramValue) (all : List Standing) (bases : Bases) → ArePlaced ss p all bases → AreWell sections.Text ss
     → Shown shown bases p → (before : List Standing) (s : Standing) (after : List Standing) → all ≡ before ++ s ∷ after → Shows shown p.symbols before s after s.statement.body
 shows_at shown ss p all bases placed well g before s after cut =
-    let there : AreWell sections.Text (statements_in (before ++ s ∷ after)) = subst (AreWell sections.Text) (sym placed.statements ∙ ap statements_in cut) well in
+    let there : AreWell sections.Text (statements_in (before ++ s ∷ after)) = subst (AreWell sections.Text) (sym placed.standing.statements ∙ ap statements_in cut) well in
     let here : IsWell s.section s.statement.body =
-    subst (λ t. IsWell t s.statement.body) (sym (placed.stands before s after cut).in_section) (well_at sections.Text before s after there) in
+    subst (λ t. IsWell t s.statement.body) (sym (placed.standing.stands before s after cut).in_section) (well_at sections.Text before s after there) in
     shows_body shown bases p g before s after s.statement.body here.readable
     (subst (λ xs. IsFit p.symbols (placed_symbols_in xs before) s.address s.statement.body) cut (placed.fits before s after cut))
     (held s.section bases p before s after (placed.holds before s after cut) here.takes)
@@ -124,15 +124,15 @@ gives shown texts p m g = record {
 in_image : (texts : List (List ℕ)) (p : ProgramValue) (m : Made texts p) → Shown (InImage (image_of p)) m.bases p
 in_image texts p m sections.Text at i r aligned h =
     has_word p at i r (stands_in_text p at (to_le_bytes w32 (word_of i)) (omega arith)
-    (subst (λ b. Piece p.text b at (to_le_bytes w32 (word_of i))) m.placed.begins.text_begins h))
+    (subst (λ b. Piece p.text b at (to_le_bytes w32 (word_of i))) m.placed.standing.begins.text_begins h))
 in_image texts p m sections.Data at i r aligned h =
     has_word p at i r (stands_in_data p at (to_le_bytes w32 (word_of i)) (omega arith)
-    (subst (λ b. Piece p.bytes b at (to_le_bytes w32 (word_of i))) (data_begins p m.all m.bases m.placed.begins m.placed.text_size) h))
+    (subst (λ b. Piece p.bytes b at (to_le_bytes w32 (word_of i))) (data_begins p m.all m.bases m.placed.standing.begins m.placed.text_size) h))
 in_image texts p m sections.Zeros at i r aligned h = absurd h
 
 in_lines : (texts : List (List ℕ)) (p : ProgramValue) (m : Made texts p) → Shown (InLines p.text (listing 0x10000 p.text)) m.bases p
 in_lines texts p m sections.Text at i r aligned h =
-    has_line p.text at i r aligned (subst (λ b. Piece p.text b at (to_le_bytes w32 (word_of i))) m.placed.begins.text_begins h)
+    has_line p.text at i r aligned (subst (λ b. Piece p.text b at (to_le_bytes w32 (word_of i))) m.placed.standing.begins.text_begins h)
 in_lines texts p m sections.Data at i r aligned h = tt
 in_lines texts p m sections.Zeros at i r aligned h = tt
 

@@ -1,2 +1,4 @@
 pub mod Reads
 pub mod Own
+pub mod Faults
+pub mod Programs

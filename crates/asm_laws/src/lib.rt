@@ -2,8 +2,14 @@
 //! their own instructions.
 #![tactic(auto)]
 
+pub use faults::first_phase_decides;
 pub use own::{listed_is_own, written_is_own};
+pub use programs::texts_are_assembled;
 pub use reads::{fault_is_the_first, read_is_said, texts_are_decided};
+pub use tokens::tokens_are_lexed;
 
+mod faults;
 mod own;
+mod programs;
 mod reads;
+mod tokens;

@@ -90,7 +90,7 @@ named (s ∷ ss) h = (name_is s.0 h.0.0, h.0.1, named ss h.1)
 placed_names : (texts : List (List ℕ)) (ss : List StatementValue) (p : ProgramValue) → statements_of texts ≡ Ok ss → Placed ss p → HasNames p
 placed_names texts ss p read h =
     let said : Each SaysName ss = texts_named 0 texts ss ((ok_iff texts ss).0 read) in
-    let own : Each IsOwn p.symbols = subst (Each IsOwn) (sym h.placed.symbols) (all_own h.all h.all (subst (Each SaysName) (sym h.placed.statements) said)) in
+    let own : Each IsOwn p.symbols = subst (Each IsOwn) (sym h.placed.symbols) (all_own h.all h.all (subst (Each SaysName) (sym h.placed.standing.statements) said)) in
     record { words = words p.symbols own; named = named p.symbols own; within = h.placed.within; entry = entry_small ss p h.all h.bases h.placed }
 
 pub names : LabelsAreNames

@@ -1,6 +1,6 @@
 use Rattle.std.proofs.Common.{rules}
 use Rattle.asm_statement.specs.Statements.{texts_of}
-use Rattle.asm_assemble.proofs.PlacedSources.{only_program}
+use Rattle.asm_laws.proofs.ProgramsLemmas.{only_program}
 use Rattle.cmd_asm.proofs.program.assemble.Goals as goal
 
 pub returns-clause-only : goal.returns-clause-only
