@@ -5,6 +5,7 @@ use Rattle.std.specs.Option.{IfSome}
 use Rattle.std.specs.List.{All}
 use Rattle.image.specs.Image.{ImageValue}
 use Rattle.hart_step.specs.Hart.{HartValue}
+use Rattle.machine.specs.Start.{IsStartable}
 use Rattle.machine.specs.World.{World}
 use Rattle.machine.specs.declared.choice.Choice.{Choice}
 use Rattle.bank_laws.specs.Banks.{after_log}
@@ -15,6 +16,7 @@ use Rattle.bank_hart_log.specs.HartLog.{HartLogValue}
 use Rattle.bank_merge.specs.Logs.{bank_log, segments_of_all}
 use Rattle.bank_merge.specs.Merge.{slots, AreMatched, EndsAsLogged}
 use Rattle.bank_threads.specs.Banked.{IsBanked}
+use Rattle.history.specs.declared.entry.Entry.{Entry}
 use Rattle.history.specs.History.{expanded}
 use Rattle.history.specs.Plain.{plain_entry}
 use Rattle.history.proofs.PlainLemmas.{plain_expands}
@@ -27,9 +29,12 @@ use Rattle.cmd_run.specs.Certified.{IsCertified, EndsKept}
 use Rattle.cmd_run.specs.Run.{may_run, shown, shown_with, world_after}
 use Rattle.outcome.specs.declared.expect.Exit.TheVariants.{May}
 use Rattle.cmd_run.proofs.CertifiedLemmas.{certified_shown}
+use Rattle.cmd_replay.specs.Replay.{replay_answer}
 use Rattle.cmd_threads.specs.declared.threads.ThreadsAnswer.{ThreadsAnswer}
 use Rattle.cmd_threads.specs.BankedAnswer.{hart_of_log, text_for, IsBankedAnswer, IsMergedRun, IsOfRun}
 use Rattle.cmd_threads.specs.declared.history_use.HistoryUse.{HistoryUse}
+use Rattle.cmd_threads.specs.declared.history_use.HistoryUse.TheVariants.{Read}
+use Rattle.cmd_threads.proofs.ReplayLemmas.{plain_small, plain_there, replay_answers}
 use Rattle.cmd_threads.proofs.RunLemmas.{are_of, choices_within, harts_are}
 
 module _ (image : ImageValue) (inputs : List ℕ) (budget : ℕ) (plan : List (ℕ × ℕ)) (logs : List HartLogValue) (banks : List BankLog) (b : IsBanked image inputs budget plan logs banks) (choices : List Choice) where
@@ -100,3 +105,22 @@ pub kept_of : {A : Type 0} (image : ImageValue) (inputs : List ℕ) (budget : �
     → IfSome left (λ p. IsCertified form.Elf p inputs rule → EndsKept May (string_bytes answer.lines) answer.status)
 kept_of image inputs budget plan None rule history answer words reads run = tt
 kept_of image inputs budget plan (Some p) rule history answer words reads run = λ certified. kept image inputs budget plan p rule history answer words reads run certified
+
+-- what `replay` answers to a history that is read
+replays : {A : Type 0} (image : ImageValue) (inputs : List ℕ) (budget : ℕ) (plan : List (ℕ × ℕ)) (program : List ℕ) (rule : Option Kind) (history : HistoryUse) (answer : ThreadsAnswer A)
+    → IsStartable inputs → program_of form.Elf program ≡ Ok image → IsOfRun image inputs budget plan rule history answer → history ≡ Read
+    → replay_answer inputs rule program (string_bytes answer.history) ≡ Ok (string_bytes answer.lines, answer.status)
+replays image inputs budget plan program rule history answer startable reads o is =
+    let within : All (λ c. c.hart < length inputs) o.choices = choices_within o.run.logs o.choices (length inputs) o.run.banked.harts o.run.merged in
+    let there : All (λ e. e.hart < length inputs) o.entries =
+    subst (λ (es : List Entry). All (λ e. e.hart < length inputs) es) (sym o.each) (plain_there (length inputs) o.choices within) in
+    let small : All (λ e. e.local < 2 ^ 32) o.entries =
+    subst (λ (es : List Entry). All (λ e. e.local < 2 ^ 32) es) (sym o.each) (plain_small o.choices) in
+    replay_answers inputs rule program (string_bytes answer.history) image o.entries (string_bytes answer.lines, answer.status)
+    startable there small reads (o.text ∙ ap (λ (h : HistoryUse). text_for h o.entries) is) o.prints
+
+pub replays_known : {A : Type 0} (image : ImageValue) (inputs : List ℕ) (budget : ℕ) (plan : List (ℕ × ℕ)) (left : Option (List ℕ)) (rule : Option Kind) (history : HistoryUse) (answer : ThreadsAnswer A)
+    → IsStartable inputs → IfSome left (λ p. program_of form.Elf p ≡ Ok image) → IsOfRun image inputs budget plan rule history answer
+    → IfSome left (λ p. history ≡ Read → replay_answer inputs rule p (string_bytes answer.history) ≡ Ok (string_bytes answer.lines, answer.status))
+replays_known image inputs budget plan None rule history answer startable reads run = tt
+replays_known image inputs budget plan (Some p) rule history answer startable reads run = λ is. replays image inputs budget plan p rule history answer startable reads run is

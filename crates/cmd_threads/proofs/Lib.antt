@@ -1,3 +1,4 @@
+pub mod ReplayLemmas
 pub mod ThreadsLemmas
 pub mod RunLemmas
 pub mod AnswerLemmas

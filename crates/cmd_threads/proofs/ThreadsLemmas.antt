@@ -1,10 +1,11 @@
 -- The answer of a run on threads, by its book.
-use Rattle.std.proofs.Common.{◌≡◌, ℕ, ◌^◌, ◌<◌, List, length, Option, Some, None, Ok, ap, sym, subst, ◌∙◌}
+use Rattle.std.proofs.Common.{◌≡◌, ℕ, ◌^◌, ◌<◌, List, length, Option, Some, None, Ok, arith, ap, sym, subst, ◌∙◌}
 use Rattle.std.specs.Prelude.{string_bytes}
 use Rattle.std.specs.Option.{IfSome}
 use Rattle.std.specs.List.{All}
 use Rattle.image.specs.Image.{ImageValue}
 use Rattle.hart_step.specs.Hart.{HartValue}
+use Rattle.machine.specs.Start.{IsStartable}
 use Rattle.machine.specs.World.{World}
 use Rattle.history.specs.declared.entry.Entry.{Entry}
 use Rattle.history.specs.History.{expanded}
@@ -16,6 +17,7 @@ use Rattle.program_open.specs.Program.{program_of}
 use Rattle.program_open.specs.declared.program.ProgramForm.TheVariants as form
 use Rattle.cmd_run.specs.Certified.{IsCertified, EndsKept}
 use Rattle.cmd_run.specs.Run.{may_run, shown, shown_with, world_after}
+use Rattle.cmd_replay.specs.Replay.{replay_answer}
 use Rattle.outcome.specs.declared.expect.Exit.TheVariants.{May}
 use Rattle.thread_book.specs.Book.{BookValue, replayed, world_of}
 use Rattle.thread_run.specs.Outcome.{IsOutcome}
@@ -23,6 +25,7 @@ use Rattle.cmd_threads.specs.Threads.{IsAnswer}
 use Rattle.cmd_threads.specs.declared.threads.ThreadsAnswer.{ThreadsAnswer}
 use Rattle.cmd_run.proofs.CertifiedLemmas.{certified_shown}
 use Rattle.cmd_replay.proofs.KeptLemmas.{within_history}
+use Rattle.cmd_threads.proofs.ReplayLemmas.{replay_answers}
 
 module _ (image : ImageValue) (inputs : List ℕ) (budget : ℕ) (plan : List (ℕ × ℕ)) (b : BookValue) (o : IsOutcome image inputs budget plan b) where
   -- the book is that of the image and the inputs
@@ -59,13 +62,12 @@ module _ (image : ImageValue) (inputs : List ℕ) (budget : ℕ) (plan : List (�
       ∙ ap (λ es. shown_with May (verdict_on rule shown_inputs (expanded es) harts) harts) (sym same_entries) ∙ shows)
 
   -- the answer to a program that was read
-  pub answered : {A : Type 0} (left : Option (List ℕ)) (rule : Option Kind) (answer : ThreadsAnswer A)
+  pub answered : {A : Type 0} (left : Option (List ℕ)) (answer : ThreadsAnswer A)
       → IfSome left (λ p. program_of form.Elf p ≡ Ok image) → string_bytes answer.history ≡ history_text b.history
-      → shown (may_run rule) inputs (expanded b.history) (world_after image inputs (expanded b.history)) ≡ (string_bytes answer.lines, answer.status)
-      → IfSome left (λ p. IsAnswer inputs budget plan rule p answer)
-  answered None rule answer reads text prints = tt
-  answered (Some p) rule answer reads text prints =
-      record { image = image; entries = b.history; reads = reads; outcome = outcome_itself; text = text; prints = prints }
+      → IfSome left (λ p. IsAnswer inputs budget plan p answer)
+  answered None answer reads text = tt
+  answered (Some p) answer reads text =
+      record { image = image; entries = b.history; reads = reads; outcome = outcome_itself; text = text }
 
   -- and where the program is certified
   pub kept_of : (left : Option (List ℕ)) (rule : Option Kind) (answer : List ℕ × Status) → All (λ x. x < 2 ^ 32) inputs
@@ -74,3 +76,16 @@ module _ (image : ImageValue) (inputs : List ℕ) (budget : ℕ) (plan : List (�
       → IfSome left (λ p. IsCertified form.Elf p inputs rule → EndsKept May answer.0 answer.1)
   kept_of None rule answer words reads prints = tt
   kept_of (Some p) rule answer words reads prints = λ certified. kept rule p answer words reads certified prints
+
+  -- an entry has fewer local steps than the budget, which is a word
+  small : budget < 2 ^ 32 → All (λ e. e.local < 2 ^ 32) b.history
+  small word = λ k d inside. let low = (o.within k d inside).1 in omega (arith, low, word)
+
+  -- what `replay` answers to the text of its history
+  pub replays_known : (left : Option (List ℕ)) (rule : Option Kind) (text : List ℕ) (answer : List ℕ × Status) → IsStartable inputs → budget < 2 ^ 32
+      → IfSome left (λ p. program_of form.Elf p ≡ Ok image) → text ≡ history_text b.history
+      → shown (may_run rule) inputs (expanded b.history) (world_after image inputs (expanded b.history)) ≡ answer
+      → IfSome left (λ p. replay_answer inputs rule p text ≡ Ok answer)
+  replays_known None rule text answer startable word reads text_is shows = tt
+  replays_known (Some p) rule text answer startable word reads text_is shows =
+      replay_answers inputs rule p text image b.history answer startable (λ k d inside. (o.within k d inside).0) (small word) reads text_is shows

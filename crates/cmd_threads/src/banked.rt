@@ -2,7 +2,8 @@
 //! logs, their ends and the verdict on them.
 
 ghost use Rattle.std.specs.Prelude.{◌≡◌, ◌≢◌, ◌^◌, ◌-◌, ◌<◌, length};
-ghost use Rattle.std.specs.Prelude.{Err, IfErr, IfOk, IfSome, None};
+ghost use Rattle.std.specs.Prelude.{Ok, Err, IfErr, IfOk, IfSome, None, string_bytes};
+ghost use Rattle.cmd_replay.specs.Replay.{replay_answer};
 ghost use Rattle.cmd_run.specs.Certified.{IsCertified};
 ghost use Rattle.machine.specs.Start.{IsStartable};
 ghost use Rattle.program_open.specs.declared.program.ProgramForm.{ProgramForm};
@@ -30,7 +31,7 @@ use std::thread::Threads;
 use thread_gate::Gate;
 
 /// `threads --banked`: reads the program to its end, and runs it with a thread for each hart and a
-/// lock for each bank of memory. The lines are those that a replay of the run's history prints; the
+/// lock for each bank of memory. The lines are those that `replay` prints of the run's history; the
 /// history is returned if it is read.
 pub fn banked_engine<
     A: Allocator + Copy + Send + Sync,
@@ -49,6 +50,11 @@ pub fn banked_engine<
     ensures answer { IfOk result (λ answer. IfSome (P.left program.old) (λ p.
         IsBankedAnswer task.inputs.items task.budget task.plan.keys task.rule history p answer)) }
     ensures startable { IfOk result (λ _. IsStartable task.inputs.items) }
+    // `replay` answers the same to that history, if it is read.
+    ensures replays { IfOk result (λ answer. IfSome (P.left program.old) (λ p.
+        history ≡ HistoryUse.Read
+        → replay_answer task.inputs.items task.rule p (string_bytes answer.history)
+        ≡ Ok (string_bytes answer.lines, answer.status))) }
     // For a file that is an object, run by as many harts as it is for, the verdict by its kind's
     // rule is never `broken`.
     ensures certified { IfOk result (λ answer. IfSome (P.left program.old) (λ p.

@@ -1,8 +1,10 @@
 //! `threads`: from a program, inputs, a budget and a plan to the history of the harts, their ends
 //! and the verdict on them.
 
-ghost use Rattle.std.specs.Prelude.{◌≡◌, ◌^◌, ◌-◌, ◌<◌, ◌≤◌, IfOk, IfErr, IfSome, length};
+ghost use Rattle.std.specs.Prelude.{◌≡◌, ◌^◌, ◌-◌, ◌<◌, ◌≤◌, Ok, IfOk, IfErr, IfSome, length, string_bytes};
+ghost use Rattle.cmd_replay.specs.Replay.{replay_answer};
 ghost use Rattle.cmd_run.specs.Certified.{IsCertified};
+ghost use Rattle.machine.specs.Start.{IsStartable};
 ghost use Rattle.program_open.specs.declared.program.ProgramForm.{ProgramForm};
 ghost use Rattle.program_open.specs.CommandFaults.{IsRefusal};
 ghost use Rattle.cmd_threads.specs.Threads.{IfReads, IsAnswer, HasKeptVerdict, RefusesThreads, fault_of_run};
@@ -44,7 +46,7 @@ pub struct ThreadsAnswer<A: Allocator> {
 }
 
 /// `threads`: reads the program to its end, and runs it with a thread for each hart. The lines are
-/// those that a replay of the history prints.
+/// those that `replay` prints of the history.
 pub fn threads_engine<
     A: Allocator + Copy + Send + Sync,
     P: Source,
@@ -59,7 +61,12 @@ pub fn threads_engine<
 ) -> Result<ThreadsAnswer<A>, CommandFault>
     requires { P.failures program.old < 2 ^ 64 - 1 }
     ensures answer { IfOk result (λ answer. IfSome (P.left program.old) (λ p.
-        IsAnswer task.inputs.items task.budget task.plan.keys task.rule p answer)) }
+        IsAnswer task.inputs.items task.budget task.plan.keys p answer)) }
+    ensures startable { IfOk result (λ _. IsStartable task.inputs.items) }
+    // `replay` answers the same to that history.
+    ensures replays { IfOk result (λ answer. IfSome (P.left program.old) (λ p.
+        replay_answer task.inputs.items task.rule p (string_bytes answer.history)
+        ≡ Ok (string_bytes answer.lines, answer.status))) }
     // For a file that is an object, run by as many harts as it is for, the verdict by its kind's
     // rule is never `broken`.
     ensures certified { IfOk result (λ answer. IfSome (P.left program.old) (λ p.
