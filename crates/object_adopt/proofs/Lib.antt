@@ -9,3 +9,4 @@ pub mod TextWords
 pub mod Lone
 pub mod Alone
 pub mod Four
+pub mod Texts

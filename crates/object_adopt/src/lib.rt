@@ -3,7 +3,7 @@
 #![tactic(auto)]
 
 pub use adopt::{adopt_image, adopt_in_every_run};
-pub use passage::object_in_every_passage;
+pub use passage::{images_have_objects, object_in_every_passage};
 pub use rounds::{rounds_image, rounds_in_every_run};
 
 mod adopt;
