@@ -1,0 +1,4 @@
+pub mod PlaceLemmas
+pub mod SettleLemmas
+pub mod CoverLemmas
+pub mod TurnLemmas

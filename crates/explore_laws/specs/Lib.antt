@@ -1,0 +1,4 @@
+pub mod Settling
+pub mod Places
+pub mod Safe
+pub mod Covering

@@ -1,0 +1,31 @@
+-- Where turns lead: a choice, and the local steps of its hart behind it.
+use Rattle.std.specs.Prelude.{ℕ, ◌==◌, Bool, false, ◌||◌, List, [], ◌∷◌}
+use Rattle.machine.specs.World.{World, step}
+use Rattle.machine.specs.declared.choice.Choice.{Choice}
+use Rattle.explore_laws.specs.Settling.{world_settled}
+
+-- a world, and which harts were chosen on the way to it: a rule asks no more of a run
+pub record Place : Type 0 where
+  pub world : World
+  pub chosen : ℕ → Bool
+
+-- a world before any choice
+abbrev pub place_begun : World → Place
+place_begun w = record { world = w; chosen = λ k. false }
+
+-- one choice further
+abbrev pub place_stepped : Place → Choice → Place
+place_stepped p c = record { world = step p.world c; chosen = λ k. (c.hart == k) || p.chosen k }
+
+-- hart h has taken its local steps
+abbrev pub place_settled : Place → ℕ → Place
+place_settled p h = record { world = world_settled p.world h; chosen = p.chosen }
+
+-- one turn further
+abbrev pub place_after : Place → Choice → Place
+place_after p c = place_settled (place_stepped p c) c.hart
+
+-- where turns lead
+unfoldable pub place_reached : Place → List Choice → Place
+place_reached p [] = p
+place_reached p (c ∷ turns) = place_reached (place_after p c) turns

@@ -1,0 +1,21 @@
+-- What a search finds.
+use Rattle.std.specs.Prelude.{◌≡◌, ◌<◌, Bool, true, false, List, length}
+use Rattle.std.specs.List.{All, Contains}
+use Rattle.machine.specs.declared.choice.Choice.{Choice}
+use Rattle.explore_laws.specs.Places.{Place, place_reached}
+use Rattle.explore_laws.specs.Safe.{IsSafe}
+use Rattle.explore_search.specs.declared.searching.Found.{Found}
+use Rattle.explore_search.specs.declared.searching.Found.TheVariants.{Safe, Bad, Undecided}
+
+-- a list of meant choices leads to a bad place, and no shorter one does
+pub record LeadsToBad (choices : List Choice) (first : Place) (bad : Place → Bool) (list : List Choice) : Type 0 where
+  pub meant : All (Contains choices) list
+  pub ends : bad (place_reached first list) ≡ true
+  pub shortest : (other : List Choice) → All (Contains choices) other → length other < length list → bad (place_reached first other) ≡ false
+
+-- a search's answer is right: no list of the choices leads to a bad place, or this one does, and no
+-- shorter one
+abbrev pub SearchAnswers : {Z : Type 0} → List Choice → Place → (Place → Bool) → Found Z → Type 0
+SearchAnswers choices first bad (Safe places) = IsSafe choices first bad
+SearchAnswers choices first bad (Bad list) = LeadsToBad choices first bad list.items
+SearchAnswers choices first bad Undecided = Unit {0}

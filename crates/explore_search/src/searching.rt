@@ -1,0 +1,115 @@
+//! The search.
+ghost use Rattle.std.specs.Prelude.{◌≡◌, ℕ, ◌+◌, ◌<◌, false, List, Some, IfOk, OnOk, slice_get};
+ghost use Rattle.explore_laws.specs.Places.{Place};
+ghost use Rattle.explore_search.specs.Searched.{AreReached, AreDone, AreRising, AreSoon};
+ghost use Rattle.explore_search.specs.Answers.{SearchAnswers};
+
+use crate::seen::{Link, Seen, path_to, see_after};
+use crate::space::Space;
+use explore_table::Table;
+use machine::Choice;
+use std::alloc::{AllocError, Allocator};
+
+/// What a search finds.
+#[derive(Drop)]
+pub enum Found<A: Allocator> {
+    /// No list of the choices leads to a bad place; so many places are reached.
+    Safe(usize),
+    /// This list leads to a bad place.
+    Bad(Vec<Choice, A>),
+    /// There are more places than may be looked at.
+    Undecided,
+}
+
+// Sees what follows a key.
+fn see_next<A: Allocator, S: Space<A>>(
+    space: &mut S,
+    choices: &[Choice],
+    seen: &mut Seen<A>,
+    key: &[u32],
+    from: usize,
+) -> Result<(), AllocError>
+    requires reached { AreReached (S.is_key space.old) (S.place space.old) (S.first space.old) choices.now
+        seen.old.keys seen.old.links.items }
+    requires done { AreDone (S.place space.old) (S.bad space.old) choices.now seen.old.keys from }
+    requires there { slice_get seen.old.keys from ≡ Some key.now }
+    requires good { S.bad space.old (S.place space.old key.now) ≡ false }
+    requires rising { AreRising seen.old.links.items from }
+    requires soon { AreSoon (S.place space.old) choices.now seen.old.keys seen.old.links.items from }
+    ensures reached { OnOk result (AreReached (S.is_key space.new) (S.place space.new) (S.first space.old) choices.now
+        seen.new.keys seen.new.links.items) }
+    ensures done { OnOk result (AreDone (S.place space.new) (S.bad space.old) choices.now seen.new.keys (from + 1)) }
+    ensures rising { OnOk result (AreRising seen.new.links.items (from + 1)) }
+    ensures soon { OnOk result (AreSoon (S.place space.new) choices.now seen.new.keys seen.new.links.items (from + 1)) }
+    ensures first { OnOk result (S.first space.new ≡ S.first space.old) }
+    ensures bad { OnOk result (S.bad space.new ≡ S.bad space.old) }
+{
+    let steps = seen.links[from].steps + 1;
+    'choices: for choice in choices {
+        let link = Link {
+            from,
+            choice: *choice,
+            steps,
+        };
+        see_after(space, choices, seen, key, link)?;
+    }
+    Ok(())
+}
+
+// The first place alone.
+fn see_first<A: Allocator + Copy, S: Space<A>>(
+    alloc: A,
+    space: &mut S,
+    choices: &[Choice],
+    buckets: usize,
+) -> Result<Seen<A>, AllocError>
+    requires { 0 < buckets }
+    ensures reached { IfOk result (λ seen. AreReached (S.is_key space.new) (S.place space.new) (S.first space.old)
+        choices.now seen.keys seen.links.items) }
+    ensures rising { IfOk result (λ seen. AreRising seen.links.items 0) }
+    ensures first { S.first space.new ≡ S.first space.old }
+    ensures bad { S.bad space.new ≡ S.bad space.old }
+{
+    let _ = choices;
+    let first = space.first_key()?;
+    let mut keys = Table::new(alloc, buckets)?;
+    keys.add(first)?;
+    let mut links = Vec::new(alloc);
+    links.push(Link {
+        from: 0,
+        choice: Choice {
+            hart: 0,
+            refuse: false,
+        },
+        steps: 0,
+    })?;
+    Ok(Seen { keys, links })
+}
+
+/// Looks at every place that a list of the choices leads to, nearest first, each once, and at
+/// `most` of them at most.
+pub fn search<A: Allocator + Copy, S: Space<A>>(
+    alloc: A,
+    space: &mut S,
+    choices: &[Choice],
+    most: usize,
+) -> Result<Found<A>, AllocError>
+    ensures { IfOk result (λ found. SearchAnswers choices.now (S.first space.old) (S.bad space.old) found) }
+{
+    let mut seen = see_first(alloc, space, choices, 1024)?;
+    'places: for from in 0..most {
+        if from >= seen.keys.len() {
+            return Ok(Found::Safe(from));
+        }
+        let key = Vec::from_slice(alloc, seen.keys.key(from))?;
+        let is_bad = space.is_bad(&key)?;
+        if is_bad {
+            return Ok(Found::Bad(path_to(alloc, space, choices, &seen, from)?));
+        }
+        see_next(space, choices, &mut seen, &key, from)?;
+    }
+    if seen.keys.len() <= most {
+        return Ok(Found::Safe(most));
+    }
+    Ok(Found::Undecided)
+}

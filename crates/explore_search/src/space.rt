@@ -1,0 +1,42 @@
+//! Places under keys.
+ghost use Rattle.std.specs.Prelude.{◌≡◌, ℕ, Bool, List, IfOk};
+ghost use Rattle.explore_laws.specs.Places.{Place, place_after};
+
+use machine::Choice;
+use std::alloc::{AllocError, Allocator};
+
+/// Places under keys: a key is a row of words, and what it stands for never changes.
+pub trait Space<A: Allocator> {
+    /// Whether a row of words is a key.
+    ghost is_key: { Self → List ℕ → Type 0 };
+
+    /// The place that a key stands for.
+    ghost place: { Self → List ℕ → Place };
+
+    /// The place before any choice.
+    ghost first: { Self → Place };
+
+    /// Whether a place must not be reached.
+    ghost bad: { Self → Place → Bool };
+
+    /// The key of the first place.
+    fn first_key(&mut self) -> Result<Vec<u32, A>, AllocError>
+        ensures key { IfOk result (λ k. is_key self.new k.items × (place self.new k.items ≡ first self.old)) }
+        ensures kept { (k : List ℕ) → is_key self.old k → is_key self.new k × (place self.new k ≡ place self.old k) }
+        ensures first { first self.new ≡ first self.old }
+        ensures bad { bad self.new ≡ bad self.old };
+
+    /// The key of the place that is one choice further.
+    fn key_after(&mut self, key: &[u32], choice: Choice) -> Result<Vec<u32, A>, AllocError>
+        requires { is_key self.old key.now }
+        ensures key { IfOk result (λ k. is_key self.new k.items
+            × (place self.new k.items ≡ place_after (place self.old key.now) choice)) }
+        ensures kept { (k : List ℕ) → is_key self.old k → is_key self.new k × (place self.new k ≡ place self.old k) }
+        ensures first { first self.new ≡ first self.old }
+        ensures bad { bad self.new ≡ bad self.old };
+
+    /// Whether a key's place must not be reached. The only error is out of memory.
+    fn is_bad(&self, key: &[u32]) -> Result<bool, AllocError>
+        requires { is_key self.now key.now }
+        ensures { IfOk result (λ answer. answer ≡ bad self.now (place self.now key.now)) };
+}

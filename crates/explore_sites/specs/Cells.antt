@@ -1,0 +1,20 @@
+-- Words that differ from an image's.
+use Rattle.std.specs.Prelude.{ℕ, ◌==◌, if◌then◌else◌, List, [], ◌∷◌}
+use Rattle.image.specs.Image.{ImageValue}
+use Rattle.mem_store.specs.Image.{image_memory}
+use Rattle.bank_laws.specs.Banks.{WordBytes}
+use Rattle.bank_laws.specs.Words.{bytes_at}
+use Rattle.explore_sites.specs.declared.cell.Cell.{Cell}
+
+-- the bytes of each word: those of the first cell at its address, or else others
+unfoldable pub values_over : (ℕ → WordBytes) → List Cell → ℕ → WordBytes
+values_over base [] x = base x
+values_over base (cell ∷ cells) x = if cell.address == x then cell.bytes else values_over base cells x
+
+-- the bytes of each word of an image
+abbrev pub image_words : ImageValue → ℕ → WordBytes
+image_words image x = bytes_at (image_memory image).bytes x
+
+-- the bytes of each word, where cells stand over an image's
+abbrev pub words_shown : ImageValue → List Cell → ℕ → WordBytes
+words_shown image cells = values_over (image_words image) cells

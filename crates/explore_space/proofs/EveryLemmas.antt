@@ -1,0 +1,168 @@
+-- From places to runs.
+use Rattle.std.proofs.Common.{◌≡◌, ℕ, zero, suc, ◌+◌, ◌<◌, ◌≤◌, false, List, [], ◌∷◌, ◌++◌, length, Option, Some, None, refl, ap, sym, ◌∙◌, subst, arith, inl, inr, ◌⊎◌}
+use Rattle.std.proofs.lemmas.Bool.{ne_eqb}
+use Rattle.std.proofs.lemmas.List.Elements.{All-head, All-tail, All-cons, Contains-append_cases, Contains-append_left, Contains-append_right}
+use Rattle.std.specs.List.{Contains, slice_get, slice_index_or}
+use Rattle.image.specs.Image.{ImageValue}
+use Rattle.hart_step.specs.Hart.{HartValue}
+use Rattle.hart_local.specs.LocalRuns.{plain_choices}
+use Rattle.machine.specs.Chosen.{is_chosen, ChooseAlike}
+use Rattle.machine.specs.Start.{started}
+use Rattle.machine.specs.World.{World, step, run}
+use Rattle.machine.specs.declared.choice.Choice.{Choice}
+use Rattle.object_library.proofs.ChosenLemmas.{same_verdict}
+use Rattle.object_library.specs.declared.kind.Kind.{Kind}
+use Rattle.outcome.specs.Outcome.{outcome_of}
+use Rattle.outcome.specs.Expect.{fails, judged}
+use Rattle.outcome.specs.declared.expect.Exit.TheVariants.{May}
+use Rattle.explore_laws.proofs.CoverLemmas.{run_has_turns}
+use Rattle.explore_laws.proofs.PlaceLemmas.{chosen_reached}
+use Rattle.explore_laws.proofs.TurnLemmas.{run_of_turns, chosen_in_turns}
+use Rattle.explore_laws.specs.Covering.{HasTurns}
+use Rattle.explore_laws.specs.Places.{place_begun, place_reached}
+use Rattle.explore_laws.specs.Safe.{IsSafe}
+use Rattle.explore_laws.specs.Settling.{world_settled, settling_steps, turns_choices}
+use Rattle.explore_search.specs.Answers.{LeadsToBad, SearchAnswers}
+use Rattle.explore_search.specs.declared.searching.Found.{Found}
+use Rattle.explore_space.specs.Every.{hart_choices, meant_choices, IsListOf, run_fails, FailsFirst}
+use Rattle.explore_space.specs.Failing.{one_each, fails_there}
+use Rattle.explore_space.specs.declared.meant.ScRefusals.{ScRefusals}
+use Rattle.explore_space.specs.declared.meant.ScRefusals.TheVariants.{Also, Never}
+use Rattle.explore_space.proofs.MarkLemmas.{chosen_below, chosen_past}
+use Rattle.explore_space.proofs.PassLemmas.{passes}
+
+either_side : (k n : ℕ) → (k < n) ⊎ (n ≤ k)
+either_side k n = grind arith
+
+below_or : (k n : ℕ) → k < n + 1 → (k < n) ⊎ (k ≡ n)
+below_or k n h = grind arith
+
+-- ---- the harts of meant choices
+of_hart : (refusals : ScRefusals) (n i : ℕ) (c : Choice) → i < length (hart_choices refusals n)
+    → slice_index_or (hart_choices refusals n) i c ≡ c → c.hart ≡ n
+of_hart Also n zero c low is = ap (λ (x : Choice). x.hart) (sym is)
+of_hart Also n (suc zero) c low is = ap (λ (x : Choice). x.hart) (sym is)
+of_hart Also n (suc (suc i)) c low is = absurd (omega (arith, low))
+of_hart Never n zero c low is = ap (λ (x : Choice). x.hart) (sym is)
+of_hart Never n (suc i) c low is = absurd (omega (arith, low))
+
+in_range : (refusals : ScRefusals) (n : ℕ) (c : Choice) → Contains (meant_choices refusals n) c → c.hart < n
+unfolding meant_choices
+in_range refusals zero c there = absurd (let low = there.1 in omega (arith, low))
+in_range refusals (suc n) c there = elim (Contains-append_cases (meant_choices refusals n) (hart_choices refusals n) c there) [
+  | inl before ↦ (let low = in_range refusals n c before in omega (arith, low))
+  | inr here ↦ (let is = of_hart refusals n here.0 c here.1 here.2 in omega (arith, is))
+]
+
+plain_first : (refusals : ScRefusals) (n : ℕ) → Contains (hart_choices refusals n) (record { hart = n; refuse = false })
+plain_first Also n = (0, omega arith, refl)
+plain_first Never n = (0, omega arith, refl)
+
+plain_meant : (refusals : ScRefusals) (n h : ℕ) → h < n → Contains (meant_choices refusals n) (record { hart = h; refuse = false })
+unfolding meant_choices
+plain_meant refusals zero h low = absurd (omega (arith, low))
+plain_meant refusals (suc n) h low = elim (below_or h n (omega (arith, low))) [
+  | inl before ↦ Contains-append_left (meant_choices refusals n) (hart_choices refusals n) (record { hart = h; refuse = false })
+      (plain_meant refusals n h before)
+  | inr here ↦ Contains-append_right (meant_choices refusals n) (hart_choices refusals n) (record { hart = h; refuse = false })
+      (subst (λ i. Contains (hart_choices refusals n) (record { hart = i; refuse = false })) (sym here) (plain_first refusals n))
+]
+
+none_past : (refusals : ScRefusals) (n : ℕ) (choices : List Choice) (k : ℕ) → n ≤ k → IsListOf (meant_choices refusals n) choices
+    → is_chosen choices k ≡ false
+none_past refusals n [] k past all = refl
+none_past refusals n (c ∷ choices) k past all =
+    let low = in_range refusals n c (All-head (Contains (meant_choices refusals n)) c choices all) in
+    rw (ne_eqb c.hart k (λ e. omega (arith, low, past, e)))
+    (none_past refusals n choices k past (All-tail (Contains (meant_choices refusals n)) c choices all))
+
+-- ---- the choices of meant turns are meant
+module _ (refusals : ScRefusals) (n : ℕ) where
+  plain_ones : (h count : ℕ) (rest : List Choice) → h < n → IsListOf (meant_choices refusals n) rest
+      → IsListOf (meant_choices refusals n) (plain_choices h count ++ rest)
+  plain_ones h zero rest low all = all
+  plain_ones h (suc count) rest low all = All-cons (Contains (meant_choices refusals n)) (record { hart = h; refuse = false })
+      (plain_choices h count ++ rest) (plain_meant refusals n h low) (plain_ones h count rest low all)
+
+  turns_meant : (w : World) (turns : List Choice) → IsListOf (meant_choices refusals n) turns
+      → IsListOf (meant_choices refusals n) (turns_choices w turns)
+  unfolding turns_choices
+  turns_meant w [] all = all
+  turns_meant w (c ∷ turns) all =
+      let head = All-head (Contains (meant_choices refusals n)) c turns all in
+      let tail = All-tail (Contains (meant_choices refusals n)) c turns all in
+      let count = settling_steps (step w c) (slice_get (step w c).harts c.hart) in
+      All-cons (Contains (meant_choices refusals n)) c (plain_choices c.hart count ++ turns_choices (world_settled (step w c) c.hart) turns) head
+      (plain_ones c.hart count (turns_choices (world_settled (step w c) c.hart) turns) (in_range refusals n c head)
+      (turns_meant (world_settled (step w c) c.hart) turns tail))
+
+-- ---- verdicts
+-- a choice of each hart that turns choose, and the turns
+alike : (refusals : ScRefusals) (n : ℕ) (w : World) (turns : List Choice) → IsListOf (meant_choices refusals n) turns
+    → ChooseAlike (one_each n (place_reached (place_begun w) turns).chosen) turns
+alike refusals n w turns all k = elim (either_side k n) [
+  | inl low ↦ chosen_below n (place_reached (place_begun w) turns).chosen k low ∙ chosen_reached w turns k
+  | inr past ↦ chosen_past n (place_reached (place_begun w) turns).chosen k past ∙ sym (none_past refusals n turns k past all)
+]
+
+same_judgement : (rule : Option Kind) (inputs : List ℕ) (a b : List Choice) (harts : List HartValue) → ChooseAlike a b
+    → judged rule inputs a harts ≡ judged rule inputs b harts
+same_judgement None inputs a b harts same = refl
+same_judgement (Some kind) inputs a b harts same = ap (λ v. outcome_of (Some v) harts) (same_verdict kind inputs a b harts same)
+
+-- where turns lead, their own run has failed exactly where the place has
+fails_alike : (rule : Option Kind) (refusals : ScRefusals) (image : ImageValue) (inputs : List ℕ) (turns : List Choice)
+    → IsListOf (meant_choices refusals (length inputs)) turns
+    → fails_there rule inputs (place_reached (place_begun (started image inputs)) turns)
+    ≡ run_fails rule image inputs (turns_choices (started image inputs) turns)
+fails_alike rule refusals image inputs turns all =
+    let w = started image inputs in
+    let p = place_reached (place_begun w) turns in
+    ap (fails May) (same_judgement rule inputs (one_each (length inputs) p.chosen) (turns_choices w turns) p.world.harts
+    (λ k. alike refusals (length inputs) w turns all k ∙ sym (chosen_reached w turns k) ∙ sym (chosen_in_turns w turns k)))
+    ∙ ap (λ (x : World). fails May (judged rule inputs (turns_choices w turns) x.harts)) (sym (run_of_turns w turns))
+
+-- a run fails in no other way than the place that stands for it
+good_run : (rule : Option Kind) (refusals : ScRefusals) (image : ImageValue) (inputs : List ℕ) (choices : List Choice)
+    (found : HasTurns (meant_choices refusals (length inputs)) (started image inputs) choices)
+    → fails_there rule inputs (place_reached (place_begun (started image inputs)) found.turns) ≡ false
+    → run_fails rule image inputs choices ≡ false
+good_run rule refusals image inputs choices found good =
+    let w = started image inputs in
+    let p = place_reached (place_begun w) found.turns in
+    passes rule inputs p.world (run w choices) (one_each (length inputs) p.chosen) choices found.place.covers
+    (λ k e. found.place.fewer k (chosen_reached w found.turns k ∙ sym (alike refusals (length inputs) w found.turns found.are_meant k) ∙ e)) good
+
+-- ---- an answer for places is one for runs
+pub safe_is_safe : (rule : Option Kind) (refusals : ScRefusals) (image : ImageValue) (inputs : List ℕ)
+    → IsSafe (meant_choices refusals (length inputs)) (place_begun (started image inputs)) (fails_there rule inputs)
+    → (choices : List Choice) → IsListOf (meant_choices refusals (length inputs)) choices → run_fails rule image inputs choices ≡ false
+safe_is_safe rule refusals image inputs safe choices all =
+    let found = run_has_turns (meant_choices refusals (length inputs)) (started image inputs) choices all in
+    good_run rule refusals image inputs choices found (safe found.turns found.are_meant)
+
+pub bad_is_bad : (rule : Option Kind) (refusals : ScRefusals) (image : ImageValue) (inputs : List ℕ) (turns choices : List Choice)
+    → LeadsToBad (meant_choices refusals (length inputs)) (place_begun (started image inputs)) (fails_there rule inputs) turns
+    → choices ≡ turns_choices (started image inputs) turns
+    → FailsFirst (meant_choices refusals (length inputs)) (run_fails rule image inputs) choices (length turns)
+bad_is_bad rule refusals image inputs turns choices bad is =
+    subst (λ list. FailsFirst (meant_choices refusals (length inputs)) (run_fails rule image inputs) list (length turns)) (sym is) (record {
+      meant_ones = turns_meant refusals (length inputs) (started image inputs) turns bad.meant;
+      fails = sym (fails_alike rule refusals image inputs turns bad.meant) ∙ bad.ends;
+      first = λ other all less.
+          let found = run_has_turns (meant_choices refusals (length inputs)) (started image inputs) other all in
+          good_run rule refusals image inputs other found
+          (bad.shortest found.turns found.are_meant (let few = found.no_more in omega (arith, few, less)));
+    })
+
+-- the same answer, by equal parts
+pub answers_moved : {Z : Type 0} (m1 m2 : List Choice) (i1 i2 : ImageValue) (n1 n2 : List ℕ) (r1 r2 : Option Kind) (f1 f2 : Found Z)
+    → m1 ≡ m2 → i1 ≡ i2 → n1 ≡ n2 → r1 ≡ r2 → f1 ≡ f2
+    → SearchAnswers m1 (place_begun (started i1 n1)) (fails_there r1 n1) f1
+    → SearchAnswers m2 (place_begun (started i2 n2)) (fails_there r2 n2) f2
+answers_moved {Z} m1 m2 i1 i2 n1 n2 r1 r2 f1 f2 m i n r f a =
+    subst (λ (x : Found Z). SearchAnswers m2 (place_begun (started i2 n2)) (fails_there r2 n2) x) f
+    (subst (λ (x : Option Kind). SearchAnswers m2 (place_begun (started i2 n2)) (fails_there x n2) f1) r
+    (subst (λ (x : List ℕ). SearchAnswers m2 (place_begun (started i2 x)) (fails_there r1 x) f1) n
+    (subst (λ (x : ImageValue). SearchAnswers m2 (place_begun (started x n1)) (fails_there r1 n1) f1) i
+    (subst (λ (x : List Choice). SearchAnswers x (place_begun (started i1 n1)) (fails_there r1 n1) f1) m a))))

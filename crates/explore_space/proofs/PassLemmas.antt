@@ -1,0 +1,191 @@
+-- What fails in a run fails in the place that stands for it.
+use Rattle.std.proofs.Common.{◌≡◌, ◌≢◌, ℕ, zero, suc, ◌<◌, ◌==◌, ltb, eq-eqb, Bool, true, false, ◌||◌, List, [], ◌∷◌, length, get_or, cond, Option, Some, None, refl, ap, sym, ◌∙◌, subst, inl, inr, ◌⊎◌, arith}
+use Rattle.std.proofs.lemmas.Bool.{cases_Bool, ne_eqb, lt-ltb}
+use Rattle.std.proofs.lemmas.Option.{slice_get-get_or}
+use Rattle.std.specs.List.{All, Contains}
+use Rattle.std.specs.Option.{is_some}
+use Rattle.hart_step.specs.Hart.{HartValue}
+use Rattle.hart_step.specs.declared.hart.HartState.{HartState}
+use Rattle.hart_step.specs.declared.hart.HartState.TheVariants.{Running, Exited, Faulted}
+use Rattle.mem_store.specs.Memory.{Memory}
+use Rattle.hart_local.specs.CodeMemory.{code_in}
+use Rattle.hart_local.specs.LocalStep.{is_local_next, local_in, walk}
+use Rattle.machine.specs.Chosen.{is_chosen}
+use Rattle.machine.specs.World.{World}
+use Rattle.machine.specs.declared.choice.Choice.{Choice}
+use Rattle.object_library.specs.declared.kind.Kind.{Kind}
+use Rattle.object_library.specs.declared.kind.Kind.TheVariants.{Swap, Add, LrSc, AdoptCommit, Rounds}
+use Rattle.object_library.specs.declared.verdict.Verdict.TheVariants as verdict
+use Rattle.object_library.specs.Counts.{chosen}
+use Rattle.object_library.specs.Rules.{HasExited, is_exited, is_faulted, value_of, flag_of, IsProposed, KeepsConsensus, KeepsAdoptCommit, KeepsRule}
+use Rattle.object_library.specs.Judging.{is_kept}
+use Rattle.object_library.proofs.JudgeLemmas.{kept-decides}
+use Rattle.outcome.specs.Outcome.{counts, counted}
+use Rattle.outcome.specs.declared.run_outcome.End.TheVariants as end
+use Rattle.outcome.specs.Expect.{breaks, fails, judged}
+use Rattle.outcome.specs.declared.expect.Exit.TheVariants.{May}
+use Rattle.explore_laws.specs.Covering.{WalksTo, WorldCovers}
+
+-- ---- harts that are chosen
+same_or_not : (a b : ℕ) → (a ≡ b) ⊎ (a ≢ b)
+same_or_not a b = grind arith
+
+or_true : (a b : Bool) → b ≡ true → a || b ≡ true
+or_true true b e = refl
+or_true false b e = e
+
+at_place : (c : Choice) (choices : List Choice) (k i : ℕ) → i < length (chosen (c ∷ choices)) → get_or (chosen (c ∷ choices)) i k ≡ k
+    → (Contains (chosen choices) k → is_chosen choices k ≡ true) → is_chosen (c ∷ choices) k ≡ true
+at_place c choices k zero low e later = rw (eq-eqb c.hart k e) refl
+at_place c choices k (suc i) low e later = or_true (c.hart == k) (is_chosen choices k) (later (i, omega (arith, low), e))
+
+there_chosen : (choices : List Choice) (k : ℕ) → Contains (chosen choices) k → is_chosen choices k ≡ true
+there_chosen [] k p = absurd (let low = p.1 in omega (arith, low))
+there_chosen (c ∷ choices) k p = at_place c choices k p.0 p.1 p.2 (there_chosen choices k)
+
+chosen_there : (choices : List Choice) (k : ℕ) → is_chosen choices k ≡ true → Contains (chosen choices) k
+chosen_there [] k e = absurd (cc)
+chosen_there (c ∷ choices) k e = elim (same_or_not c.hart k) [
+  | inl is ↦ (0, omega arith, is)
+  | inr off ↦ (let p = chosen_there choices k (rw (ne_eqb c.hart k off) at e) in (suc p.0, (let low = p.1 in omega (arith, low)), p.2))
+]
+
+-- ---- harts that have stopped
+stays_there : (code : Memory) (n : ℕ) (v u : HartValue) → walk code n v ≡ Some u → is_local_next code v ≡ false → v ≡ u
+unfolding walk
+stays_there code zero v u e stopped = same_value v u (Some v) refl e
+  where
+    same_value : (x y : HartValue) (o : Option HartValue) → o ≡ Some x → o ≡ Some y → x ≡ y
+    same_value x y o e f = cc
+stays_there code (suc n) v u e stopped = absurd (let none : ◌≡◌ {A = Option HartValue} None (Some u) = rw stopped at e in cc)
+
+exited_stays : (code : Memory) (pc : ℕ) (s : HartState) → is_exited s ≡ true → is_some (local_in s code pc) ≡ false
+exited_stays code pc Running e = absurd (cc)
+exited_stays code pc (Exited status) e = refl
+exited_stays code pc (Faulted cause) e = refl
+
+faulted_stays : (code : Memory) (pc : ℕ) (s : HartState) → is_faulted s ≡ true → is_some (local_in s code pc) ≡ false
+faulted_stays code pc Running e = absurd (cc)
+faulted_stays code pc (Exited status) e = refl
+faulted_stays code pc (Faulted cause) e = refl
+
+-- ---- the harts of a world that another covers
+module _ (s w : World) (covers : WorldCovers s w) where
+  -- hart number i of the one leads to that of the other
+  leads : (i : ℕ) (d : HartValue) → i < length w.harts → WalksTo (code_in w.memory) (get_or w.harts i d) (get_or s.harts i d)
+  leads i d low = covers.harts i (get_or w.harts i d) (get_or s.harts i d) (slice_get-get_or w.harts i d low)
+      (slice_get-get_or s.harts i d (let c = covers.count in omega (arith, low, c)))
+
+  same_exited : (i : ℕ) (d : HartValue) → i < length w.harts → HasExited (get_or w.harts i d) → get_or w.harts i d ≡ get_or s.harts i d
+  same_exited i d low e =
+      let walks = leads i d low in
+      stays_there (code_in w.memory) walks.steps (get_or w.harts i d) (get_or s.harts i d) walks.walks
+      (exited_stays (code_in w.memory) (get_or w.harts i d).pc (get_or w.harts i d).state e)
+
+  same_faulted : (i : ℕ) (d : HartValue) → i < length w.harts → is_faulted (get_or w.harts i d).state ≡ true
+      → get_or w.harts i d ≡ get_or s.harts i d
+  same_faulted i d low e =
+      let walks = leads i d low in
+      stays_there (code_in w.memory) walks.steps (get_or w.harts i d) (get_or s.harts i d) walks.walks
+      (faulted_stays (code_in w.memory) (get_or w.harts i d).pc (get_or w.harts i d).state e)
+
+  there_in : (i : ℕ) → i < length w.harts → i < length s.harts
+  there_in i low = let c = covers.count in omega (arith, low, c)
+
+  -- ---- what holds of each hart that has exited
+  exited_all : (P : HartValue → Type 0) → All (λ h. HasExited h → P h) s.harts → All (λ h. HasExited h → P h) w.harts
+  exited_all P all i d low e =
+      let is = same_exited i d low e in
+      subst P (sym is) (all i d (there_in i low) (subst HasExited is e))
+
+  exited_pairs : (P : HartValue → HartValue → Type 0) → All (λ h. All (λ k. HasExited h → HasExited k → P h k) s.harts) s.harts
+      → All (λ h. All (λ k. HasExited h → HasExited k → P h k) w.harts) w.harts
+  exited_pairs P all i d low j e below one other =
+      let a = same_exited i d low one in
+      let b = same_exited j e below other in
+      subst (λ h. P h (get_or w.harts j e)) (sym a) (subst (P (get_or s.harts i d)) (sym b)
+      (all i d (there_in i low) j e (there_in j below) (subst HasExited a one) (subst HasExited b other)))
+
+  none_faulted : All (λ h. is_faulted h.state ≡ false) s.harts → All (λ h. is_faulted h.state ≡ false) w.harts
+  none_faulted all i d low = elim (cases_Bool (is_faulted (get_or w.harts i d).state)) [
+    | inl yes_ ↦
+        let is = same_faulted i d low yes_ in
+        absurd (let none = all i d (there_in i low) in let again : is_faulted (get_or s.harts i d).state ≡ true
+        = ap (λ (h : HartValue). is_faulted h.state) (sym is) ∙ yes_ in cc)
+    | inr no_ ↦ no_
+  ]
+
+  -- ---- rules
+  module _ (inputs : List ℕ) (a b : List Choice) (fewer : (k : ℕ) → is_chosen a k ≡ true → is_chosen b k ≡ true) where
+    moves : (k : ℕ) → Contains (chosen a) k → Contains (chosen b) k
+    moves k h = chosen_there b k (fewer k (there_chosen a k h))
+
+    proposed : (v : ℕ) → IsProposed inputs a v → IsProposed inputs b v
+    proposed v p = (p.0, moves p.0 p.1, p.2)
+
+    consensus : KeepsConsensus inputs a s.harts → KeepsConsensus inputs b w.harts
+    consensus kept = record {
+      valid = λ i d low e. proposed _ (exited_all (λ h. IsProposed inputs a (value_of h)) kept.valid i d low e);
+      agreed = exited_pairs (λ h k. value_of h ≡ value_of k) kept.agreed;
+      decided = exited_all (λ h. flag_of h ≡ 1) kept.decided;
+      sound = none_faulted kept.sound;
+    }
+
+    adopt_commit : KeepsAdoptCommit inputs a s.harts → KeepsAdoptCommit inputs b w.harts
+    adopt_commit kept = record {
+      valid = λ i d low e. proposed _ (exited_all (λ h. IsProposed inputs a (value_of h)) kept.valid i d low e);
+      answered = exited_all (λ h. (flag_of h ≡ 0) ⊎ (flag_of h ≡ 1)) kept.answered;
+      committed = exited_pairs (λ h k. flag_of h ≡ 1 → value_of h ≡ value_of k) kept.committed;
+      convergent = λ same. exited_all (λ h. flag_of h ≡ 1) (kept.convergent (λ j k x y. same j k (moves j x) (moves k y)));
+      sound = none_faulted kept.sound;
+    }
+
+    keeps : (kind : Kind) → KeepsRule kind inputs a s.harts → KeepsRule kind inputs b w.harts
+    keeps Swap kept = consensus kept
+    keeps Add kept = consensus kept
+    keeps LrSc kept = consensus kept
+    keeps AdoptCommit kept = adopt_commit kept
+    keeps Rounds kept = adopt_commit kept
+
+-- ---- faults are counted
+counted_none : (hs : List HartValue) → All (λ h. is_faulted h.state ≡ false) hs → counted end.Faulted hs ≡ 0
+counted_none [] all = refl
+counted_none (h ∷ hs) all =
+    let here = one h.state (all 0 h (omega arith)) in
+    let later = counted_none hs (λ i d low. all (suc i) d (omega (arith, low))) in
+    omega (arith, here, later)
+  where
+    one : (s : HartState) → is_faulted s ≡ false → counts end.Faulted s ≡ 0
+    one Running e = refl
+    one (Exited status) e = refl
+    one (Faulted cause) e = absurd (cc)
+
+none_counted : (hs : List HartValue) → counted end.Faulted hs ≡ 0 → All (λ h. is_faulted h.state ≡ false) hs
+none_counted [] none i d low = absurd (omega (arith, low))
+none_counted (h ∷ hs) none zero d low = one h.state (omega (arith, none))
+  where
+    one : (s : HartState) → counts end.Faulted s ≡ 0 → is_faulted s ≡ false
+    one Running e = refl
+    one (Exited status) e = refl
+    one (Faulted cause) e = absurd (omega (arith, e))
+none_counted (h ∷ hs) none (suc i) d low = none_counted hs (omega (arith, none)) i d (omega (arith, low))
+
+-- ---- a place that hasn't failed stands for no run that has
+none_above : (n : ℕ) → ltb 0 n || false ≡ false → n ≡ 0
+none_above zero e = refl
+none_above (suc n) e = absurd (let no_ : true || false ≡ false = ap (λ b. b || false) (sym (lt-ltb 0 (suc n) (omega arith))) ∙ e in cc)
+
+not_broken : (b : Bool) → breaks (Some (cond b verdict.Kept verdict.Broken)) || false ≡ false → b ≡ true
+not_broken true e = refl
+not_broken false e = absurd (cc)
+
+pub passes : (rule : Option Kind) (inputs : List ℕ) (s w : World) (a b : List Choice) → WorldCovers s w
+    → ((k : ℕ) → is_chosen a k ≡ true → is_chosen b k ≡ true) → fails May (judged rule inputs a s.harts) ≡ false
+    → fails May (judged rule inputs b w.harts) ≡ false
+passes None inputs s w a b covers fewer good =
+    ap (λ n. ltb 0 n || false)
+    (counted_none w.harts (none_faulted s w covers (none_counted s.harts (none_above (counted end.Faulted s.harts) good))))
+passes (Some kind) inputs s w a b covers fewer good =
+    let kept : is_kept kind inputs a s.harts ≡ true = not_broken (is_kept kind inputs a s.harts) good in
+    let rule_kept = keeps s w covers inputs a b fewer kind ((kept-decides kind inputs a s.harts).0 kept) in
+    ap (λ k. breaks (Some (cond k verdict.Kept verdict.Broken)) || false) ((kept-decides kind inputs b w.harts).1 rule_kept)

@@ -1,0 +1,77 @@
+-- Lists of plain choices, of meant ones, and of turns' choices, as they grow.
+use Rattle.std.proofs.Common.{◌≡◌, ℕ, zero, suc, ◌+◌, ◌≤◌, false, List, [], ◌∷◌, ◌++◌, length, Option, Some, None, refl, ap, sym, ◌∙◌, arith}
+use Rattle.std.proofs.lemmas.List.{append_assoc, append-nil}
+use Rattle.std.proofs.lemmas.Option.{slice_get_past}
+use Rattle.std.specs.List.{slice_get}
+use Rattle.hart_step.specs.Hart.{HartValue}
+use Rattle.hart_local.specs.CodeMemory.{code_in}
+use Rattle.hart_local.specs.LocalRuns.{plain_choices, with_walked_hart}
+use Rattle.machine.specs.World.{World, step_of, step, run}
+use Rattle.machine.specs.declared.choice.Choice.{Choice}
+use Rattle.explore_laws.specs.Settling.{rested, at_once, settled_by, world_settled, settling_steps, turn_choices, turns_choices}
+use Rattle.explore_laws.proofs.SettleLemmas.{run_nothing}
+use Rattle.explore_laws.proofs.TurnLemmas.{run_joined, run_of_turn}
+use Rattle.explore_space.specs.Every.{hart_choices, meant_choices}
+use Rattle.explore_space.specs.declared.meant.ScRefusals.{ScRefusals}
+
+-- ---- plain choices
+plain_last : (h n : ℕ) → plain_choices h n ++ record { hart = h; refuse = false } ∷ [] ≡ plain_choices h (suc n)
+plain_last h zero = refl
+plain_last h (suc n) = ap (λ (cs : List Choice). record { hart = h; refuse = false } ∷ cs) (plain_last h n)
+
+pub plain_more : (xs : List Choice) (h n : ℕ)
+    → (xs ++ plain_choices h n) ++ record { hart = h; refuse = false } ∷ [] ≡ xs ++ plain_choices h (n + 1)
+plain_more xs h n =
+    let k : n + 1 ≡ suc n = omega arith in
+    rw k (append_assoc xs (plain_choices h n) (record { hart = h; refuse = false } ∷ []) ∙ ap (λ ys. xs ++ ys) (plain_last h n))
+
+-- ---- meant choices
+pub meant_none : (refusals : ScRefusals) → [] ≡ meant_choices refusals 0
+unfolding meant_choices
+meant_none refusals = refl
+
+pub meant_more : (refusals : ScRefusals) (n : ℕ) → meant_choices refusals n ++ hart_choices refusals n ≡ meant_choices refusals (n + 1)
+unfolding meant_choices
+meant_more refusals n = let k : n + 1 ≡ suc n = omega arith in rw k refl
+
+-- ---- a turn of no hart
+no_step : (w : World) (c : Choice) → slice_get w.harts c.hart ≡ None → step w c ≡ w
+unfolding step
+no_step w c none = ap (step_of w c) none
+
+pub nobody_settles : (w : World) (c : Choice) → length w.harts ≤ c.hart → w ≡ world_settled (step w c) c.hart
+nobody_settles w c past =
+    let none = slice_get_past w.harts c.hart past in
+    sym (ap (λ (x : World). world_settled x c.hart) (no_step w c none) ∙ ap (settled_by w c.hart) none)
+
+pub nobody_turns : (w : World) (c : Choice) → length w.harts ≤ c.hart → ◌≡◌ {A = List Choice} (c ∷ []) (turn_choices w c)
+nobody_turns w c past =
+    let none = slice_get_past w.harts c.hart past in
+    sym (ap (λ (x : World). c ∷ plain_choices c.hart (settling_steps x (slice_get x.harts c.hart))) (no_step w c none)
+    ∙ ap (λ (o : Option HartValue). c ∷ plain_choices c.hart (settling_steps w o)) none)
+
+-- ---- a turn of a hart
+pub settles : (w : World) (h : ℕ) (v u : HartValue) → slice_get w.harts h ≡ Some v → u ≡ rested (code_in w.memory) at_once v
+    → with_walked_hart w h u ≡ world_settled w h
+settles w h v u there is = ap (with_walked_hart w h) is ∙ ap (settled_by w h) (sym there)
+
+-- ---- one turn more
+pub turns_none : (w : World) → [] ≡ turns_choices w []
+unfolding turns_choices
+turns_none w = refl
+
+pub turns_last : (w : World) (turns : List Choice) (c : Choice)
+    → turns_choices w (turns ++ c ∷ []) ≡ turns_choices w turns ++ turn_choices (run w (turns_choices w turns)) c
+unfolding turns_choices
+turns_last w [] c = append-nil (turn_choices w c) ∙ ap (λ (x : World). turn_choices x c) (sym (run_nothing w))
+turns_last w (d ∷ turns) c =
+    let after = world_settled (step w d) d.hart in
+    let behind = turns_choices after turns in
+    ap (λ (cs : List Choice). turn_choices w d ++ cs) (turns_last after turns c)
+    ∙ sym (append_assoc (turn_choices w d) behind (turn_choices (run after behind) c))
+    ∙ ap (λ (x : World). (turn_choices w d ++ behind) ++ turn_choices x c)
+    (sym (run_joined w (turn_choices w d) behind ∙ ap (λ (x : World). run x behind) (run_of_turn w d)))
+
+pub run_last : (w : World) (cs : List Choice) (c : Choice)
+    → world_settled (step (run w cs) c) c.hart ≡ run w (cs ++ turn_choices (run w cs) c)
+run_last w cs c = sym (run_joined w cs (turn_choices (run w cs) c) ∙ run_of_turn (run w cs) c)

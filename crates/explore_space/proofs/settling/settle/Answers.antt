@@ -1,0 +1,14 @@
+use Rattle.mem_store.specs.Image.{segments_memory}
+use Rattle.explore_laws.specs.Settling.{at_once}
+use Rattle.explore_laws.proofs.SettleLemmas.{walked_is_rested}
+use Rattle.explore_space.proofs.settling.settle.Goals as goal
+
+pub returns-clause-hart : goal.returns-clause-hart
+returns-clause-hart g c =
+    (walked_is_rested (segments_memory c.args.code.now) at_once c.local_steps.result _ _ c.local_steps.ensures.walked
+    c.local_steps.ensures.limit c.local_steps.ensures.stops).0
+
+pub returns-clause-steps : goal.returns-clause-steps
+returns-clause-steps g c =
+    (walked_is_rested (segments_memory c.args.code.now) at_once c.local_steps.result _ _ c.local_steps.ensures.walked
+    c.local_steps.ensures.limit c.local_steps.ensures.stops).1

@@ -1,0 +1,49 @@
+-- What every schedule of a program does.
+use Rattle.std.specs.Prelude.{◌≡◌, ℕ, zero, suc, ◌<◌, Bool, true, false, List, [], ◌∷◌, ◌++◌, length, Option}
+use Rattle.std.specs.List.{All, Contains}
+use Rattle.image.specs.Image.{ImageValue}
+use Rattle.machine.specs.Start.{started}
+use Rattle.machine.specs.World.{run}
+use Rattle.machine.specs.declared.choice.Choice.{Choice}
+use Rattle.object_library.specs.declared.kind.Kind.{Kind}
+use Rattle.outcome.specs.Expect.{fails, judged}
+use Rattle.outcome.specs.declared.expect.Exit.TheVariants.{May}
+use Rattle.explore_space.specs.declared.exploring.Answer.{Answer}
+use Rattle.explore_space.specs.declared.exploring.Answer.TheVariants.{Holds, Fails, Undecided}
+use Rattle.explore_space.specs.declared.meant.ScRefusals.{ScRefusals}
+use Rattle.explore_space.specs.declared.meant.ScRefusals.TheVariants.{Also, Never}
+
+-- the choices of a hart: the plain one, and the one that refuses its store-conditional if that is
+-- meant too
+abbrev pub hart_choices : ScRefusals → ℕ → List Choice
+hart_choices Also h = record { hart = h; refuse = false } ∷ record { hart = h; refuse = true } ∷ []
+hart_choices Never h = record { hart = h; refuse = false } ∷ []
+
+-- the choices of n harts
+unfoldable pub meant_choices : ScRefusals → ℕ → List Choice
+meant_choices refusals zero = []
+meant_choices refusals (suc n) = meant_choices refusals n ++ hart_choices refusals n
+
+-- a list has no other choices than these
+abbrev pub IsListOf : List Choice → List Choice → Type 0
+IsListOf meant choices = All (Contains meant) choices
+
+-- whether the run of a list of choices from a program's start fails: its rule is broken, or without
+-- a rule a hart has faulted
+abbrev pub run_fails : Option Kind → ImageValue → List ℕ → List Choice → Bool
+run_fails rule image inputs choices = fails May (judged rule inputs choices (run (started image inputs) choices).harts)
+
+-- a list of these choices fails, and none of fewer choices than it has turns does
+pub record FailsFirst (meant : List Choice) (is_failing : List Choice → Bool) (choices : List Choice) (turns : ℕ) : Type 0 where
+  pub meant_ones : IsListOf meant choices
+  pub fails : is_failing choices ≡ true
+  pub first : (other : List Choice) → IsListOf meant other → length other < turns → is_failing other ≡ false
+
+-- an answer holds of every schedule: no list of the harts' choices fails, or this one does; where
+-- there are more places than may be looked at, nothing is said
+abbrev pub HoldsOfEvery : {Z : Type 0} → Option Kind → ScRefusals → ImageValue → List ℕ → Answer Z → Type 0
+HoldsOfEvery rule refusals image inputs (Holds places) =
+    (choices : List Choice) → IsListOf (meant_choices refusals (length inputs)) choices → run_fails rule image inputs choices ≡ false
+HoldsOfEvery rule refusals image inputs (Fails failing) =
+    FailsFirst (meant_choices refusals (length inputs)) (run_fails rule image inputs) failing.choices.items failing.turns
+HoldsOfEvery rule refusals image inputs Undecided = Unit {0}

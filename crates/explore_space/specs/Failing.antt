@@ -1,0 +1,17 @@
+-- Whether the run that leads to a place has failed.
+use Rattle.std.specs.Prelude.{ℕ, zero, suc, Bool, false, if◌then◌else◌, List, [], ◌∷◌, length, Option}
+use Rattle.machine.specs.declared.choice.Choice.{Choice}
+use Rattle.object_library.specs.declared.kind.Kind.{Kind}
+use Rattle.outcome.specs.Expect.{fails, judged}
+use Rattle.outcome.specs.declared.expect.Exit.TheVariants.{May}
+use Rattle.explore_laws.specs.Places.{Place}
+
+-- a plain choice of each hart below n that was chosen; a verdict asks no more of a run's choices
+unfoldable pub one_each : ℕ → (ℕ → Bool) → List Choice
+one_each zero chosen = []
+one_each (suc n) chosen =
+    if chosen n then record { hart = n; refuse = false } ∷ one_each n chosen else one_each n chosen
+
+-- whether the run to a place has failed: its rule is broken, or without a rule a hart has faulted
+abbrev pub fails_there : Option Kind → List ℕ → Place → Bool
+fails_there rule inputs p = fails May (judged rule inputs (one_each (length inputs) p.chosen) p.world.harts)

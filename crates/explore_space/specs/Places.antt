@@ -1,0 +1,69 @@
+-- The place that a key stands for: numbers of harts, of what they share, and marks of who was
+-- chosen.
+use Rattle.std.specs.Prelude.{◌≡◌, ℕ, ◌+◌, ◌*◌, ◌%◌, ◌<◌, ◌==◌, List, [], ◌++◌, Option, Some, None, take, map, length, slice_get, slice_index}
+use Rattle.std.specs.List.{All}
+use Rattle.image.specs.Image.{ImageValue}
+use Rattle.mem_store.specs.Memory.{Memory}
+use Rattle.mem_store.specs.Image.{image_memory}
+use Rattle.hart_reservations.specs.Marks.{Marks, mark_at, word_of}
+use Rattle.hart_step.specs.Hart.{HartValue, hart_of}
+use Rattle.hart_step.specs.Laws.{Keeps, IsAligned}
+use Rattle.hart_step.specs.declared.hart.Hart.{Hart}
+use Rattle.hart_step.specs.declared.hart.HartState.TheVariants.{Running}
+use Rattle.machine.specs.World.{World}
+use Rattle.bank_laws.specs.Banks.{WordBytes}
+use Rattle.bank_laws.specs.Words.{bytes_at}
+use Rattle.explore_sites.specs.Cells.{words_shown}
+use Rattle.explore_sites.specs.declared.cell.Cell.{Cell}
+use Rattle.explore_laws.specs.Places.{Place}
+use Rattle.explore_space.specs.declared.shared.Shared.{Shared}
+
+-- the hart of a number
+abbrev pub hart_in : Option Hart → HartValue
+hart_in None = record { registers = λ _. 0; pc = 0; state = Running }
+hart_in (Some h) = hart_of h
+
+abbrev pub hart_numbered : List Hart → ℕ → HartValue
+hart_numbered harts id = hart_in (slice_get harts id)
+
+-- the cells and the reservations of a number
+abbrev pub cells_in : {Z : Type 0} → Option (Shared Z) → List Cell
+cells_in None = []
+cells_in (Some s) = s.cells.items
+
+abbrev pub marks_in : {Z : Type 0} → Option (Shared Z) → Marks
+marks_in None = λ _. None
+marks_in (Some s) = mark_at s.marks.items
+
+-- a memory with the rights of another, in which words stand
+unfoldable pub memory_over : Memory → (ℕ → WordBytes) → Memory
+memory_over m values = record { rights = m.rights; bytes = λ y. slice_index (values (word_of y)) (y % 4) }
+
+-- the world of a key of n harts
+abbrev pub world_of_key : {Z : Type 0} → ImageValue → ℕ → List Hart → List (Shared Z) → List ℕ → World
+world_of_key image n harts shareds key = record {
+  harts = map (hart_numbered harts) (take n key);
+  memory = memory_over (image_memory image) (words_shown image (cells_in (slice_get shareds (slice_index key n))));
+  reserved = marks_in (slice_get shareds (slice_index key n));
+}
+
+-- its place
+abbrev pub place_of_key : {Z : Type 0} → ImageValue → ℕ → List Hart → List (Shared Z) → List ℕ → Place
+place_of_key image n harts shareds key = record {
+  world = world_of_key image n harts shareds key;
+  chosen = λ k. slice_index key (n + 1 + k) == 1;
+}
+
+-- a row of words is a key
+pub record IsKey {Z : Type 0} (image : ImageValue) (n : ℕ) (known : List Hart) (shareds : List (Shared Z)) (key : List ℕ) : Type 0 where
+  pub len : length key ≡ 2 * n + 1
+  pub harts : (k id : ℕ) → slice_get (take n key) k ≡ Some id → id < length known
+  pub shared : slice_index key n < length shareds
+  pub keeps : Keeps (image_memory image) (world_of_key image n known shareds key).memory
+  pub words : (x : ℕ) → x % 4 ≡ 0 → words_shown image (cells_in (slice_get shareds (slice_index key n))) x
+      ≡ bytes_at (world_of_key image n known shareds key).memory.bytes x
+  pub aligned : All IsAligned (world_of_key image n known shareds key).harts
+
+-- a list goes on as another does, and perhaps further
+abbrev pub GoesOn : {X : Type 0} → List X → List X → Type 0
+GoesOn {X} xs longer = (more : List X) × (longer ≡ xs ++ more)

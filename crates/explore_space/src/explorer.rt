@@ -1,0 +1,96 @@
+//! The worlds of a program.
+ghost use Rattle.std.specs.Prelude.{◌≡◌, ℕ, Bool, List, IfOk, length};
+ghost use Rattle.image.specs.Image.{ImageValue};
+ghost use Rattle.mem_store.specs.Image.{image_memory, segments_memory};
+ghost use Rattle.hart_local.specs.CodeMemory.{code_in};
+ghost use Rattle.machine.specs.Start.{started};
+ghost use Rattle.explore_laws.specs.Places.{Place, place_begun};
+ghost use Rattle.explore_space.specs.Places.{IsKey, place_of_key};
+ghost use Rattle.explore_space.specs.Failing.{fails_there};
+
+use crate::failing::fails_at;
+use crate::first::first_parts;
+use crate::shared::Shared;
+use crate::stepping::step_key;
+use explore_search::Space;
+use hart_local::Code;
+use hart_step::Hart;
+use image::Image;
+use machine::{Choice, Inputs};
+use object_library::Kind;
+use std::alloc::{AllocError, Allocator};
+
+/// The worlds of a program with these inputs, under keys.
+#[derive(Drop)]
+pub struct Explorer<'a, A: Allocator> {
+    alloc: A,
+    image: &'a Image<A>,
+    code: Code<A>,
+    inputs: &'a Inputs,
+    rule: Option<Kind>,
+    harts: Vec<Hart, A>,
+    shareds: Vec<Shared<A>, A>,
+    ghost its_code: { segments_memory code ≡ code_in (image_memory image.now) },
+}
+
+impl<'a, A: Allocator + Copy> Explorer<'a, A> {
+    /// Nothing is known yet. Fails when out of memory.
+    pub fn new(
+        alloc: A,
+        image: &'a Image<A>,
+        inputs: &'a Inputs,
+        rule: Option<Kind>,
+    ) -> Result<Explorer<'a, A>, AllocError>
+        ensures image { IfOk result (λ e. e.image.now ≡ image.now) }
+        ensures inputs { IfOk result (λ e. e.inputs.now ≡ inputs.now) }
+        ensures rule { IfOk result (λ e. e.rule ≡ rule) }
+    {
+        let code = Code::new(alloc, image)?;
+        Ok(Explorer {
+            alloc,
+            image,
+            code,
+            inputs,
+            rule,
+            harts: Vec::new(alloc),
+            shareds: Vec::new(alloc),
+        })
+    }
+}
+
+impl<'a, A: Allocator + Copy> Space<A> for Explorer<'a, A> {
+    ghost is_key = { λ e key. IsKey e.image.now (length e.inputs.now) e.harts.items e.shareds.items key };
+
+    ghost place = { λ e key. place_of_key e.image.now (length e.inputs.now) e.harts.items e.shareds.items key };
+
+    ghost first = { λ e. place_begun (started e.image.now e.inputs.now) };
+
+    ghost bad = { λ e p. fails_there e.rule e.inputs.now p };
+
+    fn first_key(&mut self) -> Result<Vec<u32, A>, AllocError> {
+        first_parts(
+            self.alloc,
+            self.image,
+            self.inputs,
+            &mut self.harts,
+            &mut self.shareds,
+        )
+    }
+
+    fn key_after(&mut self, key: &[u32], choice: Choice) -> Result<Vec<u32, A>, AllocError> {
+        step_key(
+            self.alloc,
+            self.image,
+            &self.code,
+            self.inputs.harts() as usize,
+            &mut self.harts,
+            &mut self.shareds,
+            key,
+            choice,
+        )
+    }
+
+    fn is_bad(&self, key: &[u32]) -> Result<bool, AllocError> {
+        fails_at(self.alloc, &self.harts, self.inputs.words(), self.rule, key)
+    }
+}

@@ -1,0 +1,59 @@
+//! Every schedule of a program.
+ghost use Rattle.std.specs.Prelude.{IfOk};
+ghost use Rattle.explore_space.specs.Every.{HoldsOfEvery};
+
+use crate::expanding::choices_of_turns;
+use crate::explorer::Explorer;
+use crate::meant::{ScRefusals, meant_choices};
+use explore_search::{Found, search};
+use image::Image;
+use machine::{Choice, Inputs};
+use object_library::Kind;
+use std::alloc::{AllocError, Allocator};
+
+/// A list of choices that fails.
+#[derive(Drop)]
+pub struct Failing<A: Allocator> {
+    /// The choices.
+    pub choices: Vec<Choice, A>,
+    /// How many turns they are: a choice, and the local steps of its hart behind it. No list of
+    /// fewer choices fails.
+    pub turns: usize,
+}
+
+/// What is said of every schedule.
+#[derive(Drop)]
+pub enum Answer<A: Allocator> {
+    /// No list of choices fails; turns reach so many places.
+    Holds(usize),
+    /// This list fails.
+    Fails(Failing<A>),
+    /// There are more places than may be looked at.
+    Undecided,
+}
+
+/// Whether a list of the harts' choices, of any length, leads a program with these inputs to a
+/// failure: a broken rule, or without a rule a hart that has faulted. None does; or one does, which
+/// is given; or there are more than `most` places, and nothing is said. The only error is out of
+/// memory.
+pub fn explore<A: Allocator + Copy>(
+    alloc: A,
+    image: &Image<A>,
+    inputs: &Inputs,
+    rule: Option<Kind>,
+    refusals: ScRefusals,
+    most: usize,
+) -> Result<Answer<A>, AllocError>
+    ensures { IfOk result (λ answer. HoldsOfEvery rule refusals image.now inputs.now answer) }
+{
+    let meant = meant_choices(alloc, refusals, inputs.harts())?;
+    let mut explorer = Explorer::new(alloc, image, inputs, rule)?;
+    match search(alloc, &mut explorer, &meant, most)? {
+        Found::Safe(places) => Ok(Answer::Holds(places)),
+        Found::Bad(turns) => Ok(Answer::Fails(Failing {
+            choices: choices_of_turns(alloc, image, inputs, &turns)?,
+            turns: turns.len(),
+        })),
+        Found::Undecided => Ok(Answer::Undecided),
+    }
+}

@@ -1,0 +1,73 @@
+//! Whether the run to a key's place has failed.
+ghost use Rattle.std.specs.Prelude.{◌≡◌, ◌<◌, ◌≤◌, ◌+◌, ◌*◌, ◌==◌, ◌&&◌, nat_lt, ℕ, Bool, Some, IfOk, length, map, slice_get, slice_index, take};
+ghost use Rattle.hart_step.specs.Hart.{hart_of};
+ghost use Rattle.outcome.specs.Expect.{fails, judged};
+ghost use Rattle.outcome.specs.declared.expect.Exit.TheVariants.{May};
+ghost use Rattle.sched_run.specs.Chosen.{harts_of};
+ghost use Rattle.explore_space.specs.Places.{hart_numbered};
+ghost use Rattle.explore_space.specs.Failing.{one_each};
+
+use hart_step::Hart;
+use object_library::Kind;
+use outcome::{Exit, Expect};
+use sched_run::Chosen;
+use std::alloc::{AllocError, Allocator};
+
+// The harts of a key.
+fn harts_by_key<A: Allocator>(
+    alloc: A,
+    harts: &[Hart],
+    count: usize,
+    key: &[u32],
+) -> Result<Vec<Hart, A>, AllocError>
+    requires long { count ≤ length key.now }
+    requires there { (k id : ℕ) → slice_get (take count key.now) k ≡ Some id → id < length harts.now }
+    ensures { IfOk result (λ ends. map hart_of ends.items ≡ map (hart_numbered harts.now) (take count key.now)) }
+{
+    let mut ends = Vec::new(alloc);
+    'harts: for k in 0..count {
+        ends.push(harts[key[k] as usize])?;
+    }
+    Ok(ends)
+}
+
+// Which harts were chosen, by a key's marks.
+fn chosen_by_key(count: usize, key: &[u32]) -> Chosen
+    requires few { count ≤ 32 }
+    requires long { length key.now ≡ 2 * count + 1 }
+    ensures { (k : ℕ) → harts_of result k ≡ (nat_lt k count && (slice_index key.now (count + 1 + k) == 1)) }
+{
+    let mut chosen = Chosen::new();
+    'marks: for k in 0..count {
+        if key[count + 1 + k] == 1 {
+            chosen.add(k);
+        }
+    }
+    chosen
+}
+
+/// Whether the run to a key's place has failed: its rule is broken, or without a rule a hart has
+/// faulted. The only error is out of memory.
+pub fn fails_at<A: Allocator + Copy>(
+    alloc: A,
+    harts: &[Hart],
+    inputs: &[u32],
+    rule: Option<Kind>,
+    key: &[u32],
+) -> Result<bool, AllocError>
+    requires few { length inputs.now ≤ 32 }
+    requires long { length key.now ≡ 2 * length inputs.now + 1 }
+    requires there { (k id : ℕ) → slice_get (take (length inputs.now) key.now) k ≡ Some id → id < length harts.now }
+    ensures { IfOk result (λ answer. answer ≡ fails May (judged rule inputs.now
+        (one_each (length inputs.now) (λ k. slice_index key.now (length inputs.now + 1 + k) == 1))
+        (map (hart_numbered harts.now) (take (length inputs.now) key.now)))) }
+{
+    let ends = harts_by_key(alloc, harts, inputs.len(), key)?;
+    let chosen = chosen_by_key(inputs.len(), key);
+    let expect = Expect {
+        rule,
+        exit: Exit::May,
+    };
+    let outcome = expect.judge(alloc, inputs, &chosen, &ends)?;
+    Ok(expect.fails(outcome))
+}

@@ -1,0 +1,18 @@
+//! Every schedule of a program: its worlds under keys, and whether one of them is a failure.
+#![tactic(auto)]
+
+pub use explorer::Explorer;
+pub use exploring::{Answer, Failing, explore};
+pub use meant::ScRefusals;
+pub use shared::Shared;
+
+mod expanding;
+mod explorer;
+mod exploring;
+mod failing;
+mod first;
+mod meant;
+mod parts;
+mod settling;
+mod shared;
+mod stepping;

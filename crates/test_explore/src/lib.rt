@@ -1,0 +1,7 @@
+//! Tests of searches through every schedule: `explore_space`.
+#![tactic(auto)]
+
+#[cfg(test)]
+mod failing_tests;
+#[cfg(test)]
+mod world_tests;

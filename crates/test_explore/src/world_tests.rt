@@ -1,0 +1,66 @@
+//! How many places turns reach of the objects of the library, as a program that was written
+//! independently counts them, and where a search gives up.
+use explore_space::{Answer, ScRefusals, explore};
+use machine::Inputs;
+use object_library::{Kind, make_image};
+use std::alloc::Global;
+
+// An object with its inputs, and the number of places that turns reach.
+struct Row {
+    kind: Kind,
+    inputs: &'static [u32],
+    refusals: ScRefusals,
+    places: usize,
+}
+
+#[rattlefmt::skip]
+const ROWS: [Row; 6] = [
+    Row { kind: Kind::Swap, inputs: &[7, 9], refusals: ScRefusals::Never, places: 33 },
+    Row { kind: Kind::Add, inputs: &[7, 9], refusals: ScRefusals::Never, places: 33 },
+    Row { kind: Kind::LrSc, inputs: &[7, 9], refusals: ScRefusals::Never, places: 82 },
+    Row { kind: Kind::LrSc, inputs: &[7, 9], refusals: ScRefusals::Also, places: 108 },
+    Row { kind: Kind::LrSc, inputs: &[7, 9, 4], refusals: ScRefusals::Never, places: 1153 },
+    Row { kind: Kind::AdoptCommit, inputs: &[7, 9], refusals: ScRefusals::Never, places: 347 },
+];
+
+// The number of places if no schedule breaks the rule, `None` where so many may not be looked at;
+// nothing where the rule is broken or memory is refused.
+fn places_of(alloc: Global, row: &Row, most: usize) -> Option<Option<usize>> {
+    let image = make_image(alloc, row.kind).ok()?;
+    let inputs = Inputs::new(row.inputs).ok()?;
+    match explore(alloc, &image, &inputs, Some(row.kind), row.refusals, most) {
+        Ok(Answer::Holds(places)) => Some(Some(places)),
+        Ok(Answer::Undecided) => Some(None),
+        Ok(Answer::Fails(_)) | Err(_) => None,
+    }
+}
+
+#[test]
+fn places_are_as_many_as_counted(rt: HostRuntime) {
+    for row in &ROWS {
+        let places = row.places;
+        assert!(rt;
+            places_of(rt.alloc(), row, 100_000) == Some(Some(places)),
+            "{places} places"
+        );
+    }
+}
+
+#[test]
+fn search_gives_up_where_there_are_more(rt: HostRuntime) {
+    for row in &ROWS {
+        let places = row.places;
+        assert!(rt;
+            places_of(rt.alloc(), row, places) == Some(Some(places)),
+            "all {places}"
+        );
+        assert!(rt;
+            places_of(rt.alloc(), row, places - 1) == Some(None),
+            "one of {places} less"
+        );
+        assert!(rt;
+            places_of(rt.alloc(), row, 0) == Some(None),
+            "none of {places}"
+        );
+    }
+}
