@@ -18,6 +18,8 @@ pub enum Status {
     Broken,
     /// Out of memory.
     NoMemory,
+    /// The question that was asked is not decided.
+    Undecided,
 }
 
 impl Status {
@@ -32,6 +34,7 @@ impl Status {
             Status::Faulted => 3,
             Status::Broken => 4,
             Status::NoMemory => 5,
+            Status::Undecided => 6,
         }
     }
 }

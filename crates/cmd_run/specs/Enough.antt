@@ -4,7 +4,7 @@ use Rattle.std.specs.declared.result.Result.TheVariants.{Ok, Err}
 use Rattle.sched_text.specs.Reading.{choices_read}
 use Rattle.byte_io.specs.declared.status.Status.TheVariants as status
 use Rattle.machine.specs.declared.choice.Choice.{Choice}
-use Rattle.object_library.specs.Counts.{own, refusals}
+use Rattle.machine.specs.Chosen.{own, refusals}
 use Rattle.object_library.specs.declared.kind.Kind.{Kind}
 use Rattle.object_library.specs.declared.kind.Kind.TheVariants.{Swap, Add, LrSc, AdoptCommit, Rounds}
 use Rattle.program_open.specs.Answers.{Answer}

@@ -16,7 +16,7 @@ use Rattle.machine.specs.declared.choice.Choice.{Choice}
 use Rattle.object_library.specs.declared.kind.Kind.{Kind}
 use Rattle.object_library.specs.declared.kind.Kind.TheVariants.{Swap, Add, LrSc, AdoptCommit, Rounds}
 use Rattle.object_library.specs.declared.verdict.Verdict.TheVariants as verdict
-use Rattle.object_library.specs.Counts.{chosen}
+use Rattle.machine.specs.Chosen.{chosen}
 use Rattle.object_library.specs.Rules.{HasExited, is_exited, is_faulted, value_of, flag_of, IsProposed, KeepsConsensus, KeepsAdoptCommit, KeepsRule}
 use Rattle.object_library.specs.Judging.{is_kept}
 use Rattle.object_library.proofs.JudgeLemmas.{kept-decides}

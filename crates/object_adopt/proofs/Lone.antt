@@ -10,7 +10,7 @@ use Rattle.hart_step.specs.Hart.{HartValue, Registers}
 use Rattle.hart_step.specs.declared.hart.HartState.TheVariants.{Running}
 use Rattle.machine.specs.World.{World, step, run}
 use Rattle.machine.specs.declared.choice.Choice.{Choice}
-use Rattle.object_library.specs.Counts.{chosen, own}
+use Rattle.machine.specs.Chosen.{chosen, own}
 use Rattle.object_library.specs.Rules.{IsProposed}
 use Rattle.object_library.proofs.Shape.{on, shaped_memory, first_memory}
 use Rattle.object_library.proofs.Harts.{nobody, hart_at, turn, step-turn, all_harts, bump, spent_after, spent_own}

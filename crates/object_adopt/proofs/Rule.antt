@@ -12,7 +12,7 @@ use Rattle.machine.specs.World.{World, step, run}
 use Rattle.machine.specs.Start.{started, first_harts, first_registers}
 use Rattle.machine.specs.declared.choice.Choice.{Choice}
 use Rattle.object_library.specs.Images.{object_image}
-use Rattle.object_library.specs.Counts.{chosen, own}
+use Rattle.machine.specs.Chosen.{chosen, own}
 use Rattle.object_library.specs.Rules.{KeepsAdoptCommit, AreAlike, IsProposed, HasExited, is_exited, is_faulted, value_of, flag_of}
 use Rattle.object_library.proofs.Shape.{on, shaped_memory, first_memory}
 use Rattle.object_library.proofs.Harts.{hart_at, turn, step-turn, all_harts, same_default, first_at, first_count, bump, spent_after, spent_own}

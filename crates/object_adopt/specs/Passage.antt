@@ -9,7 +9,7 @@ use Rattle.hart_step.specs.declared.hart.HartState.TheVariants.{Running}
 use Rattle.machine.specs.World.{World, step, run}
 use Rattle.machine.specs.declared.choice.Choice.{Choice}
 use Rattle.object_library.specs.Images.{object_image}
-use Rattle.object_library.specs.Counts.{own}
+use Rattle.machine.specs.Chosen.{own}
 use Rattle.object_library.specs.Rules.{AreAlike, IsProposed}
 
 -- its 29 instructions

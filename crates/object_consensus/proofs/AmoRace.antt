@@ -24,7 +24,7 @@ use Rattle.machine.specs.Start.{started, first_harts, first_registers}
 use Rattle.machine.specs.declared.choice.Choice.{Choice}
 use Rattle.object_library.specs.declared.kind.Kind.TheVariants.{Swap, Add}
 use Rattle.object_library.specs.Images.{race_words, race_image, swap_image, add_image, image_of, IsSame}
-use Rattle.object_library.specs.Counts.{chosen, own}
+use Rattle.machine.specs.Chosen.{chosen, own}
 use Rattle.object_library.specs.Rules.{KeepsConsensus, HasExited, IsProposed, EndsAfter, EveryRun, is_exited, is_faulted, value_of, flag_of}
 use Rattle.object_library.proofs.Runs.{same_runs, equal_runs, wider_ends}
 use Rattle.object_library.proofs.Shape.{on, sight, shaped, shaped_bytes, shaped_memory, word, word_at, may_load, with_word, stores_word, stored_by, first_memory}

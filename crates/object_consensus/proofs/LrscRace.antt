@@ -17,7 +17,7 @@ use Rattle.machine.specs.Start.{started, first_harts, first_registers}
 use Rattle.machine.specs.declared.choice.Choice.{Choice}
 use Rattle.object_library.specs.declared.kind.Kind.TheVariants.{LrSc}
 use Rattle.object_library.specs.Images.{lrsc_words, lrsc_image, image_of, IsSame}
-use Rattle.object_library.specs.Counts.{chosen}
+use Rattle.machine.specs.Chosen.{chosen}
 use Rattle.object_library.specs.Rules.{KeepsConsensus, HasExited, IsProposed, EndsAfter, EveryRun, is_exited, is_faulted, value_of, flag_of}
 use Rattle.object_library.proofs.Runs.{same_runs, equal_runs, wider_ends}
 use Rattle.object_library.proofs.Shape.{on, shaped, shaped_bytes, shaped_rights, word, word_at, may_load, may_store, stored_at, with_word, stores_word, stored_by, first_memory}

@@ -11,7 +11,7 @@ use Rattle.hart_step.specs.declared.hart.HartState.TheVariants.{Running}
 use Rattle.machine.specs.World.{World, placed, step, step_of}
 use Rattle.machine.specs.Start.{first_harts, first_registers}
 use Rattle.machine.specs.declared.choice.Choice.{Choice}
-use Rattle.object_library.specs.Counts.{own, refusals}
+use Rattle.machine.specs.Chosen.{own, refusals}
 use Rattle.object_library.proofs.Shape.{on}
 
 -- the item past the last hart

@@ -10,7 +10,7 @@ use Rattle.hart_step.specs.declared.hart.Hart.{Hart}
 use Rattle.machine.specs.declared.choice.Choice.{Choice}
 use Rattle.object_library.specs.declared.kind.Kind.{Kind}
 use Rattle.object_library.specs.declared.kind.Kind.TheVariants.{Swap, Add, LrSc, AdoptCommit, Rounds}
-use Rattle.object_library.specs.Counts.{chosen}
+use Rattle.machine.specs.Chosen.{chosen}
 use Rattle.object_library.specs.Rules.{is_exited, is_faulted, value_of, flag_of, HasExited, IsProposed, AreAlike, KeepsConsensus, KeepsAdoptCommit, KeepsRule}
 use Rattle.object_library.specs.Judging.{holds, is_like, is_proposed, are_alike, agrees, decides, adopts_or_commits, is_consensus, is_adopt_commit, is_kept}
 

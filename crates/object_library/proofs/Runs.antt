@@ -6,7 +6,7 @@ use Rattle.hart_step.specs.Hart.{HartValue}
 use Rattle.machine.specs.World.{World, run}
 use Rattle.machine.specs.declared.choice.Choice.{Choice}
 use Rattle.object_library.specs.Images.{IsSame}
-use Rattle.object_library.specs.Counts.{refusals}
+use Rattle.machine.specs.Chosen.{refusals}
 use Rattle.object_library.specs.Rules.{EveryRun, EndsAfter}
 use Rattle.object_library.proofs.CellLemmas.{same_start}
 

@@ -10,7 +10,7 @@ use Rattle.machine.specs.Start.{started}
 use Rattle.machine.specs.declared.choice.Choice.{Choice}
 use Rattle.object_library.specs.declared.kind.Kind.{Kind}
 use Rattle.object_library.specs.declared.kind.Kind.TheVariants.{Swap, Add, LrSc, AdoptCommit, Rounds}
-use Rattle.object_library.specs.Counts.{chosen, own, refusals}
+use Rattle.machine.specs.Chosen.{chosen, own, refusals}
 
 -- whether a hart in this state has exited
 abbrev pub is_exited : HartState → Bool

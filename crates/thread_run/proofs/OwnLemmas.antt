@@ -7,7 +7,7 @@ use Rattle.machine.specs.World.{World, step_of, step, run}
 use Rattle.machine.specs.declared.choice.Choice.{Choice}
 use Rattle.history.specs.declared.entry.Entry.{Entry}
 use Rattle.history.specs.History.{choice, entry, entry_choices, expanded}
-use Rattle.thread_run.specs.Own.{own_count}
+use Rattle.machine.specs.Chosen.{own}
 
 -- ---- histories
 pub expanded-append : (xs ys : List Entry) → expanded (xs ++ ys) ≡ expanded xs ++ expanded ys
@@ -32,47 +32,41 @@ expanded-none = refl
 add_first : (b x y z : ℕ) → x ≡ y + z → b + x ≡ b + y + z
 add_first b x y z e = omega (arith, e)
 
-pub own-append : (xs ys : List Choice) (h : ℕ) → own_count (xs ++ ys) h ≡ own_count xs h + own_count ys h
-unfolding own_count
+pub own-append : (xs ys : List Choice) (h : ℕ) → own (xs ++ ys) h ≡ own xs h + own ys h
 own-append [] ys h = omega arith
 own-append (c ∷ xs) ys h =
-    add_first (if c.hart == h then 1 else 0) (own_count (xs ++ ys) h) (own_count xs h) (own_count ys h) (own-append xs ys h)
+    add_first (if c.hart == h then 1 else 0) (own (xs ++ ys) h) (own xs h) (own ys h) (own-append xs ys h)
 
-pub own-none : (h : ℕ) → own_count [] h ≡ 0
-unfolding own_count
+pub own-none : (h : ℕ) → own [] h ≡ 0
 own-none h = refl
 
-own_one : (h : ℕ) (refuse : Bool) → own_count (choice h refuse ∷ []) h ≡ 1
-unfolding own_count
+own_one : (h : ℕ) (refuse : Bool) → own (choice h refuse ∷ []) h ≡ 1
 own_one h refuse = ap (λ (b : Bool). (if b then 1 else 0) + 0) (eq-eqb h h refl)
 
-own_plain : (n h : ℕ) → own_count (replicate n (choice h false)) h ≡ n
-unfolding own_count
+own_plain : (n h : ℕ) → own (replicate n (choice h false)) h ≡ n
 own_plain zero h = refl
 own_plain (suc n) h =
-    ap (λ (b : Bool). (if b then 1 else 0) + own_count (replicate n (choice h false)) h) (eq-eqb h h refl) ∙ omega (arith, own_plain n h)
+    ap (λ (b : Bool). (if b then 1 else 0) + own (replicate n (choice h false)) h) (eq-eqb h h refl) ∙ omega (arith, own_plain n h)
 
 -- an entry chooses its hart one time more than it has local steps
-pub own_same : (n h : ℕ) (refuse : Bool) → own_count (entry_choices (entry h n refuse)) h ≡ n + 1
+pub own_same : (n h : ℕ) (refuse : Bool) → own (entry_choices (entry h n refuse)) h ≡ n + 1
 own_same n h refuse =
     own-append (replicate n (choice h false)) (choice h refuse ∷ []) h ∙ omega (arith, own_plain n h, own_one h refuse)
 
 differs : (h j : ℕ) → j ≢ h → (h == j) ≡ false
 differs h j apart = ne_eqb h j (λ e. apart (sym e))
 
-other_one : (h j : ℕ) (refuse : Bool) → j ≢ h → own_count (choice h refuse ∷ []) j ≡ 0
-unfolding own_count
+other_one : (h j : ℕ) (refuse : Bool) → j ≢ h → own (choice h refuse ∷ []) j ≡ 0
 other_one h j refuse apart = ap (λ (b : Bool). (if b then 1 else 0) + 0) (differs h j apart)
 
-other_plain : (n h j : ℕ) → j ≢ h → own_count (replicate n (choice h false)) j ≡ 0
-unfolding own_count
+other_plain : (n h j : ℕ) → j ≢ h → own (replicate n (choice h false)) j ≡ 0
 other_plain zero h j apart = refl
 other_plain (suc n) h j apart =
-    ap (λ (b : Bool). (if b then 1 else 0) + own_count (replicate n (choice h false)) j) (differs h j apart)
+    ap (λ (b : Bool). (if b then 1 else 0) + own (replicate n (choice h false)) j) (differs h j apart)
     ∙ omega (arith, other_plain n h j apart)
 
 -- and no other
-pub own_other : (n h j : ℕ) (refuse : Bool) → j ≢ h → own_count (entry_choices (entry h n refuse)) j ≡ 0
+pub own_other : (n h j : ℕ) (refuse : Bool) → j ≢ h → own (entry_choices (entry h n refuse)) j ≡ 0
 own_other n h j refuse apart =
     own-append (replicate n (choice h false)) (choice h refuse ∷ []) j
     ∙ omega (arith, other_plain n h j apart, other_one h j refuse apart)
@@ -99,11 +93,11 @@ none_chosen true n e = absurd (omega (arith, e))
 none_chosen false n e = (refl, omega (arith, e))
 
 -- a hart that a list does not choose is the same after its run
-pub others_stay : (choices : List Choice) (w : World) (j : ℕ) → own_count choices j ≡ 0
+pub others_stay : (choices : List Choice) (w : World) (j : ℕ) → own choices j ≡ 0
     → slice_get (run w choices).harts j ≡ slice_get w.harts j
-unfolding own_count run
+unfolding run
 others_stay [] w j none = refl
 others_stay (c ∷ choices) w j none =
-    let rest = none_chosen (c.hart == j) (own_count choices j) none in
+    let rest = none_chosen (c.hart == j) (own choices j) none in
     let apart : j ≢ c.hart = λ same. true≢false (sym (eq-eqb c.hart j (sym same)) ∙ rest.0) in
     others_stay choices (step w c) j rest.1 ∙ other_stays w c j apart

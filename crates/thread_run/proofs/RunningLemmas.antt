@@ -18,7 +18,8 @@ use Rattle.thread_book.specs.Book.{BookValue, world_of, hart_in_book}
 use Rattle.thread_book.specs.Segment.{SegmentState}
 use Rattle.thread_book.specs.Present.{IsPresented}
 use Rattle.thread_book.proofs.RunLemmas.{replayed-none}
-use Rattle.thread_run.specs.Own.{own_count, own_choices}
+use Rattle.machine.specs.Chosen.{own}
+use Rattle.thread_run.specs.Own.{own_choices}
 use Rattle.thread_gate.specs.Plan.{is_planned}
 use Rattle.thread_gate.specs.Stopped.{is_stopped}
 use Rattle.thread_run.specs.Plan.{IsFlagged}
@@ -45,13 +46,13 @@ done_as done slot slot' made local local' budget budget' is slots locals budgets
 
 -- ---- one entry more
 flagged_more : (plan : List (ℕ × ℕ)) (before : List Choice) (entries : List Entry) (e : Entry) → IsFlagged plan before entries
-    → e.refuse ≡ is_planned plan e.hart (own_count (before ++ expanded entries) e.hart + e.local) → IsFlagged plan before (entries ++ e ∷ [])
+    → e.refuse ≡ is_planned plan e.hart (own (before ++ expanded entries) e.hart + e.local) → IsFlagged plan before (entries ++ e ∷ [])
 unfolding expanded
-flagged_more plan before [] e f is = (is ∙ ap (λ l. is_planned plan e.hart (own_count l e.hart + e.local)) (append-nil before), tt)
+flagged_more plan before [] e f is = (is ∙ ap (λ l. is_planned plan e.hart (own l e.hart + e.local)) (append-nil before), tt)
 flagged_more plan before (x ∷ entries) e f is = (
   f.0,
   flagged_more plan (before ++ entry_choices x) entries e f.1
-      (is ∙ ap (λ l. is_planned plan e.hart (own_count l e.hart + e.local)) (sym (append_assoc before (entry_choices x) (expanded entries)))),
+      (is ∙ ap (λ l. is_planned plan e.hart (own l e.hart + e.local)) (sym (append_assoc before (entry_choices x) (expanded entries)))),
 )
 
 -- a seat's segment was taken in
@@ -73,7 +74,7 @@ run_on image inputs budget plan b b' s t counts made tickets left done r here wa
     let inside : h < length inputs = omega (arith, r.long) in
     let history : b'.history ≡ b.history ++ e ∷ [] = ap (λ (x : BookValue). x.history) p.book in
     let choices : expanded b'.history ≡ expanded b.history ++ entry_choices e = ap expanded history ∙ expanded-more b.history e in
-    let counted = λ (j : ℕ). ap (λ l. own_count l j) choices ∙ own-append (expanded b.history) (entry_choices e) j in
+    let counted = λ (j : ℕ). ap (λ l. own l j) choices ∙ own-append (expanded b.history) (entry_choices e) j in
     let mine : own_choices b' h ≡ now = omega (arith, counted h, own_same s.local h s.refuse, r.counted h inside, was) in
     let before : own_choices b h ≡ made = omega (arith, r.counted h inside, was) in
     let theirs : (j : ℕ) → j ≢ h → own_choices b' j ≡ own_choices b j = λ j apart. omega (arith, counted j, own_other s.local h j s.refuse apart) in
@@ -146,7 +147,7 @@ all_run image inputs h =
     ap (λ (w : World). has_stopped (slice_get w.harts h)) (replayed-none image inputs) ∙ first_runs image.entry (length inputs) 0 inputs h
 
 none_owned : (image : ImageValue) (inputs : List ℕ) (h : ℕ) → own_choices (begun image inputs) h ≡ 0
-none_owned image inputs h = ap (λ (cs : List Choice). own_count cs h) expanded-none ∙ own-none h
+none_owned image inputs h = ap (λ (cs : List Choice). own cs h) expanded-none ∙ own-none h
 
 run_begun : (image : ImageValue) (inputs : List ℕ) (budget : ℕ) (plan : List (ℕ × ℕ)) → 0 < budget
     → IsRunning image inputs budget plan (begun image inputs) (replicate (length inputs) 0) (length inputs)
