@@ -3,7 +3,8 @@
 use crate::arguments::Argument;
 use crate::help::{
     BANKED, BUDGET, CHOICES, DRAW, DRAW_OF_SCHEDULE, FILE, HANGS, HEX, HISTORY, INPUTS,
-    INPUTS_OF_SCHEDULE, MUST_EXIT, OUTCOMES, REFUSALS, REFUSE, RULE, SUMMARY, WRITTEN,
+    INPUTS_OF_SCHEDULE, MUST_EXIT, OUTCOMES, REFUSALS, REFUSE, RULE, SC_REFUSALS, SUMMARY, WORLDS,
+    WRITTEN,
 };
 
 /// A command.
@@ -20,7 +21,7 @@ pub(crate) struct CommandRow {
 }
 
 /// The commands, in the order in which help lists them.
-pub(crate) const COMMANDS: [CommandRow; 12] = [
+pub(crate) const COMMANDS: [CommandRow; 13] = [
     CommandRow {
         name: "asm",
         does: "Assembles sources; prints the listing or writes an ELF file",
@@ -113,6 +114,18 @@ pub(crate) const COMMANDS: [CommandRow; 12] = [
             Argument::Optional("schedule", DRAW),
             Argument::Optional("refusals", REFUSALS),
             Argument::Flag("must-exit", MUST_EXIT),
+        ],
+    },
+    CommandRow {
+        name: "explore",
+        does: "Decides for all schedules of a program at once whether one fails, and prints it",
+        example: "Example: rvcons explore swap.elf --inputs 7,9 --rule swap",
+        arguments: &[
+            Argument::Needed("FILE", FILE),
+            Argument::NeededOption("inputs", INPUTS),
+            Argument::Optional("rule", RULE),
+            Argument::Optional("refusals", SC_REFUSALS),
+            Argument::Optional("worlds", WORLDS),
         ],
     },
     CommandRow {

@@ -28,6 +28,13 @@ pub(crate) const DRAW: &str =
 pub(crate) const REFUSALS: &str =
     "how often drawn choices refuse a store-conditional: never, or one-in:N in the mean; one-in:16 is usual";
 
+/// Of `--refusals` of `explore`.
+pub(crate) const SC_REFUSALS: &str =
+    "never: leave out schedules that refuse a store-conditional that could succeed";
+
+/// Of `--worlds`.
+pub(crate) const WORLDS: &str = "the most worlds that are looked at, below 2^32; 1000000 is usual";
+
 /// Of `--must-exit` of a run or a campaign.
 pub(crate) const MUST_EXIT: &str = "a hart that still runs at the end is a failure, with status 3";
 

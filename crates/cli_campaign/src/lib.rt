@@ -1,7 +1,9 @@
-//! Runs `campaign`.
+//! Runs `campaign` and `explore`.
 #![tactic(auto)]
 
 pub use campaign::obey_campaign;
+pub use explore::obey_explore;
 
 mod campaign;
+mod explore;
 mod watching;

@@ -4,6 +4,7 @@
 pub use asm_line::AsmOrder;
 pub use campaign_line::CampaignOrder;
 pub use debug_line::DebugOrder;
+pub use explore_line::ExploreOrder;
 pub use file_line::FileOrder;
 pub use lib_line::LibOrder;
 pub use line::{Order, read_line};
@@ -17,6 +18,7 @@ pub use trace_line::TraceOrder;
 mod asm_line;
 mod campaign_line;
 mod debug_line;
+mod explore_line;
 mod file_line;
 mod lib_line;
 mod line;

@@ -3,6 +3,7 @@
 use crate::asm_line::{AsmOrder, asm_order};
 use crate::campaign_line::{CampaignOrder, campaign_order};
 use crate::debug_line::{DebugOrder, debug_order};
+use crate::explore_line::{ExploreOrder, explore_order};
 use crate::file_line::{FileOrder, file_order};
 use crate::lib_line::{LibOrder, lib_order};
 use crate::replay_line::{ReplayOrder, replay_order};
@@ -35,6 +36,8 @@ pub enum Order<'a> {
     Lib(LibOrder<'a>),
     /// `campaign`
     Campaign(CampaignOrder<'a>),
+    /// `explore`
+    Explore(ExploreOrder<'a>),
     /// `schedule`
     Schedule(ScheduleOrder<'a>),
     /// `shrink`
@@ -54,6 +57,7 @@ fn plain_order<'a>(name: &str, found: &ArgMatches<'a>) -> Option<Order<'a>> {
         "replay" => Some(Order::Replay(replay_order(found)?)),
         "lib" => Some(Order::Lib(lib_order(found)?)),
         "campaign" => Some(Order::Campaign(campaign_order(found)?)),
+        "explore" => Some(Order::Explore(explore_order(found)?)),
         "schedule" => Some(Order::Schedule(schedule_order(found)?)),
         "shrink" => Some(Order::Shrink(shrink_order(found)?)),
         "trace" => Some(Order::Trace(trace_order(found)?)),

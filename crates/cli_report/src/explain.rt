@@ -70,6 +70,10 @@ pub fn explain_run<R: Files + AllocGlobal + Eprint>(
         CommandFault::BadEntry(offset) => {
             let _ = told_of_entry(rt, files.choices, offset);
         }
+        CommandFault::Undecided(_) => show(
+            rt,
+            "fewer harts have fewer worlds, and --worlds takes a larger number; campaign tries single schedules\n",
+        ),
         CommandFault::NothingFails
         | CommandFault::ThreadRefused
         | CommandFault::Stale

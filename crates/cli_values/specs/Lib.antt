@@ -3,3 +3,4 @@ pub mod Schedules
 pub mod CampaignPlans
 pub mod Reports
 pub mod TracePlans
+pub mod Explorations

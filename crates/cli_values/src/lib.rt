@@ -1,12 +1,15 @@
-//! Parses the texts of an order to what the engines take: schedules, campaigns, traces.
+//! Parses the texts of an order to what the engines take: schedules, campaigns,
+//! explorations, traces.
 #![tactic(auto)]
 
 pub use campaign::{SeedNumbers, read_report, read_seed_numbers};
 pub use draw::{DRAWS, DrawFault, OrderFault, REFUSALS, read_draw, read_order, read_refusals};
+pub use explore::{SC_REFUSALS, WORLDS, read_sc_refusals, read_worlds};
 pub use schedule::{read_schedule, read_seed_plan};
 pub use trace::read_trace_plan;
 
 mod campaign;
 mod draw;
+mod explore;
 mod schedule;
 mod trace;

@@ -10,7 +10,7 @@ pub(crate) struct Row {
 }
 
 /// The commands.
-pub(crate) const COMMANDS: [Row; 12] = [
+pub(crate) const COMMANDS: [Row; 13] = [
     Row {
         name: "asm",
         options: &["--out"],
@@ -74,6 +74,11 @@ pub(crate) const COMMANDS: [Row; 12] = [
             "--must-exit",
         ],
         example: "rvcons campaign prog.elf --inputs 7,9 --first 1 --count 1000 --steps 300",
+    },
+    Row {
+        name: "explore",
+        options: &["--inputs", "--rule", "--refusals", "--worlds"],
+        example: "rvcons explore prog.elf --inputs 7,9",
     },
     Row {
         name: "schedule",

@@ -16,6 +16,7 @@ use Rattle.byte_io.specs.declared.status.Status.TheVariants as status
 -- the exit status of a command with this fault
 abbrev pub status_of_fault : CommandFault → Status
 status_of_fault fault.Memory = status.NoMemory
+status_of_fault (fault.Undecided worlds) = status.Undecided
 status_of_fault why = status.Refused
 
 -- a fault of the program's text

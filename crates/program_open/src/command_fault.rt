@@ -58,6 +58,9 @@ pub enum CommandFault {
     /// and if each hart must exit, it doesn't hang.
     #[error("shrink fault NothingFails")]
     NothingFails,
+    /// Every schedule leads to more than this many worlds, so no answer was found.
+    #[error("not decided: more than {0} worlds")]
+    Undecided(usize),
     /// The host refused a thread.
     #[error("thread refused")]
     ThreadRefused,
@@ -108,6 +111,7 @@ impl CommandFault {
             | CommandFault::OutOfOrder
             | CommandFault::Read(_)
             | CommandFault::Write => Status::Refused,
+            CommandFault::Undecided(_) => Status::Undecided,
             CommandFault::Memory => Status::NoMemory,
         }
     }

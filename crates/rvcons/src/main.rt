@@ -2,7 +2,7 @@
 #![tactic(auto)]
 
 use byte_io::Status;
-use cli_campaign::obey_campaign;
+use cli_campaign::{obey_campaign, obey_explore};
 use cli_debug::obey_debug;
 use cli_files::{obey_asm, obey_file, obey_lib};
 use cli_orders::{Order, read_line};
@@ -59,6 +59,7 @@ fn obey<R: Files + AllocGlobal + Print + Eprint + Env + Threads + Wait + Sync + 
         Ok(Order::Threads(order)) => obey_threads(rt, audience, &order),
         Ok(Order::Replay(order)) => obey_replay(rt, audience, &order),
         Ok(Order::Campaign(order)) => obey_campaign(rt, audience, &order),
+        Ok(Order::Explore(order)) => obey_explore(rt, audience, &order),
         Ok(Order::Schedule(order)) => obey_schedule(rt, audience, &order),
         Ok(Order::Shrink(order)) => obey_shrink(rt, audience, &order),
         Ok(Order::Trace(order)) => obey_trace(rt, audience, &order),

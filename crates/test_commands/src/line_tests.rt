@@ -47,7 +47,7 @@ fn inputs_are_read(rt: HostRuntime) {
 
 // Lines, and what is read of each: its command and the texts of its arguments, by their names.
 #[rattlefmt::skip]
-const LINES: [(&str, &str); 49] = [
+const LINES: [(&str, &str); 54] = [
     ("rvcons asm a.s", "asm IN=a.s"),
     ("rvcons asm --out o a.s b.s", "asm out=o IN=a.s IN=b.s"),
     ("rvcons asm b.s a.s --out=o", "asm out=o IN=b.s IN=a.s"),
@@ -96,6 +96,12 @@ const LINES: [(&str, &str); 49] = [
         "campaign FILE=p inputs=7,9 first=1 count=2 steps=3 must-exit=yes"),
     ("rvcons campaign --steps 3 --count 2 --first 1 --inputs 7 --refusals r --schedule d p",
         "campaign FILE=p inputs=7 first=1 count=2 steps=3 schedule=d refusals=r"),
+    ("rvcons explore p --inputs 7,9", "explore FILE=p inputs=7,9"),
+    ("rvcons explore p --inputs 7,9 --rule k", "explore FILE=p inputs=7,9 rule=k"),
+    ("rvcons explore p --inputs 7,9 --refusals r", "explore FILE=p inputs=7,9 refusals=r"),
+    ("rvcons explore p --inputs 7,9 --worlds 5", "explore FILE=p inputs=7,9 worlds=5"),
+    ("rvcons explore --worlds 5 --refusals r --rule k --inputs 7 p",
+        "explore FILE=p inputs=7 rule=k refusals=r worlds=5"),
     ("rvcons schedule --harts 2 --steps 3", "schedule harts=2 steps=3"),
     ("rvcons schedule --harts 2 --steps 3 --seed 5", "schedule harts=2 steps=3 seed=5"),
     ("rvcons schedule --harts 2 --steps 3 --turns", "schedule harts=2 steps=3 turns=yes"),
@@ -281,7 +287,7 @@ enum Refusal {
 }
 
 // Lines that give no order, and how they are rejected.
-const REFUSED: [(&str, Refusal); 37] = [
+const REFUSED: [(&str, Refusal); 39] = [
     ("rvcons foo", Refusal::Fault),
     ("rvcons asm", Refusal::Fault),
     ("rvcons list", Refusal::Fault),
@@ -319,6 +325,8 @@ const REFUSED: [(&str, Refusal); 37] = [
         "rvcons campaign p --inputs 7 --first 1 --count 2",
         Refusal::Fault,
     ),
+    ("rvcons explore --inputs 7", Refusal::Fault),
+    ("rvcons explore p", Refusal::Fault),
     ("rvcons schedule --steps 3", Refusal::Fault),
     ("rvcons schedule --harts 2", Refusal::Fault),
     ("rvcons shrink --inputs 7 --choices c", Refusal::Fault),

@@ -2,8 +2,8 @@
 //! names.
 use cli_args::RunOrder;
 use cli_orders::{
-    AsmOrder, CampaignOrder, DebugOrder, FileOrder, LibOrder, Locks, Order, ReplayOrder,
-    ScheduleOrder, ShrinkOrder, ThreadsOrder, TraceOrder,
+    AsmOrder, CampaignOrder, DebugOrder, ExploreOrder, FileOrder, LibOrder, Locks, Order,
+    ReplayOrder, ScheduleOrder, ShrinkOrder, ThreadsOrder, TraceOrder,
 };
 use std::alloc::{AllocError, Global};
 
@@ -39,6 +39,7 @@ pub(crate) fn order_text(alloc: Global, order: &Order) -> Result<String, AllocEr
         Order::Replay(order) => replay_text(alloc, order),
         Order::Lib(order) => lib_text(alloc, order),
         Order::Campaign(order) => campaign_text(alloc, order),
+        Order::Explore(order) => explore_text(alloc, order),
         Order::Schedule(order) => schedule_text(alloc, order),
         Order::Shrink(order) => shrink_text(alloc, order),
         Order::Trace(order) => trace_text(alloc, order),
@@ -121,6 +122,17 @@ fn campaign_text(alloc: Global, order: &CampaignOrder) -> Result<String, AllocEr
         ("must-exit", flag(order.must_exit)),
     ];
     text_with(alloc, "campaign", fields)
+}
+
+fn explore_text(alloc: Global, order: &ExploreOrder) -> Result<String, AllocError> {
+    let fields = &[
+        ("FILE", Some(order.file)),
+        ("inputs", Some(order.inputs)),
+        ("rule", order.rule),
+        ("refusals", order.refusals),
+        ("worlds", order.worlds),
+    ];
+    text_with(alloc, "explore", fields)
 }
 
 fn schedule_text(alloc: Global, order: &ScheduleOrder) -> Result<String, AllocError> {

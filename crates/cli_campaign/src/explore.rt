@@ -1,0 +1,121 @@
+//! Runs `explore`.
+
+use byte_io::{ReaderSource, Status, WriterSink};
+use cli_args::read_inputs;
+use cli_orders::ExploreOrder;
+use cli_report::{
+    Audience, RunFiles, bad_line, cannot_open, read_again, read_rule, refuse, say_why, show,
+};
+use cli_values::{SC_REFUSALS, WORLDS, read_sc_refusals, read_worlds};
+use cmd_explore::{Explored, Question, explore_engine};
+use hint_fault::run_advice;
+use program_open::{CommandFault, ProgramForm, write_text};
+use std::alloc::Global;
+use std::rt::Files;
+use std::{fs, io};
+
+// What an order asks, or the status of an invalid line.
+fn read_question<R: Print + Eprint>(rt: &R, order: &ExploreOrder) -> Result<Question, Status> {
+    let rule = match read_rule(order.rule) {
+        Ok(rule) => rule,
+        Err(fault) => return Err(refuse(rt, &fault)),
+    };
+    let Some(refusals) = read_sc_refusals(order.refusals) else {
+        return Err(bad_line(rt, SC_REFUSALS));
+    };
+    let Some(worlds) = read_worlds(order.worlds) else {
+        return Err(bad_line(rt, WORLDS));
+    };
+    Ok(Question {
+        rule,
+        refusals,
+        most: worlds as usize,
+    })
+}
+
+/// Decides whether some schedule of a program fails, and prints a list of choices that does. A
+/// person sees more of that list.
+pub fn obey_explore<R: Files + AllocGlobal + Print + Eprint>(
+    rt: &R,
+    audience: Audience,
+    order: &ExploreOrder,
+) -> Status {
+    let inputs = match read_inputs(rt.alloc(), order.inputs) {
+        Ok(inputs) => inputs,
+        Err(fault) => return refuse(rt, &fault),
+    };
+    let question = match read_question(rt, order) {
+        Ok(question) => question,
+        Err(status) => return status,
+    };
+    let mut program = match fs::open(rt, order.file) {
+        Ok(file) => ReaderSource::new(file),
+        Err(error) => return cannot_open(rt, audience, order.file, &error),
+    };
+    match explore_engine(rt.alloc(), inputs.as_slice(), question, &mut program) {
+        Ok(found) => tell(rt, audience, order, inputs.as_slice(), &found),
+        Err(fault) => tell_fault(rt, audience, order, inputs.len(), fault),
+    }
+}
+
+// Prints the answer, and explains it to a person.
+fn tell<R: Files + AllocGlobal + Print + Eprint>(
+    rt: &R,
+    audience: Audience,
+    order: &ExploreOrder,
+    inputs: &[u32],
+    found: &Explored<Global>,
+) -> Status {
+    let mut sink = WriterSink::new(io::writer(rt));
+    if let Err(fault) = write_text(&mut sink, found.text.as_bytes()) {
+        return tell_fault(rt, audience, order, inputs.len(), fault);
+    }
+    if audience == Audience::Person {
+        let _ = explain_list(rt, order, inputs, found);
+    }
+    found.status
+}
+
+// Reports why there is no answer.
+fn tell_fault<R: Files + AllocGlobal + Eprint>(
+    rt: &R,
+    audience: Audience,
+    order: &ExploreOrder,
+    harts: usize,
+    fault: CommandFault,
+) -> Status {
+    let files = RunFiles {
+        program: order.file,
+        form: ProgramForm::Elf,
+        choices: "",
+        harts,
+    };
+    say_why(rt, audience, files, fault)
+}
+
+// Shows how long a failing list is, and explains its faults.
+fn explain_list<R: Files + AllocGlobal + Eprint>(
+    rt: &R,
+    order: &ExploreOrder,
+    inputs: &[u32],
+    found: &Explored<Global>,
+) -> Option<()> {
+    let turns = found.turns?;
+    eprintln!(rt;
+        "these choices fail, in {turns} turns, each a choice and the local steps behind it; no list of fewer choices fails.\n\
+         To look into it, write >failing.choices behind the command, and then\n    \
+         rvcons debug {} --inputs {} --choices failing.choices",
+        order.file, order.inputs
+    )
+    .ok()?;
+    let program = read_again(rt, order.file)?;
+    let text = run_advice(
+        rt.alloc(),
+        ProgramForm::Elf,
+        &program,
+        inputs,
+        found.text.as_bytes(),
+    )?;
+    show(rt, &text);
+    Some(())
+}

@@ -1,0 +1,31 @@
+//! The command `explore`.
+
+use clap::ArgMatches;
+use cli_args::text_of;
+
+/// `explore FILE --inputs L [--rule K] [--refusals never] [--worlds N]`: decides whether some
+/// schedule fails.
+#[derive(Drop)]
+pub struct ExploreOrder<'a> {
+    /// The program's path.
+    pub file: &'a str,
+    /// The harts' inputs.
+    pub inputs: &'a str,
+    /// The name of the object whose rule is judged.
+    pub rule: Option<&'a str>,
+    /// Whether store-conditionals that could succeed are refused too.
+    pub refusals: Option<&'a str>,
+    /// The most worlds that are looked at.
+    pub worlds: Option<&'a str>,
+}
+
+/// The order in clap's matches.
+pub(crate) fn explore_order<'a>(matches: &ArgMatches<'a>) -> Option<ExploreOrder<'a>> {
+    Some(ExploreOrder {
+        file: text_of(matches, "FILE")?,
+        inputs: text_of(matches, "inputs")?,
+        rule: text_of(matches, "rule"),
+        refusals: text_of(matches, "refusals"),
+        worlds: text_of(matches, "worlds"),
+    })
+}

@@ -1,0 +1,81 @@
+-- The choice text of a failing list.
+use Rattle.std.proofs.Common.{◌≡◌, ℕ, zero, suc, ◌<◌, ◌^◌, ◌⊎◌, List, [], ◌∷◌, ◌++◌, length, string_bytes, Some, None, Ok, ap, sym, ◌∙◌, arith, inl, inr}
+use Rattle.std.specs.List.{All, Contains, slice_index_or}
+use Rattle.image.specs.Image.{ImageValue}
+use Rattle.machine.specs.declared.choice.Choice.{Choice}
+use Rattle.sched_text.specs.Printing.{runs_text}
+use Rattle.sched_text.specs.Reading.{choices_read}
+use Rattle.sched_text.proofs.Agreement.{choices_of-spelled}
+use Rattle.sched_text.proofs.PrintLemmas.{runs_spell}
+use Rattle.byte_io.specs.declared.status.Status.TheVariants as status
+use Rattle.explore_space.specs.Every.{hart_choices, meant_choices, HoldsOfEvery, IsListOf}
+use Rattle.explore_space.specs.declared.exploring.Answer.{Answer}
+use Rattle.explore_space.specs.declared.exploring.Answer.TheVariants.{Holds, Fails}
+use Rattle.explore_space.specs.declared.exploring.Failing.{Failing}
+use Rattle.explore_space.specs.declared.meant.ScRefusals.{ScRefusals}
+use Rattle.explore_space.specs.declared.meant.ScRefusals.TheVariants.{Also, Never}
+use Rattle.cmd_explore.specs.declared.question.Question.{Question}
+use Rattle.cmd_explore.specs.declared.question.Explored.{Explored}
+use Rattle.cmd_explore.specs.Explore.{worlds_line, failing_status, IsExplored}
+
+-- ---- the harts of meant choices
+shifted : (c x : Choice) (xs ys : List Choice) → Contains xs x ⊎ Contains ys x → Contains (c ∷ xs) x ⊎ Contains ys x
+shifted c x xs ys (inl (k, lt, e)) = inl (suc k, omega (arith, lt), e)
+shifted c x xs ys (inr there) = inr there
+
+in_either : (x : Choice) (xs ys : List Choice) → Contains (xs ++ ys) x → Contains xs x ⊎ Contains ys x
+in_either x [] ys there = inr there
+in_either x (c ∷ xs) ys (zero, lt, e) = inl (zero, omega arith, e)
+in_either x (c ∷ xs) ys (suc k, lt, e) = shifted c x xs ys (in_either x xs ys (k, omega (arith, lt), e))
+
+of_the_hart : (refusals : ScRefusals) (n : ℕ) (c : Choice) → Contains (hart_choices refusals n) c → c.hart ≡ n
+of_the_hart Also n c (zero, lt, e) = sym (ap (λ (d : Choice). d.hart) e)
+of_the_hart Also n c (suc zero, lt, e) = sym (ap (λ (d : Choice). d.hart) e)
+of_the_hart Also n c (suc (suc k), lt, e) = absurd (omega (arith, lt))
+of_the_hart Never n c (zero, lt, e) = sym (ap (λ (d : Choice). d.hart) e)
+of_the_hart Never n c (suc k, lt, e) = absurd (omega (arith, lt))
+
+hart_below : (refusals : ScRefusals) (n : ℕ) (c : Choice) → Contains (meant_choices refusals n) c → c.hart < n
+unfolding meant_choices
+hart_below refusals zero c (k, lt, e) = absurd (omega (arith, lt))
+hart_below refusals (suc n) c there = by_either (in_either c (meant_choices refusals n) (hart_choices refusals n) there)
+  where
+    by_either : Contains (meant_choices refusals n) c ⊎ Contains (hart_choices refusals n) c → c.hart < suc n
+    by_either (inl earlier) = let below = hart_below refusals n c earlier in omega (arith, below)
+    by_either (inr last) = let is = of_the_hart refusals n c last in omega (arith, is)
+
+harts_below : (refusals : ScRefusals) (n : ℕ) (choices : List Choice) → IsListOf (meant_choices refusals n) choices
+    → All (λ c. c.hart < n) choices
+harts_below refusals n choices are k d lt = hart_below refusals n (slice_index_or choices k d) (are k d lt)
+
+-- the text of meant choices reads as these
+read_again : (refusals : ScRefusals) (n : ℕ) (choices : List Choice) (text : List ℕ) → n < 2 ^ 32
+    → IsListOf (meant_choices refusals n) choices → text ≡ runs_text choices → choices_read n text ≡ Ok choices
+read_again refusals n choices text few are is =
+    ap (choices_read n) is ∙ choices_of-spelled n (runs_text choices) choices few (runs_spell n choices few (harts_below refusals n choices are))
+
+-- ---- what is told
+module _ {Z : Type 0} (question : Question) (image : ImageValue) (inputs : List ℕ) (found : Explored Z) where
+  pub tells_worlds : (worlds : ℕ) → HoldsOfEvery {Z} question.rule question.refusals image inputs (Holds worlds)
+      → string_bytes found.text ≡ worlds_line worlds → found.status ≡ status.Done → found.turns ≡ None
+      → IsExplored question image inputs found
+  tells_worlds worlds holds text status turns = record {
+    answer = Holds worlds;
+    holds = holds;
+    told = (text, status, turns);
+  }
+
+  pub tells_failing : length inputs < 2 ^ 32 → (failing : Failing Z)
+      → HoldsOfEvery {Z} question.rule question.refusals image inputs (Fails failing)
+      → string_bytes found.text ≡ runs_text failing.choices.items → found.status ≡ failing_status question.rule
+      → found.turns ≡ Some failing.turns → IsExplored question image inputs found
+  tells_failing few failing fails text status turns = record {
+    answer = Fails failing;
+    holds = fails;
+    told = (
+      text,
+      read_again question.refusals (length inputs) failing.choices.items (string_bytes found.text) few fails.meant_ones text,
+      status,
+      turns,
+    );
+  }

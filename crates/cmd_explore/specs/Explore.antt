@@ -1,0 +1,60 @@
+-- What `explore` answers.
+use Rattle.std.specs.Prelude.{◌≡◌, ℕ, ◌++◌, List, codes, length, string_bytes, Option, Some, None}
+use Rattle.std.specs.Fmt.{decimal}
+use Rattle.std.specs.declared.result.Result.{Result}
+use Rattle.std.specs.declared.result.Result.TheVariants.{Ok, Err}
+use Rattle.image.specs.Image.{ImageValue}
+use Rattle.object_library.specs.declared.kind.Kind.{Kind}
+use Rattle.sched_text.specs.Printing.{runs_text}
+use Rattle.sched_text.specs.Reading.{choices_read}
+use Rattle.byte_io.specs.declared.status.Status.{Status}
+use Rattle.byte_io.specs.declared.status.Status.TheVariants as status
+use Rattle.program_open.specs.Opening.{after_program}
+use Rattle.program_open.specs.Program.{program_of}
+use Rattle.program_open.specs.declared.program.ProgramForm.TheVariants as form
+use Rattle.program_open.specs.declared.command_fault.CommandFault.{CommandFault}
+use Rattle.program_open.specs.declared.command_fault.CommandFault.TheVariants as fault
+use Rattle.explore_space.specs.Every.{HoldsOfEvery}
+use Rattle.explore_space.specs.declared.exploring.Answer.{Answer}
+use Rattle.explore_space.specs.declared.exploring.Answer.TheVariants.{Holds, Fails, Undecided}
+use Rattle.cmd_explore.specs.declared.question.Question.{Question}
+use Rattle.cmd_explore.specs.declared.question.Explored.{Explored}
+
+-- the line of a program that fails in no schedule
+abbrev pub worlds_line : ℕ → List ℕ
+worlds_line worlds = codes "every schedule: " ++ (decimal worlds ++ codes " worlds\n")
+
+-- the status of a failing run: under a rule it is broken, without one a hart has faulted
+abbrev pub failing_status : Option Kind → Status
+failing_status None = status.Faulted
+failing_status (Some kind) = status.Broken
+
+-- an answer about every schedule of harts is told by a text, a status and a number of turns: by the
+-- line, or by a choice text that reads as the failing list
+abbrev pub Tells : {Z : Type 0} → Option Kind → ℕ → Answer Z → Explored Z → Type 0
+Tells rule harts (Holds worlds) found =
+    (string_bytes found.text ≡ worlds_line worlds) × (found.status ≡ status.Done) × (found.turns ≡ None)
+Tells rule harts (Fails failing) found =
+    (string_bytes found.text ≡ runs_text failing.choices.items) × (choices_read harts (string_bytes found.text) ≡ Ok failing.choices.items)
+    × (found.status ≡ failing_status rule) × (found.turns ≡ Some failing.turns)
+Tells rule harts Undecided found = ⊥
+
+-- what is found tells an answer that holds of every schedule of an image
+pub record IsExplored {Z : Type 0} (question : Question) (image : ImageValue) (inputs : List ℕ) (found : Explored Z) : Type 0 where
+  pub answer : Answer Z
+  pub holds : HoldsOfEvery question.rule question.refusals image inputs answer
+  pub told : Tells question.rule (length inputs) answer found
+
+-- the image of an ELF file for this number of inputs, or the fault
+unfoldable pub opened : ℕ → List ℕ → Result ImageValue CommandFault
+opened harts bytes = after_program harts (λ image. Ok image) (program_of form.Elf bytes)
+
+-- the same of an image that may have been opened
+abbrev pub ExploresOpened : {Z : Type 0} → Question → List ℕ → Result ImageValue CommandFault → Explored Z → Type 0
+ExploresOpened question inputs (Ok image) found = IsExplored question image inputs found
+ExploresOpened question inputs (Err why) found = ⊥
+
+-- why nothing is told: the file or the number of inputs is invalid, or there are too many worlds
+abbrev pub RefusesOpened : ℕ → Result ImageValue CommandFault → CommandFault → Type 0
+RefusesOpened most (Ok image) why = why ≡ fault.Undecided most
+RefusesOpened most (Err why) other = other ≡ why

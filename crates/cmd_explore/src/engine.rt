@@ -1,0 +1,83 @@
+//! `explore`: from a program and inputs to whether some schedule of it fails.
+
+ghost use Rattle.std.specs.Prelude.{◌≡◌, ◌-◌, ◌^◌, ◌<◌, None, Ok, IfErr, IfOk, IfSome, length};
+ghost use Rattle.machine.specs.Start.{IsStartable};
+ghost use Rattle.program_open.specs.CommandFaults.{IfNames, IsRefusal};
+ghost use Rattle.cmd_explore.specs.Explore.{failing_status, opened, ExploresOpened, IsExplored, RefusesOpened};
+
+use crate::holding::worlds_line;
+use crate::question::{Explored, Question};
+use byte_io::{Source, Status};
+use explore_space::{Answer, explore};
+use image::Image;
+use machine::Inputs;
+use object_library::Kind;
+use program_open::{CommandFault, ProgramForm, read_image};
+use sched_text::print_runs;
+use std::alloc::{AllocError, Allocator};
+
+// The status of a failing run.
+fn failing_status(rule: Option<Kind>) -> Status
+    ensures { result ≡ failing_status rule }
+{
+    match rule {
+        None => Status::Faulted,
+        Some(_) => Status::Broken,
+    }
+}
+
+// The answer for an image; `None` if there are too many worlds.
+fn explored<A: Allocator + Copy>(
+    alloc: A,
+    image: &Image<A>,
+    inputs: &Inputs,
+    question: Question,
+) -> Result<Option<Explored<A>>, AllocError>
+    requires { IsStartable inputs.now }
+    ensures { IfOk result (λ answer. IfSome answer (λ found. IsExplored question image.now inputs.now found)) }
+{
+    let (rule, refusals) = (question.rule, question.refusals);
+    match explore(alloc, image, inputs, rule, refusals, question.most)? {
+        Answer::Holds(worlds) => Ok(Some(Explored {
+            text: worlds_line(alloc, worlds)?,
+            status: Status::Done,
+            turns: None,
+        })),
+        Answer::Fails(failing) => Ok(Some(Explored {
+            text: print_runs(alloc, &failing.choices)?,
+            status: failing_status(rule),
+            turns: Some(failing.turns),
+        })),
+        Answer::Undecided => Ok(None),
+    }
+}
+
+/// `explore`: reads the program to its end, checks the number of inputs, and goes through every
+/// world that any list of the harts' choices leads to. The answer holds of every schedule, of any
+/// length. If there are more worlds than may be looked at, that is the fault.
+#[tactic(auto, unfolding(crate::specs::Explore::opened))]
+pub fn explore_engine<A: Allocator + Copy, P: Source>(
+    alloc: A,
+    inputs: &[u32],
+    question: Question,
+    program: &mut P,
+) -> Result<Explored<A>, CommandFault>
+    requires { P.failures program.old < 2 ^ 64 - 1 }
+    ensures done { IfOk result (λ found. IfSome (P.left program.old) (λ p.
+        ExploresOpened question inputs.now (opened (length inputs.now) p) found)) }
+    // An input is invalid, or there are too many worlds.
+    ensures refused { IfErr result (λ fault. IsRefusal fault
+        → IfSome (P.left program.old) (λ p.
+        RefusesOpened question.most (opened (length inputs.now) p) fault)) }
+    // The program's device is named only if it failed, and no other is.
+    ensures read { IfErr result (λ fault. IfNames fault
+        (P.failures program.old < P.failures program.new) ⊥ ⊥ ⊥) }
+{
+    let image = read_image(alloc, ProgramForm::Elf, program)?;
+    let inputs = Inputs::new(inputs)?;
+    match explored(alloc, &image, &inputs, question) {
+        Ok(Some(found)) => Ok(found),
+        Ok(None) => Err(CommandFault::Undecided(question.most)),
+        Err(AllocError) => Err(CommandFault::Memory),
+    }
+}
