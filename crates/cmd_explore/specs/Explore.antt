@@ -9,9 +9,6 @@ use Rattle.sched_text.specs.Printing.{runs_text}
 use Rattle.sched_text.specs.Reading.{choices_read}
 use Rattle.byte_io.specs.declared.status.Status.{Status}
 use Rattle.byte_io.specs.declared.status.Status.TheVariants as status
-use Rattle.program_open.specs.Opening.{after_program}
-use Rattle.program_open.specs.Program.{program_of}
-use Rattle.program_open.specs.declared.program.ProgramForm.TheVariants as form
 use Rattle.program_open.specs.declared.command_fault.CommandFault.{CommandFault}
 use Rattle.program_open.specs.declared.command_fault.CommandFault.TheVariants as fault
 use Rattle.explore_space.specs.Every.{HoldsOfEvery}
@@ -31,23 +28,19 @@ failing_status (Some kind) = status.Broken
 
 -- an answer about every schedule of harts is told by a text, a status and a number of turns: by the
 -- line, or by a choice text that reads as the failing list
-abbrev pub Tells : {Z : Type 0} → Option Kind → ℕ → Answer Z → Explored Z → Type 0
-Tells rule harts (Holds worlds) found =
+abbrev pub TellsEvery : {Z : Type 0} → Option Kind → ℕ → Answer Z → Explored Z → Type 0
+TellsEvery rule harts (Holds worlds) found =
     (string_bytes found.text ≡ worlds_line worlds) × (found.status ≡ status.Done) × (found.turns ≡ None)
-Tells rule harts (Fails failing) found =
+TellsEvery rule harts (Fails failing) found =
     (string_bytes found.text ≡ runs_text failing.choices.items) × (choices_read harts (string_bytes found.text) ≡ Ok failing.choices.items)
     × (found.status ≡ failing_status rule) × (found.turns ≡ Some failing.turns)
-Tells rule harts Undecided found = ⊥
+TellsEvery rule harts Undecided found = ⊥
 
 -- what is found tells an answer that holds of every schedule of an image
 pub record IsExplored {Z : Type 0} (question : Question) (image : ImageValue) (inputs : List ℕ) (found : Explored Z) : Type 0 where
   pub answer : Answer Z
   pub holds : HoldsOfEvery question.rule question.refusals image inputs answer
-  pub told : Tells question.rule (length inputs) answer found
-
--- the image of an ELF file for this number of inputs, or the fault
-unfoldable pub opened : ℕ → List ℕ → Result ImageValue CommandFault
-opened harts bytes = after_program harts (λ image. Ok image) (program_of form.Elf bytes)
+  pub told : TellsEvery question.rule (length inputs) answer found
 
 -- the same of an image that may have been opened
 abbrev pub ExploresOpened : {Z : Type 0} → Question → List ℕ → Result ImageValue CommandFault → Explored Z → Type 0

@@ -3,7 +3,8 @@
 ghost use Rattle.std.specs.Prelude.{◌≡◌, ◌-◌, ◌^◌, ◌<◌, None, Ok, IfErr, IfOk, IfSome, length};
 ghost use Rattle.machine.specs.Start.{IsStartable};
 ghost use Rattle.program_open.specs.CommandFaults.{IfNames, IsRefusal};
-ghost use Rattle.cmd_explore.specs.Explore.{failing_status, opened, ExploresOpened, IsExplored, RefusesOpened};
+ghost use Rattle.program_open.specs.Opening.{program_opening};
+ghost use Rattle.cmd_explore.specs.Explore.{failing_status, ExploresOpened, IsExplored, RefusesOpened};
 
 use crate::holding::worlds_line;
 use crate::question::{Explored, Question};
@@ -55,7 +56,7 @@ fn explored<A: Allocator + Copy>(
 /// `explore`: reads the program to its end, checks the number of inputs, and goes through every
 /// world that any list of the harts' choices leads to. The answer holds of every schedule, of any
 /// length. If there are more worlds than may be looked at, that is the fault.
-#[tactic(auto, unfolding(crate::specs::Explore::opened))]
+#[tactic(auto, unfolding(program_open::specs::Opening::program_opening))]
 pub fn explore_engine<A: Allocator + Copy, P: Source>(
     alloc: A,
     inputs: &[u32],
@@ -64,11 +65,11 @@ pub fn explore_engine<A: Allocator + Copy, P: Source>(
 ) -> Result<Explored<A>, CommandFault>
     requires { P.failures program.old < 2 ^ 64 - 1 }
     ensures done { IfOk result (λ found. IfSome (P.left program.old) (λ p.
-        ExploresOpened question inputs.now (opened (length inputs.now) p) found)) }
+        ExploresOpened question inputs.now (program_opening ProgramForm.Elf (length inputs.now) p) found)) }
     // An input is invalid, or there are too many worlds.
     ensures refused { IfErr result (λ fault. IsRefusal fault
         → IfSome (P.left program.old) (λ p.
-        RefusesOpened question.most (opened (length inputs.now) p) fault)) }
+        RefusesOpened question.most (program_opening ProgramForm.Elf (length inputs.now) p) fault)) }
     // The program's device is named only if it failed, and no other is.
     ensures read { IfErr result (λ fault. IfNames fault
         (P.failures program.old < P.failures program.new) ⊥ ⊥ ⊥) }

@@ -1,5 +1,5 @@
 -- What a fault says of the devices.
-use Rattle.program_open.specs.CommandFaults.{IfNames}
+use Rattle.program_open.specs.CommandFaults.{IfNames, IsOfProgram, IsRefusal}
 use Rattle.program_open.specs.declared.command_fault.Input.TheVariants as input
 use Rattle.program_open.specs.declared.command_fault.CommandFault.{CommandFault}
 use Rattle.program_open.specs.declared.command_fault.CommandFault.TheVariants as fault
@@ -12,3 +12,12 @@ names_so (fault.Read input.Choices) file choices history sink known = choices kn
 names_so (fault.Read input.History) file choices history sink known = history known
 names_so fault.Write file choices history sink known = sink known
 names_so why file choices history sink known = known
+
+-- a fault of the program is one of what was read
+pub of_program : (why : CommandFault) → IsOfProgram why → IsRefusal why
+of_program (fault.BadWord item) is = tt
+of_program (fault.TooMany item) is = tt
+of_program (fault.Elf why) is = tt
+of_program fault.NoHarts is = tt
+of_program fault.TooManyHarts is = tt
+of_program why is = absurd is

@@ -48,6 +48,15 @@ IsRefusal fault.Write = ⊥
 IsRefusal fault.Memory = ⊥
 IsRefusal why = Unit {0}
 
+-- a fault of the program's bytes, or of the number of inputs
+abbrev pub IsOfProgram : CommandFault → Type 0
+IsOfProgram (fault.BadWord item) = Unit {0}
+IsOfProgram (fault.TooMany item) = Unit {0}
+IsOfProgram (fault.Elf why) = Unit {0}
+IsOfProgram fault.NoHarts = Unit {0}
+IsOfProgram fault.TooManyHarts = Unit {0}
+IsOfProgram why = ⊥
+
 -- given a fact for each device (file, choices, history, sink), the fact for the one that a fault
 -- names; a fault of threads, their stamps or logs is impossible
 abbrev pub IfNames : CommandFault → Type 0 → Type 0 → Type 0 → Type 0 → Type 0

@@ -30,6 +30,10 @@ after_program harts next (Ok image) =
     else (if nat_lt most_harts harts then Err fault.TooManyHarts else next image)
 after_program harts next (Err why) = Err why
 
+-- the image of a program for this number of inputs, or the fault
+unfoldable pub program_opening : ProgramForm → ℕ → List ℕ → Result ImageValue CommandFault
+program_opening form harts program = after_program harts (λ image. Ok image) (program_of form program)
+
 -- a run of a program and a choice text with this number of inputs, opened
 unfoldable pub opening : ProgramForm → ℕ → List ℕ → List ℕ → Opened
 opening form harts program text = after_program harts

@@ -6,9 +6,9 @@ ghost use Rattle.std.specs.List.{All};
 ghost use Rattle.image.specs.Image.{ImageValue};
 ghost use Rattle.machine.specs.Start.{IsStartable};
 ghost use Rattle.sched_text.specs.Reading.{choices_read};
-ghost use Rattle.program_open.specs.Opening.{opening, with_choices};
+ghost use Rattle.program_open.specs.Opening.{opening, program_opening, with_choices};
 ghost use Rattle.program_open.specs.Program.{program_of};
-ghost use Rattle.program_open.specs.CommandFaults.{IfNames, IsRefusal};
+ghost use Rattle.program_open.specs.CommandFaults.{IfNames, IsOfProgram, IsRefusal};
 
 use crate::command_fault::{CommandFault, Input};
 use crate::program::{ProgramForm, read_image};
@@ -17,6 +17,43 @@ use image::Image;
 use machine::{Choice, Inputs};
 use sched_text::read_choices;
 use std::alloc::Allocator;
+
+/// An opened program.
+#[derive(Drop)]
+pub struct OpenProgram<A: Allocator> {
+    /// The program's image.
+    pub image: Image<A>,
+    /// The harts' inputs.
+    pub inputs: Inputs,
+}
+
+/// Reads a program in this form to its end, and checks the number of inputs. The first fault is
+/// returned.
+#[tactic(auto, unfolding(crate::specs::Opening::program_opening), using(crate::proofs::FaultLemmas::of_program))]
+pub fn open_program<A: Allocator + Copy, P: Source>(
+    alloc: A,
+    form: ProgramForm,
+    inputs: &[u32],
+    program: &mut P,
+) -> Result<OpenProgram<A>, CommandFault>
+    requires { P.failures program.old < 2 ^ 64 - 1 }
+    ensures inputs { IfOk result (λ run. (run.inputs ≡ inputs.now) × IsStartable inputs.now) }
+    ensures image { IfOk result (λ run.
+        IfSome (P.left program.old) (λ p. program_of form p ≡ Ok run.image)) }
+    ensures opened { IfOk result (λ run.
+        IfSome (P.left program.old) (λ p. program_opening form (length inputs.now) p ≡ Ok run.image)) }
+    ensures refused { IfErr result (λ fault. IsRefusal fault
+        → IfSome (P.left program.old) (λ p. program_opening form (length inputs.now) p ≡ Err fault)) }
+    ensures of_program { IfErr result (λ fault. IsOfProgram fault
+        → IfSome (P.left program.old) (λ p. program_opening form (length inputs.now) p ≡ Err fault)) }
+    // The device is named only if it failed, and no other is.
+    ensures read { IfErr result (λ fault. IfNames fault
+        (P.failures program.old < P.failures program.new) ⊥ ⊥ ⊥) }
+{
+    let image = read_image(alloc, form, program)?;
+    let inputs = Inputs::new(inputs)?;
+    Ok(OpenProgram { image, inputs })
+}
 
 /// An opened run before its choices are read.
 #[derive(Drop)]
@@ -51,6 +88,9 @@ pub fn open_text<A: Allocator + Copy, P: Source, C: Source>(
     ensures refused { IfErr result (λ fault. IsRefusal fault
         → IfSome (P.left program.old) (λ p. IfSome (C.left choices.old) (λ c.
         opening form (length inputs.now) p c ≡ Err fault))) }
+    // A fault of the program or of the number of inputs is that whatever the choices are.
+    ensures of_program { IfErr result (λ fault. IsOfProgram fault
+        → IfSome (P.left program.old) (λ p. program_opening form (length inputs.now) p ≡ Err fault)) }
     // A device is named only if it failed.
     ensures read { IfErr result (λ fault. IfNames fault
         (P.failures program.old < P.failures program.new)
@@ -106,6 +146,9 @@ pub fn open_run<A: Allocator + Copy, P: Source, C: Source>(
     ensures refused { IfErr result (λ fault. IsRefusal fault
         → IfSome (P.left program.old) (λ p. IfSome (C.left choices.old) (λ c.
         opening form (length inputs.now) p c ≡ Err fault))) }
+    // A fault of the program or of the number of inputs is that whatever the choices are.
+    ensures of_program { IfErr result (λ fault. IsOfProgram fault
+        → IfSome (P.left program.old) (λ p. program_opening form (length inputs.now) p ≡ Err fault)) }
     // A device is named only if it failed.
     ensures read { IfErr result (λ fault. IfNames fault
         (P.failures program.old < P.failures program.new)
