@@ -13,7 +13,7 @@ use explore_space::{Answer, explore};
 use image::Image;
 use machine::Inputs;
 use object_library::Kind;
-use program_open::{CommandFault, ProgramForm, read_image};
+use program_open::{CommandFault, ProgramForm, open_program};
 use sched_text::print_runs;
 use std::alloc::{AllocError, Allocator};
 
@@ -56,7 +56,6 @@ fn explored<A: Allocator + Copy>(
 /// `explore`: reads the program to its end, checks the number of inputs, and goes through every
 /// world that any list of the harts' choices leads to. The answer holds of every schedule, of any
 /// length. If there are more worlds than may be looked at, that is the fault.
-#[tactic(auto, unfolding(program_open::specs::Opening::program_opening))]
 pub fn explore_engine<A: Allocator + Copy, P: Source>(
     alloc: A,
     inputs: &[u32],
@@ -74,9 +73,8 @@ pub fn explore_engine<A: Allocator + Copy, P: Source>(
     ensures read { IfErr result (λ fault. IfNames fault
         (P.failures program.old < P.failures program.new) ⊥ ⊥ ⊥) }
 {
-    let image = read_image(alloc, ProgramForm::Elf, program)?;
-    let inputs = Inputs::new(inputs)?;
-    match explored(alloc, &image, &inputs, question) {
+    let run = open_program(alloc, ProgramForm::Elf, inputs, program)?;
+    match explored(alloc, &run.image, &run.inputs, question) {
         Ok(Some(found)) => Ok(found),
         Ok(None) => Err(CommandFault::Undecided(question.most)),
         Err(AllocError) => Err(CommandFault::Memory),

@@ -68,7 +68,7 @@ pub struct OpenText<A: Allocator> {
 
 /// Reads a program in this form to its end, checks the number of inputs, and reads the bytes of the
 /// choice text to their end. The first fault is returned, and what comes after it is not read.
-#[tactic(auto, unfolding(crate::specs::Opening::opening))]
+#[tactic(auto, unfolding(crate::specs::Opening::opening, crate::specs::Opening::program_opening), using(crate::proofs::FaultLemmas::of_program))]
 pub fn open_text<A: Allocator + Copy, P: Source, C: Source>(
     alloc: A,
     form: ProgramForm,
