@@ -7,14 +7,12 @@ use byte_io::{MemorySource, Progress, ReaderSource, Source, Status, WriterSink};
 use cli_args::read_inputs;
 use cli_orders::CampaignOrder;
 use cli_report::{
-    Audience, RunFiles, WIPE, bad_line, cannot_open, read_again, read_rule, refuse, say_why, show,
-    wipe_line,
+    Audience, RunFiles, WIPE, bad_line, cannot_open, explain_ends, read_again, read_rule, refuse,
+    say_why, wipe_line,
 };
 use cli_values::{read_draw, read_report, read_seed_numbers};
-use cmd_campaign::{Campaign, Finished, campaign_engine};
+use cmd_campaign::{Campaign, Exit, Expect, Finished, campaign_engine};
 use cmd_schedule::{SeedPlan, seed_engine};
-use hint_fault::run_advice;
-use outcome::{Exit, Expect};
 use program_open::ProgramForm;
 use sched_draw::Order;
 use std::rt::Files;
@@ -239,13 +237,5 @@ fn explain_seed<R: Files + AllocGlobal + Eprint>(
     let program = read_again(rt, order.file)?;
     let mut source = MemorySource::new(&program);
     let (choices, _) = seed_engine(rt.alloc(), inputs, plan, &mut source).ok()?;
-    let text = run_advice(
-        rt.alloc(),
-        ProgramForm::Elf,
-        &program,
-        inputs,
-        choices.as_bytes(),
-    )?;
-    show(rt, &text);
-    Some(())
+    explain_ends(rt, ProgramForm::Elf, &program, inputs, choices.as_bytes())
 }

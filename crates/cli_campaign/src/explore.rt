@@ -4,11 +4,10 @@ use byte_io::{ReaderSource, Status, WriterSink};
 use cli_args::read_inputs;
 use cli_orders::ExploreOrder;
 use cli_report::{
-    Audience, RunFiles, bad_line, cannot_open, read_again, read_rule, refuse, say_why, show,
+    Audience, RunFiles, bad_line, cannot_open, explain_ends, read_again, read_rule, refuse, say_why,
 };
-use cli_values::{SC_REFUSALS, WORLDS, read_sc_refusals, read_worlds};
-use cmd_explore::{Explored, Question, explore_engine};
-use hint_fault::run_advice;
+use cli_values::{WORLDS, read_worlds};
+use cmd_explore::{Explored, Question, explore_engine, read_refusals};
 use program_open::{CommandFault, ProgramForm, write_text};
 use std::alloc::Global;
 use std::rt::Files;
@@ -20,8 +19,8 @@ fn read_question<R: Print + Eprint>(rt: &R, order: &ExploreOrder) -> Result<Ques
         Ok(rule) => rule,
         Err(fault) => return Err(refuse(rt, &fault)),
     };
-    let Some(refusals) = read_sc_refusals(order.refusals) else {
-        return Err(bad_line(rt, SC_REFUSALS));
+    let Some(refusals) = read_refusals(order.refusals) else {
+        return Err(bad_line(rt, "--refusals of explore takes never"));
     };
     let Some(worlds) = read_worlds(order.worlds) else {
         return Err(bad_line(rt, WORLDS));
@@ -109,13 +108,11 @@ fn explain_list<R: Files + AllocGlobal + Eprint>(
     )
     .ok()?;
     let program = read_again(rt, order.file)?;
-    let text = run_advice(
-        rt.alloc(),
+    explain_ends(
+        rt,
         ProgramForm::Elf,
         &program,
         inputs,
         found.text.as_bytes(),
-    )?;
-    show(rt, &text);
-    Some(())
+    )
 }

@@ -4,7 +4,7 @@
 use crate::audience::Audience;
 use clap::error::ErrorKind;
 use cli_args::LineFault;
-use hint_fault::{file_words, item_at};
+use hint_fault::{file_words, item_at, run_advice};
 use hint_text::{Mistake, order_advice};
 use program_open::{CommandFault, ProgramForm};
 use std::rt::Files;
@@ -35,6 +35,20 @@ pub fn read_again<R: Files + AllocGlobal>(rt: &R, path: &str) -> Option<Vec<u8>>
 pub fn show(rt: &impl Eprint, text: &str) {
     // If standard error is closed, nobody sees it.
     let _ = eprint!(rt; "{text}");
+}
+
+/// Explains the faults with which a program's run under a choice text ends. `None` if there is no
+/// such run.
+pub fn explain_ends<R: AllocGlobal + Eprint>(
+    rt: &R,
+    form: ProgramForm,
+    program: &[u8],
+    inputs: &[u32],
+    choices: &[u8],
+) -> Option<()> {
+    let text = run_advice(rt.alloc(), form, program, inputs, choices)?;
+    show(rt, &text);
+    Some(())
 }
 
 /// Explains why a command gives no answer.

@@ -4,7 +4,7 @@
 
 pub use arguments::read_arguments;
 pub use audience::Audience;
-pub use explain::{RunFiles, explain_line, explain_run, read_again, show};
+pub use explain::{RunFiles, explain_ends, explain_line, explain_run, read_again, show};
 pub use files::{open_both, say_why};
 pub use objects::{read_object, read_rule};
 pub use progress_line::{WIPE, wipe_line};

@@ -2,9 +2,10 @@
 
 use byte_io::{Status, WriterSink};
 use cli_args::{RunOrder, read_inputs};
-use cli_report::{Audience, RunFiles, open_both, read_again, read_rule, refuse, say_why, show};
+use cli_report::{
+    Audience, RunFiles, explain_ends, open_both, read_again, read_rule, refuse, say_why,
+};
 use cmd_run::{Exit, Expect, run_engine};
-use hint_fault::run_advice;
 use program_open::{ProgramForm, deliver};
 use std::io;
 use std::rt::Files;
@@ -81,7 +82,5 @@ fn explain_faults<R: Files + AllocGlobal + Eprint>(
 ) -> Option<()> {
     let program = read_again(rt, order.file)?;
     let choices = read_again(rt, order.choices)?;
-    let text = run_advice(rt.alloc(), form_of(order), &program, inputs, &choices)?;
-    show(rt, &text);
-    Some(())
+    explain_ends(rt, form_of(order), &program, inputs, &choices)
 }

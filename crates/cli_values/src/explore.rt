@@ -1,13 +1,9 @@
-//! Parses what is asked of every schedule.
+//! Parses how many worlds an exploration may look at.
 
 ghost use Rattle.std.specs.Prelude.{◌≡◌};
-ghost use Rattle.cli_values.specs.Explorations.{worlds_of, MeansScRefusals};
+ghost use Rattle.cli_values.specs.Explorations.{worlds_of};
 
 use cli_args::read_number;
-use explore_space::ScRefusals;
-
-/// The form of `--refusals` of `explore`, for its fault.
-pub const SC_REFUSALS: &str = "--refusals of explore takes never";
 
 /// The form of `--worlds`, for its fault.
 pub const WORLDS: &str =
@@ -25,18 +21,4 @@ pub fn read_worlds(text: Option<&str>) -> Option<u64>
         Ok(0) | Err(_) => None,
         Ok(worlds) => Some(worlds),
     }
-}
-
-/// Whether store-conditionals that could succeed are refused too: they are by default, and not by
-/// `never`. `None` exactly for any other text.
-pub fn read_sc_refusals(text: Option<&str>) -> Option<ScRefusals>
-    ensures { MeansScRefusals text.entry result }
-{
-    let Some(text) = text else {
-        return Some(ScRefusals::Also);
-    };
-    if text.as_bytes() == "never".as_bytes() {
-        return Some(ScRefusals::Never);
-    }
-    None
 }

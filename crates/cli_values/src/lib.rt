@@ -4,7 +4,7 @@
 
 pub use campaign::{SeedNumbers, read_report, read_seed_numbers};
 pub use draw::{DRAWS, DrawFault, OrderFault, REFUSALS, read_draw, read_order, read_refusals};
-pub use explore::{SC_REFUSALS, WORLDS, read_sc_refusals, read_worlds};
+pub use explore::{WORLDS, read_worlds};
 pub use schedule::{read_schedule, read_seed_plan};
 pub use trace::read_trace_plan;
 

@@ -7,6 +7,7 @@ pub use laws::{
     all_seeds_are_counted, campaign_of_one_run_has_its_status, failures_of_an_object_are_none,
 };
 pub use lines::push_lines;
+pub use outcome::{Exit, Expect};
 pub use record::{count_ends_of, record_block};
 pub use rows::summary_text;
 

@@ -4,7 +4,8 @@ ghost use Rattle.std.specs.Prelude.{◌≡◌, ◌^◌, ◌-◌, ◌<◌, Ok, Er
 ghost use Rattle.std.specs.Io.KnownBytes.{Keeps};
 ghost use Rattle.program_open.specs.Program.{program_of};
 ghost use Rattle.machine.specs.Start.{IsStartable};
-ghost use Rattle.program_open.specs.CommandFaults.{IfNames, IsRefusal};
+ghost use Rattle.program_open.specs.CommandFaults.{IfNames, IsOfProgram, IsRefusal};
+ghost use Rattle.program_open.specs.Opening.{program_opening};
 ghost use Rattle.image.specs.Image.{ImageValue};
 ghost use Rattle.cmd_debug.specs.Opening.{opened, Answers, BeginsToAnswer, IfCut, IfUnopened};
 
@@ -43,6 +44,10 @@ pub fn debug_engine<A: Allocator + Copy, P: Source, C: Source, S: Source, K: Sin
     ensures refused { IfErr result (λ fault. IfUnopened fault (λ why. IsRefusal why
         → IfSome (P.left program.old) (λ p. IfSome (C.left choices.old) (λ c.
         opened inputs.now p c ≡ Err why)))) }
+    // A fault of the program or of the number of inputs is that whatever the choices are.
+    ensures of_program { IfErr result (λ fault. IfUnopened fault (λ why. IsOfProgram why
+        → IfSome (P.left program.old) (λ p.
+        program_opening ProgramForm.Elf (length inputs.now) p ≡ Err why))) }
     ensures unwritten { IfErr result (λ fault. IfUnopened fault (λ _.
         Keeps (K.held sink.old) (K.held sink.new))) }
     ensures unread { IfErr result (λ fault. IfUnopened fault (λ _.

@@ -3,7 +3,9 @@
 
 pub use engine::explore_engine;
 pub use question::{Explored, Question};
+pub use refusals::read_refusals;
 
 mod engine;
 mod holding;
 mod question;
+mod refusals;

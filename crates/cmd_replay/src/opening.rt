@@ -5,8 +5,9 @@ ghost use Rattle.std.specs.Prelude.{◌≡◌, ◌≢◌, ◌^◌, ◌-◌, ◌<
 ghost use Rattle.std.specs.List.{All};
 ghost use Rattle.image.specs.Image.{ImageValue};
 ghost use Rattle.machine.specs.Start.{IsStartable};
+ghost use Rattle.program_open.specs.Opening.{program_opening};
 ghost use Rattle.program_open.specs.Program.{program_of};
-ghost use Rattle.program_open.specs.CommandFaults.{IfNames, IsRefusal};
+ghost use Rattle.program_open.specs.CommandFaults.{IfNames, IsOfProgram, IsRefusal};
 ghost use Rattle.cmd_replay.specs.Replay.{fault_of_history, replay_opening};
 
 use byte_io::{ReadFault, Source, read_all};
@@ -29,7 +30,7 @@ pub struct OpenReplay<A: Allocator> {
 
 /// Reads an ELF file to its end, checks the number of inputs, and reads the history text to its
 /// end. The first fault is returned, and what comes after it is not read.
-#[tactic(auto, unfolding(crate::specs::Replay::replay_opening))]
+#[tactic(auto, unfolding(crate::specs::Replay::replay_opening, program_open::specs::Opening::program_opening), using(program_open::proofs::FaultLemmas::of_program))]
 pub fn open_replay<A: Allocator + Copy, P: Source, H: Source>(
     alloc: A,
     inputs: &[u32],
@@ -48,6 +49,9 @@ pub fn open_replay<A: Allocator + Copy, P: Source, H: Source>(
     ensures refused { IfErr result (λ fault. IsRefusal fault
         → IfSome (P.left program.old) (λ p. IfSome (H.left history.old) (λ h.
         replay_opening (length inputs.now) p h ≡ Err fault))) }
+    // A fault of the program or of the number of inputs is that whatever the history is.
+    ensures of_program { IfErr result (λ fault. IsOfProgram fault
+        → IfSome (P.left program.old) (λ p. program_opening ProgramForm.Elf (length inputs.now) p ≡ Err fault)) }
     // A device is named only if it failed.
     ensures read { IfErr result (λ fault. IfNames fault
         (P.failures program.old < P.failures program.new) ⊥

@@ -7,9 +7,10 @@ ghost use Rattle.cmd_run.specs.Run.{may_run, shown, world_after};
 ghost use Rattle.history.specs.History.{expanded};
 ghost use Rattle.image.specs.Image.{ImageValue};
 ghost use Rattle.machine.specs.Start.{IsStartable};
+ghost use Rattle.program_open.specs.Opening.{program_opening};
 ghost use Rattle.program_open.specs.Program.{program_of};
 ghost use Rattle.outcome.specs.declared.expect.Exit.TheVariants.{May};
-ghost use Rattle.program_open.specs.CommandFaults.{IfNames, IsRefusal};
+ghost use Rattle.program_open.specs.CommandFaults.{IfNames, IsOfProgram, IsRefusal};
 ghost use Rattle.cmd_replay.specs.Replay.{replay_answer};
 
 use crate::opening::open_replay;
@@ -61,6 +62,9 @@ pub fn replay_engine<A: Allocator + Copy, P: Source, H: Source>(
     ensures refused { IfErr result (λ fault. IsRefusal fault
         → IfSome (P.left program.old) (λ p. IfSome (H.left history.old) (λ h.
         replay_answer inputs.now rule p h ≡ Err fault))) }
+    // A fault of the program or of the number of inputs is that whatever the history is.
+    ensures of_program { IfErr result (λ fault. IsOfProgram fault
+        → IfSome (P.left program.old) (λ p. program_opening ProgramForm.Elf (length inputs.now) p ≡ Err fault)) }
     // A device is named only if it failed.
     ensures read { IfErr result (λ fault. IfNames fault
         (P.failures program.old < P.failures program.new) ⊥

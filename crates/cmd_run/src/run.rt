@@ -4,7 +4,7 @@ ghost use Rattle.std.specs.Prelude.{ℕ, List, ◌≡◌, ◌≢◌, ◌^◌, �
 ghost use Rattle.std.specs.List.{All};
 ghost use Rattle.cmd_run.specs.Certified.{AnswersKept, IsCertified};
 ghost use Rattle.cmd_run.specs.Enough.{EndsWell, IsChosenEnough};
-ghost use Rattle.program_open.specs.Opening.{with_choices};
+ghost use Rattle.program_open.specs.Opening.{program_opening, with_choices};
 ghost use Rattle.program_open.specs.Program.{program_of};
 ghost use Rattle.cmd_run.specs.Run.{run_after, run_answer, shown_with};
 ghost use Rattle.hart_step.specs.Hart.{hart_of};
@@ -14,7 +14,7 @@ ghost use Rattle.sched_text.specs.Reading.{choices_read};
 ghost use Rattle.sched_run.specs.Chosen.{harts_of};
 ghost use Rattle.outcome.specs.Ends.{verdict_on};
 ghost use Rattle.machine.specs.Start.{IsStartable};
-ghost use Rattle.program_open.specs.CommandFaults.{IfNames, IsRefusal};
+ghost use Rattle.program_open.specs.CommandFaults.{IfNames, IsOfProgram, IsRefusal};
 ghost use Rattle.image.specs.Image.{ImageValue};
 
 use byte_io::{Source, Status};
@@ -105,6 +105,9 @@ pub fn run_engine<A: Allocator + Copy, P: Source, C: Source>(
     ensures refused { IfErr result (λ fault. IsRefusal fault
         → IfSome (P.left program.old) (λ p. IfSome (C.left choices.old) (λ c.
         run_answer form inputs.now expect p c ≡ Err fault))) }
+    // A fault of the program or of the number of inputs is that whatever the choices are.
+    ensures of_program { IfErr result (λ fault. IsOfProgram fault
+        → IfSome (P.left program.old) (λ p. program_opening form (length inputs.now) p ≡ Err fault)) }
     // A device is named only if it failed.
     ensures read { IfErr result (λ fault. IfNames fault
         (P.failures program.old < P.failures program.new)

@@ -5,8 +5,8 @@ ghost use Rattle.std.specs.Prelude.{◌≡◌, ◌^◌, ◌-◌, ◌<◌, length
 ghost use Rattle.std.specs.Prelude.{Err, IfErr, IfOk, IfSome, Ok, Some};
 ghost use Rattle.image.specs.Image.{ImageValue};
 ghost use Rattle.machine.specs.Start.{IsStartable};
-ghost use Rattle.program_open.specs.CommandFaults.{IfNames, IsRefusal};
-ghost use Rattle.program_open.specs.Opening.{opening};
+ghost use Rattle.program_open.specs.CommandFaults.{IfNames, IsOfProgram, IsRefusal};
+ghost use Rattle.program_open.specs.Opening.{opening, program_opening};
 ghost use Rattle.program_open.specs.Program.{program_of};
 ghost use Rattle.cmd_shrink.specs.Shrink.{Shrinks, refusal};
 
@@ -40,6 +40,9 @@ pub fn shrink_engine<A: Allocator + Copy, P: Source, C: Source, L: ChoicesLeft>(
     ensures refused { IfErr result (λ fault. IsRefusal fault
         → IfSome (P.left program.old) (λ p. IfSome (C.left choices.old) (λ c.
         refusal expect inputs.now (opening ProgramForm.Elf (length inputs.now) p c) ≡ Some fault))) }
+    // A fault of the program or of the number of inputs is that whatever the choices are.
+    ensures of_program { IfErr result (λ fault. IsOfProgram fault
+        → IfSome (P.left program.old) (λ p. program_opening ProgramForm.Elf (length inputs.now) p ≡ Err fault)) }
     // A device is named only if it failed.
     ensures read { IfErr result (λ fault. IfNames fault
         (P.failures program.old < P.failures program.new)
