@@ -6,6 +6,8 @@ use Rattle.std.specs.Str.Parse.{digits_value}
 use Rattle.text_items.specs.Numbers.{IsNumber, mark_of, number_of, has_mark, unmarked}
 use Rattle.text_items.proofs.Numbers.{NumberTold, number_told, item_is}
 use Rattle.text_items.proofs.Agreement as texts
+use Rattle.text_items.proofs.Decided as texts_decided
+use Rattle.text_items.specs.Spelling.{SpellsOrSpoils}
 use Rattle.history.specs.declared.entry.Entry.{Entry}
 use Rattle.history.specs.declared.history_text.HistoryFault.{HistoryFault}
 use Rattle.history.specs.declared.history_text.HistoryFault.TheVariants.{BadEntry, NoHart}
@@ -94,3 +96,24 @@ pub entries_of-spelled : (harts : ℕ) (text : List ℕ) (entries : List Entry) 
 entries_of-spelled harts text entries few spelled =
     texts.values_of-spelled NamesEntry (λ e. e.hart < harts) (entry_of harts) named_plain named_some
     (λ at item e names below. entry_named harts at item e few names below) text entries spelled
+
+-- what an item denotes is one hart's
+there_too : (harts : ℕ) (item : List ℕ) (e other : Entry) → NamesEntry item e → NamesEntry item other → e.hart < harts → other.hart < harts
+there_too harts item e other n m below =
+    let same : e.hart ≡ other.hart
+    = sym n.hart ∙ ap (digits_value 10) (sym (hart_named item e n) ∙ hart_named item other m) ∙ m.hart in
+    subst (λ h. h < harts) same below
+
+-- what spoils a text is read as its fault
+pub entries_of-spoiled : (harts : ℕ) (text : List ℕ) (fault : HistoryFault) → harts < 2 ^ 32 → SpoilsHistory harts 0 text fault
+    → entries_of harts text ≡ Err fault
+entries_of-spoiled harts text fault few spoiled =
+    texts_decided.values_of-spoiled NamesEntry (λ e. e.hart < harts) BadEntry NoHart (entry_of harts)
+    (item_told harts few) (there_too harts) named_plain named_some
+    (λ at item e names below. entry_named harts at item e few names below) text fault spoiled
+
+pub decided : (harts : ℕ) (text : List ℕ) → harts < 2 ^ 32 → SpellsOrSpoils (SpellsHistory harts text) (SpoilsHistory harts 0 text)
+decided harts text few =
+    texts_decided.decided (SpellsHistory harts text) (SpoilsHistory harts 0 text) (entries_of harts text)
+    (λ entries. (λ e. spells_of harts text entries few e, λ spelled. entries_of-spelled harts text entries few spelled))
+    (λ fault. (λ e. spoils_of harts text fault few e, λ spoiled. entries_of-spoiled harts text fault few spoiled))

@@ -2,9 +2,11 @@
 
 ghost use Rattle.std.specs.Prelude.{◌≡◌, ℕ, ◌^◌, ◌<◌, ◌↔◌, List};
 ghost use Rattle.std.specs.List.{All};
-ghost use Rattle.std.specs.declared.result.Result.TheVariants.{Ok};
+ghost use Rattle.std.specs.declared.result.Result.TheVariants.{Ok, Err};
+ghost use Rattle.text_items.specs.Spelling.{SpellsOrSpoils};
 ghost use Rattle.history.specs.declared.entry.Entry.{Entry};
-ghost use Rattle.history.specs.Grammar.{SpellsHistory};
+ghost use Rattle.history.specs.declared.history_text.HistoryFault.{HistoryFault};
+ghost use Rattle.history.specs.Grammar.{SpellsHistory, SpoilsHistory};
 ghost use Rattle.history.specs.Printing.{history_text};
 ghost use Rattle.history.specs.Reading.{entries_of};
 
@@ -12,6 +14,18 @@ ghost use Rattle.history.specs.Reading.{entries_of};
 pub fn history_is_read_as_spelled()
     ensures { (harts : ℕ) (text : List ℕ) (entries : List Entry) → harts < 2 ^ 32
         → (entries_of harts text ≡ Ok entries) ↔ SpellsHistory harts text entries }
+{}
+
+/// Reading refuses a text with the fault of the item that spoils it, and no other text.
+pub fn history_is_refused_as_spoiled()
+    ensures { (harts : ℕ) (text : List ℕ) (fault : HistoryFault) → harts < 2 ^ 32
+        → (entries_of harts text ≡ Err fault) ↔ SpoilsHistory harts 0 text fault }
+{}
+
+/// Each text spells one history, or one fault spoils it, and never both.
+pub fn history_texts_are_decided()
+    ensures { (harts : ℕ) (text : List ℕ) → harts < 2 ^ 32
+        → SpellsOrSpoils (SpellsHistory harts text) (SpoilsHistory harts 0 text) }
 {}
 
 /// No text spells two histories.

@@ -5,7 +5,10 @@ pub use chosen::chosen_harts;
 pub use entry::Entry;
 pub use example::history_in_an_example;
 pub use history_text::{HistoryFault, read_history};
-pub use laws::{history_is_read_as_spelled, one_history, printed_history_is_read};
+pub use laws::{
+    history_is_read_as_spelled, history_is_refused_as_spoiled, history_texts_are_decided,
+    one_history, printed_history_is_read,
+};
 pub use plain::history_of;
 pub use plain_text::choices_text;
 pub use printing::print_history;

@@ -11,6 +11,8 @@ use Rattle.text_items.specs.Reading.{values_named, values_of, value_then}
 use Rattle.text_items.proofs.Numbers.{NumberTold, number_told, item_is}
 use Rattle.text_items.proofs.ByteLemmas.{from_byte_is, parts_make}
 use Rattle.text_items.proofs.Agreement as texts
+use Rattle.text_items.proofs.Decided as texts_decided
+use Rattle.text_items.specs.Spelling.{SpellsOrSpoils}
 use Rattle.sched_text.specs.declared.run.Run.{Run}
 use Rattle.sched_text.specs.declared.choice_text.ChoiceFault.{ChoiceFault}
 use Rattle.sched_text.specs.declared.choice_text.ChoiceFault.TheVariants.{BadChoice, NoHart}
@@ -96,6 +98,38 @@ choices_of-spelled harts text choices few spelled =
     ap (expanded_after []) (texts.values_of-spelled NamesRun (λ r. r.choice.hart < harts) (run_of harts) named_plain named_some
     (λ at item r names below. run_named item r names harts at few below) text spelled.runs spelled.spelled)
     ∙ ap Ok (sym spelled.in_order)
+
+-- what an item denotes is one hart's
+there_too : (harts : ℕ) (item : List ℕ) (r other : Run) → NamesRun item r → NamesRun item other → r.choice.hart < harts → other.choice.hart < harts
+there_too harts item r other n m below =
+    let same : r.choice.hart ≡ other.choice.hart
+    = sym n.value ∙ ap (digits_value 10) (sym (digits_named item r n) ∙ digits_named item other m) ∙ m.value in
+    subst (λ h. h < harts) same below
+
+-- an item that denotes no run, and one whose hart doesn't exist
+pub no_run_read : (harts at : ℕ) (item : List ℕ) → harts < 2 ^ 32 → ((r : Run) → NamesRun item r → ⊥) → run_of harts at item ≡ Err (BadChoice at)
+no_run_read harts at item few none =
+    texts_decided.no_item_read NamesRun (λ r. r.choice.hart < harts) BadChoice NoHart (run_of harts) (item_told harts few) (there_too harts) at item none
+
+pub no_hart_read : (harts at : ℕ) (item : List ℕ) (r : Run) → harts < 2 ^ 32 → NamesRun item r → (r.choice.hart < harts → ⊥)
+    → run_of harts at item ≡ Err (NoHart at)
+no_hart_read harts at item r few names absent =
+    texts_decided.not_there_read NamesRun (λ r. r.choice.hart < harts) BadChoice NoHart (run_of harts) (item_told harts few) (there_too harts)
+    at item r names absent
+
+-- what spoils a text is read as its fault
+pub choices_of-spoiled : (harts : ℕ) (text : List ℕ) (fault : ChoiceFault) → harts < 2 ^ 32 → SpoilsChoices harts 0 text fault
+    → choices_read harts text ≡ Err fault
+choices_of-spoiled harts text fault few spoiled =
+    ap (expanded_after []) (texts_decided.values_of-spoiled NamesRun (λ r. r.choice.hart < harts) BadChoice NoHart (run_of harts)
+    (item_told harts few) (there_too harts) named_plain named_some
+    (λ at item r names below. run_named item r names harts at few below) text fault spoiled)
+
+pub decided : (harts : ℕ) (text : List ℕ) → harts < 2 ^ 32 → SpellsOrSpoils (SpellsChoices harts text) (SpoilsChoices harts 0 text)
+decided harts text few =
+    texts_decided.decided (SpellsChoices harts text) (SpoilsChoices harts 0 text) (choices_read harts text)
+    (λ choices. (λ e. spells_of harts text choices few e, λ spelled. choices_of-spelled harts text choices few spelled))
+    (λ fault. (λ e. spoils_of harts text fault few e, λ spoiled. choices_of-spoiled harts text fault few spoiled))
 
 -- ---- reading, item by item
 expanded_after-then : (choices : List Choice) (r : Run) (more : Result (List Run) ChoiceFault)

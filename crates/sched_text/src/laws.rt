@@ -2,9 +2,11 @@
 
 ghost use Rattle.std.specs.Prelude.{◌≡◌, ℕ, ◌^◌, ◌<◌, ◌↔◌, List};
 ghost use Rattle.std.specs.List.{All};
-ghost use Rattle.std.specs.declared.result.Result.TheVariants.{Ok};
+ghost use Rattle.std.specs.declared.result.Result.TheVariants.{Ok, Err};
 ghost use Rattle.machine.specs.declared.choice.Choice.{Choice};
-ghost use Rattle.sched_text.specs.Grammar.{SpellsChoices};
+ghost use Rattle.text_items.specs.Spelling.{SpellsOrSpoils};
+ghost use Rattle.sched_text.specs.declared.choice_text.ChoiceFault.{ChoiceFault};
+ghost use Rattle.sched_text.specs.Grammar.{SpellsChoices, SpoilsChoices};
 ghost use Rattle.sched_text.specs.Printing.{choices_text, runs_text};
 ghost use Rattle.sched_text.specs.Reading.{choices_read};
 
@@ -12,6 +14,18 @@ ghost use Rattle.sched_text.specs.Reading.{choices_read};
 pub fn read_as_spelled()
     ensures { (harts : ℕ) (text : List ℕ) (choices : List Choice) → harts < 2 ^ 32
         → (choices_read harts text ≡ Ok choices) ↔ SpellsChoices harts text choices }
+{}
+
+/// Reading refuses a text with the fault of the item that spoils it, and no other text.
+pub fn refused_as_spoiled()
+    ensures { (harts : ℕ) (text : List ℕ) (fault : ChoiceFault) → harts < 2 ^ 32
+        → (choices_read harts text ≡ Err fault) ↔ SpoilsChoices harts 0 text fault }
+{}
+
+/// Each text spells one list, or one fault spoils it, and never both.
+pub fn choice_texts_are_decided()
+    ensures { (harts : ℕ) (text : List ℕ) → harts < 2 ^ 32
+        → SpellsOrSpoils (SpellsChoices harts text) (SpoilsChoices harts 0 text) }
 {}
 
 /// No text spells two lists.

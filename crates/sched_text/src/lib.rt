@@ -2,7 +2,10 @@
 #![tactic(auto)]
 
 pub use choice_text::{ChoiceFault, read_choices, read_run};
-pub use laws::{one_list, printed_is_read, printed_runs_are_read, read_as_spelled};
+pub use laws::{
+    choice_texts_are_decided, one_list, printed_is_read, printed_runs_are_read, read_as_spelled,
+    refused_as_spoiled,
+};
 pub use printing::{print_choices, print_runs};
 pub use run::{MOST_EQUAL, Run};
 

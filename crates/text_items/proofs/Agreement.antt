@@ -1,13 +1,12 @@
 -- Reading gives exactly what the grammar says, if it does so for each item.
 use Rattle.std.proofs.Common.{◌≡◌, ℕ, ◌+◌, ◌<◌, ◌⊎◌, inl, inr, Bool, true, false, List, [], ◌∷◌, ◌++◌, length, Ok, Err, refl, arith, ap, sym, ◌∙◌, cond, append-nil, append_assoc, subst}
-use Rattle.std.proofs.lemmas.List.Splits.{slice_split_at, slice_split_none, slice_split-cons_yes}
 use Rattle.std.proofs.lemmas.List.Elements.{All-nil, All-cons, All-append}
 use Rattle.std.specs.List.{All, slice_split, onto_first}
 use Rattle.std.specs.declared.result.Result.{Result}
 use Rattle.text_items.specs.Items.{is_blank, items_of_parts, items_from, text_between, IsFirstItem}
 use Rattle.text_items.specs.Spelling.{is_end, Spells, Spoils}
 use Rattle.text_items.specs.Reading.{value_then, followed_by, values_named, values_of}
-use Rattle.text_items.proofs.ItemLemmas.{part_is_item}
+use Rattle.text_items.proofs.ItemLemmas.{items_of_blank, items_of_item}
 
 abbrev plain : ℕ → Type 0
 plain b = is_blank b ≡ false
@@ -130,38 +129,16 @@ module _ {A F : Type 0} (Names : List ℕ → A → Type 0) (There : A → Type 
     (no_blank : (item : List ℕ) (value : A) → Names item value → All (λ b. is_blank b ≡ false) item)
     (some_byte : (item : List ℕ) (value : A) → Names item value → 0 < length item)
     (named : (at : ℕ) (item : List ℕ) (value : A) → Names item value → There value → read at item ≡ Ok value) where
-  -- an item in front of a text that is read
-  item_read : (at : ℕ) (text rest : List ℕ) (value : A) (values : List A)
-      → Names text value → There value → is_end rest ≡ true
-      → values_named read (items_of_parts (at + length text) (slice_split is_blank rest)) ≡ Ok values
-      → values_named read (items_of_parts at (slice_split is_blank (text ++ rest))) ≡ Ok (value ∷ values)
-  item_read at text [] value values names there end more =
-      let parts : slice_split is_blank (text ++ []) ≡ text ∷ []
-      = ap (slice_split is_blank) (append-nil text) ∙ slice_split_none is_blank text (no_blank text value names) in
-      ap (λ parts. values_named read (items_of_parts at parts)) parts
-      ∙ ap (values_named read) (part_is_item at text [] (some_byte text value names))
-      ∙ ap (λ v. value_then v (Ok [])) (named at text value names there)
-      ∙ ap (followed_by (value ∷ [])) more
-  item_read at text (y ∷ ys) value values names there end more =
-      let rest = slice_split is_blank ys in
-      let far : at + length text + 1 ≡ at + (length text + 1) = omega arith in
-      let later : values_named read (items_of_parts (at + (length text + 1)) rest) ≡ Ok values
-      = ap (λ k. values_named read (items_of_parts k rest)) (sym far)
-      ∙ ap (λ parts. values_named read (items_of_parts (at + length text) parts)) (sym (slice_split-cons_yes is_blank y ys end)) ∙ more in
-      ap (λ parts. values_named read (items_of_parts at parts)) (slice_split_at is_blank text y ys (no_blank text value names) end)
-      ∙ ap (values_named read) (part_is_item at text rest (some_byte text value names))
-      ∙ ap (λ v. value_then v (values_named read (items_of_parts (at + (length text + 1)) rest))) (named at text value names there)
-      ∙ ap (followed_by (value ∷ [])) later
-
   -- what a text spells is read
   spelled_from : (text : List ℕ) (values : List A) (at : ℕ) → Spells Names There text values
       → values_named read (items_of_parts at (slice_split is_blank text)) ≡ Ok values
   spelled_from _ _ at Spells.nothing = refl
   spelled_from _ _ at (Spells.blank b text values h more) =
-      ap (λ parts. values_named read (items_of_parts at parts)) (slice_split-cons_yes is_blank b text h)
-      ∙ spelled_from text values (at + 1) more
+      ap (values_named read) (items_of_blank at b text h) ∙ spelled_from text values (at + 1) more
   spelled_from _ _ at (Spells.item text rest value values names there end more) =
-      item_read at text rest value values names there end (spelled_from rest values (at + length text) more)
+      ap (values_named read) (items_of_item at text rest (some_byte text value names) (no_blank text value names) end)
+      ∙ ap (λ v. value_then v (values_named read (items_of_parts (at + length text) (slice_split is_blank rest)))) (named at text value names there)
+      ∙ ap (followed_by (value ∷ [])) (spelled_from rest values (at + length text) more)
 
   pub values_of-spelled : (text : List ℕ) (values : List A) → Spells Names There text values → values_of read text ≡ Ok values
   values_of-spelled text values spelled = spelled_from text values 0 spelled

@@ -1,12 +1,13 @@
 -- How the items of a text go on from its front.
-use Rattle.std.proofs.Common.{suc, not, get_or, ⊎_elim, ◌≡◌, ℕ, ◌+◌, ◌-◌, ◌<◌, ◌≤◌, Bool, true, false, cond, List, [], ◌∷◌, length, take, drop, refl, arith, rules, ap, sym, ◌∙◌, drop-drop}
+use Rattle.std.proofs.Common.{suc, not, get_or, ⊎_elim, ◌≡◌, ℕ, ◌+◌, ◌-◌, ◌<◌, ◌≤◌, Bool, true, false, cond, List, [], ◌∷◌, ◌++◌, length, take, drop, refl, arith, rules, ap, sym, ◌∙◌, append-nil, drop-drop}
 use Rattle.std.proofs.lemmas.Grind.{common_steps}
 use Rattle.std.proofs.lemmas.Bool.{cases_lt}
 use Rattle.std.proofs.lemmas.List.Sums.{prefix_len_passes, prefix_len_stops, prefix_len-le-length}
 use Rattle.std.proofs.lemmas.List.{drop_more}
-use Rattle.std.proofs.lemmas.List.Splits.{slice_split_first, slice_split_none, slice_split-cons_yes}
-use Rattle.std.specs.List.{slice_split, position_or_len, prefix_len, onto_first}
+use Rattle.std.proofs.lemmas.List.Splits.{slice_split_at, slice_split_first, slice_split_none, slice_split-cons_yes}
+use Rattle.std.specs.List.{All, slice_split, position_or_len, prefix_len, onto_first}
 use Rattle.text_items.specs.Items.{is_blank, items_of_parts, items_from, text_between}
+use Rattle.text_items.specs.Spelling.{is_end}
 
 no_blank : (b : Bool) → not b ≡ true → b ≡ false
 no_blank true h = sym h
@@ -63,6 +64,25 @@ pub part_is_item : (at : ℕ) (part : List ℕ) (parts : List (List ℕ)) → 0 
     → items_of_parts at (part ∷ parts) ≡ record { at = at; text = part } ∷ items_of_parts (at + (length part + 1)) parts
 part_is_item at [] parts lt = absurd (omega arith)
 part_is_item at (b ∷ bs) parts lt = refl
+
+-- the items of a text with a blank in front
+pub items_of_blank : (at b : ℕ) (text : List ℕ) → is_blank b ≡ true
+    → items_of_parts at (slice_split is_blank (b ∷ text)) ≡ items_of_parts (at + 1) (slice_split is_blank text)
+items_of_blank at b text h = ap (items_of_parts at) (slice_split-cons_yes is_blank b text h)
+
+-- the items of a text with an item in front
+pub items_of_item : (at : ℕ) (text rest : List ℕ) → 0 < length text → All (λ b. is_blank b ≡ false) text → is_end rest ≡ true
+    → items_of_parts at (slice_split is_blank (text ++ rest))
+    ≡ record { at = at; text = text } ∷ items_of_parts (at + length text) (slice_split is_blank rest)
+items_of_item at text [] some none end =
+    ap (λ xs. items_of_parts at (slice_split is_blank xs)) (append-nil text)
+    ∙ ap (items_of_parts at) (slice_split_none is_blank text none) ∙ part_is_item at text [] some
+items_of_item at text (y ∷ ys) some none end =
+    let later = slice_split is_blank ys in
+    let far : at + (length text + 1) ≡ at + length text + 1 = omega arith in
+    ap (items_of_parts at) (slice_split_at is_blank text y ys none end) ∙ part_is_item at text later some
+    ∙ ap (λ k. record { at = at; text = text } ∷ items_of_parts k later) far
+    ∙ ap (λ parts. record { at = at; text = text } ∷ items_of_parts (at + length text) parts) (sym (slice_split-cons_yes is_blank y ys end))
 
 -- if no blank is at the front, the bytes before the first blank are the first item
 pub first_item : (at : ℕ) (xs : List ℕ) → 0 < position_or_len is_blank xs

@@ -1,6 +1,6 @@
 -- The grammar of texts of items: which texts spell a list of values, and which item spoils a text.
 -- What an item denotes, and which values exist, is a parameter for each kind of text.
-use Rattle.std.specs.Prelude.{◌≡◌, ℕ, ◌+◌, ◌<◌, Bool, true, false, List, [], ◌∷◌, ◌++◌, length}
+use Rattle.std.specs.Prelude.{◌≡◌, ℕ, ◌+◌, ◌<◌, ◌⊎◌, Bool, true, false, List, [], ◌∷◌, ◌++◌, length}
 use Rattle.std.specs.List.{All}
 use Rattle.text_items.specs.Items.{is_blank}
 
@@ -35,3 +35,10 @@ pub data Spoils {A F : Type 0} (Names : List ℕ → A → Type 0) (There : A �
   not_there : (at : ℕ) (text rest : List ℕ) (value : A)
       → Names text value → (There value → ⊥) → is_end rest ≡ true
       → Spoils Names There malformed unknown at (text ++ rest) (unknown at)
+
+-- a text spells a value, the only one, or has a fault, the only one, and never both
+pub record SpellsOrSpoils {V F : Type 0} (Spelled : V → Type 0) (Spoiled : F → Type 0) : Type 0 where
+  pub either : ((value : V) × Spelled value) ⊎ ((fault : F) × Spoiled fault)
+  pub one_value : (value other : V) → Spelled value → Spelled other → value ≡ other
+  pub one_fault : (fault other : F) → Spoiled fault → Spoiled other → fault ≡ other
+  pub not_both : (value : V) (fault : F) → Spelled value → Spoiled fault → ⊥
