@@ -7,15 +7,15 @@ pub use delivery::{deliver, write_text};
 pub use hex::{HexFault, MOST_WORDS, read_hex};
 pub use hex_program::{HEX_BASE, HEX_SIZE, hex_image};
 pub use limits::hex_programs_have_their_place;
-pub use open_program::{OpenProgram, open_program};
 pub use opening::{OpenRun, OpenText, open_run, open_text};
 pub use program::{ProgramForm, read_image, read_program};
+pub use start::{OpenProgram, open_program};
 
 mod command_fault;
 mod delivery;
 mod hex;
 mod hex_program;
 mod limits;
-mod open_program;
 mod opening;
 mod program;
+mod start;
