@@ -49,7 +49,7 @@ module _ (kind : Kind) (image : ImageValue) (campaign : Campaign) (inputs : List
       (drawn_choices-within campaign.draw (started image inputs) (length inputs) campaign.steps seed some)
 
   -- each verdict is kept
-  all_kept : (seeds : List ℕ) → AllKept (endings_of campaign image inputs seeds)
+  pub all_kept : (seeds : List ℕ) → AllKept (endings_of campaign image inputs seeds)
   unfolding endings_of end
   all_kept [] = All-nil (λ (end : SeedEnding). end.ending.outcome.verdict ≡ Some Kept)
   all_kept (seed ∷ seeds) =
@@ -131,7 +131,7 @@ module _ (campaign : Campaign) (inputs : List ℕ) (image : ImageValue) where
 
 -- ---- failures
 -- what holds for both faults, and for the answer if there are inputs, holds
-answered : {X : Type 0} (P : X → Type 0) (n : ℕ) (none many shown : X) → P none → P many → (0 < n → P shown)
+pub answered : {X : Type 0} (P : X → Type 0) (n : ℕ) (none many shown : X) → P none → P many → (0 < n → P shown)
     → P (cond (eqb n 0) none (cond (ltb most_harts n) many shown))
 answered P n none many shown of_none of_many runs = by (eqb n 0) refl
   where

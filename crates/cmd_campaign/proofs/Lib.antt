@@ -5,3 +5,4 @@ pub mod BlockLemmas
 pub mod AnswerLemmas
 pub mod StatusLemmas
 pub mod KeptLemmas
+pub mod KeptLines

@@ -1,11 +1,16 @@
 -- Campaigns in which no rule is broken.
-use Rattle.std.specs.Prelude.{◌≡◌, List, [], Some}
-use Rattle.std.specs.List.{All}
+use Rattle.std.specs.Prelude.{◌≡◌, ℕ, List, [], ◌∷◌, ◌++◌, codes, Some}
+use Rattle.std.specs.List.{All, flat_map}
 use Rattle.std.specs.declared.result.Result.TheVariants.{Ok, Err}
 use Rattle.byte_io.specs.declared.status.Status.TheVariants as status
 use Rattle.program_open.specs.Answers.{Answer}
 use Rattle.object_library.specs.declared.verdict.Verdict.TheVariants.{Kept}
 use Rattle.campaign_runs.specs.Runs.{SeedEnding}
+use Rattle.campaign_runs.specs.Tally.{TallyRow}
+use Rattle.campaign_runs.specs.declared.campaign.Report.{Report}
+use Rattle.campaign_runs.specs.declared.campaign.Report.TheVariants.{Lines, Failures, Summary, Outcomes}
+use Rattle.cmd_campaign.specs.Lines.{seed_line}
+use Rattle.cmd_campaign.specs.Summary.{result_words, row_line}
 
 -- the verdict on each run is `kept`
 abbrev pub AllKept : List SeedEnding → Type 0
@@ -15,3 +20,21 @@ AllKept ends = All (λ end. end.ending.outcome.verdict ≡ Some Kept) ends
 abbrev pub AnswersNothing : Answer → Type 0
 AnswersNothing (Ok answer) = (answer.0 ≡ []) × (answer.1 ≡ status.Done)
 AnswersNothing (Err why) = Unit {0}
+
+-- the line of a seed, and that of an outcome, where the verdict is `kept`
+abbrev pub kept_line : SeedEnding → List ℕ
+kept_line end =
+    seed_line end.seed end.ending.outcome.exited end.ending.outcome.faulted end.ending.outcome.running ++ codes " kept\n"
+
+abbrev pub kept_row : TallyRow → List ℕ
+kept_row row =
+    row_line row.count row.ending.outcome.exited row.ending.outcome.faulted row.ending.outcome.running
+    ++ (codes " kept" ++ (result_words 0 row.ending.results ++ 10 ∷ []))
+
+-- if a campaign answers, each line of its report says `kept`
+abbrev pub AnswersKeptLines : Report → Answer → Type 0
+AnswersKeptLines Lines (Ok answer) = (ends : List SeedEnding) × (answer.0 ≡ flat_map kept_line ends)
+AnswersKeptLines Failures (Ok answer) = (ends : List SeedEnding) × (answer.0 ≡ flat_map kept_line ends)
+AnswersKeptLines Summary (Ok answer) = (rows : List TallyRow) × (answer.0 ≡ flat_map kept_row rows)
+AnswersKeptLines Outcomes (Ok answer) = (rows : List TallyRow) × (answer.0 ≡ flat_map kept_row rows)
+AnswersKeptLines report (Err why) = Unit {0}

@@ -13,7 +13,7 @@ ghost use Rattle.campaign_runs.specs.Tally.{seeds_in, tally_of};
 ghost use Rattle.campaign_runs.specs.declared.campaign.Campaign.{Campaign};
 ghost use Rattle.campaign_runs.specs.declared.campaign.Report.TheVariants.{Failures};
 ghost use Rattle.cmd_campaign.specs.Answers.{campaign_answer};
-ghost use Rattle.cmd_campaign.specs.Kept.{AnswersNothing};
+ghost use Rattle.cmd_campaign.specs.Kept.{AnswersKeptLines, AnswersNothing};
 ghost use Rattle.cmd_campaign.specs.Status.{campaign_status};
 
 /// The counts of a summary's rows add up to the number of seeds.
@@ -34,4 +34,12 @@ pub fn failures_of_an_object_are_none()
     ensures { (campaign : Campaign) (inputs program : List ℕ) → campaign.report ≡ Failures → campaign.expect.exit ≡ May
         → All (λ x. x < 2 ^ 32) inputs → IsCertified Elf program inputs campaign.expect.rule
         → AnswersNothing (campaign_answer campaign inputs program) }
+{}
+
+/// For a file that is an object, run by as many harts as it is for under its kind's rule, each line
+/// of `campaign` says `kept`, whatever it reports.
+pub fn lines_of_an_object_say_kept()
+    ensures { (campaign : Campaign) (inputs program : List ℕ) → All (λ x. x < 2 ^ 32) inputs
+        → IsCertified Elf program inputs campaign.expect.rule
+        → AnswersKeptLines campaign.report (campaign_answer campaign inputs program) }
 {}

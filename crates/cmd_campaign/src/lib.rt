@@ -5,6 +5,7 @@ pub use campaign_runs::{Campaign, Report};
 pub use engine::{Finished, campaign_engine};
 pub use laws::{
     all_seeds_are_counted, campaign_of_one_run_has_its_status, failures_of_an_object_are_none,
+    lines_of_an_object_say_kept,
 };
 pub use lines::push_lines;
 pub use outcome::{Exit, Expect};

@@ -1,0 +1,104 @@
+-- The report of a campaign of an object says `kept` in each line.
+use Rattle.std.proofs.Common.{◌≡◌, ℕ, ◌^◌, ◌<◌, Bool, true, false, cond, List, [], ◌∷◌, ◌++◌, length, Some, Ok, Err, refl, ap, ap₂, ◌∙◌, sym, subst}
+use Rattle.std.specs.List.{All, flat_map, range_with_len}
+use Rattle.std.proofs.lemmas.List.Elements.{All-head, All-tail}
+use Rattle.image.specs.Image.{ImageValue}
+use Rattle.object_library.specs.declared.verdict.Verdict.TheVariants.{Kept}
+use Rattle.outcome.specs.declared.expect.Exit.{Exit}
+use Rattle.program_open.specs.declared.command_fault.CommandFault.{CommandFault}
+use Rattle.program_open.specs.declared.program.ProgramForm.TheVariants as form
+use Rattle.campaign_runs.specs.Ending.{same_ending}
+use Rattle.campaign_runs.specs.Runs.{SeedEnding, all_endings, endings_of}
+use Rattle.campaign_runs.specs.Tally.{TallyRow, add_seed, first_one, one_more, tally_of, tally_onto}
+use Rattle.campaign_runs.specs.declared.campaign.Campaign.{Campaign}
+use Rattle.campaign_runs.specs.declared.campaign.Report.{Report}
+use Rattle.campaign_runs.specs.declared.campaign.Report.TheVariants.{Lines, Failures, Summary, Outcomes}
+use Rattle.cmd_run.specs.Certified.{IsCertified}
+use Rattle.cmd_campaign.specs.Answers.{after_image, campaign_answer, reported}
+use Rattle.cmd_campaign.specs.Kept.{kept_line, kept_row, AllKept, AnswersKeptLines}
+use Rattle.cmd_campaign.specs.Lines.{end_entry, has_failed, report_entries, report_entry, seed_line, verdict_word}
+use Rattle.cmd_campaign.specs.Status.{campaign_status}
+use Rattle.cmd_campaign.specs.Summary.{report_text, result_words, row_entry, row_line, rows_text}
+use Rattle.cmd_campaign.proofs.KeptLemmas.{all_kept, answered}
+
+abbrev IsKept : SeedEnding → Type 0
+IsKept end = end.ending.outcome.verdict ≡ Some Kept
+
+-- ---- lines of seeds
+line_kept : (end : SeedEnding) → IsKept end → end_entry end ≡ kept_line end
+line_kept end is = ap (λ v. seed_line end.seed end.ending.outcome.exited end.ending.outcome.faulted end.ending.outcome.running
+    ++ (verdict_word v ++ 10 ∷ [])) is
+
+lines_kept : (ends : List SeedEnding) → AllKept ends → flat_map end_entry ends ≡ flat_map kept_line ends
+lines_kept [] all = refl
+lines_kept (end ∷ ends) all =
+    ap₂ (λ (line rest : List ℕ). line ++ rest) (line_kept end (All-head IsKept end ends all)) (lines_kept ends (All-tail IsKept end ends all))
+
+-- the lines of those that have failed
+failures_kept : (exit : Exit) (ends : List SeedEnding) → AllKept ends
+    → (some : List SeedEnding) × (report_entries Failures exit ends ≡ flat_map kept_line some)
+failures_kept exit [] all = ([], refl)
+failures_kept exit (end ∷ ends) all =
+    by (has_failed exit end) refl (failures_kept exit ends (All-tail IsKept end ends all))
+  where
+    by : (b : Bool) → has_failed exit end ≡ b
+        → (some : List SeedEnding) × (report_entries Failures exit ends ≡ flat_map kept_line some)
+        → (some : List SeedEnding) × (report_entries Failures exit (end ∷ ends) ≡ flat_map kept_line some)
+    by true e rest = (
+      end ∷ rest.0,
+      ap₂ (λ (line more : List ℕ). line ++ more)
+          (ap (λ b. cond b (end_entry end) []) e ∙ line_kept end (All-head IsKept end ends all)) rest.1,
+    )
+    by false e rest = (rest.0, ap₂ (λ (line more : List ℕ). line ++ more) (ap (λ b. cond b (end_entry end) []) e) rest.1)
+
+-- ---- lines of outcomes
+abbrev RowsKept : List TallyRow → Type 0
+RowsKept [] = Unit {0}
+RowsKept (row ∷ rows) = (row.ending.outcome.verdict ≡ Some Kept) × RowsKept rows
+
+row_kept : (row : TallyRow) → row.ending.outcome.verdict ≡ Some Kept → row_entry row ≡ kept_row row
+row_kept row is = ap (λ v. row_line row.count row.ending.outcome.exited row.ending.outcome.faulted row.ending.outcome.running
+    ++ (verdict_word v ++ (result_words 0 row.ending.results ++ 10 ∷ []))) is
+
+rows_kept : (rows : List TallyRow) → RowsKept rows → rows_text rows ≡ flat_map kept_row rows
+rows_kept [] all = refl
+rows_kept (row ∷ rows) all = ap₂ (λ (line more : List ℕ). line ++ more) (row_kept row all.0) (rows_kept rows all.1)
+
+add_kept : (end : SeedEnding) (rows : List TallyRow) → IsKept end → RowsKept rows → RowsKept (add_seed end rows)
+add_kept end [] is all = (is, tt)
+add_kept end (row ∷ rows) is all = by (same_ending end.ending row.ending)
+  where
+    by : (b : Bool) → RowsKept (cond b (record { ending = row.ending; count = one_more row.count } ∷ rows) (row ∷ add_seed end rows))
+    by true = (all.0, all.1)
+    by false = (all.0, add_kept end rows is all.1)
+
+onto_kept : (rows : List TallyRow) (ends : List SeedEnding) → RowsKept rows → AllKept ends → RowsKept (tally_onto rows ends)
+onto_kept rows [] there all = there
+onto_kept rows (end ∷ ends) there all =
+    onto_kept (add_seed end rows) ends (add_kept end rows (All-head IsKept end ends all) there) (All-tail IsKept end ends all)
+
+tally_kept : (ends : List SeedEnding) → AllKept ends → (rows : List TallyRow) × (rows_text (tally_of ends) ≡ flat_map kept_row rows)
+tally_kept ends all = (tally_of ends, rows_kept (tally_of ends) (onto_kept [] ends tt all))
+
+-- ---- the report
+report_kept : (report : Report) (campaign : Campaign) (ends : List SeedEnding) → AllKept ends
+    → AnswersKeptLines report (Ok (report_text report campaign.expect.exit ends, campaign_status campaign.expect.exit ends))
+report_kept Lines campaign ends all = (ends, lines_kept ends all)
+report_kept Failures campaign ends all = failures_kept campaign.expect.exit ends all
+report_kept Summary campaign ends all = tally_kept ends all
+report_kept Outcomes campaign ends all = tally_kept ends all
+
+refused_kept : (report : Report) (why : CommandFault) → AnswersKeptLines report (Err why)
+refused_kept Lines why = tt
+refused_kept Failures why = tt
+refused_kept Summary why = tt
+refused_kept Outcomes why = tt
+
+pub lines_say_kept : (campaign : Campaign) (inputs program : List ℕ) → All (λ x. x < 2 ^ 32) inputs
+    → IsCertified form.Elf program inputs campaign.expect.rule → AnswersKeptLines campaign.report (campaign_answer campaign inputs program)
+unfolding campaign_answer
+lines_say_kept campaign inputs program words h =
+    subst (λ p. AnswersKeptLines campaign.report (after_image campaign inputs p)) (sym h.reads)
+    (answered (AnswersKeptLines campaign.report) (length inputs) _ _ _ (refused_kept campaign.report _) (refused_kept campaign.report _) (λ some.
+    report_kept campaign.report campaign (all_endings campaign h.image inputs)
+    (all_kept h.kind h.image campaign inputs some h.same h.meant words h.ruled (range_with_len campaign.first campaign.count))))
