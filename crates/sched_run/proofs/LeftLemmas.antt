@@ -1,6 +1,6 @@
 -- What is left of a choice text, one choice less and one item less, and the items that are one
 -- digit or two.
-use Rattle.std.proofs.Common.{◌≡◌, ℕ, suc, ◌+◌, ◌*◌, ◌<◌, ◌^◌, ◌==◌, true, false, List, [], ◌∷◌, length, drop, get_or, Ok, Err, refl, arith, ap, sym, ◌∙◌, ne_eqb}
+use Rattle.std.proofs.Common.{◌≡◌, ℕ, suc, ◌+◌, ◌*◌, ◌<◌, ◌^◌, ◌==◌, true, false, List, [], ◌∷◌, length, drop, get_or, Some, None, Ok, Err, refl, arith, ap, sym, ◌∙◌, ne_eqb}
 use Rattle.std.specs.Prelude.{replicate}
 use Rattle.std.specs.declared.result.Result.{Result}
 use Rattle.std.specs.List.{slice_split, onto_first}
@@ -8,85 +8,72 @@ use Rattle.std.proofs.lemmas.List.{drop_more}
 use Rattle.std.proofs.lemmas.List.Splits.{slice_split-cons_yes, slice_split-cons_no}
 use Rattle.machine.specs.declared.choice.Choice.{Choice}
 use Rattle.text_items.specs.Items.{is_blank, items_of_parts, items_from, text_between, IsFirstItem}
-use Rattle.text_items.specs.Reading.{values_named, value_then, followed_by}
 use Rattle.sched_text.specs.declared.run.Run.{Run}
 use Rattle.sched_text.specs.declared.choice_text.ChoiceFault.{ChoiceFault}
-use Rattle.sched_text.specs.Runs.{choice_run, equal_choices, expanded_runs}
-use Rattle.sched_text.specs.Reading.{run_of, expanded_after}
+use Rattle.sched_text.specs.Runs.{choice_run}
+use Rattle.sched_text.specs.Reading.{run_of}
 use Rattle.std.specs.Char.{digit_value}
 use Rattle.std.proofs.lemmas.Str.{digit_value_digit}
 use Rattle.sched_text.specs.Grammar.{NamesRun}
 use Rattle.sched_text.proofs.ItemLemmas.{digit_run, run_named}
 use Rattle.sched_run.specs.declared.reading.Reading.{Reading}
-use Rattle.sched_run.specs.Left.{plain, runs_after, left_of}
+use Rattle.sched_run.specs.Left.{plain, LeftChoices, none_left, behind_choices, item_then, left_of_items, left_after, left_of}
 
 -- ---- one choice less
-one_less : (c : Choice) (n : ℕ) (more : Result (List Run) ChoiceFault)
-    → expanded_after (replicate (suc n) c) more ≡ followed_by (c ∷ []) (expanded_after (replicate n c) more)
-one_less c n (Ok runs) = refl
-one_less c n (Err fault) = refl
-
-once_less : (c : Choice) (n m : ℕ) (more : Result (List Run) ChoiceFault) → m + 1 ≡ n
-    → expanded_after (replicate n c) more ≡ followed_by (c ∷ []) (expanded_after (replicate m c) more)
-once_less c n m more e =
+once_less : (c : Choice) (n m : ℕ) (left : LeftChoices) → m + 1 ≡ n
+    → behind_choices (replicate n c) left ≡ behind_choices (c ∷ []) (behind_choices (replicate m c) left)
+once_less c n m left e =
     let is : n ≡ suc m = omega (arith, e) in
-    ap (λ k. expanded_after (replicate k c) more) is ∙ one_less c m more
+    ap (λ k. behind_choices (replicate k c) left) is
 
 -- the choice of the item before, once more
 pub taken_again : (harts : ℕ) (text : List ℕ) (old new : Reading) → new.choice ≡ old.choice → new.from ≡ old.from → new.more + 1 ≡ old.more
-    → left_of harts text old ≡ followed_by (old.choice ∷ []) (left_of harts text new)
+    → left_of harts text old ≡ behind_choices (old.choice ∷ []) (left_of harts text new)
 taken_again harts text old new choice from more =
-    once_less old.choice old.more new.more (runs_after harts text old.from) more
-    ∙ ap (λ c. followed_by (old.choice ∷ []) (expanded_after (replicate new.more c) (runs_after harts text old.from))) (sym choice)
-    ∙ ap (λ k. followed_by (old.choice ∷ []) (expanded_after (replicate new.more new.choice) (runs_after harts text k))) (sym from)
+    once_less old.choice old.more new.more (left_after harts text old.from) more
+    ∙ ap (λ c. behind_choices (old.choice ∷ []) (behind_choices (replicate new.more c) (left_after harts text old.from))) (sym choice)
+    ∙ ap (λ k. behind_choices (old.choice ∷ []) (behind_choices (replicate new.more new.choice) (left_after harts text k))) (sym from)
 
 -- ---- one item less
-run_then : (r : Run) (more : Result (List Run) ChoiceFault) → expanded_after [] (value_then (Ok r) more) ≡ expanded_after (equal_choices r) more
-unfolding expanded_runs
-run_then r (Ok runs) = refl
-run_then r (Err fault) = refl
-
 -- an item is read, whose choices are then left
 pub item_left : (harts : ℕ) (text : List ℕ) (old new : Reading) (named : Run) → old.more ≡ 0
-    → runs_after harts text old.from ≡ value_then (Ok named) (runs_after harts text new.from)
+    → left_after harts text old.from ≡ item_then (Ok named) (left_after harts text new.from)
     → new.choice ≡ named.choice → new.more ≡ named.count → left_of harts text old ≡ left_of harts text new
 item_left harts text old new named none first choice count =
-    ap (λ n. expanded_after (replicate n old.choice) (runs_after harts text old.from)) none
-    ∙ ap (expanded_after []) first ∙ run_then named (runs_after harts text new.from)
-    ∙ ap (λ c. expanded_after (replicate named.count c) (runs_after harts text new.from)) (sym choice)
-    ∙ ap (λ n. expanded_after (replicate n new.choice) (runs_after harts text new.from)) (sym count)
+    ap (λ n. behind_choices (replicate n old.choice) (left_after harts text old.from)) none
+    ∙ first
+    ∙ ap (λ c. behind_choices (replicate named.count c) (left_after harts text new.from)) (sym choice)
+    ∙ ap (λ n. behind_choices (replicate n new.choice) (left_after harts text new.from)) (sym count)
 
 -- an item of one choice is read, and its choice
 pub digit_left : (harts hart : ℕ) (text : List ℕ) (old new : Reading) → old.more ≡ 0 → new.more ≡ 0
-    → runs_after harts text old.from ≡ value_then (Ok (choice_run (plain hart) 1)) (runs_after harts text new.from)
-    → left_of harts text old ≡ followed_by (plain hart ∷ []) (left_of harts text new)
+    → left_after harts text old.from ≡ item_then (Ok (choice_run (plain hart) 1)) (left_after harts text new.from)
+    → left_of harts text old ≡ behind_choices (plain hart ∷ []) (left_of harts text new)
 digit_left harts hart text old new none still first =
-    ap (λ n. expanded_after (replicate n old.choice) (runs_after harts text old.from)) none
-    ∙ ap (expanded_after []) first ∙ run_then (choice_run (plain hart) 1) (runs_after harts text new.from)
-    ∙ once_less (plain hart) 1 0 (runs_after harts text new.from) (omega arith)
-    ∙ ap (λ n. followed_by (plain hart ∷ []) (expanded_after (replicate n new.choice) (runs_after harts text new.from))) (sym still)
+    ap (λ n. behind_choices (replicate n old.choice) (left_after harts text old.from)) none
+    ∙ first
+    ∙ ap (λ n. behind_choices (plain hart ∷ []) (behind_choices (replicate n new.choice) (left_after harts text new.from))) (sym still)
 
 -- the first item from an offset on is read, and those after it
 pub first_read : (harts from begin end behind : ℕ) (text : List ℕ) (r : Result Run ChoiceFault) → IsFirstItem from text begin end
     → run_of harts begin (text_between begin end text) ≡ r → items_from end text ≡ items_from behind text
-    → runs_after harts text from ≡ value_then r (runs_after harts text behind)
+    → left_after harts text from ≡ item_then r (left_after harts text behind)
 first_read harts from begin end behind text r first read same =
-    ap (values_named (run_of harts)) first.first
-    ∙ ap (λ r. value_then r (runs_after harts text end)) read
-    ∙ ap (λ items. value_then r (values_named (run_of harts) items)) same
+    ap (left_of_items harts) first.first
+    ∙ ap (λ r. item_then r (left_after harts text end)) read
+    ∙ ap (λ items. item_then r (left_of_items harts items)) same
 
 -- nothing is left, or a bad item
-pub nothing_left : (harts : ℕ) (text : List ℕ) (r : Reading) → r.more ≡ 0 → items_from r.from text ≡ [] → left_of harts text r ≡ Ok []
-unfolding expanded_runs
+pub nothing_left : (harts : ℕ) (text : List ℕ) (r : Reading) → r.more ≡ 0 → items_from r.from text ≡ [] → left_of harts text r ≡ none_left None
 nothing_left harts text r none end =
-    ap (λ n. expanded_after (replicate n r.choice) (runs_after harts text r.from)) none
-    ∙ ap (λ items. expanded_after [] (values_named (run_of harts) items)) end
+    ap (λ n. behind_choices (replicate n r.choice) (left_after harts text r.from)) none
+    ∙ ap (left_of_items harts) end
 
 pub fault_left : (harts begin end : ℕ) (text : List ℕ) (r : Reading) (fault : ChoiceFault) → r.more ≡ 0 → IsFirstItem r.from text begin end
-    → run_of harts begin (text_between begin end text) ≡ Err fault → left_of harts text r ≡ Err fault
+    → run_of harts begin (text_between begin end text) ≡ Err fault → left_of harts text r ≡ none_left (Some fault)
 fault_left harts begin end text r fault none first bad =
-    ap (λ n. expanded_after (replicate n r.choice) (runs_after harts text r.from)) none
-    ∙ ap (expanded_after []) (first_read harts r.from begin end end text (Err fault) first bad refl)
+    ap (λ n. behind_choices (replicate n r.choice) (left_after harts text r.from)) none
+    ∙ first_read harts r.from begin end end text (Err fault) first bad refl
 
 -- ---- the bytes
 -- a blank belongs to no item
@@ -122,10 +109,10 @@ byte_item from byte text inside is plain blank =
 -- a digit of a hart that exists, and a blank after it
 pub digit_first : (harts from hart : ℕ) (text : List ℕ) → harts < 2 ^ 32 → from + 1 < length text → get_or text from 0 ≡ hart + 48 → hart < 10
     → hart < harts → is_blank (get_or text (from + 1) 0) ≡ true
-    → runs_after harts text from ≡ value_then (Ok (choice_run (plain hart) 1)) (runs_after harts text (from + 2))
+    → left_after harts text from ≡ item_then (Ok (choice_run (plain hart) 1)) (left_after harts text (from + 2))
 digit_first harts from hart text few inside is low there blank =
-    ap (values_named (run_of harts)) (byte_item from (hart + 48) text inside is (digit_plain hart low) blank)
-    ∙ ap (λ r. value_then r (runs_after harts text (from + 2))) (digit_run harts from hart ((hart + 48) ∷ []) refl low there few)
+    ap (left_of_items harts) (byte_item from (hart + 48) text inside is (digit_plain hart low) blank)
+    ∙ ap (λ r. item_then r (left_after harts text (from + 2))) (digit_run harts from hart ((hart + 48) ∷ []) refl low there few)
 
 -- ---- two digits
 two_digits_named : (tens ones : ℕ) → 0 < tens → tens < 10 → ones < 10
@@ -170,9 +157,9 @@ two_byte_item from a b text inside is_a is_b plain_a plain_b blank =
 pub two_digits_first : (harts from tens ones : ℕ) (text : List ℕ) → harts < 2 ^ 32 → from + 2 < length text
     → get_or text from 0 ≡ tens + 48 → get_or text (from + 1) 0 ≡ ones + 48 → 0 < tens → tens < 10 → ones < 10
     → 10 * tens + ones < harts → is_blank (get_or text (from + 2) 0) ≡ true
-    → runs_after harts text from ≡ value_then (Ok (choice_run (plain (10 * tens + ones)) 1)) (runs_after harts text (from + 3))
+    → left_after harts text from ≡ item_then (Ok (choice_run (plain (10 * tens + ones)) 1)) (left_after harts text (from + 3))
 two_digits_first harts from tens ones text few inside is_tens is_ones some low high there blank =
-    ap (values_named (run_of harts))
+    ap (left_of_items harts)
     (two_byte_item from (tens + 48) (ones + 48) text inside is_tens is_ones (digit_plain tens low) (digit_plain ones high) blank)
-    ∙ ap (λ r. value_then r (runs_after harts text (from + 3)))
+    ∙ ap (λ r. item_then r (left_after harts text (from + 3)))
     (run_named ((tens + 48) ∷ (ones + 48) ∷ []) _ (two_digits_named tens ones some low high) harts from few there)

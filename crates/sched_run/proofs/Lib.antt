@@ -3,3 +3,4 @@ pub mod ChosenLemmas
 pub mod NamedLemmas
 pub mod LeftLemmas
 pub mod RunLemmas
+pub mod StopLemmas

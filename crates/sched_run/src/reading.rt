@@ -1,11 +1,9 @@
 //! Reads the choices of a text, one after another. The list that the text spells is never held, so
 //! a text of a few bytes that spells thousands of millions of choices takes no memory.
-ghost use Rattle.std.specs.Prelude.{◌≡◌, ◌+◌, ◌<◌, ◌≤◌, ◌^◌, ℕ, [], ◌∷◌, true, false, Ok, Err, List, IfNone, IfSome, MatchOption, length};
+ghost use Rattle.std.specs.Prelude.{◌≡◌, ◌+◌, ◌<◌, ◌≤◌, ◌^◌, ℕ, [], ◌∷◌, true, false, Ok, List, IfNone, IfSome, length};
 ghost use Rattle.text_items.specs.Items.{items_from};
-ghost use Rattle.text_items.specs.Reading.{followed_by, value_then};
 ghost use Rattle.sched_text.specs.Runs.{choice_run};
-ghost use Rattle.sched_text.specs.Reading.{choices_read};
-ghost use Rattle.sched_run.specs.Left.{plain, runs_after, left_of, most_left};
+ghost use Rattle.sched_run.specs.Left.{plain, none_left, behind_choices, item_then, left_after, left_of, most_left};
 
 use machine::Choice;
 use sched_text::{ChoiceFault, read_run};
@@ -27,7 +25,7 @@ pub struct Reading {
 impl Reading {
     /// At the start of a text.
     pub fn begin() -> Self
-        ensures at_front { (harts : ℕ) (text : List ℕ) → left_of harts text result ≡ choices_read harts text }
+        ensures at_front { (harts : ℕ) (text : List ℕ) → left_of harts text result ≡ left_after harts text 0 }
         ensures within { result.from ≡ 0 }
         ensures nothing { result.more ≡ 0 }
     {
@@ -50,12 +48,10 @@ impl Reading {
         ensures within { self.new.from ≤ length text.now }
         ensures there { 0 < self.new.more → self.new.choice.hart < harts }
         ensures some { IfSome result (λ choice. left_of harts text.now self.old
-            ≡ followed_by (choice ∷ []) (left_of harts text.now self.new)) }
+            ≡ behind_choices (choice ∷ []) (left_of harts text.now self.new)) }
         ensures of_hart { IfSome result (λ choice. choice.hart < harts) }
         ensures nearer { IfSome result (λ _. most_left text.now self.new < most_left text.now self.old) }
-        ensures none { IfNone result (MatchOption self.new.fault
-            (left_of harts text.now self.old ≡ Ok [])
-            (λ fault. left_of harts text.now self.old ≡ Err fault)) }
+        ensures none { IfNone result (left_of harts text.now self.old ≡ none_left self.new.fault) }
     {
         if self.more > 0 {
             return Some(self.again());
@@ -81,7 +77,7 @@ impl Reading {
     fn again(&mut self) -> Choice
         requires { 0 < self.old.more }
         ensures taken { (harts : ℕ) (text : List ℕ) → left_of harts text self.old
-            ≡ followed_by (result ∷ []) (left_of harts text self.new) }
+            ≡ behind_choices (result ∷ []) (left_of harts text self.new) }
         ensures choice { result ≡ self.old.choice }
         ensures same_choice { self.new.choice ≡ self.old.choice }
         ensures same_place { self.new.from ≡ self.old.from }
@@ -103,9 +99,7 @@ impl Reading {
         ensures fits { self.new.more < 2 ^ 32 }
         ensures there { 0 < self.new.more → self.new.choice.hart < harts }
         ensures behind { result ≡ true → self.old.from < self.new.from }
-        ensures ended { result ≡ false → MatchOption self.new.fault
-            (left_of harts text.now self.old ≡ Ok [])
-            (λ fault. left_of harts text.now self.old ≡ Err fault) }
+        ensures ended { result ≡ false → left_of harts text.now self.old ≡ none_left self.new.fault }
     {
         // Harts from 10 on.
         if let Some(hart) = two_digits_at(text, self.from, harts) {
@@ -130,9 +124,7 @@ impl Reading {
         ensures fits { self.new.more < 2 ^ 32 }
         ensures there { 0 < self.new.more → self.new.choice.hart < harts }
         ensures behind { result ≡ true → self.old.from < self.new.from }
-        ensures ended { result ≡ false → MatchOption self.new.fault
-            (left_of harts text.now self.old ≡ Ok [])
-            (λ fault. left_of harts text.now self.old ≡ Err fault) }
+        ensures ended { result ≡ false → left_of harts text.now self.old ≡ none_left self.new.fault }
     {
         let Some((begin, end)) = next_item(text, self.from) else {
             self.fault = None;
@@ -159,8 +151,8 @@ fn digit_at(text: &[u8], from: usize, harts: u32) -> Option<u32>
     requires { from ≤ length text.now }
     ensures within { IfSome result (λ hart. from + 2 ≤ length text.now) }
     ensures there { IfSome result (λ hart. hart < harts) }
-    ensures first { IfSome result (λ hart. runs_after harts text.now from
-        ≡ value_then (Ok (choice_run (plain hart) 1)) (runs_after harts text.now (from + 2))) }
+    ensures first { IfSome result (λ hart. left_after harts text.now from
+        ≡ item_then (Ok (choice_run (plain hart) 1)) (left_after harts text.now (from + 2))) }
 {
     let after = from + 1;
     if after >= text.len() {
@@ -180,8 +172,8 @@ fn two_digits_at(text: &[u8], from: usize, harts: u32) -> Option<u32>
     requires { from ≤ length text.now }
     ensures within { IfSome result (λ hart. from + 3 ≤ length text.now) }
     ensures there { IfSome result (λ hart. hart < harts) }
-    ensures first { IfSome result (λ hart. runs_after harts text.now from
-        ≡ value_then (Ok (choice_run (plain hart) 1)) (runs_after harts text.now (from + 3))) }
+    ensures first { IfSome result (λ hart. left_after harts text.now from
+        ≡ item_then (Ok (choice_run (plain hart) 1)) (left_after harts text.now (from + 3))) }
 {
     let after = from + 2;
     if after >= text.len() {

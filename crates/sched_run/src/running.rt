@@ -5,7 +5,7 @@ ghost use Rattle.machine.specs.World.{step};
 ghost use Rattle.machine.specs.State.{state};
 ghost use Rattle.sched_text.specs.Reading.{choices_read};
 ghost use Rattle.sched_run.specs.Chosen.{harts_of};
-ghost use Rattle.sched_run.specs.Leads.{LeadsTo};
+ghost use Rattle.sched_run.specs.Leads.{LeadsTo, LeadsBefore};
 
 use crate::chosen::Chosen;
 use crate::reading::Reading;
@@ -26,6 +26,8 @@ pub fn run_choices<A: Allocator>(
     ensures ran { IfOk result (λ chosen.
         LeadsTo harts text.now (state machine.old) (state machine.new) (harts_of chosen)) }
     ensures refused { IfErr result (λ fault. choices_read harts text.now ≡ Err fault) }
+    ensures stopped { IfErr result (λ fault.
+        LeadsBefore harts text.now fault (state machine.old) (state machine.new)) }
 {
     let mut chosen = Chosen::new();
     let mut reading = Reading::begin();
