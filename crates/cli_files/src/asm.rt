@@ -6,7 +6,9 @@ use crate::program_file::{OpenFault, ProgramFile};
 use crate::sources::{explain_no_text, explain_sources};
 use byte_io::{ReaderSource, Source, Status, WriterSink};
 use cli_orders::AsmOrder;
-use cli_report::{Audience, cannot_open, cannot_read, cannot_write, out_of_memory};
+use cli_report::{
+    Audience, cannot_open, cannot_read, cannot_write, is_same_file, out_of_memory, would_overwrite,
+};
 use cmd_asm::{AssemblyFault, file_engine, listing_engine};
 use std::rt::Files;
 use std::{fs, io};
@@ -35,8 +37,18 @@ fn open_sources<R: Files + AllocGlobal + Print + Eprint>(
     Ok(sources)
 }
 
+// Whether a path leads to a file that is a source.
+fn is_a_source(rt: &impl Files, order: &AsmOrder, path: &str) -> bool {
+    'sources: for source in &order.sources {
+        if is_same_file(rt, source, path) {
+            return true;
+        }
+    }
+    false
+}
+
 /// Assembles sources, all of which are opened before any is read. An output file is opened once its
-/// bytes are made.
+/// bytes are made; one of the sources is never written over.
 pub fn obey_asm<R: Files + AllocGlobal + Print + Eprint>(
     rt: &R,
     audience: Audience,
@@ -54,6 +66,7 @@ pub fn obey_asm<R: Files + AllocGlobal + Print + Eprint>(
                 Err(fault) => tell(rt, audience, order, fault),
             }
         }
+        Some(out) if is_a_source(rt, order, out) => would_overwrite(rt, out),
         Some(out) => {
             let mut file = ProgramFile::new(rt, out);
             match file_engine(rt.alloc(), &mut sources, &mut file) {

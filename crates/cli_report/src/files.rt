@@ -9,6 +9,7 @@ use crate::report::{cannot_open, cannot_read, say};
 use byte_io::{ReaderSource, Source, Status};
 use program_open::{CommandFault, Input};
 use std::fs;
+use std::os::unix::fs::MetadataExt;
 use std::rt::Files;
 
 /// Opens a program and the text beside it, or reports which can't be opened. Neither is read before
@@ -53,5 +54,16 @@ pub fn say_why<R: Files + AllocGlobal + Eprint>(
             explain_run(rt, audience, files, fault);
             status
         }
+    }
+}
+
+/// Whether two paths lead to the same regular file, by its device and its number there. A file that
+/// doesn't exist is no such file.
+pub fn is_same_file(rt: &impl Files, one: &str, other: &str) -> bool {
+    match (fs::metadata(rt, one), fs::metadata(rt, other)) {
+        (Ok(one), Ok(other)) => {
+            one.is_file() && one.dev() == other.dev() && one.ino() == other.ino()
+        }
+        _ => false,
     }
 }

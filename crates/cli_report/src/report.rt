@@ -43,6 +43,14 @@ pub fn cannot_write(rt: &impl Eprint, path: &str) -> Status
     Status::Refused
 }
 
+/// Reports that a file isn't written, since it is one of those that are read.
+pub fn would_overwrite(rt: &impl Eprint, path: &str) -> Status
+    ensures { result ≡ Status.Refused }
+{
+    let _ = eprintln!(rt; "rvcons: cannot write {path}: it is an input");
+    Status::Refused
+}
+
 /// Reports that a file can't be opened: out of memory, or another reason, which is explained to a
 /// person.
 pub fn cannot_open(rt: &impl Eprint, audience: Audience, path: &str, error: &io::Error) -> Status

@@ -8,8 +8,8 @@ use byte_io::{ReaderSource, Source, Status, WriterSink};
 use cli_args::{LineFault, read_inputs, read_number};
 use cli_orders::{Locks, ThreadsOrder, read_plan};
 use cli_report::{
-    Audience, RunFiles, cannot_open, cannot_write, out_of_memory, read_again, read_rule, refuse,
-    say, say_why, show,
+    Audience, RunFiles, cannot_open, cannot_write, is_same_file, out_of_memory, read_again,
+    read_rule, refuse, say, say_why, show, would_overwrite,
 };
 use cmd_threads::{HistoryUse, ThreadsAnswer, ThreadsTask, banked_engine, threads_engine};
 use program_open::{CommandFault, ProgramForm, write_text};
@@ -65,8 +65,8 @@ fn run_task<P: Source, G: Gate + Sync, R: AllocGlobal + Threads + Wait + Sync>(
     }
 }
 
-/// Runs each hart in a thread of its own. The history is written before anything is printed. A
-/// person sees the progress.
+/// Runs each hart in a thread of its own. The history is written before anything is printed, and
+/// never over the program. A person sees the progress.
 pub fn obey_threads<R: Files + AllocGlobal + Print + Eprint + Threads + Wait + Sync>(
     rt: &R,
     audience: Audience,
@@ -80,6 +80,11 @@ pub fn obey_threads<R: Files + AllocGlobal + Print + Eprint + Threads + Wait + S
         Ok(program) => program,
         Err(error) => return cannot_open(rt, audience, order.file, &error),
     };
+    if let Some(path) = order.history {
+        if is_same_file(rt, order.file, path) {
+            return would_overwrite(rt, path);
+        }
+    }
     let mut program = ReaderSource::new(program);
     let gate = TellingGate::new(rt, audience);
     let history = use_of_history(audience, order);
