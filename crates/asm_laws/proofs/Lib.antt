@@ -14,3 +14,6 @@ pub mod InRange
 pub mod Entry
 pub mod Images
 pub mod OwnLemmas
+pub mod Places
+pub mod PartFaultsLemmas
+pub mod StopLemmas

@@ -65,7 +65,7 @@ kind_back kinds.Directive = refl
 kind_back kinds.Align = refl
 kind_back kinds.TooLarge = refl
 
-one_kind : (a b : FaultKind) → source_fault_number a ≡ source_fault_number b → a ≡ b
+pub one_kind : (a b : FaultKind) → source_fault_number a ≡ source_fault_number b → a ≡ b
 one_kind a b e = sym (kind_back a) ∙ (ap kind_of e ∙ kind_back b)
 
 -- ---- two ways to cut statements at the same place
