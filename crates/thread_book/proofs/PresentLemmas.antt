@@ -1,6 +1,8 @@
 -- What a book is once it has taken a segment in.
-use Rattle.std.proofs.Common.{◌≡◌, ℕ, ◌<◌, List, [], ◌∷◌, ◌++◌, length, Some, false, ap, sym, ◌∙◌}
+use Rattle.std.proofs.Common.{◌≡◌, ℕ, ◌<◌, List, [], ◌∷◌, ◌++◌, length, Some, false, ap, sym, subst, ◌∙◌}
 use Rattle.std.specs.Prelude.{slice_get}
+use Rattle.std.specs.List.{All}
+use Rattle.std.proofs.lemmas.List.Elements.{All-nil, All-cons, All-append}
 use Rattle.image.specs.Image.{ImageValue}
 use Rattle.image.specs.Segment.{SegmentValue}
 use Rattle.mem_store.specs.Image.{segments_memory}
@@ -12,7 +14,7 @@ use Rattle.machine.specs.World.{World, step, run}
 use Rattle.hart_local.specs.LocalRuns.{with_walked_hart}
 use Rattle.history.specs.declared.entry.Entry.{Entry}
 use Rattle.history.specs.History.{choice, entry, entry_choices}
-use Rattle.thread_book.specs.Book.{BookValue, replayed, world_of, hart_in_book, book_code}
+use Rattle.thread_book.specs.Book.{BookValue, IsSoundBook, replayed, world_of, hart_in_book, book_code}
 use Rattle.thread_book.specs.Segment.{SegmentState}
 use Rattle.thread_book.specs.Kept.{IsBookKept}
 use Rattle.thread_book.specs.Present.{IsCurrent, IsPresented}
@@ -31,6 +33,16 @@ entered w put after s t is there code walked was done =
     (ap (λ m. walk m s.local (hart_of s.slot)) (sym same) ∙ walked))
     ∙ ap (λ (s : SegmentState). run w (entry_choices (entry s.hart s.local s.refuse))) is
 
+-- an entry of one of its harts leaves a book sound
+pub sound_more : (b : BookValue) (e : Entry) → IsSoundBook b → e.hart < length b.inputs → IsSoundBook (record b { history = b.history ++ e ∷ [] })
+sound_more b e sound there =
+    let P : Entry → Type 0 = λ x. x.hart < length b.inputs in
+    record {
+      image = sound.image;
+      inputs = sound.inputs;
+      entries = All-append P b.history (e ∷ []) sound.entries (All-cons P e [] there (All-nil P));
+    }
+
 module _ (image : ImageValue) (inputs : List ℕ) (history : List Entry) where
   -- the code of a book is that in its memory
   pub kept_code : (code : List SegmentValue) (w : World) → IsBookKept image inputs history code w → segments_memory (code_segments image) ≡ code_in w.memory
@@ -40,8 +52,10 @@ module _ (image : ImageValue) (inputs : List ℕ) (history : List Entry) where
 
   -- one entry more
   pub kept_more : (more : List Entry) (code : List SegmentValue) (w after : World) (e : Entry) → IsBookKept image inputs history code w
-      → more ≡ history ++ e ∷ [] → after ≡ run w (entry_choices e) → IsBookKept image inputs more code after
-  kept_more more code w after e kept is done = record {
+      → e.hart < length inputs → more ≡ history ++ e ∷ [] → after ≡ run w (entry_choices e) → IsBookKept image inputs more code after
+  kept_more more code w after e kept there is done = record {
+    sound = subst (λ (es : List Entry). IsSoundBook (record { image = image; inputs = inputs; history = es })) (sym is)
+        (sound_more (record { image = image; inputs = inputs; history = history }) e kept.sound there);
     replay =
         done ∙ ap (λ x. run x (entry_choices e)) kept.replay ∙ sym (replayed-more image inputs history e)
         ∙ ap (replayed image inputs) (sym is);
@@ -51,13 +65,15 @@ module _ (image : ImageValue) (inputs : List ℕ) (history : List Entry) where
 
 -- the book and the segment that `present` leaves
 pub presented : (b new_b : BookValue) (s new_s : SegmentState) (number : ℕ) (slot : Hart) → s.hart < length b.inputs → IsCurrent b s
+    → walk (segments_memory s.code) s.local (hart_of s.slot) ≡ Some (hart_of s.reached)
     → new_b ≡ record b { history = b.history ++ entry s.hart s.local s.refuse ∷ [] }
     → number ≡ s.hart → hart_in_book new_b number ≡ Some (hart_of slot)
     → new_s ≡ record s { slot = slot; local = 0; reached = slot; refuse = false }
     → IsPresented b s new_b new_s
-presented b new_b s new_s number slot there current book same fresh is = record {
+presented b new_b s new_s number slot there current walked book same fresh is = record {
   there = there;
   current = current;
+  walked = walked;
   book = book;
   world = ap (λ (v : BookValue). world_of v) book ∙ replayed-more b.image b.inputs b.history (entry s.hart s.local s.refuse);
   segment = record {

@@ -20,7 +20,7 @@ use Rattle.history.specs.History.{choice, entry_choices, expanded}
 use Rattle.thread_book.specs.Book.{replayed}
 
 -- ---- histories
-expanded-append : (xs ys : List Entry) → expanded (xs ++ ys) ≡ expanded xs ++ expanded ys
+pub expanded-append : (xs ys : List Entry) → expanded (xs ++ ys) ≡ expanded xs ++ expanded ys
 unfolding expanded
 expanded-append [] ys = refl
 expanded-append (e ∷ xs) ys =
@@ -30,17 +30,21 @@ expanded-one : (e : Entry) → expanded (e ∷ []) ≡ entry_choices e
 unfolding expanded
 expanded-one e = append-nil (entry_choices e)
 
+-- one entry more
+pub expanded-more : (entries : List Entry) (e : Entry) → expanded (entries ++ e ∷ []) ≡ expanded entries ++ entry_choices e
+expanded-more entries e = expanded-append entries (e ∷ []) ∙ ap (λ l. expanded entries ++ l) (expanded-one e)
+
 -- no entry
 pub replayed-none : (image : ImageValue) (inputs : List ℕ) → replayed image inputs [] ≡ started image inputs
 unfolding replayed expanded
 replayed-none image inputs = run_none (started image inputs)
 
--- one entry more
+-- the world after one entry more
 pub replayed-more : (image : ImageValue) (inputs : List ℕ) (history : List Entry) (e : Entry)
     → replayed image inputs (history ++ e ∷ []) ≡ run (replayed image inputs history) (entry_choices e)
 unfolding replayed
 replayed-more image inputs history e =
-    ap (run (started image inputs)) (expanded-append history (e ∷ []) ∙ ap (λ l. expanded history ++ l) (expanded-one e))
+    ap (run (started image inputs)) (expanded-more history e)
     ∙ run_append (started image inputs) (expanded history) (entry_choices e)
 
 -- a hart for each input

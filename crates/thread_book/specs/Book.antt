@@ -1,11 +1,12 @@
 -- A book, and the world that follows from it.
-use Rattle.std.specs.Prelude.{ℕ, List, Option, slice_get}
-use Rattle.image.specs.Image.{ImageValue}
+use Rattle.std.specs.Prelude.{ℕ, ◌<◌, List, length, Option, slice_get}
+use Rattle.std.specs.List.{All}
+use Rattle.image.specs.Image.{ImageValue, IsSound}
 use Rattle.image.specs.Segment.{SegmentValue}
 use Rattle.hart_step.specs.Hart.{HartValue}
 use Rattle.hart_local.specs.CodeMemory.{code_segments}
 use Rattle.machine.specs.World.{World, run}
-use Rattle.machine.specs.Start.{started}
+use Rattle.machine.specs.Start.{IsStartable, started}
 use Rattle.history.specs.declared.entry.Entry.{Entry}
 use Rattle.history.specs.History.{expanded}
 
@@ -14,6 +15,12 @@ pub record BookValue : Type 0 where
   pub image : ImageValue
   pub inputs : List ℕ
   pub history : List Entry
+
+-- the image is sound, a machine takes the inputs, and each entry is of one of their harts
+pub record IsSoundBook (b : BookValue) : Type 0 where
+  pub image : IsSound b.image.entry b.image.segments
+  pub inputs : IsStartable b.inputs
+  pub entries : All (λ e. e.hart < length b.inputs) b.history
 
 -- the world after a history: the run of the choices that it stands for
 unfoldable pub replayed : ImageValue → List ℕ → List Entry → World

@@ -1,6 +1,8 @@
 -- Segments of a book, and the segments that it takes or refuses.
 use Rattle.std.specs.Prelude.{◌≡◌, ℕ, ◌<◌, ◌≤◌, false, [], ◌∷◌, ◌++◌, length, Some}
+use Rattle.mem_store.specs.Image.{segments_memory}
 use Rattle.hart_step.specs.Hart.{hart_of}
+use Rattle.hart_local.specs.LocalStep.{walk}
 use Rattle.machine.specs.World.{run}
 use Rattle.history.specs.History.{entry, entry_choices}
 use Rattle.thread_book.specs.Book.{BookValue, world_of, hart_in_book, book_code}
@@ -22,10 +24,12 @@ pub record IsFresh (b : BookValue) (h : ℕ) (s : SegmentState) : Type 0 where
   pub reached : s.reached ≡ s.slot
   pub refuse : s.refuse ≡ false
 
--- the book has one more entry, with its choices done, and the segment is empty
+-- the segment was the book's, with local steps; the book has one more entry, with its choices done,
+-- and the segment is empty
 pub record IsPresented (b : BookValue) (s : SegmentState) (new_b : BookValue) (new_s : SegmentState) : Type 0 where
   pub there : s.hart < length b.inputs
   pub current : IsCurrent b s
+  pub walked : walk (segments_memory s.code) s.local (hart_of s.slot) ≡ Some (hart_of s.reached)
   pub book : new_b ≡ record b { history = b.history ++ entry s.hart s.local s.refuse ∷ [] }
   pub world : world_of new_b ≡ run (world_of b) (entry_choices (entry s.hart s.local s.refuse))
   pub segment : IsFresh new_b s.hart new_s

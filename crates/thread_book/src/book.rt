@@ -2,7 +2,7 @@
 ghost use Rattle.std.specs.Prelude.{◌≡◌, ◌<◌, [], length, Some, IfOk, IfErr};
 ghost use Rattle.hart_step.specs.Hart.{hart_of};
 ghost use Rattle.machine.specs.State.{state};
-ghost use Rattle.thread_book.specs.Book.{replayed, world_of, hart_in_book};
+ghost use Rattle.thread_book.specs.Book.{IsSoundBook, replayed, world_of, hart_in_book};
 ghost use Rattle.thread_book.specs.Present.{IsFresh, GivesNone};
 
 use crate::fault::SegmentFault;
@@ -54,6 +54,9 @@ impl<A: Allocator> Book<A> {
         A: Copy,
         ensures { IfOk result (λ b. b ≡ record { image = image; inputs = inputs; history = [] }) }
     {
+        // What both are known to be is part of what the book keeps.
+        let _ = image.segments();
+        let _ = inputs.words();
         let machine = Machine::start(alloc, &image, &inputs)?;
         let code = Code::new(alloc, &image)?;
         let code = Arc::new(alloc, code)?;
@@ -145,4 +148,13 @@ impl<A: Allocator> Book<A> {
             refuse: false,
         })
     }
+}
+
+/// Each book is of a sound image and of inputs that a machine takes, and its entries are of their
+/// harts.
+pub fn each_book_is_sound<A: Allocator>(book: &Book<A>)
+    ensures { IsSoundBook book.now }
+{
+    // Reading a field gives the proof the invariant.
+    let _ = &book.history;
 }

@@ -88,7 +88,9 @@ impl<A: Allocator> Segment<A> {
 
     /// The book's entry of the segment.
     pub(crate) fn entry(&self) -> Entry
-        ensures { result ≡ entry self.now.hart self.now.local self.now.refuse }
+        ensures entry { result ≡ entry self.now.hart self.now.local self.now.refuse }
+        ensures walked { walk (segments_memory self.now.code) self.now.local (hart_of self.now.slot)
+            ≡ Some (hart_of self.now.reached) }
     {
         Entry {
             hart: self.hart,

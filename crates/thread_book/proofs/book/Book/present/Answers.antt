@@ -16,8 +16,10 @@ enter-requires-clause-code g c =
 pub invariant_of-self-2 : goal.invariant_of-self-2
 invariant_of-self-2 g c =
     let b = c.self.inside in
-    kept_more b.image b.inputs b.history.items c.push.new.self.items (arc_value b.code) (state b.machine) (state c.enter.new.machine) _ c.self.invariant
-    (c.in-Ok.ensures.items ∙ ap (λ e. b.history.items ++ e ∷ []) c.entry.ensures) c.enter.ensures
+    let s = c.args.segment.now in
+    kept_more b.image b.inputs b.history.items c.push.new.self.items (arc_value b.code) (state b.machine) (state c.enter.new.machine) (entry s.hart s.local s.refuse) c.self.invariant
+    (omega (arith, c.hart-number.ensures))
+    (c.in-Ok.ensures.items ∙ ap (λ e. b.history.items ++ e ∷ []) c.entry.ensures.entry) c.enter.ensures
 
 pub returns-clause-ok : goal.returns-clause-ok
 returns-clause-ok g c =
@@ -25,7 +27,7 @@ returns-clause-ok g c =
     let s = c.args.segment.now in
     let there : s.hart < length c.args.self.now.inputs =
     omega (arith, c.hart-number.ensures, ap (λ (v : BookValue). length v.inputs) c.self.view_is) in
-    presented c.args.self.now _ s c.restart.new.self c.hart-number.result c.hart.result.now there c.if-not-is_current.ensures
-    (ap (λ h. record { image = b.image; inputs = b.inputs; history = h }) (c.in-Ok.ensures.items ∙ ap (λ e. b.history.items ++ e ∷ []) c.entry.ensures)
+    presented c.args.self.now _ s c.restart.new.self c.hart-number.result c.hart.result.now there c.if-not-is_current.ensures c.entry.ensures.walked
+    (ap (λ h. record { image = b.image; inputs = b.inputs; history = h }) (c.in-Ok.ensures.items ∙ ap (λ e. b.history.items ++ e ∷ []) c.entry.ensures.entry)
     ∙ ap (λ (v : BookValue). record v { history = v.history ++ entry s.hart s.local s.refuse ∷ [] }) c.self.view_is)
     c.hart-number.ensures c.hart.ensures c.restart.ensures
