@@ -9,6 +9,7 @@ use Rattle.hart_step.specs.declared.hart.HartState.{HartState}
 use Rattle.hart_step.specs.declared.hart.HartState.TheVariants.{Running, Exited, Faulted}
 use Rattle.machine.specs.Start.{started}
 use Rattle.machine.specs.World.{run}
+use Rattle.machine.specs.Chosen.{own, refusals}
 use Rattle.machine.specs.declared.choice.Choice.{Choice}
 use Rattle.machine.proofs.RunLaws.{length-started, run_length}
 use Rattle.sched_text.specs.Reading.{choices_read}
@@ -34,7 +35,7 @@ use Rattle.program_open.specs.Opening.{Opened, after_program, opening, with_choi
 use Rattle.program_open.specs.declared.program.ProgramForm.{ProgramForm}
 use Rattle.program_open.specs.declared.command_fault.CommandFault.TheVariants as fault
 use Rattle.cmd_run.specs.Certified.{IsMeantFor}
-use Rattle.cmd_run.specs.Enough.{ChooseEnough, EndsWell, IsChosenEnough}
+use Rattle.cmd_run.specs.Enough.{enough, EndsWell, IsChosenEnough}
 use Rattle.cmd_run.specs.Run.{run_after, run_answer, world_after}
 use Rattle.cmd_run.proofs.CertifiedLemmas.{object_is_kept}
 
@@ -67,19 +68,19 @@ well : (exit : Exit) (running : ℕ) → running ≡ 0 → status_by false (fals
 well May running e = refl
 well Must running e = ap (λ n. status_by false (false || (false || ltb 0 n))) e
 
--- each hart of an object that is chosen often enough has exited
-exited : (kind : Kind) (image : ImageValue) (inputs : List ℕ) (choices : List Choice) → IsSame image (image_of kind)
+-- a hart of an object that is chosen often enough has exited
+pub exited : (kind : Kind) (image : ImageValue) (inputs : List ℕ) (choices : List Choice) → IsSame image (image_of kind)
     → IsMeantFor kind (length inputs) → All (λ x. x < 2 ^ 32) inputs → All (λ c. c.hart < length inputs) choices
-    → ChooseEnough kind (length inputs) choices → (h : ℕ) (d : HartValue) → h < length inputs
+    → (h : ℕ) (d : HartValue) → h < length inputs → enough kind (length inputs) (refusals choices h) ≤ own choices h
     → HasExited (slice_index_or (run (started image inputs) choices).harts h d)
-exited Swap image inputs choices same meant words there often h d lt = swap_ends_in image same inputs choices meant words there h d lt (often h lt)
-exited Add image inputs choices same meant words there often h d lt = add_ends_in image same inputs choices meant words there h d lt (often h lt)
-exited LrSc image inputs choices same meant words there often h d lt =
-    lrsc_ends_in most_harts image (omega arith) same inputs choices meant words there h d lt (often h lt)
-exited AdoptCommit image inputs choices same meant words there often h d lt =
-    adopt_ends_in most_harts image (omega arith) same inputs choices meant words there h d lt (often h lt)
-exited Rounds image inputs choices same meant words there often h d lt =
-    rounds_ends_in image same inputs choices meant words there h d lt (often h lt)
+exited Swap image inputs choices same meant words there h d lt often = swap_ends_in image same inputs choices meant words there h d lt often
+exited Add image inputs choices same meant words there h d lt often = add_ends_in image same inputs choices meant words there h d lt often
+exited LrSc image inputs choices same meant words there h d lt often =
+    lrsc_ends_in most_harts image (omega arith) same inputs choices meant words there h d lt often
+exited AdoptCommit image inputs choices same meant words there h d lt often =
+    adopt_ends_in most_harts image (omega arith) same inputs choices meant words there h d lt often
+exited Rounds image inputs choices same meant words there h d lt often =
+    rounds_ends_in image same inputs choices meant words there h d lt often
 
 ends_well : (form : ProgramForm) (inputs : List ℕ) (expect : Expect) (program text : List ℕ) → All (λ x. x < 2 ^ 32) inputs
     → IsChosenEnough form program inputs expect.rule text → EndsWell (run_answer form inputs expect program text)
@@ -113,7 +114,8 @@ ends_well form inputs expect program text words e =
     quiet : counted end.Running harts ≡ 0
     quiet =
         none_runs harts (λ h d lt.
-        exited e.object.kind e.object.image inputs e.choices e.object.same e.object.meant words there e.often h d (subst (λ k. h < k) as_many lt))
+        let below = subst (λ k. h < k) as_many lt in
+        exited e.object.kind e.object.image inputs e.choices e.object.same e.object.meant words there h d below (e.often h below))
 
     kept : verdict_on expect.rule inputs e.choices harts ≡ Some Kept
     kept =

@@ -1,2 +1,3 @@
 pub mod Threads
+pub mod Exits
 pub mod BankedAnswer
