@@ -8,7 +8,7 @@ use Rattle.sched_text.specs.Reading.{choices_read}
 use Rattle.sched_text.proofs.Agreement.{choices_of-spelled}
 use Rattle.sched_text.proofs.PrintLemmas.{runs_spell}
 use Rattle.byte_io.specs.declared.status.Status.TheVariants as status
-use Rattle.explore_space.specs.Every.{hart_choices, meant_choices, HoldsOfEvery, IsListOf}
+use Rattle.explore_space.specs.Every.{hart_choices, meant_choices, CountsPlaces, HoldsOfEvery, IsListOf}
 use Rattle.explore_space.specs.declared.exploring.Answer.{Answer}
 use Rattle.explore_space.specs.declared.exploring.Answer.TheVariants.{Holds, Fails}
 use Rattle.explore_space.specs.declared.exploring.Failing.{Failing}
@@ -56,22 +56,24 @@ read_again refusals n choices text few are is =
 
 -- ---- what is told
 module _ {Z : Type 0} (question : Question) (image : ImageValue) (inputs : List ℕ) (found : Explored Z) where
-  pub tells_worlds : (worlds : ℕ) → HoldsOfEvery {Z} question.rule question.refusals image inputs (Holds worlds)
-      → string_bytes found.text ≡ worlds_line worlds → found.status ≡ status.Done → found.turns ≡ None
+  pub tells_worlds : (worlds : ℕ) → HoldsOfEvery {Z = Z} question.rule question.refusals image inputs (Holds worlds)
+      → CountsPlaces {Z = Z} question.refusals image inputs question.most (Holds worlds) → string_bytes found.text ≡ worlds_line worlds → found.status ≡ status.Done → found.turns ≡ None
       → IsExplored question image inputs found
-  tells_worlds worlds holds text status turns = record {
+  tells_worlds worlds holds counts text status turns = record {
     answer = Holds worlds;
     holds = holds;
+    counts = counts;
     told = (text, status, turns);
   }
 
   pub tells_failing : length inputs < 2 ^ 32 → (failing : Failing Z)
-      → HoldsOfEvery {Z} question.rule question.refusals image inputs (Fails failing)
+      → HoldsOfEvery {Z = Z} question.rule question.refusals image inputs (Fails failing)
       → string_bytes found.text ≡ runs_text failing.choices.items → found.status ≡ failing_status question.rule
       → found.turns ≡ Some failing.turns → IsExplored question image inputs found
   tells_failing few failing fails text status turns = record {
     answer = Fails failing;
     holds = fails;
+    counts = tt;
     told = (
       text,
       read_again question.refusals (length inputs) failing.choices.items (string_bytes found.text) few fails.meant_ones text,

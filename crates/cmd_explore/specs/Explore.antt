@@ -11,7 +11,7 @@ use Rattle.byte_io.specs.declared.status.Status.{Status}
 use Rattle.byte_io.specs.declared.status.Status.TheVariants as status
 use Rattle.program_open.specs.declared.command_fault.CommandFault.{CommandFault}
 use Rattle.program_open.specs.declared.command_fault.CommandFault.TheVariants as fault
-use Rattle.explore_space.specs.Every.{HoldsOfEvery}
+use Rattle.explore_space.specs.Every.{CountsPlaces, HoldsOfEvery}
 use Rattle.explore_space.specs.declared.exploring.Answer.{Answer}
 use Rattle.explore_space.specs.declared.exploring.Answer.TheVariants.{Holds, Fails, Undecided}
 use Rattle.cmd_explore.specs.declared.question.Question.{Question}
@@ -40,6 +40,7 @@ TellsEvery rule harts Undecided found = ⊥
 pub record IsExplored {Z : Type 0} (question : Question) (image : ImageValue) (inputs : List ℕ) (found : Explored Z) : Type 0 where
   pub answer : Answer Z
   pub holds : HoldsOfEvery question.rule question.refusals image inputs answer
+  pub counts : CountsPlaces question.refusals image inputs question.most answer
   pub told : TellsEvery question.rule (length inputs) answer found
 
 -- the same of an image that may have been opened
@@ -47,7 +48,11 @@ abbrev pub ExploresOpened : {Z : Type 0} → Question → List ℕ → Result Im
 ExploresOpened question inputs (Ok image) found = IsExplored question image inputs found
 ExploresOpened question inputs (Err why) found = ⊥
 
+-- choices lead to more worlds of an image than may be looked at
+abbrev pub HasTooMany : Question → ImageValue → List ℕ → Type 0
+HasTooMany question image inputs = CountsPlaces {Z = Unit {0}} question.refusals image inputs question.most Undecided
+
 -- why nothing is told: the file or the number of inputs is invalid, or there are too many worlds
-abbrev pub RefusesOpened : ℕ → Result ImageValue CommandFault → CommandFault → Type 0
-RefusesOpened most (Ok image) why = why ≡ fault.Undecided most
-RefusesOpened most (Err why) other = other ≡ why
+abbrev pub RefusesOpened : Question → List ℕ → Result ImageValue CommandFault → CommandFault → Type 0
+RefusesOpened question inputs (Ok image) why = (why ≡ fault.Undecided question.most) × HasTooMany question image inputs
+RefusesOpened question inputs (Err why) other = other ≡ why

@@ -4,7 +4,7 @@ ghost use Rattle.std.specs.Prelude.{◌≡◌, ◌-◌, ◌^◌, ◌<◌, None, 
 ghost use Rattle.machine.specs.Start.{IsStartable};
 ghost use Rattle.program_open.specs.CommandFaults.{IfNames, IsRefusal};
 ghost use Rattle.program_open.specs.Opening.{program_opening};
-ghost use Rattle.cmd_explore.specs.Explore.{failing_status, ExploresOpened, IsExplored, RefusesOpened};
+ghost use Rattle.cmd_explore.specs.Explore.{failing_status, ExploresOpened, HasTooMany, IsExplored, RefusesOpened};
 
 use crate::holding::worlds_line;
 use crate::question::{Explored, Question};
@@ -35,7 +35,8 @@ fn explored<A: Allocator + Copy>(
     question: Question,
 ) -> Result<Option<Explored<A>>, AllocError>
     requires { IsStartable inputs.now }
-    ensures { IfOk result (λ answer. IfSome answer (λ found. IsExplored question image.now inputs.now found)) }
+    ensures told { IfOk result (λ answer. IfSome answer (λ found. IsExplored question image.now inputs.now found)) }
+    ensures too_many { result ≡ Ok None → HasTooMany question image.now inputs.now }
 {
     let (rule, refusals) = (question.rule, question.refusals);
     match explore(alloc, image, inputs, rule, refusals, question.most)? {
@@ -68,7 +69,7 @@ pub fn explore_engine<A: Allocator + Copy, P: Source>(
     // An input is invalid, or there are too many worlds.
     ensures refused { IfErr result (λ fault. IsRefusal fault
         → IfSome (P.left program.old) (λ p.
-        RefusesOpened question.most (program_opening ProgramForm.Elf (length inputs.now) p) fault)) }
+        RefusesOpened question inputs.now (program_opening ProgramForm.Elf (length inputs.now) p) fault)) }
     // The program's device is named only if it failed, and no other is.
     ensures read { IfErr result (λ fault. IfNames fault
         (P.failures program.old < P.failures program.new) ⊥ ⊥ ⊥) }
