@@ -8,3 +8,5 @@ pub mod Each
 pub mod Lexemes
 pub mod Statements
 pub mod Symbols
+pub mod ListedLemmas
+pub mod SameLemmas

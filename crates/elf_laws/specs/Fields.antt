@@ -1,6 +1,6 @@
 -- A written file, each field at its place: its offset in the file, its width in bytes, its value.
 use Rattle.std.specs.Prelude.{◌≡◌, ℕ, ◌+◌, ◌*◌, ◌-◌, ◌%◌, ◌^◌, ◌<◌, ◌≤◌, ◌==◌, if◌then◌else◌, not, List, [], ◌∷◌, ◌++◌, length, take, drop, filter, replicate, codes}
-use Rattle.std.specs.List.{sum_by}
+use Rattle.std.specs.List.{All, sum_by}
 use Rattle.byteorder.specs.Endian.{little_number}
 use Rattle.asm_statement.specs.declared.statement.Section.{Section}
 use Rattle.asm_statement.specs.declared.statement.Section.TheVariants as section
@@ -178,3 +178,9 @@ pub record HasFields (p : ProgramValue) (bytes : List ℕ) : Type 0 where
 abbrev pub WrittenHasFields : (ProgramValue → List ℕ) → Type 0
 WrittenHasFields file =
     (p : ProgramValue) → length p.text + memory_size p ≤ 2 ^ 24 → p.entry < 2 ^ 32 → HasFields p (file p)
+
+-- the fields fix the bytes: two files that have those of a program are the same
+abbrev pub FieldsFixBytes : Type 0
+FieldsFixBytes =
+    (p : ProgramValue) (one other : List ℕ) → All (λ b. b < 256) one → All (λ b. b < 256) other
+    → HasFields p one → HasFields p other → one ≡ other

@@ -1,3 +1,4 @@
 pub mod Fields
 pub mod Given
 pub mod Labels
+pub mod Listed
