@@ -3,11 +3,10 @@
 ghost use Rattle.std.specs.Prelude.{◌+◌, ◌-◌, ◌<◌, ◌≤◌, ◌^◌, IfOk};
 
 use crate::watching::Watching;
-use byte_io::{MemorySource, Progress, ReaderSource, Source, Status, WriterSink};
-use cli_args::read_inputs;
+use byte_io::{MemorySource, Progress, Source, Status, WriterSink};
 use cli_orders::CampaignOrder;
 use cli_report::{
-    Audience, RunFiles, WIPE, bad_line, cannot_open, explain_ends, read_again, read_rule, refuse,
+    Audience, RunFiles, WIPE, bad_line, explain_ends, inputs_said, open_one, read_again, rule_said,
     say_why, wipe_line,
 };
 use cli_values::{read_draw, read_report, read_seed_numbers};
@@ -15,9 +14,9 @@ use cmd_campaign::{Campaign, Exit, Expect, Finished, campaign_engine};
 use cmd_schedule::{SeedPlan, seed_engine};
 use program_open::ProgramForm;
 use sched_draw::Order;
+use std::io;
 use std::rt::Files;
 use std::thread::Threads;
-use std::{fs, io};
 
 // Shows a person how far a campaign is.
 #[derive(Drop)]
@@ -54,13 +53,11 @@ fn what_is_bad(expect: Expect) -> &'static str {
 
 // What an order expects of each run, or the status of an invalid line.
 fn read_expect<R: Print + Eprint>(rt: &R, order: &CampaignOrder) -> Result<Expect, Status> {
-    match read_rule(order.rule) {
-        Ok(rule) => Ok(Expect {
-            rule,
-            exit: exit_of(order),
-        }),
-        Err(fault) => Err(refuse(rt, &fault)),
-    }
+    let rule = rule_said(rt, order.rule)?;
+    Ok(Expect {
+        rule,
+        exit: exit_of(order),
+    })
 }
 
 // The campaign that an order asks for, or the status of an invalid line.
@@ -109,28 +106,18 @@ pub fn obey_campaign<R: Files + AllocGlobal + Print + Eprint + Threads + Sync>(
     rt: &R,
     audience: Audience,
     order: &CampaignOrder,
-) -> Status {
-    let inputs = match read_inputs(rt.alloc(), order.inputs) {
-        Ok(inputs) => inputs,
-        Err(fault) => return refuse(rt, &fault),
-    };
-    let campaign = match read_campaign(rt, order) {
-        Ok(campaign) => campaign,
-        Err(status) => return status,
-    };
-    let program = match fs::open(rt, order.file) {
-        Ok(program) => program,
-        Err(error) => return cannot_open(rt, audience, order.file, &error),
-    };
-    let mut program = ReaderSource::new(program);
-    report_campaign(
+) -> Result<Status, Status> {
+    let inputs = inputs_said(rt, order.inputs)?;
+    let campaign = read_campaign(rt, order)?;
+    let mut program = open_one(rt, audience, order.file)?;
+    Ok(report_campaign(
         rt,
         audience,
         order,
         inputs.as_slice(),
         campaign,
         &mut program,
-    )
+    ))
 }
 
 // Runs a program under the schedule of each seed and reports it, with hints for a person.

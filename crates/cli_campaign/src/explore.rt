@@ -1,24 +1,21 @@
 //! Runs `explore`.
 
-use byte_io::{ReaderSource, Status, WriterSink};
-use cli_args::read_inputs;
+use byte_io::{Status, WriterSink};
 use cli_orders::ExploreOrder;
 use cli_report::{
-    Audience, RunFiles, bad_line, cannot_open, explain_ends, read_again, read_rule, refuse, say_why,
+    Audience, RunFiles, bad_line, explain_ends, inputs_said, open_one, read_again, rule_said,
+    say_why,
 };
 use cli_values::{WORLDS, read_worlds};
 use cmd_explore::{Explored, Question, explore_engine, read_refusals};
 use program_open::{CommandFault, ProgramForm, write_text};
 use std::alloc::Global;
+use std::io;
 use std::rt::Files;
-use std::{fs, io};
 
 // What an order asks, or the status of an invalid line.
 fn read_question<R: Print + Eprint>(rt: &R, order: &ExploreOrder) -> Result<Question, Status> {
-    let rule = match read_rule(order.rule) {
-        Ok(rule) => rule,
-        Err(fault) => return Err(refuse(rt, &fault)),
-    };
+    let rule = rule_said(rt, order.rule)?;
     let Some(refusals) = read_refusals(order.refusals) else {
         return Err(bad_line(rt, "--refusals of explore takes never"));
     };
@@ -38,22 +35,13 @@ pub fn obey_explore<R: Files + AllocGlobal + Print + Eprint>(
     rt: &R,
     audience: Audience,
     order: &ExploreOrder,
-) -> Status {
-    let inputs = match read_inputs(rt.alloc(), order.inputs) {
-        Ok(inputs) => inputs,
-        Err(fault) => return refuse(rt, &fault),
-    };
-    let question = match read_question(rt, order) {
-        Ok(question) => question,
-        Err(status) => return status,
-    };
-    let mut program = match fs::open(rt, order.file) {
-        Ok(file) => ReaderSource::new(file),
-        Err(error) => return cannot_open(rt, audience, order.file, &error),
-    };
+) -> Result<Status, Status> {
+    let inputs = inputs_said(rt, order.inputs)?;
+    let question = read_question(rt, order)?;
+    let mut program = open_one(rt, audience, order.file)?;
     match explore_engine(rt.alloc(), inputs.as_slice(), question, &mut program) {
         Ok(found) => tell(rt, audience, order, inputs.as_slice(), &found),
-        Err(fault) => tell_fault(rt, audience, order, inputs.len(), fault),
+        Err(fault) => Err(tell_fault(rt, audience, order, inputs.len(), fault)),
     }
 }
 
@@ -64,15 +52,15 @@ fn tell<R: Files + AllocGlobal + Print + Eprint>(
     order: &ExploreOrder,
     inputs: &[u32],
     found: &Explored<Global>,
-) -> Status {
+) -> Result<Status, Status> {
     let mut sink = WriterSink::new(io::writer(rt));
     if let Err(fault) = write_text(&mut sink, found.text.as_bytes()) {
-        return tell_fault(rt, audience, order, inputs.len(), fault);
+        return Err(tell_fault(rt, audience, order, inputs.len(), fault));
     }
     if audience == Audience::Person {
         let _ = explain_list(rt, order, inputs, found);
     }
-    found.status
+    Ok(found.status)
 }
 
 // Reports why there is no answer.

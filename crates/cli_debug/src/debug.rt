@@ -2,9 +2,10 @@
 
 use crate::conversation::talk_to_person;
 use byte_io::{Progress, ReaderSource, Status, WriterSink};
-use cli_args::read_inputs;
 use cli_orders::DebugOrder;
-use cli_report::{Audience, RunFiles, WIPE, open_both, out_of_memory, refuse, say_why, wipe_line};
+use cli_report::{
+    Audience, RunFiles, WIPE, inputs_said, open_both, out_of_memory, say_why, wipe_line,
+};
 use cmd_debug::{DebugEngineFault, debug_engine};
 use program_open::ProgramForm;
 use std::io::{self, BufReader, Input};
@@ -37,24 +38,18 @@ pub fn obey_debug<R: Files + AllocGlobal + Print + Eprint + Input>(
     audience: Audience,
     talk: Audience,
     order: &DebugOrder,
-) -> Status {
-    let inputs = match read_inputs(rt.alloc(), order.inputs) {
-        Ok(inputs) => inputs,
-        Err(fault) => return refuse(rt, &fault),
-    };
-    let (mut program, mut choices) = match open_both(rt, audience, order.file, order.choices) {
-        Ok(files) => files,
-        Err(status) => return status,
-    };
+) -> Result<Status, Status> {
+    let inputs = inputs_said(rt, order.inputs)?;
+    let (mut program, mut choices) = open_both(rt, audience, order.file, order.choices)?;
     let mut line = Line { rt, audience };
     if talk == Audience::Person {
         return match talk_to_person(rt, inputs.as_slice(), &mut program, &mut choices, &mut line) {
-            Ok(status) => status,
-            Err(fault) => tell(rt, audience, order, fault, inputs.len()),
+            Ok(status) => Ok(status),
+            Err(fault) => Err(tell(rt, audience, order, fault, inputs.len())),
         };
     }
     let Ok(reader) = BufReader::new(rt.alloc(), rt.reader()) else {
-        return out_of_memory(rt);
+        return Err(out_of_memory(rt));
     };
     let mut commands = ReaderSource::new(reader);
     let mut sink = WriterSink::new(io::writer(rt));
@@ -67,8 +62,8 @@ pub fn obey_debug<R: Files + AllocGlobal + Print + Eprint + Input>(
         &mut sink,
         &mut line,
     ) {
-        Ok(status) => status,
-        Err(fault) => tell(rt, audience, order, fault, inputs.len()),
+        Ok(status) => Ok(status),
+        Err(fault) => Err(tell(rt, audience, order, fault, inputs.len())),
     }
 }
 

@@ -12,6 +12,21 @@ use std::fs;
 use std::os::unix::fs::MetadataExt;
 use std::rt::Files;
 
+/// Opens a file to read, or reports that it can't be opened.
+pub fn open_one<R: Files + AllocGlobal + Eprint>(
+    rt: &R,
+    audience: Audience,
+    path: &str,
+) -> Result<ReaderSource<R::File>, Status>
+    ensures unfailed { IfOk result (λ file. ⟦<ReaderSource<R::File> as Source>⟧.failures file ≡ 0) }
+    ensures err { IfErr result (λ status. status ≢ Status.Done) }
+{
+    match fs::open(rt, path) {
+        Ok(file) => Ok(ReaderSource::new(file)),
+        Err(error) => Err(cannot_open(rt, audience, path, &error)),
+    }
+}
+
 /// Opens a program and the text beside it, or reports which can't be opened. Neither is read before
 /// both are open.
 pub fn open_both<R: Files + AllocGlobal + Eprint>(
@@ -26,15 +41,9 @@ pub fn open_both<R: Files + AllocGlobal + Eprint>(
         ⟦<ReaderSource<R::File> as Source>⟧.failures files.1 ≡ 0) }
     ensures err { IfErr result (λ status. status ≢ Status.Done) }
 {
-    let first = match fs::open(rt, program) {
-        Ok(file) => file,
-        Err(error) => return Err(cannot_open(rt, audience, program, &error)),
-    };
-    let second = match fs::open(rt, text) {
-        Ok(file) => file,
-        Err(error) => return Err(cannot_open(rt, audience, text, &error)),
-    };
-    Ok((ReaderSource::new(first), ReaderSource::new(second)))
+    let first = open_one(rt, audience, program)?;
+    let second = open_one(rt, audience, text)?;
+    Ok((first, second))
 }
 
 /// Reports why a command gives no answer, and explains it to a person.

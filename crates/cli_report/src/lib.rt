@@ -5,12 +5,13 @@
 pub use arguments::read_arguments;
 pub use audience::Audience;
 pub use explain::{RunFiles, explain_ends, explain_line, explain_run, read_again, show};
-pub use files::{is_same_file, open_both, say_why};
+pub use files::{is_same_file, open_both, open_one, say_why};
 pub use objects::{read_object, read_rule};
 pub use progress_line::{WIPE, wipe_line};
 pub use report::{
     bad_line, cannot_open, cannot_read, cannot_write, out_of_memory, refuse, say, would_overwrite,
 };
+pub use said::{inputs_said, rule_said};
 
 mod arguments;
 mod audience;
@@ -19,3 +20,4 @@ mod files;
 mod objects;
 mod progress_line;
 mod report;
+mod said;

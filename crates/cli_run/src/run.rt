@@ -1,33 +1,25 @@
 //! Runs `run`.
 
 use byte_io::{Status, WriterSink};
-use cli_args::{RunOrder, read_inputs};
+use cli_args::RunOrder;
 use cli_report::{
-    Audience, RunFiles, explain_ends, open_both, read_again, read_rule, refuse, say_why,
+    Audience, RunFiles, explain_ends, inputs_said, open_both, read_again, rule_said, say_why,
 };
 use cmd_run::{Exit, Expect, run_engine};
 use program_open::{ProgramForm, deliver};
 use std::io;
 use std::rt::Files;
 
-/// Runs a program under a schedule. Both files are opened before either is read.
+/// Runs a program under a schedule. Both files are opened before either is read. The
+/// error is the status of what was refused, which is reported.
 pub fn obey_run<R: Files + AllocGlobal + Print + Eprint>(
     rt: &R,
     audience: Audience,
     order: &RunOrder,
-) -> Status {
-    let inputs = match read_inputs(rt.alloc(), order.inputs) {
-        Ok(inputs) => inputs,
-        Err(fault) => return refuse(rt, &fault),
-    };
-    let rule = match read_rule(order.rule) {
-        Ok(rule) => rule,
-        Err(fault) => return refuse(rt, &fault),
-    };
-    let (mut program, mut choices) = match open_both(rt, audience, order.file, order.choices) {
-        Ok(files) => files,
-        Err(status) => return status,
-    };
+) -> Result<Status, Status> {
+    let inputs = inputs_said(rt, order.inputs)?;
+    let rule = rule_said(rt, order.rule)?;
+    let (mut program, mut choices) = open_both(rt, audience, order.file, order.choices)?;
     let expect = Expect {
         rule,
         exit: exit_of(order),
@@ -51,9 +43,9 @@ pub fn obey_run<R: Files + AllocGlobal + Print + Eprint>(
             if status == Status::Faulted && audience == Audience::Person {
                 let _ = explain_faults(rt, order, inputs.as_slice());
             }
-            status
+            Ok(status)
         }
-        Err(fault) => say_why(rt, audience, files, fault),
+        Err(fault) => Err(say_why(rt, audience, files, fault)),
     }
 }
 

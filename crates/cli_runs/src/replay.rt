@@ -2,32 +2,25 @@
 
 use crate::history_hint::history_advice;
 use byte_io::{Status, WriterSink};
-use cli_args::read_inputs;
 use cli_orders::ReplayOrder;
-use cli_report::{Audience, RunFiles, open_both, read_again, read_rule, refuse, say_why, show};
+use cli_report::{
+    Audience, RunFiles, inputs_said, open_both, read_again, rule_said, say_why, show,
+};
 use cmd_replay::replay_engine;
 use program_open::{ProgramForm, deliver};
 use std::io;
 use std::rt::Files;
 
-/// Runs a program under a history. Both files are opened before either is read.
+/// Runs a program under a history. Both files are opened before either is read. The
+/// error is the status of what was refused, which is reported.
 pub fn obey_replay<R: Files + AllocGlobal + Print + Eprint>(
     rt: &R,
     audience: Audience,
     order: &ReplayOrder,
-) -> Status {
-    let inputs = match read_inputs(rt.alloc(), order.inputs) {
-        Ok(inputs) => inputs,
-        Err(fault) => return refuse(rt, &fault),
-    };
-    let rule = match read_rule(order.rule) {
-        Ok(rule) => rule,
-        Err(fault) => return refuse(rt, &fault),
-    };
-    let (mut program, mut history) = match open_both(rt, audience, order.file, order.history) {
-        Ok(files) => files,
-        Err(status) => return status,
-    };
+) -> Result<Status, Status> {
+    let inputs = inputs_said(rt, order.inputs)?;
+    let rule = rule_said(rt, order.rule)?;
+    let (mut program, mut history) = open_both(rt, audience, order.file, order.history)?;
     let answer = replay_engine(
         rt.alloc(),
         inputs.as_slice(),
@@ -46,9 +39,9 @@ pub fn obey_replay<R: Files + AllocGlobal + Print + Eprint>(
             if status == Status::Faulted && audience == Audience::Person {
                 let _ = explain_faults(rt, order, inputs.as_slice());
             }
-            status
+            Ok(status)
         }
-        Err(fault) => say_why(rt, audience, files, fault),
+        Err(fault) => Err(say_why(rt, audience, files, fault)),
     }
 }
 

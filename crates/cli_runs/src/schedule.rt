@@ -2,10 +2,10 @@
 
 ghost use Rattle.std.specs.Prelude.{◌≡◌};
 
-use byte_io::{ReaderSource, Status, WriterSink};
-use cli_args::{read_inputs, read_word};
+use byte_io::{Status, WriterSink};
+use cli_args::read_word;
 use cli_orders::ScheduleOrder;
-use cli_report::{Audience, RunFiles, bad_line, cannot_open, refuse, say, say_why};
+use cli_report::{Audience, RunFiles, bad_line, inputs_said, open_one, say, say_why};
 use cli_values::{
     DRAWS, OrderFault, REFUSALS, read_draw, read_order, read_refusals, read_schedule,
     read_seed_plan,
@@ -13,8 +13,8 @@ use cli_values::{
 use cmd_schedule::{Plan, PlanFault, schedule_engine, seed_engine};
 use program_open::{ProgramForm, deliver};
 use sched_draw::{Draw, Order};
+use std::io;
 use std::rt::Files;
-use std::{fs, io};
 
 const NUMBERS: &str =
     "--harts and --steps take decimal numbers, and one of --seed S, --turns and --only H says how the choices are made, \
@@ -150,24 +150,23 @@ pub fn obey_schedule<R: Files + AllocGlobal + Print + Eprint>(
     rt: &R,
     audience: Audience,
     order: &ScheduleOrder,
-) -> Status {
-    match run_of(rt, order) {
-        Ok(Some(run)) => print_run_choices(rt, audience, order, run),
-        Ok(None) => print_plan(rt, order),
-        Err(status) => status,
+) -> Result<Status, Status> {
+    match run_of(rt, order)? {
+        Some(run) => print_run_choices(rt, audience, order, run),
+        None => print_plan(rt, order),
     }
 }
 
 // Prints the choice text of a schedule that is the same in each run.
-fn print_plan<R: AllocGlobal + Print + Eprint>(rt: &R, order: &ScheduleOrder) -> Status {
-    let plan = match read_plan(rt, order) {
-        Ok(plan) => plan,
-        Err(status) => return status,
-    };
+fn print_plan<R: AllocGlobal + Print + Eprint>(
+    rt: &R,
+    order: &ScheduleOrder,
+) -> Result<Status, Status> {
+    let plan = read_plan(rt, order)?;
     let mut sink = WriterSink::new(io::writer(rt));
     match deliver(&mut sink, schedule_engine(rt.alloc(), plan)) {
-        Ok(status) => status,
-        Err(fault) => say(rt, fault),
+        Ok(status) => Ok(status),
+        Err(fault) => Err(say(rt, fault)),
     }
 }
 
@@ -177,25 +176,18 @@ fn print_run_choices<R: Files + AllocGlobal + Print + Eprint>(
     audience: Audience,
     order: &ScheduleOrder,
     run: RunOrder,
-) -> Status {
-    let inputs = match read_inputs(rt.alloc(), run.inputs) {
-        Ok(inputs) => inputs,
-        Err(fault) => return refuse(rt, &fault),
-    };
+) -> Result<Status, Status> {
+    let inputs = inputs_said(rt, run.inputs)?;
     let Some(harts) = read_word(order.harts) else {
-        return bad_line(rt, NUMBERS);
+        return Err(bad_line(rt, NUMBERS));
     };
     if harts as usize != inputs.len() {
-        return bad_line(rt, "--inputs has an input for each of --harts");
+        return Err(bad_line(rt, "--inputs has an input for each of --harts"));
     }
     let Some(plan) = read_seed_plan(run.draw, order.steps, run.seed) else {
-        return bad_line(rt, NUMBERS);
+        return Err(bad_line(rt, NUMBERS));
     };
-    let program = match fs::open(rt, run.file) {
-        Ok(program) => program,
-        Err(error) => return cannot_open(rt, audience, run.file, &error),
-    };
-    let mut program = ReaderSource::new(program);
+    let mut program = open_one(rt, audience, run.file)?;
     let mut sink = WriterSink::new(io::writer(rt));
     let answer = seed_engine(rt.alloc(), inputs.as_slice(), plan, &mut program);
     let files = RunFiles {
@@ -205,7 +197,7 @@ fn print_run_choices<R: Files + AllocGlobal + Print + Eprint>(
         harts: inputs.len(),
     };
     match deliver(&mut sink, answer) {
-        Ok(status) => status,
-        Err(fault) => say_why(rt, audience, files, fault),
+        Ok(status) => Ok(status),
+        Err(fault) => Err(say_why(rt, audience, files, fault)),
     }
 }

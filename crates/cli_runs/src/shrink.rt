@@ -1,9 +1,8 @@
 //! Runs `shrink`.
 
 use byte_io::{Status, WriterSink};
-use cli_args::read_inputs;
 use cli_orders::ShrinkOrder;
-use cli_report::{Audience, RunFiles, WIPE, open_both, read_rule, refuse, say_why, show};
+use cli_report::{Audience, RunFiles, WIPE, inputs_said, open_both, rule_said, say_why, show};
 use cmd_shrink::{ChoicesLeft, shrink_engine};
 use outcome::{Exit, Expect};
 use program_open::{CommandFault, ProgramForm, deliver};
@@ -39,19 +38,10 @@ pub fn obey_shrink<R: Files + AllocGlobal + Print + Eprint>(
     rt: &R,
     audience: Audience,
     order: &ShrinkOrder,
-) -> Status {
-    let inputs = match read_inputs(rt.alloc(), order.inputs) {
-        Ok(inputs) => inputs,
-        Err(fault) => return refuse(rt, &fault),
-    };
-    let rule = match read_rule(order.rule) {
-        Ok(rule) => rule,
-        Err(fault) => return refuse(rt, &fault),
-    };
-    let (mut program, mut choices) = match open_both(rt, audience, order.file, order.choices) {
-        Ok(files) => files,
-        Err(status) => return status,
-    };
+) -> Result<Status, Status> {
+    let inputs = inputs_said(rt, order.inputs)?;
+    let rule = rule_said(rt, order.rule)?;
+    let (mut program, mut choices) = open_both(rt, audience, order.file, order.choices)?;
     let exit = if order.must_exit {
         Exit::Must
     } else {
@@ -66,8 +56,8 @@ pub fn obey_shrink<R: Files + AllocGlobal + Print + Eprint>(
         &mut Line { rt, audience },
     );
     match deliver(&mut WriterSink::new(io::writer(rt)), answer) {
-        Ok(status) => status,
-        Err(fault) => tell(rt, audience, order, inputs.len(), fault),
+        Ok(status) => Ok(status),
+        Err(fault) => Err(tell(rt, audience, order, inputs.len(), fault)),
     }
 }
 

@@ -4,12 +4,12 @@ ghost use Rattle.std.specs.Prelude.{◌^◌, ◌-◌, ◌<◌};
 
 use crate::history_hint::history_advice;
 use crate::telling_gate::TellingGate;
-use byte_io::{ReaderSource, Source, Status, WriterSink};
+use byte_io::{Source, Status, WriterSink};
 use cli_args::{LineFault, read_inputs, read_number};
 use cli_orders::{Locks, ThreadsOrder, read_plan};
 use cli_report::{
-    Audience, RunFiles, cannot_open, cannot_write, is_same_file, out_of_memory, read_again,
-    read_rule, refuse, say, say_why, show, would_overwrite,
+    Audience, RunFiles, cannot_write, is_same_file, open_one, out_of_memory, read_again, read_rule,
+    refuse, say, say_why, show, would_overwrite,
 };
 use cmd_threads::{HistoryUse, ThreadsAnswer, ThreadsTask, banked_engine, threads_engine};
 use program_open::{CommandFault, ProgramForm, write_text};
@@ -71,28 +71,24 @@ pub fn obey_threads<R: Files + AllocGlobal + Print + Eprint + Threads + Wait + S
     rt: &R,
     audience: Audience,
     order: &ThreadsOrder,
-) -> Status {
+) -> Result<Status, Status> {
     let task = match read_task(rt.alloc(), order) {
         Ok(task) => task,
-        Err(fault) => return refuse(rt, &fault),
+        Err(fault) => return Err(refuse(rt, &fault)),
     };
-    let program = match fs::open(rt, order.file) {
-        Ok(program) => program,
-        Err(error) => return cannot_open(rt, audience, order.file, &error),
-    };
+    let mut program = open_one(rt, audience, order.file)?;
     if let Some(path) = order.history {
         if is_same_file(rt, order.file, path) {
-            return would_overwrite(rt, path);
+            return Err(would_overwrite(rt, path));
         }
     }
-    let mut program = ReaderSource::new(program);
     let gate = TellingGate::new(rt, audience);
     let history = use_of_history(audience, order);
     let answer = run_task(rt, order.locks, task, history, &mut program, &gate);
     gate.wipe();
     match answer {
         Ok(answer) => write_answer(rt, audience, order, &answer),
-        Err(fault) => tell_fault(rt, audience, order, fault),
+        Err(fault) => Err(tell_fault(rt, audience, order, fault)),
     }
 }
 
@@ -102,11 +98,9 @@ fn write_answer<R: Files + AllocGlobal + Print + Eprint>(
     audience: Audience,
     order: &ThreadsOrder,
     answer: &ThreadsAnswer<Global>,
-) -> Status {
+) -> Result<Status, Status> {
     if let Some(path) = order.history {
-        if let Err(status) = write_history(rt, path, answer.history.as_bytes()) {
-            return status;
-        }
+        write_history(rt, path, answer.history.as_bytes())?;
     }
     match write_text(
         &mut WriterSink::new(io::writer(rt)),
@@ -116,9 +110,9 @@ fn write_answer<R: Files + AllocGlobal + Print + Eprint>(
             if answer.status == Status::Faulted && audience == Audience::Person {
                 let _ = explain_faults(rt, order, answer.history.as_bytes());
             }
-            answer.status
+            Ok(answer.status)
         }
-        Err(fault) => say(rt, fault),
+        Err(fault) => Err(say(rt, fault)),
     }
 }
 

@@ -1,9 +1,8 @@
 //! Runs `trace`.
 
 use byte_io::{Status, WriterSink};
-use cli_args::read_inputs;
 use cli_orders::TraceOrder;
-use cli_report::{Audience, RunFiles, bad_line, open_both, refuse, say_why};
+use cli_report::{Audience, RunFiles, bad_line, inputs_said, open_both, say_why};
 use cli_values::read_trace_plan;
 use cmd_trace::trace_engine;
 use program_open::ProgramForm;
@@ -15,26 +14,20 @@ pub fn obey_trace<R: Files + AllocGlobal + Print + Eprint>(
     rt: &R,
     audience: Audience,
     order: &TraceOrder,
-) -> Status {
-    let inputs = match read_inputs(rt.alloc(), order.inputs) {
-        Ok(inputs) => inputs,
-        Err(fault) => return refuse(rt, &fault),
-    };
+) -> Result<Status, Status> {
+    let inputs = inputs_said(rt, order.inputs)?;
     let Some(plan) = read_trace_plan(order.table, order.from, order.to) else {
-        return bad_line(
+        return Err(bad_line(
             rt,
             "--from and --to take the places of choices, decimal numbers from 1 to 2^64 - 1, as --from 3 --to 37",
-        );
+        ));
     };
     let form = if order.hex {
         ProgramForm::Hex
     } else {
         ProgramForm::Elf
     };
-    let (mut program, mut choices) = match open_both(rt, audience, order.file, order.choices) {
-        Ok(files) => files,
-        Err(status) => return status,
-    };
+    let (mut program, mut choices) = open_both(rt, audience, order.file, order.choices)?;
     let files = RunFiles {
         program: order.file,
         form,
@@ -50,7 +43,7 @@ pub fn obey_trace<R: Files + AllocGlobal + Print + Eprint>(
         &mut choices,
         &mut WriterSink::new(io::writer(rt)),
     ) {
-        Ok(status) => status,
-        Err(fault) => say_why(rt, audience, files, fault),
+        Ok(status) => Ok(status),
+        Err(fault) => Err(say_why(rt, audience, files, fault)),
     }
 }

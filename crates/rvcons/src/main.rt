@@ -28,33 +28,33 @@ fn main(rt: HostRuntime) -> ExitCode {
     } else {
         Audience::Program
     };
-    ExitCode::from(obey(&rt, audience, talk).code())
+    match obey(&rt, audience, talk) {
+        Ok(status) | Err(status) => ExitCode::from(status.code()),
+    }
 }
 
-// Runs the command of the command line. A person sees progress and explanations of faults; `talk`
+// Runs the command of the command line. The error is the status of what was refused, which is
+// reported. A person sees progress and explanations of faults; `talk`
 // is the audience of the debugger.
 fn obey<R: Files + AllocGlobal + Print + Eprint + Env + Threads + Wait + Sync + Input>(
     rt: &R,
     audience: Audience,
     talk: Audience,
-) -> Status {
-    let arguments = match read_arguments(rt) {
-        Ok(arguments) => arguments,
-        Err(status) => return status,
-    };
+) -> Result<Status, Status> {
+    let arguments = read_arguments(rt)?;
     let Ok(words) = arguments
         .iter()
         .map(|word| word.as_str())
         .collect::<Vec<&str>>(rt.alloc())
     else {
-        return out_of_memory(rt);
+        return Err(out_of_memory(rt));
     };
     match read_line(rt.alloc(), words.as_slice(), KIND_NAMES) {
-        Ok(Order::Asm(order)) => obey_asm(rt, audience, &order),
+        Ok(Order::Asm(order)) => Ok(obey_asm(rt, audience, &order)),
         Ok(Order::Debug(order)) => obey_debug(rt, audience, talk, &order),
-        Ok(Order::Lib(order)) => obey_lib(rt, &order),
-        Ok(Order::List(order)) => obey_file(rt, audience, FileView::Listing, &order),
-        Ok(Order::Info(order)) => obey_file(rt, audience, FileView::Facts, &order),
+        Ok(Order::Lib(order)) => Ok(obey_lib(rt, &order)),
+        Ok(Order::List(order)) => Ok(obey_file(rt, audience, FileView::Listing, &order)),
+        Ok(Order::Info(order)) => Ok(obey_file(rt, audience, FileView::Facts, &order)),
         Ok(Order::Run(order)) => obey_run(rt, audience, &order),
         Ok(Order::Threads(order)) => obey_threads(rt, audience, &order),
         Ok(Order::Replay(order)) => obey_replay(rt, audience, &order),
@@ -66,7 +66,7 @@ fn obey<R: Files + AllocGlobal + Print + Eprint + Env + Threads + Wait + Sync + 
         Err(fault) => {
             let status = refuse(rt, &fault);
             explain_line(rt, audience, words.as_slice(), &fault);
-            status
+            Err(status)
         }
     }
 }

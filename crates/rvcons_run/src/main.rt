@@ -17,32 +17,34 @@ fn main(rt: HostRuntime) -> ExitCode {
     } else {
         Audience::Program
     };
-    ExitCode::from(obey(&rt, audience).code())
+    match obey(&rt, audience) {
+        Ok(status) | Err(status) => ExitCode::from(status.code()),
+    }
 }
 
 // Runs the `run` of the command line. A person sees explanations of faults.
-fn obey<R: Files + AllocGlobal + Print + Eprint + Env>(rt: &R, audience: Audience) -> Status {
-    let arguments = match read_arguments(rt) {
-        Ok(arguments) => arguments,
-        Err(status) => return status,
-    };
+fn obey<R: Files + AllocGlobal + Print + Eprint + Env>(
+    rt: &R,
+    audience: Audience,
+) -> Result<Status, Status> {
+    let arguments = read_arguments(rt)?;
     let Ok(words) = arguments
         .iter()
         .map(|word| word.as_str())
         .collect::<Vec<&str>>(rt.alloc())
     else {
-        return out_of_memory(rt);
+        return Err(out_of_memory(rt));
     };
     match read_run(rt.alloc(), words.as_slice(), KIND_NAMES) {
         Ok(Some(order)) => obey_run(rt, audience, &order),
-        Ok(None) => bad_line(
+        Ok(None) => Err(bad_line(
             rt,
             "this is the program of run alone: the other commands are those of the whole program",
-        ),
+        )),
         Err(fault) => {
             let status = refuse(rt, &fault);
             explain_line(rt, audience, words.as_slice(), &fault);
-            status
+            Err(status)
         }
     }
 }
