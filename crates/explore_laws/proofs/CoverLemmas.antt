@@ -1,6 +1,6 @@
 -- Turns cover every run.
-use Rattle.std.proofs.Common.{◌≡◌, ◌≢◌, ℕ, zero, suc, ◌+◌, ◌≤◌, ◌==◌, Bool, true, false, ◌||◌, List, [], ◌∷◌, length, set, Option, Some, None, refl, ap, sym, ◌∙◌, subst, inl, inr, ◌⊎◌, arith, rules}
-use Rattle.std.proofs.lemmas.Bool.{cases_Bool}
+use Rattle.std.proofs.Common.{◌≡◌, ◌≢◌, ℕ, zero, suc, ◌+◌, ◌≤◌, ◌==◌, Bool, true, false, ◌||◌, List, [], ◌∷◌, length, set, cond, Option, Some, None, refl, ap, sym, ◌∙◌, subst, inl, inr, ◌⊎◌, arith, rules}
+use Rattle.std.proofs.lemmas.Bool.{cases_eq, or_right}
 use Rattle.std.proofs.lemmas.List.{length-set}
 use Rattle.std.proofs.lemmas.List.Elements.{All-head, All-tail, All-cons}
 use Rattle.std.specs.List.{All, Contains, slice_get}
@@ -18,13 +18,7 @@ use Rattle.machine.proofs.RunLaws.{run-keeps}
 use Rattle.explore_laws.specs.Settling.{world_settled}
 use Rattle.explore_laws.specs.Places.{Place, place_begun, place_after, place_reached}
 use Rattle.explore_laws.specs.Covering.{WalksTo, WorldCovers, HasTurns}
-use Rattle.explore_laws.proofs.SettleLemmas.{there_set, get_set_other, there_too, covers_itself, settled_covers}
-
-same_or_not : (k h : ℕ) → (k ≡ h) ⊎ (k ≢ h)
-same_or_not k h = grind arith
-
-same_value : {X : Type 0} (x y : X) (o : Option X) → o ≡ Some x → o ≡ Some y → x ≡ y
-same_value x y o e f = cc
+use Rattle.explore_laws.proofs.SettleLemmas.{same_value, there_set, get_set_other, there_too, covers_itself, settled_covers}
 
 -- ---- one walk
 walked_none : (code : Memory) (v u : HartValue) → walk code zero v ≡ Some u → v ≡ u
@@ -34,10 +28,12 @@ walked_none code v u e = same_value v u (Some v) refl e
 walked_more : (code : Memory) (n : ℕ) (v u : HartValue) → walk code (suc n) v ≡ Some u
     → (is_local_next code v ≡ true) × (walk code n (step_alone code v) ≡ Some u)
 unfolding walk
-walked_more code n v u e = elim (cases_Bool (is_local_next code v)) [
-  | inl yes_ ↦ (yes_, rw yes_ at e)
-  | inr no_ ↦ absurd (let no : ◌≡◌ {A = Option HartValue} None (Some u) = rw no_ at e in cc)
-]
+walked_more code n v u e = by_class (is_local_next code v) refl e
+  where
+    by_class : (b : Bool) → is_local_next code v ≡ b → cond b (walk code n (step_alone code v)) None ≡ Some u
+        → (is_local_next code v ≡ true) × (walk code n (step_alone code v) ≡ Some u)
+    by_class true is e = (is, e)
+    by_class false is e = absurd (cc)
 
 -- ---- one step of a world that is covered
 pub step_code : (w : World) (c : Choice) → code_in (step w c).memory ≡ code_in w.memory
@@ -66,7 +62,7 @@ local_covered s w c v u n covers there too walks =
       count = covers.count ∙ sym (length-set w.harts c.hart alone);
       memory = covers.memory;
       reserved = covers.reserved;
-      harts = λ h a b at_a at_b. elim (same_or_not h c.hart) [
+      harts = λ h a b at_a at_b. elim (cases_eq h c.hart) [
         | inl same ↦
             let here : slice_get (set w.harts c.hart alone) h ≡ Some alone
             = ap (slice_get (set w.harts c.hart alone)) same ∙ there_set w.harts c.hart v alone there in
@@ -94,7 +90,7 @@ same_covered t s w c v covers there too over =
       count = over_s.count ∙ length-set s.harts c.hart new.hart ∙ covers.count ∙ sym (length-set w.harts c.hart new.hart);
       memory = over_s.memory;
       reserved = over_s.reserved;
-      harts = λ h a b at_a at_b. elim (same_or_not h c.hart) [
+      harts = λ h a b at_a at_b. elim (cases_eq h c.hart) [
         | inl same ↦
             let here_w : slice_get (set w.harts c.hart new.hart) h ≡ Some new.hart
             = ap (slice_get (set w.harts c.hart new.hart)) same ∙ there_set w.harts c.hart v new.hart there in
@@ -132,10 +128,6 @@ by_hart s w c (Some v) covers e =
     by_walk s w c v too.0 walks.steps covers e too.1 walks.walks
 
 -- ---- a list of choices
-or_true : (a b : Bool) → b ≡ true → a || b ≡ true
-or_true true b e = refl
-or_true false b e = e
-
 or_first : (a b d : Bool) → a || b ≡ true → (b ≡ true) ⊎ (a || d ≡ true)
 or_first true b d e = inr refl
 or_first false b d e = inl e
@@ -167,7 +159,7 @@ follows meant p w (c ∷ choices) covers all = elim (by_hart p.world w c (slice_
         covers = more.covers;
         fewer = λ k e. elim (more.fewer k e) [
           | inl before ↦ inl before
-          | inr later ↦ inr (or_true (c.hart == k) (is_chosen choices k) later)
+          | inr later ↦ inr (or_right (c.hart == k) (is_chosen choices k) later)
         ];
       }
   | inr goes ↦
@@ -179,7 +171,7 @@ follows meant p w (c ∷ choices) covers all = elim (by_hart p.world w c (slice_
         covers = more.covers;
         fewer = λ k e. elim (more.fewer k e) [
           | inl before ↦ or_first (c.hart == k) (p.chosen k) (is_chosen choices k) before
-          | inr later ↦ inr (or_true (c.hart == k) (is_chosen choices k) later)
+          | inr later ↦ inr (or_right (c.hart == k) (is_chosen choices k) later)
         ];
       }
 ]

@@ -1,6 +1,6 @@
 -- Local steps taken at once are a walk, and a run of plain choices.
 use Rattle.std.proofs.Common.{◌≡◌, ◌≢◌, ℕ, zero, suc, ◌<◌, ◌≤◌, Bool, true, false, List, [], ◌∷◌, length, get_or, set, cond, Option, Some, None, refl, ap, sym, ◌∙◌, subst, inl, inr, ◌⊎◌, arith}
-use Rattle.std.proofs.lemmas.Bool.{cases_Bool}
+use Rattle.std.proofs.lemmas.Bool.{cases_Bool, cases_eq}
 use Rattle.std.proofs.lemmas.List.{length-set, get_or-set_same}
 use Rattle.std.proofs.lemmas.Option.{slice_get_within, slice_get-get_or}
 use Rattle.std.specs.List.{slice_get}
@@ -16,11 +16,8 @@ use Rattle.machine.specs.World.{World, run}
 use Rattle.explore_laws.specs.Settling.{rested, rest_steps, at_once, settled_by, world_settled, settling_steps}
 use Rattle.explore_laws.specs.Covering.{WalksTo, WorldCovers}
 
-same_value : {X : Type 0} (x y : X) (o : Option X) → o ≡ Some x → o ≡ Some y → x ≡ y
+pub same_value : {X : Type 0} (x y : X) (o : Option X) → o ≡ Some x → o ≡ Some y → x ≡ y
 same_value x y o e f = cc
-
-same_or_not : (k h : ℕ) → (k ≡ h) ⊎ (k ≢ h)
-same_or_not k h = grind arith
 
 -- ---- lists of harts
 pub there_set : {X : Type 0} (xs : List X) (i : ℕ) (x y : X) → slice_get xs i ≡ Some x → slice_get (set xs i y) i ≡ Some y
@@ -113,7 +110,7 @@ settled_covers w h = by_hart (slice_get w.harts h) refl
           count = length-set w.harts h u;
           memory = refl;
           reserved = refl;
-          harts = λ k a b at_a at_b. elim (same_or_not k h) [
+          harts = λ k a b at_a at_b. elim (cases_eq k h) [
             | inl same ↦
                 let a_is : v ≡ a = same_value v a (slice_get w.harts k) (ap (slice_get w.harts) same ∙ e) at_a in
                 let b_is : u ≡ b = same_value u b (slice_get (set w.harts h u) k)

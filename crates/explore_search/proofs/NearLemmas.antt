@@ -5,9 +5,10 @@ use Rattle.std.proofs.lemmas.List.Elements.{All-head, All-tail}
 use Rattle.std.proofs.lemmas.Option.{slice_get_within}
 use Rattle.machine.specs.declared.choice.Choice.{Choice}
 use Rattle.explore_laws.specs.Places.{Place, place_after, place_reached}
-use Rattle.explore_search.specs.Searched.{IsSoon, AreReached, AreDone, AreRising, AreSoon, KeysBegin, LinksBegin}
+use Rattle.explore_table.proofs.ListLemmas.{get_behind, get_either, get_there, at_contains}
+use Rattle.explore_search.specs.Searched.{GoesOn, IsSoon, AreReached, AreDone, AreRising, AreSoon}
 use Rattle.explore_search.specs.declared.seen.Link.{Link}
-use Rattle.explore_search.proofs.SearchLemmas.{get_begun, get_behind, get_either, get_there, old_at, at_contains}
+use Rattle.explore_search.proofs.SearchLemmas.{Added, get_later, old_at, below_or}
 
 same_link : (links : List Link) (k : ℕ) (a b : Link) → slice_get links k ≡ Some a → slice_get links k ≡ Some b → a ≡ b
 same_link links k a b e f = cc
@@ -80,34 +81,29 @@ rising_next links n from there r = record {
 -- ---- places that are found soon
 pub soon_later : (place : List ℕ → Place) (keys : List (List ℕ)) (links : List Link) (m n : ℕ) (p : Place) → m ≤ n
     → IsSoon place keys links m p → IsSoon place keys links n p
-soon_later place keys links m n p h s = record {
-  number = s.number;
-  key = s.key;
-  link = s.link;
-  there = s.there;
-  found = s.found;
-  is = s.is;
-  soon = let x = s.soon in omega (arith, x, h);
-}
+soon_later place keys links m n p h s = (s.0, (let x = s.1 in omega (arith, x, h)))
 
 module _ (IsKey IsKeyLater : List ℕ → Type 0) (place later : List ℕ → Place)
     (kept : (k : List ℕ) → IsKey k → IsKeyLater k × (later k ≡ place k)) where
   pub soon_stays : (keys longer : List (List ℕ)) (links others : List Link) (most : ℕ) (p : Place)
-      → ((i : ℕ) (key : List ℕ) → slice_get keys i ≡ Some key → IsKey key) → KeysBegin keys longer → LinksBegin links others
+      → ((i : ℕ) (key : List ℕ) → slice_get keys i ≡ Some key → IsKey key) → GoesOn keys longer → GoesOn links others
       → IsSoon place keys links most p → IsSoon later longer others most p
-  soon_stays keys longer links others most p are begins links_begin s = record {
-    number = s.number;
-    key = s.key;
-    link = s.link;
-    soon = s.soon;
-    there = ap (λ ks. slice_get ks s.number) begins.1 ∙ get_begun keys begins.0 s.number s.key s.there;
-    found = ap (λ ls. slice_get ls s.number) links_begin.1 ∙ get_begun links links_begin.0 s.number s.link s.found;
-    is = (kept s.key (are s.number s.key s.there)).1 ∙ s.is;
-  }
+  soon_stays keys longer links others most p are begins links_begin s =
+      let at = s.0 in (
+        record {
+          number = at.number;
+          key = at.key;
+          there = get_later keys longer at.number at.key begins at.there;
+          link = at.link;
+          found = get_later links others at.number at.link links_begin at.found;
+          is = (kept at.key (are at.number at.key at.there)).1 ∙ at.is;
+        },
+        s.1,
+      )
 
   pub soons_stay : (choices : List Choice) (keys longer : List (List ℕ)) (links others : List Link) (n : ℕ) → n ≤ length keys
-      → length links ≡ length keys → ((i : ℕ) (key : List ℕ) → slice_get keys i ≡ Some key → IsKey key) → KeysBegin keys longer
-      → LinksBegin links others → AreSoon place choices keys links n → AreSoon later choices longer others n
+      → length links ≡ length keys → ((i : ℕ) (key : List ℕ) → slice_get keys i ≡ Some key → IsKey key) → GoesOn keys longer
+      → GoesOn links others → AreSoon place choices keys links n → AreSoon later choices longer others n
   soons_stay choices keys longer links others n within even are begins links_begin soons k key link c h e f is =
       let old : slice_get keys k ≡ Some key
       = old_at keys begins.0 n k key within h (ap (λ ks. slice_get ks k) (sym begins.1) ∙ e) in
@@ -117,8 +113,8 @@ module _ (IsKey IsKeyLater : List ℕ → Type 0) (place later : List ℕ → Pl
       (soon_stays keys longer links others (link.steps + 1) (place_after (place key) c) are begins links_begin (soons k key link c h old old_link is))
 
   -- one choice more was taken from a key
-  pub soon_step : (choices : List Choice) (keys longer : List (List ℕ)) (links others : List Link) (most : ℕ) → KeysBegin keys longer
-      → LinksBegin links others → ((i : ℕ) (k : List ℕ) → slice_get keys i ≡ Some k → IsKey k) → (key : List ℕ) → IsKey key
+  pub soon_step : (choices : List Choice) (keys longer : List (List ℕ)) (links others : List Link) (most : ℕ) → GoesOn keys longer
+      → GoesOn links others → ((i : ℕ) (k : List ℕ) → slice_get keys i ≡ Some k → IsKey k) → (key : List ℕ) → IsKey key
       → (i : ℕ) (c : Choice) → slice_get choices i ≡ Some c
       → ((k : ℕ) (d : Choice) → k < i → slice_get choices k ≡ Some d → IsSoon place keys links most (place_after (place key) d))
       → IsSoon later longer others most (place_after (place key) c)
@@ -130,9 +126,6 @@ module _ (IsKey IsKeyLater : List ℕ → Type 0) (place later : List ℕ → Pl
             (same_choice c d (sym at_i ∙ ap (slice_get choices) (sym here) ∙ e)) now
       ])
     where
-      below_or : (k n : ℕ) → k < n + 1 → (k < n) ⊎ (k ≡ n)
-      below_or k n h = grind arith
-
       same_choice : (c d : Choice) → ◌≡◌ {A = Option Choice} (Some c) (Some d) → c ≡ d
       same_choice c d e = cc
 
@@ -152,9 +145,6 @@ soons_more place choices keys links n key link there found seen soons k x y c h 
       (seen at.0 c (slice_get_within choices at.0 c at.1) at.1))
 ]
   where
-    below_or : (k n : ℕ) → k < n + 1 → (k < n) ⊎ (k ≡ n)
-    below_or k n h = grind arith
-
     same_key : (c d : List ℕ) → ◌≡◌ {A = Option (List ℕ)} (Some c) (Some d) → c ≡ d
     same_key c d e = cc
 
@@ -176,13 +166,14 @@ module _ (place : List ℕ → Place) (choices : List Choice) (keys : List (List
   unfolding place_reached
   soon_from m p [] s room all = soon_later place keys links m (m + 0) p (omega arith) s
   soon_from m p (c ∷ list) s room all =
-      let x = s.soon in
-      let below : s.number < n = before_last s.number s.link s.found (omega (arith, x, room)) in
-      let next : IsSoon place keys links (s.link.steps + 1) (place_after p c)
-      = subst (λ q. IsSoon place keys links (s.link.steps + 1) (place_after q c)) s.is
-      (soons s.number s.key s.link c below s.there s.found (All-head (Contains choices) c list all)) in
+      let at = s.0 in
+      let x = s.1 in
+      let below : at.number < n = before_last at.number at.link at.found (omega (arith, x, room)) in
+      let next : IsSoon place keys links (at.link.steps + 1) (place_after p c)
+      = subst (λ q. IsSoon place keys links (at.link.steps + 1) (place_after q c)) at.is
+      (soons at.number at.key at.link c below at.there at.found (All-head (Contains choices) c list all)) in
       let rest : IsSoon place keys links (m + 1 + length list) (place_reached (place_after p c) list)
-      = soon_from (m + 1) (place_after p c) list (soon_later place keys links (s.link.steps + 1) (m + 1) (place_after p c) (omega (arith, x)) next)
+      = soon_from (m + 1) (place_after p c) list (soon_later place keys links (at.link.steps + 1) (m + 1) (place_after p c) (omega (arith, x)) next)
       (omega (arith, room)) (All-tail (Contains choices) c list all) in
       soon_later place keys links (m + 1 + length list) (m + suc (length list)) (place_reached (place_after p c) list) (omega arith) rest
 
@@ -191,39 +182,39 @@ module _ (place : List ℕ → Place) (choices : List Choice) (keys : List (List
       → bad (place_reached start other) ≡ false
   none_shorter IsKey start bad reached_all done other all shorter =
       let first_link = get_there links 0 (let w = slice_get_within links n last there in omega (arith, w)) in
-      let begin : IsSoon place keys links 0 start = record {
-        number = 0;
-        key = reached_all.first.0;
-        link = first_link.0;
-        there = reached_all.first.1;
-        found = first_link.1;
-        soon = let z = r.zero_first first_link.0 first_link.1 in omega (arith, z);
-        is = reached_all.first.2;
-      } in
+      let begin : IsSoon place keys links 0 start = (
+        record {
+          number = 0;
+          key = reached_all.first.0;
+          link = first_link.0;
+          there = reached_all.first.1;
+          found = first_link.1;
+          is = reached_all.first.2;
+        },
+        (let z = r.zero_first first_link.0 first_link.1 in omega (arith, z)),
+      ) in
       let s = soon_from 0 start other begin (omega (arith, shorter)) all in
-      let x = s.soon in
-      ap bad (sym s.is) ∙ done.good s.number s.key (before_last s.number s.link s.found (omega (arith, x, shorter))) s.there
+      let at = s.0 in
+      let x = s.1 in
+      ap bad (sym at.is) ∙ done.good at.number at.key (before_last at.number at.link at.found (omega (arith, x, shorter))) at.there
 
 -- ---- adding a key
--- what adding a key says
-abbrev pub Added : List (List ℕ) → List (List ℕ) → List ℕ → ℕ → Type 0
-Added keys longer key number = ((slice_get keys number ≡ Some key) × (longer ≡ keys))
-    ⊎ ((number ≡ length keys) × (Contains keys key → ⊥) × (longer ≡ keys ++ key ∷ []))
-
 pub soon_new : (later : List ℕ → Place) (keys longer : List (List ℕ)) (links others : List Link) (key : List ℕ) (link : Link) (number : ℕ)
     (p : Place) → length links ≡ length keys → Added keys longer key number → number ≡ length links → others ≡ links ++ link ∷ []
     → later key ≡ p → IsSoon later longer others link.steps p
 soon_new later keys longer links others key link number p even added last pushed is = elim added [
   | inl old ↦ absurd (let w = slice_get_within keys number key old.0 in omega (arith, w, even, last))
-  | inr new ↦ record {
-    number = length keys;
-    key = key;
-    link = link;
-    is = is;
-    soon = omega arith;
-    there = ap (λ ks. slice_get ks (length keys)) new.2 ∙ get_behind keys key;
-    found = ap (λ ls. slice_get ls (length keys)) pushed ∙ subst (λ n. slice_get (links ++ link ∷ []) n ≡ Some link) even (get_behind links link);
-  }
+  | inr new ↦ (
+    record {
+      number = length keys;
+      key = key;
+      link = link;
+      is = is;
+      there = ap (λ ks. slice_get ks (length keys)) new.2 ∙ get_behind keys key;
+      found = ap (λ ls. slice_get ls (length keys)) pushed ∙ subst (λ n. slice_get (links ++ link ∷ []) n ≡ Some link) even (get_behind links link);
+    },
+    omega arith,
+  )
 ]
 
 pub soon_known : (later : List ℕ → Place) (keys longer : List (List ℕ)) (links : List Link) (key : List ℕ) (link : Link) (number : ℕ)
@@ -233,16 +224,17 @@ pub soon_known : (later : List ℕ → Place) (keys longer : List (List ℕ)) (l
 soon_known later keys longer links key link number p even added other r within step is = elim added [
   | inl old ↦
       let there = get_there links number (let w = slice_get_within keys number key old.0 in omega (arith, w, even)) in
-      let from = get_there links link.from (omega (arith, within, even)) in
-      record {
-        number = number;
-        key = key;
-        link = there.0;
-        is = is;
-        found = there.1;
-        there = ap (λ ks. slice_get ks number) old.1 ∙ old.0;
-        soon = let x = r.near number from.0 there.0 from.1 there.1 in let y = step from.0 from.1 in omega (arith, x, y);
-      }
+      let from = get_there links link.from (omega (arith, within, even)) in (
+        record {
+          number = number;
+          key = key;
+          link = there.0;
+          is = is;
+          found = there.1;
+          there = ap (λ ks. slice_get ks number) old.1 ∙ old.0;
+        },
+        (let x = r.near number from.0 there.0 from.1 there.1 in let y = step from.0 from.1 in omega (arith, x, y)),
+      )
   | inr new ↦ absurd (other (new.0 ∙ sym even))
 ]
 

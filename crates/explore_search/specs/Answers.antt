@@ -1,9 +1,10 @@
 -- What a search finds.
-use Rattle.std.specs.Prelude.{◌≡◌, ◌<◌, Bool, true, false, List, length}
+use Rattle.std.specs.Prelude.{◌≡◌, ℕ, ◌<◌, Bool, true, false, List, length}
 use Rattle.std.specs.List.{All, Contains}
 use Rattle.machine.specs.declared.choice.Choice.{Choice}
 use Rattle.explore_laws.specs.Places.{Place, place_reached}
 use Rattle.explore_laws.specs.Safe.{IsSafe}
+use Rattle.explore_search.specs.Counted.{HasPlaces, HasMorePlaces}
 use Rattle.explore_search.specs.declared.searching.Found.{Found}
 use Rattle.explore_search.specs.declared.searching.Found.TheVariants.{Safe, Bad, Undecided}
 
@@ -16,6 +17,13 @@ pub record LeadsToBad (choices : List Choice) (first : Place) (bad : Place → B
 -- a search's answer is right: no list of the choices leads to a bad place, or this one does, and no
 -- shorter one
 abbrev pub SearchAnswers : {Z : Type 0} → List Choice → Place → (Place → Bool) → Found Z → Type 0
-SearchAnswers choices first bad (Safe places) = IsSafe choices first bad
+SearchAnswers choices first bad (Safe count) = IsSafe choices first bad
 SearchAnswers choices first bad (Bad list) = LeadsToBad choices first bad list.items
 SearchAnswers choices first bad Undecided = Unit {0}
+
+-- a search's count is right: so many places are reached where it looked at all of them, and it
+-- gives up only where more than `most` are
+abbrev pub SearchCounts : {Z : Type 0} → List Choice → Place → ℕ → Found Z → Type 0
+SearchCounts choices first most (Safe count) = HasPlaces choices first count
+SearchCounts choices first most (Bad list) = Unit {0}
+SearchCounts choices first most Undecided = HasMorePlaces choices first most

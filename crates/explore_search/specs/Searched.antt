@@ -1,9 +1,17 @@
 -- How far a search is.
-use Rattle.std.specs.Prelude.{◌≡◌, ℕ, ◌+◌, ◌<◌, ◌≤◌, Bool, false, List, ◌++◌, Some, length, slice_get}
-use Rattle.std.specs.List.{Contains}
+use Rattle.std.specs.Prelude.{◌≡◌, ◌≢◌, ℕ, ◌+◌, ◌<◌, ◌≤◌, Bool, false, List, ◌++◌, Some, length, slice_get}
+use Rattle.std.specs.List.{AllPairs, Contains}
 use Rattle.machine.specs.declared.choice.Choice.{Choice}
 use Rattle.explore_laws.specs.Places.{Place, place_after}
 use Rattle.explore_search.specs.declared.seen.Link.{Link}
+
+-- a list goes on as another does, and perhaps further
+abbrev pub GoesOn : {X : Type 0} → List X → List X → Type 0
+GoesOn {X} xs longer = (more : List X) × (longer ≡ xs ++ more)
+
+-- different keys stand for different places
+abbrev pub KeysDiffer : (List ℕ → Type 0) → (List ℕ → Place) → Type 0
+KeysDiffer IsKey place = (k l : List ℕ) → IsKey k → IsKey l → place k ≡ place l → k ≡ l
 
 -- a place is that of some key
 pub record IsSeen (place : List ℕ → Place) (keys : List (List ℕ)) (p : Place) : Type 0 where
@@ -24,11 +32,13 @@ pub record IsReached (place : List ℕ → Place) (choices : List Choice) (keys 
   pub meant : Contains choices link.choice
   pub is : place key ≡ place_after (place from) link.choice
 
--- the keys stand for places, the first of them for the first place, and each other one for a place
--- that a choice leads to
+-- the keys stand for different places, the first of them for the first place, and each other one
+-- for a place that a choice leads to
 pub record AreReached (IsKey : List ℕ → Type 0) (place : List ℕ → Place) (start : Place) (choices : List Choice)
     (keys : List (List ℕ)) (links : List Link) : Type 0 where
   pub are : (k : ℕ) (key : List ℕ) → slice_get keys k ≡ Some key → IsKey key
+  pub differ : KeysDiffer IsKey place
+  pub distinct : AllPairs (λ k l. k ≢ l) keys
   pub first : (key : List ℕ) × (slice_get keys 0 ≡ Some key) × (place key ≡ start)
   pub even : length links ≡ length keys
   pub ways : (k : ℕ) → k + 1 < length keys → IsReached place choices keys links (k + 1)
@@ -39,19 +49,18 @@ pub record AreDone (place : List ℕ → Place) (bad : Place → Bool) (choices 
   pub next : (k : ℕ) (key : List ℕ) (c : Choice) → k < n → slice_get keys k ≡ Some key → Contains choices c
       → IsSeen place keys (place_after (place key) c)
 
--- keys go on as others do, and perhaps further
-abbrev pub KeysBegin : List (List ℕ) → List (List ℕ) → Type 0
-KeysBegin keys longer = (more : List (List ℕ)) × (longer ≡ keys ++ more)
-
--- a place is that of some key that was found by no more than so many choices
-pub record IsSoon (place : List ℕ → Place) (keys : List (List ℕ)) (links : List Link) (most : ℕ) (p : Place) : Type 0 where
+-- a place is that of some key, which was found by a link
+pub record IsFound (place : List ℕ → Place) (keys : List (List ℕ)) (links : List Link) (p : Place) : Type 0 where
   pub number : ℕ
   pub key : List ℕ
   pub link : Link
   pub there : slice_get keys number ≡ Some key
   pub found : slice_get links number ≡ Some link
-  pub soon : link.steps ≤ most
   pub is : place key ≡ p
+
+-- a place is that of some key that was found by no more than so many choices
+abbrev pub IsSoon : (List ℕ → Place) → List (List ℕ) → List Link → ℕ → Place → Type 0
+IsSoon place keys links most p = (by : IsFound place keys links p) × (by.link.steps ≤ most)
 
 -- keys are found by one choice more than those that they come from, nearer ones first; and while
 -- key n is looked at, none by more than one choice more than it
@@ -67,6 +76,3 @@ pub record AreRising (links : List Link) (n : ℕ) : Type 0 where
 abbrev pub AreSoon : (List ℕ → Place) → List Choice → List (List ℕ) → List Link → ℕ → Type 0
 AreSoon place choices keys links n = (k : ℕ) (key : List ℕ) (link : Link) (c : Choice) → k < n → slice_get keys k ≡ Some key
     → slice_get links k ≡ Some link → Contains choices c → IsSoon place keys links (link.steps + 1) (place_after (place key) c)
-
-abbrev pub LinksBegin : List Link → List Link → Type 0
-LinksBegin links longer = (more : List Link) × (longer ≡ links ++ more)

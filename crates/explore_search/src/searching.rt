@@ -2,9 +2,9 @@
 ghost use Rattle.std.specs.Prelude.{◌≡◌, ℕ, ◌+◌, ◌<◌, false, List, Some, IfOk, OnOk, slice_get};
 ghost use Rattle.explore_laws.specs.Places.{Place};
 ghost use Rattle.explore_search.specs.Searched.{AreReached, AreDone, AreRising, AreSoon};
-ghost use Rattle.explore_search.specs.Answers.{SearchAnswers};
+ghost use Rattle.explore_search.specs.Answers.{SearchAnswers, SearchCounts};
 
-use crate::seen::{Link, Seen, path_to, see_after};
+use crate::seen::{Link, Seen};
 use crate::space::Space;
 use explore_table::Table;
 use machine::Choice;
@@ -13,11 +13,11 @@ use std::alloc::{AllocError, Allocator};
 /// What a search finds.
 #[derive(Drop)]
 pub enum Found<A: Allocator> {
-    /// No list of the choices leads to a bad place; so many places are reached.
+    /// No list of the choices leads to a bad place; lists lead to so many places.
     Safe(usize),
     /// This list leads to a bad place.
     Bad(Vec<Choice, A>),
-    /// There are more places than may be looked at.
+    /// Lists lead to more places than may be looked at.
     Undecided,
 }
 
@@ -51,7 +51,7 @@ fn see_next<A: Allocator, S: Space<A>>(
             choice: *choice,
             steps,
         };
-        see_after(space, choices, seen, key, link)?;
+        seen.see_after(space, choices, key, link)?;
     }
     Ok(())
 }
@@ -94,22 +94,25 @@ pub fn search<A: Allocator + Copy, S: Space<A>>(
     choices: &[Choice],
     most: usize,
 ) -> Result<Found<A>, AllocError>
-    ensures { IfOk result (λ found. SearchAnswers choices.now (S.first space.old) (S.bad space.old) found) }
+    ensures answers { IfOk result (λ found. SearchAnswers choices.now (S.first space.old) (S.bad space.old) found) }
+    ensures counts { IfOk result (λ found. SearchCounts choices.now (S.first space.old) most found) }
 {
     let mut seen = see_first(alloc, space, choices, 1024)?;
     'places: for from in 0..most {
-        if from >= seen.keys.len() {
-            return Ok(Found::Safe(from));
+        let count = seen.keys.len();
+        if from >= count {
+            return Ok(Found::Safe(count));
         }
         let key = Vec::from_slice(alloc, seen.keys.key(from))?;
         let is_bad = space.is_bad(&key)?;
         if is_bad {
-            return Ok(Found::Bad(path_to(alloc, space, choices, &seen, from)?));
+            return Ok(Found::Bad(seen.path_to(alloc, space, choices, from)?));
         }
         see_next(space, choices, &mut seen, &key, from)?;
     }
-    if seen.keys.len() <= most {
-        return Ok(Found::Safe(most));
+    let found = seen.keys.len();
+    if found <= most {
+        return Ok(Found::Safe(found));
     }
     Ok(Found::Undecided)
 }

@@ -2,7 +2,7 @@
 ghost use Rattle.std.specs.Prelude.{◌≡◌, ℕ, ◌+◌, ◌<◌, List, Some, IfOk, OnOk, length, slice_get};
 ghost use Rattle.std.specs.List.{All, Contains};
 ghost use Rattle.explore_laws.specs.Places.{Place, place_after, place_reached};
-ghost use Rattle.explore_search.specs.Searched.{AreReached, IsSeen, IsSoon, AreRising, KeysBegin, LinksBegin};
+ghost use Rattle.explore_search.specs.Searched.{AreReached, IsSeen, IsSoon, AreRising, GoesOn};
 ghost use Rattle.explore_search.specs.declared.seen.Link.{Link as LinkValue};
 
 use crate::space::Space;
@@ -30,69 +30,73 @@ pub struct Seen<A: Allocator> {
     pub links: Vec<Link, A>,
 }
 
-/// Sees the place that one choice leads to from a key's.
-pub fn see_after<A: Allocator, S: Space<A>>(
-    space: &mut S,
-    choices: &[Choice],
-    seen: &mut Seen<A>,
-    key: &[u32],
-    link: Link,
-) -> Result<(), AllocError>
-    requires reached { AreReached (S.is_key space.old) (S.place space.old) (S.first space.old) choices.now
-        seen.old.keys seen.old.links.items }
-    requires there { slice_get seen.old.keys link.from ≡ Some key.now }
-    requires meant { Contains choices.now link.choice }
-    requires rising { AreRising seen.old.links.items link.from }
-    requires step { (a : LinkValue) → slice_get seen.old.links.items link.from ≡ Some a → link.steps ≡ a.steps + 1 }
-    ensures reached { OnOk result (AreReached (S.is_key space.new) (S.place space.new) (S.first space.old) choices.now
-        seen.new.keys seen.new.links.items) }
-    ensures seen { OnOk result (IsSeen (S.place space.new) seen.new.keys
-        (place_after (S.place space.old key.now) link.choice)) }
-    ensures soon { OnOk result (IsSoon (S.place space.new) seen.new.keys seen.new.links.items link.steps
-        (place_after (S.place space.old key.now) link.choice)) }
-    ensures rising { OnOk result (AreRising seen.new.links.items link.from) }
-    ensures links_begin { OnOk result (LinksBegin seen.old.links.items seen.new.links.items) }
-    ensures begins { OnOk result (KeysBegin seen.old.keys seen.new.keys) }
-    ensures kept { (k : List ℕ) → S.is_key space.old k
-        → S.is_key space.new k × (S.place space.new k ≡ S.place space.old k) }
-    ensures first { S.first space.new ≡ S.first space.old }
-    ensures bad { S.bad space.new ≡ S.bad space.old }
-{
-    let next = space.key_after(key, link.choice)?;
-    let number = seen.keys.add(next)?;
-    if number == seen.links.len() {
-        seen.links.push(link)?;
+impl<A: Allocator> Seen<A> {
+    /// Sees the place that one choice leads to from a key's.
+    pub fn see_after<S: Space<A>>(
+        &mut self,
+        space: &mut S,
+        choices: &[Choice],
+        key: &[u32],
+        link: Link,
+    ) -> Result<(), AllocError>
+        requires reached { AreReached (S.is_key space.old) (S.place space.old) (S.first space.old) choices.now
+            self.old.keys self.old.links.items }
+        requires there { slice_get self.old.keys link.from ≡ Some key.now }
+        requires meant { Contains choices.now link.choice }
+        requires rising { AreRising self.old.links.items link.from }
+        requires step { (a : LinkValue) → slice_get self.old.links.items link.from ≡ Some a → link.steps ≡ a.steps + 1 }
+        ensures reached { OnOk result (AreReached (S.is_key space.new) (S.place space.new) (S.first space.old) choices.now
+            self.new.keys self.new.links.items) }
+        ensures seen { OnOk result (IsSeen (S.place space.new) self.new.keys
+            (place_after (S.place space.old key.now) link.choice)) }
+        ensures soon { OnOk result (IsSoon (S.place space.new) self.new.keys self.new.links.items link.steps
+            (place_after (S.place space.old key.now) link.choice)) }
+        ensures rising { OnOk result (AreRising self.new.links.items link.from) }
+        ensures links_begin { OnOk result (GoesOn self.old.links.items self.new.links.items) }
+        ensures begins { OnOk result (GoesOn self.old.keys self.new.keys) }
+        ensures kept { (k : List ℕ) → S.is_key space.old k
+            → S.is_key space.new k × (S.place space.new k ≡ S.place space.old k) }
+        ensures first { S.first space.new ≡ S.first space.old }
+        ensures bad { S.bad space.new ≡ S.bad space.old }
+    {
+        let next = space.key_after(key, link.choice)?;
+        let number = self.keys.add(next)?;
+        if number == self.links.len() {
+            self.links.push(link)?;
+        }
+        Ok(())
     }
-    Ok(())
-}
 
-/// The choices that lead to a key's place.
-pub fn path_to<A: Allocator + Copy, S: Space<A>>(
-    alloc: A,
-    space: &S,
-    choices: &[Choice],
-    seen: &Seen<A>,
-    number: usize,
-) -> Result<Vec<Choice, A>, AllocError>
-    requires reached { AreReached (S.is_key space.now) (S.place space.now) (S.first space.now) choices.now
-        seen.now.keys seen.now.links.items }
-    requires there { number < length seen.now.keys }
-    requires rising { (n : ℕ) × AreRising seen.now.links.items n }
-    ensures steps { IfOk result (λ path. (a : LinkValue) → slice_get seen.now.links.items number ≡ Some a
-        → length path.items ≡ a.steps) }
-    ensures meant { IfOk result (λ path. All (Contains choices.now) path.items) }
-    ensures leads { IfOk result (λ path. (key : List ℕ) → slice_get seen.now.keys number ≡ Some key
-        → place_reached (S.first space.now) path.items ≡ S.place space.now key) }
-{
-    let _ = choices;
-    let _ = space;
-    let mut path = Vec::new(alloc);
-    let mut at = number;
-    'back: while at > 0 {
-        let link = seen.links[at];
-        path.push(link.choice)?;
-        at = link.from;
+    /// The choices that lead to a key's place.
+    pub fn path_to<S: Space<A>>(
+        &self,
+        alloc: A,
+        space: &S,
+        choices: &[Choice],
+        number: usize,
+    ) -> Result<Vec<Choice, A>, AllocError>
+    where
+        A: Copy,
+        requires reached { AreReached (S.is_key space.now) (S.place space.now) (S.first space.now) choices.now
+            self.now.keys self.now.links.items }
+        requires there { number < length self.now.keys }
+        requires rising { (n : ℕ) × AreRising self.now.links.items n }
+        ensures steps { IfOk result (λ path. (a : LinkValue) → slice_get self.now.links.items number ≡ Some a
+            → length path.items ≡ a.steps) }
+        ensures meant { IfOk result (λ path. All (Contains choices.now) path.items) }
+        ensures leads { IfOk result (λ path. (key : List ℕ) → slice_get self.now.keys number ≡ Some key
+            → place_reached (S.first space.now) path.items ≡ S.place space.now key) }
+    {
+        let _ = choices;
+        let _ = space;
+        let mut path = Vec::new(alloc);
+        let mut at = number;
+        'back: while at > 0 {
+            let link = self.links[at];
+            path.push(link.choice)?;
+            at = link.from;
+        }
+        path.reverse();
+        Ok(path)
     }
-    path.reverse();
-    Ok(path)
 }

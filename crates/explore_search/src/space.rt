@@ -1,11 +1,13 @@
 //! Places under keys.
 ghost use Rattle.std.specs.Prelude.{◌≡◌, ℕ, Bool, List, IfOk};
 ghost use Rattle.explore_laws.specs.Places.{Place, place_after};
+ghost use Rattle.explore_search.specs.Searched.{KeysDiffer};
 
 use machine::Choice;
 use std::alloc::{AllocError, Allocator};
 
-/// Places under keys: a key is a row of words, and what it stands for never changes.
+/// Places under keys: a key is a row of words, what it stands for never changes, and different keys
+/// stand for different places.
 pub trait Space<A: Allocator> {
     /// Whether a row of words is a key.
     ghost is_key: { Self → List ℕ → Type 0 };
@@ -19,10 +21,10 @@ pub trait Space<A: Allocator> {
     /// Whether a place must not be reached.
     ghost bad: { Self → Place → Bool };
 
-    /// The key of the first place.
+    /// The key of the first place. Keys from before may stand for nothing from now on.
     fn first_key(&mut self) -> Result<Vec<u32, A>, AllocError>
         ensures key { IfOk result (λ k. is_key self.new k.items × (place self.new k.items ≡ first self.old)) }
-        ensures kept { (k : List ℕ) → is_key self.old k → is_key self.new k × (place self.new k ≡ place self.old k) }
+        ensures differ { KeysDiffer (is_key self.new) (place self.new) }
         ensures first { first self.new ≡ first self.old }
         ensures bad { bad self.new ≡ bad self.old };
 
@@ -32,6 +34,7 @@ pub trait Space<A: Allocator> {
         ensures key { IfOk result (λ k. is_key self.new k.items
             × (place self.new k.items ≡ place_after (place self.old key.now) choice)) }
         ensures kept { (k : List ℕ) → is_key self.old k → is_key self.new k × (place self.new k ≡ place self.old k) }
+        ensures differ { KeysDiffer (is_key self.new) (place self.new) }
         ensures first { first self.new ≡ first self.old }
         ensures bad { bad self.new ≡ bad self.old };
 

@@ -1,5 +1,5 @@
 -- Words that differ from an image's.
-use Rattle.std.specs.Prelude.{ℕ, ◌==◌, if◌then◌else◌, List, [], ◌∷◌}
+use Rattle.std.specs.Prelude.{◌≡◌, ◌≢◌, ℕ, ◌%◌, ◌==◌, if◌then◌else◌, List, [], ◌∷◌}
 use Rattle.image.specs.Image.{ImageValue}
 use Rattle.mem_store.specs.Image.{image_memory}
 use Rattle.bank_laws.specs.Banks.{WordBytes}
@@ -18,3 +18,9 @@ image_words image x = bytes_at (image_memory image).bytes x
 -- the bytes of each word, where cells stand over an image's
 abbrev pub words_shown : ImageValue → List Cell → ℕ → WordBytes
 words_shown image cells = values_over (image_words image) cells
+
+-- some word isn't the same
+pub record WordsDiffer (values others : ℕ → WordBytes) : Type 0 where
+  pub address : ℕ
+  pub is_word : address % 4 ≡ 0
+  pub differs : values address ≢ others address

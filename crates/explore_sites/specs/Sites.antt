@@ -2,9 +2,13 @@
 use Rattle.std.specs.Prelude.{◌≡◌, ℕ, ◌%◌, Bool}
 use Rattle.hart_reservations.specs.Marks.{Marks}
 use Rattle.hart_step.specs.Hart.{HartValue}
+use Rattle.mem_store.specs.Memory.{Memory}
 use Rattle.hart_step.specs.Effect.{Site}
+use Rattle.hart_step.specs.Laws.{Keeps, IsAligned}
+use Rattle.hart_step.specs.Step.{stepped}
 use Rattle.bank_laws.specs.Banks.{WordBytes}
 use Rattle.bank_laws.specs.Runs.{TableWorld, StepTable, table_step}
+use Rattle.bank_laws.specs.Table.{table}
 use Rattle.bank_laws.specs.Words.{bytes_at}
 
 -- a hart, words and reservations as a world of words, in which one hart stands
@@ -23,3 +27,10 @@ pub record ShowsOne (h : HartValue) (values : ℕ → WordBytes) (r : Marks) (s 
   pub hart : h ≡ s.hart
   pub words : (x : ℕ) → x % 4 ≡ 0 → values x ≡ bytes_at s.memory.bytes x
   pub marks : r ≡ s.reserved
+
+-- a table's steps are the machine's wherever memory comes from this one: where a hart, words and
+-- reservations are those of a site, what the table makes of them is what the machine makes of it
+abbrev pub StepsAsMachine : Memory → Type 0
+StepsAsMachine m = (k : ℕ) (refuse : Bool) (h new_h : HartValue) (values new_values : ℕ → WordBytes) (r new_r : Marks) (s : Site)
+    → Keeps m s.memory → IsAligned s.hart → ShowsOne h values r s
+    → StepsTo (table m) k refuse h new_h values new_values r new_r → ShowsOne new_h new_values new_r (stepped k refuse s)

@@ -1,5 +1,5 @@
 //! Words read and written.
-ghost use Rattle.std.specs.Prelude.{◌≡◌, ◌≢◌, ◌<◌, ◌≤◌, ℕ, IfSome, IfNone, OnOk, Some, length, slice_get};
+ghost use Rattle.std.specs.Prelude.{◌≡◌, ◌≢◌, ◌<◌, ◌%◌, ℕ, IfSome, IfNone, OnOk, Some, length, slice_get};
 ghost use Rattle.bank_laws.specs.Banks.{WordBytes, with_word_bytes};
 ghost use Rattle.explore_sites.specs.Cells.{values_over, words_shown};
 ghost use Rattle.explore_sites.specs.declared.cell.Cell.{Cell as CellValue};
@@ -36,25 +36,13 @@ pub fn word_at<A: Allocator>(image: &Image<A>, cells: &[Cell], address: u32) -> 
     }
 }
 
-// How many cells at the front are at addresses up to this one.
-fn place_for(cells: &[Cell], address: u32) -> usize
-    ensures { result ≤ length cells.now }
-{
-    'cells: for (at, cell) in cells.iter().enumerate() {
-        if cell.address > address {
-            return at;
-        }
-    }
-    cells.len()
-}
-
-/// Gives a word new bytes. Cells stay in the order of their addresses, so that the same words are
-/// the same cells whichever was stored to first.
+/// Gives a word new bytes.
 pub fn put_word<A: Allocator>(
     cells: &mut Vec<Cell, A>,
     address: u32,
     bytes: [u8; 4],
 ) -> Result<(), AllocError>
+    requires { address % 4 ≡ 0 }
     ensures { OnOk result ((base : ℕ → WordBytes)
         → values_over base cells.new.items ≡ with_word_bytes (values_over base cells.old.items) address bytes) }
 {
@@ -62,10 +50,7 @@ pub fn put_word<A: Allocator>(
         Some(at) => {
             cells[at].bytes = bytes;
         }
-        None => {
-            let place = place_for(cells, address);
-            cells.insert(place, Cell { address, bytes })?;
-        }
+        None => cells.push(Cell { address, bytes })?,
     }
     Ok(())
 }

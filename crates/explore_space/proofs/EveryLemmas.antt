@@ -1,6 +1,6 @@
 -- From places to runs.
 use Rattle.std.proofs.Common.{◌≡◌, ℕ, zero, suc, ◌+◌, ◌<◌, ◌≤◌, false, List, [], ◌∷◌, ◌++◌, length, Option, Some, None, refl, ap, sym, ◌∙◌, subst, arith, inl, inr, ◌⊎◌}
-use Rattle.std.proofs.lemmas.Bool.{ne_eqb}
+use Rattle.std.proofs.lemmas.Bool.{cases_lt, ne_eqb}
 use Rattle.std.proofs.lemmas.List.Elements.{All-head, All-tail, All-cons, Contains-append_cases, Contains-append_left, Contains-append_right}
 use Rattle.std.specs.List.{Contains, slice_get, slice_index_or}
 use Rattle.image.specs.Image.{ImageValue}
@@ -22,7 +22,8 @@ use Rattle.explore_laws.specs.Covering.{HasTurns}
 use Rattle.explore_laws.specs.Places.{place_begun, place_reached}
 use Rattle.explore_laws.specs.Safe.{IsSafe}
 use Rattle.explore_laws.specs.Settling.{world_settled, settling_steps, turns_choices}
-use Rattle.explore_search.specs.Answers.{LeadsToBad, SearchAnswers}
+use Rattle.explore_search.proofs.SearchLemmas.{below_or}
+use Rattle.explore_search.specs.Answers.{LeadsToBad}
 use Rattle.explore_search.specs.declared.searching.Found.{Found}
 use Rattle.explore_space.specs.Every.{hart_choices, meant_choices, IsListOf, run_fails, FailsFirst}
 use Rattle.explore_space.specs.Failing.{one_each, fails_there}
@@ -30,12 +31,6 @@ use Rattle.explore_space.specs.declared.meant.ScRefusals.{ScRefusals}
 use Rattle.explore_space.specs.declared.meant.ScRefusals.TheVariants.{Also, Never}
 use Rattle.explore_space.proofs.MarkLemmas.{chosen_below, chosen_past}
 use Rattle.explore_space.proofs.PassLemmas.{passes}
-
-either_side : (k n : ℕ) → (k < n) ⊎ (n ≤ k)
-either_side k n = grind arith
-
-below_or : (k n : ℕ) → k < n + 1 → (k < n) ⊎ (k ≡ n)
-below_or k n h = grind arith
 
 -- ---- the harts of meant choices
 of_hart : (refusals : ScRefusals) (n i : ℕ) (c : Choice) → i < length (hart_choices refusals n)
@@ -100,7 +95,7 @@ module _ (refusals : ScRefusals) (n : ℕ) where
 -- a choice of each hart that turns choose, and the turns
 alike : (refusals : ScRefusals) (n : ℕ) (w : World) (turns : List Choice) → IsListOf (meant_choices refusals n) turns
     → ChooseAlike (one_each n (place_reached (place_begun w) turns).chosen) turns
-alike refusals n w turns all k = elim (either_side k n) [
+alike refusals n w turns all k = elim (cases_lt k n) [
   | inl low ↦ chosen_below n (place_reached (place_begun w) turns).chosen k low ∙ chosen_reached w turns k
   | inr past ↦ chosen_past n (place_reached (place_begun w) turns).chosen k past ∙ sym (none_past refusals n turns k past all)
 ]
@@ -141,28 +136,31 @@ safe_is_safe rule refusals image inputs safe choices all =
     let found = run_has_turns (meant_choices refusals (length inputs)) (started image inputs) choices all in
     good_run rule refusals image inputs choices found (safe found.turns found.are_meant)
 
-pub bad_is_bad : (rule : Option Kind) (refusals : ScRefusals) (image : ImageValue) (inputs : List ℕ) (turns choices : List Choice)
+pub bad_is_bad : (rule : Option Kind) (refusals : ScRefusals) (image : ImageValue) (inputs : List ℕ) (turns choices : List Choice) (count : ℕ)
     → LeadsToBad (meant_choices refusals (length inputs)) (place_begun (started image inputs)) (fails_there rule inputs) turns
-    → choices ≡ turns_choices (started image inputs) turns
-    → FailsFirst (meant_choices refusals (length inputs)) (run_fails rule image inputs) choices (length turns)
-bad_is_bad rule refusals image inputs turns choices bad is =
-    subst (λ list. FailsFirst (meant_choices refusals (length inputs)) (run_fails rule image inputs) list (length turns)) (sym is) (record {
-      meant_ones = turns_meant refusals (length inputs) (started image inputs) turns bad.meant;
-      fails = sym (fails_alike rule refusals image inputs turns bad.meant) ∙ bad.ends;
-      first = λ other all less.
-          let found = run_has_turns (meant_choices refusals (length inputs)) (started image inputs) other all in
+    → choices ≡ turns_choices (started image inputs) turns → length turns ≡ count
+    → FailsFirst (meant_choices refusals (length inputs)) (started image inputs) (run_fails rule image inputs) choices count
+bad_is_bad rule refusals image inputs turns choices count bad is count_is =
+    let w = started image inputs in
+    record {
+      turns = turns;
+      count_is = count_is;
+      choices_are = is;
+      meant_ones = subst (IsListOf (meant_choices refusals (length inputs))) (sym is) (turns_meant refusals (length inputs) w turns bad.meant);
+      meant_turns = bad.meant;
+      fails = ap (run_fails rule image inputs) is ∙ sym (fails_alike rule refusals image inputs turns bad.meant) ∙ bad.ends;
+      fewest = λ other all less.
+          sym (fails_alike rule refusals image inputs other all) ∙ bad.shortest other all (omega (arith, less, count_is));
+      shortest = λ other all less.
+          let found = run_has_turns (meant_choices refusals (length inputs)) w other all in
           good_run rule refusals image inputs other found
-          (bad.shortest found.turns found.are_meant (let few = found.no_more in omega (arith, few, less)));
-    })
+          (bad.shortest found.turns found.are_meant (let few = found.no_more in omega (arith, few, less, count_is)));
+    }
 
--- the same answer, by equal parts
-pub answers_moved : {Z : Type 0} (m1 m2 : List Choice) (i1 i2 : ImageValue) (n1 n2 : List ℕ) (r1 r2 : Option Kind) (f1 f2 : Found Z)
-    → m1 ≡ m2 → i1 ≡ i2 → n1 ≡ n2 → r1 ≡ r2 → f1 ≡ f2
-    → SearchAnswers m1 (place_begun (started i1 n1)) (fails_there r1 n1) f1
-    → SearchAnswers m2 (place_begun (started i2 n2)) (fails_there r2 n2) f2
-answers_moved {Z} m1 m2 i1 i2 n1 n2 r1 r2 f1 f2 m i n r f a =
-    subst (λ (x : Found Z). SearchAnswers m2 (place_begun (started i2 n2)) (fails_there r2 n2) x) f
-    (subst (λ (x : Option Kind). SearchAnswers m2 (place_begun (started i2 n2)) (fails_there x n2) f1) r
-    (subst (λ (x : List ℕ). SearchAnswers m2 (place_begun (started i2 x)) (fails_there r1 x) f1) n
-    (subst (λ (x : ImageValue). SearchAnswers m2 (place_begun (started x n1)) (fails_there r1 n1) f1) i
-    (subst (λ (x : List Choice). SearchAnswers x (place_begun (started i1 n1)) (fails_there r1 n1) f1) m a))))
+-- the same by equal parts
+pub moved : {Z : Type 0} (P : List Choice → ImageValue → List ℕ → Option Kind → Found Z → Type 0) {m1 m2 : List Choice}
+    {i1 i2 : ImageValue} {n1 n2 : List ℕ} {r1 r2 : Option Kind} {f1 f2 : Found Z} → m1 ≡ m2 → i1 ≡ i2 → n1 ≡ n2 → r1 ≡ r2 → f1 ≡ f2
+    → P m1 i1 n1 r1 f1 → P m2 i2 n2 r2 f2
+moved P {m1} {m2} {i1} {i2} {n1} {n2} {r1} {r2} {f1} {f2} m i n r f a =
+    subst (P m2 i2 n2 r2) f (subst (λ x. P m2 i2 n2 x f1) r (subst (λ x. P m2 i2 x r1 f1) n
+    (subst (λ x. P m2 x n1 r1 f1) i (subst (λ x. P x i1 n1 r1 f1) m a))))

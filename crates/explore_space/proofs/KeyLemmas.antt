@@ -1,9 +1,9 @@
 -- Keys after a step, and keys as tables grow.
-use Rattle.std.proofs.Common.{◌≡◌, ◌≢◌, ℕ, zero, suc, ◌+◌, ◌%◌, ◌<◌, ◌≤◌, Bool, ◌||◌, ◌==◌, List, [], ◌∷◌, ◌++◌, length, map, take, drop, set, Option, Some, refl, ap, sym, ◌∙◌, subst, arith, inl, inr, ◌⊎◌}
+use Rattle.std.proofs.Common.{◌≡◌, ◌≢◌, ℕ, zero, suc, ◌+◌, ◌%◌, ◌<◌, ◌≤◌, Bool, ◌||◌, ◌==◌, List, [], ◌∷◌, ◌++◌, length, map, take, set, Option, Some, refl, ap, sym, ◌∙◌, subst, arith, inl, inr, ◌⊎◌}
+use Rattle.std.proofs.lemmas.Bool.{cases_eq}
 use Rattle.std.proofs.lemmas.List.{length-set, length-append, get_or-set_same, get_or-set_other}
 use Rattle.std.proofs.lemmas.Option.{slice_get_within, get_or_from_slice_get, slice_get-map}
 use Rattle.std.specs.Option.{option_map}
-use Rattle.std.proofs.Math.Seq.{take-append_seam}
 use Rattle.std.specs.List.{All, slice_get, slice_index}
 use Rattle.image.specs.Image.{ImageValue}
 use Rattle.mem_store.specs.Memory.{Memory, grants, to_write}
@@ -19,19 +19,17 @@ use Rattle.machine.specs.World.{World, step, run}
 use Rattle.machine.specs.declared.choice.Choice.{Choice}
 use Rattle.machine.proofs.RunLaws.{all-run, run-keeps}
 use Rattle.bank_laws.specs.Banks.{WordBytes}
+use Rattle.bank_laws.specs.Runs.{StepTable}
 use Rattle.bank_laws.specs.Words.{bytes_at}
 use Rattle.bank_laws.specs.Table.{table}
 use Rattle.explore_sites.specs.Cells.{words_shown}
 use Rattle.explore_sites.specs.Sites.{ShowsOne, StepsTo}
-use Rattle.explore_sites.specs.declared.cell.Cell.{Cell}
 use Rattle.explore_sites.proofs.SiteLemmas.{machine_steps}
-use Rattle.explore_laws.specs.Places.{Place, place_stepped}
-use Rattle.explore_space.specs.Places.{hart_in, hart_numbered, cells_in, marks_in, memory_over, world_of_key, place_of_key, IsKey, GoesOn}
+use Rattle.explore_laws.specs.Places.{Place, place_stepped, place_settled, place_after}
+use Rattle.explore_search.specs.Searched.{GoesOn}
+use Rattle.explore_space.specs.Places.{hart_in, hart_numbered, cells_in, marks_in, memory_over, world_of_key, place_of_key, PartsStep, IsKey, IsKeyOf, KeptOnce, KeysStay}
 use Rattle.explore_space.specs.declared.shared.Shared.{Shared}
-use Rattle.explore_space.proofs.WorldLemmas.{get_within, map_same, taken, memory_after, world_after, chosen_after}
-
-same_or_not : (a b : ℕ) → (a ≡ b) ⊎ (a ≢ b)
-same_or_not a b = grind arith
+use Rattle.explore_space.proofs.WorldLemmas.{get_within, map_same, taken, memory_after, world_after, marked, unmarked, chosen_after}
 
 pub longer_length : {X : Type 0} (xs ys : List X) → GoesOn xs ys → length xs ≤ length ys
 longer_length xs ys goes = let e = ap length goes.1 ∙ length-append xs goes.0 in omega (arith, e)
@@ -45,7 +43,7 @@ module _ {Z : Type 0} (image : ImageValue) (n : ℕ) (harts more_harts : List Ha
   pub harts_same : (k i : ℕ) → slice_get (take n key) k ≡ Some i → hart_numbered more_harts i ≡ hart_numbered harts i
   harts_same k i e = ap hart_in (longer_get harts more_harts harts_go i (is.harts k i e))
 
-  all_same : map (hart_numbered more_harts) (take n key) ≡ map (hart_numbered harts) (take n key)
+  pub all_same : map (hart_numbered more_harts) (take n key) ≡ map (hart_numbered harts) (take n key)
   all_same = map_same (hart_numbered more_harts) (hart_numbered harts) (take n key) harts_same
 
   shared_same : slice_get more_shareds (slice_index key n) ≡ slice_get shareds (slice_index key n)
@@ -61,9 +59,11 @@ module _ {Z : Type 0} (image : ImageValue) (n : ℕ) (harts more_harts : List Ha
   place_stays = ap (λ hs. place_by (world_by hs (slice_get more_shareds (slice_index key n)))) all_same
       ∙ ap (λ o. place_by (world_by (map (hart_numbered harts) (take n key)) o)) shared_same
 
-  pub key_stays : IsKey image n more_harts more_shareds key
-  key_stays = record {
+  pub key_stays : KeptOnce image more_harts more_shareds → IsKey image n more_harts more_shareds key
+  key_stays once = record {
     len = is.len;
+    flags = is.flags;
+    once = once;
     harts = λ k i e. (let a = is.harts k i e in let b = longer_length harts more_harts harts_go in omega (arith, a, b));
     shared = (let a = is.shared in let b = longer_length shareds more_shareds shareds_go in omega (arith, a, b));
     keeps = subst (λ o. Keeps (image_memory image) (memory_over (image_memory image) (words_shown image (cells_in o)))) (sym shared_same) is.keeps;
@@ -95,13 +95,23 @@ get_set (y ∷ xs) zero (suc k) v x e = inl e
 get_set (y ∷ xs) (suc i) zero v x e = inl e
 get_set (y ∷ xs) (suc i) (suc k) v x e = get_set xs i k v x e
 
+-- the number of a hart in a key, and that hart in its world
+pub id_at : {Z : Type 0} (image : ImageValue) (n : ℕ) (harts : List Hart) (shareds : List (Shared Z)) (key : List ℕ)
+    → IsKey image n harts shareds key → (k : ℕ) → k < n → slice_get (take n key) k ≡ Some (slice_index key k)
+id_at image n harts shareds key is k low = taken_at n key k low (let e = is.len in omega (arith, e, low))
+
+pub hart_at : {Z : Type 0} (image : ImageValue) (n : ℕ) (harts : List Hart) (shareds : List (Shared Z)) (key : List ℕ)
+    → IsKey image n harts shareds key → (k : ℕ) → k < n
+    → slice_get (map (hart_numbered harts) (take n key)) k ≡ Some (hart_numbered harts (slice_index key k))
+hart_at image n harts shareds key is k low =
+    slice_get-map (hart_numbered harts) (take n key) k ∙ ap (option_map (hart_numbered harts)) (id_at image n harts shareds key is k low)
+
 module _ {Z : Type 0} (image : ImageValue) (n : ℕ) (harts more_harts : List Hart) (shareds more_shareds : List (Shared Z))
     (harts_go : GoesOn harts more_harts) (shareds_go : GoesOn shareds more_shareds) (key next : List ℕ) (is : IsKey image n harts shareds key)
     (number id shared_id : ℕ) (refuse : Bool) (low : number < n) (id_there : id < length more_harts) (shared_there : shared_id < length more_shareds)
     (next_is : next ≡ set (set (set key number id) n shared_id) (n + 1 + number) 1)
-    (steps : StepsTo (table (image_memory image)) number refuse (hart_numbered harts (slice_index key number)) (hart_numbered more_harts id)
-    (words_shown image (cells_in (slice_get shareds (slice_index key n)))) (words_shown image (cells_in (slice_get more_shareds shared_id)))
-    (marks_in (slice_get shareds (slice_index key n))) (marks_in (slice_get more_shareds shared_id))) where
+    (steps : PartsStep image (record { hart = number; refuse = refuse }) harts shareds (slice_index key number) (slice_index key n)
+    more_harts more_shareds id shared_id) where
   abbrev m : Memory
   m = image_memory image
 
@@ -130,16 +140,14 @@ module _ {Z : Type 0} (image : ImageValue) (n : ℕ) (harts more_harts : List Ha
   c = record { hart = number; refuse = refuse }
 
   there : slice_get (take n key) number ≡ Some (slice_index key number)
-  there = taken_at n key number low (let e = is.len in omega (arith, e, low))
+  there = id_at image n harts shareds key is number low
 
   same : (k i : ℕ) → slice_get (take n key) k ≡ Some i → g i ≡ f i
   same = harts_same image n harts more_harts shareds more_shareds harts_go shareds_go key is
 
-  hart_there : slice_get w.harts number ≡ Some (f (slice_index key number))
-  hart_there = slice_get-map f (take n key) number ∙ ap (option_map f) there
-
   aligned_here : IsAligned (f (slice_index key number))
   aligned_here =
+      let hart_there = hart_at image n harts shareds key is number low in
       let inside : number < length w.harts = slice_get_within w.harts number (f (slice_index key number)) hart_there in
       subst IsAligned (get_or_from_slice_get w.harts number (f (slice_index key number)) (f (slice_index key number)) hart_there)
       (is.aligned number (f (slice_index key number)) inside)
@@ -164,7 +172,7 @@ module _ {Z : Type 0} (image : ImageValue) (n : ℕ) (harts more_harts : List Ha
       world_of : Option (Shared Z) → World
       world_of o = record { harts = map g (take n next); memory = memory_over m (words_shown image (cells_in o)); reserved = marks_in o }
 
-  pub next_place : place_of_key image n more_harts more_shareds next ≡ place_stepped (place_of_key image n harts shareds key) c
+  next_place : place_of_key image n more_harts more_shareds next ≡ place_stepped (place_of_key image n harts shareds key) c
   next_place =
       let chosen : (λ (k : ℕ). slice_index next (n + 1 + k) == 1) ≡ (λ (k : ℕ). (number == k) || (slice_index key (n + 1 + k) == 1))
       = λ i k. chosen_after m n number id shared_id (slice_index key number) key next f g values new_values r new_r refuse low is.len next_is there same k i in
@@ -173,9 +181,21 @@ module _ {Z : Type 0} (image : ImageValue) (n : ℕ) (harts more_harts : List Ha
       place_of : World → (ℕ → Bool) → Place
       place_of x y = record { world = x; chosen = y }
 
-  pub next_key : IsKey image n more_harts more_shareds next
+  flags_then : (k : ℕ) → slice_index next (n + 1 + k) ≤ 1
+  flags_then k = elim (cases_eq number k) [
+    | inl here ↦
+        let a = marked m n number id shared_id (slice_index key number) key next f g values new_values r new_r refuse low is.len next_is there same in
+        subst (λ j. slice_index next (n + 1 + j) ≤ 1) here (omega (arith, a))
+    | inr other ↦
+        let a = unmarked m n number id shared_id (slice_index key number) key next f g values new_values r new_r refuse low is.len next_is there same k other in
+        let b = is.flags k in omega (arith, a, b)
+  ]
+
+  next_key : KeptOnce image more_harts more_shareds → IsKey image n more_harts more_shareds next
   unfolding run
-  next_key = record {
+  next_key once = record {
+    flags = flags_then;
+    once = once;
     len = ap length next_is ∙ length-set (set (set key number id) n shared_id) (n + 1 + number) 1 ∙ length-set (set key number id) n shared_id
         ∙ length-set key number id ∙ is.len;
     harts = λ k i e. elim (get_set (take n key) number k id i (ap (λ (xs : List ℕ). slice_get xs k) (sym taken_is) ∙ e)) [
@@ -195,23 +215,38 @@ module _ {Z : Type 0} (image : ImageValue) (n : ℕ) (harts more_harts : List Ha
       taken_is : take n next ≡ set (take n key) number id
       taken_is = taken m n number id shared_id (slice_index key number) key next f g values new_values r new_r refuse low is.len next_is there same
 
--- the same step by equal parts
-pub steps_moved : (image : ImageValue) (k : ℕ) (refuse : Bool) (h a new_h b : HartValue) (cells d new_cells e : List Cell)
-    (r q new_r p : Marks) → StepsTo (table (image_memory image)) k refuse h new_h (words_shown image cells) (words_shown image new_cells) r new_r
-    → a ≡ h → b ≡ new_h → d ≡ cells → e ≡ new_cells → q ≡ r → p ≡ new_r
-    → StepsTo (table (image_memory image)) k refuse a b (words_shown image d) (words_shown image e) q p
-steps_moved image k refuse h a new_h b cells d new_cells e r q new_r p steps a_is b_is d_is e_is q_is p_is =
-    rw a_is (rw b_is (rw d_is (rw e_is (rw q_is (rw p_is steps)))))
+  pub next_is_key : KeptOnce image more_harts more_shareds
+      → IsKeyOf image n more_harts more_shareds next (place_stepped (place_of_key image n harts shareds key) c)
+  next_is_key once = (next_key once, next_place)
 
--- what a slice of all gives back
-pub given_back : {X : Type 0} (len : ℕ) (new old : List X) → length new ≡ len → take len (new ++ drop (length new) old) ≡ new
-given_back len new old long = ap (λ n. take n (new ++ drop (length new) old)) (sym long) ∙ take-append_seam new (drop (length new) old)
+-- the same step by equal parts
+pub steps_moved : (T : StepTable HartValue) (k : ℕ) (refuse : Bool) (h a new_h b : HartValue) (values d new_values e : ℕ → WordBytes)
+    (r q new_r p : Marks) → StepsTo T k refuse h new_h values new_values r new_r
+    → a ≡ h → b ≡ new_h → d ≡ values → e ≡ new_values → q ≡ r → p ≡ new_r → StepsTo T k refuse a b d e q p
+steps_moved T k refuse h a new_h b values d new_values e r q new_r p steps a_is b_is d_is e_is q_is p_is =
+    rw a_is (rw b_is (rw d_is (rw e_is (rw q_is (rw p_is steps)))))
 
 -- keys and places stay
 pub kept : {Z : Type 0} (image : ImageValue) (n : ℕ) (harts more_harts : List Hart) (shareds more_shareds : List (Shared Z))
-    → GoesOn harts more_harts → GoesOn shareds more_shareds → (key : List ℕ) → IsKey image n harts shareds key
-    → IsKey image n more_harts more_shareds key × (place_of_key image n more_harts more_shareds key ≡ place_of_key image n harts shareds key)
-kept image n harts more_harts shareds more_shareds harts_go shareds_go key is = (
-  key_stays image n harts more_harts shareds more_shareds harts_go shareds_go key is,
+    → GoesOn harts more_harts → GoesOn shareds more_shareds → (KeptOnce image harts shareds → KeptOnce image more_harts more_shareds)
+    → KeysStay image n harts shareds more_harts more_shareds
+kept image n harts more_harts shareds more_shareds harts_go shareds_go once key is = (
+  key_stays image n harts more_harts shareds more_shareds harts_go shareds_go key is (once is.once),
   place_stays image n harts more_harts shareds more_shareds harts_go shareds_go key is,
 )
+
+pub kept_on : {Z : Type 0} (image : ImageValue) (n : ℕ) (harts more_harts all_harts : List Hart) (shareds more_shareds : List (Shared Z))
+    → KeysStay image n harts shareds more_harts more_shareds → KeysStay image n more_harts more_shareds all_harts more_shareds
+    → KeysStay image n harts shareds all_harts more_shareds
+kept_on image n harts more_harts all_harts shareds more_shareds first second key is =
+    let a = first key is in
+    let b = second key a.0 in (b.0, b.1 ∙ a.1)
+
+-- a turn is a step and the local steps behind it
+pub turned : {Z : Type 0} (image : ImageValue) (n : ℕ) (harts more_harts all_harts : List Hart) (shareds more_shareds : List (Shared Z))
+    (key next last : List ℕ) (c : Choice)
+    → IsKeyOf image n more_harts more_shareds next (place_stepped (place_of_key image n harts shareds key) c)
+    → IsKeyOf image n all_harts more_shareds last (place_settled (place_of_key image n more_harts more_shareds next) c.hart)
+    → IsKeyOf image n all_harts more_shareds last (place_after (place_of_key image n harts shareds key) c)
+turned image n harts more_harts all_harts shareds more_shareds key next last c stepped_is settled =
+    (settled.0, settled.1 ∙ ap (λ p. place_settled p c.hart) stepped_is.1)

@@ -2,6 +2,8 @@ pub mod WorldLemmas
 pub mod KeyLemmas
 pub mod SettledKeys
 pub mod FirstLemmas
+pub mod DifferLemmas
+pub mod SameLemmas
 pub mod MarkLemmas
 pub mod TurnLists
 pub mod PassLemmas

@@ -1,15 +1,10 @@
 -- Harts that are marked as chosen, and a choice of each of them.
 use Rattle.std.proofs.Common.{◌≡◌, ◌≢◌, ℕ, zero, suc, ◌+◌, ◌<◌, ◌≤◌, ltb, eqb, cond, Bool, true, false, ◌&&◌, List, ◌∷◌, refl, sym, subst, ◌∙◌, arith, eq-eqb, inl, inr, ◌⊎◌}
-use Rattle.std.proofs.lemmas.Bool.{ne_eqb, lt-ltb, le-ltb}
+use Rattle.std.proofs.lemmas.Bool.{cases_lt, ne_eqb, lt-ltb, le-ltb}
 use Rattle.machine.specs.Chosen.{is_chosen}
 use Rattle.machine.specs.declared.choice.Choice.{Choice}
+use Rattle.explore_search.proofs.SearchLemmas.{below_or}
 use Rattle.explore_space.specs.Failing.{one_each}
-
-below_or : (k n : ℕ) → k < n + 1 → (k < n) ⊎ (k ≡ n)
-below_or k n h = grind arith
-
-either_side : (k n : ℕ) → (k < n) ⊎ (n ≤ k)
-either_side k n = grind arith
 
 same_or_above : (k n : ℕ) → n ≤ k → (k ≡ n) ⊎ (n < k)
 same_or_above k n h = grind arith
@@ -43,14 +38,14 @@ chosen_below (suc n) f k h = elim (below_or k n (omega (arith, h))) [
 
 -- the marks of n harts are the harts that a choice of each chooses
 pub marks_are : (n : ℕ) (f : ℕ → Bool) (k : ℕ) → (ltb k n && f k) ≡ is_chosen (one_each n f) k
-marks_are n f k = elim (either_side k n) [
+marks_are n f k = elim (cases_lt k n) [
   | inl low ↦ rw (lt-ltb k n low) (sym (chosen_below n f k low))
   | inr past ↦ rw (le-ltb k n past) (sym (chosen_past n f k past))
 ]
 
 -- ---- one mark more
 pub mark_more : (f : ℕ → Bool) (i j : ℕ) → f i ≡ true → cond (eqb j i) true (ltb j i && f j) ≡ (ltb j (i + 1) && f j)
-mark_more f i j is = elim (either_side j i) [
+mark_more f i j is = elim (cases_lt j i) [
   | inl low ↦ rw (ne_eqb j i (λ e. omega (arith, low, e))) (rw (lt-ltb j i low) (rw (lt-ltb j (i + 1) (omega (arith, low))) refl))
   | inr past ↦ elim (same_or_above j i past) [
     | inl here ↦ rw here (rw (eq-eqb i i refl) (rw (lt-ltb i (i + 1) (omega arith)) (sym is)))
@@ -59,7 +54,7 @@ mark_more f i j is = elim (either_side j i) [
 ]
 
 pub mark_none : (f : ℕ → Bool) (i j : ℕ) → f i ≡ false → (ltb j i && f j) ≡ (ltb j (i + 1) && f j)
-mark_none f i j is = elim (either_side j i) [
+mark_none f i j is = elim (cases_lt j i) [
   | inl low ↦ rw (lt-ltb j i low) (rw (lt-ltb j (i + 1) (omega (arith, low))) refl)
   | inr past ↦ elim (same_or_above j i past) [
     | inl here ↦ rw here (rw (le-ltb i i (omega arith)) (rw (lt-ltb i (i + 1) (omega arith)) (sym is)))

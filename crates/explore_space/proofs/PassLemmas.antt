@@ -1,7 +1,7 @@
 -- What fails in a run fails in the place that stands for it.
 use Rattle.std.proofs.Common.{◌≡◌, ◌≢◌, ℕ, zero, suc, ◌<◌, ◌==◌, ltb, eq-eqb, Bool, true, false, ◌||◌, List, [], ◌∷◌, length, get_or, cond, Option, Some, None, refl, ap, sym, ◌∙◌, subst, inl, inr, ◌⊎◌, arith}
-use Rattle.std.proofs.lemmas.Bool.{cases_Bool, ne_eqb, lt-ltb}
-use Rattle.std.proofs.lemmas.Option.{slice_get-get_or}
+use Rattle.std.proofs.lemmas.Bool.{cases_Bool, cases_eq, or_right, ne_eqb, lt-ltb}
+use Rattle.std.proofs.lemmas.Option.{same_Some, slice_get-get_or}
 use Rattle.std.specs.List.{All, Contains}
 use Rattle.std.specs.Option.{is_some}
 use Rattle.hart_step.specs.Hart.{HartValue}
@@ -27,17 +27,10 @@ use Rattle.outcome.specs.declared.expect.Exit.TheVariants.{May}
 use Rattle.explore_laws.specs.Covering.{WalksTo, WorldCovers}
 
 -- ---- harts that are chosen
-same_or_not : (a b : ℕ) → (a ≡ b) ⊎ (a ≢ b)
-same_or_not a b = grind arith
-
-or_true : (a b : Bool) → b ≡ true → a || b ≡ true
-or_true true b e = refl
-or_true false b e = e
-
 at_place : (c : Choice) (choices : List Choice) (k i : ℕ) → i < length (chosen (c ∷ choices)) → get_or (chosen (c ∷ choices)) i k ≡ k
     → (Contains (chosen choices) k → is_chosen choices k ≡ true) → is_chosen (c ∷ choices) k ≡ true
 at_place c choices k zero low e later = rw (eq-eqb c.hart k e) refl
-at_place c choices k (suc i) low e later = or_true (c.hart == k) (is_chosen choices k) (later (i, omega (arith, low), e))
+at_place c choices k (suc i) low e later = or_right (c.hart == k) (is_chosen choices k) (later (i, omega (arith, low), e))
 
 there_chosen : (choices : List Choice) (k : ℕ) → Contains (chosen choices) k → is_chosen choices k ≡ true
 there_chosen [] k p = absurd (let low = p.1 in omega (arith, low))
@@ -45,7 +38,7 @@ there_chosen (c ∷ choices) k p = at_place c choices k p.0 p.1 p.2 (there_chose
 
 chosen_there : (choices : List Choice) (k : ℕ) → is_chosen choices k ≡ true → Contains (chosen choices) k
 chosen_there [] k e = absurd (cc)
-chosen_there (c ∷ choices) k e = elim (same_or_not c.hart k) [
+chosen_there (c ∷ choices) k e = elim (cases_eq c.hart k) [
   | inl is ↦ (0, omega arith, is)
   | inr off ↦ (let p = chosen_there choices k (rw (ne_eqb c.hart k off) at e) in (suc p.0, (let low = p.1 in omega (arith, low)), p.2))
 ]
@@ -53,10 +46,7 @@ chosen_there (c ∷ choices) k e = elim (same_or_not c.hart k) [
 -- ---- harts that have stopped
 stays_there : (code : Memory) (n : ℕ) (v u : HartValue) → walk code n v ≡ Some u → is_local_next code v ≡ false → v ≡ u
 unfolding walk
-stays_there code zero v u e stopped = same_value v u (Some v) refl e
-  where
-    same_value : (x y : HartValue) (o : Option HartValue) → o ≡ Some x → o ≡ Some y → x ≡ y
-    same_value x y o e f = cc
+stays_there code zero v u e stopped = same_Some v u e
 stays_there code (suc n) v u e stopped = absurd (let none : ◌≡◌ {A = Option HartValue} None (Some u) = rw stopped at e in cc)
 
 exited_stays : (code : Memory) (pc : ℕ) (s : HartState) → is_exited s ≡ true → is_some (local_in s code pc) ≡ false

@@ -1,9 +1,7 @@
 -- A key whose hart has taken its local steps.
 use Rattle.std.proofs.Common.{◌≡◌, ℕ, ◌+◌, ◌%◌, ◌<◌, ◌≤◌, Bool, ◌==◌, List, length, map, take, set, Option, Some, ap, sym, ◌∙◌, subst, arith, inl, inr}
 use Rattle.std.proofs.lemmas.List.{length-set, get_or-set_other, map-set}
-use Rattle.std.proofs.lemmas.Option.{slice_get-map}
 use Rattle.std.specs.List.{All, slice_get, slice_index}
-use Rattle.std.specs.Option.{option_map}
 use Rattle.image.specs.Image.{ImageValue}
 use Rattle.mem_store.specs.Image.{image_memory}
 use Rattle.hart_step.specs.Hart.{HartValue}
@@ -20,11 +18,12 @@ use Rattle.bank_laws.specs.Words.{bytes_at}
 use Rattle.explore_laws.specs.Settling.{rested, at_once, world_settled, settled_by, settling_steps}
 use Rattle.explore_laws.specs.Places.{Place, place_settled}
 use Rattle.explore_laws.proofs.SettleLemmas.{settled_is_run}
+use Rattle.explore_search.specs.Searched.{GoesOn}
 use Rattle.explore_sites.specs.Cells.{words_shown}
-use Rattle.explore_space.specs.Places.{hart_numbered, cells_in, marks_in, memory_over, world_of_key, place_of_key, IsKey, GoesOn}
+use Rattle.explore_space.specs.Places.{hart_numbered, cells_in, marks_in, memory_over, world_of_key, place_of_key, IsKey, IsKeyOf, KeptOnce}
 use Rattle.explore_space.specs.declared.shared.Shared.{Shared}
-use Rattle.explore_space.proofs.WorldLemmas.{map_same, take-set}
-use Rattle.explore_space.proofs.KeyLemmas.{taken_at, get_set, harts_same, longer_length}
+use Rattle.explore_space.proofs.WorldLemmas.{take-set}
+use Rattle.explore_space.proofs.KeyLemmas.{hart_at, get_set, all_same, longer_length}
 
 module _ {Z : Type 0} (image : ImageValue) (n : ℕ) (harts more_harts : List Hart) (shareds : List (Shared Z)) (harts_go : GoesOn harts more_harts)
     (shareds_go : GoesOn shareds shareds) (key next : List ℕ) (is : IsKey image n harts shareds key) (number id : ℕ) (low : number < n)
@@ -39,14 +38,8 @@ module _ {Z : Type 0} (image : ImageValue) (n : ℕ) (harts more_harts : List Ha
   abbrev w : World
   w = world_of_key image n harts shareds key
 
-  there : slice_get (take n key) number ≡ Some (slice_index key number)
-  there = taken_at n key number low (let e = is.len in omega (arith, e, low))
-
-  same : (k i : ℕ) → slice_get (take n key) k ≡ Some i → g i ≡ f i
-  same = harts_same image n harts more_harts shareds shareds harts_go shareds_go key is
-
   hart_there : slice_get w.harts number ≡ Some (f (slice_index key number))
-  hart_there = slice_get-map f (take n key) number ∙ ap (option_map f) there
+  hart_there = hart_at image n harts shareds key is number low
 
   code_is : code_in w.memory ≡ code_in (image_memory image)
   code_is = code_kept (image_memory image) w.memory is.keeps
@@ -56,7 +49,7 @@ module _ {Z : Type 0} (image : ImageValue) (n : ℕ) (harts more_harts : List Ha
 
   harts_are : map g (take n next) ≡ set w.harts number (rested (code_in w.memory) at_once (f (slice_index key number)))
   harts_are = ap (map g) taken_is ∙ map-set g (take n key) number id
-      ∙ ap (λ (hs : List HartValue). set hs number (g id)) (map_same g f (take n key) same)
+      ∙ ap (λ (hs : List HartValue). set hs number (g id)) (all_same image n harts more_harts shareds shareds harts_go shareds_go key is)
       ∙ ap (set w.harts number) (rests ∙ ap (λ m. rested m at_once (f (slice_index key number))) (sym code_is))
 
   at_other : (k : ℕ) → n ≤ k → slice_index next k ≡ slice_index key k
@@ -70,7 +63,7 @@ module _ {Z : Type 0} (image : ImageValue) (n : ℕ) (harts more_harts : List Ha
       world_of : List HartValue → Option (Shared Z) → World
       world_of hs o = record { harts = hs; memory = memory_over (image_memory image) (words_shown image (cells_in o)); reserved = marks_in o }
 
-  pub settled_place_is : place_of_key image n more_harts shareds next ≡ place_settled (place_of_key image n harts shareds key) number
+  settled_place_is : place_of_key image n more_harts shareds next ≡ place_settled (place_of_key image n harts shareds key) number
   settled_place_is =
       let chosen : (λ (k : ℕ). slice_index next (n + 1 + k) == 1) ≡ (λ (k : ℕ). slice_index key (n + 1 + k) == 1)
       = λ i k. ap (λ v. v == 1) (at_other (n + 1 + k) (omega arith)) i in
@@ -85,8 +78,10 @@ module _ {Z : Type 0} (image : ImageValue) (n : ℕ) (harts more_harts : List Ha
   run_is : world_of_key image n more_harts shareds next ≡ run w locals
   run_is = world_is ∙ sym (settled_is_run w number)
 
-  pub settled_is_key : IsKey image n more_harts shareds next
-  settled_is_key = record {
+  settled_is_key : KeptOnce image more_harts shareds → IsKey image n more_harts shareds next
+  settled_is_key once = record {
+    once = once;
+    flags = λ k. (let a = at_other (n + 1 + k) (omega arith) in let b = is.flags k in omega (arith, a, b));
     len = ap length next_is ∙ length-set key number id ∙ is.len;
     harts = λ k i e. elim (get_set (take n key) number k id i (ap (λ (xs : List ℕ). slice_get xs k) (sym taken_is) ∙ e)) [
       | inl old ↦ (let a = is.harts k i old in let b = longer_length harts more_harts harts_go in omega (arith, a, b))
@@ -100,3 +95,7 @@ module _ {Z : Type 0} (image : ImageValue) (n : ℕ) (harts more_harts : List Ha
         (sym (at_other n (omega arith))) is.words;
     aligned = subst (λ (x : World). All IsAligned x.harts) (sym run_is) (all-run IsAligned stepped-aligned w locals is.aligned);
   }
+
+  pub settled_is_key_of : KeptOnce image more_harts shareds
+      → IsKeyOf image n more_harts shareds next (place_settled (place_of_key image n harts shareds key) number)
+  settled_is_key_of once = (settled_is_key once, settled_place_is)

@@ -1,6 +1,7 @@
 -- Lists of plain choices, of meant ones, and of turns' choices, as they grow.
-use Rattle.std.proofs.Common.{◌≡◌, ℕ, zero, suc, ◌+◌, ◌≤◌, false, List, [], ◌∷◌, ◌++◌, length, Option, Some, None, refl, ap, sym, ◌∙◌, arith}
-use Rattle.std.proofs.lemmas.List.{append_assoc, append-nil}
+use Rattle.std.proofs.Common.{◌≡◌, ℕ, zero, suc, ◌+◌, ◌-◌, ◌≤◌, false, List, [], ◌∷◌, ◌++◌, length, take, Option, Some, None, refl, ap, sym, ◌∙◌, arith}
+use Rattle.std.specs.Prelude.{replicate}
+use Rattle.std.proofs.lemmas.List.{append_assoc, append-nil, take_all}
 use Rattle.std.proofs.lemmas.Option.{slice_get_past}
 use Rattle.std.specs.List.{slice_get}
 use Rattle.hart_step.specs.Hart.{HartValue}
@@ -15,15 +16,18 @@ use Rattle.explore_space.specs.Every.{hart_choices, meant_choices}
 use Rattle.explore_space.specs.declared.meant.ScRefusals.{ScRefusals}
 
 -- ---- plain choices
-plain_last : (h n : ℕ) → plain_choices h n ++ record { hart = h; refuse = false } ∷ [] ≡ plain_choices h (suc n)
-plain_last h zero = refl
-plain_last h (suc n) = ap (λ (cs : List Choice). record { hart = h; refuse = false } ∷ cs) (plain_last h n)
+plain_replicate : (h n : ℕ) → replicate n (record { hart = h; refuse = false }) ≡ plain_choices h n
+plain_replicate h zero = refl
+plain_replicate h (suc n) = ap (λ (cs : List Choice). record { hart = h; refuse = false } ∷ cs) (plain_replicate h n)
 
-pub plain_more : (xs : List Choice) (h n : ℕ)
-    → (xs ++ plain_choices h n) ++ record { hart = h; refuse = false } ∷ [] ≡ xs ++ plain_choices h (n + 1)
-plain_more xs h n =
-    let k : n + 1 ≡ suc n = omega arith in
-    rw k (append_assoc xs (plain_choices h n) (record { hart = h; refuse = false } ∷ []) ∙ ap (λ ys. xs ++ ys) (plain_last h n))
+-- so many plain choices more
+pub plain_more : (xs : List Choice) (h n a b : ℕ) → a ≡ length xs → b ≡ length xs
+    → take (a + n) xs ++ replicate (a + n - b) (record { hart = h; refuse = false }) ≡ xs ++ plain_choices h n
+plain_more xs h n a b a_is b_is =
+    let c : Choice = record { hart = h; refuse = false } in
+    let count : a + n - b ≡ n = omega (arith, a_is, b_is) in
+    ap (λ (ys : List Choice). ys ++ replicate (a + n - b) c) (take_all (a + n) xs (omega (arith, a_is)))
+    ∙ ap (λ k. xs ++ replicate k c) count ∙ ap (λ (ys : List Choice). xs ++ ys) (plain_replicate h n)
 
 -- ---- meant choices
 pub meant_none : (refusals : ScRefusals) → [] ≡ meant_choices refusals 0
@@ -39,10 +43,10 @@ no_step : (w : World) (c : Choice) → slice_get w.harts c.hart ≡ None → ste
 unfolding step
 no_step w c none = ap (step_of w c) none
 
-pub nobody_settles : (w : World) (c : Choice) → length w.harts ≤ c.hart → w ≡ world_settled (step w c) c.hart
-nobody_settles w c past =
+pub nobody_runs : (w : World) (c : Choice) → length w.harts ≤ c.hart → w ≡ run w (turn_choices w c)
+nobody_runs w c past =
     let none = slice_get_past w.harts c.hart past in
-    sym (ap (λ (x : World). world_settled x c.hart) (no_step w c none) ∙ ap (settled_by w c.hart) none)
+    sym (run_of_turn w c ∙ ap (λ (x : World). world_settled x c.hart) (no_step w c none) ∙ ap (settled_by w c.hart) none)
 
 pub nobody_turns : (w : World) (c : Choice) → length w.harts ≤ c.hart → ◌≡◌ {A = List Choice} (c ∷ []) (turn_choices w c)
 nobody_turns w c past =
@@ -73,5 +77,5 @@ turns_last w (d ∷ turns) c =
     (sym (run_joined w (turn_choices w d) behind ∙ ap (λ (x : World). run x behind) (run_of_turn w d)))
 
 pub run_last : (w : World) (cs : List Choice) (c : Choice)
-    → world_settled (step (run w cs) c) c.hart ≡ run w (cs ++ turn_choices (run w cs) c)
-run_last w cs c = sym (run_joined w cs (turn_choices (run w cs) c) ∙ run_of_turn (run w cs) c)
+    → run (run w cs) (turn_choices (run w cs) c) ≡ run w (cs ++ turn_choices (run w cs) c)
+run_last w cs c = sym (run_joined w cs (turn_choices (run w cs) c))

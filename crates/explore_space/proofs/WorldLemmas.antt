@@ -1,6 +1,6 @@
 -- The world of a key after a step.
 use Rattle.std.proofs.Common.{◌≡◌, ◌≢◌, ℕ, zero, suc, ◌+◌, ◌*◌, ◌%◌, ◌<◌, Bool, ◌||◌, ◌==◌, List, [], ◌∷◌, ◌++◌, length, map, take, set, Option, Some, refl, ap, sym, ◌∙◌, arith, inl, inr, ◌⊎◌, eq-eqb}
-use Rattle.std.proofs.lemmas.Bool.{ne_eqb}
+use Rattle.std.proofs.lemmas.Bool.{cases_eq, ne_eqb}
 use Rattle.std.proofs.lemmas.List.{length-set, get_or-set_same, get_or-set_other, map-set, take-set-le}
 use Rattle.std.proofs.lemmas.Option.{slice_get-map}
 use Rattle.std.specs.List.{slice_get, slice_index}
@@ -44,11 +44,6 @@ memory_is m n values rights same =
     memory_of r b = record { rights = r; bytes = b }
 
 -- ---- lists
-pub get_begun : {X : Type 0} (xs ys : List X) (k : ℕ) (x : X) → slice_get xs k ≡ Some x → slice_get (xs ++ ys) k ≡ Some x
-get_begun [] ys k x e = absurd (cc)
-get_begun (y ∷ xs) ys zero x e = e
-get_begun (y ∷ xs) ys (suc k) x e = get_begun xs ys k x e
-
 pub get_within : {X : Type 0} (xs ys : List X) (k : ℕ) → k < length xs → slice_get (xs ++ ys) k ≡ slice_get xs k
 get_within [] ys k h = absurd (omega (arith, h))
 get_within (x ∷ xs) ys zero h = refl
@@ -64,9 +59,6 @@ pub map_same : {Y : Type 0} (f g : ℕ → Y) (xs : List ℕ) → ((k i : ℕ) �
 map_same f g [] same = refl
 map_same {Y} f g (x ∷ xs) same =
     ap (λ (y : Y). y ∷ map f xs) (same zero x refl) ∙ ap (λ (ys : List Y). g x ∷ ys) (map_same f g xs (λ k i e. same (suc k) i e))
-
-same_or_not : (a b : ℕ) → (a ≡ b) ⊎ (a ≢ b)
-same_or_not a b = grind arith
 
 -- ---- one step
 module _ (m : Memory) (n number id shared_id old : ℕ) (key next : List ℕ) (f g : ℕ → HartValue) (values new_values : ℕ → WordBytes)
@@ -115,19 +107,19 @@ module _ (m : Memory) (n number id shared_id old : ℕ) (key next : List ℕ) (f
       world_of : List HartValue → Memory → Marks → World
       world_of hs x y = record { harts = hs; memory = x; reserved = y }
 
-  marked : slice_index next (n + 1 + number) ≡ 1
+  pub marked : slice_index next (n + 1 + number) ≡ 1
   marked = ap (λ (xs : List ℕ). slice_index xs (n + 1 + number)) next_is
       ∙ get_or-set_same (set (set key number id) n shared_id) (n + 1 + number) 1 0
       (let a = length-set (set key number id) n shared_id in let b = length-set key number id in omega (arith, a, b, long, low))
 
-  unmarked : (k : ℕ) → number ≢ k → slice_index next (n + 1 + k) ≡ slice_index key (n + 1 + k)
+  pub unmarked : (k : ℕ) → number ≢ k → slice_index next (n + 1 + k) ≡ slice_index key (n + 1 + k)
   unmarked k other = ap (λ (xs : List ℕ). slice_index xs (n + 1 + k)) next_is
       ∙ get_or-set_other (set (set key number id) n shared_id) (n + 1 + number) (n + 1 + k) 1 0 (λ e. other (omega (arith, e)))
       ∙ get_or-set_other (set key number id) n (n + 1 + k) shared_id 0 (λ e. omega (arith, e))
       ∙ get_or-set_other key number (n + 1 + k) id 0 (λ e. omega (arith, e, low))
 
   pub chosen_after : (k : ℕ) → (slice_index next (n + 1 + k) == 1) ≡ ((number == k) || (slice_index key (n + 1 + k) == 1))
-  chosen_after k = elim (same_or_not number k) [
+  chosen_after k = elim (cases_eq number k) [
     | inl is ↦ ap (λ j. slice_index next (n + 1 + j) == 1) (sym is) ∙ ap (λ v. v == 1) marked
         ∙ ap (λ b. b || (slice_index key (n + 1 + k) == 1)) (sym (eq-eqb number k is))
     | inr other ↦ ap (λ v. v == 1) (unmarked k other) ∙ ap (λ b. b || (slice_index key (n + 1 + k) == 1)) (sym (ne_eqb number k other))

@@ -3,11 +3,14 @@ use Rattle.std.specs.Prelude.{◌≡◌, ℕ, zero, suc, ◌<◌, Bool, true, fa
 use Rattle.std.specs.List.{All, Contains}
 use Rattle.image.specs.Image.{ImageValue}
 use Rattle.machine.specs.Start.{started}
-use Rattle.machine.specs.World.{run}
+use Rattle.machine.specs.World.{World, run}
 use Rattle.machine.specs.declared.choice.Choice.{Choice}
 use Rattle.object_library.specs.declared.kind.Kind.{Kind}
 use Rattle.outcome.specs.Expect.{fails, judged}
 use Rattle.outcome.specs.declared.expect.Exit.TheVariants.{May}
+use Rattle.explore_laws.specs.Places.{place_begun}
+use Rattle.explore_laws.specs.Settling.{turns_choices}
+use Rattle.explore_search.specs.Counted.{HasPlaces, HasMorePlaces}
 use Rattle.explore_space.specs.declared.exploring.Answer.{Answer}
 use Rattle.explore_space.specs.declared.exploring.Answer.TheVariants.{Holds, Fails, Undecided}
 use Rattle.explore_space.specs.declared.meant.ScRefusals.{ScRefusals}
@@ -33,17 +36,33 @@ IsListOf meant choices = All (Contains meant) choices
 abbrev pub run_fails : Option Kind → ImageValue → List ℕ → List Choice → Bool
 run_fails rule image inputs choices = fails May (judged rule inputs choices (run (started image inputs) choices).harts)
 
--- a list of these choices fails, and none of fewer choices than it has turns does
-pub record FailsFirst (meant : List Choice) (is_failing : List Choice → Bool) (choices : List Choice) (turns : ℕ) : Type 0 where
+-- a list of these choices fails: it is the choices of so many turns, and neither fewer turns nor
+-- fewer choices do
+pub record FailsFirst (meant : List Choice) (first : World) (is_failing : List Choice → Bool) (choices : List Choice) (count : ℕ) : Type 0 where
+  pub turns : List Choice
+  pub meant_turns : IsListOf meant turns
+  pub count_is : length turns ≡ count
+  pub choices_are : choices ≡ turns_choices first turns
   pub meant_ones : IsListOf meant choices
   pub fails : is_failing choices ≡ true
-  pub first : (other : List Choice) → IsListOf meant other → length other < turns → is_failing other ≡ false
+  pub fewest : (other : List Choice) → IsListOf meant other → length other < count → is_failing (turns_choices first other) ≡ false
+  pub shortest : (other : List Choice) → IsListOf meant other → length other < count → is_failing other ≡ false
 
 -- an answer holds of every schedule: no list of the harts' choices fails, or this one does; where
--- there are more places than may be looked at, nothing is said
+-- it is undecided, nothing is said
 abbrev pub HoldsOfEvery : {Z : Type 0} → Option Kind → ScRefusals → ImageValue → List ℕ → Answer Z → Type 0
 HoldsOfEvery rule refusals image inputs (Holds places) =
     (choices : List Choice) → IsListOf (meant_choices refusals (length inputs)) choices → run_fails rule image inputs choices ≡ false
 HoldsOfEvery rule refusals image inputs (Fails failing) =
-    FailsFirst (meant_choices refusals (length inputs)) (run_fails rule image inputs) failing.choices.items failing.turns
+    FailsFirst (meant_choices refusals (length inputs)) (started image inputs) (run_fails rule image inputs)
+    failing.choices.items failing.turns
 HoldsOfEvery rule refusals image inputs Undecided = Unit {0}
+
+-- an answer counts places: turns lead to so many where nothing fails, and to more than `most` where
+-- it is undecided
+abbrev pub CountsPlaces : {Z : Type 0} → ScRefusals → ImageValue → List ℕ → ℕ → Answer Z → Type 0
+CountsPlaces refusals image inputs most (Holds places) =
+    HasPlaces (meant_choices refusals (length inputs)) (place_begun (started image inputs)) places
+CountsPlaces refusals image inputs most (Fails failing) = Unit {0}
+CountsPlaces refusals image inputs most Undecided =
+    HasMorePlaces (meant_choices refusals (length inputs)) (place_begun (started image inputs)) most

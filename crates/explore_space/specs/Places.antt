@@ -1,7 +1,7 @@
 -- The place that a key stands for: numbers of harts, of what they share, and marks of who was
 -- chosen.
-use Rattle.std.specs.Prelude.{◌≡◌, ℕ, ◌+◌, ◌*◌, ◌%◌, ◌<◌, ◌==◌, List, [], ◌++◌, Option, Some, None, take, map, length, slice_get, slice_index}
-use Rattle.std.specs.List.{All}
+use Rattle.std.specs.Prelude.{◌≡◌, ◌≢◌, ℕ, ◌+◌, ◌*◌, ◌%◌, ◌<◌, ◌≤◌, ◌==◌, List, [], Option, Some, None, take, map, length, slice_get, slice_index}
+use Rattle.std.specs.List.{All, AllPairs}
 use Rattle.image.specs.Image.{ImageValue}
 use Rattle.mem_store.specs.Memory.{Memory}
 use Rattle.mem_store.specs.Image.{image_memory}
@@ -11,9 +11,12 @@ use Rattle.hart_step.specs.Laws.{Keeps, IsAligned}
 use Rattle.hart_step.specs.declared.hart.Hart.{Hart}
 use Rattle.hart_step.specs.declared.hart.HartState.TheVariants.{Running}
 use Rattle.machine.specs.World.{World}
+use Rattle.machine.specs.declared.choice.Choice.{Choice}
 use Rattle.bank_laws.specs.Banks.{WordBytes}
+use Rattle.bank_laws.specs.Table.{table}
 use Rattle.bank_laws.specs.Words.{bytes_at}
-use Rattle.explore_sites.specs.Cells.{words_shown}
+use Rattle.explore_sites.specs.Cells.{words_shown, WordsDiffer}
+use Rattle.explore_sites.specs.Sites.{StepsTo}
 use Rattle.explore_sites.specs.declared.cell.Cell.{Cell}
 use Rattle.explore_laws.specs.Places.{Place}
 use Rattle.explore_space.specs.declared.shared.Shared.{Shared}
@@ -33,7 +36,7 @@ cells_in (Some s) = s.cells.items
 
 abbrev pub marks_in : {Z : Type 0} → Option (Shared Z) → Marks
 marks_in None = λ _. None
-marks_in (Some s) = mark_at s.marks.items
+marks_in (Some s) = mark_at s.marks
 
 -- a memory with the rights of another, in which words stand
 unfoldable pub memory_over : Memory → (ℕ → WordBytes) → Memory
@@ -54,16 +57,43 @@ place_of_key image n harts shareds key = record {
   chosen = λ k. slice_index key (n + 1 + k) == 1;
 }
 
+-- a choice leads from a hart and what it shares to others, all by their numbers
+abbrev pub PartsStep : {Z : Type 0} → ImageValue → Choice → List Hart → List (Shared Z) → ℕ → ℕ → List Hart → List (Shared Z) → ℕ → ℕ → Type 0
+PartsStep image c harts shareds hart shared more_harts more_shareds new_hart new_shared =
+    StepsTo (table (image_memory image)) c.hart c.refuse (hart_numbered harts hart) (hart_numbered more_harts new_hart)
+    (words_shown image (cells_in (slice_get shareds shared))) (words_shown image (cells_in (slice_get more_shareds new_shared)))
+    (marks_in (slice_get shareds shared)) (marks_in (slice_get more_shareds new_shared))
+
+-- kept harts differ
+abbrev pub HartsDiffer : List Hart → Type 0
+HartsDiffer harts = AllPairs (λ a b. hart_of a ≢ hart_of b) harts
+
+-- what harts share isn't the same in two parts: reservations differ, or some word
+abbrev pub AreUnlike : {Z : Type 0} → ImageValue → Shared Z → Shared Z → Type 0
+AreUnlike image a b =
+    mark_at a.marks ≡ mark_at b.marks → WordsDiffer (words_shown image a.cells.items) (words_shown image b.cells.items)
+
+-- kept harts differ, and so do the parts that they share
+abbrev pub KeptOnce : {Z : Type 0} → ImageValue → List Hart → List (Shared Z) → Type 0
+KeptOnce image harts shareds = HartsDiffer harts × AllPairs (AreUnlike image) shareds
+
 -- a row of words is a key
 pub record IsKey {Z : Type 0} (image : ImageValue) (n : ℕ) (known : List Hart) (shareds : List (Shared Z)) (key : List ℕ) : Type 0 where
   pub len : length key ≡ 2 * n + 1
   pub harts : (k id : ℕ) → slice_get (take n key) k ≡ Some id → id < length known
   pub shared : slice_index key n < length shareds
+  pub flags : (k : ℕ) → slice_index key (n + 1 + k) ≤ 1
+  pub once : KeptOnce image known shareds
   pub keeps : Keeps (image_memory image) (world_of_key image n known shareds key).memory
   pub words : (x : ℕ) → x % 4 ≡ 0 → words_shown image (cells_in (slice_get shareds (slice_index key n))) x
       ≡ bytes_at (world_of_key image n known shareds key).memory.bytes x
   pub aligned : All IsAligned (world_of_key image n known shareds key).harts
 
--- a list goes on as another does, and perhaps further
-abbrev pub GoesOn : {X : Type 0} → List X → List X → Type 0
-GoesOn {X} xs longer = (more : List X) × (longer ≡ xs ++ more)
+-- a row of words is the key of a place
+abbrev pub IsKeyOf : {Z : Type 0} → ImageValue → ℕ → List Hart → List (Shared Z) → List ℕ → Place → Type 0
+IsKeyOf image n harts shareds key p = IsKey image n harts shareds key × (place_of_key image n harts shareds key ≡ p)
+
+-- keys stay the keys of their places where more is known
+abbrev pub KeysStay : {Z : Type 0} → ImageValue → ℕ → List Hart → List (Shared Z) → List Hart → List (Shared Z) → Type 0
+KeysStay image n harts shareds more_harts more_shareds = (k : List ℕ) → IsKey image n harts shareds k
+    → IsKeyOf image n more_harts more_shareds k (place_of_key image n harts shareds k)

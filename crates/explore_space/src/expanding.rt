@@ -1,12 +1,11 @@
 //! The choices of turns.
-ghost use Rattle.std.specs.Prelude.{◌≡◌, ◌++◌, IfOk, OnOk, length};
-ghost use Rattle.mem_store.specs.Image.{image_memory, segments_memory};
+ghost use Rattle.std.specs.Prelude.{◌≡◌, ◌++◌, IfOk, OnOk};
+ghost use Rattle.mem_store.specs.Image.{segments_memory};
 ghost use Rattle.hart_local.specs.CodeMemory.{code_in};
-ghost use Rattle.hart_local.specs.LocalRuns.{plain_choices};
 ghost use Rattle.machine.specs.Start.{started};
 ghost use Rattle.machine.specs.State.{state};
-ghost use Rattle.machine.specs.World.{step};
-ghost use Rattle.explore_laws.specs.Settling.{world_settled, turn_choices, turns_choices};
+ghost use Rattle.machine.specs.World.{run};
+ghost use Rattle.explore_laws.specs.Settling.{turn_choices, turns_choices};
 
 use crate::settling::settle;
 use hart_local::Code;
@@ -14,23 +13,6 @@ use image::Image;
 use machine::{Choice, Inputs, Machine};
 use mem_flat::FlatStore;
 use std::alloc::{AllocError, Allocator};
-
-// Appends so many choices of a hart that refuse nothing.
-fn push_plain<A: Allocator>(
-    choices: &mut Vec<Choice, A>,
-    hart: u32,
-    count: u32,
-) -> Result<(), AllocError>
-    ensures { OnOk result (choices.new.items ≡ choices.old.items ++ plain_choices hart count) }
-{
-    'plain: for _ in 0..count {
-        choices.push(Choice {
-            hart,
-            refuse: false,
-        })?;
-    }
-    Ok(())
-}
 
 // Takes a turn, and appends its choices.
 fn take_turn<A: Allocator, C: Allocator>(
@@ -40,7 +22,7 @@ fn take_turn<A: Allocator, C: Allocator>(
     choices: &mut Vec<Choice, A>,
 ) -> Result<(), AllocError>
     requires { segments_memory code.now ≡ code_in (state machine.old).memory }
-    ensures world { OnOk result (state machine.new ≡ world_settled (step (state machine.old) turn) turn.hart) }
+    ensures world { OnOk result (state machine.new ≡ run (state machine.old) (turn_choices (state machine.old) turn)) }
     ensures choices { OnOk result (choices.new.items ≡ choices.old.items ++ turn_choices (state machine.old) turn) }
 {
     choices.push(turn)?;
@@ -52,7 +34,12 @@ fn take_turn<A: Allocator, C: Allocator>(
     let mut hart = *machine.hart(number);
     let count = settle(&mut hart, code);
     machine.put_hart(number, hart);
-    push_plain(choices, turn.hart, count)?;
+    let plain = Choice {
+        hart: turn.hart,
+        refuse: false,
+    };
+    let len = choices.len();
+    choices.resize(len + count as usize, plain)?;
     Ok(())
 }
 

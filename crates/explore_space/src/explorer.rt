@@ -11,7 +11,7 @@ ghost use Rattle.explore_space.specs.Failing.{fails_there};
 use crate::failing::fails_at;
 use crate::first::first_parts;
 use crate::shared::Shared;
-use crate::stepping::step_key;
+use crate::stepping::{settled_key, stepped_key};
 use explore_search::Space;
 use hart_local::Code;
 use hart_step::Hart;
@@ -78,15 +78,24 @@ impl<'a, A: Allocator + Copy> Space<A> for Explorer<'a, A> {
     }
 
     fn key_after(&mut self, key: &[u32], choice: Choice) -> Result<Vec<u32, A>, AllocError> {
-        step_key(
+        let count = self.inputs.harts() as usize;
+        let next = stepped_key(
             self.alloc,
             self.image,
-            &self.code,
-            self.inputs.harts() as usize,
+            count,
             &mut self.harts,
             &mut self.shareds,
             key,
             choice,
+        )?;
+        settled_key(
+            self.image,
+            &self.code,
+            count,
+            &mut self.harts,
+            &self.shareds,
+            next,
+            choice.hart as usize,
         )
     }
 

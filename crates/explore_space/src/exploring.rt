@@ -1,6 +1,6 @@
 //! Every schedule of a program.
 ghost use Rattle.std.specs.Prelude.{IfOk};
-ghost use Rattle.explore_space.specs.Every.{HoldsOfEvery};
+ghost use Rattle.explore_space.specs.Every.{HoldsOfEvery, CountsPlaces};
 
 use crate::expanding::choices_of_turns;
 use crate::explorer::Explorer;
@@ -16,8 +16,8 @@ use std::alloc::{AllocError, Allocator};
 pub struct Failing<A: Allocator> {
     /// The choices.
     pub choices: Vec<Choice, A>,
-    /// How many turns they are: a choice, and the local steps of its hart behind it. No list of
-    /// fewer choices fails.
+    /// How many turns they are: a choice, and the local steps of its hart behind it. No fewer turns
+    /// fail, and no list of fewer choices does.
     pub turns: usize,
 }
 
@@ -28,14 +28,13 @@ pub enum Answer<A: Allocator> {
     Holds(usize),
     /// This list fails.
     Fails(Failing<A>),
-    /// There are more places than may be looked at.
+    /// Turns reach more places than may be looked at.
     Undecided,
 }
 
 /// Whether a list of the harts' choices, of any length, leads a program with these inputs to a
 /// failure: a broken rule, or without a rule a hart that has faulted. None does; or one does, which
-/// is given; or there are more than `most` places, and nothing is said. The only error is out of
-/// memory.
+/// is given; or turns reach more than `most` places. The only error is out of memory.
 pub fn explore<A: Allocator + Copy>(
     alloc: A,
     image: &Image<A>,
@@ -44,7 +43,8 @@ pub fn explore<A: Allocator + Copy>(
     refusals: ScRefusals,
     most: usize,
 ) -> Result<Answer<A>, AllocError>
-    ensures { IfOk result (λ answer. HoldsOfEvery rule refusals image.now inputs.now answer) }
+    ensures holds { IfOk result (λ answer. HoldsOfEvery rule refusals image.now inputs.now answer) }
+    ensures places { IfOk result (λ answer. CountsPlaces refusals image.now inputs.now most answer) }
 {
     let meant = meant_choices(alloc, refusals, inputs.harts())?;
     let mut explorer = Explorer::new(alloc, image, inputs, rule)?;

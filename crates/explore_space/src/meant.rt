@@ -14,24 +14,26 @@ pub enum ScRefusals {
     Never,
 }
 
-// Appends the choices of a hart.
-fn push_hart<A: Allocator>(
-    choices: &mut Vec<Choice, A>,
-    refusals: ScRefusals,
-    hart: u32,
-) -> Result<(), AllocError>
-    ensures { OnOk result (choices.new.items ≡ choices.old.items ++ hart_choices refusals hart) }
-{
-    let plain = Choice {
-        hart,
-        refuse: false,
-    };
-    choices.push(plain)?;
-    match refusals {
-        ScRefusals::Also => choices.push(Choice { hart, refuse: true })?,
-        ScRefusals::Never => {}
+impl ScRefusals {
+    // Appends the choices of a hart.
+    fn push_choices<A: Allocator>(
+        self,
+        choices: &mut Vec<Choice, A>,
+        hart: u32,
+    ) -> Result<(), AllocError>
+        ensures { OnOk result (choices.new.items ≡ choices.old.items ++ hart_choices self hart) }
+    {
+        let plain = Choice {
+            hart,
+            refuse: false,
+        };
+        choices.push(plain)?;
+        match self {
+            ScRefusals::Also => choices.push(Choice { hart, refuse: true })?,
+            ScRefusals::Never => {}
+        }
+        Ok(())
     }
-    Ok(())
 }
 
 /// The choices of so many harts.
@@ -44,7 +46,7 @@ pub fn meant_choices<A: Allocator>(
 {
     let mut choices = Vec::new(alloc);
     'harts: for hart in 0..harts {
-        push_hart(&mut choices, refusals, hart)?;
+        refusals.push_choices(&mut choices, hart)?;
     }
     Ok(choices)
 }

@@ -1,34 +1,27 @@
 //! Parts of worlds, each kept once.
-ghost use Rattle.std.specs.Prelude.{◌≡◌, ◌<◌, ◌++◌, ℕ, List, true, Some, IfOk, OnOk, length, slice_get};
+ghost use Rattle.std.specs.Prelude.{◌≡◌, ◌≢◌, ◌<◌, ℕ, MatchBool, true, false, IfOk, length, slice_get};
+ghost use Rattle.std.specs.List.{AllPairs};
 ghost use Rattle.hart_reservations.specs.Marks.{mark_at};
-ghost use Rattle.hart_step.specs.Hart.{hart_of};
-ghost use Rattle.explore_space.specs.Places.{hart_numbered, cells_in, marks_in, GoesOn};
+ghost use Rattle.hart_step.specs.Hart.{hart_of, registers_of};
+ghost use Rattle.explore_sites.specs.Cells.{words_shown};
+ghost use Rattle.explore_search.specs.Searched.{GoesOn};
+ghost use Rattle.explore_space.specs.Places.{hart_numbered, cells_in, marks_in, AreUnlike, HartsDiffer};
 
 use crate::shared::Shared;
-use explore_sites::Cell;
-use hart_step::{Hart, HartState};
+use explore_sites::show_same;
+use hart_step::Hart;
+use image::Image;
 use std::alloc::{AllocError, Allocator};
-
-fn is_same_state(one: HartState, other: HartState) -> bool
-    ensures { result ≡ true → one ≡ other }
-{
-    one == other
-}
-
-fn is_same_hart(one: &Hart, other: &Hart) -> bool
-    ensures { result ≡ true → hart_of one.now ≡ hart_of other.now }
-{
-    one.pc == other.pc && one.registers == other.registers && is_same_state(one.state, other.state)
-}
 
 /// The number of a hart, which is kept from now on.
 pub fn add_hart<A: Allocator>(harts: &mut Vec<Hart, A>, hart: Hart) -> Result<usize, AllocError>
     ensures there { IfOk result (λ id. id < length harts.new.items) }
     ensures is { IfOk result (λ id. hart_numbered harts.new.items id ≡ hart_of hart) }
     ensures goes_on { GoesOn harts.old.items harts.new.items }
+    ensures once { HartsDiffer harts.old.items → HartsDiffer harts.new.items }
 {
-    'harts: for (id, known) in harts.iter().enumerate() {
-        if is_same_hart(known, &hart) {
+    'harts: for id in 0..harts.len() {
+        if is_same_hart(&harts[id], &hart) {
             return Ok(id);
         }
     }
@@ -37,75 +30,59 @@ pub fn add_hart<A: Allocator>(harts: &mut Vec<Hart, A>, hart: Hart) -> Result<us
     Ok(id)
 }
 
-fn is_same_mark(one: Option<u32>, other: Option<u32>) -> bool
-    ensures { result ≡ true → one ≡ other }
+fn is_same_hart(one: &Hart, other: &Hart) -> bool
+    ensures { MatchBool result (hart_of one.now ≡ hart_of other.now)
+        (hart_of one.now ≡ hart_of other.now → ⊥) }
 {
-    match (one, other) {
-        (Some(a), Some(b)) => a == b,
-        (None, None) => true,
-        _ => false,
-    }
+    has_same_words(&one.registers, &other.registers)
+        && one.pc == other.pc
+        && one.state == other.state
 }
 
-fn is_same_cell(one: &Cell, other: &Cell) -> bool
-    ensures { result ≡ true → one.now ≡ other.now }
+fn has_same_words(ones: &[u32], others: &[u32]) -> bool
+    requires { length ones.now ≡ length others.now }
+    ensures { MatchBool result (registers_of ones.now ≡ registers_of others.now)
+        (registers_of ones.now ≡ registers_of others.now → ⊥) }
 {
-    one.address == other.address && one.bytes == other.bytes
-}
-
-#[tactic(auto, using(std::proofs::lemmas::List::take_more))]
-fn are_same_marks(one: &[Option<u32>], other: &[Option<u32>]) -> bool
-    ensures { result ≡ true → one.now ≡ other.now }
-{
-    if one.len() != other.len() {
-        return false;
-    }
-    'marks: for at in 0..one.len() {
-        if !is_same_mark(one[at], other[at]) {
-            return false;
-        }
-    }
-    true
-}
-
-#[tactic(auto, using(std::proofs::lemmas::List::take_more))]
-fn are_same_cells(one: &[Cell], other: &[Cell]) -> bool
-    ensures { result ≡ true → one.now ≡ other.now }
-{
-    if one.len() != other.len() {
-        return false;
-    }
-    'cells: for at in 0..one.len() {
-        if !is_same_cell(&one[at], &other[at]) {
-            return false;
-        }
-    }
-    true
-}
-
-fn is_same_shared<A: Allocator>(one: &Shared<A>, other: &Shared<A>) -> bool
-    ensures marks { result ≡ true → mark_at one.now.marks.items ≡ mark_at other.now.marks.items }
-    ensures cells { result ≡ true → one.now.cells.items ≡ other.now.cells.items }
-{
-    are_same_marks(&one.marks, &other.marks) && are_same_cells(&one.cells, &other.cells)
+    *ones == *others
 }
 
 /// The number of what harts share, which is kept from now on.
 pub fn add_shared<A: Allocator>(
+    image: &Image<A>,
     shareds: &mut Vec<Shared<A>, A>,
     shared: Shared<A>,
 ) -> Result<usize, AllocError>
     ensures there { IfOk result (λ id. id < length shareds.new.items) }
-    ensures marks { IfOk result (λ id. marks_in (slice_get shareds.new.items id) ≡ mark_at shared.marks.items) }
-    ensures cells { IfOk result (λ id. cells_in (slice_get shareds.new.items id) ≡ shared.cells.items) }
+    ensures marks { IfOk result (λ id. marks_in (slice_get shareds.new.items id) ≡ mark_at shared.marks) }
+    ensures words { IfOk result (λ id. words_shown image.now (cells_in (slice_get shareds.new.items id))
+        ≡ words_shown image.now shared.cells.items) }
     ensures goes_on { GoesOn shareds.old.items shareds.new.items }
+    ensures once { AllPairs (AreUnlike image.now) shareds.old.items → AllPairs (AreUnlike image.now) shareds.new.items }
 {
     'shareds: for id in 0..shareds.len() {
-        if is_same_shared(&shareds[id], &shared) {
+        if is_same_shared(image, &shareds[id], &shared) {
             return Ok(id);
         }
     }
     let id = shareds.len();
     shareds.push(shared)?;
     Ok(id)
+}
+
+fn is_same_shared<A: Allocator>(image: &Image<A>, one: &Shared<A>, other: &Shared<A>) -> bool
+    ensures marks { result ≡ true → mark_at one.now.marks ≡ mark_at other.now.marks }
+    ensures words { result ≡ true
+        → words_shown image.now one.now.cells.items ≡ words_shown image.now other.now.cells.items }
+    ensures unlike { result ≡ false → AreUnlike image.now one.now other.now }
+{
+    has_same_marks(&one.marks, &other.marks) && show_same(image, &one.cells, &other.cells)
+}
+
+fn has_same_marks(ones: &[Option<u32>], others: &[Option<u32>]) -> bool
+    requires { length ones.now ≡ length others.now }
+    ensures same { result ≡ true → mark_at ones.now ≡ mark_at others.now }
+    ensures other { result ≡ false → mark_at ones.now ≢ mark_at others.now }
+{
+    *ones == *others
 }

@@ -1,12 +1,13 @@
 //! What harts share.
 use explore_sites::Cell;
+use hart_reservations::MAX_HARTS;
 use std::alloc::Allocator;
 
-/// Reservations, and the words that differ from the image's.
+/// Reservations, and the words that may differ from the image's.
 #[derive(Drop)]
 pub struct Shared<A: Allocator> {
     /// The word that each hart has reserved.
-    pub marks: Vec<Option<u32>, A>,
-    /// The words that differ.
+    pub marks: [Option<u32>; MAX_HARTS],
+    /// The words that may differ.
     pub cells: Vec<Cell, A>,
 }

@@ -1,12 +1,10 @@
 //! Keys after a choice.
-ghost use Rattle.std.specs.Prelude.{◌≡◌, ◌<◌, ℕ, List, IfOk, length, slice_get};
+ghost use Rattle.std.specs.Prelude.{◌≡◌, ◌<◌, IfOk, length};
 ghost use Rattle.mem_store.specs.Image.{image_memory, segments_memory};
 ghost use Rattle.hart_local.specs.CodeMemory.{code_in};
-ghost use Rattle.bank_laws.specs.Table.{table};
-ghost use Rattle.explore_sites.specs.Cells.{words_shown};
-ghost use Rattle.explore_sites.specs.Sites.{StepsTo};
-ghost use Rattle.explore_laws.specs.Places.{place_after, place_settled, place_stepped};
-ghost use Rattle.explore_space.specs.Places.{IsKey, place_of_key, hart_numbered, cells_in, marks_in, GoesOn};
+ghost use Rattle.explore_laws.specs.Places.{place_settled, place_stepped};
+ghost use Rattle.explore_search.specs.Searched.{GoesOn};
+ghost use Rattle.explore_space.specs.Places.{IsKey, IsKeyOf, KeysStay, KeptOnce, PartsStep, place_of_key};
 
 use crate::parts::{add_hart, add_shared};
 use crate::settling::settle;
@@ -32,17 +30,16 @@ fn step_parts<A: Allocator + Copy>(
     requires shared { shared_id < length shareds.old.items }
     ensures hart { IfOk result (λ ids. ids.0 < length harts.new.items) }
     ensures shared { IfOk result (λ ids. ids.1 < length shareds.new.items) }
-    ensures steps { IfOk result (λ ids. StepsTo (table (image_memory image.now)) choice.hart choice.refuse
-        (hart_numbered harts.old.items hart_id) (hart_numbered harts.new.items ids.0)
-        (words_shown image.now (cells_in (slice_get shareds.old.items shared_id)))
-        (words_shown image.now (cells_in (slice_get shareds.new.items ids.1)))
-        (marks_in (slice_get shareds.old.items shared_id)) (marks_in (slice_get shareds.new.items ids.1))) }
+    ensures steps { IfOk result (λ ids. PartsStep image.now choice harts.old.items shareds.old.items hart_id shared_id
+        harts.new.items shareds.new.items ids.0 ids.1) }
     ensures harts_go { GoesOn harts.old.items harts.new.items }
     ensures shareds_go { GoesOn shareds.old.items shareds.new.items }
+    ensures once { KeptOnce image.now harts.old.items shareds.old.items
+        → KeptOnce image.now harts.new.items shareds.new.items }
 {
     let mut hart = harts[hart_id];
     let old = &shareds[shared_id];
-    let mut marks = Vec::from_slice(alloc, &old.marks)?;
+    let mut marks = old.marks;
     if choice.hart as usize >= marks.len() {
         return Err(AllocError);
     }
@@ -56,12 +53,12 @@ fn step_parts<A: Allocator + Copy>(
         choice.refuse,
     )?;
     let hart_id = add_hart(harts, hart)?;
-    let shared_id = add_shared(shareds, Shared { marks, cells })?;
+    let shared_id = add_shared(image, shareds, Shared { marks, cells })?;
     Ok((hart_id, shared_id))
 }
 
-// The key of the place that is one choice of a hart further. A choice of no hart is refused here.
-fn stepped_key<A: Allocator + Copy>(
+/// The key of the place that is one choice of a hart further. A choice of no hart is refused here.
+pub fn stepped_key<A: Allocator + Copy>(
     alloc: A,
     image: &Image<A>,
     count: usize,
@@ -72,13 +69,9 @@ fn stepped_key<A: Allocator + Copy>(
 ) -> Result<Vec<u32, A>, AllocError>
     requires { IsKey image.now count harts.old.items shareds.old.items key.now }
     ensures there { IfOk result (λ _. choice.hart < count) }
-    ensures key { IfOk result (λ next. IsKey image.now count harts.new.items shareds.new.items next.items) }
-    ensures place { IfOk result (λ next. place_of_key image.now count harts.new.items shareds.new.items next.items
-        ≡ place_stepped (place_of_key image.now count harts.old.items shareds.old.items key.now) choice) }
-    ensures kept { (k : List ℕ) → IsKey image.now count harts.old.items shareds.old.items k
-        → IsKey image.now count harts.new.items shareds.new.items k
-        × (place_of_key image.now count harts.new.items shareds.new.items k
-        ≡ place_of_key image.now count harts.old.items shareds.old.items k) }
+    ensures key { IfOk result (λ next. IsKeyOf image.now count harts.new.items shareds.new.items next.items
+        (place_stepped (place_of_key image.now count harts.old.items shareds.old.items key.now) choice)) }
+    ensures kept { KeysStay image.now count harts.old.items shareds.old.items harts.new.items shareds.new.items }
 {
     let number = choice.hart as usize;
     if number >= count {
@@ -103,26 +96,22 @@ fn stepped_key<A: Allocator + Copy>(
     Ok(next)
 }
 
-// The key of the place where a hart has taken its local steps.
-fn settled_key<A: Allocator, C: Allocator>(
+/// The key of the place where a hart has taken its local steps.
+pub fn settled_key<A: Allocator>(
     image: &Image<A>,
-    code: &Code<C>,
+    code: &Code<A>,
     count: usize,
     harts: &mut Vec<Hart, A>,
-    shareds: &Vec<Shared<A>, A>,
+    shareds: &[Shared<A>],
     key: Vec<u32, A>,
     number: usize,
 ) -> Result<Vec<u32, A>, AllocError>
     requires its_code { segments_memory code.now ≡ code_in (image_memory image.now) }
     requires there { number < count }
-    requires is { IsKey image.now count harts.old.items shareds.now.items key.items }
-    ensures key { IfOk result (λ next. IsKey image.now count harts.new.items shareds.now.items next.items) }
-    ensures place { IfOk result (λ next. place_of_key image.now count harts.new.items shareds.now.items next.items
-        ≡ place_settled (place_of_key image.now count harts.old.items shareds.now.items key.items) number) }
-    ensures kept { (k : List ℕ) → IsKey image.now count harts.old.items shareds.now.items k
-        → IsKey image.now count harts.new.items shareds.now.items k
-        × (place_of_key image.now count harts.new.items shareds.now.items k
-        ≡ place_of_key image.now count harts.old.items shareds.now.items k) }
+    requires is { IsKey image.now count harts.old.items shareds.now key.items }
+    ensures key { IfOk result (λ next. IsKeyOf image.now count harts.new.items shareds.now next.items
+        (place_settled (place_of_key image.now count harts.old.items shareds.now key.items) number)) }
+    ensures kept { KeysStay image.now count harts.old.items shareds.now harts.new.items shareds.now }
 {
     let _ = image;
     let _ = shareds;
@@ -135,30 +124,4 @@ fn settled_key<A: Allocator, C: Allocator>(
     }
     next[number] = id as u32;
     Ok(next)
-}
-
-/// The key of the place that is one turn of a hart further: its step, and the local steps behind
-/// it. A turn of no hart is refused here.
-pub fn step_key<A: Allocator + Copy>(
-    alloc: A,
-    image: &Image<A>,
-    code: &Code<A>,
-    count: usize,
-    harts: &mut Vec<Hart, A>,
-    shareds: &mut Vec<Shared<A>, A>,
-    key: &[u32],
-    turn: Choice,
-) -> Result<Vec<u32, A>, AllocError>
-    requires its_code { segments_memory code.now ≡ code_in (image_memory image.now) }
-    requires is { IsKey image.now count harts.old.items shareds.old.items key.now }
-    ensures key { IfOk result (λ next. IsKey image.now count harts.new.items shareds.new.items next.items) }
-    ensures place { IfOk result (λ next. place_of_key image.now count harts.new.items shareds.new.items next.items
-        ≡ place_after (place_of_key image.now count harts.old.items shareds.old.items key.now) turn) }
-    ensures kept { (k : List ℕ) → IsKey image.now count harts.old.items shareds.old.items k
-        → IsKey image.now count harts.new.items shareds.new.items k
-        × (place_of_key image.now count harts.new.items shareds.new.items k
-        ≡ place_of_key image.now count harts.old.items shareds.old.items k) }
-{
-    let next = stepped_key(alloc, image, count, harts, shareds, key, turn)?;
-    settled_key(image, code, count, harts, shareds, next, turn.hart as usize)
 }

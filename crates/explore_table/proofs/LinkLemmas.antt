@@ -2,8 +2,10 @@
 use Rattle.std.proofs.Common.{◌≡◌, ◌≢◌, ℕ, zero, suc, ◌+◌, ◌-◌, ◌<◌, ◌≤◌, List, [], ◌∷◌, ◌++◌, length, get_or, set, Some, refl, ap, sym, ◌∙◌, subst, arith, inl, inr, ◌⊎◌}
 use Rattle.std.specs.List.{Contains, slice_get}
 use Rattle.std.specs.Option.{option_map}
+use Rattle.std.proofs.lemmas.Bool.{cases_eq}
 use Rattle.std.proofs.lemmas.List.{length-append, map-append, length-set, get_or-set_same, get_or-set_other, get_or_append_left}
 use Rattle.std.proofs.lemmas.Option.{slice_get_within, slice_get-map, slice_get_read, get_or_from_slice_get, slice_get-get_or}
+use Rattle.explore_table.proofs.ListLemmas.{get_either, at_contains}
 use Rattle.explore_table.specs.Buckets.{bucket_of}
 use Rattle.explore_table.specs.Links.{keys_of, key_at, IsLast, IsLinked, IsSought}
 use Rattle.explore_table.specs.declared.row.Row.{Row}
@@ -11,13 +13,6 @@ use Rattle.explore_table.specs.declared.row.Row.{Row}
 length_keys : {Z : Type 0} (rows : List (Row Z)) → length (keys_of rows) ≡ length rows
 length_keys [] = refl
 length_keys (r ∷ rows) = ap suc (length_keys rows)
-
-get_either : {X : Type 0} (xs : List X) (y x : X) (k : ℕ) → slice_get (xs ++ y ∷ []) k ≡ Some x
-    → (slice_get xs k ≡ Some x) ⊎ ((k ≡ length xs) × (y ≡ x))
-get_either [] y x zero e = inr (refl, cc)
-get_either [] y x (suc k) e = absurd (cc)
-get_either (z ∷ xs) y x zero e = inl e
-get_either (z ∷ xs) y x (suc k) e = elim (get_either xs y x k e) [ inl there ↦ inl there | inr last ↦ inr (ap suc last.0, last.1) ]
 
 at_end : (keys : List (List ℕ)) (key : List ℕ) → key_at (keys ++ key ∷ []) (length keys) ≡ key
 at_end [] key = refl
@@ -65,9 +60,6 @@ last_new buckets bucket keys key is = record {
     the_last : (k n : ℕ) → suc k ≡ n + 1 → k ≡ n
     the_last k n e = omega (arith, e)
 
-same_or_not : (k h : ℕ) → (k ≡ h) ⊎ (k ≢ h)
-same_or_not k h = grind arith
-
 row_new : {Z : Type 0} (rows : List (Row Z)) (heads : List ℕ) (r x : Row Z) (bucket k : ℕ) → IsLinked rows heads
     → bucket ≡ bucket_of r.words.items (length heads) → bucket < length heads → r.before ≡ get_or heads bucket 0
     → k ≡ length rows → r ≡ x → length (keys_of rows) ≡ length rows
@@ -94,7 +86,7 @@ linked_more {Z} rows heads r bucket l is within before =
             (let b = slice_get_within rows k x old in omega (arith, b, count)) (l.rows k x old)
         | inr new ↦ row_new rows heads r x bucket k l is within before new.0 new.1 count
       ]));
-      heads = λ b h. rw buckets (rw longer (rw more (elim (same_or_not b bucket) [
+      heads = λ b h. rw buckets (rw longer (rw more (elim (cases_eq b bucket) [
         | inl same ↦ rw same (rw (get_or-set_same heads bucket (length rows + 1) 0 within)
             (rw (sym count) (last_new (length heads) bucket keys r.words.items (sym is))))
         | inr other ↦ rw (get_or-set_other heads bucket b (length rows + 1) 0 other)
@@ -104,9 +96,6 @@ linked_more {Z} rows heads r bucket l is within before =
     }
 
 -- ---- looking for a key
-at_contains : {X : Type 0} (xs : List X) (x : X) → Contains xs x → (k : ℕ) × (slice_get xs k ≡ Some x)
-at_contains xs x c = (c.0, slice_get-get_or xs c.0 x c.1 ∙ ap Some c.2)
-
 -- what a row has
 pub key_there : {Z : Type 0} (rows : List (Row Z)) (k : ℕ) (r : Row Z) → k < length rows → r ≡ get_or rows k r
     → slice_get (keys_of rows) k ≡ Some r.words.items

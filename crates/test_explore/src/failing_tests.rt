@@ -7,44 +7,35 @@ use object_library::{Kind, make_image};
 use std::alloc::Global;
 use test_images::{Program, program_image};
 
+const DATA: u32 = 0x0001_1437; // lui s0, 0x11
+
+const ZERO: u32 = 0x0000_0437; // lui s0, 0
+
+const SPLIT: u32 = 0x0005_1863; // bne a0, zero, 16
+
+const ONE: u32 = 0x0010_0293; // addi t0, zero, 1
+
+const STORE: u32 = 0x0054_2023; // sw t0, 0(s0)
+
+const ROUND: u32 = 0x0000_006f; // jal zero, 0
+
+const LOAD: u32 = 0x0004_2283; // lw t0, 0(s0)
+
+const AGAIN: u32 = 0xfe02_8ee3; // beq t0, zero, -4
+
+const BREAK: u32 = 0x0010_0073; // ebreak
+
 // Hart 0 stores 1 and goes round for ever; the others wait for that and stop at an EBREAK. Of the
 // text that may be written each step counts: four up to the store, and five of another hart. Of the
 // other text a turn goes up to the next load or store: two of hart 0, and three of another, from
 // its start, from its load, and from the EBREAK.
-const WAITS: [u32; 8] = [
-    0x0001_1437, // lui s0, 0x11
-    0x0005_1863, // bne a0, zero, 16
-    0x0010_0293, // addi t0, zero, 1
-    0x0054_2023, // sw t0, 0(s0)
-    0x0000_006f, // jal zero, 0
-    0x0004_2283, // lw t0, 0(s0)
-    0xfe02_8ee3, // beq t0, zero, -4
-    0x0010_0073, // ebreak
-];
+const WAITS: [u32; 8] = [DATA, SPLIT, ONE, STORE, ROUND, LOAD, AGAIN, BREAK];
 
 // The same at address 0.
-const WAITS_AT_ZERO: [u32; 8] = [
-    0x0000_0437, // lui s0, 0
-    0x0005_1863, // bne a0, zero, 16
-    0x0010_0293, // addi t0, zero, 1
-    0x0054_2023, // sw t0, 0(s0)
-    0x0000_006f, // jal zero, 0
-    0x0004_2283, // lw t0, 0(s0)
-    0xfe02_8ee3, // beq t0, zero, -4
-    0x0010_0073, // ebreak
-];
+const WAITS_AT_ZERO: [u32; 8] = [ZERO, SPLIT, ONE, STORE, ROUND, LOAD, AGAIN, BREAK];
 
 // Hart 0 loads where it stored, so that the others wait for ever.
-const WAITS_FOR_EVER: [u32; 8] = [
-    0x0001_1437, // lui s0, 0x11
-    0x0005_1863, // bne a0, zero, 16
-    0x0010_0293, // addi t0, zero, 1
-    0x0004_2283, // lw t0, 0(s0)
-    0x0000_006f, // jal zero, 0
-    0x0004_2283, // lw t0, 0(s0)
-    0xfe02_8ee3, // beq t0, zero, -4
-    0x0010_0073, // ebreak
-];
+const WAITS_FOR_EVER: [u32; 8] = [DATA, SPLIT, ONE, LOAD, ROUND, LOAD, AGAIN, BREAK];
 
 // A program, its inputs, and after how many turns a hart first faults, if one does.
 struct Row {
@@ -61,7 +52,7 @@ const ROWS: [Row; 7] = [
     Row { program: Program::Fixed(&WAITS_AT_ZERO), inputs: &[0, 0], first: Some(5) },
     Row { program: Program::Fixed(&WAITS_AT_ZERO), inputs: &[0, 0, 0], first: Some(5) },
     Row { program: Program::Writable(&WAITS_FOR_EVER), inputs: &[0, 0, 0], first: None },
-    Row { program: Program::Fixed(&[0x0010_0073]), inputs: &[0, 0, 0, 0], first: Some(1) },
+    Row { program: Program::Fixed(&[BREAK]), inputs: &[0, 0, 0, 0], first: Some(1) },
 ];
 
 // Whether a hart has faulted after the choices from a program's start.

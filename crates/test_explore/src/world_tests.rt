@@ -8,19 +8,19 @@ use std::alloc::Global;
 // An object with its inputs, and the number of places that turns reach.
 struct Row {
     kind: Kind,
-    inputs: &'static [u32],
     refusals: ScRefusals,
+    inputs: &'static [u32],
     places: usize,
 }
 
 #[rattlefmt::skip]
 const ROWS: [Row; 6] = [
-    Row { kind: Kind::Swap, inputs: &[7, 9], refusals: ScRefusals::Never, places: 33 },
-    Row { kind: Kind::Add, inputs: &[7, 9], refusals: ScRefusals::Never, places: 33 },
-    Row { kind: Kind::LrSc, inputs: &[7, 9], refusals: ScRefusals::Never, places: 82 },
-    Row { kind: Kind::LrSc, inputs: &[7, 9], refusals: ScRefusals::Also, places: 108 },
-    Row { kind: Kind::LrSc, inputs: &[7, 9, 4], refusals: ScRefusals::Never, places: 1153 },
-    Row { kind: Kind::AdoptCommit, inputs: &[7, 9], refusals: ScRefusals::Never, places: 347 },
+    Row { kind: Kind::Swap, refusals: ScRefusals::Never, inputs: &[7, 9], places: 33 },
+    Row { kind: Kind::Add, refusals: ScRefusals::Never, inputs: &[7, 9], places: 33 },
+    Row { kind: Kind::LrSc, refusals: ScRefusals::Never, inputs: &[7, 9], places: 82 },
+    Row { kind: Kind::LrSc, refusals: ScRefusals::Also, inputs: &[7, 9], places: 108 },
+    Row { kind: Kind::LrSc, refusals: ScRefusals::Never, inputs: &[7, 9, 4], places: 1153 },
+    Row { kind: Kind::AdoptCommit, refusals: ScRefusals::Never, inputs: &[7, 9], places: 347 },
 ];
 
 // The number of places if no schedule breaks the rule, `None` where so many may not be looked at;

@@ -1,31 +1,33 @@
 use Rattle.std.proofs.Common.{◌≡◌, ◌∙◌, true, arith, subst, sym, ap}
 use Rattle.explore_laws.specs.Places.{place_reached}
 use Rattle.explore_search.specs.Searched.{AreReached, AreDone}
-use Rattle.explore_search.proofs.SearchLemmas.{all_safe, get_there}
+use Rattle.explore_search.proofs.SearchLemmas.{closed_is_safe, closed_is_counted, more_are_counted}
+use Rattle.explore_table.proofs.ListLemmas.{get_there}
 use Rattle.explore_search.proofs.NearLemmas.{none_shorter}
 use Rattle.explore_search.proofs.searching.search.Goals as goal
 
-pub returns-then-from-len : goal.returns-then-from-len
-returns-then-from-len g c =
-    let all = c.if-from-len.true in
-    let count = c.len.ensures in
-    all_safe (g.S.Space.is_key c.places.space) (g.S.Space.place c.places.space) (g.S.Space.first c.args.space.now) (g.S.Space.bad c.args.space.now)
-    c.args.choices.now c.places.seen.keys c.places.seen.links.items c.places.from
-    (subst (λ first. AreReached (g.S.Space.is_key c.places.space) (g.S.Space.place c.places.space) first c.args.choices.now c.places.seen.keys
-    c.places.seen.links.items) c.places.invariant.first c.places.invariant.reached)
-    (subst (λ bad. AreDone (g.S.Space.place c.places.space) bad c.args.choices.now c.places.seen.keys c.places.from) c.places.invariant.bad
-    c.places.invariant.done) (omega (arith, all, count))
+pub returns-then-from-count-clause-answers : goal.returns-then-from-count-clause-answers
+returns-then-from-count-clause-answers g c =
+    let all = c.if-from-count.true in
+    let count = c.len-count.ensures in
+    closed_is_safe c.places.invariant.reached c.places.invariant.done c.places.invariant.first c.places.invariant.bad (omega (arith, all, count))
 
-pub returns-then-is_bad : goal.returns-then-is_bad
-returns-then-is_bad g c =
+pub returns-then-from-count-clause-counts : goal.returns-then-from-count-clause-counts
+returns-then-from-count-clause-counts g c =
+    let all = c.if-from-count.true in
+    let count = c.len-count.ensures in
+    closed_is_counted c.places.invariant.reached c.places.invariant.done c.places.invariant.first (omega (arith, all, count)) count
+
+pub returns-then-is_bad-clause-answers : goal.returns-then-is_bad-clause-answers
+returns-then-is_bad-clause-answers g c =
     let key_is : c.deref.result.now ≡ c.key.result.now = c.deref.ensures.value ∙ c.in_ok-key.ensures.items in
     let bad_here : g.S.Space.bad c.places.space (g.S.Space.place c.places.space c.key.result.now) ≡ true
     = ap (λ k. g.S.Space.bad c.places.space (g.S.Space.place c.places.space k)) (sym key_is) ∙ sym c.in_ok-is_bad.ensures ∙ c.if-is_bad.true in
     record {
       meant = c.in_ok-path_to.ensures.meant;
       shortest = λ other all less.
-          let more = c.if-from-len.false in
-          let count = c.len.ensures in
+          let more = c.if-from-count.false in
+          let count = c.len-count.ensures in
           let even = c.places.invariant.reached.even in
           let last = get_there c.places.seen.links.items c.places.from (omega (arith, more, count, even)) in
           let steps = c.in_ok-path_to.ensures.steps last.0 last.1 in
@@ -41,14 +43,22 @@ returns-then-is_bad g c =
           ∙ ap (λ b. b (g.S.Space.place c.places.space c.key.result.now)) (sym c.places.invariant.bad) ∙ bad_here;
     }
 
-pub returns-then-len-most : goal.returns-then-len-most
-returns-then-len-most g c =
-    let few = c.if-len-most.true in
-    let count = c.len-2.ensures in
+pub returns-then-found-most-clause-answers : goal.returns-then-found-most-clause-answers
+returns-then-found-most-clause-answers g c =
+    let few = c.if-found-most.true in
+    let count = c.len-found.ensures in
     let over = c.places-test.false in
-    all_safe (g.S.Space.is_key c.places.space) (g.S.Space.place c.places.space) (g.S.Space.first c.args.space.now) (g.S.Space.bad c.args.space.now)
-    c.args.choices.now c.places.seen.keys c.places.seen.links.items c.places.from
-    (subst (λ first. AreReached (g.S.Space.is_key c.places.space) (g.S.Space.place c.places.space) first c.args.choices.now c.places.seen.keys
-    c.places.seen.links.items) c.places.invariant.first c.places.invariant.reached)
-    (subst (λ bad. AreDone (g.S.Space.place c.places.space) bad c.args.choices.now c.places.seen.keys c.places.from) c.places.invariant.bad
-    c.places.invariant.done) (omega (arith, few, count, over))
+    closed_is_safe c.places.invariant.reached c.places.invariant.done c.places.invariant.first c.places.invariant.bad (omega (arith, few, count, over))
+
+pub returns-then-found-most-clause-counts : goal.returns-then-found-most-clause-counts
+returns-then-found-most-clause-counts g c =
+    let few = c.if-found-most.true in
+    let count = c.len-found.ensures in
+    let over = c.places-test.false in
+    closed_is_counted c.places.invariant.reached c.places.invariant.done c.places.invariant.first (omega (arith, few, count, over)) count
+
+pub returns-clause-counts : goal.returns-clause-counts
+returns-clause-counts g c =
+    let more = c.if-found-most.false in
+    let count = c.len-found.ensures in
+    more_are_counted c.places.invariant.reached c.places.invariant.first (omega (arith, more, count))

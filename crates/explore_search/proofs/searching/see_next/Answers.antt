@@ -2,10 +2,11 @@ use Rattle.std.proofs.Common.{◌≡◌, ◌∙◌, arith, length, subst, sym, a
 use Rattle.std.specs.List.{slice_get}
 use Rattle.std.proofs.lemmas.Option.{slice_get_within, slice_get-get_or}
 use Rattle.explore_laws.specs.Places.{place_after}
+use Rattle.explore_table.proofs.ListLemmas.{get_there}
 use Rattle.explore_search.specs.Searched.{AreReached, AreDone, IsSoon}
 use Rattle.explore_search.specs.declared.seen.Link.{Link}
 use Rattle.explore_search.proofs.NearLemmas.{soons_stay, soon_step, soons_more, rising_next}
-use Rattle.explore_search.proofs.SearchLemmas.{get_begun, get_there, old_at, seen_step, done_later, done_more}
+use Rattle.explore_search.proofs.SearchLemmas.{get_later, old_at, seen_step, done_later, done_more}
 use Rattle.explore_search.proofs.searching.see_next.Goals as goal
 
 pub choices-preserved : goal.choices-preserved
@@ -14,23 +15,23 @@ choices-preserved g c =
     let is = are c.args.from c.args.key.now c.choices.invariant.there in
     record {
       reached = subst (λ first. AreReached (g.S.Space.is_key c.see_after.new.space) (g.S.Space.place c.see_after.new.space) first c.args.choices.now
-          c.see_after.new.seen.keys c.see_after.new.seen.links.items) (sym c.in_ok-see_after.ensures.first) c.in_ok-see_after.ensures.reached;
+          c.see_after.new.self.keys c.see_after.new.self.links.items) (sym c.in_ok-see_after.ensures.first) c.in_ok-see_after.ensures.reached;
       done = done_later (g.S.Space.is_key c.choices.space) (g.S.Space.is_key c.see_after.new.space) (g.S.Space.place c.choices.space)
           (g.S.Space.place c.see_after.new.space) c.in_ok-see_after.ensures.kept (g.S.Space.bad c.choices.space) (g.S.Space.bad c.see_after.new.space)
-          c.args.choices.now c.choices.seen.keys c.see_after.new.seen.keys c.args.from c.in_ok-see_after.ensures.begins
+          c.args.choices.now c.choices.seen.keys c.see_after.new.self.keys c.args.from c.in_ok-see_after.ensures.begins
           (let w = slice_get_within c.choices.seen.keys c.args.from c.args.key.now c.choices.invariant.there in omega (arith, w))
           are c.in_ok-see_after.ensures.bad c.choices.invariant.done;
-      there = subst (λ keys. slice_get keys c.args.from ≡ Some c.args.key.now) (sym c.in_ok-see_after.ensures.begins.1)
-          (get_begun c.choices.seen.keys c.in_ok-see_after.ensures.begins.0 c.args.from c.args.key.now c.choices.invariant.there);
+      there = get_later c.choices.seen.keys c.see_after.new.self.keys c.args.from c.args.key.now c.in_ok-see_after.ensures.begins
+          c.choices.invariant.there;
       same = (c.in_ok-see_after.ensures.kept c.args.key.now is).1 ∙ c.choices.invariant.same;
       seen = seen_step (g.S.Space.is_key c.choices.space) (g.S.Space.is_key c.see_after.new.space) (g.S.Space.place c.choices.space)
           (g.S.Space.place c.see_after.new.space) c.in_ok-see_after.ensures.kept c.args.choices.now c.choices.seen.keys
-          c.see_after.new.seen.keys c.in_ok-see_after.ensures.begins are c.args.key.now is c.choices.choice-index _ (slice_get-get_or c.args.choices.now c.choices.choice-index _ c.choices-test.true) c.choices.invariant.seen
+          c.see_after.new.self.keys c.in_ok-see_after.ensures.begins are c.args.key.now is c.choices.choice-index _ (slice_get-get_or c.args.choices.now c.choices.choice-index _ c.choices-test.true) c.choices.invariant.seen
           c.in_ok-see_after.ensures.seen;
       rising = c.in_ok-see_after.ensures.rising;
       soon = soons_stay (g.S.Space.is_key c.choices.space) (g.S.Space.is_key c.see_after.new.space) (g.S.Space.place c.choices.space)
           (g.S.Space.place c.see_after.new.space) c.in_ok-see_after.ensures.kept c.args.choices.now c.choices.seen.keys
-          c.see_after.new.seen.keys c.choices.seen.links.items c.see_after.new.seen.links.items c.args.from
+          c.see_after.new.self.keys c.choices.seen.links.items c.see_after.new.self.links.items c.args.from
           (let w = slice_get_within c.choices.seen.keys c.args.from c.args.key.now c.choices.invariant.there in omega (arith, w))
           c.choices.invariant.reached.even are c.in_ok-see_after.ensures.begins c.in_ok-see_after.ensures.links_begin c.choices.invariant.soon;
       step = λ a e. c.choices.invariant.step a
@@ -41,7 +42,7 @@ choices-preserved g c =
           (ap (λ (links : List Link). slice_get links c.args.from) (sym c.in_ok-see_after.ensures.links_begin.1) ∙ e));
       seen_soon = soon_step (g.S.Space.is_key c.choices.space) (g.S.Space.is_key c.see_after.new.space) (g.S.Space.place c.choices.space)
           (g.S.Space.place c.see_after.new.space) c.in_ok-see_after.ensures.kept c.args.choices.now c.choices.seen.keys
-          c.see_after.new.seen.keys c.choices.seen.links.items c.see_after.new.seen.links.items _ c.in_ok-see_after.ensures.begins
+          c.see_after.new.self.keys c.choices.seen.links.items c.see_after.new.self.links.items _ c.in_ok-see_after.ensures.begins
           c.in_ok-see_after.ensures.links_begin are c.args.key.now is c.choices.choice-index _
           (slice_get-get_or c.args.choices.now c.choices.choice-index _ c.choices-test.true) c.choices.invariant.seen_soon
           c.in_ok-see_after.ensures.soon;

@@ -3,7 +3,7 @@ use Rattle.std.specs.List.{slice_get}
 use Rattle.std.proofs.lemmas.Option.{slice_get_read}
 use Rattle.explore_sites.specs.Cells.{values_over}
 use Rattle.explore_sites.specs.declared.cell.Cell.{Cell}
-use Rattle.explore_sites.proofs.CellLemmas.{put_there, put_new}
+use Rattle.explore_sites.proofs.CellLemmas.{put_there, put_last}
 use Rattle.explore_sites.proofs.words.put_word.Goals as goal
 
 pub returns-in-Some : goal.returns-in-Some
@@ -19,9 +19,9 @@ returns-in-Some g c base =
     put_there base c.args.cells.now.items c.in-Some.at c.args.address c.args.bytes c.index_mut.result.now _ there is is refl
     (λ k cell below e. c.in-Some.ensures.first k cell below (ap (λ (cells : List Cell). slice_get cells k) same ∙ e))
 
-pub returns-in_ok-insert-in-None : goal.returns-in_ok-insert-in-None
-returns-in_ok-insert-in-None g c base =
+pub returns-in_ok-push-in-None : goal.returns-in_ok-push-in-None
+returns-in_ok-push-in-None g c base =
     let same : c.deref.result.now ≡ c.args.cells.now.items = c.deref.ensures.value in
-    ap (values_over base) c.in_ok-insert-in-None.ensures.items
-    ∙ put_new base c.args.cells.now.items c.place_for-place.result (record { address = c.args.address; bytes = c.args.bytes })
+    ap (values_over base) c.in_ok-push-in-None.ensures.items
+    ∙ put_last base c.args.cells.now.items (record { address = c.args.address; bytes = c.args.bytes; is_word = c.push-arg-in-None-1.given.0 })
     (λ k cell e. c.in-None.ensures.none k cell (ap (λ (cells : List Cell). slice_get cells k) same ∙ e))

@@ -1,4 +1,4 @@
-use Rattle.std.proofs.Common.{[], ap, sym, ◌∙◌}
+use Rattle.std.proofs.Common.{ap, sym, ◌∙◌}
 use Rattle.std.proofs.lemmas.Option.{slice_get-get_or}
 use Rattle.mem_store.specs.Image.{segments_memory}
 use Rattle.bank_laws.specs.Words.{bytes_at}
@@ -8,7 +8,7 @@ use Rattle.explore_sites.proofs.words.word_at.Goals as goal
 
 pub returns-in-Some : goal.returns-in-Some
 returns-in-Some g c =
-    let there = slice_get-get_or c.args.cells.now c.in-Some.at (record { address = 0; bytes = [] }) c.in-Some.ensures.within in
+    let there = slice_get-get_or c.args.cells.now c.in-Some.at c.index-cells-at.result c.in-Some.ensures.within in
     sym (value_there (image_words c.args.image.now) c.args.cells.now c.in-Some.at c.args.address _ there
     (c.in-Some.ensures.found _ there) c.in-Some.ensures.first)
 

@@ -4,9 +4,9 @@ use Rattle.hart_local.specs.CodeMemory.{code_in}
 use Rattle.hart_local.proofs.RunLemmas.{code_of_run}
 use Rattle.machine.specs.Start.{started}
 use Rattle.machine.specs.State.{state}
-use Rattle.machine.specs.World.{World, step, run}
+use Rattle.machine.specs.World.{World, run}
 use Rattle.machine.specs.declared.choice.Choice.{Choice}
-use Rattle.explore_laws.specs.Settling.{turn_choices, turns_choices, world_settled}
+use Rattle.explore_laws.specs.Settling.{turn_choices, turns_choices}
 use Rattle.explore_laws.proofs.SettleLemmas.{run_nothing}
 use Rattle.explore_space.proofs.TurnLists.{turns_none, turns_last, run_last}
 use Rattle.explore_space.proofs.expanding.choices_of_turns.Goals as goal
@@ -40,6 +40,6 @@ turns-preserved g c =
       choices = c.in_ok-take_turn.ensures.choices
           ∙ ap (λ (cs : List Choice). cs ++ turn_choices (state c.turns.machine) turn) c.turns.invariant.choices
           ∙ ap (λ (x : World). all ++ turn_choices x turn) c.turns.invariant.world ∙ more;
-      world = c.in_ok-take_turn.ensures.world ∙ ap (λ (x : World). world_settled (step x turn) turn.hart) c.turns.invariant.world
+      world = c.in_ok-take_turn.ensures.world ∙ ap (λ (x : World). run x (turn_choices x turn)) c.turns.invariant.world
           ∙ run_last w all turn ∙ ap (run w) more;
     }

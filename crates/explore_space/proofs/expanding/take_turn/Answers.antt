@@ -11,14 +11,15 @@ use Rattle.machine.specs.World.{World, step}
 use Rattle.machine.specs.declared.choice.Choice.{Choice}
 use Rattle.explore_laws.specs.Settling.{rested, rest_steps, at_once, world_settled, settling_steps}
 use Rattle.explore_laws.proofs.CoverLemmas.{step_code}
-use Rattle.explore_space.proofs.TurnLists.{nobody_settles, nobody_turns, settles}
+use Rattle.explore_laws.proofs.TurnLemmas.{run_of_turn}
+use Rattle.explore_space.proofs.TurnLists.{plain_more, nobody_runs, nobody_turns, settles}
 use Rattle.explore_space.proofs.expanding.take_turn.Goals as goal
 
 pub returns-then-number-harts-clause-world : goal.returns-then-number-harts-clause-world
 returns-then-number-harts-clause-world g c =
     let past = c.if-number-harts.true in
     let count = c.harts.ensures in
-    nobody_settles (state c.args.machine.now) c.args.turn (omega (arith, past, count))
+    nobody_runs (state c.args.machine.now) c.args.turn (omega (arith, past, count))
 
 pub returns-then-number-harts-clause-choices : goal.returns-then-number-harts-clause-choices
 returns-then-number-harts-clause-choices g c =
@@ -36,7 +37,7 @@ returns-clause-world g c =
     c.put_hart.ensures
     ∙ settles (state c.step.new.self) c.args.turn.hart (hart_of c.hart.result.now) (hart_of c.settle-count.new.hart) c.hart.ensures
     (c.settle-count.ensures.hart ∙ ap (λ (m : Memory). rested m at_once (hart_of c.hart.result.now)) code_is)
-    ∙ ap (λ (x : World). world_settled x c.args.turn.hart) stepped_to
+    ∙ ap (λ (x : World). world_settled x c.args.turn.hart) stepped_to ∙ sym (run_of_turn w c.args.turn)
 
 pub returns-clause-choices : goal.returns-clause-choices
 returns-clause-choices g c =
@@ -45,7 +46,8 @@ returns-clause-choices g c =
     let stepped_to : state c.step.new.self ≡ step w c.args.turn = c.in_ok-step.ensures.ok in
     let code_is : segments_memory c.args.code.now ≡ code_in (state c.step.new.self).memory
     = c.requires ∙ sym (step_code w c.args.turn) ∙ ap (λ (x : World). code_in x.memory) (sym stepped_to) in
-    c.in_ok-push_plain.ensures
+    c.in_ok-resize.ensures.items
+    ∙ plain_more c.push.new.self.items h c.settle-count.result _ _ (c.len-len.ensures ∙ c.push.new.self.ok.0) c.push.new.self.ok.0
     ∙ ap (λ (cs : List Choice). cs ++ plain_choices h c.settle-count.result) c.in_ok-push.ensures.items
     ∙ append_assoc c.args.choices.now.items (c.args.turn ∷ []) (plain_choices h c.settle-count.result)
     ∙ ap (λ n. c.args.choices.now.items ++ c.args.turn ∷ plain_choices h n)

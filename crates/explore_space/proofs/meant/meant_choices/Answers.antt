@@ -6,7 +6,7 @@ use Rattle.explore_space.proofs.meant.meant_choices.Goals as goal
 
 pub harts-preserved : goal.harts-preserved
 harts-preserved g c =
-    c.in_ok-push_hart.ensures ∙ ap (λ (cs : List Choice). cs ++ hart_choices c.args.refusals c.harts.hart) c.harts.invariant
+    c.in_ok-push_choices.ensures ∙ ap (λ (cs : List Choice). cs ++ hart_choices c.args.refusals c.harts.hart) c.harts.invariant
     ∙ meant_more c.args.refusals c.harts.hart
 
 pub harts-init : goal.harts-init

@@ -1,8 +1,10 @@
 use Rattle.std.proofs.Common.{length, ap, sym, ◌∙◌, refl}
 use Rattle.std.proofs.lemmas.Option.{slice_get_read}
-use Rattle.hart_reservations.specs.Marks.{mark_at}
+use Rattle.mem_store.specs.Image.{image_memory}
+use Rattle.bank_laws.specs.Table.{table}
+use Rattle.explore_sites.specs.Cells.{words_shown}
 use Rattle.explore_space.specs.Places.{hart_in, cells_in, marks_in}
-use Rattle.explore_space.proofs.KeyLemmas.{steps_moved, given_back}
+use Rattle.explore_space.proofs.KeyLemmas.{steps_moved}
 use Rattle.explore_space.proofs.stepping.step_parts.Goals as goal
 
 pub returns-clause-steps : goal.returns-clause-steps
@@ -11,10 +13,7 @@ returns-clause-steps g c =
     c.requires.hart c.index.ensures in
     let shared_there = slice_get_read c.args.shareds.now.items (length c.args.shareds.now.items) c.args.shared_id c.index-old.result.now refl
     c.requires.shared c.index-old.ensures in
-    steps_moved c.args.image.now c.args.choice.hart c.args.choice.refuse _ _ _ _ _ _ _ _ _ _ _ _ c.in_ok-step_site.ensures.steps
-    (ap hart_in hart_there) c.in_ok-hart_id.ensures.is
-    (ap cells_in shared_there ∙ sym (c.in_ok-cells.ensures.items ∙ c.deref-2.ensures.value))
-    c.in_ok-shared_id.ensures.cells
-    (ap marks_in shared_there ∙ sym (ap mark_at (c.deref_mut.ensures.value ∙ c.in_ok-marks.ensures.items ∙ c.deref.ensures.value)))
-    (c.in_ok-shared_id.ensures.marks ∙ ap mark_at (given_back c.in_ok-marks.marks.len c.step_site.new.marks c.in_ok-marks.marks.items
-    (c.in_ok-step_site.ensures.len ∙ ap length c.deref_mut.ensures.value ∙ sym c.in_ok-marks.marks.ok.0)))
+    steps_moved (table (image_memory c.args.image.now)) c.args.choice.hart c.args.choice.refuse _ _ _ _ _ _ _ _ _ _ _ _
+    c.in_ok-step_site.ensures.steps (ap hart_in hart_there) c.in_ok-hart_id.ensures.is
+    (ap (words_shown c.args.image.now) (ap cells_in shared_there ∙ sym (c.in_ok-cells.ensures.items ∙ c.deref.ensures.value)))
+    c.in_ok-shared_id.ensures.words (ap marks_in shared_there) c.in_ok-shared_id.ensures.marks

@@ -2,15 +2,15 @@ use Rattle.std.proofs.Common.{◌≡◌, ℕ, List, reverse, ◌<◌, Some, leng
 use Rattle.std.specs.List.{All, Contains, slice_get}
 use Rattle.explore_laws.specs.Places.{place_reached}
 use Rattle.explore_search.proofs.NearLemmas.{CountsOn}
-use Rattle.explore_search.proofs.seen.path_to.Given as goal
+use Rattle.explore_search.proofs.seen.Seen.path_to.Given as goal
 
 -- the choices so far, backwards, lead from here to the key's place
 abbrev pub invariant-back : goal.invariant-back
 invariant-back g l = record {
-  within : l.at < length l.seen.keys;
-  counts : CountsOn l.seen.links.items l.at l.number (length l.path.items);
+  within : l.at < length l.self.keys;
+  counts : CountsOn l.self.links.items l.at l.number (length l.path.items);
   meant : All (Contains l.choices) l.path.items;
-  leads : (here key : List ℕ) → slice_get l.seen.keys l.at ≡ Some here → slice_get l.seen.keys l.number ≡ Some key
+  leads : (here key : List ℕ) → slice_get l.self.keys l.at ≡ Some here → slice_get l.self.keys l.number ≡ Some key
       → place_reached (g.S.Space.place l.space here) (reverse l.path.items) ≡ g.S.Space.place l.space key;
 }
 

@@ -1,0 +1,38 @@
+use Rattle.std.proofs.Common.{◌≡◌, length, subst, ap, ◌∙◌}
+use Rattle.std.specs.Prelude.{IfOk}
+use Rattle.std.proofs.lemmas.Result.{IfOk-weaker}
+use Rattle.explore_laws.specs.Places.{place_settled, place_after}
+use Rattle.explore_space.specs.Places.{place_of_key, IsKeyOf, KeysStay}
+use Rattle.explore_space.proofs.DifferLemmas.{keys_differ}
+use Rattle.explore_space.proofs.KeyLemmas.{kept_on, turned}
+use Rattle.explore_space.proofs.explorer.ExplorerSpace.key_after.Goals as goal
+
+pub returns-clause-differ : goal.returns-clause-differ
+returns-clause-differ g c = keys_differ _ _ _ _
+
+pub returns-in_err-next-clause-differ : goal.returns-in_err-next-clause-differ
+returns-in_err-next-clause-differ g c = keys_differ _ _ _ _
+
+pub returns-clause-kept : goal.returns-clause-kept
+returns-clause-kept g c =
+    let image = c.args.self.now.image.now in
+    subst (λ n. KeysStay image n c.args.self.now.harts.items c.args.self.now.shareds.items c.settled_key.new.harts.items
+    c.stepped_key.new.shareds.items) c.harts-count.ensures.harts
+    (kept_on image c.harts-count.result c.args.self.now.harts.items c.stepped_key.new.harts.items c.settled_key.new.harts.items
+    c.args.self.now.shareds.items c.stepped_key.new.shareds.items c.in_ok-next.ensures.kept
+    (subst (λ shareds. KeysStay image c.harts-count.result c.stepped_key.new.harts.items shareds c.settled_key.new.harts.items shareds)
+    c.deref.ensures.value c.settled_key.ensures.kept))
+
+pub returns-clause-key : goal.returns-clause-key
+returns-clause-key g c =
+    let image = c.args.self.now.image.now in
+    subst (λ n. IfOk c.settled_key.result (λ k. IsKeyOf image n c.settled_key.new.harts.items c.stepped_key.new.shareds.items k.items
+    (place_after (place_of_key image n c.args.self.now.harts.items c.args.self.now.shareds.items c.args.key.now) c.args.choice)))
+    c.harts-count.ensures.harts
+    (IfOk-weaker c.settled_key.result _ _
+    (λ k. turned image c.harts-count.result c.args.self.now.harts.items c.stepped_key.new.harts.items c.settled_key.new.harts.items
+    c.args.self.now.shareds.items c.stepped_key.new.shareds.items c.args.key.now c.in_ok-next.next.items k.items c.args.choice
+    c.in_ok-next.ensures.key)
+    (subst (λ shareds. IfOk c.settled_key.result (λ k. IsKeyOf image c.harts-count.result c.settled_key.new.harts.items shareds k.items
+    (place_settled (place_of_key image c.harts-count.result c.stepped_key.new.harts.items shareds c.in_ok-next.next.items) c.args.choice.hart)))
+    c.deref.ensures.value c.settled_key.ensures.key))
