@@ -10,11 +10,19 @@ use crate::parts::{add_hart, add_shared};
 use crate::settling::settle;
 use crate::shared::Shared;
 use explore_sites::step_site;
+use hart_reservations::MAX_HARTS;
 use hart_local::Code;
 use hart_step::Hart;
 use image::Image;
 use machine::Choice;
 use std::alloc::{AllocError, Allocator};
+
+// The reservations of a part.
+fn marks_of<A: Allocator>(shared: &Shared<A>) -> [Option<u32>; MAX_HARTS]
+    ensures { result ≡ shared.now.marks }
+{
+    shared.marks
+}
 
 // The parts after a step of a hart over what it shares, both by their numbers.
 fn step_parts<A: Allocator + Copy>(
@@ -39,7 +47,7 @@ fn step_parts<A: Allocator + Copy>(
 {
     let mut hart = harts[hart_id];
     let old = &shareds[shared_id];
-    let mut marks = old.marks;
+    let mut marks = marks_of(old);
     if choice.hart as usize >= marks.len() {
         return Err(AllocError);
     }

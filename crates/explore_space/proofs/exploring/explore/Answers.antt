@@ -31,8 +31,8 @@ returns-in-Bad-clause-holds g c =
     (c.in_ok-choices_of_turns-in-Bad.ensures ∙ ap (turns_choices (started c.args.image.now c.args.inputs.now)) c.deref-in-Bad.ensures.value)
     (sym (c.len.ensures ∙ c.in-Bad.turns.ok.0))
 
-pub returns-in-Undecided-clause-places : goal.returns-in-Undecided-clause-places
-returns-in-Undecided-clause-places g c =
+pub returns-clause-places : goal.returns-clause-places
+returns-clause-places g c =
     moved (λ m i n r f. SearchCounts m (place_begun (started i n)) c.args.most f)
     (c.deref.ensures.value ∙ c.in_ok-meant.ensures ∙ ap (meant_choices c.args.refusals) c.harts.ensures.harts) c.in_ok-explorer.ensures.image
     c.in_ok-explorer.ensures.inputs c.in_ok-explorer.ensures.rule c.in-Undecided.is c.in_ok-places.ensures.counts

@@ -9,7 +9,7 @@ use Rattle.explore_space.proofs.parts.add_hart.Goals as goal
 pub harts-preserved : goal.harts-preserved
 harts-preserved g c =
     let low = c.harts-test.true in
-    let count = c.len.ensures in
+    let count = c.len-id-end.ensures in
     let long = c.args.harts.now.ok.0 in
     all_so_far (λ (known : Hart). hart_of known ≢ hart_of c.args.hart) c.args.harts.now.items c.harts.id c.index.result.now
     (slice_get_read c.args.harts.now.items (length c.args.harts.now.items) c.harts.id c.index.result.now refl (omega (arith, low, count, long))
@@ -18,7 +18,7 @@ harts-preserved g c =
 pub returns-clause-once : goal.returns-clause-once
 returns-clause-once g c =
     let past = c.harts-test.false in
-    let count = c.len.ensures in
+    let count = c.len-id-end.ensures in
     let long = c.args.harts.now.ok.0 in
     apart_more (λ (one : Hart) (other : Hart). hart_of one ≢ hart_of other) c.args.harts.now.items c.push.new.self.items c.args.hart c.harts.id
     c.in_ok-push.ensures.items (omega (arith, past, count, long)) c.harts.invariant

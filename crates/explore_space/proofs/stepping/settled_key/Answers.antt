@@ -46,3 +46,16 @@ returns-clause-key g c =
     ∙ ap (λ o. rested (code_in (image_memory c.args.image.now)) at_once (hart_in o)) (sym there)
     ∙ ap (λ i. rested (code_in (image_memory c.args.image.now)) at_once (hart_numbered c.args.harts.now.items i)) (sym at))
     (c.in_ok-id.ensures.once once.0, once.1)
+
+pub index-requires-2 : goal.index-requires-2
+index-requires-2 g c =
+    let low = c.requires.there in
+    let long = c.requires.is.len in
+    let inside : c.args.number < length c.args.key.items = omega (arith, low, long) in
+    let got = slice_get_read c.args.key.items (length c.args.key.items) c.args.number c.index.result.now refl inside c.index.ensures in
+    let at : slice_index c.args.key.items c.args.number ≡ c.index.result.now
+    = get_or_from_slice_get c.args.key.items c.args.number c.index.result.now 0 got in
+    let known = c.requires.is.harts c.args.number _ (taken_at c.args.count c.args.key.items c.args.number low inside) in
+    let there = subst (λ i. i < length c.args.harts.now.items) at known in
+    let full = c.args.harts.now.ok.0 in
+    omega (arith, there, full)
