@@ -1,3 +1,5 @@
 pub mod OwnLemmas
 pub mod TicketLemmas
+pub mod WholeLemmas
 pub mod RunningLemmas
+pub mod SeatLemmas

@@ -1,29 +1,14 @@
 -- How often harts are chosen: in one list after another, in an entry; and that a hart that is not
 -- chosen stays.
-use Rattle.std.proofs.Common.{◌≡◌, ◌≢◌, ℕ, zero, suc, ◌+◌, ◌==◌, Bool, true, false, true≢false, List, [], ◌∷◌, ◌++◌, set, Option, Some, None, refl, ap, sym, ◌∙◌, arith, eq-eqb, ne_eqb, append_assoc, append-nil}
+use Rattle.std.proofs.Common.{◌≡◌, ◌≢◌, ℕ, zero, suc, ◌+◌, ◌==◌, Bool, true, false, true≢false, List, [], ◌∷◌, ◌++◌, set, Option, Some, None, refl, ap, sym, ◌∙◌, arith, eq-eqb, ne_eqb}
 use Rattle.std.specs.Prelude.{replicate, if◌then◌else◌, slice_get}
 use Rattle.hart_step.specs.Hart.{HartValue}
 use Rattle.machine.specs.World.{World, step_of, step, run}
 use Rattle.machine.specs.declared.choice.Choice.{Choice}
-use Rattle.history.specs.declared.entry.Entry.{Entry}
 use Rattle.history.specs.History.{choice, entry, entry_choices, expanded}
 use Rattle.machine.specs.Chosen.{own}
 
 -- ---- histories
-pub expanded-append : (xs ys : List Entry) → expanded (xs ++ ys) ≡ expanded xs ++ expanded ys
-unfolding expanded
-expanded-append [] ys = refl
-expanded-append (e ∷ xs) ys =
-    ap (λ (cs : List Choice). entry_choices e ++ cs) (expanded-append xs ys) ∙ sym (append_assoc (entry_choices e) (expanded xs) (expanded ys))
-
-expanded-one : (e : Entry) → expanded (e ∷ []) ≡ entry_choices e
-unfolding expanded
-expanded-one e = append-nil (entry_choices e)
-
--- one entry more
-pub expanded-more : (entries : List Entry) (e : Entry) → expanded (entries ++ e ∷ []) ≡ expanded entries ++ entry_choices e
-expanded-more entries e = expanded-append entries (e ∷ []) ∙ ap (λ (cs : List Choice). expanded entries ++ cs) (expanded-one e)
-
 pub expanded-none : expanded [] ≡ []
 unfolding expanded
 expanded-none = refl

@@ -1,31 +1,36 @@
 -- What holds under the lock: when nothing was done yet, after one entry more, and once all tickets
 -- are spent.
-use Rattle.std.proofs.Common.{◌≡◌, ◌≢◌, ℕ, zero, suc, ◌+◌, ◌<◌, ◌≤◌, ◌==◌, ◌||◌, Bool, true, false, List, [], ◌∷◌, ◌++◌, length, set, Some, refl, ap, sym, ◌∙◌, subst, arith, inl, inr, append_assoc, append-nil}
+use Rattle.std.proofs.Common.{◌≡◌, ◌≢◌, ◌⊎◌, ℕ, zero, suc, ◌+◌, ◌<◌, ◌≤◌, ◌==◌, ◌||◌, Bool, true, false, List, [], ◌∷◌, ◌++◌, length, set, Some, refl, ap, sym, ◌∙◌, subst, arith, inl, inr, append_assoc, append-nil}
 use Rattle.std.specs.Prelude.{replicate, if◌then◌else◌, slice_get, slice_index}
 use Rattle.std.proofs.lemmas.List.{length-set, get_or-set_same, get_or-set_other, length-replicate}
 use Rattle.std.specs.List.{All}
 use Rattle.std.proofs.lemmas.List.Elements.{All-nil, All-cons, All-append}
 use Rattle.std.proofs.lemmas.Bool.Decides.{nat_tests}
 use Rattle.image.specs.Image.{ImageValue}
+use Rattle.mem_store.specs.Image.{segments_memory}
 use Rattle.hart_step.specs.Hart.{hart_of}
+use Rattle.hart_local.specs.LocalStep.{class_of}
+use Rattle.hart_local.specs.declared.stepping.Class.TheVariants.{Shared}
 use Rattle.hart_step.specs.declared.hart.Hart.{Hart}
 use Rattle.machine.specs.World.{World}
 use Rattle.machine.specs.Start.{first_harts, started}
 use Rattle.machine.specs.declared.choice.Choice.{Choice}
 use Rattle.history.specs.declared.entry.Entry.{Entry}
 use Rattle.history.specs.History.{entry, entry_choices, expanded}
-use Rattle.thread_book.specs.Book.{BookValue, world_of, hart_in_book}
+use Rattle.thread_book.specs.Book.{BookValue, IsSoundBook, world_of, hart_in_book}
 use Rattle.thread_book.specs.Segment.{SegmentState}
 use Rattle.thread_book.specs.Present.{IsPresented}
-use Rattle.thread_book.proofs.RunLemmas.{replayed-none}
+use Rattle.thread_book.proofs.RunLemmas.{expanded-more, replayed-none}
 use Rattle.machine.specs.Chosen.{own}
 use Rattle.thread_run.specs.Own.{own_choices}
 use Rattle.thread_gate.specs.Plan.{is_planned}
 use Rattle.thread_gate.specs.Stopped.{is_stopped}
 use Rattle.thread_run.specs.Plan.{IsFlagged}
 use Rattle.thread_run.specs.Outcome.{has_stopped, HasEnded, IsWithin, IsOutcome}
+use Rattle.thread_run.specs.Whole.{AreWhole}
 use Rattle.thread_run.specs.Running.{is_done, IsRunning}
-use Rattle.thread_run.proofs.OwnLemmas.{expanded-more, expanded-none, own-append, own-none, own_same, own_other, others_stay}
+use Rattle.thread_run.proofs.OwnLemmas.{expanded-none, own-append, own-none, own_same, own_other, others_stay}
+use Rattle.thread_run.proofs.WholeLemmas.{entry_whole, whole_more}
 use Rattle.thread_run.proofs.TicketLemmas.{none_open, all_open, eq_or_not, ticket_counts}
 
 or_false : (a b : Bool) → a ≡ false → b ≡ false → (a || b) ≡ false
@@ -60,14 +65,16 @@ pub run_on : (image : ImageValue) (inputs : List ℕ) (budget : ℕ) (plan : Lis
     → IsRunning image inputs budget plan b counts tickets
     → s.hart < length counts
     → made ≡ slice_index counts s.hart
+    → IsSoundBook b
     → IsPresented b s b' t
+    → (class_of (segments_memory s.code) (hart_of s.reached) ≡ Shared) ⊎ (made + s.local + 1 ≡ budget)
     → s.refuse ≡ is_planned plan s.hart (made + s.local)
     → is_stopped s.slot.state ≡ false
     → made + s.local + 1 ≤ budget
     → done ≡ (is_stopped t.slot.state || (made + s.local + 1 == budget))
     → left + (if done then 1 else 0) ≡ tickets
     → IsRunning image inputs budget plan b' (set counts s.hart (made + s.local + 1)) left
-run_on image inputs budget plan b b' s t counts made tickets left done r here was p flag running fits is spent =
+run_on image inputs budget plan b b' s t counts made tickets left done r here was sound p ends flag running fits is spent =
     let h = s.hart in
     let e = entry h s.local s.refuse in
     let now = made + s.local + 1 in
@@ -103,6 +110,8 @@ run_on image inputs budget plan b b' s t counts made tickets left done r here wa
       within = subst (λ es. All (IsWithin (length inputs) budget) es) (sym history)
           (All-append (IsWithin (length inputs) budget) b.history (e ∷ []) r.within
           (All-cons (IsWithin (length inputs) budget) e [] (inside, omega arith) (All-nil (IsWithin (length inputs) budget))));
+      whole = subst (λ es. AreWhole image inputs budget [] es) (sym history)
+          (whole_more image inputs budget [] b.history e r.whole (entry_whole image inputs budget b b' s t made r.same_image r.same_inputs sound p before ends));
       to_do = ticket_counts done (is_done budget b) (is_done budget b') (length inputs) h left tickets inside was_open is_now others spent r.to_do;
     }
 
@@ -124,6 +133,7 @@ run_ended image inputs budget plan b counts tickets r none = record {
   ended = λ h l. done_is b budget h (none_open (is_done budget b) (length inputs) h (sym r.to_do ∙ none) l) (omega (arith, r.counted h l, r.spent h l));
   flagged = r.flagged;
   within = r.within;
+  whole = r.whole;
 }
 
 -- ---- the beginning
@@ -159,6 +169,7 @@ run_begun image inputs budget plan some = record {
   spent = λ h l. omega (arith, zeros (length inputs) h);
   flagged = tt;
   within = All-nil (IsWithin (length inputs) budget);
+  whole = tt;
   to_do = sym (all_open (is_done budget (begun image inputs)) (length inputs)
       (λ h l. or_false _ _ (all_run image inputs h) (ap (λ n. n == budget) (none_owned image inputs h) ∙ not_yet 0 budget some)));
 }
@@ -182,6 +193,7 @@ not_run image inputs budget plan b none is = subst (λ (x : BookValue). IsOutcom
   ended = λ h l. inr (none_owned image inputs h ∙ sym none);
   flagged = tt;
   within = All-nil (IsWithin (length inputs) budget);
+  whole = tt;
 })
 
 -- a run is identified by the image and the inputs that its book was made of

@@ -7,7 +7,8 @@ pub open_same : (p q : ℕ → Bool) (n : ℕ) → ((j : ℕ) → j < n → p j 
 open_same p q zero same = refl
 open_same p q (suc n) same = λ i. if same n (omega arith) i then open_same p q n (λ j l. same j (omega arith)) i else open_same p q n (λ j l. same j (omega arith)) i + 1
 
-below : (k n : ℕ) → k < suc n → (k ≡ n) ⊎ (k < n)
+-- at most n, or less
+pub below : (k n : ℕ) → k < suc n → (k ≡ n) ⊎ (k < n)
 below zero zero l = inl refl
 below zero (suc n) l = inr (omega arith)
 below (suc k) zero l = absurd (omega arith)

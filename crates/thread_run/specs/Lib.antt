@@ -1,5 +1,6 @@
 pub mod Own
 pub mod Plan
+pub mod Whole
 pub mod Outcome
 pub mod Running
 pub mod Seat

@@ -8,6 +8,7 @@ use Rattle.thread_book.specs.Book.{BookValue, hart_in_book}
 use Rattle.thread_gate.specs.Stopped.{is_stopped}
 use Rattle.thread_run.specs.Own.{own_choices}
 use Rattle.thread_run.specs.Plan.{IsFlagged}
+use Rattle.thread_run.specs.Whole.{AreWhole}
 
 -- whether a hart exists and has stopped
 abbrev pub has_stopped : Option HartValue → Bool
@@ -30,3 +31,4 @@ pub record IsOutcome (image : ImageValue) (inputs : List ℕ) (budget : ℕ) (pl
   pub ended : (h : ℕ) → h < length inputs → HasEnded b budget h
   pub flagged : IsFlagged plan [] b.history
   pub within : All (IsWithin (length inputs) budget) b.history
+  pub whole : AreWhole image inputs budget [] b.history

@@ -5,6 +5,7 @@ use Rattle.image.specs.Image.{ImageValue}
 use Rattle.thread_book.specs.Book.{BookValue, hart_in_book}
 use Rattle.thread_run.specs.Own.{own_choices}
 use Rattle.thread_run.specs.Plan.{IsFlagged}
+use Rattle.thread_run.specs.Whole.{AreWhole}
 use Rattle.thread_run.specs.Outcome.{has_stopped, IsWithin}
 
 -- whether hart h is done: it has stopped or used its budget up
@@ -25,4 +26,5 @@ pub record IsRunning (image : ImageValue) (inputs : List ℕ) (budget : ℕ) (pl
   pub spent : (h : ℕ) → h < length inputs → slice_index counts h ≤ budget
   pub flagged : IsFlagged plan [] b.history
   pub within : All (IsWithin (length inputs) budget) b.history
+  pub whole : AreWhole image inputs budget [] b.history
   pub to_do : tickets ≡ open_below (is_done budget b) (length inputs)

@@ -1,6 +1,11 @@
 //! The state that the workers of a run share, under one lock.
-ghost use Rattle.std.specs.Prelude.{◌≡◌, ◌<◌, [], IfOk, OnOk, length, replicate, vec_len, slice_index, ◌||◌, ◌==◌, if◌then◌else◌};
+ghost use Rattle.std.specs.Prelude.{◌≡◌, ◌+◌, ◌<◌, [], IfOk, IfErr, OnOk, length, replicate, vec_len, slice_index, ◌||◌, ◌==◌, if◌then◌else◌};
+ghost use Rattle.mem_store.specs.Image.{segments_memory};
+ghost use Rattle.hart_step.specs.Hart.{hart_of};
+ghost use Rattle.hart_local.specs.LocalStep.{class_of};
+ghost use Rattle.hart_local.specs.declared.stepping.Class.{Class};
 ghost use Rattle.thread_run.specs.Outcome.{IsOutcome};
+ghost use Rattle.thread_run.specs.Seat.{GivesNoSeat};
 ghost use Rattle.thread_gate.specs.Stopped.{is_stopped};
 
 use crate::fault::CommitFault;
@@ -12,7 +17,7 @@ use std::marker::Model;
 use std::sync::ledger;
 use std::sync::ledger::Share;
 use thread_book::{Book, SegmentFault};
-use thread_gate::{Plan, is_planned, is_stopped};
+use thread_gate::{Gate, Plan, is_planned, is_stopped};
 
 /// The book, the number of each hart's choices in it, and a ticket for each hart that is to make
 /// further ones.
@@ -65,7 +70,8 @@ impl<T: Terms, A: Allocator> Running<T, A> {
 
     /// A seat for a hart.
     pub(crate) fn seat(&self, hart: u32) -> Result<Seat<A>, CommitFault>
-        ensures { IfOk result (λ seat. seat.local ≡ 0) }
+        ensures fresh { IfOk result (λ seat. seat.local ≡ 0) }
+        ensures fault { IfErr result (λ fault. GivesNoSeat self.now hart fault) }
     {
         match Seat::of(&self.book, hart) {
             Ok(seat) => Ok(seat),
@@ -75,13 +81,19 @@ impl<T: Terms, A: Allocator> Running<T, A> {
     }
 
     /// Takes a seat's segment into the book, with the refusal of the plan, and returns whether its
-    /// hart is done. Then its ticket is spent.
-    pub(crate) fn commit(
+    /// hart is done. Then its ticket is spent. The hart has `left` choices to make, its next step
+    /// is shared or the last of them, and its gate has returned.
+    pub(crate) fn commit<G: Gate>(
         &mut self,
         seat: &mut Seat<A>,
         ticket: &mut Share<T>,
+        left: u32,
     ) -> Result<bool, CommitFault>
-        requires { ticket.old.amount ≡ 1 }
+        requires ticket { ticket.old.amount ≡ 1 }
+        requires arrived { G.HasArrived seat.old.hart seat.old.local }
+        requires within { seat.old.local < left }
+        requires whole { seat.old.local + 1 < left
+            → class_of (segments_memory seat.old.code) (hart_of seat.old.reached) ≡ Class.Shared }
         ensures amount { IfOk result (λ done. ticket.new.amount ≡ (if done then 0 else 1)) }
         ensures parts { ticket.new.parts ≡ ticket.old.parts }
         ensures fresh { OnOk result (seat.new.local ≡ 0) }
@@ -96,7 +108,7 @@ impl<T: Terms, A: Allocator> Running<T, A> {
         let budget = self.budget;
         // No worker does any of these; the test keeps the plan's number in 32 bits and each hart
         // within its budget.
-        if is_stopped(seat.slot()) || made >= budget || local >= budget - made {
+        if is_stopped(seat.slot()) || made >= budget || left != budget - made {
             return Err(CommitFault::Stale);
         }
         let refuse = is_planned(&self.plan, hart, made + local);

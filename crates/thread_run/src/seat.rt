@@ -1,11 +1,12 @@
 //! A hart on a thread, beside a shared book.
-ghost use Rattle.std.specs.Prelude.{◌≡◌, ◌+◌, ◌<◌, ◌≤◌, length, IfOk, OnOk, OnErr, Some};
+ghost use Rattle.std.specs.Prelude.{◌≡◌, ◌+◌, ◌<◌, ◌≤◌, length, IfOk, IfErr, OnOk, OnErr, Some};
 ghost use Rattle.mem_store.specs.Image.{segments_memory};
 ghost use Rattle.hart_step.specs.Hart.{hart_of};
 ghost use Rattle.hart_local.specs.LocalStep.{class_of, walk};
 ghost use Rattle.hart_local.specs.declared.stepping.Class.{Class};
-ghost use Rattle.thread_book.specs.Present.{IsFresh, IsPresented};
-ghost use Rattle.thread_run.specs.Seat.{IsCommitted, with_refusal};
+ghost use Rattle.thread_book.specs.Book.{IsSoundBook};
+ghost use Rattle.thread_book.specs.Present.{IsFresh, IsPresented, GivesNone, RefusesToTake};
+ghost use Rattle.thread_run.specs.Seat.{IsCommitted, IsNotTaken, with_refusal};
 
 use crate::fault::CommitFault;
 use crate::shared::Shared;
@@ -13,7 +14,7 @@ use hart_step::Hart;
 use std::alloc::Allocator;
 use std::marker::Model;
 use std::sync::Wait;
-use thread_book::{Book, PresentFault, Segment, SegmentFault};
+use thread_book::{Book, PresentFault, Segment, SegmentFault, each_book_is_sound};
 
 /// A hart's segment, outside the lock. Its local steps access no shared state.
 #[derive(Drop)]
@@ -83,6 +84,7 @@ impl<A: Allocator> Seat<A> {
         refuse: bool,
     ) -> Result<(), CommitFault>
         ensures committed { OnOk result (IsCommitted self.old refuse self.new) }
+        ensures fault { IfErr result (λ fault. IsNotTaken self.old fault) }
         ensures unchanged { OnErr result (self.new ≡ self.old) }
     {
         let mut guard = shared.book.lock(rt);
@@ -100,8 +102,11 @@ impl<A: Allocator> Seat<A> {
     ) -> Result<(), PresentFault>
         ensures presented { OnOk result
             (IsPresented book.old (with_refusal self.old refuse) book.new self.new) }
+        ensures fault { IfErr result (λ fault. RefusesToTake book.old self.old fault) }
         ensures unchanged { OnErr result ((book.new ≡ book.old) × (self.new ≡ self.old)) }
+        ensures sound { IsSoundBook book.old }
     {
+        each_book_is_sound(book);
         let was = self.segment.refuse();
         self.segment.set_refuse(refuse);
         match book.present(&mut self.segment) {
@@ -117,7 +122,10 @@ impl<A: Allocator> Seat<A> {
     pub(crate) fn of(book: &Book<A>, hart: u32) -> Result<Seat<A>, SegmentFault>
         ensures fresh { IfOk result (λ seat. IsFresh book.now hart seat) }
         ensures there { IfOk result (λ _. hart < length book.now.inputs) }
+        ensures fault { IfErr result (λ fault. GivesNone book.now hart fault) }
+        ensures sound { IsSoundBook book.now }
     {
+        each_book_is_sound(book);
         match book.segment(hart) {
             Ok(segment) => Ok(Seat { segment }),
             Err(fault) => Err(fault),

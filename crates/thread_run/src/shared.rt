@@ -1,6 +1,6 @@
 //! A book that threads share.
-ghost use Rattle.std.specs.Prelude.{IfOk};
-ghost use Rattle.thread_run.specs.Seat.{IsSeated};
+ghost use Rattle.std.specs.Prelude.{IfOk, IfErr};
+ghost use Rattle.thread_run.specs.Seat.{IsSeated, IsUnseated};
 
 use crate::seat::Seat;
 use std::alloc::Allocator;
@@ -30,10 +30,13 @@ impl<A: Allocator> Shared<A> {
     /// A seat for a hart, as the hart is in the book at that moment. Fails if the book has no such
     /// hart, or when out of memory.
     pub fn seat<R: Wait>(&self, rt: &R, hart: u32) -> Result<Seat<A>, SegmentFault>
-        ensures { IfOk result (λ seat. IsSeated hart seat) }
+        ensures seated { IfOk result (λ seat. IsSeated hart seat) }
+        ensures fault { IfErr result (λ fault. IsUnseated hart fault) }
     {
         let guard = self.book.lock(rt);
-        let seat = Seat::of(&guard, hart)?;
-        Ok(seat)
+        match Seat::of(&guard, hart) {
+            Ok(seat) => Ok(seat),
+            Err(fault) => Err(fault),
+        }
     }
 }

@@ -11,7 +11,7 @@ use std::sync::{Mutex, Wait};
 use thread_gate::Gate;
 
 /// Makes a hart's choices until it has stopped or its budget is used up: local steps as long as the
-/// next one is local, then one step under the lock. No lock is held while the gate is called.
+/// next one is local, then one step under the lock. Before that the gate is called, without a lock.
 pub fn work<T: Terms, A: Allocator, G: Gate, R: Wait>(
     rt: &R,
     running: &Mutex<Running<T, A>>,
@@ -28,8 +28,8 @@ pub fn work<T: Terms, A: Allocator, G: Gate, R: Wait>(
     'choices: while left > 0 {
         seat.advance_local(left - 1);
         let local = seat.local();
-        gate.arrive(hart, local);
-        let done = running.lock(rt).commit(&mut seat, &mut ticket)?;
+        gate.arrive(seat.hart(), local);
+        let done = running.lock(rt).commit::<G>(&mut seat, &mut ticket, left)?;
         if done {
             return Ok(Spent { share: ticket });
         }

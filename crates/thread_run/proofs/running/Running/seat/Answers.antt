@@ -1,4 +1,4 @@
 use Rattle.thread_run.proofs.running.Running.seat.Goals as goal
 
-pub returns-in-Ok : goal.returns-in-Ok
-returns-in-Ok g c = c.in-Ok.ensures.fresh.local
+pub returns-in-Ok-clause-fresh : goal.returns-in-Ok-clause-fresh
+returns-in-Ok-clause-fresh g c = c.in-Ok.ensures.fresh.local
