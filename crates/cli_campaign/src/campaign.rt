@@ -165,12 +165,7 @@ fn report_campaign<R: Files + AllocGlobal + Print + Eprint + Threads + Sync, P: 
             status
         }
         Err(fault) => {
-            let files = RunFiles {
-                program: order.file,
-                form: ProgramForm::Elf,
-                choices: "",
-                harts: inputs.len(),
-            };
+            let files = RunFiles::of_program(order.file, inputs.len());
             say_why(rt, audience, files, fault)
         }
     }

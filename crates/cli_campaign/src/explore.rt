@@ -71,13 +71,7 @@ fn tell_fault<R: Files + AllocGlobal + Eprint>(
     harts: usize,
     fault: CommandFault,
 ) -> Status {
-    let files = RunFiles {
-        program: order.file,
-        form: ProgramForm::Elf,
-        choices: "",
-        harts,
-    };
-    say_why(rt, audience, files, fault)
+    say_why(rt, audience, RunFiles::of_program(order.file, harts), fault)
 }
 
 // Shows how long a failing list is, and explains its faults.

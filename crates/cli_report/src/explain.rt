@@ -22,6 +22,18 @@ pub struct RunFiles<'a> {
     pub harts: usize,
 }
 
+impl<'a> RunFiles<'a> {
+    /// An ELF file alone, and the number of its harts.
+    pub fn of_program(program: &'a str, harts: usize) -> RunFiles<'a> {
+        RunFiles {
+            program,
+            form: ProgramForm::Elf,
+            choices: "",
+            harts,
+        }
+    }
+}
+
 /// The bytes of a file, if it is a regular one.
 pub fn read_again<R: Files + AllocGlobal>(rt: &R, path: &str) -> Option<Vec<u8>> {
     let about = fs::metadata(rt, path).ok()?;

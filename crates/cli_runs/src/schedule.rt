@@ -11,7 +11,7 @@ use cli_values::{
     read_seed_plan,
 };
 use cmd_schedule::{Plan, PlanFault, schedule_engine, seed_engine};
-use program_open::{ProgramForm, deliver};
+use program_open::deliver;
 use sched_draw::{Draw, Order};
 use std::io;
 use std::rt::Files;
@@ -190,12 +190,7 @@ fn print_run_choices<R: Files + AllocGlobal + Print + Eprint>(
     let mut program = open_one(rt, audience, run.file)?;
     let mut sink = WriterSink::new(io::writer(rt));
     let answer = seed_engine(rt.alloc(), inputs.as_slice(), plan, &mut program);
-    let files = RunFiles {
-        program: run.file,
-        form: ProgramForm::Elf,
-        choices: "",
-        harts: inputs.len(),
-    };
+    let files = RunFiles::of_program(run.file, inputs.len());
     match deliver(&mut sink, answer) {
         Ok(status) => Ok(status),
         Err(fault) => Err(say_why(rt, audience, files, fault)),

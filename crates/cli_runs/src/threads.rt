@@ -12,7 +12,7 @@ use cli_report::{
     refuse, say, say_why, show, would_overwrite,
 };
 use cmd_threads::{HistoryUse, ThreadsAnswer, ThreadsTask, banked_engine, threads_engine};
-use program_open::{CommandFault, ProgramForm, write_text};
+use program_open::{CommandFault, write_text};
 use std::alloc::Global;
 use std::collections::BTreeSet;
 use std::rt::Files;
@@ -144,13 +144,7 @@ fn tell_fault<R: Files + AllocGlobal + Eprint>(
         Ok(inputs) => inputs.len(),
         Err(_) => 0,
     };
-    let files = RunFiles {
-        program: order.file,
-        form: ProgramForm::Elf,
-        choices: "",
-        harts,
-    };
-    say_why(rt, audience, files, fault)
+    say_why(rt, audience, RunFiles::of_program(order.file, harts), fault)
 }
 
 // Explains the faults with which the run ended, by its history, if its program can be read again.
