@@ -6,7 +6,7 @@ use Rattle.std.specs.Ordering.{nat_cmp}
 use Rattle.std.specs.Option.{unwrap_or}
 use Rattle.std.specs.BTreeMap as tree
 use Rattle.std.specs.BTreeMap.{BTreeMap}
-use Rattle.image.specs.Image.{ImageValue}
+use Rattle.image.specs.Image.{ImageValue, IsSound}
 use Rattle.mem_store.specs.Image.{image_memory}
 use Rattle.hart_reservations.specs.Marks.{Marks}
 use Rattle.hart_reservations.specs.Limit.{most_harts}
@@ -16,6 +16,7 @@ use Rattle.bank_laws.specs.Words.{bytes_at}
 use Rattle.bank_laws.specs.Merged.{bank_of, first_bank}
 use Rattle.bank_memory.specs.BankLog.{FitsBank, IsOfBank}
 use Rattle.bank_memory.specs.Stored.{value_in, StoresAt, BankHolds}
+use Rattle.bank_memory.proofs.EntryLemmas.{entry_aligned}
 use Rattle.bank_memory.proofs.OrderLemmas.{rises_push, rises_none, rises_is}
 
 -- ---- one access more
@@ -90,5 +91,11 @@ holds_first image inputs number changed held few empty none = record {
 
 -- ---- what every bank keeps
 pub is_of_bank : (image : ImageValue) (inputs : List ℕ) (number : ℕ) (log : List LoggedAccess) (changed : BTreeMap ℕ WordBytes) (held : Marks)
-    → BankHolds image inputs number log changed held → IsOfBank (record { image = image; inputs = inputs; number = number; log = log })
-is_of_bank image inputs number log changed held h = record { of_bank = h.of_bank; order = rises_is log h.order; logged = h.logged }
+    → IsSound image.entry image.segments → BankHolds image inputs number log changed held
+    → IsOfBank (record { image = image; inputs = inputs; number = number; log = log })
+is_of_bank image inputs number log changed held sound h = record {
+  entry = entry_aligned image.entry image.segments sound;
+  of_bank = h.of_bank;
+  order = rises_is log h.order;
+  logged = h.logged;
+}

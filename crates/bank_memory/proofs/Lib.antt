@@ -1,2 +1,4 @@
 pub mod OrderLemmas
 pub mod BankLemmas
+pub mod EntryLemmas
+pub mod StampLemmas

@@ -1,11 +1,13 @@
 -- The order of a bank's accesses: the last one decides which may follow.
-use Rattle.std.proofs.Common.{◌≡◌, ℕ, zero, suc, ◌+◌, ◌-◌, ◌<◌, ◌&&◌, ◌==◌, Bool, true, false, List, [], ◌∷◌, ◌++◌, length, Some, refl, ap, sym, ◌∙◌, arith, inl, inr, ⊎_elim}
+use Rattle.std.proofs.Common.{◌≡◌, ℕ, zero, suc, ◌+◌, ◌-◌, ◌<◌, ◌≤◌, ◌&&◌, ◌==◌, Bool, true, false, List, [], ◌∷◌, ◌++◌, length, Some, refl, ap, sym, ◌∙◌, arith, inl, inr, ⊎_elim}
 use Rattle.std.specs.Prelude.{not, slice_get, slice_index_or, nat_lt}
 use Rattle.std.specs.List.{AllByRecursion}
 use Rattle.std.proofs.lemmas.Bool.{eq-eqb, eqb-true, and_parts, and_from, and_right, or_cases, or_left, or_right, ltb-true, lt-ltb, not-true}
 use Rattle.bank_laws.specs.declared.access.LoggedAccess.{LoggedAccess}
 use Rattle.bank_laws.specs.Order.{is_code_read, Before, Rises}
 use Rattle.bank_memory.specs.Rising.{is_before, may_follow, may_lead, rises}
+use Rattle.bank_memory.specs.Stamps.{access_stamp, last_access_stamp}
+use Rattle.bank_memory.proofs.StampLemmas.{below_last}
 
 -- the test is exact
 pub before_parts : (a c : LoggedAccess) → is_before a c ≡ true → Before a c
@@ -103,3 +105,21 @@ pub rises_is : (xs : List LoggedAccess) → rises xs ≡ true → Rises Before x
 unfolding rises
 rises_is [] e = tt
 rises_is (x ∷ xs) e = let both = and_parts (may_lead x xs) (rises xs) e in (leads_all x xs both.0, rises_is xs both.1)
+
+-- ---- an access with a higher stamp than the last one may follow
+never_falls : (a c : LoggedAccess) → Before a c → a.stamp ≤ c.stamp
+never_falls a c (inl l) = omega (arith, l)
+never_falls a c (inr p) = let same = p.0 in omega (arith, same)
+
+follows_all : (log : List LoggedAccess) (stamp : ℕ) (a : LoggedAccess) → AllByRecursion (λ x. x.stamp ≤ stamp) log → stamp < a.stamp → may_follow log a ≡ true
+unfolding may_follow
+follows_all [] stamp a below above = refl
+follows_all (x ∷ log) stamp a below above =
+    and_from (is_before x a) _ (before_from x a (inl (let low = below.0 in omega (arith, low, above)))) (follows_all log stamp a below.1 above)
+
+pub follows_above : (log : List LoggedAccess) (a : LoggedAccess) → Rises Before log → last_access_stamp log < a.stamp → may_follow log a ≡ true
+follows_above [] a rises above = follow_empty [] a refl
+follows_above (x ∷ log) a rises above =
+    follows_all (x ∷ log) (last_access_stamp (x ∷ log)) a
+    (below_last Before (λ (c : LoggedAccess). c.stamp) access_stamp never_falls (λ c. refl) (x ∷ log) (length (x ∷ log) - 1) (last_access_stamp (x ∷ log)) rises (omega arith) refl)
+    above

@@ -39,8 +39,10 @@ abbrev pub RefusesAccess : BankLog → LoggedAccess → AddFault → Type 0
 RefusesAccess b a Mismatch = FitsBank b a → ⊥
 RefusesAccess b a Memory = FitsBank b a
 
--- all accesses are to words of the bank, in order, and each has found what those before it left
+-- the program's entry is word-aligned; all accesses are to words of the bank, in order, and each has
+-- found what those before it left
 pub record IsOfBank (b : BankLog) : Type 0 where
+  pub entry : b.image.entry % 4 ≡ 0
   pub of_bank : AllByRecursion (λ a. bank_of a.word ≡ b.number) b.log
   pub order : Rises Before b.log
   pub logged : IsLogged (first_bank b.image) b.log

@@ -226,12 +226,12 @@ impl<'a, A: Allocator> Bank<'a, A> {
 }
 
 /// The log of every bank has accesses to its own words only, in order, and each has found what the
-/// ones before it left in the words of the image.
+/// ones before it left in the words of the image. The image's entry is at a multiple of 4.
 pub fn each_bank_is_logged<A: Allocator>(bank: &Bank<A>)
     ensures { IsOfBank bank.now }
 {
-    // Reading a field gives the proof the invariant.
-    let _ = &bank.log;
+    // Reading these gives the proof the invariants of the bank and of its image.
+    let _ = bank.image.segments();
 }
 
 // The bytes of a word: the last stored ones, else the image's.

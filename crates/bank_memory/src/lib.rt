@@ -2,7 +2,7 @@
 #![tactic(auto)]
 
 pub use bank::{AddFault, BANKS, Bank, each_bank_is_logged};
-pub use stamp::{next_stamp, stamps_in_examples};
+pub use stamp::{greatest_is_of_all, next_stamp, stamps_in_examples};
 
 mod bank;
 mod order;

@@ -1,6 +1,6 @@
 //! Stamps: they order the steps of all harts.
-ghost use Rattle.std.specs.Prelude.{◌≡◌, ◌-◌, ◌^◌, [], ◌∷◌, Some, None};
-ghost use Rattle.bank_memory.specs.Stamps.{greatest, next_stamp};
+ghost use Rattle.std.specs.Prelude.{◌≡◌, ℕ, ◌-◌, ◌^◌, List, [], ◌∷◌, Some, None};
+ghost use Rattle.bank_memory.specs.Stamps.{greatest, next_stamp, IsGreatest};
 
 // The greatest of a stamp and a list of stamps.
 fn greatest(own: u64, banks: &[u64]) -> u64
@@ -26,6 +26,11 @@ pub fn next_stamp(own: u64, banks: &[u64]) -> Option<u64>
     }
     Some(last + 1)
 }
+
+/// The greatest of stamps is one of them, and none of them is greater.
+pub fn greatest_is_of_all()
+    ensures { (stamp : ℕ) (stamps : List ℕ) → IsGreatest (stamp ∷ stamps) (greatest stamp stamps) }
+{}
 
 /// Examples: the greatest stamp decides, whether the hart's or a bank's; the last stamp is
 /// `u64::MAX - 1`.
