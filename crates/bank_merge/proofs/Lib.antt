@@ -5,3 +5,4 @@ pub mod MergeLemmas
 pub mod ListLemmas
 pub mod PlaceLemmas
 pub mod AccessOrderLemmas
+pub mod OwnLemmas

@@ -1,5 +1,5 @@
 -- What merged logs lead to.
-use Rattle.std.proofs.Common.{◌≡◌, ℕ, zero, suc, ◌<◌, ◌≤◌, ◌+◌, Bool, true, false, List, [], ◌∷◌, ◌++◌, Some, drop, length, refl, ap, sym, ◌∙◌, subst, ⊎_elim, arith, append_assoc}
+use Rattle.std.proofs.Common.{◌≡◌, ℕ, zero, suc, ◌%◌, ◌<◌, ◌≤◌, ◌+◌, Bool, true, false, List, [], ◌∷◌, ◌++◌, Some, drop, length, refl, ap, sym, ◌∙◌, subst, ⊎_elim, arith, append_assoc}
 use Rattle.std.specs.Prelude.{◌↔◌, slice_get, slice_index_or}
 use Rattle.std.specs.Borrow.{Bor}
 use Rattle.std.specs.List.{AllByRecursion}
@@ -13,7 +13,8 @@ use Rattle.bank_laws.specs.Banks.{IsLogged}
 use Rattle.bank_laws.specs.Segments.{LoggedSegment, Walks}
 use Rattle.bank_laws.specs.Order.{Rises, Earlier, Before, AreLogs, IsMerged}
 use Rattle.bank_laws.specs.Table.{table}
-use Rattle.bank_laws.specs.Merged.{bank_of, first_slot, first_bank, segment_choices}
+use Rattle.bank_laws.specs.Merged.{bank_of, most_banks, first_slot, first_bank, segment_choices}
+use Rattle.bank_laws.proofs.MergeLemmas.{stamps_share_no_bank}
 use Rattle.bank_order.specs.Logs.{segment_logs}
 use Rattle.bank_order.specs.Weaving.{log_of, woven_with}
 use Rattle.bank_order.proofs.MergedLemmas.{woven_is_merged}
@@ -21,8 +22,8 @@ use Rattle.bank_order.specs.Merged.{LeadsToLogged}
 use Rattle.bank_order.proofs.ChoiceLemmas.{leads as all_lead}
 use Rattle.bank_hart_log.specs.HartLog.{HartLogValue, IsOfHart, slot_in, image_table}
 use Rattle.bank_memory.specs.BankLog.{BankLog, IsOfBank}
-use Rattle.bank_merge.specs.Logs.{bank_log, hart_log, segments_of_all, AreNumbered, AreOf, AreOfOne, StampsRise}
-use Rattle.bank_merge.specs.Merge.{AreMatched, AreOneRun, EndsAsLogged, slots}
+use Rattle.bank_merge.specs.Logs.{bank_log, hart_log, segments_of_all, AreNumbered, AreOf, AreOfOne, IsBankOf, StampsRise}
+use Rattle.bank_merge.specs.Merge.{AreMatched, AreOneRun, EndsAsLogged, ShareNoBank, slots}
 use Rattle.bank_merge.proofs.SetLemmas.{drop_item}
 use Rattle.bank_merge.proofs.MatchLemmas.{bank_at, hart_at}
 
@@ -123,6 +124,23 @@ pub own_of : (logs : List HartLogValue) (banks : List BankLog) → AreOfOne logs
     → ((b : ℕ) (k : BankLog) → slice_get banks b ≡ Some k → IsOfBank k) → (h : ℕ) → AllByRecursion (λ e. e.hart ≡ h) (hart_log logs h)
 own_of logs banks one walked kept = own_segments one.image one.inputs logs banks one.are walked kept
 
+-- the program of banks begins at an address of a word, as each bank's does
+entry_of : (image : ImageValue) (inputs : List ℕ) (banks : List BankLog) → length banks ≡ most_banks
+    → ((b : ℕ) (k : BankLog) → slice_get banks b ≡ Some k → IsBankOf image inputs b k)
+    → ((b : ℕ) (k : BankLog) → slice_get banks b ≡ Some k → IsOfBank k) → image.entry % 4 ≡ 0
+entry_of image inputs [] sixteen of kept = absurd (omega (arith, sixteen))
+entry_of image inputs (k ∷ banks) sixteen of kept =
+    subst (λ (m : ImageValue). m.entry % 4 ≡ 0) (of 0 k refl).same_image (kept 0 k refl).entry
+
+-- segments of one stamp share no bank
+pub are_apart : (logs : List HartLogValue) (banks : List BankLog) → AreOfOne logs banks → ((h : ℕ) (l : HartLogValue) → slice_get logs h ≡ Some l → IsOfHart l)
+    → ((b : ℕ) (k : BankLog) → slice_get banks b ≡ Some k → IsOfBank k) → AreMatched logs banks → ShareNoBank logs
+are_apart logs banks one walked kept matched h k e f ie jf harts stamps a c ia jc =
+    let image = one.image in
+    let inputs = one.inputs in
+    stamps_share_no_bank bank_of (table (image_memory image)) (first_slot image inputs) (slots image inputs logs) (λ b. first_bank image) (hart_log logs) (bank_log banks)
+    (are_logs image inputs logs banks one.are walked kept) matched e f h k ie jf stamps harts a c ia jc
+
 pub numbered_of : (logs : List HartLogValue) (banks : List BankLog) → AreOfOne logs banks → AreNumbered banks
 numbered_of logs banks one b k at = (one.are.of_banks b k at).number
 
@@ -130,7 +148,7 @@ pub ends_of : (logs : List HartLogValue) (banks : List BankLog) (choices : List 
     → ((b : ℕ) (k : BankLog) → slice_get banks b ≡ Some k → IsOfBank k) → AreMatched logs banks → LeadsToLogged (segments_of_all logs) choices → EndsAsLogged logs banks choices
 ends_of logs banks choices walked kept matched leads image inputs are =
     let few : length (segments_of_all logs) ≤ length inputs = (let e = length-map logs (λ (l : HartLogValue). l.log) in let f = are.harts in omega (arith, e, f)) in
-    leads image inputs (slots image inputs logs) (bank_log banks) are.entry few (are_logs image inputs logs banks are walked kept) matched
+    leads image inputs (slots image inputs logs) (bank_log banks) (entry_of image inputs banks are.sixteen are.of_banks kept) few (are_logs image inputs logs banks are walked kept) matched
 
 -- the choices of the logs woven to one list
 pub one_run : (logs : List HartLogValue) (banks : List BankLog) → AreOfOne logs banks → ((h : ℕ) (l : HartLogValue) → slice_get logs h ≡ Some l → IsOfHart l)

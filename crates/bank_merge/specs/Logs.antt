@@ -1,5 +1,5 @@
 -- The logs of all harts and of all banks of one program.
-use Rattle.std.specs.Prelude.{◌≡◌, ℕ, ◌%◌, List, [], Some, length, map, slice_get, slice_index_or}
+use Rattle.std.specs.Prelude.{◌≡◌, ℕ, List, [], Some, length, map, slice_get, slice_index_or}
 use Rattle.image.specs.Image.{ImageValue}
 use Rattle.bank_laws.specs.declared.access.LoggedAccess.{LoggedAccess}
 use Rattle.bank_laws.specs.Segments.{LoggedSegment}
@@ -37,10 +37,8 @@ pub record IsBankOf (image : ImageValue) (inputs : List ℕ) (b : ℕ) (k : Bank
   pub same_inputs : k.inputs ≡ inputs
   pub number : k.number ≡ b
 
--- logs and banks are those of a program whose entry is word-aligned: each hart and each of the
--- sixteen banks once and in order
+-- logs and banks are those of a program: each hart and each of the sixteen banks once and in order
 pub record AreOf (image : ImageValue) (inputs : List ℕ) (logs : List HartLogValue) (banks : List BankLog) : Type 0 where
-  pub entry : image.entry % 4 ≡ 0
   pub harts : length logs ≡ length inputs
   pub sixteen : length banks ≡ most_banks
   pub of_harts : (h : ℕ) (l : HartLogValue) → slice_get logs h ≡ Some l → IsHartOf image inputs h l

@@ -1,15 +1,17 @@
 -- The answers of merging.
-use Rattle.std.specs.Prelude.{ℕ, List}
+use Rattle.std.specs.Prelude.{◌≡◌, ◌≢◌, ℕ, List}
 use Rattle.image.specs.Image.{ImageValue}
 use Rattle.hart_step.specs.Hart.{HartValue}
 use Rattle.machine.specs.World.{run}
 use Rattle.machine.specs.Start.{started}
+use Rattle.machine.specs.Chosen.{own}
 use Rattle.machine.specs.declared.choice.Choice.{Choice}
+use Rattle.bank_laws.specs.declared.access.LoggedAccess.{LoggedAccess}
 use Rattle.bank_laws.specs.Banks.{after_log}
-use Rattle.bank_laws.specs.Segments.{HartSlot}
-use Rattle.bank_laws.specs.Order.{IsMatched}
+use Rattle.bank_laws.specs.Segments.{LoggedSegment, HartSlot}
+use Rattle.bank_laws.specs.Order.{In, IsMatched}
 use Rattle.bank_laws.specs.Merged.{bank_of, first_bank, EndsIn}
-use Rattle.bank_order.specs.Merged.{IsMergeOf}
+use Rattle.bank_order.specs.Merged.{choices_in, IsMergeOf}
 use Rattle.bank_memory.specs.BankLog.{BankLog}
 use Rattle.bank_hart_log.specs.HartLog.{HartLogValue, slot_in}
 use Rattle.bank_merge.specs.Logs.{bank_log, hart_log, segments_of_all, AreOf, StampsRise}
@@ -19,6 +21,15 @@ use Rattle.bank_merge.specs.declared.merging.MergeFault.TheVariants.{Unmatched, 
 -- an access is in a hart's log exactly if it is in its word's bank
 abbrev pub AreMatched : List HartLogValue → List BankLog → Type 0
 AreMatched logs banks = IsMatched bank_of (hart_log logs) (bank_log banks)
+
+-- two segments of different harts with equal stamps have no accesses to words of one bank
+abbrev pub ShareNoBank : List HartLogValue → Type 0
+ShareNoBank logs = (h k : ℕ) (e f : LoggedSegment) → In e (hart_log logs h) → In f (hart_log logs k) → h ≢ k
+    → e.stamp ≡ f.stamp → (a c : LoggedAccess) → In a e.accesses → In c f.accesses → bank_of a.word ≢ bank_of c.word
+
+-- each hart has as many of the choices as its log stands for
+abbrev pub OwnAreLogged : List HartLogValue → List Choice → Type 0
+OwnAreLogged logs choices = (h : ℕ) → own choices h ≡ choices_in (hart_log logs h)
 
 -- the slots to which the logs of a program's harts lead
 abbrev pub slots : ImageValue → List ℕ → List HartLogValue → ℕ → HartSlot HartValue

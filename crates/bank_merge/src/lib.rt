@@ -4,7 +4,7 @@
 
 pub use matching::is_matched;
 pub use merging::{MergeFault, merge, merge_matched};
-pub use one_run::logs_are_one_run;
+pub use one_run::{equal_stamps_are_apart, logs_are_one_run};
 pub use order::{are_ordered, have_no_others, is_ordered};
 
 mod matching;

@@ -6,7 +6,7 @@ ghost use Rattle.bank_laws.specs.Segments.{LoggedSegment};
 ghost use Rattle.bank_order.specs.Logs.{segment_logs};
 ghost use Rattle.bank_order.specs.Merged.{IsMergeOf, LeadsToLogged};
 ghost use Rattle.bank_merge.specs.Logs.{hart_log, segments_of_all, AreOfOne, StampsRise};
-ghost use Rattle.bank_merge.specs.Merge.{AreMatched, EndsAsLogged, RefusesLogs};
+ghost use Rattle.bank_merge.specs.Merge.{AreMatched, EndsAsLogged, OwnAreLogged, RefusesLogs};
 
 use crate::matching::is_matched;
 use crate::seen::{see_banks, see_harts};
@@ -39,6 +39,7 @@ pub fn merge<A: Allocator + Copy>(
     ensures matched { IfOk result (λ _. AreMatched logs.now banks.now) }
     ensures rising { IfOk result (λ _. StampsRise logs.now) }
     ensures merged { IfOk result (λ choices. IsMergeOf (segments_of_all logs.now) choices.items) }
+    ensures own { IfOk result (λ choices. OwnAreLogged logs.now choices.items) }
     ensures ends { IfOk result (λ choices. EndsAsLogged logs.now banks.now choices.items) }
     ensures fault { IfErr result (λ fault. RefusesLogs logs.now banks.now fault) }
 {
@@ -68,6 +69,7 @@ pub fn merge_matched<A: Allocator + Copy>(
     requires matched { AreMatched logs.now banks.now }
     requires rising { StampsRise logs.now }
     ensures merged { IfOk result (λ choices. IsMergeOf (segments_of_all logs.now) choices.items) }
+    ensures own { IfOk result (λ choices. OwnAreLogged logs.now choices.items) }
     ensures ends { IfOk result (λ choices. EndsAsLogged logs.now banks.now choices.items) }
 {
     see_harts(logs);

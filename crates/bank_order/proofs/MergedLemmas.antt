@@ -8,7 +8,7 @@ use Rattle.bank_laws.specs.Order.{In, Rises, Earlier, Ahead, IsMerged}
 use Rattle.bank_order.specs.Weaving.{comes_first, woven, woven_with, log_of}
 use Rattle.bank_order.proofs.WeavingLemmas.{in_woven, woven_in}
 
-each_in : (P : LoggedSegment → Type 0) (xs : List LoggedSegment) (e : LoggedSegment) → AllByRecursion P xs → In e xs → P e
+pub each_in : (P : LoggedSegment → Type 0) (xs : List LoggedSegment) (e : LoggedSegment) → AllByRecursion P xs → In e xs → P e
 each_in P [] e each i = absurd i
 each_in P (x ∷ xs) e each (inl q) = subst P (sym q) each.0
 each_in P (x ∷ xs) e each (inr i) = each_in P xs e each.1 i
@@ -133,7 +133,7 @@ own_from n (log ∷ logs) f = (
   own_from (n + 1) logs (λ k. each_from (λ (e : LoggedSegment). e.hart ≡ n + 1 + k) (log_of logs k) (λ e i. let q = each_in (λ (s : LoggedSegment). s.hart ≡ n + suc k) (log_of logs k) e (f (suc k)) i in omega (arith, q))),
 )
 
-rises_ahead : (xs : List LoggedSegment) → Rises Earlier xs → Rises Ahead xs
+pub rises_ahead : (xs : List LoggedSegment) → Rises Earlier xs → Rises Ahead xs
 rises_ahead [] r = tt
 rises_ahead (x ∷ xs) r = (each_from (Ahead x) xs (λ e i. inl (each_in (Earlier x) xs e r.0 i)), rises_ahead xs r.1)
 

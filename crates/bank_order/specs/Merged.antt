@@ -1,5 +1,5 @@
 -- The choices of merged logs, and where their run leads.
-use Rattle.std.specs.Prelude.{◌≡◌, ℕ, ◌%◌, ◌≤◌, Bool, false, List, [], ◌∷◌, ◌++◌, length, replicate}
+use Rattle.std.specs.Prelude.{◌≡◌, ℕ, ◌+◌, ◌%◌, ◌≤◌, Bool, false, List, [], ◌∷◌, ◌++◌, length, replicate}
 use Rattle.image.specs.Image.{ImageValue}
 use Rattle.mem_store.specs.Image.{image_memory}
 use Rattle.hart_step.specs.Hart.{HartValue}
@@ -25,6 +25,11 @@ plain_steps hart count = replicate count (choice_by hart false)
 -- the choices of a segment: its local steps, then one choice with its refusal
 abbrev pub choices_of_one : LoggedSegment → List Choice
 choices_of_one e = plain_steps e.hart e.local ++ choice_by e.hart e.refuse ∷ []
+
+-- the number of choices that segments stand for
+abbrev pub choices_in : List LoggedSegment → ℕ
+choices_in [] = 0
+choices_in (e ∷ es) = e.local + 1 + choices_in es
 
 -- choices are those of all segments of the logs, in the order of their stamps
 pub record IsMergeOf (logs : List (List LoggedSegment)) (choices : List Choice) : Type 0 where

@@ -1,17 +1,15 @@
 -- What a run leaves, from what was compared; and what merging makes of it.
-use Rattle.std.proofs.Common.{◌≡◌, ℕ, zero, suc, ◌%◌, ◌<◌, List, [], ◌∷◌, length, true, false, Some, subst, refl, sym, ◌∙◌, eqb, inl, inr, ⊎_elim, arith, rules}
+use Rattle.std.proofs.Common.{◌≡◌, ℕ, zero, suc, ◌<◌, List, [], ◌∷◌, length, Some, subst, refl, sym, ◌∙◌, ⊎_elim, arith}
 use Rattle.std.specs.Prelude.{slice_get}
-use Rattle.std.proofs.lemmas.Bool.{cases_Bool}
 use Rattle.std.proofs.lemmas.List.{length-map}
-use Rattle.std.proofs.lemmas.Bool.Decides.{nat_tests}
-use Rattle.image.specs.Image.{ImageValue, is_sound, IsSound}
-use Rattle.image.specs.Segment.{SegmentValue}
+use Rattle.image.specs.Image.{ImageValue, IsSound}
 use Rattle.bank_laws.specs.Segments.{LoggedSegment, accesses}
 use Rattle.bank_merge.specs.AccessOrder.{bank_logs, own_log, hart_segments, HaveNoOthers, IsOrdered}
 use Rattle.bank_merge.proofs.AccessOrderLemmas.{ordered_match}
 use Rattle.bank_laws.specs.Order.{Rises, Earlier}
 use Rattle.bank_laws.specs.Merged.{most_banks}
 use Rattle.bank_memory.specs.BankLog.{BankLog}
+use Rattle.bank_memory.proofs.EntryLemmas.{entry_aligned}
 use Rattle.bank_hart_log.specs.HartLog.{HartLogValue}
 use Rattle.bank_merge.specs.Logs.{hart_log, AreOf, IsBankOf, StampsRise}
 use Rattle.bank_merge.specs.Merge.{AreMatched, RefusesLogs}
@@ -27,14 +25,6 @@ Logs image inputs budget plan logs = (length logs ≡ length inputs)
 
 abbrev Banks : ImageValue → List ℕ → List BankLog → Type 0
 Banks image inputs banks = (length banks ≡ most_banks) × ((b : ℕ) (k : BankLog) → slice_get banks b ≡ Some k → IsBankOf image inputs b k)
-
--- an image that passes its checks begins at an address of a word
-entry_aligned : (entry : ℕ) (ss : List SegmentValue) → IsSound entry ss → entry % 4 ≡ 0
-unfolding is_sound
-entry_aligned entry ss sound = elim (cases_Bool (eqb (entry % 4) 0)) [
-  | inl aligned ↦ grind (arith, nat_tests)
-  | inr crooked ↦ absurd (let no : false ≡ true = rw crooked at sound in search rules)
-]
 
 -- the log of a hart that is there
 there : (logs : List HartLogValue) (h : ℕ) → h < length logs → (l : HartLogValue) × (slice_get logs h ≡ Some l) × (own_log (hart_segments logs) h ≡ l.log)
@@ -77,7 +67,6 @@ seen_banked image inputs budget plan logs logs_seen banks banks_seen e f banked 
 pub are_of_one : (image : ImageValue) (inputs : List ℕ) (budget : ℕ) (plan : List (ℕ × ℕ)) (logs : List HartLogValue) (banks : List BankLog)
     → IsBanked image inputs budget plan logs banks → AreOf image inputs logs banks
 are_of_one image inputs budget plan logs banks banked = record {
-  entry = banked.entry;
   harts = banked.harts;
   sixteen = banked.sixteen;
   of_harts = λ h l at. let of = banked.of_harts h l at in record { same_image = of.same_image; same_inputs = of.same_inputs; number = of.number };

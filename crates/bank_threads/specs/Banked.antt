@@ -6,15 +6,11 @@ use Rattle.thread_gate.specs.Plan.{is_planned}
 use Rattle.bank_laws.specs.Segments.{LoggedSegment}
 use Rattle.bank_laws.specs.Order.{Rises, Earlier}
 use Rattle.bank_laws.specs.Merged.{most_banks}
+use Rattle.bank_order.specs.Merged.{choices_in}
 use Rattle.bank_merge.specs.Logs.{IsBankOf}
 use Rattle.bank_merge.specs.Merge.{AreMatched}
 use Rattle.bank_memory.specs.BankLog.{BankLog}
 use Rattle.bank_hart_log.specs.HartLog.{HartLogValue, logged_slot}
-
--- the number of choices that segments stand for
-abbrev pub choices_in : List LoggedSegment → ℕ
-choices_in [] = 0
-choices_in (e ∷ es) = e.local + 1 + choices_in es
 
 -- each segment of hart h, after the choices made so far, is refused exactly if the plan has the
 -- hart and the number of the segment's last choice, counted from 0

@@ -1,5 +1,5 @@
 -- The answer from a run's logs, and the rule of a certified file.
-use Rattle.std.proofs.Common.{◌≡◌, ℕ, ◌^◌, ◌%◌, ◌<◌, List, map, length, Option, Some, None, Ok, refl, ap, sym, subst, ◌∙◌}
+use Rattle.std.proofs.Common.{◌≡◌, ℕ, ◌^◌, ◌<◌, List, map, length, Option, Some, None, Ok, refl, ap, sym, subst, ◌∙◌}
 use Rattle.std.specs.Prelude.{string_bytes}
 use Rattle.std.specs.Option.{IfSome}
 use Rattle.std.specs.List.{All}
@@ -38,15 +38,15 @@ use Rattle.cmd_threads.proofs.ReplayLemmas.{plain_small, plain_there, replay_ans
 use Rattle.cmd_threads.proofs.RunLemmas.{are_of, choices_within, harts_are}
 
 module _ (image : ImageValue) (inputs : List ℕ) (budget : ℕ) (plan : List (ℕ × ℕ)) (logs : List HartLogValue) (banks : List BankLog) (b : IsBanked image inputs budget plan logs banks) (choices : List Choice) where
-  pub merged_run : image.entry % 4 ≡ 0 → AreMatched logs banks → IsMergeOf (segments_of_all logs) choices → EndsAsLogged logs banks choices
+  pub merged_run : AreMatched logs banks → IsMergeOf (segments_of_all logs) choices → EndsAsLogged logs banks choices
       → IsMergedRun image inputs budget plan choices
-  merged_run entry matched merged ends = record {
+  merged_run matched merged ends = record {
     logs = logs;
     banks = banks;
     banked = b;
     matched = matched;
     merged = merged;
-    ends = ends image inputs (are_of image inputs budget plan logs banks b entry);
+    ends = ends image inputs (are_of image inputs budget plan logs banks b);
   }
 
   -- what is printed of the logs' harts is the printed world after the choices
@@ -59,13 +59,13 @@ module _ (image : ImageValue) (inputs : List ℕ) (budget : ℕ) (plan : List (�
       = harts_are image inputs budget plan logs banks b (world_after image inputs choices) (λ n. after_log (first_bank image) (bank_log banks n)) ends ∙ sym are in
       ap (λ (hs : List HartValue). shown_with May (verdict_on rule inputs choices hs) hs) same ∙ shows
 
-  pub of_run : {A : Type 0} (rule : Option Kind) (history : HistoryUse) (harts : List HartValue) (answer : ThreadsAnswer A) → image.entry % 4 ≡ 0 → AreMatched logs banks
+  pub of_run : {A : Type 0} (rule : Option Kind) (history : HistoryUse) (harts : List HartValue) (answer : ThreadsAnswer A) → AreMatched logs banks
       → IsMergeOf (segments_of_all logs) choices → EndsAsLogged logs banks choices → string_bytes answer.history ≡ text_for history (map plain_entry choices)
       → harts ≡ map hart_of_log logs → shown_with May (verdict_on rule inputs choices harts) harts ≡ (string_bytes answer.lines, answer.status)
       → IsOfRun image inputs budget plan rule history answer
   unfolding merged_run
-  of_run rule history harts answer entry matched merged ends text are shows =
-      let run = merged_run entry matched merged ends in
+  of_run rule history harts answer matched merged ends text are shows =
+      let run = merged_run matched merged ends in
       record {
         choices = choices;
         run = run;

@@ -1,5 +1,5 @@
 -- The run of the merged logs of threads over banks.
-use Rattle.std.proofs.Common.{◌≡◌, ℕ, zero, suc, ◌%◌, ◌+◌, ◌<◌, false, List, [], ◌∷◌, ◌++◌, length, map, drop, Some, None, refl, ap, sym, subst, ◌∙◌, inl, inr, ⊎_elim, arith, append_assoc}
+use Rattle.std.proofs.Common.{◌≡◌, ℕ, zero, suc, ◌+◌, ◌<◌, false, List, [], ◌∷◌, ◌++◌, length, map, drop, Some, None, refl, ap, sym, subst, ◌∙◌, inl, inr, ⊎_elim, arith, append_assoc}
 use Rattle.std.specs.Prelude.{◌⊎◌, replicate, slice_get, slice_index_or, option_map}
 use Rattle.std.specs.List.{All}
 use Rattle.std.proofs.lemmas.List.{length-map, map-append}
@@ -76,17 +76,16 @@ log_there (l ∷ logs) (suc k) = ⊎_elim
 
 module _ (image : ImageValue) (inputs : List ℕ) (budget : ℕ) (plan : List (ℕ × ℕ)) (logs : List HartLogValue) (banks : List BankLog) (b : IsBanked image inputs budget plan logs banks) where
   -- logs and banks are those of the program
-  pub are_of : image.entry % 4 ≡ 0 → AreOf image inputs logs banks
-  are_of entry = record {
-    entry = entry;
+  pub are_of : AreOf image inputs logs banks
+  are_of = record {
     harts = b.harts;
     sixteen = b.sixteen;
     of_harts = λ h l at. let of = b.of_harts h l at in record { same_image = of.same_image; same_inputs = of.same_inputs; number = of.number };
     of_banks = b.of_banks;
   }
 
-  pub are_of_one : image.entry % 4 ≡ 0 → AreOfOne logs banks
-  are_of_one entry = record { image = image; inputs = inputs; are = are_of entry }
+  pub are_of_one : AreOfOne logs banks
+  are_of_one = record { image = image; inputs = inputs; are = are_of }
 
   -- the stamps of each log rise
   pub stamps_rise : StampsRise logs

@@ -1,5 +1,5 @@
 -- Logs of one program, as `merge` requires them.
-use Rattle.std.proofs.Common.{◌≡◌, ℕ, zero, suc, ◌%◌, List, [], ◌∷◌, Some, length, sym, ap, subst, ◌∙◌}
+use Rattle.std.proofs.Common.{◌≡◌, ℕ, zero, suc, List, [], ◌∷◌, Some, length, sym, ap, subst, ◌∙◌}
 use Rattle.std.specs.Prelude.{slice_get}
 use Rattle.image.specs.Image.{ImageValue}
 use Rattle.bank_laws.specs.Merged.{most_banks}
@@ -22,12 +22,11 @@ hart_of : (image : ImageValue) (inputs : List ℕ) (budget : ℕ) (plan : List (
 hart_of image inputs budget plan h l is = record { same_image = is.same_image; same_inputs = is.same_inputs; number = is.number }
 
 pub of_run : (image : ImageValue) (inputs : List ℕ) (budget : ℕ) (plan : List (ℕ × ℕ)) (logs : List HartLogValue) (banks : List BankLog)
-    → image.entry % 4 ≡ 0 → Harts image inputs budget plan logs → Banks image inputs banks → AreOfOne logs banks
-of_run image inputs budget plan logs banks entry harts are_banks = record {
+    → Harts image inputs budget plan logs → Banks image inputs banks → AreOfOne logs banks
+of_run image inputs budget plan logs banks harts are_banks = record {
   image = image;
   inputs = inputs;
   are = record {
-    entry = entry;
     harts = harts.0;
     sixteen = are_banks.0;
     of_harts = λ h l at. hart_of image inputs budget plan h l (harts.1 h l at);
@@ -41,12 +40,11 @@ one_hart image inputs log is zero l at = let same : log ≡ l = cc (at) in subst
 one_hart image inputs log is (suc h) l at = absurd (cc (at))
 
 pub by_hand : (image : ImageValue) (inputs : List ℕ) (log : HartLogValue) (logs : List HartLogValue) (banks : List BankLog)
-    → image.entry % 4 ≡ 0 → length inputs ≡ 1 → IsHartOf image inputs 0 log → logs ≡ log ∷ [] → Banks image inputs banks → AreOfOne logs banks
-by_hand image inputs log logs banks entry one is are_logs are_banks = record {
+    → length inputs ≡ 1 → IsHartOf image inputs 0 log → logs ≡ log ∷ [] → Banks image inputs banks → AreOfOne logs banks
+by_hand image inputs log logs banks one is are_logs are_banks = record {
   image = image;
   inputs = inputs;
   are = record {
-    entry = entry;
     harts = ap length are_logs ∙ sym one;
     sixteen = are_banks.0;
     of_harts = λ h l at. one_hart image inputs log is h l (ap (λ (ls : List HartLogValue). slice_get ls h) (sym are_logs) ∙ at);

@@ -11,7 +11,6 @@ use bank_threads::{RunFault, are_of_banks, are_of_harts};
 use image::Image;
 use machine::{Choice, StartFault};
 use std::alloc::Allocator;
-use test_images::PROGRAM_START;
 use thread_gate::Plan;
 
 /// What logs or their run lack.
@@ -93,7 +92,7 @@ pub fn merged_with<A: Allocator + Copy>(
     logs: &[HartLog<A>],
     banks: &[Bank<A>],
 ) -> Result<Vec<Choice, A>, Lack> {
-    if image.entry() != PROGRAM_START || inputs.len() > 32 {
+    if inputs.len() > 32 {
         return Err(Lack::Program);
     }
     if !are_of_harts(logs, image, inputs, plan, budget) || !are_of_banks(banks, image, inputs) {
@@ -155,7 +154,7 @@ pub fn by_hand<'a, A: Allocator + Copy>(
 ) -> Result<ByHand<'a, A>, Lack>
     ensures { IfOk result (λ h. AreOfOne h.logs.items h.banks.items) }
 {
-    if image.entry() != PROGRAM_START || inputs.len() != 1 {
+    if inputs.len() != 1 {
         return Err(Lack::Program);
     }
     let banks = banks_of(alloc, image, inputs, accesses)?;

@@ -8,7 +8,7 @@ use Rattle.cmd_threads.proofs.banked.merged_answer.Goals as goal
 
 pub merge_matched-requires-clause-one : goal.merge_matched-requires-clause-one
 merge_matched-requires-clause-one g c =
-    are_of_one c.args.image.now c.args.task.now.inputs.items c.args.task.now.budget c.args.task.now.plan.keys c.args.logs.now c.args.banks.now c.requires c.requires.entry
+    are_of_one c.args.image.now c.args.task.now.inputs.items c.args.task.now.budget c.args.task.now.plan.keys c.args.logs.now c.args.banks.now c.requires
 
 pub merge_matched-requires-clause-rising : goal.merge_matched-requires-clause-rising
 merge_matched-requires-clause-rising g c =
@@ -21,7 +21,7 @@ returns g c =
     let harts = map hart_of c.deref-3.result.now in
     let merged = c.in_ok-choices.ensures in
     of_run c.args.image.now task.inputs.items task.budget task.plan.keys c.args.logs.now c.args.banks.now c.requires choices task.rule c.args.history harts c.in_ok-answer.answer
-    c.requires.entry c.requires.matched merged.merged merged.ends
+    c.requires.matched merged.merged merged.ends
     (c.in_ok-answer.ensures.history ∙ ap (λ cs. text_for c.args.history (map plain_entry cs)) c.deref-2.ensures.value)
     (ap (λ hs. map hart_of hs) c.deref-3.ensures.value ∙ c.in_ok-harts.ensures)
     (seen_lines task.rule task.inputs.items c.deref.result.now choices c.deref-2.result.now harts _ c.deref.ensures.value c.deref-2.ensures.value c.in_ok-answer.ensures.lines)

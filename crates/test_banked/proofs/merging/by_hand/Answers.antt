@@ -11,7 +11,7 @@ returns g c =
     let inputs_of : HartLogValue → List ℕ = λ l. l.inputs in
     let hart_of : HartLogValue → ℕ = λ l. l.hart in
     let one : c.push.new.self.items ≡ log ∷ [] = grind (rules) in
-    by_hand c.args.image.now c.args.inputs.now log c.push.new.self.items c.in_ok-banks.banks.items (omega arith) (omega arith)
+    by_hand c.args.image.now c.args.inputs.now log c.push.new.self.items c.in_ok-banks.banks.items (omega arith)
     (record {
       same_image = ap image_of c.in_ok-add-2.ensures.ok.1 ∙ ap image_of c.in_ok-add.ensures.ok.1 ∙ ap image_of c.new-log.ensures;
       same_inputs = ap inputs_of c.in_ok-add-2.ensures.ok.1 ∙ ap inputs_of c.in_ok-add.ensures.ok.1 ∙ ap inputs_of c.new-log.ensures;
