@@ -4,7 +4,7 @@ use Rattle.std.specs.Bool.{beq}
 use Rattle.thread_gate.specs.Plan.{is_planned}
 use Rattle.bank_laws.specs.Segments.{LoggedSegment}
 use Rattle.bank_order.specs.Merged.{choices_in}
-use Rattle.bank_threads.specs.Banked.{LogIsFlagged}
+use Rattle.bank_worker.specs.Worked.{LogIsFlagged}
 
 -- what is left of a log says of the choices so far what the whole does
 pub record Goes (plan : List (ℕ × ℕ)) (h : ℕ) (log rest : List LoggedSegment) (made : ℕ) : Type 0 where

@@ -1,28 +1,13 @@
 -- The result of a run of threads over banks.
-use Rattle.std.specs.Prelude.{◌≡◌, ◌⊎◌, ℕ, ◌+◌, ◌%◌, ◌<◌, ◌≤◌, true, List, [], ◌∷◌, Some, length, slice_get}
+use Rattle.std.specs.Prelude.{◌≡◌, ℕ, ◌%◌, List, Some, length, slice_get}
 use Rattle.image.specs.Image.{ImageValue}
-use Rattle.thread_gate.specs.Stopped.{is_stopped}
-use Rattle.thread_gate.specs.Plan.{is_planned}
-use Rattle.bank_laws.specs.Segments.{LoggedSegment}
 use Rattle.bank_laws.specs.Order.{Rises, Earlier}
 use Rattle.bank_laws.specs.Merged.{most_banks}
-use Rattle.bank_order.specs.Merged.{choices_in}
 use Rattle.bank_merge.specs.Logs.{IsBankOf}
 use Rattle.bank_merge.specs.Merge.{AreMatched}
 use Rattle.bank_memory.specs.BankLog.{BankLog}
-use Rattle.bank_hart_log.specs.HartLog.{HartLogValue, logged_slot}
-
--- each segment of hart h, after the choices made so far, is refused exactly if the plan has the
--- hart and the number of the segment's last choice, counted from 0
-abbrev pub LogIsFlagged : List (ℕ × ℕ) → ℕ → ℕ → List LoggedSegment → Type 0
-LogIsFlagged plan h made [] = Unit {0}
-LogIsFlagged plan h made (e ∷ es) =
-    (e.refuse ≡ is_planned plan h (made + e.local)) × LogIsFlagged plan h (made + (e.local + 1)) es
-
--- a hart has stopped after at most `budget` of its choices, or has made exactly that many
-abbrev pub LogHasEnded : ℕ → HartLogValue → Type 0
-LogHasEnded budget l = (choices_in l.log ≤ budget)
-    × ((is_stopped (logged_slot l).hart.state ≡ true) ⊎ (choices_in l.log ≡ budget))
+use Rattle.bank_hart_log.specs.HartLog.{HartLogValue}
+use Rattle.bank_worker.specs.Worked.{LogHasEnded, LogIsFlagged}
 
 -- a log is hart h's of a run: its program and inputs, ended, the plan's refusals, rising stamps
 pub record IsHartOfRun (image : ImageValue) (inputs : List ℕ) (budget : ℕ) (plan : List (ℕ × ℕ)) (h : ℕ) (l : HartLogValue) : Type 0 where

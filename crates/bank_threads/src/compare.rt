@@ -5,7 +5,8 @@ ghost use Rattle.bank_laws.specs.Merged.{most_banks};
 ghost use Rattle.bank_hart_log.specs.HartLog.{HartLogValue};
 ghost use Rattle.bank_merge.specs.Logs.{IsBankOf};
 ghost use Rattle.bank_order.specs.Merged.{choices_in};
-ghost use Rattle.bank_threads.specs.Banked.{LogHasEnded, LogIsFlagged, IsHartOfRun};
+ghost use Rattle.bank_worker.specs.Worked.{LogHasEnded, LogIsFlagged};
+ghost use Rattle.bank_threads.specs.Banked.{IsHartOfRun};
 
 use bank_hart_log::HartLog;
 use bank_memory::{BANKS, Bank};

@@ -1,1 +1,2 @@
 pub mod WalkedLemmas
+pub mod WorkedLemmas

@@ -7,8 +7,12 @@ pub enum StepFault {
     StartRefused,
     /// A step would have needed a stamp of `u64::MAX` or above.
     StampsExhausted,
-    /// A bank or a log did not accept what a step did. No way to get here is known.
+    /// A bank or a log did not accept what a step did. No way to get here is known, and a step of
+    /// code never does.
     Stale,
+    /// The lock of a word's bank had another bank. No way to get here is known: what a lock has is
+    /// known by its type alone.
+    OtherBank,
     /// The host refused memory.
     Memory,
 }

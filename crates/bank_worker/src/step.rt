@@ -1,15 +1,20 @@
 //! One step of a hart under the locks of the banks that it touches.
-ghost use Rattle.std.specs.Prelude.{◌≡◌, ◌<◌, ◌%◌, None, IfOk, OnOk, length, vec_len};
+ghost use Rattle.std.specs.Prelude.{◌≡◌, ◌≢◌, ◌<◌, ◌%◌, [], ◌∷◌, Some, None, IfOk, IfErr, OnOk, length, vec_len};
 ghost use Rattle.hart_reservations.specs.Marks.{names};
 ghost use Rattle.hart_step.specs.Hart.{hart_of};
+ghost use Rattle.bank_laws.specs.Merged.{bank_of};
 ghost use Rattle.bank_memory.specs.BankLog.{state_of};
-ghost use Rattle.bank_hart_log.specs.HartLog.{image_table};
-ghost use Rattle.bank_worker.specs.Walked.{IsWalked, Stays};
+ghost use Rattle.bank_memory.specs.Stamps.{last_access_stamp, next_stamp};
+ghost use Rattle.bank_hart_log.specs.HartLog.{image_table, last_segment_stamp, FitsLog, TouchesNext};
+ghost use Rattle.bank_step.specs.Told.{as_touch};
+ghost use Rattle.bank_worker.specs.Walked.{IsWalked};
+ghost use Rattle.bank_worker.specs.Worked.{AddsSegment, AddsStep, IsOfWalk, IsStampedNext};
+ghost use Rattle.bank_worker.specs.declared.fault.StepFault.{StepFault};
 
 use crate::fault::StepFault;
 use crate::job::Job;
 use bank_hart_log::{Found, HartLog, Slot, code_access, data_access};
-use bank_memory::{BANKS, Bank, next_stamp};
+use bank_memory::{BANKS, Bank, each_bank_is_logged, next_stamp};
 use bank_order::LogSegment;
 use bank_step::{PlannedTouch, Word, needed_word, planned_touch};
 use std::alloc::Allocator;
@@ -29,9 +34,12 @@ pub struct Walked {
 }
 
 impl Walked {
-    // The segment with a stamp, and no accesses yet.
+    // The segment with the stamp after the hart's last one and those of banks, and no accesses yet.
     fn stamped(&self, banks: &[u64]) -> Result<LogSegment, StepFault>
-        ensures { IfOk result (λ e. (e.hart ≡ self.now.hart) × (e.local ≡ self.now.local)) }
+        ensures walked { IfOk result (λ e. IsOfWalk self.now e) }
+        ensures stamp { IfOk result (λ e. next_stamp self.now.last_stamp banks.now ≡ Some e.stamp) }
+        ensures bare { IfOk result (λ e. e.accesses ≡ []) }
+        ensures fault { IfErr result (λ fault. fault ≡ StepFault.StampsExhausted) }
     {
         match next_stamp(self.last_stamp, banks) {
             Some(stamp) => Ok(LogSegment {
@@ -49,7 +57,8 @@ impl Walked {
 
 // The index of a word's bank.
 fn place_of(word: u32) -> usize
-    ensures { result < 16 }
+    ensures bank { result ≡ bank_of word }
+    ensures there { result < 16 }
 {
     (word / 4 % BANKS) as usize
 }
@@ -77,8 +86,54 @@ fn found_in<A: Allocator>(bank: &Bank<A>, hart: u32, word: u32) -> Found
     }
 }
 
-// Logs a segment whose last step is of code in its hart's log, and its access in the bank, whose
-// lock it holds.
+// Logs a segment that touches nothing.
+fn commit_alone<A: Allocator + Copy>(
+    log: &mut HartLog<A>,
+    segment: LogSegment,
+) -> Result<(), StepFault>
+    requires { FitsLog log.old segment }
+    ensures added { OnOk result (AddsSegment log.old log.new segment) }
+    ensures fault { IfErr result (λ fault. fault ≡ StepFault.Memory) }
+{
+    match log.add(segment) {
+        Ok(()) => Ok(()),
+        Err(bank_hart_log::AddFault::Memory) => Err(StepFault::Memory),
+        Err(bank_hart_log::AddFault::Mismatch) => unreachable!(),
+    }
+}
+
+// Logs a segment whose last step is of code and touches a word, in its hart's log, and its access in
+// the word's bank. Its stamp is the one after the last stamps of both.
+fn commit<A: Allocator + Copy>(
+    log: &mut HartLog<A>,
+    bank: &mut Bank<A>,
+    segment: LogSegment,
+    touch: PlannedTouch,
+) -> Result<(), StepFault>
+    requires few { segment.hart < 32 }
+    requires there { segment.hart < length bank.old.inputs }
+    requires next { TouchesNext log.old segment (as_touch touch) }
+    requires aligned { touch.word % 4 ≡ 0 }
+    requires its_bank { bank_of touch.word ≡ bank.old.number }
+    requires stamp { next_stamp (last_segment_stamp log.old.log) (last_access_stamp bank.old.log ∷ []) ≡ Some segment.stamp }
+    ensures added { OnOk result (AddsSegment log.old log.new segment) }
+    ensures stamped { OnOk result (IsStampedNext log.old bank.old bank.new) }
+    ensures fault { IfErr result (λ fault. fault ≡ StepFault.Memory) }
+{
+    each_bank_is_logged(bank);
+    let found = found_in(bank, segment.hart, touch.word);
+    let Ok(access) = log.add_touch(segment, touch, found) else {
+        return Err(StepFault::Memory);
+    };
+    match bank.add_found(access) {
+        Ok(()) => Ok(()),
+        Err(bank_memory::AddFault::Memory) => Err(StepFault::Memory),
+        Err(bank_memory::AddFault::Mismatch) => unreachable!(),
+    }
+}
+
+// Does the last step of a segment whose instruction is code, under the lock of the bank that it
+// touches, if it touches one. It is never stale: its stamp is made under that lock.
 fn step_in_code<A: Allocator + Copy, G: Gate, R: Wait>(
     rt: &R,
     job: &Job<A>,
@@ -89,20 +144,21 @@ fn step_in_code<A: Allocator + Copy, G: Gate, R: Wait>(
     requires few { walked.now.hart < 32 }
     requires next { IsWalked job.now.image.now log.old walked.now }
     requires code { (image_table job.now.image.now).need (hart_of walked.now.slot.hart) ≡ None }
-    ensures { OnOk result (Stays log.old log.new) }
+    ensures added { OnOk result (AddsStep log.old log.new walked.now) }
+    ensures fresh { IfErr result (λ fault. fault ≢ StepFault.Stale) }
 {
     let Some(touch) = planned_touch(&walked.slot.hart, job.image, None) else {
-        log.add(walked.stamped(&[])?)?;
-        return Ok(());
+        let segment = walked.stamped(&[])?;
+        return commit_alone(log, segment);
     };
     let place = place_of(touch.word);
     let mut bank = job.banks()[place].lock(rt);
+    if bank.number() != place as u32 || walked.hart as usize >= bank.inputs().len() {
+        return Err(StepFault::OtherBank);
+    }
     let segment = walked.stamped(&[bank.last_stamp()])?;
-    let found = found_in(&bank, walked.hart, touch.word);
     gate.held(walked.hart, place as u32);
-    let access = log.add_touch(segment, touch, found)?;
-    bank.add_found(access)?;
-    Ok(())
+    commit(log, &mut bank, segment, touch)
 }
 
 // Does the last step of a segment whose instruction is in a writable word, under the locks of all
@@ -116,6 +172,7 @@ fn step_outside_code<A: Allocator + Copy, G: Gate, R: Wait>(
     word: u32,
 ) -> Result<LogSegment, StepFault>
     requires { walked.now.hart < 32 }
+    ensures { IfOk result (λ e. IsOfWalk walked.now e) }
 {
     let mut held = Vec::new(alloc);
     'banks: for bank in job.banks() {
@@ -162,7 +219,7 @@ pub fn step<A: Allocator + Copy, G: Gate, R: Wait>(
 ) -> Result<(), StepFault>
     requires few { walked.now.hart < 32 }
     requires next { IsWalked job.now.image.now log.old walked.now }
-    ensures { OnOk result (Stays log.old log.new) }
+    ensures { OnOk result (AddsStep log.old log.new walked.now) }
 {
     match needed_word(&walked.slot.hart, job.image) {
         None => step_in_code(rt, job, gate, log, walked),

@@ -1,14 +1,15 @@
 //! The thread of one hart.
 ghost use Rattle.std.specs.Prelude.{◌≡◌, ◌<◌, IfOk, length};
+ghost use Rattle.bank_laws.specs.Order.{Rises, Earlier};
+ghost use Rattle.bank_worker.specs.Worked.{LogHasEnded, LogIsFlagged};
 
 use crate::fault::StepFault;
 use crate::job::Job;
 use crate::step::{Walked, step};
 use bank_hart_log::{Ahead, HartLog, Slot};
-use hart_step::HartState;
 use std::alloc::Allocator;
 use std::sync::Wait;
-use thread_gate::Gate;
+use thread_gate::{Gate, is_planned, is_stopped};
 
 /// Makes a hart's choices until it has stopped or its budget is used up: local steps while the next
 /// one is local, then one step under the locks of the banks that it touches. No lock is held while
@@ -21,24 +22,27 @@ pub fn work<'a, A: Allocator + Copy, G: Gate, R: Wait>(
     hart: u32,
 ) -> Result<HartLog<'a, A>, StepFault>
     requires { hart < length job.now.inputs.now }
-    ensures { IfOk result (λ log. (log.image ≡ job.now.image.now) × (log.hart ≡ hart)) }
+    ensures own { IfOk result (λ log. (log.image ≡ job.now.image.now) × (log.hart ≡ hart)) }
+    ensures ended { IfOk result (λ log. LogHasEnded job.now.budget log) }
+    ensures flagged { IfOk result (λ log. LogIsFlagged job.now.plan.now.keys hart 0 log.log) }
+    ensures rising { IfOk result (λ log. Rises Earlier log.log) }
 {
     let mut log = HartLog::new(alloc, job.image, job.inputs, hart);
-    let mut left = job.budget;
-    'choices: while left > 0 {
-        let HartState::Running = log.slot().state else {
+    let mut made = 0;
+    'choices: while made < job.budget {
+        if is_stopped(log.slot()) {
             return Ok(log);
-        };
+        }
         let Ahead {
             local,
             hart: reached,
-        } = log.walk_ahead(&job.code, left - 1);
+        } = log.walk_ahead(&job.code, job.budget - made - 1);
         gate.arrive(hart, local);
-        let number = job.budget.wrapping_sub(left).wrapping_add(local);
+        let number = made + local;
         let walked = Walked {
             hart,
             local,
-            refuse: job.plan.contains(&(hart, number)),
+            refuse: is_planned(job.plan, hart, number),
             slot: Slot {
                 hart: reached,
                 named: log.named(),
@@ -46,7 +50,7 @@ pub fn work<'a, A: Allocator + Copy, G: Gate, R: Wait>(
             last_stamp: log.last_stamp(),
         };
         step(rt, alloc, job, gate, &mut log, &walked)?;
-        left -= local + 1;
+        made = number + 1;
     }
     Ok(log)
 }

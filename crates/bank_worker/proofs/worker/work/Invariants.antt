@@ -1,9 +1,10 @@
-use Rattle.std.proofs.Common.{◌≡◌}
+use Rattle.std.specs.Prelude.{◌-◌}
+use Rattle.bank_worker.specs.Worked.{IsWorking}
 use Rattle.bank_worker.proofs.worker.work.Given as goal
 
--- the log stays that of the hart of the job's image
+-- what the thread has logged so far
 abbrev pub invariant-choices : goal.invariant-choices
-invariant-choices g l = (l.log.image ≡ l.job.image.now) × (l.log.hart ≡ l.hart)
+invariant-choices g l = IsWorking l.job.image.now l.hart l.job.budget l.job.plan.now.keys l.log l.made
 
 abbrev pub decreases-choices : goal.decreases-choices
-decreases-choices g l = l.left
+decreases-choices g l = l.job.budget - l.made
