@@ -17,6 +17,7 @@ pub fn obey_run<R: Files + AllocGlobal + Print + Eprint>(
     audience: Audience,
     order: &RunOrder,
 ) -> Result<Status, Status> {
+    let form = form_of(order);
     let inputs = inputs_said(rt, order.inputs)?;
     let rule = rule_said(rt, order.rule)?;
     let (mut program, mut choices) = open_both(rt, audience, order.file, order.choices)?;
@@ -26,7 +27,7 @@ pub fn obey_run<R: Files + AllocGlobal + Print + Eprint>(
     };
     let answer = run_engine(
         rt.alloc(),
-        form_of(order),
+        form,
         inputs.as_slice(),
         expect,
         &mut program,
@@ -34,7 +35,7 @@ pub fn obey_run<R: Files + AllocGlobal + Print + Eprint>(
     );
     let files = RunFiles {
         program: order.file,
-        form: form_of(order),
+        form,
         choices: order.choices,
         harts: inputs.len(),
     };

@@ -39,14 +39,14 @@ pub fn obey_shrink<R: Files + AllocGlobal + Print + Eprint>(
     audience: Audience,
     order: &ShrinkOrder,
 ) -> Result<Status, Status> {
-    let inputs = inputs_said(rt, order.inputs)?;
-    let rule = rule_said(rt, order.rule)?;
-    let (mut program, mut choices) = open_both(rt, audience, order.file, order.choices)?;
     let exit = if order.must_exit {
         Exit::Must
     } else {
         Exit::May
     };
+    let inputs = inputs_said(rt, order.inputs)?;
+    let rule = rule_said(rt, order.rule)?;
+    let (mut program, mut choices) = open_both(rt, audience, order.file, order.choices)?;
     let answer = shrink_engine(
         rt.alloc(),
         inputs.as_slice(),

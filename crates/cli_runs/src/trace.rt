@@ -15,17 +15,17 @@ pub fn obey_trace<R: Files + AllocGlobal + Print + Eprint>(
     audience: Audience,
     order: &TraceOrder,
 ) -> Result<Status, Status> {
+    let form = if order.hex {
+        ProgramForm::Hex
+    } else {
+        ProgramForm::Elf
+    };
     let inputs = inputs_said(rt, order.inputs)?;
     let Some(plan) = read_trace_plan(order.table, order.from, order.to) else {
         return Err(bad_line(
             rt,
             "--from and --to take the places of choices, decimal numbers from 1 to 2^64 - 1, as --from 3 --to 37",
         ));
-    };
-    let form = if order.hex {
-        ProgramForm::Hex
-    } else {
-        ProgramForm::Elf
     };
     let (mut program, mut choices) = open_both(rt, audience, order.file, order.choices)?;
     let files = RunFiles {

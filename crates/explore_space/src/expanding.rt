@@ -2,10 +2,10 @@
 ghost use Rattle.std.specs.Prelude.{◌≡◌, ◌++◌, IfOk, OnOk};
 ghost use Rattle.mem_store.specs.Image.{segments_memory};
 ghost use Rattle.hart_local.specs.CodeMemory.{code_in};
+ghost use Rattle.explore_laws.specs.Settling.{turn_choices, turns_choices};
 ghost use Rattle.machine.specs.Start.{started};
 ghost use Rattle.machine.specs.State.{state};
 ghost use Rattle.machine.specs.World.{run};
-ghost use Rattle.explore_laws.specs.Settling.{turn_choices, turns_choices};
 
 use crate::settling::settle;
 use hart_local::Code;
