@@ -66,11 +66,12 @@ rows_kept (row ∷ rows) all = ap₂ (λ (line more : List ℕ). line ++ more) (
 
 add_kept : (end : SeedEnding) (rows : List TallyRow) → IsKept end → RowsKept rows → RowsKept (add_seed end rows)
 add_kept end [] is all = (is, tt)
-add_kept end (row ∷ rows) is all = by (same_ending end.ending row.ending)
+add_kept end (row ∷ rows) is all = by (same_ending end.ending row.ending) (add_kept end rows is all.1)
   where
-    by : (b : Bool) → RowsKept (cond b (record { ending = row.ending; count = one_more row.count } ∷ rows) (row ∷ add_seed end rows))
-    by true = (all.0, all.1)
-    by false = (all.0, add_kept end rows is all.1)
+    by : (b : Bool) → RowsKept (add_seed end rows)
+        → RowsKept (cond b (record { ending = row.ending; count = one_more row.count } ∷ rows) (row ∷ add_seed end rows))
+    by true rest = (all.0, all.1)
+    by false rest = (all.0, rest)
 
 onto_kept : (rows : List TallyRow) (ends : List SeedEnding) → RowsKept rows → AllKept ends → RowsKept (tally_onto rows ends)
 onto_kept rows [] there all = there
