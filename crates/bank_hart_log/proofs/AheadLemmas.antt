@@ -1,4 +1,5 @@
--- A local step of an image's code touches nothing, and leads where the image's table says.
+-- A local step of an image's code touches nothing, and leads where the image's table says; so the
+-- local steps of a log are as the table wants them.
 use Rattle.std.proofs.Common.{◌≡◌, ℕ, zero, suc, ◌+◌, ◌*◌, ◌^◌, Bool, true, false, not, ◌&&◌, List, [], Option, Some, None, refl, ap, ap₂, sym, subst, ◌∙◌, rules}
 use Rattle.std.specs.Prelude.{if◌then◌else◌}
 use Rattle.std.specs.Option.{is_some}
@@ -21,49 +22,16 @@ use Rattle.hart_step.specs.declared.hart.Hart.{Hart}
 use Rattle.hart_step.specs.declared.hart.HartState.{HartState}
 use Rattle.hart_step.specs.declared.hart.HartState.TheVariants.{Running, Exited, Faulted}
 use Rattle.hart_local.specs.CodeMemory.{is_code, code_in}
-use Rattle.hart_local.specs.LocalStep.{local_of, local_word, local_at, local_in, is_local_next, step_alone, walk}
+use Rattle.hart_local.specs.LocalStep.{local_of, local_word, local_at, local_in, is_local_next, class_of, step_alone, walk}
+use Rattle.hart_local.specs.declared.stepping.Class.TheVariants.{Local, Shared}
 use Rattle.hart_local.proofs.StepLemmas.{step_is_alone}
+use Rattle.bank_hart_log.proofs.CodeLemmas.{same_word, shut}
 use Rattle.bank_laws.specs.Segments.{LoggedSegment, HartSlot}
 use Rattle.bank_laws.specs.HartLogs.{AreLocal, local_hart}
 use Rattle.bank_laws.specs.Words.{with_four_if}
 use Rattle.bank_laws.specs.Carried.{unless_fault, carried_by, carried_at, carried_in, touch_of}
 use Rattle.bank_laws.specs.Table.{table, needed_code, planned, image_with_bytes, is_unwritable, told, word_in}
-use Rattle.bank_hart_log.specs.HartLog.{image_table, slot_in, HartLogHolds, IsAhead}
-
--- ---- the rights and the bytes of code
-code_shut : (o : Option ℕ) → grants to_execute (if is_code o then o else None) ≡ true → not (grants to_write o) ≡ true
-code_shut o e = go (is_code o) refl e
-  where
-    go : (b : Bool) → is_code o ≡ b → grants to_execute (if b then o else None) ≡ true → not (grants to_write o) ≡ true
-    go true p q = (and_parts (grants to_execute o) (not (grants to_write o)) p).1
-    go false p q = cc q
-
-code_byte : (o : Option ℕ) (b : ℕ) → grants to_execute (if is_code o then o else None) ≡ true
-    → (grants to_execute o ≡ true) × ((if is_code o then b else 0) ≡ b)
-code_byte o b e = go (is_code o) refl e
-  where
-    go : (t : Bool) → is_code o ≡ t → grants to_execute (if t then o else None) ≡ true → (grants to_execute o ≡ true) × ((if t then b else 0) ≡ b)
-    go true p q = (q, refl)
-    go false p q = cc q
-
-shut : (m : Memory) (n pc : ℕ) → granted to_execute (code_in m) n pc ≡ true → all_below n (λ k. not (grants to_write (m.rights (pc + k)))) ≡ true
-unfolding code_in
-shut m zero pc e = refl
-shut m (suc n) pc e =
-    let both = and_parts (granted to_execute (code_in m) n pc) (grants to_execute ((code_in m).rights (pc + n))) e in
-    ap₂ (λ (a b : Bool). a && b) (shut m n pc both.0) (code_shut (m.rights (pc + n)) both.1)
-
-same_word : (m : Memory) (n pc : ℕ) → granted to_execute (code_in m) n pc ≡ true
-    → (granted to_execute m n pc ≡ true) × (number_at (code_in m).bytes n pc ≡ number_at m.bytes n pc)
-unfolding code_in
-same_word m zero pc e = (refl, refl)
-same_word m (suc n) pc e =
-    let both = and_parts (granted to_execute (code_in m) n pc) (grants to_execute ((code_in m).rights (pc + n))) e in
-    let rest = same_word m n pc both.0 in
-    let last = code_byte (m.rights (pc + n)) (m.bytes (pc + n)) both.1 in (
-      ap₂ (λ (a b : Bool). a && b) rest.0 last.0,
-      ap₂ (λ (a b : ℕ). a + b * 256 ^ n) rest.1 last.1,
-    )
+use Rattle.bank_hart_log.specs.HartLog.{image_table, slot_in, StepsAreLocal, HartLogHolds, IsAhead}
 
 -- ---- a word of code that spells a local instruction
 record IsLocalWord (m : Memory) (pc word : ℕ) (i : Instr) : Type 0 where
@@ -128,10 +96,10 @@ touches_none m v word i is =
     ∙ local_touch i m v.registers v.pc is.local
 
 -- what the table says of a local step
-record LeadsAlone (m : Memory) (v : HartValue) : Type 0 where
-  need : needed_code v.state m v.pc ≡ None
-  plan : planned m v [] ≡ None
-  after : step_alone (code_in m) v ≡ (stepped 0 false (told m v [] [] false)).hart
+pub record LeadsAlone (m : Memory) (v : HartValue) : Type 0 where
+  pub need : needed_code v.state m v.pc ≡ None
+  pub plan : planned m v [] ≡ None
+  pub after : step_alone (code_in m) v ≡ (stepped 0 false (told m v [] [] false)).hart
 
 with_none : (m : Memory) (v : HartValue) (need : Option ℕ) → need ≡ None → image_with_bytes m (with_four_if m.bytes need []) ≡ m
 with_none m v need e = ap (λ (o : Option ℕ). image_with_bytes m (with_four_if m.bytes o [])) e
@@ -144,7 +112,7 @@ by_state Running m v e =
 by_state (Exited status) m v e = cc e
 by_state (Faulted cause) m v e = cc e
 
-leads_alone : (m : Memory) (v : HartValue) → is_local_next (code_in m) v ≡ true → LeadsAlone m v
+pub leads_alone : (m : Memory) (v : HartValue) → is_local_next (code_in m) v ≡ true → LeadsAlone m v
 leads_alone m v e =
     let here = by_state v.state m v e in
     let bytes : image_with_bytes m (with_four_if m.bytes (needed_code v.state m v.pc) []) ≡ m = with_none m v (needed_code v.state m v.pc) here.0 in
@@ -161,26 +129,45 @@ leads_alone m v e =
 same_hart : {a b : HartValue} → ◌≡◌ {A = Option HartValue} (Some a) (Some b) → a ≡ b
 same_hart e = cc e
 
--- the same for n steps
-walk_is_local : (m : Memory) (n : ℕ) (v u : HartValue) → walk (code_in m) n v ≡ Some u → AreLocal (table m) n v × (u ≡ local_hart (table m) n v)
-unfolding walk
-walk_is_local m zero v u e = (tt, sym (same_hart e))
-walk_is_local m (suc n) v u e = go (walk_is_local m n (step_alone (code_in m) v) u) (is_local_next (code_in m) v) refl e
+-- a local step's test and its class
+pub local_class : (code : Memory) (v : HartValue) → is_local_next code v ≡ true → class_of code v ≡ Local
+local_class code v e = ap (λ (b : Bool). if b then Local else Shared) e
+
+pub class_local : (code : Memory) (v : HartValue) → class_of code v ≡ Local → is_local_next code v ≡ true
+class_local code v e = go (is_local_next code v) refl e
   where
-    go : (walk (code_in m) n (step_alone (code_in m) v) ≡ Some u → AreLocal (table m) n (step_alone (code_in m) v) × (u ≡ local_hart (table m) n (step_alone (code_in m) v)))
-        → (b : Bool) → is_local_next (code_in m) v ≡ b → (if b then walk (code_in m) n (step_alone (code_in m) v) else None) ≡ Some u
-        → AreLocal (table m) (suc n) v × (u ≡ local_hart (table m) (suc n) v)
+    go : (b : Bool) → is_local_next code v ≡ b → (if b then Local else Shared) ≡ Local → is_local_next code v ≡ true
+    go true p q = p
+    go false p q = cc q
+
+-- a walk is of local steps
+walk_is_local : (image : ImageValue) (n : ℕ) (v u : HartValue) → walk (code_in (image_memory image)) n v ≡ Some u
+    → StepsAreLocal image n v × (u ≡ local_hart (image_table image) n v)
+unfolding walk
+walk_is_local image zero v u e = (tt, sym (same_hart e))
+walk_is_local image (suc n) v u e = go (walk_is_local image n (step_alone (code_in (image_memory image)) v) u) (is_local_next (code_in (image_memory image)) v) refl e
+  where
+    go : (walk (code_in (image_memory image)) n (step_alone (code_in (image_memory image)) v) ≡ Some u → StepsAreLocal image n (step_alone (code_in (image_memory image)) v) × (u ≡ local_hart (image_table image) n (step_alone (code_in (image_memory image)) v)))
+        → (b : Bool) → is_local_next (code_in (image_memory image)) v ≡ b → (if b then walk (code_in (image_memory image)) n (step_alone (code_in (image_memory image)) v) else None) ≡ Some u
+        → StepsAreLocal image (suc n) v × (u ≡ local_hart (image_table image) (suc n) v)
     go more true p q =
-        let here = leads_alone m v p in
+        let here = leads_alone (image_memory image) v p in
         let rest = more q in (
-          (here.need, here.plan, subst (λ (w : HartValue). AreLocal (table m) n w) here.after rest.0),
-          rest.1 ∙ ap (local_hart (table m) n) here.after,
+          (local_class (code_in (image_memory image)) v p, subst (λ (w : HartValue). StepsAreLocal image n w) here.after rest.0),
+          rest.1 ∙ ap (local_hart (image_table image) n) here.after,
         )
     go more false p q = cc q
 
+-- local steps touch nothing
+pub local_untouched : (image : ImageValue) (n : ℕ) (v : HartValue) → StepsAreLocal image n v → AreLocal (image_table image) n v
+local_untouched image zero v local = tt
+local_untouched image (suc n) v local =
+    let here = leads_alone (image_memory image) v (class_local (code_in (image_memory image)) v local.0) in
+    (here.need, here.plan, local_untouched image n ((image_table image).after v [] [] false) local.1)
+
 -- ---- ahead of a log
 pub record WalkedTo (image : ImageValue) (inputs : List ℕ) (h : ℕ) (log : List LoggedSegment) (count : ℕ) (reached : Hart) : Type 0 where
-  pub local : AreLocal (image_table image) count (slot_in image inputs h log).hart
+  pub local : StepsAreLocal image count (slot_in image inputs h log).hart
   pub reached_is : hart_of reached ≡ local_hart (image_table image) count (slot_in image inputs h log).hart
 
 pub walked_to : (image : ImageValue) (inputs : List ℕ) (h : ℕ) (log : List LoggedSegment) (hart : Hart) (named : Option ℕ) (walked : ℕ) (before reached : Hart) (code : Memory) (count : ℕ)
@@ -188,9 +175,9 @@ pub walked_to : (image : ImageValue) (inputs : List ℕ) (h : ℕ) (log : List L
     → WalkedTo image inputs h log count reached
 walked_to image inputs h log hart named walked before reached code count holds code_is goes =
     let from : hart_of hart ≡ (slot_in image inputs h log).hart = ap (λ (s : HartSlot HartValue). s.hart) holds.slot in
-    let is = walk_is_local (image_memory image) count (hart_of hart) (hart_of reached) (subst (λ (c : Memory). walk c count (hart_of hart) ≡ Some (hart_of reached)) code_is goes) in
+    let is = walk_is_local image count (hart_of hart) (hart_of reached) (subst (λ (c : Memory). walk c count (hart_of hart) ≡ Some (hart_of reached)) code_is goes) in
     record {
-      local = subst (λ (v : HartValue). AreLocal (image_table image) count v) from is.0;
+      local = subst (λ (v : HartValue). StepsAreLocal image count v) from is.0;
       reached_is = is.1 ∙ ap (local_hart (image_table image) count) from;
     }
 
@@ -202,6 +189,7 @@ holds_ahead image inputs h log hart named walked before reached count holds to =
   own = holds.own;
   steps = holds.steps;
   slot = holds.slot;
+  counted = holds.counted;
   local = to.local;
   reached_is = to.reached_is;
 }

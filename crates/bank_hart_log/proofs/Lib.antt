@@ -1,3 +1,4 @@
+pub mod CodeLemmas
 pub mod LogLemmas
 pub mod StepLemmas
 pub mod AheadLemmas

@@ -14,15 +14,17 @@ use Rattle.bank_laws.proofs.HartLogLemmas.{stepwise_walks}
 use Rattle.bank_laws.specs.Merged.{first_slot}
 use Rattle.bank_step.specs.Told.{told_word}
 use Rattle.bank_hart_log.specs.declared.step.Slot.{Slot}
-use Rattle.bank_hart_log.specs.HartLog.{HartLogValue, image_table, slot_in, logged_slot, with_access, FitsLog, HartLogHolds, IsOfHart, TouchesNext}
+use Rattle.bank_hart_log.specs.HartLog.{HartLogValue, image_table, slot_in, logged_slot, with_access, StepsAreLocal, CountLocal, FitsLog, HartLogHolds, IsOfHart, TouchesNext}
 use Rattle.bank_hart_log.specs.LastStep.{slot_is, succeeds_at, IsTouch, SlotIf}
 use Rattle.bank_hart_log.proofs.StepLemmas.{fits_in_code, fits_touch}
+use Rattle.bank_hart_log.proofs.AheadLemmas.{local_untouched}
 
 pub is_of_hart : (image : ImageValue) (inputs : List ℕ) (h : ℕ) (log : List LoggedSegment) (hart : Hart) (named : Option ℕ) (walked : ℕ) (reached : Hart)
     → HartLogHolds image inputs h log hart named walked reached → IsOfHart (record { image = image; inputs = inputs; hart = h; log = log })
 is_of_hart image inputs h log hart named walked reached holds = record {
   there = holds.there;
   own = holds.own;
+  counted = holds.counted;
   walks = stepwise_walks (image_table image) (first_slot image inputs h) log holds.steps;
 }
 
@@ -30,16 +32,16 @@ is_of_hart image inputs h log hart named walked reached holds = record {
 pub not_of_hart : (l : HartLogValue) (e : LoggedSegment) → (e.hart ≡ l.hart → ⊥) → SlotIf (FitsLog l e) (segment_slot (image_table l.image) e (logged_slot l)) None
 not_of_hart l e n f = n f.hart
 
-pub not_local : (l : HartLogValue) (e : LoggedSegment) → (AreLocal (image_table l.image) e.local (logged_slot l).hart → ⊥) → SlotIf (FitsLog l e) (segment_slot (image_table l.image) e (logged_slot l)) None
+pub not_local : (l : HartLogValue) (e : LoggedSegment) → (StepsAreLocal l.image e.local (logged_slot l).hart → ⊥) → SlotIf (FitsLog l e) (segment_slot (image_table l.image) e (logged_slot l)) None
 not_local l e n f = n f.local
 
-fits_more : (l : HartLogValue) (e : LoggedSegment) (r : Option Slot) → e.hart ≡ l.hart → AreLocal (image_table l.image) e.local (logged_slot l).hart
+fits_more : (l : HartLogValue) (e : LoggedSegment) (r : Option Slot) → e.hart ≡ l.hart → StepsAreLocal l.image e.local (logged_slot l).hart
     → SlotIf (StepFits (image_table l.image) e (local_slot (image_table l.image) e.local (logged_slot l))) (segment_slot (image_table l.image) e (logged_slot l)) r
     → SlotIf (FitsLog l e) (segment_slot (image_table l.image) e (logged_slot l)) r
 fits_more l e None own local h = λ f. h f.step
 fits_more l e (Some t) own local h = (record { hart = own; local = local; step = h.0 }, h.1)
 
-pub fits_by : (l : HartLogValue) (e : LoggedSegment) (s : Slot) (r : Option Slot) → e.hart ≡ l.hart → AreLocal (image_table l.image) e.local (logged_slot l).hart
+pub fits_by : (l : HartLogValue) (e : LoggedSegment) (s : Slot) (r : Option Slot) → e.hart ≡ l.hart → StepsAreLocal l.image e.local (logged_slot l).hart
     → slot_is s ≡ local_slot (image_table l.image) e.local (logged_slot l)
     → SlotIf (StepFits (image_table l.image) e (slot_is s)) (step_slot (image_table l.image) e (slot_is s)) r
     → SlotIf (FitsLog l e) (segment_slot (image_table l.image) e (logged_slot l)) r
@@ -61,6 +63,11 @@ stepwise_push : (T : StepTable HartValue) (s : HartSlot HartValue) (log : List L
 stepwise_push T s [] e steps local fits = (local, fits, tt)
 stepwise_push T s (x ∷ log) e steps local fits = (steps.0, steps.1, stepwise_push T (segment_slot T x s) log e steps.2 local fits)
 
+count_push : (image : ImageValue) (s : HartSlot HartValue) (log : List LoggedSegment) (e : LoggedSegment) → CountLocal image s log
+    → StepsAreLocal image e.local (slot_after_log (image_table image) s log).hart → CountLocal image s (log ++ e ∷ [])
+count_push image s [] e all local = (local, tt)
+count_push image s (x ∷ log) e all local = (all.0, count_push image (segment_slot (image_table image) x s) log e all.1 local)
+
 pub holds_push : (image : ImageValue) (inputs : List ℕ) (h : ℕ) (log : List LoggedSegment) (hart : Hart) (named : Option ℕ) (walked : ℕ) (reached : Hart) (e : LoggedSegment) (s : Slot)
     → HartLogHolds image inputs h log hart named walked reached → FitsLog (record { image = image; inputs = inputs; hart = h; log = log }) e
     → slot_is s ≡ segment_slot (image_table image) e (slot_in image inputs h log)
@@ -71,15 +78,17 @@ holds_push image inputs h log hart named walked reached e s holds fits is =
       harts = holds.harts;
       there = holds.there;
       own = all_push (λ (x : LoggedSegment). x.hart ≡ h) log e holds.own fits.hart;
-      steps = stepwise_push (image_table image) (first_slot image inputs h) log e holds.steps fits.local fits.step;
+      steps = stepwise_push (image_table image) (first_slot image inputs h) log e holds.steps
+          (local_untouched image e.local (slot_in image inputs h log).hart fits.local) fits.step;
       slot = goes;
+      counted = count_push image (first_slot image inputs h) log e holds.counted fits.local;
       local = tt;
       reached_is = ap (λ (t : HartSlot HartValue). t.hart) goes;
     }
 
 -- the same, where log and segment are seen by their fields
 pub fits_seen : (l0 l : HartLogValue) (e0 e : LoggedSegment) (s : Slot) (r : Option Slot) → l0 ≡ l → e0 ≡ e → e0.hart ≡ l0.hart
-    → AreLocal (image_table l.image) e0.local (logged_slot l).hart → hart_of s.hart ≡ local_hart (image_table l.image) e0.local (logged_slot l).hart
+    → StepsAreLocal l.image e0.local (logged_slot l).hart → hart_of s.hart ≡ local_hart (image_table l.image) e0.local (logged_slot l).hart
     → s.named ≡ (logged_slot l0).named
     → SlotIf (StepFits (image_table l0.image) e (slot_is s)) (step_slot (image_table l0.image) e (slot_is s)) r
     → SlotIf (FitsLog l e) (segment_slot (image_table l.image) e (logged_slot l)) r
@@ -89,7 +98,7 @@ fits_seen l0 l e0 e s r p q own local hart named h =
     let named2 : s.named ≡ (logged_slot l).named = named ∙ ap (λ (x : HartLogValue). (logged_slot x).named) p in
     fits_by l e s r
     (sym (ap (λ (x : LoggedSegment). x.hart) q) ∙ own ∙ ap (λ (x : HartLogValue). x.hart) p)
-    (subst (λ (n : ℕ). AreLocal (image_table l.image) n (logged_slot l).hart) count local)
+    (subst (λ (n : ℕ). StepsAreLocal l.image n (logged_slot l).hart) count local)
     (λ i. record { hart = hart2 i; named = named2 i })
     (subst (λ (x : HartLogValue). SlotIf (StepFits (image_table x.image) e (slot_is s)) (step_slot (image_table x.image) e (slot_is s)) r) p h)
 

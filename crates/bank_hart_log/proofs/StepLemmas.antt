@@ -1,15 +1,21 @@
 -- Which accesses are those of a segment's last step.
 use Rattle.std.proofs.Common.{◌≡◌, ℕ, suc, false, List, [], ◌∷◌, ◌++◌, Option, Some, None, refl, ap, ap₂, sym, subst, ◌∙◌}
 use Rattle.std.specs.Prelude.{option_map}
+use Rattle.image.specs.Image.{ImageValue}
+use Rattle.mem_store.specs.Image.{image_memory}
 use Rattle.hart_step.specs.Hart.{HartValue}
+use Rattle.hart_local.specs.CodeMemory.{code_in}
+use Rattle.hart_local.specs.LocalStep.{class_of}
+use Rattle.hart_local.specs.declared.stepping.Class.TheVariants.{Local}
 use Rattle.bank_laws.specs.declared.access.LoggedAccess.{LoggedAccess}
 use Rattle.bank_laws.specs.Banks.{WordBytes}
 use Rattle.bank_laws.specs.Runs.{StepTable, Touch}
 use Rattle.bank_laws.specs.Segments.{LoggedSegment, HartSlot, logged_access, given_bytes, code_reads, data_accesses, slot_after, slot_did}
-use Rattle.bank_laws.specs.HartLogs.{first, data_part, StepFits, step_slot, local_hart, AreLocal}
+use Rattle.bank_laws.specs.HartLogs.{first, data_part, StepFits, step_slot, local_hart}
 use Rattle.bank_laws.specs.Table.{word_in}
 use Rattle.bank_step.specs.Told.{as_touch, told_word}
 use Rattle.bank_hart_log.specs.declared.step.Slot.{Slot}
+use Rattle.bank_hart_log.specs.HartLog.{image_table, StepsAreLocal}
 use Rattle.bank_hart_log.specs.LastStep.{slot_is, succeeds_at, data_slot, IsCodeRead, IsTouch, DataFits, SlotIf}
 
 -- ---- data
@@ -101,35 +107,35 @@ pub told_none : (o : Option Touch) (v : WordBytes) → o ≡ None → None ≡ t
 told_none o v e = ap (λ (p : Option Touch). told_word (word_in p) v) (sym e)
 
 -- ---- local steps
--- that n steps from one hart touch nothing is known by that of those which are left from another,
--- and both end alike
-pub record LeadsOn (T : StepTable HartValue) (n : ℕ) (h : HartValue) (left : ℕ) (reached : HartValue) : Type 0 where
-  pub back : AreLocal T left reached → AreLocal T n h
-  pub forth : AreLocal T n h → AreLocal T left reached
-  pub ends : local_hart T left reached ≡ local_hart T n h
+-- that n steps from one hart are local is known by that of those which are left from another, and
+-- both end alike
+pub record LeadsOn (m : ImageValue) (n : ℕ) (h : HartValue) (left : ℕ) (reached : HartValue) : Type 0 where
+  pub back : StepsAreLocal m left reached → StepsAreLocal m n h
+  pub forth : StepsAreLocal m n h → StepsAreLocal m left reached
+  pub ends : local_hart (image_table m) left reached ≡ local_hart (image_table m) n h
 
-pub leads_first : (T : StepTable HartValue) (n left : ℕ) (h : HartValue) → left ≡ n → LeadsOn T n h left h
-leads_first T n left h e = rw e (record { back = λ l. l; forth = λ l. l; ends = refl })
+pub leads_first : (m : ImageValue) (n left : ℕ) (h : HartValue) → left ≡ n → LeadsOn m n h left h
+leads_first m n left h e = rw e (record { back = λ l. l; forth = λ l. l; ends = refl })
 
-pub leads_next : (T : StepTable HartValue) (n left less : ℕ) (h reached after : HartValue) → left ≡ suc less → LeadsOn T n h left reached
-    → (T.need reached ≡ None) × (T.plan reached [] ≡ None) → after ≡ T.after reached [] [] false → LeadsOn T n h less after
-leads_next T n left less h reached after e on still is =
-    subst (λ (v : HartValue). LeadsOn T n h less v) (sym is)
-    (let there : LeadsOn T n h (suc less) reached = subst (λ (k : ℕ). LeadsOn T n h k reached) e on in
+pub leads_next : (m : ImageValue) (n left less : ℕ) (h reached after : HartValue) → left ≡ suc less → LeadsOn m n h left reached
+    → class_of (code_in (image_memory m)) reached ≡ Local → after ≡ (image_table m).after reached [] [] false → LeadsOn m n h less after
+leads_next m n left less h reached after e on still is =
+    subst (λ (v : HartValue). LeadsOn m n h less v) (sym is)
+    (let there : LeadsOn m n h (suc less) reached = subst (λ (k : ℕ). LeadsOn m n h k reached) e on in
     record {
-      back = λ l. there.back (still.0, still.1, l);
-      forth = λ l. (there.forth l).2;
+      back = λ l. there.back (still, l);
+      forth = λ l. (there.forth l).1;
       ends = there.ends;
     })
 
-pub not_local : (T : StepTable HartValue) (n left less : ℕ) (h reached : HartValue) → left ≡ suc less → LeadsOn T n h left reached
-    → ((T.need reached ≡ None) × (T.plan reached [] ≡ None) → ⊥) → AreLocal T n h → ⊥
-not_local T n left less h reached e on moves all =
-    let now : AreLocal T (suc less) reached = subst (λ (k : ℕ). AreLocal T k reached) e (on.forth all) in
-    moves (now.0, now.1)
+pub not_local : (m : ImageValue) (n left less : ℕ) (h reached : HartValue) → left ≡ suc less → LeadsOn m n h left reached
+    → (class_of (code_in (image_memory m)) reached ≡ Local → ⊥) → StepsAreLocal m n h → ⊥
+not_local m n left less h reached e on shared all =
+    let now : StepsAreLocal m (suc less) reached = subst (λ (k : ℕ). StepsAreLocal m k reached) e (on.forth all) in
+    shared now.0
 
-pub all_local : (T : StepTable HartValue) (n left : ℕ) (h reached : HartValue) → left ≡ 0 → LeadsOn T n h left reached
-    → AreLocal T n h × (reached ≡ local_hart T n h)
-all_local T n left h reached e on =
-    let there : LeadsOn T n h 0 reached = subst (λ (k : ℕ). LeadsOn T n h k reached) e on in
+pub all_local : (m : ImageValue) (n left : ℕ) (h reached : HartValue) → left ≡ 0 → LeadsOn m n h left reached
+    → StepsAreLocal m n h × (reached ≡ local_hart (image_table m) n h)
+all_local m n left h reached e on =
+    let there : LeadsOn m n h 0 reached = subst (λ (k : ℕ). LeadsOn m n h k reached) e on in
     (there.back tt, there.ends)

@@ -6,5 +6,6 @@ pub use log::{AddFault, Ahead, HartLog, each_hart_log_is_walked};
 pub use step::{Found, Slot, code_access, data_access};
 
 mod first;
+mod local;
 mod log;
 mod step;

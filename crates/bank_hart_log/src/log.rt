@@ -6,8 +6,8 @@ ghost use Rattle.mem_store.specs.Image.{image_memory, segments_memory};
 ghost use Rattle.hart_local.specs.CodeMemory.{code_in};
 ghost use Rattle.hart_local.specs.LocalStep.{class_of};
 ghost use Rattle.hart_local.specs.declared.stepping.Class.TheVariants.{Shared};
-ghost use Rattle.bank_laws.specs.HartLogs.{AreLocal, local_hart, segment_slot};
-ghost use Rattle.bank_hart_log.specs.HartLog.{image_table, last_segment_stamp, logged_slot, with_segment, with_access, FitsLog, IsAhead, IsOfHart, RefusesSegment, TouchesNext};
+ghost use Rattle.bank_laws.specs.HartLogs.{local_hart, segment_slot};
+ghost use Rattle.bank_hart_log.specs.HartLog.{image_table, last_segment_stamp, logged_slot, with_segment, with_access, FitsLog, IsAhead, IsOfHart, RefusesSegment, StepsAreLocal, TouchesNext};
 ghost use Rattle.bank_hart_log.specs.declared.log.AddFault.{AddFault};
 ghost use Rattle.bank_step.specs.Told.{as_touch};
 ghost use Rattle.bank_hart_log.specs.LastStep.{SlotIf};
@@ -26,8 +26,8 @@ use std::marker::Model;
 /// Why a segment is not logged. Nothing has changed then.
 #[derive(Clone, Copy, Drop, PartialEq, Eq)]
 pub enum AddFault {
-    /// The segment is of another hart, one of its local steps touches something, or its accesses
-    /// are not those of its last step.
+    /// The segment is of another hart, one of the steps that it counts is not local, or its
+    /// accesses are not those of its last step.
     Mismatch,
     /// The host refused memory.
     Memory,
@@ -98,11 +98,11 @@ impl<'a, A: Allocator> HartLog<'a, A> {
         }
     }
 
-    // The hart after `count` steps, if they touch nothing.
+    // The hart after `count` steps, if they are local.
     fn after_local(&self, count: u32) -> Option<Hart>
-        ensures { let t = image_table self.now.image in let h = (logged_slot self.now).hart in
-            MatchOption result (AreLocal t count h → ⊥)
-            (λ reached. AreLocal t count h × (hart_of reached ≡ local_hart t count h)) }
+        ensures { let m = self.now.image in let h = (logged_slot self.now).hart in
+            MatchOption result (StepsAreLocal m count h → ⊥)
+            (λ reached. StepsAreLocal m count h × (hart_of reached ≡ local_hart (image_table m) count h)) }
     {
         if count == self.walked {
             return Some(self.reached);

@@ -5,13 +5,14 @@ ghost use Rattle.hart_step.specs.Hart.{hart_of};
 ghost use Rattle.bank_laws.specs.Banks.{WordBytes, is_store, named_by_kind};
 ghost use Rattle.bank_laws.specs.Runs.{kind_of, succeeds, word_after};
 ghost use Rattle.bank_laws.specs.Segments.{logged_access, code_reads, slot_did};
-ghost use Rattle.bank_laws.specs.HartLogs.{StepFits, step_slot, AreLocal, local_hart};
+ghost use Rattle.bank_laws.specs.HartLogs.{StepFits, step_slot, local_hart};
 ghost use Rattle.bank_laws.specs.Carried.{act_of};
 ghost use Rattle.bank_laws.specs.Table.{word_in};
 ghost use Rattle.bank_step.specs.Told.{as_touch, told_word};
-ghost use Rattle.bank_hart_log.specs.HartLog.{image_table};
+ghost use Rattle.bank_hart_log.specs.HartLog.{image_table, StepsAreLocal};
 ghost use Rattle.bank_hart_log.specs.LastStep.{access_list, slot_is, succeeds_at, data_slot, IsCodeRead, IsTouch, DataFits, SlotIf};
 
+use crate::local::is_local_next;
 use bank_laws::{LoggedAccess, LoggedKind};
 use bank_order::LogSegment;
 use bank_step::{PlannedTouch, ToldWords, Word, needed_word, planned_touch, settle, settle_store};
@@ -401,22 +402,15 @@ pub(crate) fn last_step<A: Allocator>(
     }
 }
 
-// Whether a hart's next step touches nothing.
-fn touches_nothing<A: Allocator>(image: &Image<A>, hart: &Hart) -> bool
-    ensures { let t = image_table image.now in (result ≡ true)
-        ↔ ((t.need (hart_of hart.now) ≡ None) × (t.plan (hart_of hart.now) [] ≡ None)) }
-{
-    needed_word(hart, image).is_none() && planned_touch(hart, image, None).is_none()
-}
-
-/// The hart after `count` steps, if they touch nothing.
+/// The hart after `count` steps, if they are local.
 pub(crate) fn walked<A: Allocator>(image: &Image<A>, hart: &Hart, count: u32) -> Option<Hart>
-    ensures { let t = image_table image.now in MatchOption result (AreLocal t count (hart_of hart.now) → ⊥)
-        (λ reached. AreLocal t count (hart_of hart.now) × (hart_of reached ≡ local_hart t count (hart_of hart.now))) }
+    ensures { let m = image.now in MatchOption result (StepsAreLocal m count (hart_of hart.now) → ⊥)
+        (λ reached. StepsAreLocal m count (hart_of hart.now)
+        × (hart_of reached ≡ local_hart (image_table m) count (hart_of hart.now))) }
 {
     let mut reached = *hart;
     'steps: for _ in 0..count {
-        if !touches_nothing(image, &reached) {
+        if !is_local_next(image, &reached) {
             return None;
         }
         let words = ToldWords {

@@ -12,8 +12,8 @@ use Rattle.bank_memory.specs.BankLog.{BankLog, bank_with_access, state_of, FitsB
 use Rattle.bank_memory.specs.Stamps.{last_access_stamp, next_stamp}
 use Rattle.bank_memory.proofs.OrderLemmas.{follows_above}
 use Rattle.bank_memory.proofs.StampLemmas.{greatest_is, last_push, next_above}
-use Rattle.bank_laws.specs.HartLogs.{AreLocal, StepFits, first, local_hart, local_slot, plan_of}
-use Rattle.bank_hart_log.specs.HartLog.{HartLogValue, image_table, last_segment_stamp, logged_slot, with_access, FitsLog, TouchesNext}
+use Rattle.bank_laws.specs.HartLogs.{StepFits, first, local_hart, local_slot, plan_of}
+use Rattle.bank_hart_log.specs.HartLog.{HartLogValue, StepsAreLocal, image_table, last_segment_stamp, logged_slot, with_access, FitsLog, TouchesNext}
 use Rattle.bank_worker.specs.declared.step.Walked.{Walked}
 use Rattle.bank_worker.specs.Walked.{IsWalked}
 use Rattle.bank_worker.specs.Worked.{IsOfWalk, IsStampedNext}
@@ -22,8 +22,8 @@ module _ (image : ImageValue) (l : HartLogValue) (e : LoggedSegment) (w : Walked
   reached : hart_of w.slot.hart ≡ local_hart (image_table l.image) e.local (logged_slot l).hart
   reached = walked.reached ∙ ap (λ n. local_hart (image_table l.image) n (logged_slot l).hart) (sym of.local)
 
-  locals : AreLocal (image_table l.image) e.local (logged_slot l).hart
-  locals = subst (λ n. AreLocal (image_table l.image) n (logged_slot l).hart) (sym of.local) walked.local
+  locals : StepsAreLocal l.image e.local (logged_slot l).hart
+  locals = subst (λ n. StepsAreLocal l.image n (logged_slot l).hart) (sym of.local) walked.local
 
   needs : (image_table image).need (hart_of w.slot.hart) ≡ None
       → (image_table l.image).need (local_hart (image_table l.image) e.local (logged_slot l).hart) ≡ None
