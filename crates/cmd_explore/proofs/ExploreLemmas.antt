@@ -38,11 +38,13 @@ of_the_hart Never n c (suc k, lt, e) = absurd (omega (arith, lt))
 hart_below : (refusals : ScRefusals) (n : ℕ) (c : Choice) → Contains (meant_choices refusals n) c → c.hart < n
 unfolding meant_choices
 hart_below refusals zero c (k, lt, e) = absurd (omega (arith, lt))
-hart_below refusals (suc n) c there = by_either (in_either c (meant_choices refusals n) (hart_choices refusals n) there)
+hart_below refusals (suc n) c there =
+    by_either (λ earlier. hart_below refusals n c earlier) (in_either c (meant_choices refusals n) (hart_choices refusals n) there)
   where
-    by_either : Contains (meant_choices refusals n) c ⊎ Contains (hart_choices refusals n) c → c.hart < suc n
-    by_either (inl earlier) = let below = hart_below refusals n c earlier in omega (arith, below)
-    by_either (inr last) = let is = of_the_hart refusals n c last in omega (arith, is)
+    by_either : (Contains (meant_choices refusals n) c → c.hart < n)
+        → Contains (meant_choices refusals n) c ⊎ Contains (hart_choices refusals n) c → c.hart < suc n
+    by_either below (inl earlier) = let low = below earlier in omega (arith, low)
+    by_either below (inr last) = let is = of_the_hart refusals n c last in omega (arith, is)
 
 harts_below : (refusals : ScRefusals) (n : ℕ) (choices : List Choice) → IsListOf (meant_choices refusals n) choices
     → All (λ c. c.hart < n) choices

@@ -1,0 +1,13 @@
+use Rattle.std.proofs.Common.{refl, ap, subst, ◌∙◌, arith}
+use Rattle.sched_text.specs.Printing.{runs_text}
+use Rattle.explore_space.specs.Every.{HoldsOfEvery}
+use Rattle.cmd_explore.proofs.ExploreLemmas.{tells_failing}
+use Rattle.cmd_explore.proofs.engine.explored.Goals as goal
+
+pub returns-in_ok-print_runs-in-Fails-clause-told : goal.returns-in_ok-print_runs-in-Fails-clause-told
+returns-in_ok-print_runs-in-Fails-clause-told g c =
+    let few = c.requires.1 in
+    tells_failing c.args.question c.args.image.now c.args.inputs.now _ (omega (arith, few)) c.in-Fails.failing
+    (subst (λ a. HoldsOfEvery c.args.question.rule c.args.question.refusals c.args.image.now c.args.inputs.now a) c.in-Fails.is
+    c.in_ok-worlds.ensures.holds)
+    (c.in_ok-print_runs-in-Fails.ensures.text ∙ ap runs_text c.deref.ensures.value) c.failing_status.ensures refl
