@@ -36,8 +36,8 @@ pub fn obey_explore<R: Files + AllocGlobal + Print + Eprint>(
     audience: Audience,
     order: &ExploreOrder,
 ) -> Result<Status, Status> {
-    let inputs = inputs_said(rt, order.inputs)?;
     let question = read_question(rt, order)?;
+    let inputs = inputs_said(rt, order.inputs)?;
     let mut program = open_one(rt, audience, order.file)?;
     match explore_engine(rt.alloc(), inputs.as_slice(), question, &mut program) {
         Ok(found) => tell(rt, audience, order, inputs.as_slice(), &found),

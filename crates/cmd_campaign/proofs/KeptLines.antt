@@ -6,6 +6,7 @@ use Rattle.image.specs.Image.{ImageValue}
 use Rattle.object_library.specs.declared.verdict.Verdict.TheVariants.{Kept}
 use Rattle.outcome.specs.declared.expect.Exit.{Exit}
 use Rattle.program_open.specs.declared.command_fault.CommandFault.{CommandFault}
+use Rattle.program_open.specs.declared.command_fault.CommandFault.TheVariants as fault
 use Rattle.program_open.specs.declared.program.ProgramForm.TheVariants as form
 use Rattle.campaign_runs.specs.Ending.{same_ending}
 use Rattle.campaign_runs.specs.Runs.{SeedEnding, all_endings, endings_of}
@@ -100,6 +101,6 @@ pub lines_say_kept : (campaign : Campaign) (inputs program : List ℕ) → All (
 unfolding campaign_answer
 lines_say_kept campaign inputs program words h =
     subst (λ p. AnswersKeptLines campaign.report (after_image campaign inputs p)) (sym h.reads)
-    (answered (AnswersKeptLines campaign.report) (length inputs) _ _ _ (refused_kept campaign.report _) (refused_kept campaign.report _) (λ some.
+    (answered (AnswersKeptLines campaign.report) (length inputs) _ _ _ (refused_kept campaign.report fault.NoHarts) (refused_kept campaign.report fault.TooManyHarts) (λ some.
     report_kept campaign.report campaign (all_endings campaign h.image inputs)
     (all_kept h.kind h.image campaign inputs some h.same h.meant words h.ruled (range_with_len campaign.first campaign.count))))

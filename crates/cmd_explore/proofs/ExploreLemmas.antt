@@ -58,16 +58,6 @@ read_again refusals n choices text few are is =
 
 -- ---- what is told
 module _ {Z : Type 0} (question : Question) (image : ImageValue) (inputs : List ℕ) (found : Explored Z) where
-  pub tells_worlds : (worlds : ℕ) → HoldsOfEvery {Z = Z} question.rule question.refusals image inputs (Holds worlds)
-      → CountsPlaces {Z = Z} question.refusals image inputs question.most (Holds worlds) → string_bytes found.text ≡ worlds_line worlds → found.status ≡ status.Done → found.turns ≡ None
-      → IsExplored question image inputs found
-  tells_worlds worlds holds counts text status turns = record {
-    answer = Holds worlds;
-    holds = holds;
-    counts = counts;
-    told = (text, status, turns);
-  }
-
   pub tells_failing : length inputs < 2 ^ 32 → (failing : Failing Z)
       → HoldsOfEvery {Z = Z} question.rule question.refusals image inputs (Fails failing)
       → string_bytes found.text ≡ runs_text failing.choices.items → found.status ≡ failing_status question.rule
