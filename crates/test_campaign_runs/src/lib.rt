@@ -1,17 +1,21 @@
 //! Tests of campaigns: `campaign_runs` and `cmd_campaign`.
 #![tactic(auto)]
 
+// Blocks of seeds, and failing ones.
 #[cfg(test)]
 mod block_tests;
 #[cfg(test)]
 mod failure_tests;
+// What the tests share.
 #[cfg(test)]
 mod plain_runs;
 #[cfg(test)]
 mod plans;
+// Requests that are refused, and one seed's run.
 #[cfg(test)]
 mod refusal_tests;
 #[cfg(test)]
 mod seed_run_tests;
+// Worked summaries.
 #[cfg(test)]
 mod summary_tests;

@@ -2,14 +2,17 @@
 //! `cli_args`, `cli_orders` and `cli_report`.
 #![tactic(auto)]
 
+// Command lines.
 #[cfg(test)]
 mod line_tests;
 #[cfg(test)]
 mod order_texts;
+// Parts of commands, and replays.
 #[cfg(test)]
 mod part_tests;
 #[cfg(test)]
 mod replay_tests;
+// Rules and schedules.
 #[cfg(test)]
 mod rule_tests;
 #[cfg(test)]

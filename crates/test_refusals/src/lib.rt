@@ -2,14 +2,17 @@
 //! refused in turn, once and for good.
 #![tactic(auto)]
 
+// Calls of engines and readers.
 #[cfg(test)]
 mod engine_calls;
 #[cfg(test)]
 mod file_calls;
+// Calls of machines, and of the debugger.
 #[cfg(test)]
 mod machine_calls;
 #[cfg(test)]
 mod moves;
+// Calls that make objects and texts.
 #[cfg(test)]
 mod object_calls;
 #[cfg(test)]
