@@ -1,11 +1,11 @@
 -- A local step of an image's code touches nothing, and leads where the image's table says; so the
 -- local steps of a log are as the table wants them.
-use Rattle.std.proofs.Common.{◌≡◌, ℕ, zero, suc, ◌+◌, ◌*◌, ◌^◌, Bool, true, false, not, ◌&&◌, List, [], Option, Some, None, refl, ap, ap₂, sym, subst, ◌∙◌, rules}
+use Rattle.std.proofs.Common.{◌≡◌, ℕ, zero, suc, ◌+◌, ◌*◌, ◌%◌, ◌^◌, Bool, true, false, not, ◌&&◌, List, [], Option, Some, None, refl, ap, ap₂, sym, subst, ◌∙◌, rules}
 use Rattle.std.specs.Prelude.{if◌then◌else◌}
 use Rattle.std.specs.Option.{is_some}
 use Rattle.std.proofs.lemmas.Bool.{and_parts}
 use Rattle.image.specs.Image.{ImageValue}
-use Rattle.mem_store.specs.Memory.{Memory, grants, granted, all_below, number_at, to_execute, to_write}
+use Rattle.mem_store.specs.Memory.{Memory, grants, granted, all_below, number_at, around, to_execute, to_write}
 use Rattle.mem_store.specs.Image.{image_memory}
 use Rattle.mem_store.specs.Access.{fetched}
 use Rattle.isa_table.specs.Decoded.{decoded}
@@ -25,7 +25,7 @@ use Rattle.hart_local.specs.CodeMemory.{is_code, code_in}
 use Rattle.hart_local.specs.LocalStep.{local_of, local_word, local_at, local_in, is_local_next, class_of, step_alone, walk}
 use Rattle.hart_local.specs.declared.stepping.Class.TheVariants.{Local, Shared}
 use Rattle.hart_local.proofs.StepLemmas.{step_is_alone}
-use Rattle.bank_hart_log.proofs.CodeLemmas.{same_word, shut}
+use Rattle.bank_hart_log.proofs.CodeLemmas.{word_around, shut_around}
 use Rattle.bank_laws.specs.Segments.{LoggedSegment, HartSlot}
 use Rattle.bank_laws.specs.HartLogs.{AreLocal, local_hart}
 use Rattle.bank_laws.specs.Words.{with_four_if}
@@ -35,7 +35,7 @@ use Rattle.bank_hart_log.specs.HartLog.{image_table, slot_in, StepsAreLocal, Har
 
 -- ---- a word of code that spells a local instruction
 record IsLocalWord (m : Memory) (pc word : ℕ) (i : Instr) : Type 0 where
-  there : granted to_execute (code_in m) 4 pc ≡ true
+  there : granted to_execute (around (code_in m)) 4 pc ≡ true
   word_is : fetched m pc ≡ Some word
   spelled : decoded word ≡ Some i
   local : is_local i ≡ true
@@ -50,18 +50,18 @@ instr_of (Some i) e = go (is_local i) refl e
 
 word_of_code : (m : Memory) (pc : ℕ) → is_some (local_at (code_in m) pc) ≡ true → (word : ℕ) × (i : Instr) × IsLocalWord m pc word i
 unfolding local_at
-word_of_code m pc e = go (granted to_execute (code_in m) 4 pc) refl e
+word_of_code m pc e = go (granted to_execute (around (code_in m)) 4 pc) refl e
   where
-    go : (b : Bool) → granted to_execute (code_in m) 4 pc ≡ b → is_some (local_word (if b then Some (number_at (code_in m).bytes 4 pc) else None)) ≡ true
+    go : (b : Bool) → granted to_execute (around (code_in m)) 4 pc ≡ b → is_some (local_word (if b then Some (number_at (around (code_in m)).bytes 4 pc) else None)) ≡ true
         → (word : ℕ) × (i : Instr) × IsLocalWord m pc word i
     go true p q =
-        let same = same_word m 4 pc p in
-        let is = instr_of (decoded (number_at (code_in m).bytes 4 pc)) q in (
-          number_at (code_in m).bytes 4 pc,
+        let same = word_around m pc p in
+        let is = instr_of (decoded (number_at (around (code_in m)).bytes 4 pc)) q in (
+          number_at (around (code_in m)).bytes 4 pc,
           is.0,
           record {
             there = p;
-            word_is = ap (λ (g : Bool). if g then Some (number_at m.bytes 4 pc) else None) same.0 ∙ ap Some (sym same.1);
+            word_is = ap (λ (g : Bool). if g then Some (number_at (around m).bytes 4 pc) else None) same.0 ∙ ap Some (sym same.1);
             spelled = is.1;
             local = is.2;
           },
@@ -81,11 +81,11 @@ local_touch (StoreConditional aq rl rd rs1 rs2) m x pc e = cc e
 local_touch (Amo op aq rl rd rs1 rs2) m x pc e = cc e
 local_touch i m x pc e = none_by (fault i m x pc)
 
-needs_none : (m : Memory) (pc word : ℕ) (i : Instr) → IsLocalWord m pc word i → (if granted to_execute m 4 pc && not (is_unwritable m pc) then Some pc else None) ≡ None
+needs_none : (m : Memory) (pc word : ℕ) (i : Instr) → IsLocalWord m pc word i → (if granted to_execute (around m) 4 pc && not (is_unwritable m pc) then Some (pc % 2 ^ 32) else None) ≡ None
 needs_none m pc word i is =
-    ap (λ (u : Bool). if granted to_execute m 4 pc && not u then Some pc else None) (shut m 4 pc is.there) ∙ never (granted to_execute m 4 pc)
+    ap (λ (u : Bool). if granted to_execute (around m) 4 pc && not u then Some (pc % 2 ^ 32) else None) (shut_around m pc is.there) ∙ never (granted to_execute (around m) 4 pc)
   where
-    never : (g : Bool) → (if g && false then Some pc else None) ≡ None
+    never : (g : Bool) → (if g && false then Some (pc % 2 ^ 32) else None) ≡ None
     never true = refl
     never false = refl
 

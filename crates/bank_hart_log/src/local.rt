@@ -1,15 +1,15 @@
 //! Local steps over the code of an image.
 ghost use Rattle.std.specs.Prelude.{◌≡◌};
 ghost use Rattle.std.specs.Option.{is_some};
+ghost use Rattle.hart_local.specs.LocalStep.{is_local_next, local_at};
 ghost use Rattle.mem_store.specs.Access.{fetched};
 ghost use Rattle.mem_store.specs.Image.{image_memory};
 ghost use Rattle.hart_step.specs.Hart.{hart_of};
 ghost use Rattle.hart_local.specs.CodeMemory.{code_in};
-ghost use Rattle.hart_local.specs.LocalStep.{is_local_next, local_at};
 
-use bank_step::{bytes_at, granted, is_unwritable};
+use bank_step::{is_executable, is_unwritable, number_at};
 use hart_step::{Hart, HartState, is_local};
-use image::{Image, Rights};
+use image::Image;
 use isa_decode::decode;
 use std::alloc::Allocator;
 
@@ -19,8 +19,8 @@ fn code_word<A: Allocator>(image: &Image<A>, address: u32) -> Option<u32>
     ensures { result ≡ fetched (code_in (image_memory image.now)) address }
 {
     let segments = image.segments();
-    if granted(segments, Rights::EXECUTE, 4, address) && is_unwritable(segments, address) {
-        Some(u32::from_le_bytes(bytes_at(segments, address)))
+    if is_executable(segments, address) && is_unwritable(segments, address) {
+        Some(number_at(segments, address))
     } else {
         None
     }

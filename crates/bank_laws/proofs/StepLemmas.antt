@@ -1,8 +1,8 @@
 -- A step is the table's step.
-use Rattle.std.proofs.Common.{◌≡◌, ℕ, zero, suc, ◌+◌, ◌%◌, ◌<◌, Bool, true, false, not, ◌&&◌, ◌==◌, [], Option, Some, None, refl, ap, sym, subst, ◌∙◌, arith, ⊎_elim}
+use Rattle.std.proofs.Common.{◌≡◌, ℕ, zero, suc, ◌+◌, ◌%◌, ◌^◌, ◌<◌, Bool, true, false, not, ◌&&◌, ◌==◌, [], Option, Some, None, refl, ap, sym, subst, ◌∙◌, arith, ⊎_elim}
 use Rattle.std.specs.Prelude.{if◌then◌else◌}
 use Rattle.std.proofs.lemmas.Bool.{eq-eqb, cases_eq, and_parts, not-true}
-use Rattle.mem_store.specs.Memory.{Memory, to_execute, to_write, grants, all_below, granted}
+use Rattle.mem_store.specs.Memory.{Memory, to_execute, to_write, grants, all_below, granted, around}
 use Rattle.mem_store.specs.Access.{fetched}
 use Rattle.hart_reservations.specs.Marks.{Marks, names}
 use Rattle.hart_step.specs.Hart.{HartValue}
@@ -18,7 +18,7 @@ use Rattle.bank_laws.specs.Words.{bytes_at, with_four_if}
 use Rattle.bank_laws.specs.Carried.{carried_in, touch_of}
 use Rattle.bank_laws.specs.Table.{is_unwritable, needed_code, planned, word_in, told, bytes_left, table}
 use Rattle.bank_laws.specs.Shown.{ShowsSite}
-use Rattle.bank_laws.proofs.WordLemmas.{SameFour, put_back, put_there, fetched_same}
+use Rattle.bank_laws.proofs.WordLemmas.{SameFour, wrapped, put_back, put_there, fetched_same}
 use Rattle.bank_laws.proofs.EffectLemmas.{at_bytes, SameTouched, told_marks, Outcome, word_outcome}
 
 -- ---- the instruction that a hart is given
@@ -45,15 +45,30 @@ ShowsWords values b = (x : ℕ) → x % 4 ≡ 0 → values x ≡ bytes_at b x
 abbrev filled : (ℕ → ℕ) → (ℕ → WordBytes) → Option ℕ → ℕ → ℕ
 filled bytes values o = with_four_if bytes o (word_found o values)
 
+-- the four bytes from a multiple of 4 on are those of a word, modulo 2^32
+place_in_word : (pc i : ℕ) → pc % 4 ≡ 0 → i < 4 → (pc + i) % 2 ^ 32 ≡ pc % 2 ^ 32 + i
+place_in_word pc i aligned low =
+    let begins : pc % 2 ^ 32 % 4 ≡ 0 = omega (arith, aligned) in
+    let room : pc % 2 ^ 32 + i < 2 ^ 32 = omega (arith, begins, low) in
+    omega (arith, room)
+
 code_same : (m : Memory) (b : ℕ → ℕ) (values : ℕ → WordBytes) (pc : ℕ) → Stays m b → ShowsWords values b → pc % 4 ≡ 0
-    → granted to_execute m 4 pc ≡ true → SameFour b (filled m.bytes values (needed_code Running m pc)) pc
-code_same m b values pc stays shows aligned may = go (granted to_execute m 4 pc && not (is_unwritable m pc)) refl
+    → granted to_execute (around m) 4 pc ≡ true → SameFour (wrapped b) (wrapped (filled m.bytes values (needed_code Running m pc))) pc
+code_same m b values pc stays shows aligned may = go (granted to_execute (around m) 4 pc && not (is_unwritable m pc)) refl
   where
-    go : (t : Bool) → (granted to_execute m 4 pc && not (is_unwritable m pc)) ≡ t → SameFour b (filled m.bytes values (if t then Some pc else None)) pc
-    go true e i low = put_there b m.bytes pc i low ∙ ap (λ (v : WordBytes). with_four_if m.bytes (Some pc) v (pc + i)) (sym (shows pc aligned))
+    there : (i : ℕ) → i < 4 → b (pc % 2 ^ 32 + i) ≡ filled m.bytes values (Some (pc % 2 ^ 32)) (pc % 2 ^ 32 + i)
+    there i low =
+        put_there b m.bytes (pc % 2 ^ 32) i low
+        ∙ ap (λ (v : WordBytes). with_four_if m.bytes (Some (pc % 2 ^ 32)) v (pc % 2 ^ 32 + i)) (sym (shows (pc % 2 ^ 32) (omega (arith, aligned))))
+
+    go : (t : Bool) → (granted to_execute (around m) 4 pc && not (is_unwritable m pc)) ≡ t
+        → SameFour (wrapped b) (wrapped (filled m.bytes values (if t then Some (pc % 2 ^ 32) else None))) pc
+    go true e i low =
+        subst (λ (x : ℕ). b x ≡ filled m.bytes values (Some (pc % 2 ^ 32)) x) (sym (place_in_word pc i aligned low)) (there i low)
     go false e i low =
-        let fixed : is_unwritable m pc ≡ true = and_no (granted to_execute m 4 pc) (is_unwritable m pc) may e in
-        stays (pc + i) (not-true (grants to_write (m.rights (pc + i))) (each_below 4 (λ k. not (grants to_write (m.rights (pc + k)))) i low fixed))
+        let fixed : is_unwritable m pc ≡ true = and_no (granted to_execute (around m) 4 pc) (is_unwritable m pc) may e in
+        stays ((pc + i) % 2 ^ 32)
+        (not-true (grants to_write (m.rights ((pc + i) % 2 ^ 32))) (each_below 4 (λ k. not (grants to_write (m.rights ((pc + k) % 2 ^ 32)))) i low fixed))
 
 -- ---- the word that a hart is given
 abbrev IsWordTouch : Option Touch → Type 0
@@ -71,10 +86,11 @@ touched_same (Some t) b a values word shows =
     λ i low. put_there b a t.word i low ∙ ap (λ (v : WordBytes). with_four_if a (Some t.word) v (t.word + i)) (sym (shows t.word word))
 
 still_same : (p : Option Touch) (b a : ℕ → ℕ) (values : ℕ → WordBytes) (pc : ℕ) → IsWordTouch p → ShowsWords values b
-    → SameFour b a pc → SameFour b (filled a values (word_in p)) pc
+    → SameFour (wrapped b) (wrapped a) pc → SameFour (wrapped b) (wrapped (filled a values (word_in p))) pc
 still_same None b a values pc word shows same = same
 still_same (Some t) b a values pc word shows same =
-    λ i low. put_back b a t.word (pc + i) (same i low) ∙ ap (λ (v : WordBytes). with_four_if a (Some t.word) v (pc + i)) (sym (shows t.word word))
+    λ i low. put_back b a t.word ((pc + i) % 2 ^ 32) (same i low)
+    ∙ ap (λ (v : WordBytes). with_four_if a (Some t.word) v ((pc + i) % 2 ^ 32)) (sym (shows t.word word))
 
 -- ---- the outcome of a step
 -- what a hart in a state is given of the words

@@ -2,7 +2,7 @@
 use Rattle.std.proofs.Common.{◌≡◌, ℕ, zero, suc, ◌+◌, ◌-◌, ◌*◌, ◌/◌, ◌%◌, ◌^◌, ◌<◌, ◌≤◌, Bool, true, false, ◌&&◌, ◌==◌, [], ◌∷◌, Option, Some, None, refl, ap, ap₂, sym, ◌∙◌, arith, inl, inr, ⊎_elim}
 use Rattle.std.specs.Prelude.{if◌then◌else◌, slice_index, nat_le, nat_lt, ◌⊎◌}
 use Rattle.std.proofs.lemmas.Bool.{eq-eqb, ne_eqb, cases_eq, cases_lt, and_parts, and_from, and_left, and_right, leb-true, ltb-true, lt-leb, le-ltb, le-leb, lt-ltb}
-use Rattle.mem_store.specs.Memory.{little_endian, number_at, stored, granted, to_execute}
+use Rattle.mem_store.specs.Memory.{little_endian, number_at, stored, granted, around, to_execute}
 use Rattle.mem_store.specs.Access.{fetched}
 use Rattle.hart_reservations.specs.Marks.{word_of}
 use Rattle.bank_laws.specs.Words.{bytes_at, with_four}
@@ -43,15 +43,19 @@ number_in_word b d n a fits same =
     (λ k below. let there : word_of a + (a % 4 + k) ≡ a + k = omega arith in
     ap b (sym there) ∙ same (a % 4 + k) (omega (arith, below, fits)) ∙ ap d there)
 
+-- the bytes at addresses modulo 2^32
+abbrev pub wrapped : (ℕ → ℕ) → ℕ → ℕ
+wrapped b a = b (a % 2 ^ 32)
+
 -- the instruction at an address is that of its four bytes
 pub fetched_same : (g : ℕ → Option ℕ) (b d : ℕ → ℕ) (pc : ℕ)
-    → (granted to_execute (record { rights = g; bytes = b }) 4 pc ≡ true → SameFour b d pc)
+    → (granted to_execute (around (record { rights = g; bytes = b })) 4 pc ≡ true → SameFour (wrapped b) (wrapped d) pc)
     → fetched (record { rights = g; bytes = b }) pc ≡ fetched (record { rights = g; bytes = d }) pc
-fetched_same g b d pc same = go (granted to_execute (record { rights = g; bytes = b }) 4 pc) refl
+fetched_same g b d pc same = go (granted to_execute (around (record { rights = g; bytes = b })) 4 pc) refl
   where
-    go : (t : Bool) → granted to_execute (record { rights = g; bytes = b }) 4 pc ≡ t
-        → (if t then Some (number_at b 4 pc) else None) ≡ (if t then Some (number_at d 4 pc) else None)
-    go true e = ap Some (number_same 4 (λ k. b (pc + k)) (λ k. d (pc + k)) (same e))
+    go : (t : Bool) → granted to_execute (around (record { rights = g; bytes = b })) 4 pc ≡ t
+        → (if t then Some (number_at (wrapped b) 4 pc) else None) ≡ (if t then Some (number_at (wrapped d) 4 pc) else None)
+    go true e = ap Some (number_same 4 (λ k. wrapped b (pc + k)) (λ k. wrapped d (pc + k)) (same e))
     go false e = refl
 
 four : {a b c d a' b' c' d' : ℕ} → a ≡ a' → b ≡ b' → c ≡ c' → d ≡ d' → a ∷ b ∷ c ∷ d ∷ [] ≡ a' ∷ b' ∷ c' ∷ d' ∷ []

@@ -1,7 +1,7 @@
 -- The step table of an image's harts. A step knows the image's memory and is given the word at pc,
 -- unless that is code, and the one word that its instruction touches.
-use Rattle.std.specs.Prelude.{ℕ, ◌+◌, Bool, true, false, not, ◌&&◌, if◌then◌else◌, [], Option, Some, None}
-use Rattle.mem_store.specs.Memory.{Memory, to_execute, to_write, grants, all_below, granted}
+use Rattle.std.specs.Prelude.{ℕ, ◌+◌, ◌%◌, ◌^◌, Bool, true, false, not, ◌&&◌, if◌then◌else◌, [], Option, Some, None}
+use Rattle.mem_store.specs.Memory.{Memory, to_execute, to_write, grants, all_below, granted, around}
 use Rattle.hart_step.specs.Hart.{HartValue}
 use Rattle.hart_step.specs.Effect.{Site, site}
 use Rattle.hart_step.specs.Step.{stepped}
@@ -12,14 +12,18 @@ use Rattle.bank_laws.specs.Runs.{StepTable, Touch}
 use Rattle.bank_laws.specs.Words.{bytes_at, with_four_if}
 use Rattle.bank_laws.specs.Carried.{carried_in, touch_of}
 
--- whether none of the four bytes from an address on is writable
+-- whether none of the four bytes from an address on, modulo 2^32, is writable
 abbrev pub is_unwritable : Memory → ℕ → Bool
-is_unwritable m address = all_below 4 (λ k. not (grants to_write (m.rights (address + k))))
+is_unwritable m address =
+    all_below 4 (λ k. not (grants to_write ((around m).rights (address + k))))
 
 -- the word that a hart must read to know its instruction: none if it has stopped or may not execute
 -- the word, and none if the word is code, which never differs from the image
 abbrev pub needed_code : HartState → Memory → ℕ → Option ℕ
-needed_code Running m pc = if granted to_execute m 4 pc && not (is_unwritable m pc) then Some pc else None
+needed_code Running m pc =
+    if granted to_execute (around m) 4 pc && not (is_unwritable m pc)
+    then Some (pc % 2 ^ 32)
+    else None
 needed_code (Exited status) m pc = None
 needed_code (Faulted cause) m pc = None
 

@@ -1,5 +1,5 @@
 -- Bytes that one segment has.
-use Rattle.std.proofs.Common.{◌≡◌, ℕ, zero, suc, ◌+◌, ◌-◌, ◌<◌, ◌≤◌, Bool, true, false, not, ◌&&◌, List, [], ◌∷◌, Option, Some, refl, ap, ap₂, sym, ◌∙◌, arith}
+use Rattle.std.proofs.Common.{◌≡◌, ℕ, zero, suc, ◌+◌, ◌-◌, ◌%◌, ◌^◌, ◌<◌, ◌≤◌, Bool, true, false, not, ◌&&◌, List, [], ◌∷◌, Option, Some, refl, ap, ap₂, sym, ◌∙◌, arith}
 use Rattle.std.specs.Prelude.{slice_index, slice_index_or}
 use Rattle.image.specs.Segment.{SegmentValue}
 use Rattle.mem_store.specs.Memory.{grants, granted, all_below, to_write}
@@ -25,11 +25,14 @@ granted_in_one ss wanted address zero s some e = absurd (some refl)
 granted_in_one ss wanted address (suc n) s some e =
     one_right n (λ k. grants wanted (rights_in (segment_at ss (address + k)))) (grants wanted (Some s.rights)) (λ k low. ap (λ (o : Option SegmentValue). grants wanted (rights_in o)) (e k low))
 
-pub unwritable_in_one : (ss : List SegmentValue) (address : ℕ) (s : SegmentValue) → AllIn ss address 4 s
+pub unwritable_in_one : (ss : List SegmentValue) (address : ℕ) (s : SegmentValue) → address + 4 ≤ 2 ^ 32 → AllIn ss address 4 s
     → is_unwritable (segments_memory ss) address ≡ not (grants to_write (Some s.rights))
 unfolding segments_memory
-unwritable_in_one ss address s e =
-    one_right 3 (λ k. not (grants to_write (rights_in (segment_at ss (address + k))))) (not (grants to_write (Some s.rights))) (λ k low. ap (λ (o : Option SegmentValue). not (grants to_write (rights_in o))) (e k low))
+unwritable_in_one ss address s fits e =
+    one_right 3 (λ k. not (grants to_write (rights_in (segment_at ss ((address + k) % 2 ^ 32))))) (not (grants to_write (Some s.rights)))
+    (λ k low. let place : (address + k) % 2 ^ 32 ≡ address + k = omega (arith, fits, low) in
+    ap (λ (x : ℕ). not (grants to_write (rights_in (segment_at ss x)))) place
+    ∙ ap (λ (o : Option SegmentValue). not (grants to_write (rights_in o))) (e k low))
 
 byte_in_one : (ss : List SegmentValue) (address : ℕ) (s : SegmentValue) (k : ℕ) → AllIn ss address 4 s → k < 4 → byte_in (segment_at ss (address + k)) (address + k) ≡ slice_index s.bytes (address + k - s.base)
 byte_in_one ss address s k e low = ap (λ (o : Option SegmentValue). byte_in o (address + k)) (e k low)

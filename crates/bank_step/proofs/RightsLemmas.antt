@@ -1,10 +1,10 @@
 -- The rights to bytes of a memory with given words.
-use Rattle.std.proofs.Common.{◌≡◌, ℕ, zero, suc, ◌+◌, ◌-◌, ◌*◌, ◌/◌, ◌%◌, ◌<◌, ◌≤◌, Bool, true, false, ◌&&◌, eqb, Option, Some, None, refl, ap₂, sym, ◌∙◌, arith, rules, bit_and, inl, inr, ⊎_elim}
+use Rattle.std.proofs.Common.{◌≡◌, ℕ, zero, suc, ◌+◌, ◌-◌, ◌*◌, ◌/◌, ◌%◌, ◌^◌, ◌<◌, ◌≤◌, Bool, true, false, ◌&&◌, eqb, Option, Some, None, refl, ap₂, sym, ◌∙◌, arith, rules, bit_and, inl, inr, ⊎_elim}
 use Rattle.std.specs.Prelude.{if◌then◌else◌, nat_le, nat_lt}
 use Rattle.std.proofs.lemmas.Bool.{cases_Bool, false≢true, and_parts, and_from, and_left, and_right, leb-true, lt-leb, le-ltb, le-leb, lt-ltb, cases_lt}
 use Rattle.std.proofs.lemmas.Nat.Bits.{and_pow}
 use Rattle.std.proofs.lemmas.Nat.{and_mask}
-use Rattle.mem_store.specs.Memory.{Memory, to_execute, to_load, to_write, grants, all_below, granted}
+use Rattle.mem_store.specs.Memory.{Memory, to_execute, to_load, to_write, grants, all_below, granted, around}
 use Rattle.mem_flat.proofs.ReadLemmas.{all_below_fails}
 use Rattle.bank_step.specs.declared.words.Word.{Word}
 use Rattle.bank_step.specs.Told.{is_in_word, word_has_all, without_write, rights_told, told_memory}
@@ -57,9 +57,11 @@ pub all_same : (n : ℕ) (f g : ℕ → Bool) → ((k : ℕ) → k < n → f k �
 all_same zero f g e = refl
 all_same (suc n) f g e = ap₂ (λ (a b : Bool). a && b) (all_same n f g (λ k low. e k (omega (arith, low)))) (e n (omega arith))
 
-pub execute_same : (m : Memory) (code touched target : Option Word) (n a : ℕ) → granted to_execute m n a ≡ granted to_execute (told_memory m code touched target) n a
+pub execute_same : (m : Memory) (code touched target : Option Word) (n a : ℕ)
+    → granted to_execute (around m) n a ≡ granted to_execute (around (told_memory m code touched target)) n a
 execute_same m code touched target n a =
-    all_same n _ _ (λ k low. sym (either_way to_execute (is_in_word target (a + k)) (m.rights (a + k)) (execute_stays (m.rights (a + k)))))
+    all_same n _ _ (λ k low. sym (either_way to_execute (is_in_word target ((a + k) % 2 ^ 32)) (m.rights ((a + k) % 2 ^ 32))
+    (execute_stays (m.rights ((a + k) % 2 ^ 32)))))
 
 pub load_same : (m : Memory) (code touched target : Option Word) (n a : ℕ) → granted to_load m n a ≡ granted to_load (told_memory m code touched target) n a
 load_same m code touched target n a =

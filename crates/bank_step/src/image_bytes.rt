@@ -3,13 +3,16 @@ ghost use Rattle.std.specs.Prelude.{◌≡◌, ℕ, ◌+◌, ◌<◌, ◌≤◌,
 ghost use Rattle.std.specs.Option.{is_some};
 ghost use Rattle.image.specs.Image.{span_of};
 ghost use Rattle.image.specs.Spans.{has_address};
-ghost use Rattle.mem_store.specs.Memory.{grants, granted};
+ghost use Rattle.mem_store.specs.Memory.{around, grants, granted, number_at, to_execute};
 ghost use Rattle.mem_store.specs.Image.{segments_memory, segment_at, byte_in, rights_in};
 ghost use Rattle.bank_laws.specs.Table.{is_unwritable};
 ghost use Rattle.bank_laws.specs.Words.{bytes_at};
 
 use image::{Rights, Segment};
 use std::alloc::Allocator;
+
+/// The last address of an aligned word.
+pub const LAST_WORD: u32 = 0xffff_fffc;
 
 #[inline]
 fn has_address<A: Allocator>(segment: &Segment<A>, address: u64) -> bool
@@ -145,16 +148,54 @@ pub fn granted<A: Allocator>(
     true
 }
 
-/// Whether none of the four bytes from an address on is writable.
+/// The number in the four bytes from an address on, little-endian; their addresses are modulo 2^32.
+/// An unmapped byte is 0.
+pub fn number_at<A: Allocator>(segments: &[Segment<A>], address: u32) -> u32
+    ensures { result ≡ number_at (around (segments_memory segments.now)).bytes 4 address }
+{
+    if address <= LAST_WORD {
+        return u32::from_le_bytes(bytes_at(segments, address));
+    }
+    u32::from_le_bytes([
+        byte_at(segments, u64::from(address)),
+        byte_at(segments, u64::from(address.wrapping_add(1))),
+        byte_at(segments, u64::from(address.wrapping_add(2))),
+        byte_at(segments, u64::from(address.wrapping_add(3))),
+    ])
+}
+
+// Whether each of the four bytes from an address on, modulo 2^32, has one of the wanted rights.
+fn each_grants<A: Allocator>(segments: &[Segment<A>], wanted: Rights, address: u32) -> bool
+    ensures { result ≡ granted wanted.0 (around (segments_memory segments.now)) 4 address }
+{
+    grants(segments, wanted, u64::from(address))
+        && grants(segments, wanted, u64::from(address.wrapping_add(1)))
+        && grants(segments, wanted, u64::from(address.wrapping_add(2)))
+        && grants(segments, wanted, u64::from(address.wrapping_add(3)))
+}
+
+/// Whether each of the four bytes from an address on is executable; their addresses are modulo
+/// 2^32.
+pub fn is_executable<A: Allocator>(segments: &[Segment<A>], address: u32) -> bool
+    ensures { result ≡ granted to_execute (around (segments_memory segments.now)) 4 address }
+{
+    if address <= LAST_WORD {
+        return granted(segments, Rights::EXECUTE, 4, address);
+    }
+    each_grants(segments, Rights::EXECUTE, address)
+}
+
+/// Whether none of the four bytes from an address on is writable; their addresses are modulo 2^32.
 pub fn is_unwritable<A: Allocator>(segments: &[Segment<A>], address: u32) -> bool
     ensures { result ≡ is_unwritable (segments_memory segments.now) address }
 {
-    if let Some(segment) = segment_of(segments, address, 4) {
-        return !segment.rights.grants(Rights::WRITE);
+    if address <= LAST_WORD {
+        if let Some(segment) = segment_of(segments, address, 4) {
+            return !segment.rights.grants(Rights::WRITE);
+        }
     }
-    let first = u64::from(address);
-    !grants(segments, Rights::WRITE, first)
-        && !grants(segments, Rights::WRITE, first + 1)
-        && !grants(segments, Rights::WRITE, first + 2)
-        && !grants(segments, Rights::WRITE, first + 3)
+    !grants(segments, Rights::WRITE, u64::from(address))
+        && !grants(segments, Rights::WRITE, u64::from(address.wrapping_add(1)))
+        && !grants(segments, Rights::WRITE, u64::from(address.wrapping_add(2)))
+        && !grants(segments, Rights::WRITE, u64::from(address.wrapping_add(3)))
 }

@@ -1,7 +1,7 @@
 //! A hart's next step, given its image and the bytes of at most two words.
 #![tactic(auto)]
 
-pub use image_bytes::{bytes_at, granted, is_unwritable};
+pub use image_bytes::{bytes_at, is_executable, is_unwritable, number_at};
 pub use steps::{PlannedTouch, ToldWords, needed_word, planned_touch, settle, settle_store};
 pub use words::Word;
 

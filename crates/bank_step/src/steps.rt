@@ -11,7 +11,7 @@ ghost use Rattle.hart_step.specs.declared.hart.HartState.TheVariants.{Running};
 ghost use Rattle.bank_laws.specs.Table.{table, told, word_in};
 ghost use Rattle.bank_step.specs.Told.{touched_if, as_touch, is_granted, told_memory, told_word, touch_by, tries_by, wanted, word_by, LeavesSite};
 
-use crate::image_bytes::{granted, is_unwritable};
+use crate::image_bytes::{granted, is_executable, is_unwritable};
 use crate::words::{ToldMemory, Word};
 use hart_reservations::Reserve;
 use hart_step::{Access, AccessKind, Hart, HartState, access_by, step_hart};
@@ -47,7 +47,7 @@ pub fn needed_word<A: Allocator>(hart: &Hart, image: &Image<A>) -> Option<u32>
         return None;
     };
     let segments = image.segments();
-    if granted(segments, Rights::EXECUTE, 4, hart.pc) && !is_unwritable(segments, hart.pc) {
+    if is_executable(segments, hart.pc) && !is_unwritable(segments, hart.pc) {
         Some(hart.pc)
     } else {
         None

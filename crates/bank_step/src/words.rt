@@ -2,14 +2,14 @@
 ghost use Rattle.std.specs.Prelude.{◌≡◌, ◌⊎◌, ℕ, ◌+◌, ◌<◌, ◌≤◌, true, false, length, IfSome};
 ghost use Rattle.std.specs.Option.{ForSome};
 ghost use Rattle.std.specs.Option.{is_some};
-ghost use Rattle.mem_store.specs.Memory.{granted, number_at, to_execute, to_load, to_write};
+ghost use Rattle.mem_store.specs.Memory.{around, granted, number_at, to_execute, to_load, to_write};
 ghost use Rattle.mem_store.specs.Image.{image_memory};
 ghost use Rattle.mem_flat.specs.Blocks.{spelled, Puts};
 ghost use Rattle.mem_store.specs.Instruction.{instruction_at};
 ghost use Rattle.bank_laws.specs.Words.{bytes_at};
 ghost use Rattle.bank_step.specs.Told.{word_has_all, told_memory, with_told};
 
-use crate::image_bytes::{byte_at, bytes_at, granted, is_mapped};
+use crate::image_bytes::{LAST_WORD, byte_at, bytes_at, granted, is_executable, is_mapped};
 use image::{Image, Rights};
 use isa_decode::decode;
 use isa_table::Instr;
@@ -183,12 +183,12 @@ impl<'a, A: Allocator> ToldMemory<'a, A> {
         granted(self.image.segments(), Rights::ANY, count, address)
     }
 
-    // Whether each of the four bytes may be executed.
+    // Whether each of the four bytes from an address on, modulo 2^32, may be executed.
     #[tactic(auto, using(crate::proofs::RightsLemmas::execute_same))]
     fn may_execute(&self, address: u32) -> bool
-        ensures { result ≡ granted to_execute (told_memory (image_memory self.now.image.now) self.now.code self.now.touched self.now.target) 4 address }
+        ensures { result ≡ granted to_execute (around (told_memory (image_memory self.now.image.now) self.now.code self.now.touched self.now.target)) 4 address }
     {
-        granted(self.image.segments(), Rights::EXECUTE, 4, address)
+        is_executable(self.image.segments(), address)
     }
 
     // Whether each of some bytes may be written.
@@ -208,6 +208,21 @@ impl<'a, A: Allocator> ToldMemory<'a, A> {
         ensures { result ≡ number_at (told_memory (image_memory self.now.image.now) self.now.code self.now.touched self.now.target).bytes 4 address }
     {
         u32::from_le_bytes(self.bytes_from(address))
+    }
+
+    // The number at an address, whose bytes' addresses are modulo 2^32.
+    fn number_around(&self, address: u32) -> u32
+        ensures { result ≡ number_at (around (told_memory (image_memory self.now.image.now) self.now.code self.now.touched self.now.target)).bytes 4 address }
+    {
+        if address <= LAST_WORD {
+            return self.number_at(address);
+        }
+        u32::from_le_bytes([
+            self.byte(u64::from(address)),
+            self.byte(u64::from(address.wrapping_add(1))),
+            self.byte(u64::from(address.wrapping_add(2))),
+            self.byte(u64::from(address.wrapping_add(3))),
+        ])
     }
 
     // Whether the byte at an address is mapped.
@@ -311,7 +326,7 @@ impl<'a, A: Allocator> Store for ToldMemory<'a, A> {
 
     fn fetch(&self, address: u32) -> Option<u32> {
         if self.may_execute(address) {
-            Some(self.number_at(address))
+            Some(self.number_around(address))
         } else {
             None
         }

@@ -1,7 +1,7 @@
 -- What a step depends on: two sites that agree on it step alike.
 use Rattle.std.proofs.Common.{◌≡◌, ℕ, zero, suc, ◌+◌, ◌*◌, ◌^◌, ◌<◌, Bool, true, false, not, ◌&&◌, cond, eqb, leb, ltb, Option, Some, None, refl, ap, ap₂, subst, arith}
 use Rattle.std.proofs.lemmas.Bool.Decides.{nat_tests}
-use Rattle.mem_store.specs.Memory.{little_endian, number_at, granted, to_execute, stored}
+use Rattle.mem_store.specs.Memory.{little_endian, number_at, granted, to_execute, around, stored}
 use Rattle.mem_store.specs.Access.{fetched}
 use Rattle.hart_reservations.specs.Marks.{Marks, names, word_of}
 use Rattle.isa_table.specs.Decoded.{decoded}
@@ -126,11 +126,11 @@ fault-same : (i : Instr) (g : ℕ → Option ℕ) (b d : ℕ → ℕ) (x : Regis
 fault-same (Load op rd rs1 imm) g b d x pc = refl
 fault-same i g b d x pc = refl
 
-fetched-same : (g : ℕ → Option ℕ) (b d : ℕ → ℕ) (pc : ℕ) → ((k : ℕ) → k < 4 → b (pc + k) ≡ d (pc + k))
+fetched-same : (g : ℕ → Option ℕ) (b d : ℕ → ℕ) (pc : ℕ) → ((k : ℕ) → k < 4 → b (wrap (pc + k)) ≡ d (wrap (pc + k)))
     → fetched (record { rights = g; bytes = b }) pc ≡ fetched (record { rights = g; bytes = d }) pc
 fetched-same g b d pc e =
-    ap (λ (number : ℕ). cond (granted to_execute (record { rights = g; bytes = b }) 4 pc) (Some number) None)
-    (number-same 4 (λ k. b (pc + k)) (λ k. d (pc + k)) e)
+    ap (λ (number : ℕ). cond (granted to_execute (around (record { rights = g; bytes = b })) 4 pc) (Some number) None)
+    (number-same 4 (λ k. b (wrap (pc + k))) (λ k. d (wrap (pc + k))) e)
 
 executed-alike : (o : Option Instr) (v : HartValue) (g : ℕ → Option ℕ) (b d : ℕ → ℕ) (r q : Marks) (h : ℕ) (refuse : Bool) (x : Registers) (pc : ℕ)
     → r h ≡ q h → SameIn (access_if o x) b d
@@ -157,7 +157,7 @@ word-alike None v g b d r q h refuse x pc own same = kept-alike None v _ _ g b d
 word-alike (Some word) v g b d r q h refuse x pc own same = executed-alike (decoded word) v g b d r q h refuse x pc own same
 
 state-alike : (state : HartState) (v : HartValue) (g : ℕ → Option ℕ) (b d : ℕ → ℕ) (r q : Marks) (h : ℕ) (refuse : Bool)
-    → r h ≡ q h → ((k : ℕ) → k < 4 → b (v.pc + k) ≡ d (v.pc + k)) → SameIn (access_in state (at_bytes v g b r)) b d
+    → r h ≡ q h → ((k : ℕ) → k < 4 → b (wrap (v.pc + k)) ≡ d (wrap (v.pc + k))) → SameIn (access_in state (at_bytes v g b r)) b d
     → ChangesAlike (access_in state (at_bytes v g b r)) (at_bytes v g b r) (at_bytes v g d q)
     (by_state state (at_bytes v g b r) h refuse) (by_state state (at_bytes v g d q) h refuse)
 state-alike Running v g b d r q h refuse own word same =

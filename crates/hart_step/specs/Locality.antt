@@ -68,12 +68,13 @@ IsInOneWord None = Unit {0}
 IsInOneWord (Some c) = c.address % 4 + c.size ≤ 4
 
 -- two sites agree in all that a step of hart h depends on: the hart, the rights, its own
--- reservation, the word that it fetches and the bytes of its access
+-- reservation, the word that it fetches, at addresses modulo 2^32, and the bytes of its access
 pub record Agrees (h : ℕ) (s t : Site) : Type 0 where
   pub hart : s.hart ≡ t.hart
   pub rights : s.memory.rights ≡ t.memory.rights
   pub reserved : s.reserved h ≡ t.reserved h
-  pub fetched : (k : ℕ) → k < 4 → s.memory.bytes (s.hart.pc + k) ≡ t.memory.bytes (s.hart.pc + k)
+  pub fetched : (k : ℕ) → k < 4
+      → s.memory.bytes (wrap (s.hart.pc + k)) ≡ t.memory.bytes (wrap (s.hart.pc + k))
   pub accessed : (a : ℕ) → is_inside (access_of s) a ≡ true → s.memory.bytes a ≡ t.memory.bytes a
 
 -- two sites change alike: the new harts are the same, and so are the bytes of the access; no other

@@ -104,6 +104,13 @@ stands_there bs x m base size b inside is base_is size_is above low =
 pub inside_block : (bs : List SegmentValue) (a n i o : ℕ) (b : SegmentValue) → StandsAt bs a n i o → b ≡ get_or bs i b → IsInside b a n o
 inside_block bs a n i o b stands is = stands.1 b (slice_there bs i b stands.0 is)
 
+-- such an access ends within the address space
+pub ends_below : (bs : List SegmentValue) (a n i o : ℕ) (b : SegmentValue) → IsInOrder bs → StandsAt bs a n i o → b ≡ get_or bs i b → a + n ≤ 2 ^ 32
+ends_below bs a n i o b order stands is =
+    let inside = inside_block bs a n i o b stands is in
+    let ends : b.base + b.size ≤ 2 ^ 32 = subst (λ (c : SegmentValue). c.base + c.size ≤ 2 ^ 32) (sym is) (order.in_range i b stands.0) in
+    omega (arith, inside, ends)
+
 -- more of a block
 pub stands_more : (bs : List SegmentValue) (a n m i o size : ℕ) (b : SegmentValue) → StandsAt bs a n i o → b ≡ get_or bs i b → size ≡ b.size → o ≤ size → m ≤ size - o → StandsAt bs a m i o
 stands_more bs a n m i o size b stands is size_is low room = (
@@ -140,10 +147,3 @@ same_map xs ys moved order x = elim (hit xs x) [
   | inr r ↦ (let there : Contains ys r.0 = Contains-permutation xs ys r.0 moved r.1 in
       found ys x there.0 r.0 order there.1 (sym there.2) r.2 ∙ sym r.3)
 ]
-
--- no block has an address above the last one
-pub none_past : (bs : List SegmentValue) (x : ℕ) → IsInOrder bs → 2 ^ 32 ≤ x → segment_at bs x ≡ None
-none_past [] x order past = refl
-none_past (b ∷ bs) x order past =
-    let ends = order.in_range 0 b (omega arith) in
-    rw (missed_high b x (omega (arith, ends, past))) (none_past bs x (rest b bs order) past)

@@ -1,15 +1,16 @@
 -- what blocks in order hold at an access
-use Rattle.std.proofs.Common.{◌≡◌, ℕ, zero, suc, ◌+◌, ◌-◌, ◌^◌, ◌<◌, Bool, true, false, cond, List, get_or, arith, Option, Some, None, rules, ◌∙◌, sym, ap, refl, inl, inr}
+use Rattle.std.proofs.Common.{◌≡◌, ℕ, zero, suc, ◌+◌, ◌-◌, ◌<◌, Bool, true, false, cond, List, get_or, arith, Option, Some, None, rules, ◌∙◌, sym, ap, refl, inl, inr}
 use Rattle.std.proofs.lemmas.Bool.{cases_Bool, cases_eq}
 use Rattle.std.proofs.lemmas.Bool.Decides.{nat_tests}
 use Rattle.std.specs.Option.{MatchOption, is_some}
 use Rattle.std.specs.List.{slice_index}
 use Rattle.image.specs.Segment.{SegmentValue}
-use Rattle.mem_store.specs.Memory.{grants, all_below, granted, little_endian, number_at}
-use Rattle.mem_store.specs.Access.{peeked, fetched}
+use Rattle.mem_store.specs.Memory.{grants, all_below, granted, little_endian, number_at, around}
+use Rattle.mem_store.specs.Access.{peeked}
 use Rattle.mem_store.specs.Image.{segment_at, rights_in, byte_in, segments_memory}
+use Rattle.mem_store.proofs.AroundLemmas.{word_around}
 use Rattle.mem_flat.specs.Blocks.{IsInOrder, StandsAt, number_if}
-use Rattle.mem_flat.proofs.OrderLemmas.{has, found, inside_block, none_past}
+use Rattle.mem_flat.proofs.OrderLemmas.{has, found, inside_block, ends_below}
 
 -- a test that each number passes, and one that the first fails
 all_below_true : (n : ℕ) (p : ℕ → Bool) → ((k : ℕ) → k < n → p k ≡ true) → all_below n p ≡ true
@@ -103,6 +104,13 @@ refused_number bs a n i o wanted b g order stands is test miss =
     let granted_is : granted wanted (segments_memory bs) (suc n) a ≡ false = granted_here bs a n i o wanted b order stands is ∙ sym test ∙ miss in
     sym (ap (λ t. cond t (Some (number_at (segments_memory bs).bytes (suc n) a)) None) granted_is)
 
+-- the same with addresses modulo 2^32
+pub given_around : (bs : List SegmentValue) (a n i o v wanted : ℕ) (b : SegmentValue) (g : Bool) → IsInOrder bs → StandsAt bs a (suc n) i o → b ≡ get_or bs i b → g ≡ grants wanted (Some b.rights) → g ≡ true
+    → v ≡ little_endian (suc n) (λ k. slice_index b.bytes (o + k)) → Some v ≡ number_if wanted (around (segments_memory bs)) (suc n) a
+given_around bs a n i o v wanted b g order stands is test hit value =
+    given_number bs a n i o v wanted b g order stands is test hit value
+    ∙ sym (word_around (segments_memory bs) (suc n) wanted a (ends_below bs a (suc n) i o b order stands is))
+
 -- a test that one number fails
 pub all_below_fails : (n k : ℕ) (p : ℕ → Bool) → k < n → p k ≡ false → all_below n p ≡ false
 all_below_fails zero k p low h = absurd (omega arith)
@@ -122,10 +130,3 @@ all_below_each n k p h low = elim (cases_Bool (p k)) [
   | inl yes_ ↦ yes_
   | inr no_ ↦ (let bad : all_below n p ≡ false = all_below_fails n k p low no_ in absurd (search rules))
 ]
-
--- no word begins above the last address of one
-pub fetched_past : (bs : List SegmentValue) (a : ℕ) → IsInOrder bs → 2 ^ 32 < a + 4 → fetched (segments_memory bs) a ≡ None
-fetched_past bs a order past =
-    let none : (segments_memory bs).rights (a + 3) ≡ None = rights_none bs (a + 3) (none_past bs (a + 3) order (omega arith)) in
-    let fails : granted 1 (segments_memory bs) 4 a ≡ false = all_below_fails 4 3 (λ k. grants 1 ((segments_memory bs).rights (a + k))) (omega arith) (ap (grants 1) none) in
-    ap (λ t. cond t (Some (number_at (segments_memory bs).bytes 4 a)) None) fails

@@ -1,6 +1,6 @@
 //! Reading from blocks.
 ghost use Rattle.std.specs.Prelude.{◌≡◌, ◌+◌, ◌^◌, ◌≤◌, true, false, Some, IfSome, MatchOption};
-ghost use Rattle.mem_store.specs.Memory.{grants, granted, to_write};
+ghost use Rattle.mem_store.specs.Memory.{grants, granted, around, to_write};
 ghost use Rattle.mem_store.specs.Access.{peeked};
 ghost use Rattle.mem_store.specs.Image.{segments_memory};
 ghost use Rattle.mem_flat.specs.Blocks.{IsInOrder, number_if};
@@ -106,7 +106,7 @@ pub fn read32_in_last<A: Allocator>(
 ) -> Option<u32>
     requires { IsInOrder blocks.now }
     ensures { IfSome result (λ word.
-        Some word ≡ number_if wanted.0 (segments_memory blocks.now) 4 address) }
+        Some word ≡ number_if wanted.0 (around (segments_memory blocks.now)) 4 address) }
 {
     let (i, offset) = in_last(blocks, address, 4)?;
     let block = &blocks[i];
@@ -148,16 +148,16 @@ fn gather16<A: Allocator>(blocks: &[Block<A>], address: u32, wanted: Rights) -> 
     Some(u16::from_le_bytes([b0, b1]))
 }
 
-// `read32`, byte by byte.
-fn gather32<A: Allocator>(blocks: &[Block<A>], address: u32, wanted: Rights) -> Option<u32>
-    requires order { IsInOrder blocks.now }
-    requires in_range { address + 4 ≤ 2 ^ 32 }
-    ensures { result ≡ number_if wanted.0 (segments_memory blocks.now) 4 address }
+/// The four bytes from an address on, if each has one of the wanted rights, byte by byte. Their
+/// addresses are modulo 2^32.
+pub fn gather32<A: Allocator>(blocks: &[Block<A>], address: u32, wanted: Rights) -> Option<u32>
+    requires { IsInOrder blocks.now }
+    ensures { result ≡ number_if wanted.0 (around (segments_memory blocks.now)) 4 address }
 {
     let b0 = read8(blocks, address, wanted)?;
-    let b1 = read8(blocks, address + 1, wanted)?;
-    let b2 = read8(blocks, address + 2, wanted)?;
-    let b3 = read8(blocks, address + 3, wanted)?;
+    let b1 = read8(blocks, address.wrapping_add(1), wanted)?;
+    let b2 = read8(blocks, address.wrapping_add(2), wanted)?;
+    let b3 = read8(blocks, address.wrapping_add(3), wanted)?;
     Some(u32::from_le_bytes([b0, b1, b2, b3]))
 }
 

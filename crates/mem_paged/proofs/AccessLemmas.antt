@@ -1,9 +1,8 @@
 -- the bytes of pages at an access within one of them
-use Rattle.std.proofs.Common.{◌≡◌, ℕ, zero, suc, ◌+◌, ◌/◌, ◌%◌, ◌^◌, ◌<◌, ◌≤◌, Bool, true, false, cond, List, length, get_or, arith, Some, None, ◌∙◌, sym, ap, refl}
+use Rattle.std.proofs.Common.{◌≡◌, ℕ, zero, suc, ◌+◌, ◌/◌, ◌%◌, ◌<◌, ◌≤◌, Bool, true, false, cond, List, length, get_or, arith, Some, None, ◌∙◌, sym, ap, refl}
 use Rattle.std.specs.List.{slice_get, slice_index}
 use Rattle.std.specs.declared.rc.Rc.{Rc}
 use Rattle.mem_store.specs.Memory.{grants, all_below, granted, little_endian, number_at}
-use Rattle.mem_store.specs.Access.{fetched}
 use Rattle.mem_flat.specs.Blocks.{number_if}
 use Rattle.mem_flat.proofs.ReadLemmas.{all_below_fails, number_same}
 use Rattle.mem_paged.specs.Directory.{DirectoryValue, page_place}
@@ -15,7 +14,6 @@ use Rattle.mem_paged.specs.Store.{memory_of}
 use Rattle.mem_paged.specs.Table.{pages_of}
 use Rattle.mem_paged.specs.declared.layout.Layout.{Layout}
 use Rattle.mem_paged.specs.declared.page_store.PageStore.{PageStore}
-use Rattle.mem_paged.proofs.DirectoryLemmas.{place-past}
 use Rattle.mem_paged.proofs.RightLemmas.{spans_read}
 
 module _ (d : DirectoryValue) (rights : List (List Span)) (pages : List Page) (a k : ℕ) (at : page_place d (a / 4096) ≡ Some k) where
@@ -71,15 +69,6 @@ pub absent_number : (d : DirectoryValue) (rights : List (List Span)) (pages : Li
     → None ≡ number_if wanted (pages_memory d rights pages) (suc n) a
 absent_number d rights pages a n wanted none =
     sym (ap (λ t. cond t (Some (number_at (pages_memory d rights pages).bytes (suc n) a)) None) (granted_nowhere d rights pages a n wanted none))
-
--- no word begins above the last address of one
-pub fetched_past : (d : DirectoryValue) (rights : List (List Span)) (pages : List Page) (a : ℕ) → d.first + length d.index ≤ 2 ^ 20 → 2 ^ 32 < a + 4
-    → fetched (pages_memory d rights pages) a ≡ None
-fetched_past d rights pages a in_range past =
-    let far : page_place d ((a + 3) / 4096) ≡ None = place-past d ((a + 3) / 4096) (omega arith) in
-    let last : grants 1 ((pages_memory d rights pages).rights (a + 3)) ≡ false = ap (λ q. grants 1 (right_in (kept_at rights q) ((a + 3) % 4096))) far in
-    let fails : granted 1 (pages_memory d rights pages) 4 a ≡ false = all_below_fails 4 3 (λ k. grants 1 ((pages_memory d rights pages).rights (a + k))) (omega arith) last in
-    ap (λ t. cond t (Some (number_at (pages_memory d rights pages).bytes 4 a)) None) fails
 
 -- the same of a store, whose parts are read in order
 module _ {Z : Type 0} (s : PageStore Z) (a k : ℕ) (l : Layout Z) (same : l ≡ s.layout.value) (place : Some k ≡ page_place l.directory (a / 4096)) (inside : k < length l.directory.owners) where

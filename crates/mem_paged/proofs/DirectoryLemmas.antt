@@ -101,10 +101,3 @@ kept-set_other d n m k xs y ne has = at_place (page_place d m) refl
     at_place : (p : Option ℕ) → page_place d m ≡ p → kept_at (set xs k y) p ≡ kept_at xs p
     at_place None e = refl
     at_place (Some j) e = get-set_other xs k j y (λ is. ne (some m n (sym (owner_of d.owners m j (proposed d m) e) ∙ ap (slice_get d.owners) is ∙ mine)))
-
--- no page above the highest
-pub place-past : (d : DirectoryValue) (n : ℕ) → d.first + length d.index ≤ n → page_place d n ≡ None
-place-past d n past =
-    let low : ltb n d.first ≡ false = grind (arith, nat_tests) in
-    let none : slice_get d.index (n - d.first) ≡ None = slice_get_past d.index (n - d.first) (omega arith) in
-    rw (low, none) refl

@@ -1,6 +1,6 @@
 //! Reading from pages.
-ghost use Rattle.std.specs.Prelude.{◌≡◌, ◌<◌, ◌≤◌, ◌+◌, ◌*◌, ◌^◌, ◌%◌, true, false, Some, MatchOption, slice_get, vec_len};
-ghost use Rattle.mem_store.specs.Memory.{grants, granted, to_write};
+ghost use Rattle.std.specs.Prelude.{◌≡◌, ◌<◌, ◌≤◌, ◌*◌, ◌%◌, true, false, Some, MatchOption, slice_get, vec_len};
+ghost use Rattle.mem_store.specs.Memory.{grants, granted, around, to_write};
 ghost use Rattle.mem_store.specs.Access.{peeked};
 ghost use Rattle.mem_flat.specs.Blocks.{number_if};
 ghost use Rattle.mem_paged.specs.Store.{memory_of};
@@ -79,15 +79,15 @@ impl<A: Allocator + Copy> PageStore<A> {
         Some(self.table.page(place).read32(at))
     }
 
-    /// `read32`, byte by byte, for bytes that may be in two pages.
+    /// Four bytes that may be in two pages, little-endian, if each has one of the wanted rights.
+    /// Their addresses are modulo 2^32.
     pub fn gather32(&self, address: u32, wanted: Rights) -> Option<u32>
-        requires { address + 4 ≤ 2 ^ 32 }
-        ensures { result ≡ number_if wanted.0 (memory_of self.now) 4 address }
+        ensures { result ≡ number_if wanted.0 (around (memory_of self.now)) 4 address }
     {
         let b0 = self.read8(address, wanted)?;
-        let b1 = self.read8(address + 1, wanted)?;
-        let b2 = self.read8(address + 2, wanted)?;
-        let b3 = self.read8(address + 3, wanted)?;
+        let b1 = self.read8(address.wrapping_add(1), wanted)?;
+        let b2 = self.read8(address.wrapping_add(2), wanted)?;
+        let b3 = self.read8(address.wrapping_add(3), wanted)?;
         Some(u32::from_le_bytes([b0, b1, b2, b3]))
     }
 

@@ -1,6 +1,6 @@
 -- Accesses of memory: their results, and the memory after them.
 use Rattle.std.specs.Prelude.{◌≡◌, ℕ, ◌%◌, ◌≢◌, Bool, true, false, ◌==◌, if◌then◌else◌, Option, Some, None, Result, Ok, Err, IsTrue}
-use Rattle.mem_store.specs.Memory.{Memory, to_execute, to_write, to_load, granted, number_at, stored}
+use Rattle.mem_store.specs.Memory.{Memory, to_execute, to_write, to_load, granted, number_at, around, stored}
 use Rattle.mem_store.specs.declared.store.AccessFault.{AccessFault}
 use Rattle.mem_store.specs.declared.store.AccessFault.TheVariants as access
 use Rattle.mem_store.specs.declared.store.StoreFault.{StoreFault}
@@ -13,9 +13,13 @@ loaded m n address =
     then (if granted to_load m n address then Ok (number_at m.bytes n address) else Err access.Access)
     else Err access.Misaligned
 
--- the instruction word at an address, if each of its bytes is executable
+-- the instruction word at an address, if each of its bytes is executable; their addresses are
+-- modulo 2^32
 abbrev pub fetched : Memory → ℕ → Option ℕ
-fetched m address = if granted to_execute m 4 address then Some (number_at m.bytes 4 address) else None
+fetched m address =
+    if granted to_execute (around m) 4 address
+    then Some (number_at (around m).bytes 4 address)
+    else None
 
 -- whether n bytes may be stored
 abbrev pub storable : Memory → ℕ → ℕ → Result (Unit {0}) AccessFault

@@ -40,6 +40,10 @@ little_endian (suc n) byte = little_endian n byte + byte n * 256 ^ n
 abbrev pub number_at : (ℕ → ℕ) → ℕ → ℕ → ℕ
 number_at bytes n address = little_endian n (λ k. bytes (address + k))
 
+-- the memory with its addresses modulo 2^32
+abbrev pub around : Memory → Memory
+around m = record { rights = λ a. m.rights (a % 2 ^ 32); bytes = λ a. m.bytes (a % 2 ^ 32) }
+
 -- the bytes in which the n from an address on spell the low digits of a value
 abbrev pub stored : ℕ → ℕ → ℕ → (ℕ → ℕ) → ℕ → ℕ
 stored n address value bytes a =

@@ -1,6 +1,7 @@
 -- The instructions of an object that a text has from some number on, as a hart fetches them.
 use Rattle.std.proofs.Common.{◌≡◌, ℕ, ◌+◌, ◌-◌, ◌*◌, ◌/◌, ◌%◌, ◌^◌, ◌<◌, ◌≤◌, List, length, get_or, Some, refl, sym, ap, ◌∙◌, arith, subst}
 use Rattle.mem_store.specs.Access.{fetched}
+use Rattle.mem_store.proofs.AroundLemmas.{fetched_below}
 use Rattle.object_library.proofs.Shape.{shaped_rights, shaped_bytes, shaped_memory, in_true, in_below}
 use Rattle.object_library.proofs.CellLemmas.{byte_at}
 use Rattle.object_adopt.specs.Passage.{object_words}
@@ -24,7 +25,8 @@ sum_of x small = omega arith
 text_fetched : (text : List ℕ) (zeros : ℕ) (words : ℕ → ℕ) (k a : ℕ) → length text ≤ 1024 → k < length text → get_or text k 0 < 2 ^ 32 → a ≡ 0x10000 + 4 * k →
     fetched (shaped_memory text zeros words) a ≡ Some (get_or text k 0)
 text_fetched text zeros words k a short there small e =
-    rw (
+    fetched_below (shaped_memory text zeros words) a (omega arith)
+    ∙ rw (
       executable text zeros (a + 3) (omega arith) (omega arith),
       executable text zeros (a + 2) (omega arith) (omega arith),
       executable text zeros (a + 1) (omega arith) (omega arith),

@@ -4,6 +4,8 @@
 #[cfg(test)]
 mod calls;
 #[cfg(test)]
+mod fetch_tests;
+#[cfg(test)]
 mod image_tests;
 #[cfg(test)]
 mod loading_tests;

@@ -87,7 +87,7 @@ static ON_FIRST_AND_LAST: [Call; 8] = [
     Call::Store32(0xffff_fffc, 0x0102_0304, Ok(())),
     Call::Load8(0xffff_ffff, Ok(1)),
     Call::Fetch(0xffff_fffc, Some(0x0102_0304)),
-    Call::Fetch(0xffff_fffd, None),
+    Call::Fetch(0xffff_fffd, Some(0x0501_0203)),
     Call::Load8(8, Err(AccessFault::Access)),
     Call::Load32(0x8000_0000, Err(AccessFault::Access)),
 ];
