@@ -48,7 +48,7 @@ pub fn run_banked<'a, A: Allocator + Copy + Send + Sync, G: Gate + Sync, R: Thre
         Ok(logs) => logs,
         Err(StepFault::StartRefused) => return Err(RunFault::StartRefused),
         Err(StepFault::StampsExhausted) => return Err(RunFault::StampsExhausted),
-        Err(StepFault::Stale | StepFault::OtherBank) => return Err(RunFault::Stale),
+        Err(StepFault::OtherBank) => return Err(RunFault::Stale),
         Err(StepFault::Memory) => return Err(RunFault::Memory),
     };
     let Ok(banks) = unlocked(alloc, job.into_banks()) else {

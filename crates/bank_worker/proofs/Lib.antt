@@ -1,2 +1,4 @@
 pub mod WalkedLemmas
 pub mod WorkedLemmas
+pub mod AlignedLemmas
+pub mod OutsideLemmas

@@ -1,6 +1,7 @@
 -- What a hart's thread keeps true of its log.
-use Rattle.std.proofs.Common.{◌≡◌, ℕ, ◌+◌, ◌-◌, ◌<◌, ◌≤◌, Bool, true, List, [], ◌∷◌, ◌++◌, length, inl, inr, refl, ap, sym, ◌∙◌, subst, arith}
+use Rattle.std.proofs.Common.{◌≡◌, ℕ, ◌+◌, ◌-◌, ◌<◌, ◌≤◌, Bool, true, List, [], ◌∷◌, ◌++◌, length, inl, inr, refl, ap, sym, ◌∙◌, subst, arith, Ok, Err}
 use Rattle.std.specs.List.{AllByRecursion}
+use Rattle.std.specs.Prelude.{Result, OnOk}
 use Rattle.image.specs.Image.{ImageValue}
 use Rattle.thread_gate.specs.Plan.{is_planned}
 use Rattle.thread_gate.specs.Stopped.{is_stopped}
@@ -71,6 +72,10 @@ adds_step old new e w added of = record {
 
 pub steps_on : (old new : HartLogValue) (e : LoggedSegment) (w : Walked) → new ≡ with_segment old e → IsOfWalk w e → AddsStep old new w
 steps_on old new e w adds of = record { segment = e; adds = adds; walked = of }
+
+pub steps_on_ok : {T E : Type 0} (r : Result T E) (old new : HartLogValue) (e : LoggedSegment) (w : Walked) → IsOfWalk w e → OnOk r (new ≡ with_segment old e) → OnOk r (AddsStep old new w)
+steps_on_ok (Ok x) old new e w of adds = steps_on old new e w adds of
+steps_on_ok (Err fault) old new e w of adds = tt
 
 -- ---- before the first step, and after the last
 pub works_first : (image : ImageValue) (inputs : List ℕ) (h budget : ℕ) (plan : List (ℕ × ℕ))

@@ -12,4 +12,5 @@ pub record IsWalked (image : ImageValue) (l : HartLogValue) (w : Walked) : Type 
   pub number : w.hart ≡ l.hart
   pub local : StepsAreLocal l.image w.local (logged_slot l).hart
   pub reached : hart_of w.slot.hart ≡ local_hart (image_table l.image) w.local (logged_slot l).hart
+  pub named : w.slot.named ≡ (logged_slot l).named
   pub stamp : w.last_stamp ≡ last_segment_stamp l.log

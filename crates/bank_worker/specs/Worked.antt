@@ -1,12 +1,13 @@
 -- What a step adds to its hart's log, and what a hart's thread leaves.
-use Rattle.std.specs.Prelude.{◌≡◌, ◌⊎◌, ℕ, ◌+◌, ◌<◌, ◌≤◌, true, List, [], ◌∷◌, Some}
+use Rattle.std.specs.Prelude.{◌≡◌, ◌⊎◌, ℕ, ◌+◌, ◌<◌, ◌≤◌, true, false, List, [], ◌∷◌, Some}
 use Rattle.image.specs.Image.{ImageValue}
 use Rattle.thread_gate.specs.Stopped.{is_stopped}
 use Rattle.thread_gate.specs.Plan.{is_planned}
 use Rattle.bank_laws.specs.declared.access.LoggedAccess.{LoggedAccess}
 use Rattle.bank_laws.specs.Segments.{LoggedSegment}
-use Rattle.bank_laws.specs.Order.{Rises, Earlier}
+use Rattle.bank_laws.specs.Order.{Rises, Earlier, is_code_read}
 use Rattle.bank_memory.specs.BankLog.{BankLog}
+use Rattle.bank_memory.specs.Rising.{may_follow}
 use Rattle.bank_memory.specs.Stamps.{last_access_stamp, next_stamp}
 use Rattle.bank_order.specs.Merged.{choices_in}
 use Rattle.bank_hart_log.specs.HartLog.{HartLogValue, last_segment_stamp, logged_slot, with_segment}
@@ -47,6 +48,10 @@ pub record AddsStep (old new : HartLogValue) (w : Walked) : Type 0 where
 abbrev pub IsStampedNext : HartLogValue → BankLog → BankLog → Type 0
 IsStampedNext l old new =
     next_stamp (last_segment_stamp l.log) (last_access_stamp old.log ∷ []) ≡ Some (last_access_stamp new.log)
+
+-- an access of a segment that is no code read comes after all accesses of a bank
+abbrev pub IsNextIn : BankLog → LoggedSegment → Type 0
+IsNextIn b e = (a : LoggedAccess) → a.stamp ≡ e.stamp → a.hart ≡ e.hart → is_code_read a.kind ≡ false → may_follow b.log a ≡ true
 
 -- a thread's log so far: of hart h, with a number of choices within the budget, refused as planned,
 -- and with rising stamps

@@ -1,25 +1,31 @@
 //! One step of a hart under the locks of the banks that it touches.
-ghost use Rattle.std.specs.Prelude.{◌≡◌, ◌≢◌, ◌<◌, ◌%◌, [], ◌∷◌, Some, None, IfOk, IfErr, OnOk, length, vec_len};
+ghost use Rattle.std.specs.Prelude.{◌≡◌, ◌≢◌, ◌<◌, ◌%◌, [], ◌∷◌, true, Some, None, IfOk, IfErr, OnOk, length, option_to_list, vec_len};
 ghost use Rattle.hart_reservations.specs.Marks.{names};
 ghost use Rattle.hart_step.specs.Hart.{hart_of};
 ghost use Rattle.bank_laws.specs.Merged.{bank_of};
-ghost use Rattle.bank_memory.specs.BankLog.{state_of};
+ghost use Rattle.bank_memory.specs.BankLog.{bank_with_access, state_of, FitsBank};
 ghost use Rattle.bank_memory.specs.Stamps.{last_access_stamp, next_stamp};
-ghost use Rattle.bank_hart_log.specs.HartLog.{image_table, last_segment_stamp, FitsLog, TouchesNext};
+ghost use Rattle.bank_hart_log.specs.HartLog.{image_table, last_segment_stamp, with_segment, FitsLog, TouchesNext};
+ghost use Rattle.bank_hart_log.specs.LastStep.{slot_is, IsCodeRead, IsTouch};
 ghost use Rattle.bank_step.specs.Told.{as_touch};
 ghost use Rattle.bank_worker.specs.Walked.{IsWalked};
-ghost use Rattle.bank_worker.specs.Worked.{AddsSegment, AddsStep, IsOfWalk, IsStampedNext};
+ghost use Rattle.bank_worker.specs.Worked.{AddsSegment, AddsStep, IsNextIn, IsOfWalk, IsStampedNext};
 ghost use Rattle.bank_worker.specs.declared.fault.StepFault.{StepFault};
 
 use crate::fault::StepFault;
 use crate::job::Job;
 use bank_hart_log::{Found, HartLog, Slot, code_access, data_access};
+use bank_laws::LoggedAccess;
 use bank_memory::{BANKS, Bank, each_bank_is_logged, next_stamp};
 use bank_order::LogSegment;
 use bank_step::{PlannedTouch, Word, needed_word, planned_touch};
+use image::Image;
 use std::alloc::Allocator;
-use std::sync::Wait;
+use std::sync::{MutexGuard, Wait};
 use thread_gate::Gate;
+
+// The last bank's place.
+const LAST_PLACE: usize = 15;
 
 /// A segment of a hart before its stamp and its accesses are known, and the slot before its last
 /// step.
@@ -63,17 +69,6 @@ fn place_of(word: u32) -> usize
     (word / 4 % BANKS) as usize
 }
 
-// The index of the touched word's bank, or `other` if no word is touched.
-fn place_or(touch: Option<PlannedTouch>, other: usize) -> usize
-    requires { other < 16 }
-    ensures { result < 16 }
-{
-    match touch {
-        Some(touch) => place_of(touch.word),
-        None => other,
-    }
-}
-
 // What a bank has at a word.
 fn found_in<A: Allocator>(bank: &Bank<A>, hart: u32, word: u32) -> Found
     requires { hart < 32 }
@@ -86,19 +81,35 @@ fn found_in<A: Allocator>(bank: &Bank<A>, hart: u32, word: u32) -> Found
     }
 }
 
-// Logs a segment that touches nothing.
-fn commit_alone<A: Allocator + Copy>(
+// Logs a segment whose accesses are those of its last step.
+fn log_segment<A: Allocator + Copy>(
     log: &mut HartLog<A>,
     segment: LogSegment,
 ) -> Result<(), StepFault>
     requires { FitsLog log.old segment }
-    ensures added { OnOk result (AddsSegment log.old log.new segment) }
+    ensures added { OnOk result (log.new ≡ with_segment log.old segment) }
     ensures fault { IfErr result (λ fault. fault ≡ StepFault.Memory) }
 {
     match log.add(segment) {
         Ok(()) => Ok(()),
         Err(bank_hart_log::AddFault::Memory) => Err(StepFault::Memory),
         Err(bank_hart_log::AddFault::Mismatch) => unreachable!(),
+    }
+}
+
+// Logs an access that comes next in its bank.
+fn log_access<A: Allocator + Copy>(
+    bank: &mut Bank<A>,
+    access: LoggedAccess,
+) -> Result<(), StepFault>
+    requires { FitsBank bank.old access }
+    ensures added { OnOk result (bank.new ≡ bank_with_access bank.old access) }
+    ensures fault { IfErr result (λ fault. fault ≡ StepFault.Memory) }
+{
+    match bank.add_found(access) {
+        Ok(()) => Ok(()),
+        Err(bank_memory::AddFault::Memory) => Err(StepFault::Memory),
+        Err(bank_memory::AddFault::Mismatch) => unreachable!(),
     }
 }
 
@@ -133,7 +144,7 @@ fn commit<A: Allocator + Copy>(
 }
 
 // Does the last step of a segment whose instruction is code, under the lock of the bank that it
-// touches, if it touches one. It is never stale: its stamp is made under that lock.
+// touches, if it touches one. Its stamp is made under that lock.
 fn step_in_code<A: Allocator + Copy, G: Gate, R: Wait>(
     rt: &R,
     job: &Job<A>,
@@ -144,12 +155,11 @@ fn step_in_code<A: Allocator + Copy, G: Gate, R: Wait>(
     requires few { walked.now.hart < 32 }
     requires next { IsWalked job.now.image.now log.old walked.now }
     requires code { (image_table job.now.image.now).need (hart_of walked.now.slot.hart) ≡ None }
-    ensures added { OnOk result (AddsStep log.old log.new walked.now) }
-    ensures fresh { IfErr result (λ fault. fault ≢ StepFault.Stale) }
+    ensures { OnOk result (AddsStep log.old log.new walked.now) }
 {
     let Some(touch) = planned_touch(&walked.slot.hart, job.image, None) else {
         let segment = walked.stamped(&[])?;
-        return commit_alone(log, segment);
+        return log_segment(log, segment);
     };
     let place = place_of(touch.word);
     let mut bank = job.banks()[place].lock(rt);
@@ -161,18 +171,182 @@ fn step_in_code<A: Allocator + Copy, G: Gate, R: Wait>(
     commit(log, &mut bank, segment, touch)
 }
 
-// Does the last step of a segment whose instruction is in a writable word, under the locks of all
-// banks, in ascending order: the word that it touches isn't known before the instruction is read.
-fn step_outside_code<A: Allocator + Copy, G: Gate, R: Wait>(
+// Whether the bank behind a lock is the one of that place, and has a hart of this number.
+fn is_in_place<A: Allocator>(bank: &Bank<A>, place: usize, hart: u32) -> bool
+    requires { place < 16 }
+    ensures { result ≡ true → (bank.now.number ≡ place) × (hart < length bank.now.inputs) }
+{
+    bank.number() == place as u32 && (hart as usize) < bank.inputs().len()
+}
+
+// Logs the read of a step's code, given what the bank has at the word. The segment's stamp is above
+// all in the bank.
+fn log_read<A: Allocator + Copy>(
+    bank: &mut Bank<A>,
+    segment: &LogSegment,
+    word: u32,
+    read: Found,
+) -> Result<LoggedAccess, StepFault>
+    requires there { segment.now.hart < length bank.old.inputs }
+    requires aligned { word % 4 ≡ 0 }
+    requires its_bank { bank_of word ≡ bank.old.number }
+    requires above { last_access_stamp bank.old.log < segment.now.stamp }
+    requires bytes { read.bytes ≡ (state_of bank.old).values word }
+    requires mark { read.mark ≡ names ((state_of bank.old).marks segment.now.hart) word }
+    ensures read { IfOk result (λ a. IsCodeRead segment.now word a × (a.before ≡ read.bytes)) }
+    ensures added { IfOk result (λ a. bank.new ≡ bank_with_access bank.old a) }
+    ensures fault { IfErr result (λ fault. fault ≡ StepFault.Memory) }
+{
+    each_bank_is_logged(bank);
+    let access = code_access(segment, word, read);
+    match log_access(bank, access) {
+        Ok(()) => Ok(access),
+        Err(fault) => Err(fault),
+    }
+}
+
+// Logs the data access of a step whose code was read. Its stamp is above all in the bank, but for
+// the code read itself.
+fn log_touch<A: Allocator + Copy>(
+    bank: &mut Bank<A>,
+    image: &Image<A>,
+    slot: &Slot,
+    segment: &LogSegment,
+    code: Word,
+    touch: PlannedTouch,
+) -> Result<LoggedAccess, StepFault>
+    requires few { segment.now.hart < 32 }
+    requires there { segment.now.hart < length bank.old.inputs }
+    requires aligned { touch.word % 4 ≡ 0 }
+    requires its_bank { bank_of touch.word ≡ bank.old.number }
+    requires follows { IsNextIn bank.old segment.now }
+    requires need { (image_table image.now).need (hart_of slot.now.hart) ≡ Some code.address }
+    requires plan { (image_table image.now).plan (hart_of slot.now.hart) code.bytes ≡ Some (as_touch touch) }
+    ensures touches { IfOk result (λ a. IsTouch (image_table image.now) segment.now (slot_is slot.now) code.bytes (as_touch touch) a) }
+    ensures fault { IfErr result (λ fault. fault ≡ StepFault.Memory) }
+{
+    let found = found_in(bank, segment.hart, touch.word);
+    let access = data_access(image, slot, segment, Some(code), touch, found);
+    match log_access(bank, access) {
+        Ok(()) => Ok(access),
+        Err(fault) => Err(fault),
+    }
+}
+
+// A segment with these accesses and no other.
+fn with_accesses(
+    segment: LogSegment,
+    code_read: LoggedAccess,
+    data_access: Option<LoggedAccess>,
+) -> LogSegment
+    ensures { result ≡ record segment { accesses = code_read ∷ option_to_list data_access } }
+{
+    LogSegment {
+        stamp: segment.stamp,
+        hart: segment.hart,
+        local: segment.local,
+        refuse: segment.refuse,
+        code_read: Some(code_read),
+        data_access,
+    }
+}
+
+// Does the last step of a segment whose code was read and which touches nothing, under the lock of
+// the code's bank.
+fn step_to_nothing<A: Allocator + Copy>(
+    job: &Job<A>,
+    log: &mut HartLog<A>,
+    bank: &mut Bank<A>,
+    walked: &Walked,
+    code: Word,
+    read: Found,
+) -> Result<(), StepFault>
+    requires next { IsWalked job.now.image.now log.old walked.now }
+    requires need { (image_table job.now.image.now).need (hart_of walked.now.slot.hart) ≡ Some code.address }
+    requires plan { (image_table job.now.image.now).plan (hart_of walked.now.slot.hart) code.bytes ≡ None }
+    requires there { walked.now.hart < length bank.old.inputs }
+    requires aligned { code.address % 4 ≡ 0 }
+    requires its_bank { bank_of code.address ≡ bank.old.number }
+    requires bytes { (read.bytes ≡ code.bytes) × (read.bytes ≡ (state_of bank.old).values code.address) }
+    requires mark { read.mark ≡ names ((state_of bank.old).marks walked.now.hart) code.address }
+    ensures { OnOk result (AddsStep log.old log.new walked.now) }
+{
+    let stamps = [bank.last_stamp()];
+    let segment = walked.stamped(&stamps)?;
+    let code_read = log_read(bank, &segment, code.address, read)?;
+    log_segment(log, with_accesses(segment, code_read, None))
+}
+
+// Does the last step of a segment whose code was read and which touches a word of the same bank,
+// under its lock.
+fn step_in_one_bank<A: Allocator + Copy>(
+    job: &Job<A>,
+    log: &mut HartLog<A>,
+    bank: &mut Bank<A>,
+    walked: &Walked,
+    code: Word,
+    read: Found,
+    touch: PlannedTouch,
+) -> Result<(), StepFault>
+    requires few { walked.now.hart < 32 }
+    requires next { IsWalked job.now.image.now log.old walked.now }
+    requires need { (image_table job.now.image.now).need (hart_of walked.now.slot.hart) ≡ Some code.address }
+    requires plan { (image_table job.now.image.now).plan (hart_of walked.now.slot.hart) code.bytes ≡ Some (as_touch touch) }
+    requires there { walked.now.hart < length bank.old.inputs }
+    requires aligned { code.address % 4 ≡ 0 }
+    requires word { touch.word % 4 ≡ 0 }
+    requires its_bank { (bank_of code.address ≡ bank.old.number) × (bank_of touch.word ≡ bank.old.number) }
+    requires bytes { (read.bytes ≡ code.bytes) × (read.bytes ≡ (state_of bank.old).values code.address) }
+    requires mark { read.mark ≡ names ((state_of bank.old).marks walked.now.hart) code.address }
+    ensures { OnOk result (AddsStep log.old log.new walked.now) }
+{
+    each_bank_is_logged(bank);
+    let stamps = [bank.last_stamp()];
+    let segment = walked.stamped(&stamps)?;
+    let code_read = log_read(bank, &segment, code.address, read)?;
+    let access = log_touch(bank, job.image, &walked.slot, &segment, code, touch)?;
+    log_segment(log, with_accesses(segment, code_read, Some(access)))
+}
+
+// Does the last step of a segment whose code was read and which touches a word of another bank,
+// under the locks of both.
+fn step_in_two_banks<A: Allocator + Copy>(
+    job: &Job<A>,
+    log: &mut HartLog<A>,
+    code_bank: &mut Bank<A>,
+    data_bank: &mut Bank<A>,
+    walked: &Walked,
+    code: Word,
+    read: Found,
+    touch: PlannedTouch,
+) -> Result<(), StepFault>
+    requires few { walked.now.hart < 32 }
+    requires next { IsWalked job.now.image.now log.old walked.now }
+    requires need { (image_table job.now.image.now).need (hart_of walked.now.slot.hart) ≡ Some code.address }
+    requires plan { (image_table job.now.image.now).plan (hart_of walked.now.slot.hart) code.bytes ≡ Some (as_touch touch) }
+    requires there { (walked.now.hart < length code_bank.old.inputs) × (walked.now.hart < length data_bank.old.inputs) }
+    requires aligned { code.address % 4 ≡ 0 }
+    requires word { touch.word % 4 ≡ 0 }
+    requires its_bank { (bank_of code.address ≡ code_bank.old.number) × (bank_of touch.word ≡ data_bank.old.number) }
+    requires bytes { (read.bytes ≡ code.bytes) × (read.bytes ≡ (state_of code_bank.old).values code.address) }
+    requires mark { read.mark ≡ names ((state_of code_bank.old).marks walked.now.hart) code.address }
+    ensures { OnOk result (AddsStep log.old log.new walked.now) }
+{
+    each_bank_is_logged(data_bank);
+    let segment = walked.stamped(&[code_bank.last_stamp(), data_bank.last_stamp()])?;
+    let code_read = log_read(code_bank, &segment, code.address, read)?;
+    let access = log_touch(data_bank, job.image, &walked.slot, &segment, code, touch)?;
+    log_segment(log, with_accesses(segment, code_read, Some(access)))
+}
+
+// The banks behind their locks, which are taken in ascending order.
+fn lock_all<'j, 'a, A: Allocator + Copy, R: Wait>(
     rt: &R,
     alloc: A,
-    job: &Job<A>,
-    gate: &G,
-    walked: &Walked,
-    word: u32,
-) -> Result<LogSegment, StepFault>
-    requires { walked.now.hart < 32 }
-    ensures { IfOk result (λ e. IsOfWalk walked.now e) }
+    job: &'j Job<'a, A>,
+) -> Result<Vec<MutexGuard<'j, Bank<'a, A>>, A>, StepFault>
+    ensures sixteen { IfOk result (λ held. vec_len held ≡ 16) }
+    ensures fault { IfErr result (λ fault. fault ≡ StepFault.Memory) }
 {
     let mut held = Vec::new(alloc);
     'banks: for bank in job.banks() {
@@ -180,35 +354,76 @@ fn step_outside_code<A: Allocator + Copy, G: Gate, R: Wait>(
             return Err(StepFault::Memory);
         }
     }
-    if word % 4 != 0 || held.len() != BANKS as usize {
-        return Err(StepFault::Stale);
-    }
+    Ok(held)
+}
+
+// The place of a bank among those that are left when the bank of another place has been taken out:
+// the last one has moved there.
+fn place_left(place: usize, taken: usize) -> usize
+    requires there { place < 16 }
+    requires taken { taken < 16 }
+    requires other { place ≢ taken }
+    ensures { result < 15 }
+{
+    if place == LAST_PLACE { taken } else { place }
+}
+
+// Does the last step of a segment whose instruction is in a writable word, under the locks of all
+// banks: the word that it touches isn't known before the instruction is read.
+fn step_outside_code<A: Allocator + Copy, G: Gate, R: Wait>(
+    rt: &R,
+    alloc: A,
+    job: &Job<A>,
+    gate: &G,
+    log: &mut HartLog<A>,
+    walked: &Walked,
+    word: u32,
+) -> Result<(), StepFault>
+    requires few { walked.now.hart < 32 }
+    requires next { IsWalked job.now.image.now log.old walked.now }
+    requires need { (image_table job.now.image.now).need (hart_of walked.now.slot.hart) ≡ Some word }
+    ensures { OnOk result (AddsStep log.old log.new walked.now) }
+{
+    // Reading these gives the proof that the entry is a multiple of 4.
+    let _ = job.image.segments();
+    let mut held = lock_all(rt, alloc, job)?;
     let at = place_of(word);
-    let read = found_in(&held[at], walked.hart, word);
+    let mut code_bank = held.swap_remove(at);
+    if !is_in_place(&code_bank, at, walked.hart) {
+        return Err(StepFault::OtherBank);
+    }
+    let read = found_in(&code_bank, walked.hart, word);
     let bytes = read.bytes;
     let code = Word {
         address: word,
         bytes,
     };
-    let touch = planned_touch(&walked.slot.hart, job.image, Some(code));
-    let place = place_or(touch, at);
-    let mut segment = walked.stamped(&[held[at].last_stamp(), held[place].last_stamp()])?;
-    let code_read = code_access(&segment, word, read);
-    held[at].add(code_read)?;
-    segment.code_read = Some(code_read);
-    let Some(touch) = touch else {
-        return Ok(segment);
+    let Some(touch) = planned_touch(&walked.slot.hart, job.image, Some(code)) else {
+        return step_to_nothing(job, log, &mut code_bank, walked, code, read);
     };
-    let found = found_in(&held[place], walked.hart, touch.word);
-    let access = data_access(job.image, &walked.slot, &segment, Some(code), touch, found);
+    let place = place_of(touch.word);
     gate.held(walked.hart, place as u32);
-    held[place].add(access)?;
-    segment.data_access = Some(access);
-    Ok(segment)
+    if place == at {
+        return step_in_one_bank(job, log, &mut code_bank, walked, code, read, touch);
+    }
+    let mut data_bank = held.swap_remove(place_left(place, at));
+    if !is_in_place(&data_bank, place, walked.hart) {
+        return Err(StepFault::OtherBank);
+    }
+    step_in_two_banks(
+        job,
+        log,
+        &mut code_bank,
+        &mut data_bank,
+        walked,
+        code,
+        read,
+        touch,
+    )
 }
 
 /// Logs a segment in its hart's log, and the accesses of its last step in the banks, under the
-/// locks of those banks.
+/// locks of those banks. Its stamp is made under these locks, so neither log refuses it.
 pub fn step<A: Allocator + Copy, G: Gate, R: Wait>(
     rt: &R,
     alloc: A,
@@ -223,10 +438,6 @@ pub fn step<A: Allocator + Copy, G: Gate, R: Wait>(
 {
     match needed_word(&walked.slot.hart, job.image) {
         None => step_in_code(rt, job, gate, log, walked),
-        Some(word) => {
-            let segment = step_outside_code(rt, alloc, job, gate, walked, word)?;
-            log.add(segment)?;
-            Ok(())
-        }
+        Some(word) => step_outside_code(rt, alloc, job, gate, log, walked, word),
     }
 }
