@@ -6,7 +6,7 @@ use Rattle.std.specs.List.{prefix_len, list_all}
 use Rattle.std.proofs.lemmas.Bool.{cases_Bool}
 use Rattle.std.proofs.lemmas.List.{drop_at}
 use Rattle.asm_lex.specs.Bytes.{is_digit, is_name_byte, is_space_or_tab, is_printable}
-use Rattle.asm_lex.specs.Grammar.{IsSign, IsComment, IsLexeme}
+use Rattle.asm_lex.specs.Grammar.{IsComment}
 use Rattle.asm_lex.specs.Numbers.{digits_number}
 use Rattle.asm_lex.specs.Pieces.{front, sign_of, run_of_names, comment_len, closing, reference_of, number_piece, word_piece, text_piece, return_piece}
 use Rattle.asm_lex.specs.Reading.{Reading, with_piece, reading, tokens_or_fault, result_of_reading}
@@ -19,38 +19,10 @@ use Rattle.asm_lex.specs.declared.token.Kind.TheVariants as kinds
 use Rattle.asm_lex.specs.declared.token.Token.{Token}
 use Rattle.asm_lex.proofs.Found.{IsGap, IsPiece, front_found}
 use Rattle.asm_lex.proofs.Steps.{stepped, behind_piece}
-use Rattle.asm_lex.proofs.Unique.{word_front, sign_front, comment_front}
+use Rattle.asm_lex.proofs.Unique.{lexeme_front, comment_front, blank_front}
 use Rattle.asm_laws.specs.Tokens.{HasNoToken, token_fault, StopsWith, Here, BehindBlank, BehindComment, BehindToken}
 
 -- ---- the piece of a token
-sign_piece : (sign : Kind) (word rest : List ℕ) → IsSign sign word → (front (word ++ rest) ≡ pieces.Lexeme sign (length word)) × (0 < length word)
-sign_piece sign word rest h =
-    rw h.alone (sign_front h.byte rest h.printable h.no_name h.no_quote h.no_comment ∙ ap (λ k. pieces.Lexeme k 1) h.kind, omega arith)
-
-line_piece : (word rest : List ℕ) → IsLexeme kinds.LineEnd word rest → (front (word ++ rest) ≡ pieces.Lexeme kinds.LineEnd (length word)) × (0 < length word)
-unfolding front
-line_piece word rest (inl e) = rw e (refl, omega arith)
-line_piece word rest (inr e) = rw e (refl, omega arith)
-
-string_piece : (word rest : List ℕ) → IsLexeme kinds.Text word rest → (front (word ++ rest) ≡ pieces.Lexeme kinds.Text (length word)) × (0 < length word)
-unfolding front
-string_piece [] rest h = absurd (omega (arith, h.1))
-string_piece (b ∷ word) rest h = (rw (h.2, h.3, ← h.1) refl, omega arith)
-
-token_piece : (kind : Kind) (word rest : List ℕ) → IsLexeme kind word rest → (front (word ++ rest) ≡ pieces.Lexeme kind (length word)) × (0 < length word)
-unfolding word_piece
-token_piece kinds.Name word rest h = (word_front word rest h.0 h.2 ∙ rw h.1 refl, h.0)
-token_piece (kinds.Number n) word rest h = (word_front word rest h.0 h.2 ∙ rw (h.1, h.3) refl, h.0)
-token_piece kinds.LineEnd word rest h = line_piece word rest h
-token_piece kinds.Back word rest h = (word_front word rest h.0 h.2 ∙ rw (h.1, h.3) h.4, h.0)
-token_piece kinds.Ahead word rest h = (word_front word rest h.0 h.2 ∙ rw (h.1, h.3) h.4, h.0)
-token_piece kinds.Text word rest h = string_piece word rest h
-token_piece sign word rest h = sign_piece sign word rest h
-
-blank_piece : (b : ℕ) (rest : List ℕ) → is_space_or_tab b ≡ true → front (b ∷ rest) ≡ pieces.Gap 1
-unfolding front
-blank_piece b rest h = rw h refl
-
 hash_piece : (rest : List ℕ) → front (35 ∷ rest) ≡ pieces.Gap (1 + comment_len rest)
 unfolding front
 hash_piece rest = refl
@@ -142,11 +114,11 @@ none_stands b bs p is bad = record {
   some = omega arith;
   no_blank = no_blank (is_space_or_tab b) refl;
   no_comment = λ e. subst IsBad (sym is ∙ ap (λ c. front (c ∷ bs)) e ∙ hash_piece bs) bad;
-  no_token = λ kind word rest cut lexeme. subst IsBad (sym is ∙ ap front cut ∙ (token_piece kind word rest lexeme).0) bad;
+  no_token = λ kind word rest cut lexeme. subst IsBad (sym is ∙ ap front cut ∙ (lexeme_front kind word rest lexeme).0) bad;
 }
   where
     no_blank : (t : Bool) → is_space_or_tab b ≡ t → is_space_or_tab b ≡ false
-    no_blank true e = absurd (subst IsBad (sym is ∙ blank_piece b bs e) bad)
+    no_blank true e = absurd (subst IsBad (sym is ∙ blank_front b bs e) bad)
     no_blank false e = e
 
 one_fault : (f g : TextFault) → ◌≡◌ {A = Option TextFault} (Some f) (Some g) → f ≡ g
@@ -231,12 +203,12 @@ stops_read : (at : ℕ) (bytes : List ℕ) (f : TextFault) → StopsWith at byte
 unfolding reading
 stops_read _ _ _ (Here at [] none) = let some = none.some in absurd (omega (arith, some))
 stops_read _ _ _ (Here at (b ∷ bs) none) = here_read at b bs none (front (b ∷ bs)) (front_found b bs) (fault_found b bs)
-stops_read _ _ _ (BehindBlank at b rest f blank more) = rw (blank_piece b rest blank) (stops_read (at + 1) rest f more)
+stops_read _ _ _ (BehindBlank at b rest f blank more) = rw (blank_front b rest blank) (stops_read (at + 1) rest f more)
 stops_read _ _ _ (BehindComment at comment rest bytes f is_comment cut more) =
     behind_read at comment rest bytes (pieces.Gap (length comment)) cut is_comment.0 (comment_front comment rest is_comment) refl
     ∙ stops_read (at + length comment) rest f more
 stops_read _ _ _ (BehindToken at kind word rest bytes f lexeme cut more) =
-    let t = token_piece kind word rest lexeme in
+    let t = lexeme_front kind word rest lexeme in
     behind_read at word rest bytes (pieces.Lexeme kind (length word)) cut t.1 t.0 refl
     ∙ stops_read (at + length word) rest f more
 

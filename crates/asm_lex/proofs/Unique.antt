@@ -60,7 +60,7 @@ text_front (b ∷ word) rest h = (rw (h.2, h.3, ← h.1) refl, omega arith)
 lexeme_sign : (sign : Kind) (word rest : List ℕ) → IsSign sign word → (front (word ++ rest) ≡ pieces.Lexeme sign (length word)) × (0 < length word)
 lexeme_sign sign word rest h = rw h.alone (sign_front h.byte rest h.printable h.no_name h.no_quote h.no_comment ∙ ap (λ k. pieces.Lexeme k 1) h.kind, omega arith)
 
-lexeme_front : (kind : Kind) (word rest : List ℕ) → IsLexeme kind word rest → (front (word ++ rest) ≡ pieces.Lexeme kind (length word)) × (0 < length word)
+pub lexeme_front : (kind : Kind) (word rest : List ℕ) → IsLexeme kind word rest → (front (word ++ rest) ≡ pieces.Lexeme kind (length word)) × (0 < length word)
 unfolding word_piece
 lexeme_front kinds.Name word rest h = (word_front word rest h.0 h.2 ∙ rw h.1 refl, h.0)
 lexeme_front (kinds.Number n) word rest h = (word_front word rest h.0 h.2 ∙ rw (h.1, h.3) refl, h.0)
@@ -75,7 +75,7 @@ unfolding front comment_len
 comment_front [] rest h = absurd (omega arith)
 comment_front (b ∷ comment) rest h = rw (h.1, run_len is_in_line comment rest (tail_run is_in_line b comment rest h.2), one-add) refl
 
-blank_front : (b : ℕ) (rest : List ℕ) → is_space_or_tab b ≡ true → front (b ∷ rest) ≡ pieces.Gap 1
+pub blank_front : (b : ℕ) (rest : List ℕ) → is_space_or_tab b ≡ true → front (b ∷ rest) ≡ pieces.Gap 1
 unfolding front
 blank_front b rest h = rw h refl
 

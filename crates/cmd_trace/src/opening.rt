@@ -5,9 +5,9 @@ ghost use Rattle.std.specs.Prelude.{◌≡◌, ◌^◌, ◌-◌, ◌<◌, Ok, Er
 ghost use Rattle.image.specs.Image.{ImageValue};
 ghost use Rattle.machine.specs.Start.{IsStartable};
 ghost use Rattle.sched_text.specs.Reading.{choices_read};
-ghost use Rattle.program_open.specs.Opening.{opening, with_choices};
+ghost use Rattle.program_open.specs.Opening.{opening, program_opening, with_choices};
 ghost use Rattle.program_open.specs.Program.{program_of};
-ghost use Rattle.program_open.specs.CommandFaults.{IfNames, IsRefusal};
+ghost use Rattle.program_open.specs.CommandFaults.{IfNames, IsOfProgram, IsRefusal};
 ghost use Rattle.cmd_trace.specs.Answer.{trace_after, program_symbols, trace_answer};
 ghost use Rattle.cmd_trace.specs.declared.plan.TracePlan.{TracePlan};
 
@@ -86,7 +86,7 @@ fn open_program<A: Allocator + Copy, P: Source>(
 
 /// Reads a program in this form to its end, checks the number of inputs, and reads the bytes of the
 /// choice text to their end. The first fault is returned, and what comes after it is not read.
-#[tactic(auto, unfolding(program_open::specs::Opening::opening, crate::specs::Answer::trace_answer))]
+#[tactic(auto, unfolding(program_open::specs::Opening::opening, program_open::specs::Opening::program_opening, crate::specs::Answer::trace_answer), using(program_open::proofs::FaultLemmas::of_program))]
 pub(crate) fn open_trace<A: Allocator + Copy, P: Source, C: Source>(
     alloc: A,
     form: ProgramForm,
@@ -103,6 +103,9 @@ pub(crate) fn open_trace<A: Allocator + Copy, P: Source, C: Source>(
     ensures refused { IfErr result (λ fault. IsRefusal fault → (plan : TracePlan)
         → IfSome (P.left program.old) (λ p. IfSome (C.left choices.old) (λ c.
         trace_answer form plan inputs.now p c ≡ Err fault))) }
+    // A fault of the program or of the number of inputs is that whatever the choices are.
+    ensures of_program { IfErr result (λ fault. IsOfProgram fault
+        → IfSome (P.left program.old) (λ p. program_opening form (length inputs.now) p ≡ Err fault)) }
     ensures read { IfErr result (λ fault. IfNames fault
         (P.failures program.old < P.failures program.new)
         (C.failures choices.old < C.failures choices.new) ⊥ ⊥) }

@@ -5,9 +5,9 @@ ghost use Rattle.std.specs.Io.KnownBytes.{Keeps};
 ghost use Rattle.image.specs.Image.{ImageValue};
 ghost use Rattle.machine.specs.Start.{IsStartable};
 ghost use Rattle.sched_text.specs.Reading.{choices_read};
-ghost use Rattle.program_open.specs.Opening.{with_choices};
+ghost use Rattle.program_open.specs.Opening.{program_opening, with_choices};
 ghost use Rattle.program_open.specs.Program.{program_of};
-ghost use Rattle.program_open.specs.CommandFaults.{IfNames, IsRefusal};
+ghost use Rattle.program_open.specs.CommandFaults.{IfNames, IsOfProgram, IsRefusal};
 ghost use Rattle.program_open.specs.Answers.{BeginsToPrint, Prints};
 ghost use Rattle.cmd_trace.specs.Answer.{trace_after, trace_answer};
 
@@ -21,6 +21,7 @@ use std::alloc::Allocator;
 
 // Counts the choices of a run, and writes its trace. Nothing is written if a choice is bad; after
 // any other fault a beginning may have been written.
+#[tactic(auto, using(program_open::proofs::FaultLemmas::choices_alone, program_open::proofs::FaultLemmas::halts_alone))]
 fn trace_run<A: Allocator + Copy, K: Sink>(
     alloc: A,
     plan: TracePlan,
@@ -37,6 +38,7 @@ fn trace_run<A: Allocator + Copy, K: Sink>(
         (with_choices run.now.program.image (choices_read (length run.now.inputs) run.now.text.items)) ≡ Err fault) }
     ensures unwritten { IfErr result (λ fault. fault ≢ CommandFault.Write → fault ≢ CommandFault.Memory
         → Keeps (K.held sink.old) (K.held sink.new)) }
+    ensures not_of_program { IfErr result (λ fault. IsOfProgram fault → ⊥) }
     ensures read { IfErr result (λ fault.
         IfNames fault ⊥ ⊥ ⊥ (K.failures sink.old < K.failures sink.new)) }
     ensures begun { result ≡ Err CommandFault.Write
@@ -82,6 +84,9 @@ pub fn trace_engine<A: Allocator + Copy, P: Source, C: Source, K: Sink>(
     ensures refused { IfErr result (λ fault. IsRefusal fault
         → IfSome (P.left program.old) (λ p. IfSome (C.left choices.old) (λ c.
         trace_answer form plan inputs.now p c ≡ Err fault))) }
+    // A fault of the program or of the number of inputs is that whatever the choices are.
+    ensures of_program { IfErr result (λ fault. IsOfProgram fault
+        → IfSome (P.left program.old) (λ p. program_opening form (length inputs.now) p ≡ Err fault)) }
     ensures unwritten { IfErr result (λ fault. fault ≢ CommandFault.Write → fault ≢ CommandFault.Memory
         → Keeps (K.held sink.old) (K.held sink.new)) }
     // A device is named only if it failed.

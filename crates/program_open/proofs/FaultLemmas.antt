@@ -1,5 +1,7 @@
 -- What a fault says of the devices.
-use Rattle.program_open.specs.CommandFaults.{IfNames, IsOfProgram, IsRefusal}
+use Rattle.program_open.specs.CommandFaults.{fault_of_choices, IfHalts, IfNames, IsOfProgram, IsRefusal}
+use Rattle.sched_text.specs.declared.choice_text.ChoiceFault.{ChoiceFault}
+use Rattle.sched_text.specs.declared.choice_text.ChoiceFault.TheVariants as choice
 use Rattle.program_open.specs.declared.command_fault.Input.TheVariants as input
 use Rattle.program_open.specs.declared.command_fault.CommandFault.{CommandFault}
 use Rattle.program_open.specs.declared.command_fault.CommandFault.TheVariants as fault
@@ -21,3 +23,14 @@ of_program (fault.Elf why) is = tt
 of_program fault.NoHarts is = tt
 of_program fault.TooManyHarts is = tt
 of_program why is = absurd is
+
+-- a fault of the choices, or of the sink, is none of the program
+pub choices_alone : (why : ChoiceFault) → IsOfProgram (fault_of_choices why) → ⊥
+choices_alone (choice.BadChoice offset) is = is
+choices_alone (choice.NoHart offset) is = is
+choices_alone choice.Memory is = is
+
+pub halts_alone : (why : CommandFault) (risen : Type 0) → IfHalts why risen → IsOfProgram why → ⊥
+halts_alone fault.Memory risen halts is = is
+halts_alone fault.Write risen halts is = is
+halts_alone why risen halts is = halts

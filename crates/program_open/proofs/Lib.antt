@@ -2,3 +2,4 @@ mod HexLemmas
 mod HexImageLemmas
 mod ProgramLemmas
 pub mod FaultLemmas
+mod HexLaws

@@ -1,10 +1,10 @@
 -- Programs as texts of hexadecimal words.
-use Rattle.std.specs.Prelude.{ℕ, ◌+◌, ◌-◌, ◌*◌, ◌==◌, ◌&&◌, nat_le, List, [], ◌∷◌, ◌++◌, length, Option, Some, None, if◌then◌else◌}
+use Rattle.std.specs.Prelude.{◌≡◌, ℕ, ◌<◌, ◌+◌, ◌-◌, ◌*◌, ◌==◌, ◌&&◌, nat_le, List, [], ◌∷◌, ◌++◌, length, Option, Some, None, if◌then◌else◌}
 use Rattle.std.specs.declared.result.Result.{Result}
 use Rattle.std.specs.declared.result.Result.TheVariants.{Ok, Err}
 use Rattle.text_items.specs.Items.{Item, items_from}
 use Rattle.program_open.specs.declared.hex.HexFault.{HexFault}
-use Rattle.program_open.specs.declared.hex.HexFault.TheVariants.{BadWord, TooMany}
+use Rattle.program_open.specs.declared.hex.HexFault.TheVariants.{BadWord, TooMany, Memory}
 
 -- the greatest number of words
 abbrev pub most_words : ℕ
@@ -44,3 +44,25 @@ words_named number (item ∷ items) = if number == most_words then Err (TooMany 
 -- the words of a text
 abbrev pub hex_words : List ℕ → Result (List ℕ) HexFault
 hex_words text = words_named 0 (items_from 0 text)
+
+-- each of these items is the word beside it
+abbrev pub AreHexWords : List Item → List ℕ → Type 0
+AreHexWords [] [] = Unit {0}
+AreHexWords [] (word ∷ words) = ⊥
+AreHexWords (item ∷ items) [] = ⊥
+AreHexWords (item ∷ items) (word ∷ words) = (hex_word item.text ≡ Some word) × AreHexWords items words
+
+-- an item stands behind exactly so many words
+pub record StandsBehind (count : ℕ) (item : Item) (items : List Item) : Type 0 where
+  pub before : List Item
+  pub behind : List Item
+  pub split : items ≡ before ++ item ∷ behind
+  pub words : List ℕ
+  pub each : AreHexWords before words
+  pub many : length words ≡ count
+
+-- the first bad item: one of the first 2048 that is no word, or the one behind 2048 words
+abbrev pub SpoilsWords : List Item → HexFault → Type 0
+SpoilsWords items (BadWord n) = (n < 2048) × ((item : Item) × StandsBehind n item items × (hex_word item.text ≡ None))
+SpoilsWords items (TooMany n) = (n ≡ 2048) × ((item : Item) × StandsBehind 2048 item items)
+SpoilsWords items Memory = ⊥

@@ -2,3 +2,4 @@ pub mod ItemLemmas
 pub mod Agreement
 pub mod ExpandLemmas
 pub mod PrintLemmas
+pub mod LongestLemmas

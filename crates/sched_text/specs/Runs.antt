@@ -1,5 +1,6 @@
 -- Runs of equal choices.
-use Rattle.std.specs.Prelude.{ℕ, ◌+◌, ◌==◌, ◌&&◌, nat_lt, Bool, true, false, not, List, [], ◌∷◌, ◌++◌, replicate, if◌then◌else◌}
+use Rattle.std.specs.Prelude.{◌≡◌, ◌≢◌, ◌⊎◌, ℕ, ◌+◌, ◌≤◌, ◌==◌, ◌&&◌, nat_lt, Bool, true, false, not, List, [], ◌∷◌, ◌++◌, replicate, if◌then◌else◌}
+use Rattle.std.specs.List.{All}
 use Rattle.machine.specs.declared.choice.Choice.{Choice}
 use Rattle.sched_text.specs.declared.run.Run.{Run}
 
@@ -34,3 +35,19 @@ runs_from c n (d ∷ choices) =
 abbrev pub longest_runs : List Choice → List Run
 longest_runs [] = []
 longest_runs (c ∷ choices) = runs_from c 1 choices
+
+-- a run is full, or the next one is of another choice
+abbrev pub EndsBefore : Run → List Run → Type 0
+EndsBefore r [] = Unit {0}
+EndsBefore r (s ∷ runs) = (r.count ≡ 16777216) ⊎ (r.choice ≢ s.choice)
+
+-- no run could take in the first choice of the next one
+abbrev pub AreMaximal : List Run → Type 0
+AreMaximal [] = Unit {0}
+AreMaximal (r ∷ runs) = EndsBefore r runs × AreMaximal runs
+
+-- runs stand for a list, have 1 to 16777216 choices each, and are maximal
+pub record AreLongest (choices : List Choice) (runs : List Run) : Type 0 where
+  pub stand : expanded_runs runs ≡ choices
+  pub counts : All (λ r. (1 ≤ r.count) × (r.count ≤ 16777216)) runs
+  pub maximal : AreMaximal runs

@@ -9,6 +9,7 @@ ghost use Rattle.sched_text.specs.declared.choice_text.ChoiceFault.{ChoiceFault}
 ghost use Rattle.sched_text.specs.Grammar.{SpellsChoices, SpoilsChoices};
 ghost use Rattle.sched_text.specs.Printing.{choices_text, runs_text};
 ghost use Rattle.sched_text.specs.Reading.{choices_read};
+ghost use Rattle.sched_text.specs.Runs.{longest_runs, AreLongest};
 
 /// Reading gives the list that a text spells, and no list if it spells none.
 pub fn read_as_spelled()
@@ -44,4 +45,9 @@ pub fn printed_is_read()
 pub fn printed_runs_are_read()
     ensures { (harts : ℕ) (choices : List Choice) → harts < 2 ^ 32
         → All (λ c. c.hart < harts) choices → choices_read harts (runs_text choices) ≡ Ok choices }
+{}
+
+/// The longest runs of a list stand for it, and none could take in the first choice of the next.
+pub fn longest_runs_are_maximal()
+    ensures { (choices : List Choice) → AreLongest choices (longest_runs choices) }
 {}

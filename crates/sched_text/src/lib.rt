@@ -3,8 +3,8 @@
 
 pub use choice_text::{ChoiceFault, read_choices, read_run};
 pub use laws::{
-    choice_texts_are_decided, one_list, printed_is_read, printed_runs_are_read, read_as_spelled,
-    refused_as_spoiled,
+    choice_texts_are_decided, longest_runs_are_maximal, one_list, printed_is_read,
+    printed_runs_are_read, read_as_spelled, refused_as_spoiled,
 };
 pub use printing::{print_choices, print_runs};
 pub use run::{MOST_EQUAL, Run};
