@@ -22,13 +22,13 @@ use Rattle.hart_step.proofs.LocalityLemmas.{steps_alike}
 use Rattle.machine.specs.World.{World, step_of, step}
 use Rattle.machine.specs.declared.choice.Choice.{Choice}
 use Rattle.debug_session.specs.Words.{byte_or_zero, viewed_word}
-use Rattle.debug_session.specs.Accessed.{address_of, accessed}
+use Rattle.debug_session.specs.Accessed.{accessed}
 use Rattle.debug_session.specs.Stops.{differs}
 
--- an address, if there is one, is in another word than this one
-abbrev pub IsOther : Option ℕ → ℕ → Type 0
+-- an access, if there is one, is to another word than this one
+abbrev pub IsOther : Option Access → ℕ → Type 0
 IsOther None word = Unit {0}
-IsOther (Some address) word = word_of address ≢ word
+IsOther (Some access) word = word_of access.address ≢ word
 
 within : (address size b : ℕ) → address % 4 + size ≤ 4 → (leb address b && ltb b (address + size)) ≡ true → word_of address ≡ word_of b
 within address size b one e =
@@ -36,7 +36,7 @@ within address size b one e =
     let high : b < address + size = grind (arith, nat_tests) in
     omega arith
 
-outside_access : (c : Option Access) (b : ℕ) → IsInOneWord c → IsOther (address_of c) (word_of b) → is_inside c b ≡ false
+outside_access : (c : Option Access) (b : ℕ) → IsInOneWord c → IsOther c (word_of b) → is_inside c b ≡ false
 outside_access None b one other = refl
 outside_access (Some c) b one other = elim (cases_Bool (leb c.address b && ltb b (c.address + c.size))) [
   | inl there ↦ absurd (other (within c.address c.size b one there))
@@ -48,31 +48,31 @@ abbrev Leaves : Option Access → Site → Site → ℕ → Type 0
 Leaves c s t b = (is_inside c b ≡ false) ⊎ (t.memory ≡ s.memory)
 
 unless-leaves : (i : Instr) (s done : Site) (x : Registers) (pc b : ℕ) (o : Option Cause) → fault i s.memory x pc ≡ o
-    → IsOther (address_of (access_by i x)) (word_of b) → Leaves (access_by i x) s (unless o s done) b
+    → IsOther (access_by i x) (word_of b) → Leaves (access_by i x) s (unless o s done) b
 unless-leaves i s done x pc b None e other = inl (outside_access (access_by i x) b (in_one_word i s.memory x pc e) other)
 unless-leaves i s done x pc b (Some cause) e other = inr refl
 
 executed-leaves : (o : Option Instr) (s : Site) (h : ℕ) (refuse : Bool) (x : Registers) (pc b : ℕ)
-    → IsOther (address_of (access_if o x)) (word_of b) → Leaves (access_if o x) s (executed o s h refuse x pc) b
+    → IsOther (access_if o x) (word_of b) → Leaves (access_if o x) s (executed o s h refuse x pc) b
 executed-leaves None s h refuse x pc b other = inr refl
 executed-leaves (Some i) s h refuse x pc b other = unless-leaves i s (effect i s h refuse x pc) x pc b (fault i s.memory x pc) refl other
 
 word-leaves : (o : Option ℕ) (s : Site) (h : ℕ) (refuse : Bool) (x : Registers) (pc b : ℕ)
-    → IsOther (address_of (access_at o x)) (word_of b) → Leaves (access_at o x) s (at_word o s h refuse x pc) b
+    → IsOther (access_at o x) (word_of b) → Leaves (access_at o x) s (at_word o s h refuse x pc) b
 word-leaves None s h refuse x pc b other = inr refl
 word-leaves (Some word) s h refuse x pc b other = executed-leaves (decoded word) s h refuse x pc b other
 
 state-leaves : (state : HartState) (s : Site) (h : ℕ) (refuse : Bool) (b : ℕ)
-    → IsOther (address_of (access_in state s)) (word_of b) → Leaves (access_in state s) s (by_state state s h refuse) b
+    → IsOther (access_in state s) (word_of b) → Leaves (access_in state s) s (by_state state s h refuse) b
 state-leaves Running s h refuse b other = word-leaves (fetched s.memory s.hart.pc) s h refuse s.hart.registers s.hart.pc b other
 state-leaves (Exited status) s h refuse b other = inr refl
 state-leaves (Faulted cause) s h refuse b other = inr refl
 
-step-leaves : (h : ℕ) (refuse : Bool) (s : Site) (b : ℕ) → IsOther (address_of (access_of s)) (word_of b) → Leaves (access_of s) s (stepped h refuse s) b
+step-leaves : (h : ℕ) (refuse : Bool) (s : Site) (b : ℕ) → IsOther (access_of s) (word_of b) → Leaves (access_of s) s (stepped h refuse s) b
 unfolding stepped
 step-leaves h refuse s b other = state-leaves s.hart.state s h refuse b other
 
-bytes_same : (h : ℕ) (refuse : Bool) (s : Site) (b : ℕ) → IsOther (address_of (access_of s)) (word_of b) → (stepped h refuse s).memory.bytes b ≡ s.memory.bytes b
+bytes_same : (h : ℕ) (refuse : Bool) (s : Site) (b : ℕ) → IsOther (access_of s) (word_of b) → (stepped h refuse s).memory.bytes b ≡ s.memory.bytes b
 bytes_same h refuse s b other =
     let alike = steps_alike h refuse s s (record { hart = refl; rights = refl; reserved = refl; fetched = λ k e. refl; accessed = λ a e. refl }) in
     elim (step-leaves h refuse s b other) [
@@ -96,7 +96,7 @@ number_same (suc n) f g e =
 word_in : (a k : ℕ) → a % 4 ≡ 0 → k < 4 → word_of (a + k) ≡ a
 word_in a k aligned below = omega arith
 
-at_other : (o : Option ℕ) (a b : ℕ) → a ≡ b → IsOther o b → IsOther o a
+at_other : (o : Option Access) (a b : ℕ) → a ≡ b → IsOther o b → IsOther o a
 at_other o a b e other = rw e other
 
 word-same-of : (w : World) (c : Choice) (a : ℕ) (o : Option HartValue) → a % 4 ≡ 0 → IsOther (accessed w o) a → viewed_word (step_of w c o).memory a ≡ viewed_word w.memory a
@@ -106,7 +106,7 @@ word-same-of w c a (Some h) aligned other =
     let s = site h w.memory w.reserved in
     number_same 4 (λ k. byte_or_zero (peeked (stepped c.hart c.refuse s).memory (a + k))) (λ k. byte_or_zero (peeked w.memory (a + k)))
     (λ k below. ap byte_or_zero (peeked_same (stepped c.hart c.refuse s).memory w.memory (a + k) (rights_same c.hart c.refuse s)
-    (bytes_same c.hart c.refuse s (a + k) (at_other (address_of (access_of s)) (word_of (a + k)) a (word_in a k aligned below) other))))
+    (bytes_same c.hart c.refuse s (a + k) (at_other (access_of s) (word_of (a + k)) a (word_in a k aligned below) other))))
 
 word-same : (w : World) (c : Choice) (a : ℕ) → a % 4 ≡ 0 → IsOther (accessed w (slice_get w.harts c.hart)) a → viewed_word (step w c).memory a ≡ viewed_word w.memory a
 unfolding step

@@ -3,6 +3,7 @@ pub mod KeptLemmas
 pub mod BlockLemmas
 pub mod ElsewhereLemmas
 pub mod StopLemmas
+pub mod FoundLemmas
 pub mod PointLemmas
 pub mod ViewLemmas
 pub mod SearchLemmas

@@ -4,6 +4,7 @@ pub mod Words
 pub mod Points
 pub mod Accessed
 pub mod Stops
+pub mod Wishes
 pub mod Session
 pub mod Steps
 pub mod Searches

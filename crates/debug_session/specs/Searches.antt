@@ -1,16 +1,16 @@
 -- The ends of searches, in the user's words.
 use Rattle.std.specs.Prelude.{◌≡◌, ℕ, ◌+◌, ◌<◌, ◌≤◌, Option, Some, None}
-use Rattle.debug_session.specs.declared.stop.Stop.{Stop}
 
--- `stop i` is the stop at the position after choice i, if any. Position k, with this stop, is the
--- least one with a stop above `from` and at most `to`; or there is none, and k is `to`
-abbrev pub IsLeastStop : (ℕ → Option Stop) → ℕ → ℕ → ℕ → Option Stop → Type 0
-IsLeastStop stop from to k None = (k ≡ to) × ((i : ℕ) → from ≤ i → i < to → stop i ≡ None)
-IsLeastStop stop from to k (Some why) =
-    (from < k) × (k ≤ to) × ((i : ℕ) → i + 1 ≡ k → stop i ≡ Some why) × ((i : ℕ) → from ≤ i → i + 1 < k → stop i ≡ None)
+-- `reason i` is the reason to stop at the position after choice i, if any. Position k, with this
+-- reason, is the least one with a reason above `from` and at most `to`; or there is none, and k is
+-- `to`
+abbrev pub IsLeastStop : {R : Type 0} → (ℕ → Option R) → ℕ → ℕ → ℕ → Option R → Type 0
+IsLeastStop reason from to k None = (k ≡ to) × ((i : ℕ) → from ≤ i → i < to → reason i ≡ None)
+IsLeastStop reason from to k (Some why) =
+    (from < k) × (k ≤ to) × ((i : ℕ) → i + 1 ≡ k → reason i ≡ Some why) × ((i : ℕ) → from ≤ i → i + 1 < k → reason i ≡ None)
 
--- k is the greatest position with a stop from 1 to `to`; or there is none, and k is 0
-abbrev pub IsGreatestStop : (ℕ → Option Stop) → ℕ → ℕ → Option Stop → Type 0
-IsGreatestStop stop to k None = (k ≡ 0) × ((i : ℕ) → i < to → stop i ≡ None)
-IsGreatestStop stop to k (Some why) =
-    (0 < k) × (k ≤ to) × ((i : ℕ) → i + 1 ≡ k → stop i ≡ Some why) × ((i : ℕ) → k ≤ i → i < to → stop i ≡ None)
+-- k is the greatest position with a reason from 1 to `to`; or there is none, and k is 0
+abbrev pub IsGreatestStop : {R : Type 0} → (ℕ → Option R) → ℕ → ℕ → Option R → Type 0
+IsGreatestStop reason to k None = (k ≡ 0) × ((i : ℕ) → i < to → reason i ≡ None)
+IsGreatestStop reason to k (Some why) =
+    (0 < k) × (k ≤ to) × ((i : ℕ) → i + 1 ≡ k → reason i ≡ Some why) × ((i : ℕ) → k ≤ i → i < to → reason i ≡ None)

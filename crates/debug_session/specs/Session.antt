@@ -4,7 +4,8 @@ use Rattle.image.specs.Image.{ImageValue}
 use Rattle.machine.specs.World.{World}
 use Rattle.machine.specs.declared.choice.Choice.{Choice}
 use Rattle.machine.specs.State.{reached}
-use Rattle.debug_session.specs.Stops.{stop_on}
+use Rattle.debug_session.specs.Stops.{stop_at}
+use Rattle.debug_session.specs.Wishes.{Wish, reason_on}
 use Rattle.debug_session.specs.declared.stop.Stop.{Stop}
 use Rattle.debug_session.specs.declared.debugger.Debugger.{Debugger}
 
@@ -24,8 +25,8 @@ session d = record {
   inputs = d.track.inputs;
   choices = d.track.choices.items;
   position = d.position;
-  breaks = d.breaks.keys;
-  watches = d.watches.keys;
+  breaks = d.points.breaks.keys;
+  watches = d.points.watches.keys;
 }
 
 -- the world after k choices
@@ -57,33 +58,45 @@ steps_of_search s k = s.position - 1 - (k - 1) / 256 * 256
 abbrev pub steps_back : Session → ℕ → ℕ
 steps_back s k = steps_of_search s k + steps_to k
 
+-- the reason at choice i, counted from 0, if any
+unfoldable pub reason_at : {R : Type 0} → Wish R → Session → ℕ → Option R
+reason_at wish s i = reason_on wish (world_at s i) (slice_get s.choices i)
+
 -- the stop at the position after choice i, counted from 0, if any
-unfoldable pub stop_behind : Session → ℕ → Option Stop
-stop_behind s i = stop_on s.breaks s.watches (world_at s i) (slice_get s.choices i)
+abbrev pub stop_behind : Session → ℕ → Option Stop
+stop_behind s i = reason_at (stop_at s.breaks s.watches) s i
 
--- a position, and its stop
-abbrev pub Found : Type 0
-Found = ℕ × Option Stop
+-- the position after a choice, and the reason there
+abbrev pub Found : Type 0 → Type 0
+Found R = ℕ × Option R
 
--- a position if it has a stop, else what is found elsewhere
-abbrev pub found_or : ℕ → Option Stop → Found → Found
+-- a position if it has a reason, else what is found elsewhere
+abbrev pub found_or : {R : Type 0} → ℕ → Option R → Found R → Found R
 found_or k None elsewhere = elsewhere
 found_or k (Some why) elsewhere = (k, Some why)
 
--- the least of the n positions after i with a stop, or the last of them
-unfoldable pub first_stop : (ℕ → Option Stop) → ℕ → ℕ → Found
-first_stop stop i zero = (i, None)
-first_stop stop i (suc n) = found_or (i + 1) (stop i) (first_stop stop (i + 1) n)
+-- the least of the n positions after i with a reason, or the last of them
+unfoldable pub first_found : {R : Type 0} → (ℕ → Option R) → ℕ → ℕ → Found R
+first_found reason i zero = (i, None)
+first_found reason i (suc n) = found_or (i + 1) (reason i) (first_found reason (i + 1) n)
 
--- the greatest of the positions from 1 to n with a stop, or 0
-unfoldable pub last_stop : (ℕ → Option Stop) → ℕ → Found
-last_stop stop zero = (0, None)
-last_stop stop (suc i) = found_or (i + 1) (stop i) (last_stop stop i)
+-- the greatest of the positions from 1 to n with a reason, or 0
+unfoldable pub last_found : {R : Type 0} → (ℕ → Option R) → ℕ → Found R
+last_found reason zero = (0, None)
+last_found reason (suc i) = found_or (i + 1) (reason i) (last_found reason i)
+
+-- the result of a search forwards, from the position on
+abbrev pub next_of : {R : Type 0} → Wish R → Session → Found R
+next_of wish s = first_found (reason_at wish s) s.position (length s.choices - s.position)
+
+-- the result of a search backwards, below the position
+abbrev pub earlier_of : {R : Type 0} → Wish R → Session → Found R
+earlier_of wish s = last_found (reason_at wish s) (s.position - 1)
 
 -- the result of `go`
-abbrev pub next_found : Session → Found
-next_found s = first_stop (stop_behind s) s.position (length s.choices - s.position)
+abbrev pub next_found : Session → Found Stop
+next_found s = next_of (stop_at s.breaks s.watches) s
 
 -- the result of `rgo`
-abbrev pub earlier_found : Session → Found
-earlier_found s = last_stop (stop_behind s) (s.position - 1)
+abbrev pub earlier_found : Session → Found Stop
+earlier_found s = earlier_of (stop_at s.breaks s.watches) s

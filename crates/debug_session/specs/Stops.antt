@@ -3,6 +3,7 @@ use Rattle.std.specs.Prelude.{ℕ, Bool, not, ◌==◌, if◌then◌else◌, Opt
 use Rattle.std.specs.List.{list_any, find}
 use Rattle.hart_reservations.specs.Marks.{word_of}
 use Rattle.hart_step.specs.Hart.{HartValue}
+use Rattle.hart_step.specs.declared.data_access.Access.{Access}
 use Rattle.machine.specs.World.{World, step}
 use Rattle.machine.specs.declared.choice.Choice.{Choice}
 use Rattle.debug_session.specs.Words.{viewed_word}
@@ -38,12 +39,11 @@ unfoldable pub stop_after : List ℕ → List ℕ → World → World → ℕ �
 stop_after breaks watches v w h =
     either_stop (break_of breaks h (slice_get w.harts h)) (watch_of (find (differs v w) watches))
 
--- the stop after a choice in a world, if there is such a choice
-abbrev pub stop_on : List ℕ → List ℕ → World → Option Choice → Option Stop
-stop_on breaks watches w None = None
-stop_on breaks watches w (Some c) = stop_after breaks watches w (step w c) c.hart
+-- the stop after a choice in a world
+abbrev pub stop_at : List ℕ → List ℕ → World → Choice → Option Stop
+stop_at breaks watches w c = stop_after breaks watches w (step w c) c.hart
 
--- the watched word of an address, if there is one
-abbrev pub watched : List ℕ → Option ℕ → Option ℕ
+-- the watched word of an access, if there is one
+abbrev pub watched : List ℕ → Option Access → Option ℕ
 watched watches None = None
-watched watches (Some a) = if has watches (word_of a) then Some (word_of a) else None
+watched watches (Some a) = if has watches (word_of a.address) then Some (word_of a.address) else None

@@ -2,16 +2,20 @@
 //! watches.
 #![tactic(auto)]
 
+pub use access::accessed;
 pub use debugger::Debugger;
 pub use fault::MoveFault;
 pub use laws::{going_back_finds_the_greatest, going_on_finds_the_least};
 pub use paged_machine::PagedMachine;
+pub use points::Points;
 pub use seeking::Target;
 pub use step_view::{Event, StepView};
 pub use stop::Stop;
+pub use wanted::Wanted;
 pub use words::{byte_at, word_at};
 
 mod access;
+mod adding;
 mod checkpoints;
 mod debugger;
 mod fault;
@@ -26,4 +30,5 @@ mod stepping;
 mod stop;
 mod telling;
 mod track;
+mod wanted;
 mod words;

@@ -5,13 +5,13 @@ ghost use Rattle.debug_session.specs.Session.{session};
 use crate::checkpoints::checkpoints_of;
 use crate::debugger::Debugger;
 use crate::paged_machine::PagedMachine;
+use crate::points::Points;
 use crate::telling::tell_end;
 use crate::track::Track;
 use byte_io::{Progress, Unheard};
 use image::Image;
 use machine::{Choice, Inputs, Machine};
 use std::alloc::{AllocError, Allocator};
-use std::collections::BTreeSet;
 
 impl<A: Allocator + Copy> Debugger<A> {
     /// A debugger at the start, without breakpoints and watches. It keeps the image, the inputs and
@@ -69,8 +69,7 @@ impl<A: Allocator + Copy> Debugger<A> {
             position: 0,
             cost: 0,
             machine: first,
-            breaks: BTreeSet::new(alloc),
-            watches: BTreeSet::new(alloc),
+            points: Points::new(alloc),
         })
     }
 }

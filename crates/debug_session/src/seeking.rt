@@ -1,27 +1,27 @@
-//! Searches for stops, forwards and backwards.
+//! Searches, forwards and backwards.
 ghost use Rattle.std.specs.Prelude.{◌≡◌, ◌<◌, ◌≤◌, ◌+◌, ◌-◌, ◌*◌, OnOk, OnErr, IfOk, IfSome};
 ghost use Rattle.debug_session.specs.Paged.{paged_world};
 ghost use Rattle.debug_session.specs.Searches.{IsLeastStop, IsGreatestStop};
-ghost use Rattle.debug_session.specs.Session.{session, moved, length_of, world_at, stop_behind, found_or, last_stop, next_found, earlier_found, steps_on, steps_of_search, steps_back};
+ghost use Rattle.debug_session.specs.Session.{session, moved, length_of, world_at, reason_at, stop_behind, found_or, last_found, next_of, earlier_of, next_found, earlier_found, steps_on, steps_of_search, steps_back};
 
 use crate::debugger::Debugger;
 use crate::paged_machine::PagedMachine;
-use crate::stepping::step_to_stop;
 use crate::stop::Stop;
 use crate::track::BLOCK;
+use crate::wanted::Wanted;
 use std::alloc::{AllocError, Allocator};
 
-/// The result of a search: a position, its stop, and the machine there.
+/// The result of a search: a position, the reason to stop there, and the machine there.
 #[derive(Drop)]
-pub struct Target<A: Allocator + Copy> {
+pub struct Target<A: Allocator + Copy, R: Copy> {
     pub(crate) machine: PagedMachine<A>,
     pub(crate) position: usize,
-    pub(crate) stop: Option<Stop>,
+    pub(crate) reason: Option<R>,
     // The number of steps that the search executed.
     pub(crate) cost: u64,
 }
 
-impl<A: Allocator + Copy> Target<A> {
+impl<A: Allocator + Copy, R: Copy> Target<A, R> {
     /// The number of choices done there.
     pub fn position(&self) -> usize
         ensures { result ≡ self.now.position }
@@ -30,29 +30,35 @@ impl<A: Allocator + Copy> Target<A> {
     }
 
     /// The reason to stop there; `None` at the end or the start.
-    pub fn stop(&self) -> Option<Stop>
-        ensures { result ≡ self.now.stop }
+    pub fn reason(&self) -> Option<R>
+        ensures { result ≡ self.now.reason }
     {
-        self.stop
+        self.reason
     }
 }
 
 // A position of a search backwards.
 #[derive(Clone, Copy)]
-struct Place {
+struct Place<R: Copy> {
     // The number of choices done there.
     position: usize,
     // The reason to stop there; `None` at the start.
-    stop: Option<Stop>,
+    reason: Option<R>,
     // The number of steps that the search executed.
     cost: u64,
 }
 
 impl<A: Allocator + Copy> Debugger<A> {
-    /// The least later position with a stop, or the end. The debugger does not move.
-    pub fn next_stop(&self, alloc: A) -> Result<Target<A>, AllocError>
+    /// The least later position behind a wanted choice, or the end. The debugger does not move.
+    pub fn next<W: Wanted<A>>(
+        &self,
+        alloc: A,
+        wanted: &W,
+    ) -> Result<Target<A, W::Reason>, AllocError>
         ensures found { IfOk result (λ t.
-            (t.position, t.stop) ≡ next_found (session self.now)) }
+            (t.position, t.reason) ≡ next_of (W.reason wanted.now) (session self.now)) }
+        ensures least { IfOk result (λ t. IsLeastStop (reason_at (W.reason wanted.now) (session self.now))
+            (session self.now).position (length_of (session self.now)) t.position t.reason) }
         ensures world { IfOk result (λ t.
             paged_world t.machine ≡ world_at (session self.now) t.position) }
         ensures inside { IfOk result (λ t. t.position ≤ length_of (session self.now)) }
@@ -63,12 +69,13 @@ impl<A: Allocator + Copy> Debugger<A> {
         let length = self.track.choices.len();
         'steps: for position in self.position..length {
             let choice = self.track.choices[position];
-            let stop = step_to_stop(&mut machine, &mut cost, choice, &self.breaks, &self.watches)?;
-            if stop.is_some() {
+            let reason = wanted.step(&mut machine, choice)?;
+            cost += 1;
+            if reason.is_some() {
                 return Ok(Target {
                     machine,
                     position: position + 1,
-                    stop,
+                    reason,
                     cost,
                 });
             }
@@ -76,51 +83,61 @@ impl<A: Allocator + Copy> Debugger<A> {
         Ok(Target {
             machine,
             position: length,
-            stop: None,
+            reason: None,
             cost,
         })
     }
 
-    // The greatest position with a stop above 256 times `block` and at most `end`, if there is one.
-    fn place_in_block(&self, alloc: A, block: usize, end: usize) -> Result<Place, AllocError>
+    // The greatest position behind a wanted choice above 256 times `block` and at most `end`, if
+    // there is one.
+    fn place_in_block<W: Wanted<A>>(
+        &self,
+        alloc: A,
+        wanted: &W,
+        block: usize,
+        end: usize,
+    ) -> Result<Place<W::Reason>, AllocError>
         requires from { block * 256 ≤ end }
         requires to { end ≤ length_of (session self.now) }
-        ensures found { IfOk result (λ place. found_or place.position place.stop
-            (last_stop (stop_behind (session self.now)) (block * 256))
-            ≡ last_stop (stop_behind (session self.now)) end) }
+        ensures found { IfOk result (λ place. found_or place.position place.reason
+            (last_found (reason_at (W.reason wanted.now) (session self.now)) (block * 256))
+            ≡ last_found (reason_at (W.reason wanted.now) (session self.now)) end) }
         ensures above { IfOk result (λ place.
-            IfSome place.stop (λ _. block * 256 < place.position)) }
+            IfSome place.reason (λ _. block * 256 < place.position)) }
         ensures inside { IfOk result (λ place. place.position ≤ end) }
         ensures cost { IfOk result (λ place. place.cost + block * 256 ≡ end) }
     {
         let mut machine = self.track.checkpoint(block).copy(alloc)?;
         let mut place = Place {
             position: 0,
-            stop: None,
+            reason: None,
             cost: 0,
         };
         'steps: for position in block * BLOCK..end {
             let choice = self.track.choices[position];
-            let mut cost = place.cost;
-            let stop = step_to_stop(&mut machine, &mut cost, choice, &self.breaks, &self.watches)?;
-            place.cost = cost;
-            if stop.is_none() {
+            let reason = wanted.step(&mut machine, choice)?;
+            place.cost += 1;
+            if reason.is_none() {
                 continue;
             }
             place = Place {
                 position: position + 1,
-                stop,
-                cost,
+                reason,
+                cost: place.cost,
             };
         }
         Ok(place)
     }
 
-    // The greatest earlier position above 0 with a stop, or 0. It searches one block of choices
-    // after the other, the last one first.
-    fn earlier_place(&self, alloc: A) -> Result<Place, AllocError>
+    // The greatest earlier position above 0 behind a wanted choice, or 0. It searches one block of
+    // choices after the other, the last one first.
+    fn earlier_place<W: Wanted<A>>(
+        &self,
+        alloc: A,
+        wanted: &W,
+    ) -> Result<Place<W::Reason>, AllocError>
         ensures found { IfOk result (λ place.
-            (place.position, place.stop) ≡ earlier_found (session self.now)) }
+            (place.position, place.reason) ≡ earlier_of (W.reason wanted.now) (session self.now)) }
         ensures inside { IfOk result (λ place. place.position ≤ length_of (session self.now)) }
         ensures cost { IfOk result (λ place.
             place.cost ≡ steps_of_search (session self.now) place.position) }
@@ -129,12 +146,12 @@ impl<A: Allocator + Copy> Debugger<A> {
         let mut cost = 0;
         'pieces: while end > 0 {
             let block = (end - 1) / BLOCK;
-            let place = self.place_in_block(alloc, block, end)?;
+            let place = self.place_in_block(alloc, wanted, block, end)?;
             cost += place.cost;
-            if place.stop.is_some() {
+            if place.reason.is_some() {
                 return Ok(Place {
                     position: place.position,
-                    stop: place.stop,
+                    reason: place.reason,
                     cost,
                 });
             }
@@ -142,32 +159,63 @@ impl<A: Allocator + Copy> Debugger<A> {
         }
         Ok(Place {
             position: 0,
-            stop: None,
+            reason: None,
             cost,
         })
     }
 
-    /// The greatest earlier position above 0 with a stop, or the start. The debugger does not move.
-    pub fn earlier_stop(&self, alloc: A) -> Result<Target<A>, AllocError>
+    /// The greatest earlier position above 0 behind a wanted choice, or the start. The debugger does
+    /// not move.
+    pub fn earlier<W: Wanted<A>>(
+        &self,
+        alloc: A,
+        wanted: &W,
+    ) -> Result<Target<A, W::Reason>, AllocError>
         ensures found { IfOk result (λ t.
-            (t.position, t.stop) ≡ earlier_found (session self.now)) }
+            (t.position, t.reason) ≡ earlier_of (W.reason wanted.now) (session self.now)) }
+        ensures greatest { IfOk result (λ t. IsGreatestStop (reason_at (W.reason wanted.now) (session self.now))
+            ((session self.now).position - 1) t.position t.reason) }
         ensures world { IfOk result (λ t.
             paged_world t.machine ≡ world_at (session self.now) t.position) }
         ensures inside { IfOk result (λ t. t.position ≤ length_of (session self.now)) }
         ensures cost { IfOk result (λ t. t.cost ≡ steps_back (session self.now) t.position) }
     {
-        let place = self.earlier_place(alloc)?;
+        let place = self.earlier_place(alloc, wanted)?;
         let (machine, cost) = self.track.machine_at(alloc, place.position)?;
         Ok(Target {
             machine,
             position: place.position,
-            stop: place.stop,
+            reason: place.reason,
             cost: place.cost + cost,
         })
     }
 
+    /// The least later position with a stop, or the end. The debugger does not move.
+    pub fn next_stop(&self, alloc: A) -> Result<Target<A, Stop>, AllocError>
+        ensures found { IfOk result (λ t.
+            (t.position, t.reason) ≡ next_found (session self.now)) }
+        ensures world { IfOk result (λ t.
+            paged_world t.machine ≡ world_at (session self.now) t.position) }
+        ensures inside { IfOk result (λ t. t.position ≤ length_of (session self.now)) }
+        ensures cost { IfOk result (λ t. t.cost ≡ steps_on (session self.now) t.position) }
+    {
+        self.next(alloc, &self.points)
+    }
+
+    /// The greatest earlier position above 0 with a stop, or the start. The debugger does not move.
+    pub fn earlier_stop(&self, alloc: A) -> Result<Target<A, Stop>, AllocError>
+        ensures found { IfOk result (λ t.
+            (t.position, t.reason) ≡ earlier_found (session self.now)) }
+        ensures world { IfOk result (λ t.
+            paged_world t.machine ≡ world_at (session self.now) t.position) }
+        ensures inside { IfOk result (λ t. t.position ≤ length_of (session self.now)) }
+        ensures cost { IfOk result (λ t. t.cost ≡ steps_back (session self.now) t.position) }
+    {
+        self.earlier(alloc, &self.points)
+    }
+
     /// Moves to the result of a search of this debugger at this position. It cannot fail.
-    pub fn settle(&mut self, target: Target<A>)
+    pub fn settle<R: Copy>(&mut self, target: Target<A, R>)
         requires inside { target.position ≤ length_of (session self.old) }
         requires world { paged_world target.machine ≡ world_at (session self.old) target.position }
         ensures moved { session self.new ≡ moved (session self.old) target.position }
@@ -194,7 +242,7 @@ impl<A: Allocator + Copy> Debugger<A> {
             × (self.new.cost ≡ self.old.cost)) }
     {
         let target = self.next_stop(alloc)?;
-        let stop = target.stop;
+        let stop = target.reason;
         self.settle(target);
         Ok(stop)
     }
@@ -213,7 +261,7 @@ impl<A: Allocator + Copy> Debugger<A> {
             × (self.new.cost ≡ self.old.cost)) }
     {
         let target = self.earlier_stop(alloc)?;
-        let stop = target.stop;
+        let stop = target.reason;
         self.settle(target);
         Ok(stop)
     }

@@ -5,6 +5,7 @@ use Rattle.hart_step.specs.Hart.{HartValue}
 use Rattle.debug_session.specs.Points.{with_address}
 use Rattle.debug_session.specs.Session.{Session, length_of, moved, world_at, Found, next_found, earlier_found}
 use Rattle.debug_session.specs.Steps.{shown_steps}
+use Rattle.debug_session.specs.declared.stop.Stop.{Stop}
 use Rattle.debug_text.specs.Commands.{command_of}
 use Rattle.debug_text.specs.Texts.{position_text, break_text, watch_text, found_text, steps_text, hart_text, cells_text}
 use Rattle.debug_text.specs.declared.answer.Answer.{Answer}
@@ -33,7 +34,7 @@ abbrev pub shows_move : Session → ℕ → Reply
 shows_move s k = shows (position_text k (length_of s)) (moved s k)
 
 -- the session has moved to a stop; its reason is shown, or the text in its place
-abbrev pub shows_found : Session → List ℕ → Found → Reply
+abbrev pub shows_found : Session → List ℕ → Found Stop → Reply
 shows_found s none found = shows (found_text none found.1 found.0 (length_of s)) (moved s found.0)
 
 -- the registers of a hart, if it exists

@@ -149,7 +149,7 @@ fn obey_go<A: Allocator + Copy>(
         return Err(DebugFault::Memory);
     };
     let length = debugger.choices().len();
-    let Ok(text) = found_text(alloc, "end", target.stop(), target.position(), length) else {
+    let Ok(text) = found_text(alloc, "end", target.reason(), target.position(), length) else {
         return Err(DebugFault::Memory);
     };
     debugger.settle(target);
@@ -171,7 +171,7 @@ fn obey_rgo<A: Allocator + Copy>(
         return Err(DebugFault::Memory);
     };
     let length = debugger.choices().len();
-    let Ok(text) = found_text(alloc, "start", target.stop(), target.position(), length) else {
+    let Ok(text) = found_text(alloc, "start", target.reason(), target.position(), length) else {
         return Err(DebugFault::Memory);
     };
     debugger.settle(target);

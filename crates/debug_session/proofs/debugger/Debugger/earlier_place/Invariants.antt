@@ -1,12 +1,12 @@
 use Rattle.std.proofs.Common.{◌≡◌, ◌≤◌, ◌+◌, ◌-◌}
-use Rattle.debug_session.specs.Session.{session, length_of, stop_behind, last_stop, earlier_found}
+use Rattle.debug_session.specs.Session.{session, length_of, reason_at, last_found, earlier_of}
 use Rattle.debug_session.proofs.debugger.Debugger.earlier_place.Given as goal
 
 abbrev pub invariant-pieces : goal.invariant-pieces
 invariant-pieces g l = record {
   inside : l.end ≤ length_of (session l.self);
   counted : l.cost + l.end ≡ (session l.self).position - 1;
-  left : last_stop (stop_behind (session l.self)) l.end ≡ earlier_found (session l.self);
+  left : last_found (reason_at (g.W.Wanted.reason l.wanted) (session l.self)) l.end ≡ earlier_of (g.W.Wanted.reason l.wanted) (session l.self);
 }
 
 abbrev pub decreases-pieces : goal.decreases-pieces

@@ -1,7 +1,6 @@
 use Rattle.debug_session.specs.Paged.{paged_world}
 use Rattle.debug_session.proofs.TrackLemmas.{started_all, start_reached}
 use Rattle.debug_session.proofs.KeptLemmas.{kept_so}
-use Rattle.debug_session.proofs.PointLemmas.{none_aligned}
 use Rattle.debug_session.proofs.debugger.Debugger.new_with_progress.Goals as goal
 
 pub checkpoints_of-requires : goal.checkpoints_of-requires
@@ -15,6 +14,3 @@ invariant_of-track-clause-kept g c =
 
 pub invariant_of-result-clause-here : goal.invariant_of-result-clause-here
 invariant_of-result-clause-here g c = start_reached c.args.image c.args.inputs c.args.choices.items (paged_world c.in_ok-first.first) c.in_ok-first.ensures.begun
-
-pub invariant_of-result-clause-aligned : goal.invariant_of-result-clause-aligned
-invariant_of-result-clause-aligned g c = none_aligned _ c.new-2.ensures.empty
