@@ -10,6 +10,7 @@ ghost use Rattle.explore_space.specs.Failing.{fails_there};
 
 use crate::failing::fails_at;
 use crate::first::first_parts;
+use crate::kept::Kept;
 use crate::shared::Shared;
 use crate::stepping::{settled_key, stepped_key};
 use explore_search::Space;
@@ -28,8 +29,8 @@ pub struct Explorer<'a, A: Allocator> {
     code: Code<A>,
     inputs: &'a Inputs,
     rule: Option<Kind>,
-    harts: Vec<Hart, A>,
-    shareds: Vec<Shared<A>, A>,
+    harts: Kept<Hart, A>,
+    shareds: Kept<Shared<A>, A>,
     ghost its_code: { segments_memory code ≡ code_in (image_memory image.now) },
 }
 
@@ -52,16 +53,16 @@ impl<'a, A: Allocator + Copy> Explorer<'a, A> {
             code,
             inputs,
             rule,
-            harts: Vec::new(alloc),
-            shareds: Vec::new(alloc),
+            harts: Kept::new(alloc)?,
+            shareds: Kept::new(alloc)?,
         })
     }
 }
 
 impl<'a, A: Allocator + Copy> Space<A> for Explorer<'a, A> {
-    ghost is_key = { λ e key. IsKey e.image.now (length e.inputs.now) e.harts.items e.shareds.items key };
+    ghost is_key = { λ e key. IsKey e.image.now (length e.inputs.now) e.harts.parts.items e.shareds.parts.items key };
 
-    ghost place = { λ e key. place_of_key e.image.now (length e.inputs.now) e.harts.items e.shareds.items key };
+    ghost place = { λ e key. place_of_key e.image.now (length e.inputs.now) e.harts.parts.items e.shareds.parts.items key };
 
     ghost first = { λ e. place_begun (started e.image.now e.inputs.now) };
 
@@ -93,13 +94,19 @@ impl<'a, A: Allocator + Copy> Space<A> for Explorer<'a, A> {
             &self.code,
             count,
             &mut self.harts,
-            &self.shareds,
+            &self.shareds.parts,
             next,
             choice.hart as usize,
         )
     }
 
     fn is_bad(&self, key: &[u32]) -> Result<bool, AllocError> {
-        fails_at(self.alloc, &self.harts, self.inputs.words(), self.rule, key)
+        fails_at(
+            self.alloc,
+            &self.harts.parts,
+            self.inputs.words(),
+            self.rule,
+            key,
+        )
     }
 }

@@ -5,6 +5,7 @@ ghost use Rattle.machine.specs.Start.{started};
 ghost use Rattle.explore_laws.specs.Places.{place_begun};
 ghost use Rattle.explore_space.specs.Places.{IsKeyOf};
 
+use crate::kept::Kept;
 use crate::shared::Shared;
 use hart_reservations::MAX_HARTS;
 use hart_step::Hart;
@@ -49,10 +50,10 @@ pub fn first_parts<A: Allocator + Copy>(
     alloc: A,
     image: &Image<A>,
     inputs: &Inputs,
-    harts: &mut Vec<Hart, A>,
-    shareds: &mut Vec<Shared<A>, A>,
+    harts: &mut Kept<Hart, A>,
+    shareds: &mut Kept<Shared<A>, A>,
 ) -> Result<Vec<u32, A>, AllocError>
-    ensures { IfOk result (λ key. IsKeyOf image.now (length inputs.now) harts.new.items shareds.new.items key.items
+    ensures { IfOk result (λ key. IsKeyOf image.now (length inputs.now) harts.new.parts.items shareds.new.parts.items key.items
         (place_begun (started image.now inputs.now))) }
 {
     if image.entry() % 4 != 0 {
@@ -60,9 +61,9 @@ pub fn first_parts<A: Allocator + Copy>(
     }
     let row = first_row(alloc, inputs.harts())?;
     let begin = first_harts(alloc, image, inputs)?;
-    *harts = begin;
-    shareds.clear();
-    shareds.push(Shared {
+    harts.parts = begin;
+    shareds.parts.clear();
+    shareds.parts.push(Shared {
         marks: [None; MAX_HARTS],
         cells: Vec::new(alloc),
     })?;

@@ -11,6 +11,8 @@ mod explorer;
 mod exploring;
 mod failing;
 mod first;
+mod hash;
+mod kept;
 mod meant;
 mod parts;
 mod settling;

@@ -13,7 +13,7 @@ use hart_step::Hart;
 use image::Image;
 use std::alloc::{AllocError, Allocator};
 
-/// The number of a hart, which is kept from now on.
+/// The number of a hart, which is kept from now on; each one that is known is looked at.
 pub fn add_hart<A: Allocator>(harts: &mut Vec<Hart, A>, hart: Hart) -> Result<usize, AllocError>
     ensures there { IfOk result (λ id. id < length harts.new.items) }
     ensures is { IfOk result (λ id. hart_numbered harts.new.items id ≡ hart_of hart) }
@@ -30,7 +30,8 @@ pub fn add_hart<A: Allocator>(harts: &mut Vec<Hart, A>, hart: Hart) -> Result<us
     Ok(id)
 }
 
-fn is_same_hart(one: &Hart, other: &Hart) -> bool
+/// Whether two harts are the same.
+pub fn is_same_hart(one: &Hart, other: &Hart) -> bool
     ensures { MatchBool result (hart_of one.now ≡ hart_of other.now)
         (hart_of one.now ≡ hart_of other.now → ⊥) }
 {
@@ -47,7 +48,7 @@ fn has_same_words(ones: &[u32], others: &[u32]) -> bool
     *ones == *others
 }
 
-/// The number of what harts share, which is kept from now on.
+/// The number of what harts share, which is kept from now on; each one that is known is looked at.
 pub fn add_shared<A: Allocator>(
     image: &Image<A>,
     shareds: &mut Vec<Shared<A>, A>,
@@ -70,7 +71,8 @@ pub fn add_shared<A: Allocator>(
     Ok(id)
 }
 
-fn is_same_shared<A: Allocator>(image: &Image<A>, one: &Shared<A>, other: &Shared<A>) -> bool
+/// Whether harts share the same.
+pub fn is_same_shared<A: Allocator>(image: &Image<A>, one: &Shared<A>, other: &Shared<A>) -> bool
     ensures marks { result ≡ true → mark_at one.now.marks ≡ mark_at other.now.marks }
     ensures words { result ≡ true
         → words_shown image.now one.now.cells.items ≡ words_shown image.now other.now.cells.items }

@@ -6,7 +6,7 @@ ghost use Rattle.explore_laws.specs.Places.{place_settled, place_stepped};
 ghost use Rattle.explore_search.specs.Searched.{GoesOn};
 ghost use Rattle.explore_space.specs.Places.{IsKey, IsKeyOf, KeysStay, KeptOnce, PartsStep, place_of_key};
 
-use crate::parts::{add_hart, add_shared};
+use crate::kept::{Kept, keep_hart, keep_shared};
 use crate::settling::settle;
 use crate::shared::Shared;
 use explore_sites::step_site;
@@ -28,25 +28,25 @@ fn marks_of<A: Allocator>(shared: &Shared<A>) -> [Option<u32>; MAX_HARTS]
 fn step_parts<A: Allocator + Copy>(
     alloc: A,
     image: &Image<A>,
-    harts: &mut Vec<Hart, A>,
-    shareds: &mut Vec<Shared<A>, A>,
+    harts: &mut Kept<Hart, A>,
+    shareds: &mut Kept<Shared<A>, A>,
     hart_id: usize,
     shared_id: usize,
     choice: Choice,
 ) -> Result<(usize, usize), AllocError>
-    requires hart { hart_id < length harts.old.items }
-    requires shared { shared_id < length shareds.old.items }
-    ensures hart { IfOk result (λ ids. ids.0 < length harts.new.items) }
-    ensures shared { IfOk result (λ ids. ids.1 < length shareds.new.items) }
-    ensures steps { IfOk result (λ ids. PartsStep image.now choice harts.old.items shareds.old.items hart_id shared_id
-        harts.new.items shareds.new.items ids.0 ids.1) }
-    ensures harts_go { GoesOn harts.old.items harts.new.items }
-    ensures shareds_go { GoesOn shareds.old.items shareds.new.items }
-    ensures once { KeptOnce image.now harts.old.items shareds.old.items
-        → KeptOnce image.now harts.new.items shareds.new.items }
+    requires hart { hart_id < length harts.old.parts.items }
+    requires shared { shared_id < length shareds.old.parts.items }
+    ensures hart { IfOk result (λ ids. ids.0 < length harts.new.parts.items) }
+    ensures shared { IfOk result (λ ids. ids.1 < length shareds.new.parts.items) }
+    ensures steps { IfOk result (λ ids. PartsStep image.now choice harts.old.parts.items shareds.old.parts.items hart_id shared_id
+        harts.new.parts.items shareds.new.parts.items ids.0 ids.1) }
+    ensures harts_go { GoesOn harts.old.parts.items harts.new.parts.items }
+    ensures shareds_go { GoesOn shareds.old.parts.items shareds.new.parts.items }
+    ensures once { KeptOnce image.now harts.old.parts.items shareds.old.parts.items
+        → KeptOnce image.now harts.new.parts.items shareds.new.parts.items }
 {
-    let mut hart = harts[hart_id];
-    let old = &shareds[shared_id];
+    let mut hart = harts.parts[hart_id];
+    let old = &shareds.parts[shared_id];
     let mut marks = marks_of(old);
     if choice.hart as usize >= marks.len() {
         return Err(AllocError);
@@ -60,8 +60,8 @@ fn step_parts<A: Allocator + Copy>(
         &mut cells,
         choice.refuse,
     )?;
-    let hart_id = add_hart(harts, hart)?;
-    let shared_id = add_shared(image, shareds, Shared { marks, cells })?;
+    let hart_id = keep_hart(harts, hart)?;
+    let shared_id = keep_shared(image, shareds, Shared { marks, cells })?;
     Ok((hart_id, shared_id))
 }
 
@@ -70,16 +70,16 @@ pub fn stepped_key<A: Allocator + Copy>(
     alloc: A,
     image: &Image<A>,
     count: usize,
-    harts: &mut Vec<Hart, A>,
-    shareds: &mut Vec<Shared<A>, A>,
+    harts: &mut Kept<Hart, A>,
+    shareds: &mut Kept<Shared<A>, A>,
     key: &[u32],
     choice: Choice,
 ) -> Result<Vec<u32, A>, AllocError>
-    requires { IsKey image.now count harts.old.items shareds.old.items key.now }
+    requires { IsKey image.now count harts.old.parts.items shareds.old.parts.items key.now }
     ensures there { IfOk result (λ _. choice.hart < count) }
-    ensures key { IfOk result (λ next. IsKeyOf image.now count harts.new.items shareds.new.items next.items
-        (place_stepped (place_of_key image.now count harts.old.items shareds.old.items key.now) choice)) }
-    ensures kept { KeysStay image.now count harts.old.items shareds.old.items harts.new.items shareds.new.items }
+    ensures key { IfOk result (λ next. IsKeyOf image.now count harts.new.parts.items shareds.new.parts.items next.items
+        (place_stepped (place_of_key image.now count harts.old.parts.items shareds.old.parts.items key.now) choice)) }
+    ensures kept { KeysStay image.now count harts.old.parts.items shareds.old.parts.items harts.new.parts.items shareds.new.parts.items }
 {
     let number = choice.hart as usize;
     if number >= count {
@@ -105,28 +105,28 @@ pub fn stepped_key<A: Allocator + Copy>(
 }
 
 /// The key of the place where a hart has taken its local steps.
-pub fn settled_key<A: Allocator>(
+pub fn settled_key<A: Allocator + Copy>(
     image: &Image<A>,
     code: &Code<A>,
     count: usize,
-    harts: &mut Vec<Hart, A>,
+    harts: &mut Kept<Hart, A>,
     shareds: &[Shared<A>],
     key: Vec<u32, A>,
     number: usize,
 ) -> Result<Vec<u32, A>, AllocError>
     requires its_code { segments_memory code.now ≡ code_in (image_memory image.now) }
     requires there { number < count }
-    requires is { IsKey image.now count harts.old.items shareds.now key.items }
-    ensures key { IfOk result (λ next. IsKeyOf image.now count harts.new.items shareds.now next.items
-        (place_settled (place_of_key image.now count harts.old.items shareds.now key.items) number)) }
-    ensures kept { KeysStay image.now count harts.old.items shareds.now harts.new.items shareds.now }
+    requires is { IsKey image.now count harts.old.parts.items shareds.now key.items }
+    ensures key { IfOk result (λ next. IsKeyOf image.now count harts.new.parts.items shareds.now next.items
+        (place_settled (place_of_key image.now count harts.old.parts.items shareds.now key.items) number)) }
+    ensures kept { KeysStay image.now count harts.old.parts.items shareds.now harts.new.parts.items shareds.now }
 {
     let _ = image;
     let _ = shareds;
     let mut next = key;
-    let mut hart = harts[next[number] as usize];
+    let mut hart = harts.parts[next[number] as usize];
     settle(&mut hart, code);
-    let id = add_hart(harts, hart)?;
+    let id = keep_hart(harts, hart)?;
     if id > 0xffff_ffff {
         return Err(AllocError);
     }

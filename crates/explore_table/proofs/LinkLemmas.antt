@@ -4,10 +4,10 @@ use Rattle.std.specs.List.{Contains, slice_get}
 use Rattle.std.specs.Option.{option_map}
 use Rattle.std.proofs.lemmas.Bool.{cases_eq}
 use Rattle.std.proofs.lemmas.List.{length-append, map-append, length-set, get_or-set_same, get_or-set_other, get_or_append_left}
-use Rattle.std.proofs.lemmas.Option.{slice_get_within, slice_get-map, slice_get_read, get_or_from_slice_get, slice_get-get_or}
+use Rattle.std.proofs.lemmas.Option.{same_Some, slice_get_within, slice_get-map, slice_get_read, get_or_from_slice_get, slice_get-get_or}
 use Rattle.explore_table.proofs.ListLemmas.{get_either, at_contains}
 use Rattle.explore_table.specs.Buckets.{bucket_of}
-use Rattle.explore_table.specs.Links.{keys_of, key_at, IsLast, IsLinked, IsSought}
+use Rattle.explore_table.specs.Links.{keys_of, key_at, IsLast, IsLinked, IsLinkedTo, IsSought}
 use Rattle.explore_table.specs.declared.row.Row.{Row}
 
 length_keys : {Z : Type 0} (rows : List (Row Z)) → length (keys_of rows) ≡ length rows
@@ -167,3 +167,110 @@ linked_added {Z} rows more heads key r bucket n buckets l longer count is key_is
     let before_so : r.before ≡ get_or heads bucket 0
     = before ∙ sym (get_or_from_slice_get heads bucket (get_or heads bucket r.before) 0 (slice_get-get_or heads bucket r.before inside)) in
     rw longer (rw count (linked_more rows heads r bucket l is_so inside before_so))
+
+-- ---- linking rows one after another
+pub set_keys : {Z : Type 0} (rows : List (Row Z)) (n : ℕ) (r s : Row Z) → slice_get rows n ≡ Some r → s.words.items ≡ r.words.items
+    → keys_of (set rows n s) ≡ keys_of rows
+set_keys [] n r s there same = refl
+set_keys {Z} (x ∷ rows) zero r s there same =
+    ap (λ (k : List ℕ). k ∷ keys_of rows) (same ∙ ap (λ (y : Row Z). y.words.items) (sym (same_Some x r there)))
+set_keys (x ∷ rows) (suc n) r s there same = ap (λ (ks : List (List ℕ)). x.words.items ∷ ks) (set_keys rows n r s there same)
+
+get_set_same : {X : Type 0} (xs : List X) (n : ℕ) (x y : X) → slice_get xs n ≡ Some x → slice_get (set xs n y) n ≡ Some y
+get_set_same [] n x y there = absurd (cc)
+get_set_same (z ∷ xs) zero x y there = refl
+get_set_same (z ∷ xs) (suc n) x y there = get_set_same xs n x y there
+
+get_set_other : {X : Type 0} (xs : List X) (n k : ℕ) (y : X) → k ≢ n → slice_get (set xs n y) k ≡ slice_get xs k
+get_set_other [] n k y other = refl
+get_set_other (z ∷ xs) zero zero y other = absurd (other refl)
+get_set_other (z ∷ xs) zero (suc k) y other = refl
+get_set_other (z ∷ xs) (suc n) zero y other = refl
+get_set_other (z ∷ xs) (suc n) (suc k) y other = get_set_other xs n k y (λ e. other (ap suc e))
+
+below_or_at : (k n : ℕ) → k < n + 1 → (k < n) ⊎ (k ≡ n)
+below_or_at k n h = grind arith
+
+next_other : (buckets bucket n : ℕ) (keys : List (List ℕ)) (link : ℕ) → bucket_of (key_at keys n) buckets ≢ bucket
+    → IsLast buckets bucket n keys link → IsLast buckets bucket (n + 1) keys link
+next_other buckets bucket n keys link other l = record {
+  within = let w = l.within in omega (arith, w);
+  inside = l.inside;
+  last = λ k from below is. elim (below_or_at k n below) [
+    | inl old ↦ l.last k from old is
+    | inr new ↦ other (ap (λ i. bucket_of (key_at keys i) buckets) (sym new) ∙ is)
+  ];
+}
+
+next_new : (buckets bucket n : ℕ) (keys : List (List ℕ)) → bucket_of (key_at keys n) buckets ≡ bucket
+    → IsLast buckets bucket (n + 1) keys (n + 1)
+next_new buckets bucket n keys is = record {
+  within = omega arith;
+  inside = λ k e. ap (λ i. bucket_of (key_at keys i) buckets) (the_last k n e) ∙ is;
+  last = λ k from below here. absurd (omega (arith, from, below));
+}
+  where
+    the_last : (k n : ℕ) → suc k ≡ n + 1 → k ≡ n
+    the_last k n e = omega (arith, e)
+
+-- nothing is linked yet
+pub linked_none : {Z : Type 0} (rows : List (Row Z)) (heads : List ℕ) → 0 < length heads
+    → ((b : ℕ) → b < length heads → get_or heads b 0 ≡ 0) → IsLinkedTo 0 rows heads
+linked_none rows heads some zeros = record {
+  some = some;
+  rows = λ k x low e. absurd (omega (arith, low));
+  heads = λ b h. let z = zeros b h in record {
+    within = omega (arith, z);
+    inside = λ k e. absurd (omega (arith, e, z));
+    last = λ k from below is. absurd (omega (arith, below));
+  };
+}
+
+pub within_next : {X : Type 0} (xs : List X) (n : ℕ) (x : X) → n < length xs → n + 1 ≤ length (set xs n x)
+within_next xs n x low = let same = length-set xs n x in omega (arith, low, same)
+
+-- the bucket of a row that is given twice
+pub same_bucket : {Z : Type 0} (r s : Row Z) (bucket n : ℕ) → r ≡ s → bucket ≡ bucket_of s.words.items n → bucket ≡ bucket_of r.words.items n
+same_bucket {Z} r s bucket n same is = is ∙ ap (λ (x : Row Z). bucket_of x.words.items n) (sym same)
+
+-- one row more
+pub linked_next : {Z : Type 0} (rows : List (Row Z)) (heads : List ℕ) (r s : Row Z) (bucket n : ℕ) → IsLinkedTo n rows heads
+    → slice_get rows n ≡ Some r → s.words.items ≡ r.words.items → s.before ≡ get_or heads bucket 0
+    → bucket ≡ bucket_of r.words.items (length heads) → bucket < length heads
+    → IsLinkedTo (n + 1) (set rows n s) (set heads bucket (n + 1))
+linked_next {Z} rows heads r s bucket n l there words before is within =
+    let keys : List (List ℕ) = keys_of rows in
+    let same : keys_of (set rows n s) ≡ keys = set_keys rows n r s there words in
+    let buckets : length (set heads bucket (n + 1)) ≡ length heads = length-set heads bucket (n + 1) in
+    let key_is : key_at keys n ≡ r.words.items
+    = get_or_from_slice_get keys n r.words.items [] (slice_get-map (λ (x : Row Z). x.words.items) rows n
+    ∙ ap (option_map (λ (x : Row Z). x.words.items)) there) in
+    let here : bucket_of (key_at keys n) (length heads) ≡ bucket = ap (λ k. bucket_of k (length heads)) key_is ∙ sym is in
+    let linked : IsLast (length heads) (bucket_of s.words.items (length heads)) n keys s.before
+    = rw before (rw words (rw (sym is) (l.heads bucket within))) in
+    record {
+      some = rw buckets l.some;
+      rows = λ k x low e. rw buckets (rw same (elim (cases_eq k n) [
+        | inl at ↦ subst (λ (y : Row Z). IsLast (length heads) (bucket_of y.words.items (length heads)) k keys y.before)
+            (same_Some s x (sym (get_set_same rows n r s there) ∙ ap (slice_get (set rows n s)) (sym at) ∙ e))
+            (subst (λ i. IsLast (length heads) (bucket_of s.words.items (length heads)) i keys s.before) (sym at) linked)
+        | inr other ↦ l.rows k x (lower k n low other) (sym (get_set_other rows n k s other) ∙ e)
+      ]));
+      heads = λ b h. rw buckets (rw same (elim (cases_eq b bucket) [
+        | inl at ↦ rw at (rw (get_or-set_same heads bucket (n + 1) 0 within) (next_new (length heads) bucket n keys here))
+        | inr other ↦ rw (get_or-set_other heads bucket b (n + 1) 0 other)
+            (next_other (length heads) b n keys (get_or heads b 0) (λ e. other (sym e ∙ here)) (l.heads b (rw buckets at h)))
+      ]));
+    }
+  where
+    lower : (k n : ℕ) → k < n + 1 → k ≢ n → k < n
+    lower k n low other = elim (below_or_at k n low) [ inl below ↦ below | inr at ↦ absurd (other at) ]
+
+-- all rows are linked
+pub linked_all : {Z : Type 0} (rows : List (Row Z)) (heads : List ℕ) (n : ℕ) → length rows ≤ n → IsLinkedTo n rows heads
+    → n ≡ length rows → IsLinked rows heads
+linked_all rows heads n all l is = record {
+  some = l.some;
+  rows = λ k x e. l.rows k x (let w = slice_get_within rows k x e in omega (arith, w, all)) e;
+  heads = λ b h. subst (λ m. IsLast (length heads) b m (keys_of rows) (get_or heads b 0)) is (l.heads b h);
+}

@@ -35,3 +35,10 @@ pub record IsSought {Z : Type 0} (kept : List (Row Z)) (lasts key : List ℕ) (l
   pub within : link ≤ length kept
   pub inside : (k : ℕ) → suc k ≡ link → IsIn (length lasts) (bucket_of key (length lasts)) (keys_of kept) k
   pub none : (k : ℕ) → link ≤ k → k < length kept → key_at (keys_of kept) k ≡ key → ⊥
+
+-- the first n rows are linked so, and each bucket leads to its last one among them
+pub record IsLinkedTo {Z : Type 0} (n : ℕ) (kept : List (Row Z)) (lasts : List ℕ) : Type 0 where
+  pub some : 0 < length lasts
+  pub rows : (k : ℕ) (r : Row Z) → k < n → slice_get kept k ≡ Some r
+      → IsLast (length lasts) (bucket_of r.words.items (length lasts)) k (keys_of kept) r.before
+  pub heads : (b : ℕ) → b < length lasts → IsLast (length lasts) b n (keys_of kept) (slice_index lasts b)

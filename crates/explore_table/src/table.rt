@@ -4,6 +4,7 @@ ghost use Rattle.std.specs.List.{Contains};
 
 use crate::finding::find_linked;
 use crate::hash::bucket_of;
+use crate::linking::link_all;
 use crate::row::Row;
 use std::alloc::{AllocError, Allocator};
 use std::marker::Model;
@@ -68,6 +69,21 @@ impl<A: Allocator> Table<A> {
         find_linked(&self.rows, &self.heads, key)
     }
 
+    // Doubles the number of buckets where there are as many keys, so that few share one. A refusal
+    // changes nothing.
+    fn make_room(&mut self) -> Result<(), AllocError>
+        ensures { self.new ≡ self.old }
+    {
+        if self.rows.len() < self.heads.len() {
+            return Ok(());
+        }
+        let buckets = self.heads.len().saturating_mul(2);
+        self.heads.resize(buckets, 0)?;
+        self.heads.fill(0);
+        link_all(&mut self.rows, &mut self.heads);
+        Ok(())
+    }
+
     /// The number of a key, which is kept from now on. A refusal changes nothing.
     pub fn add(&mut self, key: Vec<u32, A>) -> Result<usize, AllocError>
         ensures number { IfOk result (λ number.
@@ -79,8 +95,10 @@ impl<A: Allocator> Table<A> {
         if let Some(number) = self.find(&key) {
             return Ok(number);
         }
+        self.make_room()?;
         let number = self.rows.len();
-        let bucket = bucket_of(&key, self.heads.len());
+        let buckets = self.heads.len();
+        let bucket = bucket_of(&key, buckets);
         let before = self.heads[bucket];
         self.rows.push(Row { words: key, before })?;
         self.heads[bucket] = number + 1;

@@ -14,17 +14,17 @@ use Rattle.explore_space.proofs.stepping.settled_key.Goals as goal
 
 pub returns-clause-kept : goal.returns-clause-kept
 returns-clause-kept g c =
-    kept c.args.image.now c.args.count c.args.harts.now.items c.add_hart.new.harts.items c.args.shareds.now c.args.shareds.now
+    kept c.args.image.now c.args.count c.args.harts.now.parts.items c.keep_hart.new.harts.parts.items c.args.shareds.now c.args.shareds.now
     c.in_ok-id.ensures.goes_on ([], sym (append-nil c.args.shareds.now)) (λ once. (c.in_ok-id.ensures.once once.0, once.1))
 
 pub returns-in_err-id-clause-kept : goal.returns-in_err-id-clause-kept
 returns-in_err-id-clause-kept g c =
-    kept c.args.image.now c.args.count c.args.harts.now.items c.add_hart.new.harts.items c.args.shareds.now c.args.shareds.now
+    kept c.args.image.now c.args.count c.args.harts.now.parts.items c.keep_hart.new.harts.parts.items c.args.shareds.now c.args.shareds.now
     c.in_err-id.ensures.goes_on ([], sym (append-nil c.args.shareds.now)) (λ once. (c.in_err-id.ensures.once once.0, once.1))
 
 pub returns-then-id-gt4294967295-clause-kept : goal.returns-then-id-gt4294967295-clause-kept
 returns-then-id-gt4294967295-clause-kept g c =
-    kept c.args.image.now c.args.count c.args.harts.now.items c.add_hart.new.harts.items c.args.shareds.now c.args.shareds.now
+    kept c.args.image.now c.args.count c.args.harts.now.parts.items c.keep_hart.new.harts.parts.items c.args.shareds.now c.args.shareds.now
     c.in_ok-id.ensures.goes_on ([], sym (append-nil c.args.shareds.now)) (λ once. (c.in_ok-id.ensures.once once.0, once.1))
 
 pub returns-clause-key : goal.returns-clause-key
@@ -37,14 +37,14 @@ returns-clause-key g c =
     let at : slice_index c.args.key.items c.args.number ≡ c.index.result.now
     = get_or_from_slice_get c.args.key.items c.args.number c.index.result.now 0 got in
     let known = c.requires.is.harts c.args.number _ (taken_at c.args.count c.args.key.items c.args.number low inside) in
-    let there = slice_get_read c.args.harts.now.items (length c.args.harts.now.items) c.index.result.now c.index-2.result.now refl
-    (subst (λ i. i < length c.args.harts.now.items) at known) c.index-2.ensures in
-    settled_is_key_of c.args.image.now c.args.count c.args.harts.now.items c.add_hart.new.harts.items c.args.shareds.now
+    let there = slice_get_read c.args.harts.now.parts.items (length c.args.harts.now.parts.items) c.index.result.now c.index-2.result.now refl
+    (subst (λ i. i < length c.args.harts.now.parts.items) at known) c.index-2.ensures in
+    settled_is_key_of c.args.image.now c.args.count c.args.harts.now.parts.items c.keep_hart.new.harts.parts.items c.args.shareds.now
     c.in_ok-id.ensures.goes_on ([], sym (append-nil c.args.shareds.now)) c.args.key.items _ c.requires.is c.args.number c.in_ok-id.id
     low c.in_ok-id.ensures.there refl
     (c.in_ok-id.ensures.is ∙ c.settle.ensures.hart ∙ ap (λ (m : Memory). rested m at_once (hart_of c.index-2.result.now)) c.requires.its_code
     ∙ ap (λ o. rested (code_in (image_memory c.args.image.now)) at_once (hart_in o)) (sym there)
-    ∙ ap (λ i. rested (code_in (image_memory c.args.image.now)) at_once (hart_numbered c.args.harts.now.items i)) (sym at))
+    ∙ ap (λ i. rested (code_in (image_memory c.args.image.now)) at_once (hart_numbered c.args.harts.now.parts.items i)) (sym at))
     (c.in_ok-id.ensures.once once.0, once.1)
 
 pub index-requires-2 : goal.index-requires-2
@@ -56,6 +56,6 @@ index-requires-2 g c =
     let at : slice_index c.args.key.items c.args.number ≡ c.index.result.now
     = get_or_from_slice_get c.args.key.items c.args.number c.index.result.now 0 got in
     let known = c.requires.is.harts c.args.number _ (taken_at c.args.count c.args.key.items c.args.number low inside) in
-    let there = subst (λ i. i < length c.args.harts.now.items) at known in
-    let full = c.args.harts.now.ok.0 in
+    let there = subst (λ i. i < length c.args.harts.now.parts.items) at known in
+    let full = c.args.harts.now.parts.ok.0 in
     omega (arith, there, full)

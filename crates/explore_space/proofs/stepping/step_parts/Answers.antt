@@ -10,9 +10,9 @@ use Rattle.explore_space.proofs.stepping.step_parts.Goals as goal
 
 pub returns-clause-steps : goal.returns-clause-steps
 returns-clause-steps g c =
-    let hart_there = slice_get_read c.args.harts.now.items (length c.args.harts.now.items) c.args.hart_id c.index.result.now refl
+    let hart_there = slice_get_read c.args.harts.now.parts.items (length c.args.harts.now.parts.items) c.args.hart_id c.index.result.now refl
     c.requires.hart c.index.ensures in
-    let shared_there = slice_get_read c.args.shareds.now.items (length c.args.shareds.now.items) c.args.shared_id c.index-old.result.now refl
+    let shared_there = slice_get_read c.args.shareds.now.parts.items (length c.args.shareds.now.parts.items) c.args.shared_id c.index-old.result.now refl
     c.requires.shared c.index-old.ensures in
     steps_moved (table (image_memory c.args.image.now)) c.args.choice.hart c.args.choice.refuse _ _ _ _ _ _ _ _ _ _ _ _
     c.in_ok-step_site.ensures.steps (ap hart_in hart_there) c.in_ok-hart_id.ensures.is

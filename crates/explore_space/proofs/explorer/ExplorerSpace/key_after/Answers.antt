@@ -16,23 +16,23 @@ returns-in_err-next-clause-differ g c = keys_differ _ _ _ _
 pub returns-clause-kept : goal.returns-clause-kept
 returns-clause-kept g c =
     let image = c.args.self.now.image.now in
-    subst (λ n. KeysStay image n c.args.self.now.harts.items c.args.self.now.shareds.items c.settled_key.new.harts.items
-    c.stepped_key.new.shareds.items) c.harts-count.ensures.harts
-    (kept_on image c.harts-count.result c.args.self.now.harts.items c.stepped_key.new.harts.items c.settled_key.new.harts.items
-    c.args.self.now.shareds.items c.stepped_key.new.shareds.items c.in_ok-next.ensures.kept
-    (subst (λ shareds. KeysStay image c.harts-count.result c.stepped_key.new.harts.items shareds c.settled_key.new.harts.items shareds)
+    subst (λ n. KeysStay image n c.args.self.now.harts.parts.items c.args.self.now.shareds.parts.items c.settled_key.new.harts.parts.items
+    c.stepped_key.new.shareds.parts.items) c.harts-count.ensures.harts
+    (kept_on image c.harts-count.result c.args.self.now.harts.parts.items c.stepped_key.new.harts.parts.items c.settled_key.new.harts.parts.items
+    c.args.self.now.shareds.parts.items c.stepped_key.new.shareds.parts.items c.in_ok-next.ensures.kept
+    (subst (λ shareds. KeysStay image c.harts-count.result c.stepped_key.new.harts.parts.items shareds c.settled_key.new.harts.parts.items shareds)
     c.deref.ensures.value c.settled_key.ensures.kept))
 
 pub returns-clause-key : goal.returns-clause-key
 returns-clause-key g c =
     let image = c.args.self.now.image.now in
-    subst (λ n. IfOk c.settled_key.result (λ k. IsKeyOf image n c.settled_key.new.harts.items c.stepped_key.new.shareds.items k.items
-    (place_after (place_of_key image n c.args.self.now.harts.items c.args.self.now.shareds.items c.args.key.now) c.args.choice)))
+    subst (λ n. IfOk c.settled_key.result (λ k. IsKeyOf image n c.settled_key.new.harts.parts.items c.stepped_key.new.shareds.parts.items k.items
+    (place_after (place_of_key image n c.args.self.now.harts.parts.items c.args.self.now.shareds.parts.items c.args.key.now) c.args.choice)))
     c.harts-count.ensures.harts
     (IfOk-weaker c.settled_key.result _ _
-    (λ k. turned image c.harts-count.result c.args.self.now.harts.items c.stepped_key.new.harts.items c.settled_key.new.harts.items
-    c.args.self.now.shareds.items c.stepped_key.new.shareds.items c.args.key.now c.in_ok-next.next.items k.items c.args.choice
+    (λ k. turned image c.harts-count.result c.args.self.now.harts.parts.items c.stepped_key.new.harts.parts.items c.settled_key.new.harts.parts.items
+    c.args.self.now.shareds.parts.items c.stepped_key.new.shareds.parts.items c.args.key.now c.in_ok-next.next.items k.items c.args.choice
     c.in_ok-next.ensures.key)
-    (subst (λ shareds. IfOk c.settled_key.result (λ k. IsKeyOf image c.harts-count.result c.settled_key.new.harts.items shareds k.items
-    (place_settled (place_of_key image c.harts-count.result c.stepped_key.new.harts.items shareds c.in_ok-next.next.items) c.args.choice.hart)))
+    (subst (λ shareds. IfOk c.settled_key.result (λ k. IsKeyOf image c.harts-count.result c.settled_key.new.harts.parts.items shareds k.items
+    (place_settled (place_of_key image c.harts-count.result c.stepped_key.new.harts.parts.items shareds c.in_ok-next.next.items) c.args.choice.hart)))
     c.deref.ensures.value c.settled_key.ensures.key))
