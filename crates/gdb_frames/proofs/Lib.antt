@@ -1,0 +1,4 @@
+pub mod WritingLemmas
+pub mod ReadingLemmas
+pub mod GrammarLemmas
+pub mod FrameLemmas

@@ -1,0 +1,4 @@
+pub mod NumberLemmas
+pub mod PartLemmas
+pub mod ListLemmas
+pub mod NumeralLemmas

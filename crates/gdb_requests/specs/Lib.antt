@@ -1,0 +1,9 @@
+pub mod Lists
+pub mod Numbers
+pub mod Words
+pub mod Operands
+pub mod Features
+pub mod Actions
+pub mod Bytes
+pub mod Requests
+pub mod Asked
