@@ -2,12 +2,12 @@
 
 ghost use Rattle.std.specs.Prelude.{◌≡◌, ◌≢◌, ◌-◌, ◌^◌, ◌<◌, All, IfErr, IfOk, length, map};
 
-use crate::program_file::{OpenFault, ProgramFile};
 use crate::sources::{explain_no_text, explain_sources};
 use byte_io::{ReaderSource, Source, Status, WriterSink};
 use cli_orders::AsmOrder;
 use cli_report::{
-    Audience, cannot_open, cannot_read, cannot_write, is_same_file, out_of_memory, would_overwrite,
+    Audience, OutputFault, OutputFile, PROGRAM_MODE, cannot_open, cannot_read, cannot_write,
+    is_same_file, out_of_memory, would_overwrite,
 };
 use cmd_asm::{AssemblyFault, file_engine, listing_engine};
 use std::rt::Files;
@@ -68,21 +68,30 @@ pub fn obey_asm<R: Files + AllocGlobal + Print + Eprint>(
         }
         Some(out) if is_a_source(rt, order, out) => would_overwrite(rt, out),
         Some(out) => {
-            let mut file = ProgramFile::new(rt, out);
+            let mut file = OutputFile::new(rt, out, PROGRAM_MODE);
             match file_engine(rt.alloc(), &mut sources, &mut file) {
-                Ok(status) => status,
-                Err(AssemblyFault::Write) => tell_unwritten(rt, out, file.open_fault()),
-                Err(fault) => tell(rt, audience, order, fault),
+                Ok(status) => match file.keep() {
+                    Ok(()) => status,
+                    Err(fault) => tell_unwritten(rt, out, Some(fault)),
+                },
+                Err(fault) => {
+                    let unopened = file.fault();
+                    file.forget();
+                    match fault {
+                        AssemblyFault::Write => tell_unwritten(rt, out, unopened),
+                        fault => tell(rt, audience, order, fault),
+                    }
+                }
             }
         }
     }
 }
 
 // Reports that the output file can't be written, or that opening it is out of memory.
-fn tell_unwritten<R: Eprint>(rt: &R, path: &str, fault: Option<OpenFault>) -> Status {
+fn tell_unwritten<R: Eprint>(rt: &R, path: &str, fault: Option<OutputFault>) -> Status {
     match fault {
-        Some(OpenFault::Memory) => out_of_memory(rt),
-        Some(OpenFault::Refused) | None => cannot_write(rt, path),
+        Some(OutputFault::Memory) => out_of_memory(rt),
+        Some(OutputFault::Refused) | None => cannot_write(rt, path),
     }
 }
 

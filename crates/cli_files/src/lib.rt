@@ -8,5 +8,4 @@ pub use library::obey_lib;
 mod asm;
 mod file;
 mod library;
-mod program_file;
 mod sources;

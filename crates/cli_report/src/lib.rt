@@ -7,6 +7,7 @@ pub use audience::Audience;
 pub use explain::{RunFiles, explain_ends, explain_line, explain_run, read_again, show};
 pub use files::{is_same_file, open_both, open_one, say_why};
 pub use objects::{read_object, read_rule};
+pub use output_file::{OutputFault, OutputFile, PROGRAM_MODE, TEXT_MODE};
 pub use progress_line::{WIPE, wipe_line};
 pub use report::{
     bad_line, cannot_open, cannot_read, cannot_write, out_of_memory, refuse, say, would_overwrite,
@@ -18,6 +19,7 @@ mod audience;
 mod explain;
 mod files;
 mod objects;
+mod output_file;
 mod progress_line;
 mod report;
 mod said;

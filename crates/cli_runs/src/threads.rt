@@ -8,17 +8,17 @@ use byte_io::{Source, Status, WriterSink};
 use cli_args::{LineFault, read_inputs, read_number};
 use cli_orders::{Locks, ThreadsOrder, read_plan};
 use cli_report::{
-    Audience, RunFiles, cannot_write, is_same_file, open_one, out_of_memory, read_again, read_rule,
-    refuse, say, say_why, show, would_overwrite,
+    Audience, OutputFault, OutputFile, RunFiles, TEXT_MODE, cannot_write, is_same_file, open_one,
+    out_of_memory, read_again, read_rule, refuse, say, say_why, show, would_overwrite,
 };
 use cmd_threads::{HistoryUse, ThreadsAnswer, ThreadsTask, banked_engine, threads_engine};
 use program_open::{CommandFault, write_text};
 use std::alloc::Global;
 use std::collections::BTreeSet;
+use std::io;
 use std::rt::Files;
 use std::sync::Wait;
 use std::thread::Threads;
-use std::{fs, io};
 use thread_gate::Gate;
 
 // Parses the order's texts.
@@ -116,20 +116,25 @@ fn write_answer<R: Files + AllocGlobal + Print + Eprint>(
     }
 }
 
-// Writes the history to a file of its own, which is opened now.
+// Writes the history to a file of its own.
 fn write_history<R: Files + AllocGlobal + Print + Eprint>(
     rt: &R,
     path: &str,
     text: &[u8],
 ) -> Result<(), Status> {
-    let file = match fs::create(rt, path) {
-        Ok(file) => file,
-        Err(error) if error.kind() == io::ErrorKind::OutOfMemory => return Err(out_of_memory(rt)),
-        Err(_) => return Err(cannot_write(rt, path)),
+    let mut file = OutputFile::new(rt, path, TEXT_MODE);
+    let kept = match write_text(&mut file, text) {
+        Ok(()) => file.keep(),
+        Err(_) => {
+            let unopened = file.fault();
+            file.forget();
+            Err(unopened.unwrap_or(OutputFault::Refused))
+        }
     };
-    match write_text(&mut WriterSink::new(file), text) {
+    match kept {
         Ok(()) => Ok(()),
-        Err(_) => Err(cannot_write(rt, path)),
+        Err(OutputFault::Memory) => Err(out_of_memory(rt)),
+        Err(OutputFault::Refused) => Err(cannot_write(rt, path)),
     }
 }
 

@@ -81,6 +81,4 @@ pub(crate) const CALL: Form = &[
 ];
 
 /// An EBREAK.
-pub(crate) const BREAK: Form = &[Words(
-    "an ebreak of the program's own, as one writes where something must not be: what stands before it was so",
-)];
+pub(crate) const BREAK: Form = &[Words("the program's own check just before this failed")];
