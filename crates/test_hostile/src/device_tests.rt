@@ -115,6 +115,8 @@ const ENDS: &str = "hart 0 running pc 00010000\nhart 1 running pc 00010000\n";
 const SEEDS: &str =
     "seed 5 exited 1 faulted 0 running 0\nseed 6 exited 1 faulted 0 running 0\nseed 7 exited 1 faulted 0 running 0\n";
 
+const INPUTS: [u32; 2] = [7, 9];
+
 const COMMANDS: &[u8] = b"where\nsteps 0 1\nback\nquit\n";
 
 const ANSWERS: &str = "step 0 of 2\n0 h0 00010000 addi a7, zero, 93\npast end\n";
@@ -264,7 +266,7 @@ fn debug(alloc: Global, failure: Failure) -> Outcome {
     let mut sink = Failing::new(MemorySink::new(alloc), failure.calls(Device::Output));
     let result = debug_engine(
         alloc,
-        &[7, 9],
+        &INPUTS,
         &mut program,
         &mut choices,
         &mut commands,
