@@ -4,12 +4,14 @@
 pub use answer::Answer;
 pub use commands::Command;
 pub use fault::DebugFault;
+pub use laws::lines_are_commands_of_words;
 pub use line::{command, read_command};
 pub use replies::obey;
 
 mod answer;
 mod commands;
 mod fault;
+mod laws;
 mod line;
 mod memory_text;
 mod number;
