@@ -1,6 +1,7 @@
 //! Arguments of commands, and their values in clap's matches.
 
 use crate::commands::CommandRow;
+use crate::help::EXPLAINED;
 use clap::{Arg, ArgAction, ArgMatches, Command};
 use std::alloc::{AllocError, Global};
 
@@ -17,6 +18,8 @@ pub(crate) enum Argument {
     Many(&'static str, &'static str),
     /// An optional option with a value.
     Optional(&'static str, &'static str),
+    /// An optional option with a value, which has a letter too.
+    Lettered(&'static str, char, &'static str),
     /// A required option with a value.
     NeededOption(&'static str, &'static str),
     /// An option without a value.
@@ -34,6 +37,9 @@ fn arg_of<'a>(alloc: Global, argument: Argument, objects: &'a str) -> Arg<'a> {
             .action(ArgAction::Append)
             .help(help),
         Argument::Optional(id, help) => Arg::new(alloc, id).long(id).help(help),
+        Argument::Lettered(id, letter, help) => {
+            Arg::new(alloc, id).long(id).short(letter).help(help)
+        }
         Argument::NeededOption(id, help) => {
             Arg::new(alloc, id).long(id).required(true).help(help)
         }
@@ -43,6 +49,9 @@ fn arg_of<'a>(alloc: Global, argument: Argument, objects: &'a str) -> Arg<'a> {
             .help(help),
     }
 }
+
+/// The option that each command has.
+pub(crate) const EXPLAIN: &str = "explain";
 
 /// The command as clap takes it. `objects` are the names of the library's objects.
 pub(crate) fn command_of<'a>(
@@ -56,7 +65,7 @@ pub(crate) fn command_of<'a>(
     'arguments: for argument in row.arguments {
         command = command.arg(arg_of(alloc, *argument, objects))?;
     }
-    Ok(command)
+    command.arg(arg_of(alloc, Argument::Optional(EXPLAIN, EXPLAINED), objects))
 }
 
 /// The text of an argument.

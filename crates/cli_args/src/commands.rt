@@ -27,7 +27,7 @@ pub(crate) const COMMANDS: [CommandRow; 13] = [
         does: "Assembles sources; prints the listing or writes an ELF file",
         example: "Example: rvcons asm --out swap.elf swap.s",
         arguments: &[
-            Argument::Optional("out", "the ELF file that is written"),
+            Argument::Lettered("out", 'o', "the ELF file that is written"),
             Argument::Many("IN", "the sources, in order"),
         ],
     },

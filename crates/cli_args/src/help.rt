@@ -17,6 +17,10 @@ pub(crate) const CHOICES: &str =
 pub(crate) const HISTORY: &str =
     "a file of entries, each a hart, + and its local steps before one more step, as 0+3 1+0!; ! refuses a store-conditional";
 
+/// Of `--explain`.
+pub(crate) const EXPLAINED: &str =
+    "when faults are explained on standard error: always, never, or auto, which is at a terminal";
+
 /// Of `--rule`.
 pub(crate) const RULE: &str = "also judge the rule of an object, named as lib has it";
 

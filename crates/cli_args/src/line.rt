@@ -1,7 +1,8 @@
 //! Matches the command line by clap.
 
-use crate::arguments::command_of;
+use crate::arguments::{EXPLAIN, command_of, text_of};
 use crate::commands::{COMMANDS, CommandRow};
+use crate::explain::explain_of;
 use crate::run_line::{RunOrder, run_order};
 use clap::error::ErrorKind;
 use clap::{ArgMatches, Command};
@@ -19,6 +20,8 @@ pub enum LineFault {
     /// The plan isn't pairs of a hart and the number of its choice, two decimal numbers below 2^32
     /// each, with commas between them.
     BadPlan,
+    /// `--explain` has another value than `auto`, `always` and `never`.
+    BadExplain,
     /// A number isn't written in decimal digits, or is too large.
     BadNumber,
     /// The library has no object with this name.
@@ -48,6 +51,17 @@ fn program<'a>(
     Ok(program)
 }
 
+// Whether a command's `--explain`, if it is given, has one of its values.
+fn explains<'a>(matches: &ArgMatches<'a>) -> bool {
+    let Some((_, found)) = matches.subcommand() else {
+        return true;
+    };
+    match text_of(found, EXPLAIN) {
+        Some(value) => explain_of(value).is_some(),
+        None => true,
+    }
+}
+
 /// Clap's matches for the words, the first of which is the program's name. Help lists the library's
 /// objects by `objects`, their names.
 pub fn match_line<'a>(
@@ -59,7 +73,8 @@ pub fn match_line<'a>(
         return Err(LineFault::Memory);
     };
     match command.try_get_matches_from(words) {
-        Ok(matches) => Ok(matches),
+        Ok(matches) if explains(&matches) => Ok(matches),
+        Ok(_) => Err(LineFault::BadExplain),
         Err(error) if error.kind() == ErrorKind::OutOfMemory => Err(LineFault::Memory),
         Err(error) => Err(LineFault::Told(error)),
     }

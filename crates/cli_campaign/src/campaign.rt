@@ -33,7 +33,7 @@ struct Line<'a, R> {
 
 impl<'a, R: Eprint> Progress for Line<'a, R> {
     fn seeds_done(&mut self, done: u64, bad: u64) {
-        if self.audience == Audience::Person {
+        if self.audience.sees_progress() {
             self.is_shown = true;
             // If standard error is closed, nobody sees it.
             let (count, what) = (self.count, self.bad);
@@ -73,10 +73,7 @@ fn read_campaign<R: Print + Eprint>(rt: &R, order: &CampaignOrder) -> Result<Cam
         ));
     };
     let Some(report) = read_report(order.failures, order.summary, order.outcomes) else {
-        return Err(bad_line(
-            rt,
-            "--outcomes goes with --summary, which doesn't go with --failures",
-        ));
+        return Err(bad_line(rt, why_no_report(order)));
     };
     let draw = match read_draw(order.draw, order.refusals) {
         Ok(draw) => draw,
@@ -90,6 +87,15 @@ fn read_campaign<R: Print + Eprint>(rt: &R, order: &CampaignOrder) -> Result<Cam
         expect,
         report,
     })
+}
+
+// Why options of a report don't go together.
+fn why_no_report(order: &CampaignOrder) -> &'static str {
+    if order.failures && order.summary {
+        "--failures prints lines, and --summary none: write one of the two"
+    } else {
+        "--outcomes goes with --summary alone"
+    }
 }
 
 // What is expected of a hart that still runs at the end.
@@ -159,7 +165,7 @@ fn report_campaign<R: Files + AllocGlobal + Print + Eprint + Threads + Sync, P: 
                 first_failure,
             },
         ) => {
-            if audience == Audience::Person {
+            if audience.is_told() {
                 let _ = explain_seed(rt, order, inputs, campaign, first_failure);
             }
             status

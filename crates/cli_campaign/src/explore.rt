@@ -57,7 +57,7 @@ fn tell<R: Files + AllocGlobal + Print + Eprint>(
     if let Err(fault) = write_text(&mut sink, found.text.as_bytes()) {
         return Err(tell_fault(rt, audience, order, inputs.len(), fault));
     }
-    if audience == Audience::Person {
+    if audience.is_told() {
         let _ = explain_list(rt, order, inputs, found);
     }
     Ok(found.status)

@@ -127,14 +127,16 @@ fn answer_line<R: AllocGlobal + Print>(
         Err(DebugFault::Memory) => Err(DebugEngineFault::Memory),
         Err(DebugFault::BadCommand) => {
             show(rt, "bad command\n")?;
-            let harts = debugger.machine().harts();
-            tell(rt, Limit::Command { harts })?;
+            let limit = match command {
+                Command::Regs(_) => Limit::Harts(debugger.machine().harts()),
+                _ => Limit::Words,
+            };
+            tell(rt, limit)?;
             Ok(Turn::Next)
         }
         Err(DebugFault::PastEnd) => {
             show(rt, "past end\n")?;
-            let length = debugger.choices().len();
-            tell(rt, Limit::Choices { length })?;
+            tell(rt, Limit::Choices(debugger.choices().len()))?;
             Ok(Turn::Next)
         }
     }
@@ -143,17 +145,24 @@ fn answer_line<R: AllocGlobal + Print>(
 // A limit that a command has exceeded.
 #[derive(Clone, Copy)]
 enum Limit {
-    Command { harts: usize },
-    Choices { length: usize },
+    // Number of harts.
+    Harts(usize),
+    // Number of words that are shown.
+    Words,
+    // Number of choices.
+    Choices(usize),
 }
 
 // Reports a limit.
 fn tell(rt: &impl Print, limit: Limit) -> Result<(), DebugEngineFault> {
     let told = match limit {
-        Limit::Command { harts } => println!(rt;
-            "there are {harts} harts, numbered from 0, and mem shows 1 to 64 words"
-        ),
-        Limit::Choices { length } => println!(rt;
+        Limit::Harts(1) => println!(rt; "there is one hart, with number 0"),
+        Limit::Harts(harts) => {
+            let last = harts.saturating_sub(1);
+            println!(rt; "there are {harts} harts, numbered from 0 to {last}")
+        }
+        Limit::Words => println!(rt; "mem shows 1 to 64 words"),
+        Limit::Choices(length) => println!(rt;
             "the schedule has {length} choices, so positions go from 0 to {length}"
         ),
     };

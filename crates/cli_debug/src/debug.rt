@@ -20,7 +20,7 @@ struct Line<'a, R> {
 
 impl<'a, R: Eprint> Progress for Line<'a, R> {
     fn choices_done(&mut self, done: u64, all: u64) {
-        if self.audience == Audience::Program {
+        if !self.audience.sees_progress() {
             return;
         }
         // If standard error is closed, nobody sees it.

@@ -2,7 +2,7 @@
 
 ghost use Rattle.std.specs.Prelude.{◌≡◌, ◌≢◌, ◌-◌, ◌^◌, ◌<◌, All, IfErr, IfOk, length, map};
 
-use crate::sources::{explain_no_text, explain_sources};
+use crate::sources::{explain_entry, explain_no_text, explain_sources};
 use byte_io::{ReaderSource, Source, Status, WriterSink};
 use cli_orders::AsmOrder;
 use cli_report::{
@@ -71,7 +71,10 @@ pub fn obey_asm<R: Files + AllocGlobal + Print + Eprint>(
             let mut file = OutputFile::new(rt, out, PROGRAM_MODE);
             match file_engine(rt.alloc(), &mut sources, &mut file) {
                 Ok(status) => match file.keep() {
-                    Ok(()) => status,
+                    Ok(()) => {
+                        explain_entry(rt, audience, order.sources.as_slice());
+                        status
+                    }
                     Err(fault) => tell_unwritten(rt, out, Some(fault)),
                 },
                 Err(fault) => {

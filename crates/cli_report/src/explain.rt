@@ -70,7 +70,7 @@ pub fn explain_run<R: Files + AllocGlobal + Eprint>(
     files: RunFiles<'_>,
     fault: CommandFault,
 ) {
-    if audience == Audience::Program {
+    if !audience.is_told() {
         return;
     }
     match fault {
@@ -186,7 +186,7 @@ fn told_of_entry<R: Files + AllocGlobal + Eprint>(rt: &R, path: &str, offset: us
 
 /// Explains why a file can't be opened or read.
 pub(crate) fn explain_path(rt: &impl Eprint, audience: Audience, path: &str, error: &io::Error) {
-    if audience == Audience::Program {
+    if !audience.is_told() {
         return;
     }
     let why = match error.kind() {
@@ -205,7 +205,7 @@ pub fn explain_line<R: AllocGlobal + Eprint>(
     words: &[&str],
     fault: &LineFault,
 ) {
-    if audience == Audience::Program {
+    if !audience.is_told() {
         return;
     }
     let mistake = match fault {

@@ -7,7 +7,7 @@ pub const WIPE: &str = "\r\x1b[K";
 
 /// Wipes the line, if a person reads it.
 pub fn wipe_line<R: Eprint>(rt: &R, audience: Audience) {
-    if audience == Audience::Person {
+    if audience.sees_progress() {
         // If standard error is closed, nobody sees it.
         let _ = eprint!(rt; "{WIPE}");
     }

@@ -89,6 +89,7 @@ pub fn refuse(rt: &(impl Print + Eprint), fault: &LineFault) -> Status {
             rt,
             "--refuse takes pairs of a hart and the number of its step, two decimal numbers below 2^32 each, as 0:7,1:3",
         ),
+        LineFault::BadExplain => bad_line(rt, "--explain takes auto, always or never"),
         LineFault::BadNumber => bad_line(
             rt,
             "a number is not written in decimal digits, or is too large",

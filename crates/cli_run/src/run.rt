@@ -41,7 +41,7 @@ pub fn obey_run<R: Files + AllocGlobal + Print + Eprint>(
     };
     match deliver(&mut WriterSink::new(io::writer(rt)), answer) {
         Ok(status) => {
-            if status == Status::Faulted && audience == Audience::Person {
+            if status == Status::Faulted && audience.is_told() {
                 let _ = explain_faults(rt, order, inputs.as_slice());
             }
             Ok(status)

@@ -18,14 +18,14 @@ struct Line<'a, R> {
 
 impl<'a, R: Eprint> ChoicesLeft for Line<'a, R> {
     fn choices_left(&mut self, left: usize) {
-        if self.audience == Audience::Person {
+        if self.audience.sees_progress() {
             // If standard error is closed, nobody sees it.
             let _ = eprint!(self.rt; "{WIPE}{left} choices left");
         }
     }
 
     fn choices_needed(&mut self, needed: usize) {
-        if self.audience == Audience::Person {
+        if self.audience.sees_progress() {
             // The choice text begins on a line of its own.
             let _ = eprintln!(self.rt; "{WIPE}{needed} choices needed");
         }
@@ -85,7 +85,7 @@ fn tell<R: Files + AllocGlobal + Eprint>(
         harts,
     };
     let status = say_why(rt, audience, files, fault);
-    if fault == CommandFault::NothingFails && audience == Audience::Person {
+    if fault == CommandFault::NothingFails && audience.is_told() {
         show(rt, what_would_fail(order.must_exit));
     }
     status

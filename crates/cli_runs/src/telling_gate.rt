@@ -37,7 +37,7 @@ impl<'a, R: Eprint> TellingGate<'a, R> {
 
 impl<'a, R: Eprint> Gate for TellingGate<'a, R> {
     fn arrive(&self, _hart: u32, _count: u32) {
-        if self.audience == Audience::Program {
+        if !self.audience.sees_progress() {
             return;
         }
         let entries = self.entries.fetch_add(1, Ordering::SeqCst);

@@ -41,7 +41,7 @@ fn read_task(alloc: Global, order: &ThreadsOrder) -> Result<ThreadsTask<Global>,
 // Whether the history is used: it is written if that is ordered, and explains to a person why harts
 // were stopped.
 fn use_of_history(audience: Audience, order: &ThreadsOrder) -> HistoryUse {
-    if order.history.is_some() || audience == Audience::Person {
+    if order.history.is_some() || audience.is_told() {
         HistoryUse::Read
     } else {
         HistoryUse::Unread
@@ -107,7 +107,7 @@ fn write_answer<R: Files + AllocGlobal + Print + Eprint>(
         answer.lines.as_bytes(),
     ) {
         Ok(()) => {
-            if answer.status == Status::Faulted && audience == Audience::Person {
+            if answer.status == Status::Faulted && audience.is_told() {
                 let _ = explain_faults(rt, order, answer.history.as_bytes());
             }
             Ok(answer.status)

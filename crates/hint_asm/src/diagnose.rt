@@ -8,7 +8,7 @@ use crate::ranges::range_fault;
 use crate::sentences::{
     ALIGNMENT, BRANCH_TOO_FAR, CAPITALS, COMMENT, FOREIGN, JUMP_TOO_FAR, LABEL_WITHOUT_COLON,
     NEAR_DIRECTIVE, NEAR_INSTRUCTION, NEAR_LABEL, NO_BYTES_IN_BSS, NO_DIRECTIVE, NO_HEAD,
-    NO_INSTRUCTION, NONE_AHEAD, NONE_BEFORE, TOO_LARGE, UNALIGNED, UNDEFINED,
+    NO_INSTRUCTION, NO_VALUE, NONE_AHEAD, NONE_BEFORE, TOO_LARGE, UNALIGNED, UNDEFINED,
 };
 use crate::shape::{Row, Shape, rows_for, shape_of};
 use crate::statement::Word;
@@ -55,12 +55,24 @@ fn head_fault<'a>(head: &Word<'a>, rest: &[Word<'a>]) -> Option<Found<'a>> {
     if is_in_capitals(rows_for(name), name) {
         return Some(Found::on(head, CAPITALS));
     }
-    let form = if rest.is_empty() {
-        LABEL_WITHOUT_COLON
-    } else {
-        NO_INSTRUCTION
-    };
-    Some(Found::none_of(Among::Heads, head, form, NEAR_INSTRUCTION))
+    Some(unknown_head(head, rest))
+}
+
+// What is wrong with a name that is no instruction, by the word behind it.
+fn unknown_head<'a>(head: &Word<'a>, rest: &[Word<'a>]) -> Found<'a> {
+    match rest.first() {
+        Some(next) if next.is(Kind::Other(b'=')) => Found::on(head, NO_VALUE),
+        Some(next) if next.is(Kind::Name) && shape_of(next.text).is_some() => {
+            Found::on(head, LABEL_WITHOUT_COLON)
+        }
+        Some(_) => Found::none_of(Among::Heads, head, NO_INSTRUCTION, NEAR_INSTRUCTION),
+        None => Found::none_of(Among::Heads, head, LABEL_WITHOUT_COLON, NEAR_INSTRUCTION),
+    }
+}
+
+// Whether the names behind a head are no labels: the sets of `fence`, the name of a section.
+fn has_no_labels(head: &Word<'_>) -> bool {
+    head.text == ".section" || shape_of(head.text) == Some(Shape::Fence)
 }
 
 // What is wrong with a directive, or with a statement in `.bss`.
@@ -143,6 +155,7 @@ pub(crate) fn statement_fault<'a>(
         FaultKind::Operands => operand_fault(head, operands),
         FaultKind::Register => register_fault(operands),
         FaultKind::Range => range_fault(head, operands),
+        FaultKind::Undefined if has_no_labels(head) => None,
         FaultKind::Undefined => undefined(operands, labels),
         FaultKind::BranchRange => Some(Found::on(head, too_far(head.text)?)),
         FaultKind::Align => Some(Found::on(head, align_form(head.text))),

@@ -3,9 +3,11 @@
 #![tactic(auto)]
 
 pub use advise::{SourceText, asm_advice};
+pub use entry::entry_advice;
 
 mod advise;
 mod diagnose;
+mod entry;
 mod found;
 mod labels;
 mod names;

@@ -85,7 +85,7 @@ pub(crate) const FOREIGN_INSTRUCTIONS: [(&[&str], &str); 9] = [
 ];
 
 /// Directives of others, with what to write.
-pub(crate) const FOREIGN_DIRECTIVES: [(&[&str], &str); 8] = [
+pub(crate) const FOREIGN_DIRECTIVES: [(&[&str], &str); 9] = [
     (
         &[".balign"],
         "is not here: write .align n, which goes on at a multiple of 2^n, as .align 2 for 4 bytes",
@@ -96,6 +96,10 @@ pub(crate) const FOREIGN_DIRECTIVES: [(&[&str], &str); 8] = [
     ),
     (&[".long", ".int", ".4byte"], "is not here: write .word"),
     (&[".short", ".2byte"], "is not here: write .half"),
+    (
+        &[".asciiz"],
+        "is not here: write .asciz, a string with a zero behind it",
+    ),
     (
         &[".dword", ".quad", ".8byte"],
         "is not here: write two values of .word, the low one first",

@@ -56,6 +56,13 @@ pub(crate) const LABEL_WITHOUT_COLON: Form = &[
     Words(":"),
 ];
 
+/// A name that is given a value.
+pub(crate) const NO_VALUE: Form = &[
+    Words("a name stands for an address alone: write the number where "),
+    First,
+    Words(" is used"),
+];
+
 /// An unknown instruction.
 pub(crate) const NO_INSTRUCTION: Form = &[
     First,

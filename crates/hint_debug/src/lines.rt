@@ -9,14 +9,15 @@ use isa_names::Word;
 use std::alloc::{AllocError, Allocator};
 
 // The operands of each command.
-const TAKES: [(&[&str], &str); 7] = [
+const TAKES: [(&[&str], &str); 8] = [
     (&["where", "go", "rgo", "quit"], "stands alone"),
     (&["goto"], "takes a decimal number of choices, as goto 7"),
     (
         &["forward", "back"],
         "takes nothing, or a decimal number of choices, as forward 7",
     ),
-    (&["break", "watch"], "takes an address, as break 0x00010008"),
+    (&["break"], "takes an address, as break 0x00010008"),
+    (&["watch"], "takes an address, as watch 0x00011000"),
     (
         &["steps"],
         "takes two decimal numbers of choices, as steps 0 7",

@@ -13,7 +13,7 @@ pub(crate) struct Row {
 pub(crate) const COMMANDS: [Row; 13] = [
     Row {
         name: "asm",
-        options: &["--out"],
+        options: &["--out", "-o"],
         example: "rvcons asm --out prog.elf prog.s",
     },
     Row {

@@ -10,6 +10,9 @@ use std::alloc::{AllocError, Allocator};
 // A name with a smaller edit distance may be the intended one.
 const EDITS: usize = 3;
 
+// The options of each command.
+const EVERYWHERE: [&str; 3] = ["--explain", "--help", "-h"];
+
 // No command is given.
 const NO_COMMAND: Form = &[Words(
     "a command stands first, as rvcons run prog.elf --inputs 7,9 --choices turns.choices\n",
@@ -188,7 +191,7 @@ fn is_one_of(names: &[&str], name: &str) -> bool {
 fn other_option<'a>(options: &[&str], words: &[&'a str]) -> Option<&'a str> {
     'words: for word in words {
         let name = option_name(*word);
-        if name.starts_with("-") && !is_one_of(options, name) {
+        if name.starts_with("-") && !is_one_of(options, name) && !is_one_of(&EVERYWHERE, name) {
             return Some(name);
         }
     }

@@ -2,6 +2,7 @@
 #![tactic(auto)]
 
 use byte_io::Status;
+use cli_args::explain_said;
 use cli_campaign::{obey_campaign, obey_explore};
 use cli_debug::obey_debug;
 use cli_files::{obey_asm, obey_file, obey_lib};
@@ -34,11 +35,11 @@ fn main(rt: HostRuntime) -> ExitCode {
 }
 
 // Runs the command of the command line. The error is the status of what was refused, which is
-// reported. A person sees progress and explanations of faults; `talk`
-// is the audience of the debugger.
+// reported. `seen_by` is the audience of standard error unless the line says otherwise, `talk` that
+// of the debugger.
 fn obey<R: Files + AllocGlobal + Print + Eprint + Env + Threads + Wait + Sync + Input>(
     rt: &R,
-    audience: Audience,
+    seen_by: Audience,
     talk: Audience,
 ) -> Result<Status, Status> {
     let arguments = read_arguments(rt)?;
@@ -49,6 +50,7 @@ fn obey<R: Files + AllocGlobal + Print + Eprint + Env + Threads + Wait + Sync + 
     else {
         return Err(out_of_memory(rt));
     };
+    let audience = seen_by.as_asked(explain_said(words.as_slice()));
     match read_line(rt.alloc(), words.as_slice(), KIND_NAMES) {
         Ok(Order::Asm(order)) => Ok(obey_asm(rt, audience, &order)),
         Ok(Order::Debug(order)) => obey_debug(rt, audience, talk, &order),

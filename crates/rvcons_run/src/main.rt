@@ -3,7 +3,7 @@
 #![tactic(auto)]
 
 use byte_io::Status;
-use cli_args::read_run;
+use cli_args::{explain_said, read_run};
 use cli_report::{Audience, bad_line, explain_line, out_of_memory, read_arguments, refuse};
 use cli_run::obey_run;
 use object_library::KIND_NAMES;
@@ -25,7 +25,7 @@ fn main(rt: HostRuntime) -> ExitCode {
 // Runs the `run` of the command line. A person sees explanations of faults.
 fn obey<R: Files + AllocGlobal + Print + Eprint + Env>(
     rt: &R,
-    audience: Audience,
+    seen_by: Audience,
 ) -> Result<Status, Status> {
     let arguments = read_arguments(rt)?;
     let Ok(words) = arguments
@@ -35,6 +35,7 @@ fn obey<R: Files + AllocGlobal + Print + Eprint + Env>(
     else {
         return Err(out_of_memory(rt));
     };
+    let audience = seen_by.as_asked(explain_said(words.as_slice()));
     match read_run(rt.alloc(), words.as_slice(), KIND_NAMES) {
         Ok(Some(order)) => obey_run(rt, audience, &order),
         Ok(None) => Err(bad_line(

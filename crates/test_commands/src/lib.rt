@@ -4,6 +4,8 @@
 
 // Command lines.
 #[cfg(test)]
+mod explain_tests;
+#[cfg(test)]
 mod line_tests;
 #[cfg(test)]
 mod order_texts;

@@ -47,11 +47,14 @@ fn inputs_are_read(rt: HostRuntime) {
 
 // Lines, and what is read of each: its command and the texts of its arguments, by their names.
 #[rattlefmt::skip]
-const LINES: [(&str, &str); 54] = [
+const LINES: [(&str, &str); 57] = [
     ("rvcons asm a.s", "asm IN=a.s"),
     ("rvcons asm --out o a.s b.s", "asm out=o IN=a.s IN=b.s"),
     ("rvcons asm b.s a.s --out=o", "asm out=o IN=b.s IN=a.s"),
+    ("rvcons asm -o o a.s", "asm out=o IN=a.s"),
     ("rvcons list p", "list FILE=p"),
+    ("rvcons list --explain always p", "list FILE=p"),
+    ("rvcons list p --explain=never", "list FILE=p"),
     ("rvcons info p", "info FILE=p"),
     ("rvcons run p --inputs 7,9 --choices c", "run FILE=p inputs=7,9 choices=c"),
     ("rvcons run --choices c --inputs 7,9 p", "run FILE=p inputs=7,9 choices=c"),
@@ -284,10 +287,12 @@ enum Refusal {
     Help,
     // As one without a command.
     NoCommand,
+    // By the value of --explain.
+    Explain,
 }
 
 // Lines that give no order, and how they are rejected.
-const REFUSED: [(&str, Refusal); 39] = [
+const REFUSED: [(&str, Refusal); 42] = [
     ("rvcons foo", Refusal::Fault),
     ("rvcons asm", Refusal::Fault),
     ("rvcons list", Refusal::Fault),
@@ -348,6 +353,9 @@ const REFUSED: [(&str, Refusal); 39] = [
         "rvcons run p --inputs 7 --choices c --table",
         Refusal::Fault,
     ),
+    ("rvcons list p --explain Always", Refusal::Explain),
+    ("rvcons list p --explain=", Refusal::Explain),
+    ("rvcons list p --explain", Refusal::Fault),
     ("rvcons", Refusal::NoCommand),
     ("rvcons --help", Refusal::Help),
     ("rvcons --version", Refusal::Help),
@@ -359,6 +367,7 @@ fn refusal_of(alloc: Global, line: &str) -> Option<Refusal> {
     match read_line(alloc, words.as_slice(), KIND_NAMES) {
         Err(LineFault::Told(error)) => Some(refusal_by_clap(error.use_stderr())),
         Err(LineFault::NoCommand) => Some(Refusal::NoCommand),
+        Err(LineFault::BadExplain) => Some(Refusal::Explain),
         Err(_fault) => None,
         Ok(_order) => None,
     }
