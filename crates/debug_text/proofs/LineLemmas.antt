@@ -1,14 +1,13 @@
 -- A line's command is that of its words.
-use Rattle.std.proofs.Common.{◌≡◌, ◌≢◌, ℕ, ◌+◌, Bool, true, false, true≢false, List, [], ◌∷◌, ◌++◌, Option, Some, None, ap, sym, subst, refl, ◌∙◌, eqb-true, ne_eqb, one-add}
+use Rattle.std.proofs.Common.{◌≡◌, ◌≢◌, ℕ, Bool, true, false, List, [], ◌∷◌, ◌++◌, ap, sym, subst, refl, ◌∙◌, eqb-true, ne_eqb, one-add}
 use Rattle.std.specs.Prelude.{take, drop, length}
-use Rattle.std.specs.List.{All, prefix_len, position_or_len}
+use Rattle.std.specs.List.{All, position_or_len}
 use Rattle.std.proofs.lemmas.Bool.{eqb-false}
 use Rattle.std.proofs.lemmas.List.Elements.{All-nil, All-cons, All-head, All-tail}
 use Rattle.std.proofs.Math.Seq.{take-append_seam, drop-append_seam}
 use Rattle.debug_text.specs.Words.{is_space, from_word, next_word, behind_word}
 use Rattle.debug_text.specs.Commands.{command_by, if_no_more, command_of}
 use Rattle.debug_text.specs.Lines.{ends_word, HasWords, command_of_words}
-use Rattle.debug_text.specs.declared.commands.Command.{Command}
 
 abbrev IsWordByte : ℕ → Type 0
 IsWordByte c = c ≢ 32

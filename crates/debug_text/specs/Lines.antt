@@ -1,5 +1,5 @@
 -- Lines as words between spaces: what a line's words are, and the command of so many of them.
-use Rattle.std.specs.Prelude.{◌≡◌, ◌≢◌, ℕ, Bool, true, false, List, [], ◌∷◌, ◌++◌, Option, Some, None}
+use Rattle.std.specs.Prelude.{◌≡◌, ◌≢◌, ℕ, Bool, true, List, [], ◌∷◌, ◌++◌, Option, Some, None}
 use Rattle.std.specs.List.{All}
 use Rattle.debug_text.specs.Words.{is_space}
 use Rattle.debug_text.specs.Commands.{bare_command, single_command, double_command}
