@@ -38,6 +38,7 @@ RefusesInputs text (faults.Told error) = ⊥
 RefusesInputs text faults.NoCommand = ⊥
 RefusesInputs text faults.BadInputs = inputs_of text ≡ None
 RefusesInputs text faults.BadPlan = ⊥
+RefusesInputs text faults.BadExplain = ⊥
 RefusesInputs text faults.BadNumber = ⊥
 RefusesInputs text faults.BadObject = ⊥
 RefusesInputs text faults.Memory = Unit {0}

@@ -49,6 +49,7 @@ RefusesPlan text (faults.Told error) = ⊥
 RefusesPlan text faults.NoCommand = ⊥
 RefusesPlan text faults.BadInputs = ⊥
 RefusesPlan text faults.BadPlan = pairs_of text ≡ None
+RefusesPlan text faults.BadExplain = ⊥
 RefusesPlan text faults.BadNumber = ⊥
 RefusesPlan text faults.BadObject = ⊥
 RefusesPlan text faults.Memory = Unit {0}
