@@ -12,6 +12,7 @@ use cli_report::{
 use cli_values::{read_draw, read_report, read_seed_numbers};
 use cmd_campaign::{Campaign, Exit, Expect, Finished, campaign_engine};
 use cmd_schedule::{SeedPlan, seed_engine};
+use hint_fault::{EndsTold, all_still_run};
 use program_open::ProgramForm;
 use sched_draw::Order;
 use std::io;
@@ -166,7 +167,10 @@ fn report_campaign<R: Files + AllocGlobal + Print + Eprint + Threads + Sync, P: 
             },
         ) => {
             if audience.is_told() {
-                let _ = explain_seed(rt, order, inputs, campaign, first_failure);
+                let _ = match first_failure {
+                    Some(seed) => explain_seed(rt, order, inputs, campaign, seed),
+                    None => explain_steps(rt, order, inputs, campaign),
+                };
             }
             status
         }
@@ -207,16 +211,14 @@ fn show_commands<R: Eprint>(
     .ok()
 }
 
-// Shows how to look into the first seed whose run has failed, and explains its faults.
-fn explain_seed<R: Files + AllocGlobal + Eprint>(
+// The program and the choices of a seed, which are made again.
+fn seed_again<R: Files + AllocGlobal>(
     rt: &R,
     order: &CampaignOrder,
     inputs: &[u32],
     campaign: Campaign,
-    seed: Option<u64>,
-) -> Option<()> {
-    let seed = seed?;
-    show_commands(rt, order, inputs.len(), campaign, seed)?;
+    seed: u64,
+) -> Option<(Vec<u8>, String)> {
     let plan = SeedPlan {
         draw: campaign.draw,
         steps: campaign.steps,
@@ -225,5 +227,51 @@ fn explain_seed<R: Files + AllocGlobal + Eprint>(
     let program = read_again(rt, order.file)?;
     let mut source = MemorySource::new(&program);
     let (choices, _) = seed_engine(rt.alloc(), inputs, plan, &mut source).ok()?;
-    explain_ends(rt, ProgramForm::Elf, &program, inputs, choices.as_bytes())
+    Some((program, choices))
+}
+
+// Shows how to look into the first seed whose run has failed, and explains its end.
+fn explain_seed<R: Files + AllocGlobal + Eprint>(
+    rt: &R,
+    order: &CampaignOrder,
+    inputs: &[u32],
+    campaign: Campaign,
+    seed: u64,
+) -> Option<()> {
+    show_commands(rt, order, inputs.len(), campaign, seed)?;
+    let (program, choices) = seed_again(rt, order, inputs, campaign, seed)?;
+    let told = match campaign.expect.exit {
+        Exit::Must => EndsTold::FaultsAndRunning,
+        Exit::May => EndsTold::Faults,
+    };
+    explain_ends(
+        rt,
+        ProgramForm::Elf,
+        &program,
+        inputs,
+        choices.as_bytes(),
+        told,
+    )
+}
+
+// Tells that a campaign without failures shows little, if no hart of the first seed has come to an
+// end.
+fn explain_steps<R: Files + AllocGlobal + Eprint>(
+    rt: &R,
+    order: &CampaignOrder,
+    inputs: &[u32],
+    campaign: Campaign,
+) -> Option<()> {
+    if campaign.count == 0 {
+        return None;
+    }
+    let (program, choices) = seed_again(rt, order, inputs, campaign, campaign.first)?;
+    let text = choices.as_bytes();
+    if all_still_run(rt.alloc(), ProgramForm::Elf, &program, inputs, text)? {
+        let (seed, steps) = (campaign.first, campaign.steps);
+        eprintln!(rt;
+            "each hart of seed {seed} still runs after {steps} steps: write more by --steps, or --must-exit if harts have to stop"
+        ).ok()?;
+    }
+    Some(())
 }

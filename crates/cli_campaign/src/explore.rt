@@ -8,6 +8,7 @@ use cli_report::{
 };
 use cli_values::{WORLDS, read_worlds};
 use cmd_explore::{Explored, Question, explore_engine, read_refusals};
+use hint_fault::EndsTold;
 use program_open::{CommandFault, ProgramForm, write_text};
 use std::alloc::Global;
 use std::io;
@@ -96,5 +97,6 @@ fn explain_list<R: Files + AllocGlobal + Eprint>(
         &program,
         inputs,
         found.text.as_bytes(),
+        EndsTold::Faults,
     )
 }

@@ -4,7 +4,7 @@
 use crate::audience::Audience;
 use clap::error::ErrorKind;
 use cli_args::LineFault;
-use hint_fault::{file_words, item_at, run_advice};
+use hint_fault::{EndsTold, file_words, item_at, run_advice};
 use hint_text::{Mistake, order_advice};
 use program_open::{CommandFault, ProgramForm};
 use std::rt::Files;
@@ -49,16 +49,16 @@ pub fn show(rt: &impl Eprint, text: &str) {
     let _ = eprint!(rt; "{text}");
 }
 
-/// Explains the faults with which a program's run under a choice text ends. `None` if there is no
-/// such run.
+/// Explains how a program's run under a choice text ends. `None` if there is no such run.
 pub fn explain_ends<R: AllocGlobal + Eprint>(
     rt: &R,
     form: ProgramForm,
     program: &[u8],
     inputs: &[u32],
     choices: &[u8],
+    told: EndsTold,
 ) -> Option<()> {
-    let text = run_advice(rt.alloc(), form, program, inputs, choices)?;
+    let text = run_advice(rt.alloc(), form, program, inputs, choices, told)?;
     show(rt, &text);
     Some(())
 }

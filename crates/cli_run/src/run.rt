@@ -6,6 +6,7 @@ use cli_report::{
     Audience, RunFiles, explain_ends, inputs_said, open_both, read_again, rule_said, say_why,
 };
 use cmd_run::{Exit, Expect, run_engine};
+use hint_fault::EndsTold;
 use program_open::{ProgramForm, deliver};
 use std::io;
 use std::rt::Files;
@@ -67,7 +68,7 @@ fn exit_of(order: &RunOrder) -> Exit {
     }
 }
 
-// Explains the faults with which the run ended, if its files can be read again.
+// Explains how the run ended, if its files can be read again.
 fn explain_faults<R: Files + AllocGlobal + Eprint>(
     rt: &R,
     order: &RunOrder,
@@ -75,5 +76,10 @@ fn explain_faults<R: Files + AllocGlobal + Eprint>(
 ) -> Option<()> {
     let program = read_again(rt, order.file)?;
     let choices = read_again(rt, order.choices)?;
-    explain_ends(rt, form_of(order), &program, inputs, &choices)
+    let told = if order.must_exit {
+        EndsTold::FaultsAndRunning
+    } else {
+        EndsTold::Faults
+    };
+    explain_ends(rt, form_of(order), &program, inputs, &choices, told)
 }

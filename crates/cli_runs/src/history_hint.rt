@@ -3,7 +3,7 @@
 ghost use Rattle.std.specs.Prelude.{◌<◌, length};
 ghost use Rattle.std.specs.List.{All};
 
-use hint_fault::ends_advice;
+use hint_fault::{EndsTold, ends_advice};
 use history::{Entry, read_history, replay_history};
 use image::Image;
 use machine::{Inputs, Machine};
@@ -36,5 +36,5 @@ fn replayed_advice<A: Allocator + Copy>(
     let image: Image<A> = read_program(alloc, ProgramForm::Elf, program).ok()?;
     let mut machine: Machine<FlatStore<A>, A> = Machine::start(alloc, &image, inputs).ok()?;
     replay_history(&mut machine, history);
-    ends_advice(alloc, &image, program, &machine)
+    ends_advice(alloc, &image, program, &machine, EndsTold::Faults)
 }

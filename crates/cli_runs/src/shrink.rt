@@ -66,7 +66,7 @@ fn what_would_fail(must_exit: bool) -> &'static str {
     if must_exit {
         "no hart faults under these choices, or with --rule the rule is kept, and given as many steps more all harts stop: run shows how they end\n"
     } else {
-        "no hart faults under these choices, or with --rule the rule is kept: run shows how the harts end\n"
+        "no hart faults under these choices, or with --rule the rule is kept: run shows how the harts end, and --must-exit shrinks a run that hangs\n"
     }
 }
 

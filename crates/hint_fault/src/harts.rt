@@ -3,7 +3,7 @@
 use crate::places::{push_instruction, push_standing, rwx, segment_at};
 use crate::sentences::{
     ACROSS, AT_ZERO, BREAK, CALL, COMPRESSED, MISALIGNED, NO_INSTRUCTION, NO_STACK, NOT_EXECUTABLE,
-    NOT_READABLE, NOT_WRITABLE, NOWHERE_TO_FETCH, ODD_JUMP, PAST_LAST, UNMAPPED, ZEROS,
+    NOT_READABLE, NOT_WRITABLE, NOWHERE_TO_FETCH, ODD_JUMP, PAST_LAST, STILL_RUNS, UNMAPPED, ZEROS,
 };
 use elf_read::Symbol;
 use hart_step::{Access, Cause, Hart, HartState, access_by};
@@ -35,35 +35,78 @@ struct Met<'a> {
     access: Option<Access>,
 }
 
-/// Explains the faults of a machine's harts, as whole lines: the place of the hart, its
-/// instruction, the address that it used and its segment, and a sentence on it. Of more than four
-/// faulted harts the first four are explained. Empty if no hart has a fault.
+/// Which ends of harts are explained.
+#[derive(Clone, Copy, PartialEq, Eq)]
+pub enum EndsTold {
+    /// Faults.
+    Faults,
+    /// Faults, and that a hart still runs.
+    FaultsAndRunning,
+}
+
+/// Explains how a machine's harts ended, as whole lines: the place of the hart, its instruction, and
+/// a sentence on it; of a fault also the address that it used and its segment. Of more than four such
+/// harts the first four are explained. Empty if there is none.
 pub fn harts_advice<A: Allocator + Copy>(
     alloc: A,
     image: &Image<A>,
     symbols: &[Symbol<A>],
     machine: &Machine<FlatStore<A>, A>,
+    told: EndsTold,
 ) -> Result<String<A>, AllocError> {
     let mut text = String::new(alloc);
-    let mut told = 0usize;
+    let mut count = 0usize;
     'harts: for (number, hart) in machine.ends().iter().enumerate() {
-        if let Some(cause) = cause_of(hart) {
-            if told < MOST_HARTS {
-                told += 1;
-                let met = met_by(hart, cause, machine.store().fetch(hart.pc));
-                push_hart(&mut text, number, image.segments(), symbols, &met)?;
-            }
+        if is_told(hart, told) && count < MOST_HARTS {
+            count += 1;
+            let word = machine.store().fetch(hart.pc);
+            push_end(&mut text, number, image.segments(), symbols, hart, word)?;
         }
     }
     Ok(text)
 }
 
-// The cause of a hart's fault, if it has one.
-fn cause_of(hart: &Hart) -> Option<Cause> {
+// Whether the end of a hart is explained.
+fn is_told(hart: &Hart, told: EndsTold) -> bool {
     match hart.state {
-        HartState::Faulted(cause) => Some(cause),
-        _ => None,
+        HartState::Faulted(_) => true,
+        HartState::Running => told == EndsTold::FaultsAndRunning,
+        HartState::Exited(_) => false,
     }
+}
+
+// Adds the lines of a hart with this word at its place.
+fn push_end<A: Allocator>(
+    text: &mut String<A>,
+    number: usize,
+    segments: &[Segment<A>],
+    symbols: &[Symbol<A>],
+    hart: &Hart,
+    word: Option<u32>,
+) -> Result<(), AllocError> {
+    match hart.state {
+        HartState::Faulted(cause) => {
+            push_hart(text, number, segments, symbols, &met_by(hart, cause, word))
+        }
+        _ => push_running(text, number, symbols, hart, word),
+    }
+}
+
+// Adds the lines of a hart that still runs.
+fn push_running<A: Allocator>(
+    text: &mut String<A>,
+    number: usize,
+    symbols: &[Symbol<A>],
+    hart: &Hart,
+    word: Option<u32>,
+) -> Result<(), AllocError> {
+    push_standing(text, symbols, number, hart.pc)?;
+    if let Some(word) = word {
+        push_instruction(text, hart.pc, word)?;
+    }
+    text.push_str("\n    ")?;
+    push_sentence(text, &Sentence::of(STILL_RUNS, ""))?;
+    text.push('\n')
 }
 
 // The circumstances of a hart's fault at this word.

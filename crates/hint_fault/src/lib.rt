@@ -3,9 +3,9 @@
 
 pub use choices::item_at;
 pub use files::file_words;
-pub use harts::harts_advice;
+pub use harts::{EndsTold, harts_advice};
 pub use places::{label_before, push_instruction, push_standing, segment_at};
-pub use runs::{ends_advice, run_advice, symbols_or_none};
+pub use runs::{all_still_run, ends_advice, run_advice, symbols_or_none};
 
 mod choices;
 mod files;

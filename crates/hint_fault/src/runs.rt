@@ -1,7 +1,8 @@
-//! Runs a program again to explain its faults.
+//! Runs a program again to explain how it ends.
 
-use crate::harts::harts_advice;
+use crate::harts::{EndsTold, harts_advice};
 use elf_read::{Symbol, symbols};
+use hart_step::HartState;
 use image::Image;
 use machine::{Inputs, Machine};
 use mem_flat::FlatStore;
@@ -9,39 +10,87 @@ use program_open::{ProgramForm, read_program};
 use sched_run::run_choices;
 use std::alloc::Allocator;
 
-/// The symbols of a file; none if it has no valid table, or out of memory.
+// Whether a name is that of a mapping symbol, which marks where code or data begins and is no label
+// (RISC-V ELF psABI, "Mapping Symbol").
+fn is_mapping(name: &str) -> bool {
+    name.starts_with("$x") || name.starts_with("$d")
+}
+
+/// The symbols of a file but for mapping symbols; none if it has no valid table, or out of memory.
 pub fn symbols_or_none<A: Allocator + Copy>(alloc: A, file: &[u8]) -> Vec<Symbol<A>, A> {
     match symbols(alloc, file) {
-        Ok(symbols) => symbols,
+        Ok(mut symbols) => {
+            symbols.retain(|symbol| !is_mapping(symbol.name.as_str()));
+            symbols
+        }
         Err(_) => Vec::new(alloc),
     }
 }
 
-/// Explains the faults with which a program's machine has stopped. `None` if out of memory.
+/// Explains how a program's machine ended. `None` if out of memory.
 pub fn ends_advice<A: Allocator + Copy>(
     alloc: A,
     image: &Image<A>,
     program: &[u8],
     machine: &Machine<FlatStore<A>, A>,
+    told: EndsTold,
 ) -> Option<String<A>> {
     let symbols = symbols_or_none(alloc, program);
-    harts_advice(alloc, image, &symbols, machine).ok()
+    harts_advice(alloc, image, &symbols, machine, told).ok()
 }
 
-/// Explains the faults with which a program's run under a choice text ends. `None` if there is no
-/// such run, or out of memory.
+// A program and its machine after a run.
+#[derive(Drop)]
+struct Ran<A: Allocator> {
+    image: Image<A>,
+    machine: Machine<FlatStore<A>, A>,
+}
+
+// A program's run under a choice text. `None` if there is no such run, or out of memory.
+fn run_again<A: Allocator + Copy>(
+    alloc: A,
+    form: ProgramForm,
+    program: &[u8],
+    inputs: &[u32],
+    choices: &[u8],
+) -> Option<Ran<A>> {
+    let image: Image<A> = read_program(alloc, form, program).ok()?;
+    let inputs = Inputs::new(inputs).ok()?;
+    let mut machine: Machine<FlatStore<A>, A> = Machine::start(alloc, &image, &inputs).ok()?;
+    match run_choices(&mut machine, choices, inputs.harts()) {
+        Ok(_) => Some(Ran { image, machine }),
+        Err(_) => None,
+    }
+}
+
+/// Explains how a program's run under a choice text ends. `None` if there is no such run, or out of
+/// memory.
 pub fn run_advice<A: Allocator + Copy>(
     alloc: A,
     form: ProgramForm,
     program: &[u8],
     inputs: &[u32],
     choices: &[u8],
+    told: EndsTold,
 ) -> Option<String<A>> {
-    let image: Image<A> = read_program(alloc, form, program).ok()?;
-    let inputs = Inputs::new(inputs).ok()?;
-    let mut machine: Machine<FlatStore<A>, A> = Machine::start(alloc, &image, &inputs).ok()?;
-    match run_choices(&mut machine, choices, inputs.harts()) {
-        Ok(_) => ends_advice(alloc, &image, program, &machine),
-        Err(_) => None,
-    }
+    let ran = run_again(alloc, form, program, inputs, choices)?;
+    ends_advice(alloc, &ran.image, program, &ran.machine, told)
+}
+
+/// Whether all harts still run at the end of a program's run under a choice text. `None` if there is
+/// no such run, or out of memory.
+pub fn all_still_run<A: Allocator + Copy>(
+    alloc: A,
+    form: ProgramForm,
+    program: &[u8],
+    inputs: &[u32],
+    choices: &[u8],
+) -> Option<bool> {
+    let ran = run_again(alloc, form, program, inputs, choices)?;
+    Some(
+        ran.machine
+            .ends()
+            .iter()
+            .all(|hart| hart.state == HartState::Running),
+    )
 }

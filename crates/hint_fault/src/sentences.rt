@@ -80,5 +80,10 @@ pub(crate) const CALL: Form = &[
     Words(", and the one call is 93, which ends the hart: write li a7, 93"),
 ];
 
+/// A hart that runs after the last choice.
+pub(crate) const STILL_RUNS: Form = &[Words(
+    "it still runs after the last choice: more steps may end it, and shrink --must-exit decides whether it hangs",
+)];
+
 /// An EBREAK.
 pub(crate) const BREAK: Form = &[Words("the program's own check just before this failed")];
