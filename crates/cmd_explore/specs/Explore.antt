@@ -29,8 +29,8 @@ failing_status (Some kind) = status.Broken
 -- an answer about every schedule of harts is told by a text, a status and a number of turns: by the
 -- line, or by a choice text that reads as the failing list
 abbrev pub TellsEvery : {Z : Type 0} → Option Kind → ℕ → Answer Z → Explored Z → Type 0
-TellsEvery rule harts (Holds worlds) found =
-    (string_bytes found.text ≡ worlds_line worlds) × (found.status ≡ status.Done) × (found.turns ≡ None)
+TellsEvery rule harts (Holds held) found =
+    (string_bytes found.text ≡ worlds_line held.places) × (found.status ≡ status.Done) × (found.turns ≡ None)
 TellsEvery rule harts (Fails failing) found =
     (string_bytes found.text ≡ runs_text failing.choices.items) × (choices_read harts (string_bytes found.text) ≡ Ok failing.choices.items)
     × (found.status ≡ failing_status rule) × (found.turns ≡ Some failing.turns)

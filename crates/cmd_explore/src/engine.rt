@@ -40,8 +40,8 @@ fn explored<A: Allocator + Copy>(
 {
     let (rule, refusals) = (question.rule, question.refusals);
     match explore(alloc, image, inputs, rule, refusals, question.most)? {
-        Answer::Holds(worlds) => Ok(Some(Explored {
-            text: worlds_line(alloc, worlds)?,
+        Answer::Holds(held) => Ok(Some(Explored {
+            text: worlds_line(alloc, held.places)?,
             status: Status::Done,
             turns: None,
         })),

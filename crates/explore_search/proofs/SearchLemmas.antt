@@ -1,6 +1,6 @@
 -- Keys, and the places that they stand for, as they grow.
 use Rattle.std.proofs.Common.{◌≡◌, ◌≢◌, ℕ, zero, suc, ◌+◌, ◌-◌, ◌<◌, ◌≤◌, Bool, false, List, [], ◌∷◌, ◌++◌, reverse, get_or, length, map, Option, Some, None, refl, ap, sym, ◌∙◌, subst, arith, inl, inr, ◌⊎◌}
-use Rattle.std.specs.List.{All, AllPairs, Contains, slice_get}
+use Rattle.std.specs.List.{All, Contains, slice_get}
 use Rattle.std.specs.Option.{option_map}
 use Rattle.std.proofs.lemmas.List.{append-nil, length-append, length-map, length-reverse, reverse-append, get_or-reverse}
 use Rattle.std.proofs.lemmas.List.Elements.{All-nil, All-head, All-tail, All-push, Contains-get_or}
@@ -11,6 +11,7 @@ use Rattle.machine.specs.declared.choice.Choice.{Choice}
 use Rattle.explore_laws.specs.Places.{Place, place_after, place_reached}
 use Rattle.explore_laws.specs.Safe.{IsSafe}
 use Rattle.explore_search.specs.Searched.{GoesOn, KeysDiffer, IsSeen, IsReached, AreReached, AreDone}
+use Rattle.explore_search.specs.Answers.{AreAllReached}
 use Rattle.explore_search.specs.Counted.{IsLedTo, AreApart, HasPlaces, HasMorePlaces}
 use Rattle.explore_search.specs.declared.seen.Link.{Link}
 
@@ -311,15 +312,27 @@ module _ (IsKey : List ℕ → Type 0) (place : List ℕ → Place) (start : Pla
         let within = slice_get_within keys seen.number seen.key seen.there in
         ap bad (sym seen.is) ∙ d.good seen.number seen.key (omega (arith, within, all)) seen.there
 
-    all_counted : (count : ℕ) → count ≡ length keys → HasPlaces choices start count
-    all_counted count is = record {
+    all_reached : AreAllReached IsKey place choices start keys
+    all_reached = record {
+      are = λ k x inside.
+          let there = get_there keys k inside in
+          subst IsKey (sym (get_or_from_slice_get keys k there.0 x there.1)) (r.are k there.0 there.1);
+      led_to = λ k x inside.
+          let there = get_there keys k inside in
+          subst (λ key. IsLedTo choices start (place key)) (sym (get_or_from_slice_get keys k there.0 x there.1))
+          (led_below (k + 1) k there.0 (omega arith) there.1);
+      all = seen_all;
+    }
+
+    all_counted : HasPlaces choices start (length keys)
+    all_counted = record {
       places = map place keys;
       apart = keys_apart;
       all = λ list meant.
           let seen = seen_all list meant in
           subst (Contains (map place keys)) seen.is (contains_at (map place keys) seen.number (place seen.key)
           (slice_get-map place keys seen.number ∙ ap (option_map place) seen.there));
-      count_is = length-map keys place ∙ sym is;
+      count_is = length-map keys place;
     }
 
   -- more keys than so many were found
@@ -337,11 +350,17 @@ pub closed_is_safe : {IsKey : List ℕ → Type 0} {place : List ℕ → Place} 
 closed_is_safe {IsKey} {place} {begun} {start} {worse} {bad} {choices} {keys} {links} {n} r d first same all =
     subst (λ p. IsSafe choices p bad) first (subst (IsSafe choices begun) same (all_safe IsKey place begun choices keys links r worse n d all))
 
+pub closed_is_all : {IsKey : List ℕ → Type 0} {place : List ℕ → Place} {begun start : Place} {bad : Place → Bool}
+    {choices : List Choice} {keys : List (List ℕ)} {links : List Link} {n : ℕ} → AreReached IsKey place begun choices keys links
+    → AreDone place bad choices keys n → begun ≡ start → length keys ≤ n → AreAllReached IsKey place choices start keys
+closed_is_all {IsKey} {place} {begun} {start} {bad} {choices} {keys} {links} {n} r d first all =
+    subst (λ p. AreAllReached IsKey place choices p keys) first (all_reached IsKey place begun choices keys links r bad n d all)
+
 pub closed_is_counted : {IsKey : List ℕ → Type 0} {place : List ℕ → Place} {begun start : Place} {bad : Place → Bool}
-    {choices : List Choice} {keys : List (List ℕ)} {links : List Link} {n count : ℕ} → AreReached IsKey place begun choices keys links
-    → AreDone place bad choices keys n → begun ≡ start → length keys ≤ n → count ≡ length keys → HasPlaces choices start count
-closed_is_counted {IsKey} {place} {begun} {start} {bad} {choices} {keys} {links} {n} {count} r d first all is =
-    subst (λ p. HasPlaces choices p count) first (all_counted IsKey place begun choices keys links r bad n d all count is)
+    {choices : List Choice} {keys : List (List ℕ)} {links : List Link} {n : ℕ} → AreReached IsKey place begun choices keys links
+    → AreDone place bad choices keys n → begun ≡ start → length keys ≤ n → HasPlaces choices start (length keys)
+closed_is_counted {IsKey} {place} {begun} {start} {bad} {choices} {keys} {links} {n} r d first all =
+    subst (λ p. HasPlaces choices p (length keys)) first (all_counted IsKey place begun choices keys links r bad n d all)
 
 pub more_are_counted : {IsKey : List ℕ → Type 0} {place : List ℕ → Place} {begun start : Place} {choices : List Choice}
     {keys : List (List ℕ)} {links : List Link} {most : ℕ} → AreReached IsKey place begun choices keys links → begun ≡ start

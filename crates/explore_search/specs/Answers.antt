@@ -4,7 +4,8 @@ use Rattle.std.specs.List.{All, Contains}
 use Rattle.machine.specs.declared.choice.Choice.{Choice}
 use Rattle.explore_laws.specs.Places.{Place, place_reached}
 use Rattle.explore_laws.specs.Safe.{IsSafe}
-use Rattle.explore_search.specs.Counted.{HasPlaces, HasMorePlaces}
+use Rattle.explore_search.specs.Counted.{IsLedTo, HasPlaces, HasMorePlaces}
+use Rattle.explore_search.specs.Searched.{IsSeen}
 use Rattle.explore_search.specs.declared.searching.Found.{Found}
 use Rattle.explore_search.specs.declared.searching.Found.TheVariants.{Safe, Bad, Undecided}
 
@@ -17,13 +18,26 @@ pub record LeadsToBad (choices : List Choice) (first : Place) (bad : Place → B
 -- a search's answer is right: no list of the choices leads to a bad place, or this one does, and no
 -- shorter one
 abbrev pub SearchAnswers : {Z : Type 0} → List Choice → Place → (Place → Bool) → Found Z → Type 0
-SearchAnswers choices first bad (Safe count) = IsSafe choices first bad
+SearchAnswers choices first bad (Safe keys) = IsSafe choices first bad
 SearchAnswers choices first bad (Bad list) = LeadsToBad choices first bad list.items
 SearchAnswers choices first bad Undecided = Unit {0}
 
--- a search's count is right: so many places are reached where it looked at all of them, and it
--- gives up only where more than `most` are
+-- a search's keys are as many as the places that are reached, and it gives up only where more than
+-- `most` are
 abbrev pub SearchCounts : {Z : Type 0} → List Choice → Place → ℕ → Found Z → Type 0
-SearchCounts choices first most (Safe count) = HasPlaces choices first count
+SearchCounts choices first most (Safe keys) = HasPlaces choices first (length keys)
 SearchCounts choices first most (Bad list) = Unit {0}
 SearchCounts choices first most Undecided = HasMorePlaces choices first most
+
+-- keys stand for the places that lists of meant choices lead to, all of them and no other
+pub record AreAllReached (IsKey : List ℕ → Type 0) (place : List ℕ → Place) (choices : List Choice) (first : Place)
+    (keys : List (List ℕ)) : Type 0 where
+  pub are : All IsKey keys
+  pub led_to : All (λ key. IsLedTo choices first (place key)) keys
+  pub all : (list : List Choice) → All (Contains choices) list → IsSeen place keys (place_reached first list)
+
+-- the keys of a search that has looked at all places are theirs
+abbrev pub SearchReaches : {Z : Type 0} → (List ℕ → Type 0) → (List ℕ → Place) → List Choice → Place → Found Z → Type 0
+SearchReaches IsKey place choices first (Safe keys) = AreAllReached IsKey place choices first keys
+SearchReaches IsKey place choices first (Bad list) = Unit {0}
+SearchReaches IsKey place choices first Undecided = Unit {0}

@@ -2,7 +2,7 @@
 ghost use Rattle.std.specs.Prelude.{◌≡◌, ℕ, ◌+◌, ◌<◌, false, List, Some, IfOk, OnOk, slice_get};
 ghost use Rattle.explore_laws.specs.Places.{Place};
 ghost use Rattle.explore_search.specs.Searched.{AreReached, AreDone, AreRising, AreSoon};
-ghost use Rattle.explore_search.specs.Answers.{SearchAnswers, SearchCounts};
+ghost use Rattle.explore_search.specs.Answers.{SearchAnswers, SearchCounts, SearchReaches};
 
 use crate::seen::{Link, Seen};
 use crate::space::Space;
@@ -13,8 +13,9 @@ use std::alloc::{AllocError, Allocator};
 /// What a search finds.
 #[derive(Drop)]
 pub enum Found<A: Allocator> {
-    /// No list of the choices leads to a bad place; lists lead to so many places.
-    Safe(usize),
+    /// No list of the choices leads to a bad place; these are the keys of the places that lists
+    /// lead to.
+    Safe(Table<A>),
     /// This list leads to a bad place.
     Bad(Vec<Choice, A>),
     /// Lists lead to more places than may be looked at.
@@ -96,12 +97,16 @@ pub fn search<A: Allocator + Copy, S: Space<A>>(
 ) -> Result<Found<A>, AllocError>
     ensures answers { IfOk result (λ found. SearchAnswers choices.now (S.first space.old) (S.bad space.old) found) }
     ensures counts { IfOk result (λ found. SearchCounts choices.now (S.first space.old) most found) }
+    ensures reaches { IfOk result (λ found. SearchReaches (S.is_key space.new) (S.place space.new) choices.now
+        (S.first space.old) found) }
+    ensures first { OnOk result (S.first space.new ≡ S.first space.old) }
+    ensures bad { OnOk result (S.bad space.new ≡ S.bad space.old) }
 {
     let mut seen = see_first(alloc, space, choices, 1024)?;
     'places: for from in 0..most {
         let count = seen.keys.len();
         if from >= count {
-            return Ok(Found::Safe(count));
+            return Ok(Found::Safe(seen.keys));
         }
         let key = Vec::from_slice(alloc, seen.keys.key(from))?;
         let is_bad = space.is_bad(&key)?;
@@ -112,7 +117,7 @@ pub fn search<A: Allocator + Copy, S: Space<A>>(
     }
     let found = seen.keys.len();
     if found <= most {
-        return Ok(Found::Safe(found));
+        return Ok(Found::Safe(seen.keys));
     }
     Ok(Found::Undecided)
 }

@@ -1,11 +1,11 @@
 -- Different keys stand for different places.
-use Rattle.std.proofs.Common.{◌≡◌, ℕ, zero, suc, ◌+◌, ◌-◌, ◌%◌, ◌<◌, ◌≤◌, Bool, ◌==◌, List, length, map, take, Option, Some, refl, ap, sym, ◌∙◌, subst, arith, inl, inr}
+use Rattle.std.proofs.Common.{◌≡◌, ℕ, zero, suc, ◌+◌, ◌-◌, ◌%◌, ◌<◌, ◌≤◌, ◌==◌, List, length, Option, refl, ap, sym, ◌∙◌, subst, arith, inl, inr}
 use Rattle.std.proofs.lemmas.Bool.{cases_order}
 use Rattle.std.proofs.lemmas.List.{ext_get_or}
 use Rattle.std.proofs.lemmas.Option.{same_Some, get_or_from_slice_get}
 use Rattle.std.specs.List.{AllPairs, slice_get, slice_index, slice_index_or}
 use Rattle.image.specs.Image.{ImageValue}
-use Rattle.hart_step.specs.Hart.{HartValue, hart_of}
+use Rattle.hart_step.specs.Hart.{hart_of}
 use Rattle.hart_step.specs.declared.hart.Hart.{Hart}
 use Rattle.bank_laws.specs.Words.{bytes_at}
 use Rattle.explore_table.proofs.ListLemmas.{get_there}

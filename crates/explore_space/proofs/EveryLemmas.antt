@@ -1,5 +1,5 @@
 -- From places to runs.
-use Rattle.std.proofs.Common.{◌≡◌, ℕ, zero, suc, ◌+◌, ◌<◌, ◌≤◌, false, List, [], ◌∷◌, ◌++◌, length, Option, Some, None, refl, ap, sym, ◌∙◌, subst, arith, inl, inr, ◌⊎◌}
+use Rattle.std.proofs.Common.{◌≡◌, ℕ, zero, suc, ◌<◌, ◌≤◌, false, List, [], ◌∷◌, ◌++◌, length, Option, Some, None, refl, ap, sym, ◌∙◌, subst, arith, inl, inr}
 use Rattle.std.proofs.lemmas.Bool.{cases_lt, ne_eqb}
 use Rattle.std.proofs.lemmas.List.Elements.{All-head, All-tail, All-cons, Contains-append_cases, Contains-append_left, Contains-append_right}
 use Rattle.std.specs.List.{Contains, slice_get, slice_index_or}
@@ -79,7 +79,7 @@ module _ (refusals : ScRefusals) (n : ℕ) where
   plain_ones h (suc count) rest low all = All-cons (Contains (meant_choices refusals n)) (record { hart = h; refuse = false })
       (plain_choices h count ++ rest) (plain_meant refusals n h low) (plain_ones h count rest low all)
 
-  turns_meant : (w : World) (turns : List Choice) → IsListOf (meant_choices refusals n) turns
+  pub turns_meant : (w : World) (turns : List Choice) → IsListOf (meant_choices refusals n) turns
       → IsListOf (meant_choices refusals n) (turns_choices w turns)
   unfolding turns_choices
   turns_meant w [] all = all
@@ -93,14 +93,14 @@ module _ (refusals : ScRefusals) (n : ℕ) where
 
 -- ---- verdicts
 -- a choice of each hart that turns choose, and the turns
-alike : (refusals : ScRefusals) (n : ℕ) (w : World) (turns : List Choice) → IsListOf (meant_choices refusals n) turns
+pub alike : (refusals : ScRefusals) (n : ℕ) (w : World) (turns : List Choice) → IsListOf (meant_choices refusals n) turns
     → ChooseAlike (one_each n (place_reached (place_begun w) turns).chosen) turns
 alike refusals n w turns all k = elim (cases_lt k n) [
   | inl low ↦ chosen_below n (place_reached (place_begun w) turns).chosen k low ∙ chosen_reached w turns k
   | inr past ↦ chosen_past n (place_reached (place_begun w) turns).chosen k past ∙ sym (none_past refusals n turns k past all)
 ]
 
-same_judgement : (rule : Option Kind) (inputs : List ℕ) (a b : List Choice) (harts : List HartValue) → ChooseAlike a b
+pub same_judgement : (rule : Option Kind) (inputs : List ℕ) (a b : List Choice) (harts : List HartValue) → ChooseAlike a b
     → judged rule inputs a harts ≡ judged rule inputs b harts
 same_judgement None inputs a b harts same = refl
 same_judgement (Some kind) inputs a b harts same = ap (λ v. outcome_of (Some v) harts) (same_verdict kind inputs a b harts same)
@@ -118,7 +118,7 @@ fails_alike rule refusals image inputs turns all =
     ∙ ap (λ (x : World). fails May (judged rule inputs (turns_choices w turns) x.harts)) (sym (run_of_turns w turns))
 
 -- a run fails in no other way than the place that stands for it
-good_run : (rule : Option Kind) (refusals : ScRefusals) (image : ImageValue) (inputs : List ℕ) (choices : List Choice)
+pub good_run : (rule : Option Kind) (refusals : ScRefusals) (image : ImageValue) (inputs : List ℕ) (choices : List Choice)
     (found : HasTurns (meant_choices refusals (length inputs)) (started image inputs) choices)
     → fails_there rule inputs (place_reached (place_begun (started image inputs)) found.turns) ≡ false
     → run_fails rule image inputs choices ≡ false

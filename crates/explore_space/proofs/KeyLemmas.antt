@@ -1,5 +1,5 @@
 -- Keys after a step, and keys as tables grow.
-use Rattle.std.proofs.Common.{◌≡◌, ◌≢◌, ℕ, zero, suc, ◌+◌, ◌%◌, ◌<◌, ◌≤◌, Bool, ◌||◌, ◌==◌, List, [], ◌∷◌, ◌++◌, length, map, take, set, Option, Some, refl, ap, sym, ◌∙◌, subst, arith, inl, inr, ◌⊎◌}
+use Rattle.std.proofs.Common.{◌≡◌, ℕ, zero, suc, ◌+◌, ◌%◌, ◌<◌, ◌≤◌, Bool, ◌||◌, ◌==◌, List, [], ◌∷◌, length, map, take, set, Option, Some, refl, ap, sym, ◌∙◌, subst, arith, inl, inr, ◌⊎◌}
 use Rattle.std.proofs.lemmas.Bool.{cases_eq}
 use Rattle.std.proofs.lemmas.List.{length-set, length-append, get_or-set_same, get_or-set_other}
 use Rattle.std.proofs.lemmas.Option.{slice_get_within, get_or_from_slice_get, slice_get-map}
@@ -21,7 +21,6 @@ use Rattle.machine.proofs.RunLaws.{all-run, run-keeps}
 use Rattle.bank_laws.specs.Banks.{WordBytes}
 use Rattle.bank_laws.specs.Runs.{StepTable}
 use Rattle.bank_laws.specs.Words.{bytes_at}
-use Rattle.bank_laws.specs.Table.{table}
 use Rattle.explore_sites.specs.Cells.{words_shown}
 use Rattle.explore_sites.specs.Sites.{ShowsOne, StepsTo}
 use Rattle.explore_sites.proofs.SiteLemmas.{machine_steps}

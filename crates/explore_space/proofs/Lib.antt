@@ -8,3 +8,6 @@ pub mod MarkLemmas
 pub mod TurnLists
 pub mod PassLemmas
 pub mod EveryLemmas
+pub mod EndLemmas
+pub mod StopLemmas
+pub mod EveryEnds

@@ -1,5 +1,5 @@
 -- What fails in a run fails in the place that stands for it.
-use Rattle.std.proofs.Common.{◌≡◌, ◌≢◌, ℕ, zero, suc, ◌<◌, ◌==◌, ltb, eq-eqb, Bool, true, false, ◌||◌, List, [], ◌∷◌, length, get_or, cond, Option, Some, None, refl, ap, sym, ◌∙◌, subst, inl, inr, ◌⊎◌, arith}
+use Rattle.std.proofs.Common.{◌≡◌, ℕ, zero, suc, ◌<◌, ◌==◌, ltb, eq-eqb, Bool, true, false, ◌||◌, List, [], ◌∷◌, length, get_or, cond, Option, Some, None, refl, ap, sym, ◌∙◌, subst, inl, inr, ◌⊎◌, arith}
 use Rattle.std.proofs.lemmas.Bool.{cases_Bool, cases_eq, or_right, ne_eqb, lt-ltb}
 use Rattle.std.proofs.lemmas.Option.{same_Some, slice_get-get_or}
 use Rattle.std.specs.List.{All, Contains}
@@ -44,7 +44,7 @@ chosen_there (c ∷ choices) k e = elim (cases_eq c.hart k) [
 ]
 
 -- ---- harts that have stopped
-stays_there : (code : Memory) (n : ℕ) (v u : HartValue) → walk code n v ≡ Some u → is_local_next code v ≡ false → v ≡ u
+pub stays_there : (code : Memory) (n : ℕ) (v u : HartValue) → walk code n v ≡ Some u → is_local_next code v ≡ false → v ≡ u
 unfolding walk
 stays_there code zero v u e stopped = same_Some v u e
 stays_there code (suc n) v u e stopped = absurd (let none : ◌≡◌ {A = Option HartValue} None (Some u) = rw stopped at e in cc)
@@ -62,7 +62,7 @@ faulted_stays code pc (Faulted cause) e = refl
 -- ---- the harts of a world that another covers
 module _ (s w : World) (covers : WorldCovers s w) where
   -- hart number i of the one leads to that of the other
-  leads : (i : ℕ) (d : HartValue) → i < length w.harts → WalksTo (code_in w.memory) (get_or w.harts i d) (get_or s.harts i d)
+  pub leads : (i : ℕ) (d : HartValue) → i < length w.harts → WalksTo (code_in w.memory) (get_or w.harts i d) (get_or s.harts i d)
   leads i d low = covers.harts i (get_or w.harts i d) (get_or s.harts i d) (slice_get-get_or w.harts i d low)
       (slice_get-get_or s.harts i d (let c = covers.count in omega (arith, low, c)))
 
@@ -165,7 +165,7 @@ none_above : (n : ℕ) → ltb 0 n || false ≡ false → n ≡ 0
 none_above zero e = refl
 none_above (suc n) e = absurd (let no_ : true || false ≡ false = ap (λ b. b || false) (sym (lt-ltb 0 (suc n) (omega arith))) ∙ e in cc)
 
-not_broken : (b : Bool) → breaks (Some (cond b verdict.Kept verdict.Broken)) || false ≡ false → b ≡ true
+pub not_broken : (b : Bool) → breaks (Some (cond b verdict.Kept verdict.Broken)) || false ≡ false → b ≡ true
 not_broken true e = refl
 not_broken false e = absurd (cc)
 

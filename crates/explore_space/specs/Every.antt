@@ -1,16 +1,18 @@
 -- What every schedule of a program does.
-use Rattle.std.specs.Prelude.{◌≡◌, ℕ, zero, suc, ◌<◌, Bool, true, false, List, [], ◌∷◌, ◌++◌, length, Option}
-use Rattle.std.specs.List.{All, Contains}
+use Rattle.std.specs.Prelude.{◌≡◌, ◌≢◌, ℕ, zero, suc, ◌<◌, Bool, true, false, List, [], ◌∷◌, ◌++◌, length, Option}
+use Rattle.std.specs.List.{All, AllPairs, Contains}
 use Rattle.image.specs.Image.{ImageValue}
 use Rattle.machine.specs.Start.{started}
 use Rattle.machine.specs.World.{World, run}
 use Rattle.machine.specs.declared.choice.Choice.{Choice}
 use Rattle.object_library.specs.declared.kind.Kind.{Kind}
 use Rattle.outcome.specs.Expect.{fails, judged}
+use Rattle.outcome.specs.Outcome.{some_run}
 use Rattle.outcome.specs.declared.expect.Exit.TheVariants.{May}
 use Rattle.explore_laws.specs.Places.{place_begun}
 use Rattle.explore_laws.specs.Settling.{turns_choices}
 use Rattle.explore_search.specs.Counted.{HasPlaces, HasMorePlaces}
+use Rattle.explore_space.specs.Ends.{EndValue, end_with, ends_in}
 use Rattle.explore_space.specs.declared.exploring.Answer.{Answer}
 use Rattle.explore_space.specs.declared.exploring.Answer.TheVariants.{Holds, Fails, Undecided}
 use Rattle.explore_space.specs.declared.meant.ScRefusals.{ScRefusals}
@@ -51,7 +53,7 @@ pub record FailsFirst (meant : List Choice) (first : World) (is_failing : List C
 -- an answer holds of every schedule: no list of the harts' choices fails, or this one does; where
 -- it is undecided, nothing is said
 abbrev pub HoldsOfEvery : {Z : Type 0} → Option Kind → ScRefusals → ImageValue → List ℕ → Answer Z → Type 0
-HoldsOfEvery rule refusals image inputs (Holds places) =
+HoldsOfEvery rule refusals image inputs (Holds held) =
     (choices : List Choice) → IsListOf (meant_choices refusals (length inputs)) choices → run_fails rule image inputs choices ≡ false
 HoldsOfEvery rule refusals image inputs (Fails failing) =
     FailsFirst (meant_choices refusals (length inputs)) (started image inputs) (run_fails rule image inputs)
@@ -61,8 +63,38 @@ HoldsOfEvery rule refusals image inputs Undecided = Unit {0}
 -- an answer counts places: turns lead to so many where nothing fails, and to more than `most` where
 -- it is undecided
 abbrev pub CountsPlaces : {Z : Type 0} → ScRefusals → ImageValue → List ℕ → ℕ → Answer Z → Type 0
-CountsPlaces refusals image inputs most (Holds places) =
-    HasPlaces (meant_choices refusals (length inputs)) (place_begun (started image inputs)) places
+CountsPlaces refusals image inputs most (Holds held) =
+    HasPlaces (meant_choices refusals (length inputs)) (place_begun (started image inputs)) held.places
 CountsPlaces refusals image inputs most (Fails failing) = Unit {0}
 CountsPlaces refusals image inputs most Undecided =
     HasMorePlaces (meant_choices refusals (length inputs)) (place_begun (started image inputs)) most
+
+-- no hart runs after a list of choices from a program's start
+abbrev pub StopsAll : ImageValue → List ℕ → List Choice → Type 0
+StopsAll image inputs choices = some_run (run (started image inputs) choices).harts ≡ false
+
+-- how its run ends: how many harts ended in each way, the verdict, and what each has in a0 and a1
+abbrev pub run_end : Option Kind → ImageValue → List ℕ → List Choice → EndValue
+run_end rule image inputs choices =
+    end_with (judged rule inputs choices (run (started image inputs) choices).harts) (run (started image inputs) choices).harts
+
+-- an end is that of some list of the harts' choices after which no hart runs
+pub record IsEndOfSome (rule : Option Kind) (refusals : ScRefusals) (image : ImageValue) (inputs : List ℕ) (end : EndValue) : Type 0 where
+  pub choices : List Choice
+  pub meant_ones : IsListOf (meant_choices refusals (length inputs)) choices
+  pub stops : StopsAll image inputs choices
+  pub is : run_end rule image inputs choices ≡ end
+
+-- ends are those of the lists of the harts' choices after which no hart runs: all of them, each
+-- once, and no other
+pub record AreAllEnds (rule : Option Kind) (refusals : ScRefusals) (image : ImageValue) (inputs : List ℕ) (ends : List EndValue) : Type 0 where
+  pub all : (choices : List Choice) → IsListOf (meant_choices refusals (length inputs)) choices → StopsAll image inputs choices
+      → Contains ends (run_end rule image inputs choices)
+  pub each : (end : EndValue) → Contains ends end → IsEndOfSome rule refusals image inputs end
+  pub once : AllPairs (λ a b. a ≢ b) ends
+
+-- an answer tells all ends, where no list fails
+abbrev pub TellsEnds : {Z : Type 0} → Option Kind → ScRefusals → ImageValue → List ℕ → Answer Z → Type 0
+TellsEnds rule refusals image inputs (Holds held) = AreAllEnds rule refusals image inputs (ends_in held.ends)
+TellsEnds rule refusals image inputs (Fails failing) = Unit {0}
+TellsEnds rule refusals image inputs Undecided = Unit {0}

@@ -1,3 +1,4 @@
 pub mod Places
 pub mod Failing
+pub mod Ends
 pub mod Every

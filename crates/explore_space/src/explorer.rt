@@ -57,6 +57,13 @@ impl<'a, A: Allocator + Copy> Explorer<'a, A> {
             shareds: Kept::new(alloc)?,
         })
     }
+
+    /// The harts that are known, by their numbers in keys.
+    pub fn known_harts(&self) -> &[Hart]
+        ensures { result.now ≡ self.now.harts.parts.items }
+    {
+        &self.harts.parts
+    }
 }
 
 impl<'a, A: Allocator + Copy> Space<A> for Explorer<'a, A> {

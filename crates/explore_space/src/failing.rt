@@ -13,8 +13,8 @@ use outcome::{Exit, Expect};
 use sched_run::Chosen;
 use std::alloc::{AllocError, Allocator};
 
-// The harts of a key.
-fn harts_by_key<A: Allocator>(
+/// The harts of a key. Fails when out of memory.
+pub fn harts_by_key<A: Allocator>(
     alloc: A,
     harts: &[Hart],
     count: usize,
@@ -31,8 +31,8 @@ fn harts_by_key<A: Allocator>(
     Ok(ends)
 }
 
-// Which harts were chosen, by a key's marks.
-fn chosen_by_key(count: usize, key: &[u32]) -> Chosen
+/// Which harts were chosen, by a key's marks.
+pub fn chosen_by_key(count: usize, key: &[u32]) -> Chosen
     requires few { count ≤ 32 }
     requires long { length key.now ≡ 2 * count + 1 }
     ensures { (k : ℕ) → harts_of result k ≡ (nat_lt k count && (slice_index key.now (count + 1 + k) == 1)) }

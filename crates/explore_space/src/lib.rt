@@ -2,10 +2,12 @@
 #![tactic(auto)]
 
 pub use explorer::Explorer;
-pub use exploring::{Answer, Failing, explore};
+pub use exploring::{Answer, Failing, Held, explore};
 pub use meant::ScRefusals;
+pub use run_end::{Ends, Returned, RunEnd};
 pub use shared::Shared;
 
+mod ending;
 mod expanding;
 mod explorer;
 mod exploring;
@@ -15,6 +17,7 @@ mod hash;
 mod kept;
 mod meant;
 mod parts;
+mod run_end;
 mod settling;
 mod shared;
 mod stepping;

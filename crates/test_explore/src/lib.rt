@@ -2,6 +2,8 @@
 #![tactic(auto)]
 
 #[cfg(test)]
+mod end_tests;
+#[cfg(test)]
 mod failing_tests;
 #[cfg(test)]
 mod world_tests;

@@ -29,7 +29,7 @@ fn places_of(alloc: Global, row: &Row, most: usize) -> Option<Option<usize>> {
     let image = make_image(alloc, row.kind).ok()?;
     let inputs = Inputs::new(row.inputs).ok()?;
     match explore(alloc, &image, &inputs, Some(row.kind), row.refusals, most) {
-        Ok(Answer::Holds(places)) => Some(Some(places)),
+        Ok(Answer::Holds(held)) => Some(Some(held.places)),
         Ok(Answer::Undecided) => Some(None),
         Ok(Answer::Fails(_)) | Err(_) => None,
     }

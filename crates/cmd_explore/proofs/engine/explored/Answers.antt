@@ -9,5 +9,5 @@ returns-in_ok-print_runs-in-Fails-clause-told g c =
     let few = c.requires.1 in
     tells_failing c.args.question c.args.image.now c.args.inputs.now _ (omega (arith, few)) c.in-Fails.failing
     (subst (λ a. HoldsOfEvery c.args.question.rule c.args.question.refusals c.args.image.now c.args.inputs.now a) c.in-Fails.is
-    c.in_ok-worlds.ensures.holds)
+    c.in_ok-held.ensures.holds)
     (c.in_ok-print_runs-in-Fails.ensures.text ∙ ap runs_text c.deref.ensures.value) c.failing_status.ensures refl

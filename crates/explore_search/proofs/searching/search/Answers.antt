@@ -1,7 +1,7 @@
 use Rattle.std.proofs.Common.{◌≡◌, ◌∙◌, true, arith, subst, sym, ap}
 use Rattle.explore_laws.specs.Places.{place_reached}
 use Rattle.explore_search.specs.Searched.{AreReached, AreDone}
-use Rattle.explore_search.proofs.SearchLemmas.{closed_is_safe, closed_is_counted, more_are_counted}
+use Rattle.explore_search.proofs.SearchLemmas.{closed_is_safe, closed_is_all, closed_is_counted, more_are_counted}
 use Rattle.explore_table.proofs.ListLemmas.{get_there}
 use Rattle.explore_search.proofs.NearLemmas.{none_shorter}
 use Rattle.explore_search.proofs.searching.search.Goals as goal
@@ -16,7 +16,13 @@ pub returns-then-from-count-clause-counts : goal.returns-then-from-count-clause-
 returns-then-from-count-clause-counts g c =
     let all = c.if-from-count.true in
     let count = c.len-count.ensures in
-    closed_is_counted c.places.invariant.reached c.places.invariant.done c.places.invariant.first (omega (arith, all, count)) count
+    closed_is_counted c.places.invariant.reached c.places.invariant.done c.places.invariant.first (omega (arith, all, count))
+
+pub returns-then-from-count-clause-reaches : goal.returns-then-from-count-clause-reaches
+returns-then-from-count-clause-reaches g c =
+    let all = c.if-from-count.true in
+    let count = c.len-count.ensures in
+    closed_is_all c.places.invariant.reached c.places.invariant.done c.places.invariant.first (omega (arith, all, count))
 
 pub returns-then-is_bad-clause-answers : goal.returns-then-is_bad-clause-answers
 returns-then-is_bad-clause-answers g c =
@@ -55,7 +61,14 @@ returns-then-found-most-clause-counts g c =
     let few = c.if-found-most.true in
     let count = c.len-found.ensures in
     let over = c.places-test.false in
-    closed_is_counted c.places.invariant.reached c.places.invariant.done c.places.invariant.first (omega (arith, few, count, over)) count
+    closed_is_counted c.places.invariant.reached c.places.invariant.done c.places.invariant.first (omega (arith, few, count, over))
+
+pub returns-then-found-most-clause-reaches : goal.returns-then-found-most-clause-reaches
+returns-then-found-most-clause-reaches g c =
+    let few = c.if-found-most.true in
+    let count = c.len-found.ensures in
+    let over = c.places-test.false in
+    closed_is_all c.places.invariant.reached c.places.invariant.done c.places.invariant.first (omega (arith, few, count, over))
 
 pub returns-clause-counts : goal.returns-clause-counts
 returns-clause-counts g c =

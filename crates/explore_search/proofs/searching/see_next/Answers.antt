@@ -1,4 +1,4 @@
-use Rattle.std.proofs.Common.{◌≡◌, ◌∙◌, arith, length, subst, sym, ap, List, Some}
+use Rattle.std.proofs.Common.{◌∙◌, arith, length, subst, sym, ap, List}
 use Rattle.std.specs.List.{slice_get}
 use Rattle.std.proofs.lemmas.Option.{slice_get_within, slice_get-get_or}
 use Rattle.explore_laws.specs.Places.{place_after}

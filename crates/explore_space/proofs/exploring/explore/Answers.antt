@@ -1,10 +1,15 @@
-use Rattle.std.proofs.Common.{ap, sym, ◌∙◌}
+use Rattle.std.proofs.Common.{ℕ, List, length, ap, sym, ◌∙◌, subst}
+use Rattle.hart_step.specs.declared.hart.Hart.{Hart}
 use Rattle.machine.specs.Start.{started}
 use Rattle.explore_laws.specs.Places.{place_begun}
 use Rattle.explore_laws.specs.Settling.{turns_choices}
-use Rattle.explore_search.specs.Answers.{SearchAnswers, SearchCounts}
+use Rattle.explore_search.specs.Answers.{SearchAnswers, SearchCounts, SearchReaches}
+use Rattle.explore_search.specs.Counted.{HasPlaces}
+use Rattle.explore_space.specs.Ends.{AreEndsAt, ends_in}
 use Rattle.explore_space.specs.Every.{meant_choices}
 use Rattle.explore_space.specs.Failing.{fails_there}
+use Rattle.explore_space.specs.Places.{IsKey, place_of_key}
+use Rattle.explore_space.proofs.EveryEnds.{all_fit, ends_are_all}
 use Rattle.explore_space.proofs.EveryLemmas.{safe_is_safe, bad_is_bad, moved}
 use Rattle.explore_space.proofs.exploring.explore.Goals as goal
 
@@ -13,26 +18,58 @@ returns-in-Safe-clause-holds g c =
     safe_is_safe c.args.rule c.args.refusals c.args.image.now c.args.inputs.now
     (moved (λ m i n r f. SearchAnswers m (place_begun (started i n)) (fails_there r n) f)
     (c.deref.ensures.value ∙ c.in_ok-meant.ensures ∙ ap (meant_choices c.args.refusals) c.harts.ensures.harts) c.in_ok-explorer.ensures.image
-    c.in_ok-explorer.ensures.inputs c.in_ok-explorer.ensures.rule c.in-Safe.is c.in_ok-places.ensures.answers)
+    c.in_ok-explorer.ensures.inputs c.in_ok-explorer.ensures.rule c.in-Safe.is c.in_ok-keys.ensures.answers)
 
 pub returns-in-Safe-clause-places : goal.returns-in-Safe-clause-places
 returns-in-Safe-clause-places g c =
-    moved (λ m i n r f. SearchCounts m (place_begun (started i n)) c.args.most f)
+    subst (HasPlaces (meant_choices c.args.refusals (length c.args.inputs.now)) (place_begun (started c.args.image.now c.args.inputs.now)))
+    (sym c.len.ensures)
+    (moved (λ m i n r f. SearchCounts m (place_begun (started i n)) c.args.most f)
     (c.deref.ensures.value ∙ c.in_ok-meant.ensures ∙ ap (meant_choices c.args.refusals) c.harts.ensures.harts) c.in_ok-explorer.ensures.image
-    c.in_ok-explorer.ensures.inputs c.in_ok-explorer.ensures.rule c.in-Safe.is c.in_ok-places.ensures.counts
+    c.in_ok-explorer.ensures.inputs c.in_ok-explorer.ensures.rule c.in-Safe.is c.in_ok-keys.ensures.counts)
+
+pub ends_at_keys-requires-clause-fit : goal.ends_at_keys-requires-clause-fit
+ends_at_keys-requires-clause-fit g c =
+    let space = c.search.new.space in
+    let n = length space.inputs.now in
+    let fit = all_fit c.args.rule c.args.refusals c.args.image.now c.args.inputs.now space.image.now space.harts.parts.items
+    space.shareds.parts.items c.in-Safe.keys n
+    (moved (λ m i l r f. SearchReaches (IsKey space.image.now n space.harts.parts.items space.shareds.parts.items)
+    (place_of_key space.image.now n space.harts.parts.items space.shareds.parts.items) m (place_begun (started i l)) f)
+    (c.deref.ensures.value ∙ c.in_ok-meant.ensures ∙ ap (meant_choices c.args.refusals) c.harts.ensures.harts) c.in_ok-explorer.ensures.image
+    c.in_ok-explorer.ensures.inputs c.in_ok-explorer.ensures.rule c.in-Safe.is c.in_ok-keys.ensures.reaches) in
+    rw c.words.ensures.same (rw c.known_harts.ensures fit)
+
+pub returns-in-Safe-clause-ends : goal.returns-in-Safe-clause-ends
+returns-in-Safe-clause-ends g c =
+    let space = c.search.new.space in
+    let n = length space.inputs.now in
+    ends_are_all c.args.rule c.args.refusals c.args.image.now c.args.inputs.now space.image.now space.harts.parts.items
+    space.shareds.parts.items c.in-Safe.keys n _
+    (moved (λ m i l r f. SearchReaches (IsKey space.image.now n space.harts.parts.items space.shareds.parts.items)
+    (place_of_key space.image.now n space.harts.parts.items space.shareds.parts.items) m (place_begun (started i l)) f)
+    (c.deref.ensures.value ∙ c.in_ok-meant.ensures ∙ ap (meant_choices c.args.refusals) c.harts.ensures.harts) c.in_ok-explorer.ensures.image
+    c.in_ok-explorer.ensures.inputs c.in_ok-explorer.ensures.rule c.in-Safe.is c.in_ok-keys.ensures.reaches)
+    (moved (λ m i l r f. SearchAnswers m (place_begun (started i l)) (fails_there r l) f)
+    (c.deref.ensures.value ∙ c.in_ok-meant.ensures ∙ ap (meant_choices c.args.refusals) c.harts.ensures.harts) c.in_ok-explorer.ensures.image
+    c.in_ok-explorer.ensures.inputs c.in_ok-explorer.ensures.rule c.in-Safe.is c.in_ok-keys.ensures.answers)
+    (subst (λ (hs : List Hart). AreEndsAt c.args.rule c.args.inputs.now hs c.in-Safe.keys (ends_in c.in_ok-ends_at_keys-in-Safe.field-0))
+    c.known_harts.ensures
+    (subst (λ (l : List ℕ). AreEndsAt c.args.rule l c.known_harts.result.now c.in-Safe.keys (ends_in c.in_ok-ends_at_keys-in-Safe.field-0))
+    c.words.ensures.same c.in_ok-ends_at_keys-in-Safe.ensures))
 
 pub returns-in-Bad-clause-holds : goal.returns-in-Bad-clause-holds
 returns-in-Bad-clause-holds g c =
     bad_is_bad c.args.rule c.args.refusals c.args.image.now c.args.inputs.now c.in-Bad.turns.items c.in_ok-choices_of_turns-in-Bad.field-0.items
-    c.len.result
+    c.len-in-Bad.result
     (moved (λ m i n r f. SearchAnswers m (place_begun (started i n)) (fails_there r n) f)
     (c.deref.ensures.value ∙ c.in_ok-meant.ensures ∙ ap (meant_choices c.args.refusals) c.harts.ensures.harts) c.in_ok-explorer.ensures.image
-    c.in_ok-explorer.ensures.inputs c.in_ok-explorer.ensures.rule c.in-Bad.is c.in_ok-places.ensures.answers)
+    c.in_ok-explorer.ensures.inputs c.in_ok-explorer.ensures.rule c.in-Bad.is c.in_ok-keys.ensures.answers)
     (c.in_ok-choices_of_turns-in-Bad.ensures ∙ ap (turns_choices (started c.args.image.now c.args.inputs.now)) c.deref-in-Bad.ensures.value)
-    (sym (c.len.ensures ∙ c.in-Bad.turns.ok.0))
+    (sym (c.len-in-Bad.ensures ∙ c.in-Bad.turns.ok.0))
 
 pub returns-clause-places : goal.returns-clause-places
 returns-clause-places g c =
     moved (λ m i n r f. SearchCounts m (place_begun (started i n)) c.args.most f)
     (c.deref.ensures.value ∙ c.in_ok-meant.ensures ∙ ap (meant_choices c.args.refusals) c.harts.ensures.harts) c.in_ok-explorer.ensures.image
-    c.in_ok-explorer.ensures.inputs c.in_ok-explorer.ensures.rule c.in-Undecided.is c.in_ok-places.ensures.counts
+    c.in_ok-explorer.ensures.inputs c.in_ok-explorer.ensures.rule c.in-Undecided.is c.in_ok-keys.ensures.counts

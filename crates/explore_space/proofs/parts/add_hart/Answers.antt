@@ -1,4 +1,4 @@
-use Rattle.std.proofs.Common.{◌≡◌, ◌≢◌, length, refl, arith, ◌∙◌}
+use Rattle.std.proofs.Common.{◌≢◌, length, refl, arith}
 use Rattle.std.proofs.lemmas.Bool.Decides.{when_false}
 use Rattle.std.proofs.lemmas.Option.{slice_get_read}
 use Rattle.hart_step.specs.Hart.{hart_of}

@@ -1,4 +1,4 @@
-use Rattle.std.proofs.Common.{◌≡◌, length, refl, arith, ◌∙◌}
+use Rattle.std.proofs.Common.{length, refl, arith}
 use Rattle.std.proofs.lemmas.Option.{slice_get_read}
 use Rattle.explore_space.specs.Places.{AreUnlike}
 use Rattle.explore_space.proofs.SameLemmas.{all_so_far, apart_more}
