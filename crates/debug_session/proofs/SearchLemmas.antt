@@ -2,7 +2,7 @@
 use Rattle.std.proofs.Common.{◌≡◌, ℕ, zero, suc, ◌+◌, ◌-◌, ◌<◌, ◌≤◌, Option, Some, None, ◌⊎◌, inl, inr, ◌∙◌, sym, ap, refl, arith, subst}
 use Rattle.debug_session.specs.Searches.{IsLeastStop, IsGreatestStop}
 use Rattle.debug_session.specs.Wishes.{Wish}
-use Rattle.debug_session.specs.Session.{Session, length_of, reason_at, Found, found_or, first_found, last_found, next_of, earlier_of}
+use Rattle.debug_session.specs.Session.{Session, length_of, reason_at, Found, found_or, first_found, last_found, first_of, last_of, next_of, earlier_of}
 
 abbrev Least : {R : Type 0} → (ℕ → Option R) → ℕ → ℕ → Found R → Type 0
 Least reason from to f = IsLeastStop reason from to f.0 f.1
@@ -35,11 +35,15 @@ first_is_least reason i (suc n) =
     least_here reason i n (reason i) (first_found reason (i + 1) n) refl
     (subst (λ (t : ℕ). Least reason (i + 1) t (first_found reason (i + 1) n)) to (first_is_least reason (i + 1) n))
 
+pub from_is_least : {R : Type 0} (wish : Wish R) (s : Session) (from : ℕ) → from ≤ length_of s
+    → IsLeastStop (reason_at wish s) from (length_of s) (first_of wish s from).0 (first_of wish s from).1
+from_is_least wish s from inside =
+    let to : from + (length_of s - from) ≡ length_of s = omega arith in
+    subst (λ (t : ℕ). Least (reason_at wish s) from t (first_of wish s from)) to (first_is_least (reason_at wish s) from (length_of s - from))
+
 pub next_is_least : {R : Type 0} (wish : Wish R) (s : Session) → s.position ≤ length_of s
     → IsLeastStop (reason_at wish s) s.position (length_of s) (next_of wish s).0 (next_of wish s).1
-next_is_least wish s inside =
-    let to : s.position + (length_of s - s.position) ≡ length_of s = omega arith in
-    subst (λ (t : ℕ). Least (reason_at wish s) s.position t (next_of wish s)) to (first_is_least (reason_at wish s) s.position (length_of s - s.position))
+next_is_least wish s inside = from_is_least wish s s.position inside
 
 last_or_earlier : (i j : ℕ) → j < suc i → (j ≡ i) ⊎ (j < i)
 last_or_earlier i j h = grind arith
@@ -62,15 +66,29 @@ unfolding last_found
 last_is_greatest reason zero = (refl, λ j high. absurd (omega arith))
 last_is_greatest reason (suc i) = greatest_here reason i (reason i) (last_found reason i) refl (last_is_greatest reason i)
 
+pub below_is_greatest : {R : Type 0} (wish : Wish R) (s : Session) (below : ℕ)
+    → IsGreatestStop (reason_at wish s) below (last_of wish s below).0 (last_of wish s below).1
+below_is_greatest wish s below = last_is_greatest (reason_at wish s) below
+
 pub earlier_is_greatest : {R : Type 0} (wish : Wish R) (s : Session)
     → IsGreatestStop (reason_at wish s) (s.position - 1) (earlier_of wish s).0 (earlier_of wish s).1
-earlier_is_greatest wish s = last_is_greatest (reason_at wish s) (s.position - 1)
+earlier_is_greatest wish s = below_is_greatest wish s (s.position - 1)
 
 -- what was found, as a position and a reason
+pub found_from_is_least : {R : Type 0} (wish : Wish R) (s : Session) (from k : ℕ) (why : Option R) → from ≤ length_of s → (k, why) ≡ first_of wish s from
+    → IsLeastStop (reason_at wish s) from (length_of s) k why
+found_from_is_least wish s from k why inside is =
+    subst (Least (reason_at wish s) from (length_of s)) (sym is) (from_is_least wish s from inside)
+
 pub found_is_least : {R : Type 0} (wish : Wish R) (s : Session) (k : ℕ) (why : Option R) → s.position ≤ length_of s → (k, why) ≡ next_of wish s
     → IsLeastStop (reason_at wish s) s.position (length_of s) k why
 found_is_least wish s k why inside is =
     subst (Least (reason_at wish s) s.position (length_of s)) (sym is) (next_is_least wish s inside)
+
+pub found_below_is_greatest : {R : Type 0} (wish : Wish R) (s : Session) (below k : ℕ) (why : Option R) → (k, why) ≡ last_of wish s below
+    → IsGreatestStop (reason_at wish s) below k why
+found_below_is_greatest wish s below k why is =
+    subst (Greatest (reason_at wish s) below) (sym is) (below_is_greatest wish s below)
 
 pub found_is_greatest : {R : Type 0} (wish : Wish R) (s : Session) (k : ℕ) (why : Option R) → (k, why) ≡ earlier_of wish s
     → IsGreatestStop (reason_at wish s) (s.position - 1) k why

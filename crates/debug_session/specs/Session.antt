@@ -49,10 +49,14 @@ steps_to k = k % 256
 abbrev pub steps_on : Session → ℕ → ℕ
 steps_on s k = k - s.position
 
--- the number of steps of a search backwards that finds position k, or finds none and k is 0: those
--- from the greatest multiple of 256 below k, or 0, to the position before its own
+-- the number of steps of a search backwards from position `below` that finds position k, or finds
+-- none and k is 0: those from the greatest multiple of 256 below k, or 0, to `below`
+abbrev pub steps_below : ℕ → ℕ → ℕ
+steps_below below k = below - (k - 1) / 256 * 256
+
+-- the number of steps of a search from the position before a session's own
 abbrev pub steps_of_search : Session → ℕ → ℕ
-steps_of_search s k = s.position - 1 - (k - 1) / 256 * 256
+steps_of_search s k = steps_below (s.position - 1) k
 
 -- the number of steps of `rgo` if it ends at position k: those of its search, and of a move to k
 abbrev pub steps_back : Session → ℕ → ℕ
@@ -85,13 +89,21 @@ unfoldable pub last_found : {R : Type 0} → (ℕ → Option R) → ℕ → Foun
 last_found reason zero = (0, None)
 last_found reason (suc i) = found_or (i + 1) (reason i) (last_found reason i)
 
+-- the result of a search forwards, from the choice `from` on
+abbrev pub first_of : {R : Type 0} → Wish R → Session → ℕ → Found R
+first_of wish s from = first_found (reason_at wish s) from (length s.choices - from)
+
 -- the result of a search forwards, from the position on
 abbrev pub next_of : {R : Type 0} → Wish R → Session → Found R
-next_of wish s = first_found (reason_at wish s) s.position (length s.choices - s.position)
+next_of wish s = first_of wish s s.position
+
+-- the result of a search backwards among the first `below` choices
+abbrev pub last_of : {R : Type 0} → Wish R → Session → ℕ → Found R
+last_of wish s below = last_found (reason_at wish s) below
 
 -- the result of a search backwards, below the position
 abbrev pub earlier_of : {R : Type 0} → Wish R → Session → Found R
-earlier_of wish s = last_found (reason_at wish s) (s.position - 1)
+earlier_of wish s = last_of wish s (s.position - 1)
 
 -- the result of `go`
 abbrev pub next_found : Session → Found Stop

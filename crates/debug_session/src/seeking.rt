@@ -2,7 +2,7 @@
 ghost use Rattle.std.specs.Prelude.{◌≡◌, ◌<◌, ◌≤◌, ◌+◌, ◌-◌, ◌*◌, OnOk, OnErr, IfOk, IfSome};
 ghost use Rattle.debug_session.specs.Paged.{paged_world};
 ghost use Rattle.debug_session.specs.Searches.{IsLeastStop, IsGreatestStop};
-ghost use Rattle.debug_session.specs.Session.{session, moved, length_of, world_at, reason_at, stop_behind, found_or, last_found, next_of, earlier_of, next_found, earlier_found, steps_on, steps_of_search, steps_back};
+ghost use Rattle.debug_session.specs.Session.{session, moved, length_of, world_at, reason_at, stop_behind, found_or, last_found, first_of, last_of, next_of, earlier_of, next_found, earlier_found, steps_on, steps_below, steps_to, steps_back};
 
 use crate::debugger::Debugger;
 use crate::paged_machine::PagedMachine;
@@ -49,25 +49,29 @@ struct Place<R: Copy> {
 }
 
 impl<A: Allocator + Copy> Debugger<A> {
-    /// The least later position behind a wanted choice, or the end. The debugger does not move.
-    pub fn next<W: Wanted<A>>(
+    // The least position behind a wanted choice above `from`, or the end. The machine is that at
+    // `from`.
+    fn first_behind<W: Wanted<A>>(
         &self,
-        alloc: A,
+        start: PagedMachine<A>,
         wanted: &W,
+        from: usize,
     ) -> Result<Target<A, W::Reason>, AllocError>
+        requires from { from ≤ length_of (session self.now) }
+        requires start { paged_world start ≡ world_at (session self.now) from }
         ensures found { IfOk result (λ t.
-            (t.position, t.reason) ≡ next_of (W.reason wanted.now) (session self.now)) }
+            (t.position, t.reason) ≡ first_of (W.reason wanted.now) (session self.now) from) }
         ensures least { IfOk result (λ t. IsLeastStop (reason_at (W.reason wanted.now) (session self.now))
-            (session self.now).position (length_of (session self.now)) t.position t.reason) }
+            from (length_of (session self.now)) t.position t.reason) }
         ensures world { IfOk result (λ t.
             paged_world t.machine ≡ world_at (session self.now) t.position) }
         ensures inside { IfOk result (λ t. t.position ≤ length_of (session self.now)) }
-        ensures cost { IfOk result (λ t. t.cost ≡ steps_on (session self.now) t.position) }
+        ensures cost { IfOk result (λ t. t.cost ≡ t.position - from) }
     {
-        let mut machine = self.machine.copy(alloc)?;
+        let mut machine = start;
         let mut cost = 0;
         let length = self.track.choices.len();
-        'steps: for position in self.position..length {
+        'steps: for position in from..length {
             let choice = self.track.choices[position];
             let reason = wanted.step(&mut machine, choice)?;
             cost += 1;
@@ -85,6 +89,53 @@ impl<A: Allocator + Copy> Debugger<A> {
             position: length,
             reason: None,
             cost,
+        })
+    }
+
+    /// The least later position behind a wanted choice, or the end. The debugger does not move.
+    pub fn next<W: Wanted<A>>(
+        &self,
+        alloc: A,
+        wanted: &W,
+    ) -> Result<Target<A, W::Reason>, AllocError>
+        ensures found { IfOk result (λ t.
+            (t.position, t.reason) ≡ next_of (W.reason wanted.now) (session self.now)) }
+        ensures least { IfOk result (λ t. IsLeastStop (reason_at (W.reason wanted.now) (session self.now))
+            (session self.now).position (length_of (session self.now)) t.position t.reason) }
+        ensures world { IfOk result (λ t.
+            paged_world t.machine ≡ world_at (session self.now) t.position) }
+        ensures inside { IfOk result (λ t. t.position ≤ length_of (session self.now)) }
+        ensures cost { IfOk result (λ t. t.cost ≡ steps_on (session self.now) t.position) }
+    {
+        let machine = self.machine.copy(alloc)?;
+        self.first_behind(machine, wanted, self.position)
+    }
+
+    /// The least position behind a wanted choice, of those above `from`, or the end. The debugger
+    /// does not move.
+    pub fn first_from<W: Wanted<A>>(
+        &self,
+        alloc: A,
+        wanted: &W,
+        from: usize,
+    ) -> Result<Target<A, W::Reason>, AllocError>
+        requires { from ≤ length_of (session self.now) }
+        ensures found { IfOk result (λ t.
+            (t.position, t.reason) ≡ first_of (W.reason wanted.now) (session self.now) from) }
+        ensures least { IfOk result (λ t. IsLeastStop (reason_at (W.reason wanted.now) (session self.now))
+            from (length_of (session self.now)) t.position t.reason) }
+        ensures world { IfOk result (λ t.
+            paged_world t.machine ≡ world_at (session self.now) t.position) }
+        ensures inside { IfOk result (λ t. t.position ≤ length_of (session self.now)) }
+        ensures cost { IfOk result (λ t. t.cost ≡ steps_to from + (t.position - from)) }
+    {
+        let (machine, cost) = self.track.machine_at(alloc, from)?;
+        let target = self.first_behind(machine, wanted, from)?;
+        Ok(Target {
+            machine: target.machine,
+            position: target.position,
+            reason: target.reason,
+            cost: cost + target.cost,
         })
     }
 
@@ -129,20 +180,21 @@ impl<A: Allocator + Copy> Debugger<A> {
         Ok(place)
     }
 
-    // The greatest earlier position above 0 behind a wanted choice, or 0. It searches one block of
+    // The greatest position from 1 to `below` behind a wanted choice, or 0. It searches one block of
     // choices after the other, the last one first.
-    fn earlier_place<W: Wanted<A>>(
+    fn place_below<W: Wanted<A>>(
         &self,
         alloc: A,
         wanted: &W,
+        below: usize,
     ) -> Result<Place<W::Reason>, AllocError>
+        requires { below ≤ length_of (session self.now) }
         ensures found { IfOk result (λ place.
-            (place.position, place.reason) ≡ earlier_of (W.reason wanted.now) (session self.now)) }
+            (place.position, place.reason) ≡ last_of (W.reason wanted.now) (session self.now) below) }
         ensures inside { IfOk result (λ place. place.position ≤ length_of (session self.now)) }
-        ensures cost { IfOk result (λ place.
-            place.cost ≡ steps_of_search (session self.now) place.position) }
+        ensures cost { IfOk result (λ place. place.cost ≡ steps_below below place.position) }
     {
-        let mut end = self.position.saturating_sub(1);
+        let mut end = below;
         let mut cost = 0;
         'pieces: while end > 0 {
             let block = (end - 1) / BLOCK;
@@ -164,6 +216,35 @@ impl<A: Allocator + Copy> Debugger<A> {
         })
     }
 
+    /// The greatest position behind a wanted choice among the first `below` choices, or the start.
+    /// The debugger does not move.
+    pub fn last_below<W: Wanted<A>>(
+        &self,
+        alloc: A,
+        wanted: &W,
+        below: usize,
+    ) -> Result<Target<A, W::Reason>, AllocError>
+        requires { below ≤ length_of (session self.now) }
+        ensures found { IfOk result (λ t.
+            (t.position, t.reason) ≡ last_of (W.reason wanted.now) (session self.now) below) }
+        ensures greatest { IfOk result (λ t. IsGreatestStop (reason_at (W.reason wanted.now) (session self.now))
+            below t.position t.reason) }
+        ensures world { IfOk result (λ t.
+            paged_world t.machine ≡ world_at (session self.now) t.position) }
+        ensures inside { IfOk result (λ t. t.position ≤ length_of (session self.now)) }
+        ensures cost { IfOk result (λ t.
+            t.cost ≡ steps_below below t.position + steps_to t.position) }
+    {
+        let place = self.place_below(alloc, wanted, below)?;
+        let (machine, cost) = self.track.machine_at(alloc, place.position)?;
+        Ok(Target {
+            machine,
+            position: place.position,
+            reason: place.reason,
+            cost: place.cost + cost,
+        })
+    }
+
     /// The greatest earlier position above 0 behind a wanted choice, or the start. The debugger does
     /// not move.
     pub fn earlier<W: Wanted<A>>(
@@ -180,14 +261,7 @@ impl<A: Allocator + Copy> Debugger<A> {
         ensures inside { IfOk result (λ t. t.position ≤ length_of (session self.now)) }
         ensures cost { IfOk result (λ t. t.cost ≡ steps_back (session self.now) t.position) }
     {
-        let place = self.earlier_place(alloc, wanted)?;
-        let (machine, cost) = self.track.machine_at(alloc, place.position)?;
-        Ok(Target {
-            machine,
-            position: place.position,
-            reason: place.reason,
-            cost: place.cost + cost,
-        })
+        self.last_below(alloc, wanted, self.position.saturating_sub(1))
     }
 
     /// The least later position with a stop, or the end. The debugger does not move.

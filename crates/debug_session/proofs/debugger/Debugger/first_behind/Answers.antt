@@ -3,8 +3,8 @@ use Rattle.debug_session.specs.Paged.{paged_world}
 use Rattle.debug_session.specs.Session.{session, reason_at}
 use Rattle.debug_session.proofs.TrackLemmas.{one_hart, reached-next}
 use Rattle.debug_session.proofs.FoundLemmas.{reason_is, first_here, first_later, first_end}
-use Rattle.debug_session.proofs.SearchLemmas.{found_is_least}
-use Rattle.debug_session.proofs.debugger.Debugger.next.Goals as goal
+use Rattle.debug_session.proofs.SearchLemmas.{found_from_is_least}
+use Rattle.debug_session.proofs.debugger.Debugger.first_behind.Goals as goal
 
 pub step-requires : goal.step-requires
 step-requires g c =
@@ -18,10 +18,6 @@ returns-then-is_some-clause-found g c =
     (reason_is (g.W.Wanted.reason c.args.wanted.now) (session c.args.self.now) c.steps.position (paged_world c.steps.machine) c.index-choice.result.now c.in_ok-reason.reason
     (omega (arith, c.steps-test.true, c.len-length.ensures)) (search rules) c.steps.invariant.world c.in_ok-reason.ensures.reason)
     (sym c.is_some.ensures ∙ c.if-is_some.true) c.steps.invariant.left
-
-pub returns-then-is_some-clause-least : goal.returns-then-is_some-clause-least
-returns-then-is_some-clause-least g c =
-    found_is_least (g.W.Wanted.reason c.args.wanted.now) (session c.args.self.now) (c.steps.position + 1) c.in_ok-reason.reason (omega arith) (returns-then-is_some-clause-found g c)
 
 pub returns-then-is_some-clause-world : goal.returns-then-is_some-clause-world
 returns-then-is_some-clause-world g c =
@@ -49,6 +45,12 @@ pub returns-clause-found : goal.returns-clause-found
 returns-clause-found g c =
     first_end (reason_at (g.W.Wanted.reason c.args.wanted.now) (session c.args.self.now)) c.steps.position c.len-length.result _ (search rules) (search rules) c.steps.invariant.left
 
+pub returns-then-is_some-clause-least : goal.returns-then-is_some-clause-least
+returns-then-is_some-clause-least g c =
+    found_from_is_least (g.W.Wanted.reason c.args.wanted.now) (session c.args.self.now) c.args.from (c.steps.position + 1) c.in_ok-reason.reason c.requires.from
+    (returns-then-is_some-clause-found g c)
+
 pub returns-clause-least : goal.returns-clause-least
 returns-clause-least g c =
-    found_is_least (g.W.Wanted.reason c.args.wanted.now) (session c.args.self.now) c.len-length.result None (omega arith) (returns-clause-found g c)
+    found_from_is_least (g.W.Wanted.reason c.args.wanted.now) (session c.args.self.now) c.args.from c.len-length.result None c.requires.from
+    (returns-clause-found g c)

@@ -2,7 +2,7 @@ use Rattle.std.proofs.Common.{arith, ap, ◌∙◌, sym, ◌≡◌, ◌-◌}
 use Rattle.debug_session.specs.Session.{session, reason_at, last_found}
 use Rattle.debug_session.proofs.FoundLemmas.{last_none, found_there, found_elsewhere, if_there}
 use Rattle.debug_session.proofs.BlockLemmas.{steps_of_blocks}
-use Rattle.debug_session.proofs.debugger.Debugger.earlier_place.Goals as goal
+use Rattle.debug_session.proofs.debugger.Debugger.place_below.Goals as goal
 
 pub returns-then-is_some-clause-found : goal.returns-then-is_some-clause-found
 returns-then-is_some-clause-found g c =
@@ -11,7 +11,7 @@ returns-then-is_some-clause-found g c =
 
 pub returns-then-is_some-clause-cost : goal.returns-then-is_some-clause-cost
 returns-then-is_some-clause-cost g c =
-    steps_of_blocks c.in_ok-place.place.position c.pieces.end (c.args.self.now.position - 1) c.pieces.cost c.in_ok-place.place.cost c.pieces-test.true
+    steps_of_blocks c.in_ok-place.place.position c.pieces.end c.args.below c.pieces.cost c.in_ok-place.place.cost c.pieces-test.true
     c.pieces.invariant.counted c.in_ok-place.ensures.cost
     (if_there c.in_ok-place.place.reason _ (sym c.is_some.ensures ∙ c.if-is_some.true) c.in_ok-place.ensures.above) c.in_ok-place.ensures.inside
 
