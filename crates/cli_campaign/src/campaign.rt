@@ -6,13 +6,12 @@ use crate::watching::Watching;
 use byte_io::{MemorySource, Progress, Source, Status, WriterSink};
 use cli_orders::CampaignOrder;
 use cli_report::{
-    Audience, RunFiles, WIPE, bad_line, explain_ends, inputs_said, open_one, read_again, rule_said,
-    say_why, wipe_line,
+    Audience, EndsTold, RunFiles, WIPE, bad_line, ends_running, explain_ends, inputs_said,
+    open_one, read_again, rule_said, say_why, wipe_line,
 };
 use cli_values::{read_draw, read_report, read_seed_numbers};
 use cmd_campaign::{Campaign, Exit, Expect, Finished, campaign_engine};
 use cmd_schedule::{SeedPlan, seed_engine};
-use hint_fault::{EndsTold, all_still_run};
 use program_open::ProgramForm;
 use sched_draw::Order;
 use std::io;
@@ -267,7 +266,7 @@ fn explain_steps<R: Files + AllocGlobal + Eprint>(
     }
     let (program, choices) = seed_again(rt, order, inputs, campaign, campaign.first)?;
     let text = choices.as_bytes();
-    if all_still_run(rt.alloc(), ProgramForm::Elf, &program, inputs, text)? {
+    if ends_running(rt, ProgramForm::Elf, &program, inputs, text)? {
         let (seed, steps) = (campaign.first, campaign.steps);
         eprintln!(rt;
             "each hart of seed {seed} still runs after {steps} steps: write more by --steps, or --must-exit if harts have to stop"

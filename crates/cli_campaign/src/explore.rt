@@ -3,12 +3,11 @@
 use byte_io::{Status, WriterSink};
 use cli_orders::ExploreOrder;
 use cli_report::{
-    Audience, RunFiles, bad_line, explain_ends, inputs_said, open_one, read_again, rule_said,
-    say_why,
+    Audience, EndsTold, RunFiles, bad_line, explain_ends, inputs_said, open_one, read_again,
+    rule_said, say_why,
 };
 use cli_values::{WORLDS, read_worlds};
 use cmd_explore::{Explored, Question, explore_engine, read_refusals};
-use hint_fault::EndsTold;
 use program_open::{CommandFault, ProgramForm, write_text};
 use std::alloc::Global;
 use std::io;

@@ -1,6 +1,6 @@
 //! The reader of standard error.
 
-use cli_args::Explain;
+use cli_args::{Explain, explain_said};
 
 /// The reader of standard error. Progress is for a person alone, and hints for a person, or for
 /// whoever asks for them.
@@ -15,7 +15,12 @@ pub enum Audience {
 }
 
 impl Audience {
-    /// The audience, once the command line has said when faults are explained.
+    /// The audience, once a command line, valid or not, has said when faults are explained.
+    pub fn as_said(self, words: &[&str]) -> Audience {
+        self.as_asked(explain_said(words))
+    }
+
+    /// The audience where faults are explained at such times.
     pub fn as_asked(self, explain: Explain) -> Audience {
         match explain {
             Explain::Auto => self,

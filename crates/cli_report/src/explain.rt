@@ -4,7 +4,7 @@
 use crate::audience::Audience;
 use clap::error::ErrorKind;
 use cli_args::LineFault;
-use hint_fault::{EndsTold, file_words, item_at, run_advice};
+use hint_fault::{EndsTold, all_still_run, file_words, item_at, run_advice};
 use hint_text::{Mistake, order_advice};
 use program_open::{CommandFault, ProgramForm};
 use std::rt::Files;
@@ -61,6 +61,18 @@ pub fn explain_ends<R: AllocGlobal + Eprint>(
     let text = run_advice(rt.alloc(), form, program, inputs, choices, told)?;
     show(rt, &text);
     Some(())
+}
+
+/// Whether all harts still run at the end of a program's run under a choice text. `None` if there is
+/// no such run.
+pub fn ends_running<R: AllocGlobal>(
+    rt: &R,
+    form: ProgramForm,
+    program: &[u8],
+    inputs: &[u32],
+    choices: &[u8],
+) -> Option<bool> {
+    all_still_run(rt.alloc(), form, program, inputs, choices)
 }
 
 /// Explains why a command gives no answer.

@@ -4,8 +4,11 @@
 
 pub use arguments::read_arguments;
 pub use audience::Audience;
-pub use explain::{RunFiles, explain_ends, explain_line, explain_run, read_again, show};
+pub use explain::{
+    RunFiles, ends_running, explain_ends, explain_line, explain_run, read_again, show,
+};
 pub use files::{is_same_file, open_both, open_one, say_why};
+pub use hint_fault::EndsTold;
 pub use objects::{read_object, read_rule};
 pub use output_file::{OutputFault, OutputFile, PROGRAM_MODE, TEXT_MODE};
 pub use progress_line::{WIPE, wipe_line};

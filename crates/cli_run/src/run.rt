@@ -3,10 +3,10 @@
 use byte_io::{Status, WriterSink};
 use cli_args::RunOrder;
 use cli_report::{
-    Audience, RunFiles, explain_ends, inputs_said, open_both, read_again, rule_said, say_why,
+    Audience, EndsTold, RunFiles, explain_ends, inputs_said, open_both, read_again, rule_said,
+    say_why,
 };
 use cmd_run::{Exit, Expect, run_engine};
-use hint_fault::EndsTold;
 use program_open::{ProgramForm, deliver};
 use std::io;
 use std::rt::Files;

@@ -2,7 +2,6 @@
 #![tactic(auto)]
 
 use byte_io::Status;
-use cli_args::explain_said;
 use cli_campaign::{obey_campaign, obey_explore};
 use cli_debug::obey_debug;
 use cli_files::{obey_asm, obey_file, obey_lib};
@@ -50,7 +49,7 @@ fn obey<R: Files + AllocGlobal + Print + Eprint + Env + Threads + Wait + Sync + 
     else {
         return Err(out_of_memory(rt));
     };
-    let audience = seen_by.as_asked(explain_said(words.as_slice()));
+    let audience = seen_by.as_said(words.as_slice());
     match read_line(rt.alloc(), words.as_slice(), KIND_NAMES) {
         Ok(Order::Asm(order)) => Ok(obey_asm(rt, audience, &order)),
         Ok(Order::Debug(order)) => obey_debug(rt, audience, talk, &order),

@@ -3,7 +3,7 @@
 #![tactic(auto)]
 
 use byte_io::Status;
-use cli_args::{explain_said, read_run};
+use cli_args::read_run;
 use cli_report::{Audience, bad_line, explain_line, out_of_memory, read_arguments, refuse};
 use cli_run::obey_run;
 use object_library::KIND_NAMES;
@@ -35,7 +35,7 @@ fn obey<R: Files + AllocGlobal + Print + Eprint + Env>(
     else {
         return Err(out_of_memory(rt));
     };
-    let audience = seen_by.as_asked(explain_said(words.as_slice()));
+    let audience = seen_by.as_said(words.as_slice());
     match read_run(rt.alloc(), words.as_slice(), KIND_NAMES) {
         Ok(Some(order)) => obey_run(rt, audience, &order),
         Ok(None) => Err(bad_line(
