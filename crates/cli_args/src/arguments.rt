@@ -20,15 +20,22 @@ pub(crate) enum Argument {
     Optional(&'static str, &'static str),
     /// An optional option with a value, which has a letter too.
     Lettered(&'static str, char, &'static str),
+    /// An option with a value, which is given unless another one is: the names of both.
+    Either(&'static str, &'static str, &'static str),
     /// A required option with a value.
     NeededOption(&'static str, &'static str),
     /// An option without a value.
     Flag(&'static str, &'static str),
 }
 
+// An option that is given unless another one is.
+fn either<'a>(arg: Arg<'a>, other: &'static str) -> Result<Arg<'a>, AllocError> {
+    arg.required_unless_present(other)?.conflicts_with(other)
+}
+
 // The argument as clap takes it. `objects` are the names of the library's objects.
-fn arg_of<'a>(alloc: Global, argument: Argument, objects: &'a str) -> Arg<'a> {
-    match argument {
+fn arg_of<'a>(alloc: Global, argument: Argument, objects: &'a str) -> Result<Arg<'a>, AllocError> {
+    let arg = match argument {
         Argument::Needed(id, help) => Arg::new(alloc, id).required(true).help(help),
         Argument::Object(id) => Arg::new(alloc, id).required(true).help(objects),
         Argument::Allowed(id, help) => Arg::new(alloc, id).help(help),
@@ -40,6 +47,9 @@ fn arg_of<'a>(alloc: Global, argument: Argument, objects: &'a str) -> Arg<'a> {
         Argument::Lettered(id, letter, help) => {
             Arg::new(alloc, id).long(id).short(letter).help(help)
         }
+        Argument::Either(id, other, help) => {
+            either(Arg::new(alloc, id).long(id).help(help), other)?
+        }
         Argument::NeededOption(id, help) => {
             Arg::new(alloc, id).long(id).required(true).help(help)
         }
@@ -47,7 +57,8 @@ fn arg_of<'a>(alloc: Global, argument: Argument, objects: &'a str) -> Arg<'a> {
             .long(id)
             .action(ArgAction::SetTrue)
             .help(help),
-    }
+    };
+    Ok(arg)
 }
 
 /// The option that each command has.
@@ -63,9 +74,9 @@ pub(crate) fn command_of<'a>(
         .about(row.does)
         .after_help(row.example);
     'arguments: for argument in row.arguments {
-        command = command.arg(arg_of(alloc, *argument, objects))?;
+        command = command.arg(arg_of(alloc, *argument, objects)?)?;
     }
-    command.arg(arg_of(alloc, Argument::Optional(EXPLAIN, EXPLAINED), objects))
+    command.arg(arg_of(alloc, Argument::Optional(EXPLAIN, EXPLAINED), objects)?)
 }
 
 /// The text of an argument.

@@ -3,8 +3,8 @@
 use crate::arguments::Argument;
 use crate::help::{
     BANKED, BUDGET, CHOICES, DRAW, DRAW_OF_SCHEDULE, FILE, HANGS, HEX, HISTORY, INPUTS,
-    INPUTS_OF_SCHEDULE, MUST_EXIT, OUTCOMES, REFUSALS, REFUSE, RULE, SC_REFUSALS, SUMMARY, WORLDS,
-    WRITTEN,
+    INPUTS_OF_SCHEDULE, LIST, MUST_EXIT, OUTCOMES, REFUSALS, REFUSE, RULE, SC_REFUSALS, SUMMARY,
+    WORLDS, WRITTEN,
 };
 
 /// A command.
@@ -51,7 +51,8 @@ pub(crate) const COMMANDS: [CommandRow; 13] = [
             Argument::Flag("hex", HEX),
             Argument::Needed("FILE", FILE),
             Argument::NeededOption("inputs", INPUTS),
-            Argument::NeededOption("choices", CHOICES),
+            Argument::Either("choices", "list", CHOICES),
+            Argument::Either("list", "choices", LIST),
             Argument::Optional("rule", RULE),
             Argument::Flag("must-exit", MUST_EXIT),
         ],
@@ -63,7 +64,8 @@ pub(crate) const COMMANDS: [CommandRow; 13] = [
         arguments: &[
             Argument::Needed("FILE", FILE),
             Argument::NeededOption("inputs", INPUTS),
-            Argument::NeededOption("choices", CHOICES),
+            Argument::Either("choices", "list", CHOICES),
+            Argument::Either("list", "choices", LIST),
         ],
     },
     CommandRow {
@@ -151,7 +153,8 @@ pub(crate) const COMMANDS: [CommandRow; 13] = [
         arguments: &[
             Argument::Needed("FILE", FILE),
             Argument::NeededOption("inputs", INPUTS),
-            Argument::NeededOption("choices", CHOICES),
+            Argument::Either("choices", "list", CHOICES),
+            Argument::Either("list", "choices", LIST),
             Argument::Optional("rule", RULE),
             Argument::Flag("must-exit", HANGS),
         ],
@@ -164,7 +167,8 @@ pub(crate) const COMMANDS: [CommandRow; 13] = [
             Argument::Flag("hex", HEX),
             Argument::Needed("FILE", FILE),
             Argument::NeededOption("inputs", INPUTS),
-            Argument::NeededOption("choices", CHOICES),
+            Argument::Either("choices", "list", CHOICES),
+            Argument::Either("list", "choices", LIST),
             Argument::Optional("from", "the first choice that is told, counted from 1"),
             Argument::Optional("to", "the last choice that is told"),
             Argument::Flag(

@@ -13,6 +13,9 @@ pub(crate) const INPUTS: &str = "one decimal input below 2^32 for each hart, as 
 pub(crate) const CHOICES: &str =
     "a file of hart numbers, one for each step, as 0 1 0!; ! refuses a store-conditional";
 
+/// Of `--list`.
+pub(crate) const LIST: &str = "the choices themselves, in place of a file, as '0*3 1 0!'";
+
 /// Of `--history` where it is read.
 pub(crate) const HISTORY: &str =
     "a file of entries, each a hart, + and its local steps before one more step, as 0+3 1+0!; ! refuses a store-conditional";

@@ -1,10 +1,13 @@
 //! Runs `debug`.
 
+ghost use Rattle.std.specs.Prelude.{◌-◌, ◌^◌, ◌<◌};
+
 use crate::conversation::talk_to_person;
-use byte_io::{Progress, ReaderSource, Status, WriterSink};
+use byte_io::{MemorySource, Progress, ReaderSource, Source, Status, WriterSink};
+use cli_args::ChoiceText;
 use cli_orders::DebugOrder;
 use cli_report::{
-    Audience, RunFiles, WIPE, inputs_said, open_both, out_of_memory, say_why, wipe_line,
+    Audience, RunFiles, WIPE, inputs_said, open_both, open_one, out_of_memory, say_why, wipe_line,
 };
 use cmd_debug::{DebugEngineFault, debug_engine};
 use program_open::ProgramForm;
@@ -31,8 +34,9 @@ impl<'a, R: Eprint> Progress for Line<'a, R> {
     }
 }
 
-/// Answers the commands of standard input, each as it comes. Both files are opened before either is
-/// read. A person sees the progress of a long start, and hints beside the answers.
+/// Answers the commands of standard input, each as it comes. The program, and the file of the
+/// choices if there is one, are opened before either is read. A person sees the progress of a long
+/// start, and hints beside the answers.
 pub fn obey_debug<R: Files + AllocGlobal + Print + Eprint + Input>(
     rt: &R,
     audience: Audience,
@@ -40,10 +44,51 @@ pub fn obey_debug<R: Files + AllocGlobal + Print + Eprint + Input>(
     order: &DebugOrder,
 ) -> Result<Status, Status> {
     let inputs = inputs_said(rt, order.inputs)?;
-    let (mut program, mut choices) = open_both(rt, audience, order.file, order.choices)?;
+    match order.choices {
+        ChoiceText::File(path) => {
+            let (mut program, mut choices) = open_both(rt, audience, order.file, path)?;
+            debug_opened(
+                rt,
+                audience,
+                talk,
+                order,
+                &inputs,
+                &mut program,
+                &mut choices,
+            )
+        }
+        ChoiceText::List(text) => {
+            let mut program = open_one(rt, audience, order.file)?;
+            let mut choices = MemorySource::new(text.as_bytes());
+            debug_opened(
+                rt,
+                audience,
+                talk,
+                order,
+                &inputs,
+                &mut program,
+                &mut choices,
+            )
+        }
+    }
+}
+
+// Answers the commands of standard input for a program and choices that are open.
+fn debug_opened<R: Files + AllocGlobal + Print + Eprint + Input, P: Source, C: Source>(
+    rt: &R,
+    audience: Audience,
+    talk: Audience,
+    order: &DebugOrder,
+    inputs: &[u32],
+    program: &mut P,
+    choices: &mut C,
+) -> Result<Status, Status>
+    requires program_counts { P.failures program.old < 2 ^ 64 - 1 }
+    requires choices_count { C.failures choices.old < 2 ^ 64 - 1 }
+{
     let mut line = Line { rt, audience };
     if talk == Audience::Person {
-        return match talk_to_person(rt, inputs.as_slice(), &mut program, &mut choices, &mut line) {
+        return match talk_to_person(rt, inputs, program, choices, &mut line) {
             Ok(status) => Ok(status),
             Err(fault) => Err(tell(rt, audience, order, fault, inputs.len())),
         };
@@ -53,11 +98,12 @@ pub fn obey_debug<R: Files + AllocGlobal + Print + Eprint + Input>(
     };
     let mut commands = ReaderSource::new(reader);
     let mut sink = WriterSink::new(io::writer(rt));
+    let alloc = rt.alloc();
     match debug_engine(
-        rt.alloc(),
-        inputs.as_slice(),
-        &mut program,
-        &mut choices,
+        alloc,
+        inputs,
+        program,
+        choices,
         &mut commands,
         &mut sink,
         &mut line,

@@ -20,12 +20,7 @@ pub fn obey_file<R: Files + AllocGlobal + Print + Eprint>(
         Err(error) => return cannot_open(rt, audience, order.file, &error),
     };
     let answer = file_engine(rt.alloc(), view, &mut ReaderSource::new(file));
-    let files = RunFiles {
-        program: order.file,
-        form: ProgramForm::Elf,
-        choices: "",
-        harts: 0,
-    };
+    let files = RunFiles::of_program(order.file, 0);
     match deliver(&mut WriterSink::new(io::writer(rt)), answer) {
         Ok(status) => status,
         Err(fault) => say_why(rt, audience, files, fault),

@@ -1,9 +1,9 @@
 //! The command `debug`.
 
 use clap::ArgMatches;
-use cli_args::text_of;
+use cli_args::{ChoiceText, choice_text_of, text_of};
 
-/// `debug FILE --inputs L --choices C`: does the commands of standard input, which move forward and
+/// `debug FILE --inputs L (--choices C | --list T)`: does the commands of standard input, which move forward and
 /// back in a run.
 #[derive(Drop)]
 pub struct DebugOrder<'a> {
@@ -11,8 +11,8 @@ pub struct DebugOrder<'a> {
     pub file: &'a str,
     /// The harts' inputs.
     pub inputs: &'a str,
-    /// The choice text's path.
-    pub choices: &'a str,
+    /// Where the choice text is.
+    pub choices: ChoiceText<'a>,
 }
 
 /// The order in clap's matches.
@@ -20,6 +20,6 @@ pub(crate) fn debug_order<'a>(matches: &ArgMatches<'a>) -> Option<DebugOrder<'a>
     Some(DebugOrder {
         file: text_of(matches, "FILE")?,
         inputs: text_of(matches, "inputs")?,
-        choices: text_of(matches, "choices")?,
+        choices: choice_text_of(matches)?,
     })
 }

@@ -1,9 +1,9 @@
 //! The command `shrink`.
 
 use clap::ArgMatches;
-use cli_args::{is_set, text_of};
+use cli_args::{ChoiceText, choice_text_of, is_set, text_of};
 
-/// `shrink FILE --inputs L --choices C [--rule K] [--must-exit]`: prints a minimal choice text
+/// `shrink FILE --inputs L (--choices C | --list T) [--rule K] [--must-exit]`: prints a minimal choice text
 /// under which a program fails as it does under the given one.
 #[derive(Drop)]
 pub struct ShrinkOrder<'a> {
@@ -11,8 +11,8 @@ pub struct ShrinkOrder<'a> {
     pub file: &'a str,
     /// The harts' inputs.
     pub inputs: &'a str,
-    /// The choice text's path.
-    pub choices: &'a str,
+    /// Where the choice text is.
+    pub choices: ChoiceText<'a>,
     /// The name of the object whose rule is judged.
     pub rule: Option<&'a str>,
     /// Whether a run that hangs has failed.
@@ -24,7 +24,7 @@ pub(crate) fn shrink_order<'a>(matches: &ArgMatches<'a>) -> Option<ShrinkOrder<'
     Some(ShrinkOrder {
         file: text_of(matches, "FILE")?,
         inputs: text_of(matches, "inputs")?,
-        choices: text_of(matches, "choices")?,
+        choices: choice_text_of(matches)?,
         rule: text_of(matches, "rule"),
         must_exit: is_set(matches, "must-exit"),
     })

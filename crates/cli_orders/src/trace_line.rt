@@ -1,9 +1,9 @@
 //! The command `trace`.
 
 use clap::ArgMatches;
-use cli_args::{is_set, text_of};
+use cli_args::{ChoiceText, choice_text_of, is_set, text_of};
 
-/// `trace [--hex] FILE --inputs L --choices C [--from A] [--to B] [--table]`: prints what each
+/// `trace [--hex] FILE --inputs L (--choices C | --list T) [--from A] [--to B] [--table]`: prints what each
 /// choice of a run did.
 #[derive(Drop)]
 pub struct TraceOrder<'a> {
@@ -13,8 +13,8 @@ pub struct TraceOrder<'a> {
     pub file: &'a str,
     /// The harts' inputs.
     pub inputs: &'a str,
-    /// The choice text's path.
-    pub choices: &'a str,
+    /// Where the choice text is.
+    pub choices: ChoiceText<'a>,
     /// The number of the first traced choice, counted from 1.
     pub from: Option<&'a str>,
     /// The number of the last traced choice.
@@ -29,7 +29,7 @@ pub(crate) fn trace_order<'a>(matches: &ArgMatches<'a>) -> Option<TraceOrder<'a>
         hex: is_set(matches, "hex"),
         file: text_of(matches, "FILE")?,
         inputs: text_of(matches, "inputs")?,
-        choices: text_of(matches, "choices")?,
+        choices: choice_text_of(matches)?,
         from: text_of(matches, "from"),
         to: text_of(matches, "to"),
         table: is_set(matches, "table"),

@@ -4,7 +4,7 @@ ghost use Rattle.std.specs.Prelude.{◌≡◌, ◌≢◌, IfErr, IfOk};
 ghost use Rattle.program_open.specs.CommandFaults.{status_of_fault};
 
 use crate::audience::Audience;
-use crate::explain::{RunFiles, explain_run};
+use crate::explain::{RunFiles, explain_run, name_of};
 use crate::report::{cannot_open, cannot_read, say};
 use byte_io::{ReaderSource, Source, Status};
 use program_open::{CommandFault, Input};
@@ -57,7 +57,9 @@ pub fn say_why<R: Files + AllocGlobal + Eprint>(
 {
     match fault {
         CommandFault::Read(Input::File) => cannot_read(rt, files.program),
-        CommandFault::Read(Input::Choices | Input::History) => cannot_read(rt, files.choices),
+        CommandFault::Read(Input::Choices | Input::History) => {
+            cannot_read(rt, name_of(files.choices))
+        }
         fault => {
             let status = say(rt, fault);
             explain_run(rt, audience, files, fault);

@@ -5,7 +5,8 @@
 pub use arguments::read_arguments;
 pub use audience::Audience;
 pub use explain::{
-    RunFiles, ends_running, explain_ends, explain_line, explain_run, read_again, show,
+    RunFiles, choices_again, ends_running, explain_ends, explain_line, explain_run, read_again,
+    show,
 };
 pub use files::{is_same_file, open_both, open_one, say_why};
 pub use hint_fault::EndsTold;

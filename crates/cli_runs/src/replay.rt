@@ -2,6 +2,7 @@
 
 use crate::history_hint::history_advice;
 use byte_io::{Status, WriterSink};
+use cli_args::ChoiceText;
 use cli_orders::ReplayOrder;
 use cli_report::{
     Audience, RunFiles, inputs_said, open_both, read_again, rule_said, say_why, show,
@@ -31,7 +32,7 @@ pub fn obey_replay<R: Files + AllocGlobal + Print + Eprint>(
     let files = RunFiles {
         program: order.file,
         form: ProgramForm::Elf,
-        choices: order.history,
+        choices: ChoiceText::File(order.history),
         harts: inputs.len(),
     };
     match deliver(&mut WriterSink::new(io::writer(rt)), answer) {

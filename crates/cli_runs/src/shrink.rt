@@ -1,8 +1,13 @@
 //! Runs `shrink`.
 
-use byte_io::{Status, WriterSink};
+ghost use Rattle.std.specs.Prelude.{◌-◌, ◌^◌, ◌<◌};
+
+use byte_io::{MemorySource, Source, Status, WriterSink};
+use cli_args::ChoiceText;
 use cli_orders::ShrinkOrder;
-use cli_report::{Audience, RunFiles, WIPE, inputs_said, open_both, rule_said, say_why, show};
+use cli_report::{
+    Audience, RunFiles, WIPE, inputs_said, open_both, open_one, rule_said, say_why, show,
+};
 use cmd_shrink::{ChoicesLeft, shrink_engine};
 use outcome::{Exit, Expect};
 use program_open::{CommandFault, ProgramForm, deliver};
@@ -32,8 +37,9 @@ impl<'a, R: Eprint> ChoicesLeft for Line<'a, R> {
     }
 }
 
-/// Prints a minimal choice text under which a program fails as it does under the given one. Both
-/// files are opened before either is read. A person sees the number of choices left.
+/// Prints a minimal choice text under which a program fails as it does under the given one. The
+/// program, and the file of the choices if there is one, are opened before either is read. A person
+/// sees the number of choices left.
 pub fn obey_shrink<R: Files + AllocGlobal + Print + Eprint>(
     rt: &R,
     audience: Audience,
@@ -46,15 +52,51 @@ pub fn obey_shrink<R: Files + AllocGlobal + Print + Eprint>(
     };
     let inputs = inputs_said(rt, order.inputs)?;
     let rule = rule_said(rt, order.rule)?;
-    let (mut program, mut choices) = open_both(rt, audience, order.file, order.choices)?;
-    let answer = shrink_engine(
-        rt.alloc(),
-        inputs.as_slice(),
-        Expect { rule, exit },
-        &mut program,
-        &mut choices,
-        &mut Line { rt, audience },
-    );
+    let expect = Expect { rule, exit };
+    match order.choices {
+        ChoiceText::File(path) => {
+            let (mut program, mut choices) = open_both(rt, audience, order.file, path)?;
+            shrink_opened(
+                rt,
+                audience,
+                order,
+                &inputs,
+                expect,
+                &mut program,
+                &mut choices,
+            )
+        }
+        ChoiceText::List(text) => {
+            let mut program = open_one(rt, audience, order.file)?;
+            let mut choices = MemorySource::new(text.as_bytes());
+            shrink_opened(
+                rt,
+                audience,
+                order,
+                &inputs,
+                expect,
+                &mut program,
+                &mut choices,
+            )
+        }
+    }
+}
+
+// Prints a minimal choice text for a program and choices that are open.
+fn shrink_opened<R: Files + AllocGlobal + Print + Eprint, P: Source, C: Source>(
+    rt: &R,
+    audience: Audience,
+    order: &ShrinkOrder,
+    inputs: &[u32],
+    expect: Expect,
+    program: &mut P,
+    choices: &mut C,
+) -> Result<Status, Status>
+    requires program_counts { P.failures program.old < 2 ^ 64 - 1 }
+    requires choices_count { C.failures choices.old < 2 ^ 64 - 1 }
+{
+    let mut line = Line { rt, audience };
+    let answer = shrink_engine(rt.alloc(), inputs, expect, program, choices, &mut line);
     match deliver(&mut WriterSink::new(io::writer(rt)), answer) {
         Ok(status) => Ok(status),
         Err(fault) => Err(tell(rt, audience, order, inputs.len(), fault)),

@@ -28,12 +28,19 @@ pub(crate) const COMMANDS: [Row; 13] = [
     },
     Row {
         name: "run",
-        options: &["--hex", "--inputs", "--choices", "--rule", "--must-exit"],
+        options: &[
+            "--hex",
+            "--inputs",
+            "--choices",
+            "--list",
+            "--rule",
+            "--must-exit",
+        ],
         example: "rvcons run prog.elf --inputs 7,9 --choices turns.choices",
     },
     Row {
         name: "debug",
-        options: &["--inputs", "--choices"],
+        options: &["--inputs", "--choices", "--list"],
         example: "rvcons debug prog.elf --inputs 7,9 --choices turns.choices",
     },
     Row {
@@ -96,7 +103,7 @@ pub(crate) const COMMANDS: [Row; 13] = [
     },
     Row {
         name: "shrink",
-        options: &["--inputs", "--choices", "--rule", "--must-exit"],
+        options: &["--inputs", "--choices", "--list", "--rule", "--must-exit"],
         example: "rvcons shrink prog.elf --inputs 7,9 --choices seed_5.choices >few.choices",
     },
     Row {
@@ -105,6 +112,7 @@ pub(crate) const COMMANDS: [Row; 13] = [
             "--hex",
             "--inputs",
             "--choices",
+            "--list",
             "--from",
             "--to",
             "--table",
@@ -121,7 +129,7 @@ pub(crate) const OTHER_OPTIONS: [(&[&str], &str); 14] = [
     ),
     (
         &["--schedule", "--choice", "--order", "--interleaving"],
-        "the schedule is a file of choices: write --choices FILE; rvcons schedule makes one",
+        "the schedule is choices: write --list '0*3 1*2', or --choices FILE, which rvcons schedule makes",
     ),
     (
         &["--input", "--args", "--arg", "-i"],

@@ -47,7 +47,7 @@ fn inputs_are_read(rt: HostRuntime) {
 
 // Lines, and what is read of each: its command and the texts of its arguments, by their names.
 #[rattlefmt::skip]
-const LINES: [(&str, &str); 57] = [
+const LINES: [(&str, &str); 61] = [
     ("rvcons asm a.s", "asm IN=a.s"),
     ("rvcons asm --out o a.s b.s", "asm out=o IN=a.s IN=b.s"),
     ("rvcons asm b.s a.s --out=o", "asm out=o IN=b.s IN=a.s"),
@@ -65,7 +65,9 @@ const LINES: [(&str, &str); 57] = [
         "run FILE=p inputs=7,9 choices=c must-exit=yes"),
     ("rvcons run p --must-exit --inputs 7,9 --rule k --choices c --hex",
         "run hex=yes FILE=p inputs=7,9 choices=c rule=k must-exit=yes"),
+    ("rvcons run p --inputs 7,9 --list 0*3", "run FILE=p inputs=7,9 list=0*3"),
     ("rvcons debug p --inputs 7,9 --choices c", "debug FILE=p inputs=7,9 choices=c"),
+    ("rvcons debug p --inputs 7,9 --list=0", "debug FILE=p inputs=7,9 list=0"),
     ("rvcons threads p --inputs 7,9 --budget 5", "threads FILE=p inputs=7,9 budget=5"),
     ("rvcons threads p --inputs 7,9 --budget 5 --refuse 0:7",
         "threads FILE=p inputs=7,9 budget=5 refuse=0:7"),
@@ -120,7 +122,9 @@ const LINES: [(&str, &str); 57] = [
         "shrink FILE=p inputs=7,9 choices=c rule=k"),
     ("rvcons shrink p --inputs 7,9 --choices c --must-exit",
         "shrink FILE=p inputs=7,9 choices=c must-exit=yes"),
+    ("rvcons shrink p --list 0! --inputs 7,9", "shrink FILE=p inputs=7,9 list=0!"),
     ("rvcons trace p --inputs 7,9 --choices c", "trace FILE=p inputs=7,9 choices=c"),
+    ("rvcons trace p --inputs 7,9 --list 1", "trace FILE=p inputs=7,9 list=1"),
     ("rvcons trace --hex p --inputs 7,9 --choices c", "trace hex=yes FILE=p inputs=7,9 choices=c"),
     ("rvcons trace p --inputs 7 --choices c --from 1", "trace FILE=p inputs=7 choices=c from=1"),
     ("rvcons trace p --inputs 7 --choices c --to 2", "trace FILE=p inputs=7 choices=c to=2"),
@@ -292,7 +296,7 @@ enum Refusal {
 }
 
 // Lines that give no order, and how they are rejected.
-const REFUSED: [(&str, Refusal); 42] = [
+const REFUSED: [(&str, Refusal); 43] = [
     ("rvcons foo", Refusal::Fault),
     ("rvcons asm", Refusal::Fault),
     ("rvcons list", Refusal::Fault),
@@ -300,6 +304,10 @@ const REFUSED: [(&str, Refusal); 42] = [
     ("rvcons run --inputs 7 --choices c", Refusal::Fault),
     ("rvcons run p --choices c", Refusal::Fault),
     ("rvcons run p --inputs 7", Refusal::Fault),
+    (
+        "rvcons run p --inputs 7 --choices c --list 0",
+        Refusal::Fault,
+    ),
     ("rvcons debug --inputs 7 --choices c", Refusal::Fault),
     ("rvcons debug p --choices c", Refusal::Fault),
     ("rvcons debug p --inputs 7", Refusal::Fault),

@@ -1,6 +1,6 @@
 //! What is read of a command line, as a text: its command, and the texts of its arguments by their
 //! names.
-use cli_args::RunOrder;
+use cli_args::{ChoiceText, RunOrder};
 use cli_orders::{
     AsmOrder, CampaignOrder, DebugOrder, ExploreOrder, FileOrder, LibOrder, Locks, Order,
     ReplayOrder, ScheduleOrder, ShrinkOrder, ThreadsOrder, TraceOrder,
@@ -9,6 +9,22 @@ use std::alloc::{AllocError, Global};
 
 // The arguments of an order: their names and texts; `None` for one that isn't given.
 type Fields<'a> = &'a [(&'a str, Option<&'a str>)];
+
+// The path of the choices, if they are in a file.
+fn path_of<'a>(choices: ChoiceText<'a>) -> Option<&'a str> {
+    match choices {
+        ChoiceText::File(path) => Some(path),
+        ChoiceText::List(_) => None,
+    }
+}
+
+// The choices, if they are on the line.
+fn list_of<'a>(choices: ChoiceText<'a>) -> Option<&'a str> {
+    match choices {
+        ChoiceText::File(_) => None,
+        ChoiceText::List(text) => Some(text),
+    }
+}
 
 // The text of a flag.
 fn flag(is_set: bool) -> Option<&'static str> {
@@ -63,7 +79,8 @@ fn run_text(alloc: Global, order: &RunOrder) -> Result<String, AllocError> {
         ("hex", flag(order.hex)),
         ("FILE", Some(order.file)),
         ("inputs", Some(order.inputs)),
-        ("choices", Some(order.choices)),
+        ("choices", path_of(order.choices)),
+        ("list", list_of(order.choices)),
         ("rule", order.rule),
         ("must-exit", flag(order.must_exit)),
     ];
@@ -74,7 +91,8 @@ fn debug_text(alloc: Global, order: &DebugOrder) -> Result<String, AllocError> {
     let fields = &[
         ("FILE", Some(order.file)),
         ("inputs", Some(order.inputs)),
-        ("choices", Some(order.choices)),
+        ("choices", path_of(order.choices)),
+        ("list", list_of(order.choices)),
     ];
     text_with(alloc, "debug", fields)
 }
@@ -154,7 +172,8 @@ fn shrink_text(alloc: Global, order: &ShrinkOrder) -> Result<String, AllocError>
     let fields = &[
         ("FILE", Some(order.file)),
         ("inputs", Some(order.inputs)),
-        ("choices", Some(order.choices)),
+        ("choices", path_of(order.choices)),
+        ("list", list_of(order.choices)),
         ("rule", order.rule),
         ("must-exit", flag(order.must_exit)),
     ];
@@ -166,7 +185,8 @@ fn trace_text(alloc: Global, order: &TraceOrder) -> Result<String, AllocError> {
         ("hex", flag(order.hex)),
         ("FILE", Some(order.file)),
         ("inputs", Some(order.inputs)),
-        ("choices", Some(order.choices)),
+        ("choices", path_of(order.choices)),
+        ("list", list_of(order.choices)),
         ("from", order.from),
         ("to", order.to),
         ("table", flag(order.table)),
