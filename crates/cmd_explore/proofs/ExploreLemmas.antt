@@ -1,5 +1,5 @@
 -- The choice text of a failing list.
-use Rattle.std.proofs.Common.{◌≡◌, ℕ, zero, suc, ◌<◌, ◌^◌, ◌⊎◌, List, [], ◌∷◌, ◌++◌, length, string_bytes, Some, None, Ok, ap, sym, ◌∙◌, arith, inl, inr}
+use Rattle.std.proofs.Common.{◌≡◌, ℕ, zero, suc, ◌<◌, ◌^◌, ◌⊎◌, List, [], ◌∷◌, ◌++◌, length, string_bytes, Some, Ok, ap, sym, ◌∙◌, arith, inl, inr}
 use Rattle.std.specs.List.{All, Contains, slice_index_or}
 use Rattle.image.specs.Image.{ImageValue}
 use Rattle.machine.specs.declared.choice.Choice.{Choice}
@@ -7,16 +7,14 @@ use Rattle.sched_text.specs.Printing.{runs_text}
 use Rattle.sched_text.specs.Reading.{choices_read}
 use Rattle.sched_text.proofs.Agreement.{choices_of-spelled}
 use Rattle.sched_text.proofs.PrintLemmas.{runs_spell}
-use Rattle.byte_io.specs.declared.status.Status.TheVariants as status
-use Rattle.explore_space.specs.Every.{hart_choices, meant_choices, CountsPlaces, HoldsOfEvery, IsListOf}
-use Rattle.explore_space.specs.declared.exploring.Answer.{Answer}
-use Rattle.explore_space.specs.declared.exploring.Answer.TheVariants.{Holds, Fails}
+use Rattle.explore_space.specs.Every.{hart_choices, meant_choices, HoldsOfEvery, IsListOf}
+use Rattle.explore_space.specs.declared.exploring.Answer.TheVariants.{Fails}
 use Rattle.explore_space.specs.declared.exploring.Failing.{Failing}
 use Rattle.explore_space.specs.declared.meant.ScRefusals.{ScRefusals}
 use Rattle.explore_space.specs.declared.meant.ScRefusals.TheVariants.{Also, Never}
 use Rattle.cmd_explore.specs.declared.question.Question.{Question}
 use Rattle.cmd_explore.specs.declared.question.Explored.{Explored}
-use Rattle.cmd_explore.specs.Explore.{worlds_line, failing_status, IsExplored}
+use Rattle.cmd_explore.specs.Explore.{failing_status, IsExplored}
 
 -- ---- the harts of meant choices
 shifted : (c x : Choice) (xs ys : List Choice) → Contains xs x ⊎ Contains ys x → Contains (c ∷ xs) x ⊎ Contains ys x
@@ -66,6 +64,7 @@ module _ {Z : Type 0} (question : Question) (image : ImageValue) (inputs : List 
     answer = Fails failing;
     holds = fails;
     counts = tt;
+    ends = tt;
     told = (
       text,
       read_again question.refusals (length inputs) failing.choices.items (string_bytes found.text) few fails.meant_ones text,

@@ -1,1 +1,2 @@
 pub mod ExploreLemmas
+pub mod LineLemmas

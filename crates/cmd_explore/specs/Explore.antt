@@ -11,15 +11,21 @@ use Rattle.byte_io.specs.declared.status.Status.{Status}
 use Rattle.byte_io.specs.declared.status.Status.TheVariants as status
 use Rattle.program_open.specs.declared.command_fault.CommandFault.{CommandFault}
 use Rattle.program_open.specs.declared.command_fault.CommandFault.TheVariants as fault
-use Rattle.explore_space.specs.Every.{CountsPlaces, HoldsOfEvery}
+use Rattle.explore_space.specs.Ends.{EndValue, ends_in}
+use Rattle.explore_space.specs.Every.{CountsPlaces, HoldsOfEvery, TellsEnds}
 use Rattle.explore_space.specs.declared.exploring.Answer.{Answer}
 use Rattle.explore_space.specs.declared.exploring.Answer.TheVariants.{Holds, Fails, Undecided}
+use Rattle.cmd_explore.specs.EndLines.{IsEndsText}
 use Rattle.cmd_explore.specs.declared.question.Question.{Question}
 use Rattle.cmd_explore.specs.declared.question.Explored.{Explored}
 
--- the line of a program that fails in no schedule
+-- the first line of a program that fails in no schedule
 abbrev pub worlds_line : ℕ → List ℕ
 worlds_line worlds = codes "every schedule: " ++ (decimal worlds ++ codes " worlds\n")
+
+-- the number of worlds of a program that fails in no schedule, and behind it the lines of its ends
+abbrev pub TellsHeld : ℕ → List EndValue → List ℕ → Type 0
+TellsHeld worlds ends text = (lines : List ℕ) × IsEndsText ends lines × (text ≡ worlds_line worlds ++ lines)
 
 -- the status of a failing run: under a rule it is broken, without one a hart has faulted
 abbrev pub failing_status : Option Kind → Status
@@ -27,10 +33,10 @@ failing_status None = status.Faulted
 failing_status (Some kind) = status.Broken
 
 -- an answer about every schedule of harts is told by a text, a status and a number of turns: by the
--- line, or by a choice text that reads as the failing list
+-- lines, or by a choice text that reads as the failing list
 abbrev pub TellsEvery : {Z : Type 0} → Option Kind → ℕ → Answer Z → Explored Z → Type 0
 TellsEvery rule harts (Holds held) found =
-    (string_bytes found.text ≡ worlds_line held.places) × (found.status ≡ status.Done) × (found.turns ≡ None)
+    TellsHeld held.places (ends_in held.ends) (string_bytes found.text) × (found.status ≡ status.Done) × (found.turns ≡ None)
 TellsEvery rule harts (Fails failing) found =
     (string_bytes found.text ≡ runs_text failing.choices.items) × (choices_read harts (string_bytes found.text) ≡ Ok failing.choices.items)
     × (found.status ≡ failing_status rule) × (found.turns ≡ Some failing.turns)
@@ -41,6 +47,7 @@ pub record IsExplored {Z : Type 0} (question : Question) (image : ImageValue) (i
   pub answer : Answer Z
   pub holds : HoldsOfEvery question.rule question.refusals image inputs answer
   pub counts : CountsPlaces question.refusals image inputs question.most answer
+  pub ends : TellsEnds question.rule question.refusals image inputs answer
   pub told : TellsEvery question.rule (length inputs) answer found
 
 -- the same of an image that may have been opened

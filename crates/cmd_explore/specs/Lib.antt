@@ -1,2 +1,3 @@
+pub mod EndLines
 pub mod Explore
 pub mod Refusals

@@ -6,7 +6,7 @@ ghost use Rattle.program_open.specs.CommandFaults.{IfNames, IsRefusal};
 ghost use Rattle.program_open.specs.Opening.{program_opening};
 ghost use Rattle.cmd_explore.specs.Explore.{failing_status, ExploresOpened, HasTooMany, IsExplored, RefusesOpened};
 
-use crate::holding::worlds_line;
+use crate::holding::holding_text;
 use crate::question::{Explored, Question};
 use byte_io::{Source, Status};
 use explore_space::{Answer, explore};
@@ -41,7 +41,7 @@ fn explored<A: Allocator + Copy>(
     let (rule, refusals) = (question.rule, question.refusals);
     match explore(alloc, image, inputs, rule, refusals, question.most)? {
         Answer::Holds(held) => Ok(Some(Explored {
-            text: worlds_line(alloc, held.places)?,
+            text: holding_text(alloc, &held)?,
             status: Status::Done,
             turns: None,
         })),

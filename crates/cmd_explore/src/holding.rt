@@ -1,14 +1,31 @@
-//! The line of a program that fails in no schedule.
+//! The text of a program that fails in no schedule.
 ghost use Rattle.std.specs.Prelude.{◌≡◌, IfOk, string_bytes};
-ghost use Rattle.cmd_explore.specs.Explore.{worlds_line};
+ghost use Rattle.explore_space.specs.Ends.{ends_in};
+ghost use Rattle.cmd_explore.specs.Explore.{TellsHeld, worlds_line};
 
+use crate::end_lines::ends_text;
+use explore_space::Held;
 use std::alloc::{AllocError, Allocator};
 
-/// The line of a program that fails in no schedule, with the number of its worlds.
-pub(crate) fn worlds_line<A: Allocator>(alloc: A, worlds: usize) -> Result<String<A>, AllocError>
+// The line with the number of worlds.
+fn worlds_line<A: Allocator>(alloc: A, worlds: usize) -> Result<String<A>, AllocError>
     ensures { IfOk result (λ text. string_bytes text ≡ worlds_line worlds) }
 {
     let mut text = String::new(alloc);
     writeln!(text, "every schedule: {worlds} worlds")?;
+    Ok(text)
+}
+
+/// The number of worlds of a program that fails in no schedule, and behind it the lines of its
+/// ends. Fails when out of memory.
+pub(crate) fn holding_text<A: Allocator + Copy>(
+    alloc: A,
+    held: &Held<A>,
+) -> Result<String<A>, AllocError>
+    ensures { IfOk result (λ text. TellsHeld held.now.places (ends_in held.now.ends) (string_bytes text)) }
+{
+    let mut text = worlds_line(alloc, held.places)?;
+    let ends = ends_text(alloc, &held.ends)?;
+    text.push_str(&ends)?;
     Ok(text)
 }

@@ -5,6 +5,7 @@ pub use engine::explore_engine;
 pub use question::{Explored, Question};
 pub use refusals::read_refusals;
 
+mod end_lines;
 mod engine;
 mod holding;
 mod question;

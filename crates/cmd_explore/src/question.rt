@@ -19,7 +19,8 @@ pub struct Question {
 /// The answer.
 #[derive(Drop)]
 pub struct Explored<A: Allocator> {
-    /// A line with the number of worlds, where no schedule fails; else a choice text that fails.
+    /// Where no schedule fails a line with the number of worlds, and behind it the lines of how runs
+    /// end; else a choice text that fails.
     pub text: String<A>,
     /// `Done` where no schedule fails; else `Broken` under a rule, and `Faulted` without one.
     pub status: Status,
