@@ -1,0 +1,4 @@
+pub mod LawLemmas
+pub mod PlaceLemmas
+pub mod SeenLemmas
+pub mod StepLemmas

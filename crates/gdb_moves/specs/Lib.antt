@@ -1,0 +1,6 @@
+pub mod Points
+pub mod Touches
+pub mod Sights
+pub mod Reasons
+pub mod Moves
+pub mod Steps

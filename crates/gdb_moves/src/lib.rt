@@ -1,0 +1,26 @@
+//! How GDB moves through a fixed run: its breakpoints and watches, and moves to where they are hit.
+#![tactic(auto)]
+
+pub use goal::Goal;
+pub use laws::{step_alone_is_the_choice_at_hand, step_back_alone_is_the_choice_below};
+pub use moves::{backward, forward, step_back};
+pub use points::Points;
+pub use search::Search;
+pub use seen::Seen;
+pub use stop::{AddressRange, StopReason, ThreadStop, Whose};
+pub use thread_steps::{step, step_alone};
+pub use watch::{Watch, WatchKind};
+
+mod goal;
+mod hits;
+mod laws;
+mod moves;
+mod points;
+mod search;
+mod seeing;
+mod seen;
+mod span;
+mod stop;
+mod thread_steps;
+mod touching;
+mod watch;
