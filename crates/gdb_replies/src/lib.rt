@@ -1,5 +1,6 @@
 //! What a server answers in GDB's Remote Serial Protocol: stops, registers, memory, threads, the
-//! description of the registers, and pieces of long texts.
+//! description of the registers, and pieces of long texts. A function that appends fails only if
+//! the host refuses memory; what stood is then still in front, and a part of the text may follow.
 #![tactic(auto)]
 
 pub use digits::{push_byte, push_bytes, push_number, push_word};
