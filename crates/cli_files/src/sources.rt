@@ -4,7 +4,6 @@
 use asm_statement::Fault;
 use cli_report::{Audience, read_again, show};
 use hint_asm::{SourceText, asm_advice, entry_advice};
-use std::alloc::Global;
 use std::rt::Files;
 
 // The sources as texts, if they can be read again.
@@ -18,6 +17,15 @@ fn texts_of<R: Files + AllocGlobal>(rt: &R, paths: &[&str]) -> Option<Vec<String
     Some(texts)
 }
 
+// What is told of sources.
+#[derive(Clone, Copy)]
+enum Told {
+    // What is wrong, and what to write.
+    Fault(Fault),
+    // Where their program begins.
+    Entry,
+}
+
 /// Explains a fault of sources.
 pub(crate) fn explain_sources<R: Files + AllocGlobal + Eprint>(
     rt: &R,
@@ -26,7 +34,7 @@ pub(crate) fn explain_sources<R: Files + AllocGlobal + Eprint>(
     fault: Fault,
 ) {
     if audience.is_told() {
-        let _ = told_of_sources(rt, paths, fault);
+        let _ = tell_of_sources(rt, paths, Told::Fault(fault));
     }
 }
 
@@ -37,7 +45,7 @@ pub(crate) fn explain_entry<R: Files + AllocGlobal + Eprint>(
     paths: &[&str],
 ) {
     if audience.is_told() {
-        let _ = told_of_entry(rt, paths);
+        let _ = tell_of_sources(rt, paths, Told::Entry);
     }
 }
 
@@ -50,13 +58,14 @@ pub(crate) fn explain_no_text(rt: &impl Eprint, audience: Audience, path: &str) 
     }
 }
 
-// Sources with their paths.
-fn sources_of<'a>(
-    alloc: Global,
-    paths: &[&'a str],
-    texts: &'a [String],
-) -> Option<Vec<SourceText<'a>>> {
-    let mut sources = Vec::new(alloc);
+// Tells of sources, if they can be read again.
+fn tell_of_sources<R: Files + AllocGlobal + Eprint>(
+    rt: &R,
+    paths: &[&str],
+    told: Told,
+) -> Option<()> {
+    let texts = texts_of(rt, paths)?;
+    let mut sources = Vec::new(rt.alloc());
     'paths: for (path, text) in paths.iter().zip(texts.iter()) {
         let source = SourceText {
             path: *path,
@@ -64,26 +73,12 @@ fn sources_of<'a>(
         };
         sources.push(source).ok()?;
     }
-    Some(sources)
-}
-
-// The hints on a fault of sources, if they can be read again.
-fn told_of_sources<R: Files + AllocGlobal + Eprint>(
-    rt: &R,
-    paths: &[&str],
-    fault: Fault,
-) -> Option<()> {
-    let texts = texts_of(rt, paths)?;
-    let sources = sources_of(rt.alloc(), paths, &texts)?;
-    let text = asm_advice(rt.alloc(), &sources, fault).ok()?;
-    show(rt, &text);
-    Some(())
-}
-
-// Where the program of sources begins, if that is no label of theirs, and they can be read again.
-fn told_of_entry<R: Files + AllocGlobal + Eprint>(rt: &R, paths: &[&str]) -> Option<()> {
-    let texts = texts_of(rt, paths)?;
-    let sources = sources_of(rt.alloc(), paths, &texts)?;
-    show(rt, entry_advice(rt.alloc(), &sources).ok()?);
+    match told {
+        Told::Fault(fault) => {
+            let text = asm_advice(rt.alloc(), &sources, fault).ok()?;
+            show(rt, &text);
+        }
+        Told::Entry => show(rt, entry_advice(rt.alloc(), &sources).ok()?),
+    }
     Some(())
 }
