@@ -2,7 +2,7 @@
 -- Format".
 use Rattle.std.specs.Prelude.{ℕ, zero, suc, ◌+◌, ◌==◌, List, [], ◌∷◌, ◌++◌, codes, decimal, if◌then◌else◌}
 use Rattle.std.specs.Int.{to_be_bytes, w32}
-use Rattle.hart_step.specs.declared.hart.Hart.{Hart}
+use Rattle.hart_step.specs.Hart.{HartValue}
 use Rattle.hart_step.specs.declared.hart.HartState.{HartState}
 use Rattle.hart_step.specs.declared.hart.HartState.TheVariants.{Running, Exited, Faulted}
 use Rattle.outcome.specs.Ends.{cause_name}
@@ -53,11 +53,11 @@ unfoldable pub thread_element : ℕ → HartState → List ℕ
 thread_element hart state = thread_tag hart ++ (thread_state_text state ++ codes "</thread>")
 
 -- the threads of harts that are numbered from a number on
-abbrev pub thread_elements : ℕ → List Hart → List ℕ
+abbrev pub thread_elements : ℕ → List HartValue → List ℕ
 thread_elements number [] = []
 thread_elements number (hart ∷ harts) =
     thread_element number hart.state ++ thread_elements (number + 1) harts
 
 -- the threads of all harts
-abbrev pub thread_list : List Hart → List ℕ
+abbrev pub thread_list : List HartValue → List ℕ
 thread_list harts = codes "<threads>" ++ (thread_elements 0 harts ++ codes "</threads>")

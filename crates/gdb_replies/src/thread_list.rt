@@ -1,5 +1,6 @@
 //! What is said of threads: whether they run.
-ghost use Rattle.std.specs.Prelude.{◌≡◌, ◌++◌, ◌<◌, ◌^◌, decimal, OnOk, OnErr};
+ghost use Rattle.std.specs.Prelude.{◌≡◌, ◌++◌, ◌<◌, ◌^◌, map, decimal, OnOk, OnErr};
+ghost use Rattle.hart_step.specs.Hart.{hart_of};
 ghost use Rattle.outcome.specs.Ends.{cause_name};
 ghost use Rattle.gdb_replies.specs.Digits.{bytes_text};
 ghost use Rattle.gdb_replies.specs.Fronts.{BeginsWith};
@@ -112,7 +113,8 @@ pub fn push_thread_list<A: Allocator>(
     out: &mut Vec<u8, A>,
     harts: &[Hart],
 ) -> Result<(), AllocError>
-    ensures ok { OnOk result (out.new.items ≡ out.old.items ++ thread_list harts.now) }
+    ensures ok { OnOk result (out.new.items ≡ out.old.items
+        ++ thread_list (map hart_of harts.now)) }
     ensures kept { OnErr result (BeginsWith out.new.items out.old.items) }
 {
     out.extend_from_slice(b"<threads>")?;

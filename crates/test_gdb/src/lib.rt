@@ -1,5 +1,9 @@
-//! Tests of `gdb_moves`.
+//! Tests of `gdb_moves` and `gdb_session`.
 #![tactic(auto)]
 
 #[cfg(test)]
 mod moves_tests;
+#[cfg(test)]
+mod run;
+#[cfg(test)]
+mod session_tests;

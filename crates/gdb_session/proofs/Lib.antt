@@ -1,0 +1,2 @@
+pub mod RegisterLemmas
+pub mod MemoryLemmas

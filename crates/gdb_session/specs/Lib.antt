@@ -1,0 +1,4 @@
+pub mod Talk
+pub mod Harts
+pub mod Memory
+pub mod Answers

@@ -1,0 +1,16 @@
+//! The state of a session with GDB, and its answer to each request that moves nothing.
+#![tactic(auto)]
+
+pub use answer::{Next, answer_plain};
+pub use selected::Selected;
+pub use talk::Talk;
+
+mod answer;
+mod changes;
+mod fixed;
+mod harts;
+mod memory;
+mod registers;
+mod selected;
+mod talk;
+mod threads;
