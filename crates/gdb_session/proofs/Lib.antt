@@ -1,2 +1,3 @@
 pub mod RegisterLemmas
 pub mod MemoryLemmas
+pub mod ChosenLemmas

@@ -19,7 +19,7 @@ use Rattle.gdb_session.specs.declared.answer.Next.TheVariants as next
 use Rattle.gdb_session.specs.declared.selected.Selected.{Selected}
 use Rattle.gdb_session.specs.Harts.{hart_of_thread, hart_read, selected_harts}
 use Rattle.gdb_session.specs.Memory.{memory_text}
-use Rattle.gdb_session.specs.Talk.{TalkValue, world_seen}
+use Rattle.gdb_session.specs.Talk.{TalkValue, world_seen, harts_seen, hart_count}
 
 -- `OK` if what is named is there, else E01
 abbrev pub done_if : {X : Type 0} → Option X → List ℕ
@@ -60,13 +60,6 @@ hart_state_text (Some h) = bytes_text (thread_state_text h.state)
 abbrev pub part_text : List ℕ → ℕ → ℕ → List ℕ
 part_text whole from n =
     if nat_lt (length whole) from then fixed_text fixed.BadOperand else piece_text whole from n
-
--- the harts that GDB sees, and their number
-abbrev pub harts_seen : TalkValue → List HartValue
-harts_seen t = (world_seen t).harts
-
-abbrev pub hart_count : TalkValue → ℕ
-hart_count t = length (harts_seen t)
 
 -- the hart of a thread
 abbrev pub thread_hart : TalkValue → ℕ → Option HartValue

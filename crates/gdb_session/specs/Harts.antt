@@ -1,11 +1,11 @@
 -- The harts of GDB's threads: GDB's manual, "Remote Serial Protocol", "Packets".
-use Rattle.std.specs.Prelude.{ℕ, zero, suc, nat_lt, Option, Some, None, option_map, if◌then◌else◌}
+use Rattle.std.specs.Prelude.{ℕ, zero, suc, ◌<◌, ⊤, nat_lt, Option, Some, None, option_map, if◌then◌else◌}
 use Rattle.gdb_requests.specs.declared.request.Threads.{Threads}
 use Rattle.gdb_requests.specs.declared.request.Threads.TheVariants as threads
 use Rattle.gdb_replies.specs.declared.stop.Stop.{Stop}
 use Rattle.gdb_session.specs.declared.selected.Selected.{Selected}
 use Rattle.gdb_session.specs.declared.selected.Selected.TheVariants.{All, Any, One}
-use Rattle.gdb_session.specs.Talk.{TalkValue}
+use Rattle.gdb_session.specs.Talk.{TalkValue, hart_count}
 
 -- the hart of a thread among so many harts: thread h + 1 is hart h
 abbrev pub hart_of_thread : ℕ → ℕ → Option ℕ
@@ -32,3 +32,14 @@ selected_or other All = other
 -- the hart that is read
 abbrev pub hart_read : TalkValue → ℕ
 hart_read t = selected_or (stopped_hart t.stop) t.reads
+
+-- chosen harts are among so many
+abbrev pub AreAmong : ℕ → Selected → Type 0
+AreAmong harts (One hart) = hart < harts
+AreAmong harts Any = ⊤
+AreAmong harts All = ⊤
+
+-- the harts of `Hg`, of `Hc` and of the last stop are there
+abbrev pub ChosenAreThere : TalkValue → Type 0
+ChosenAreThere t = AreAmong (hart_count t) t.reads × AreAmong (hart_count t) t.moves
+    × (stopped_hart t.stop < hart_count t)

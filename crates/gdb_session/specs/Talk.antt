@@ -1,5 +1,6 @@
 -- The state of a session with GDB.
-use Rattle.std.specs.Prelude.{Bool, Option}
+use Rattle.std.specs.Prelude.{ℕ, Bool, List, length, Option}
+use Rattle.hart_step.specs.Hart.{HartValue}
 use Rattle.machine.specs.World.{World}
 use Rattle.debug_session.specs.Session.{Session, session, world_at}
 use Rattle.gdb_moves.specs.Points.{Marked, marked}
@@ -33,3 +34,10 @@ talk_of t = record {
 -- what GDB sees: the world of the run at the position
 abbrev pub world_seen : TalkValue → World
 world_seen t = world_at t.session t.session.position
+
+-- the harts that GDB sees, and their number
+abbrev pub harts_seen : TalkValue → List HartValue
+harts_seen t = (world_seen t).harts
+
+abbrev pub hart_count : TalkValue → ℕ
+hart_count t = length (harts_seen t)

@@ -5,9 +5,9 @@ ghost use Rattle.gdb_moves.specs.Points.{marked_with, marked_without};
 ghost use Rattle.gdb_replies.specs.Fixed.{fixed_text};
 ghost use Rattle.gdb_replies.specs.Fronts.{BeginsWith};
 ghost use Rattle.gdb_replies.specs.declared.fixed.FixedReply.TheVariants.{Done};
-ghost use Rattle.gdb_session.specs.Answers.{done_if, hart_count, moving_harts, reading_harts};
+ghost use Rattle.gdb_session.specs.Answers.{done_if, moving_harts, reading_harts};
 ghost use Rattle.gdb_session.specs.Harts.{selected_harts};
-ghost use Rattle.gdb_session.specs.Talk.{talk_of};
+ghost use Rattle.gdb_session.specs.Talk.{hart_count, talk_of};
 
 use crate::fixed::push_fixed;
 use crate::talk::Talk;

@@ -1,6 +1,6 @@
 //! The harts of GDB's threads.
-ghost use Rattle.std.specs.Prelude.{◌≡◌, length};
-ghost use Rattle.gdb_session.specs.Talk.{talk_of, world_seen};
+ghost use Rattle.std.specs.Prelude.{◌≡◌};
+ghost use Rattle.gdb_session.specs.Talk.{hart_count, talk_of};
 ghost use Rattle.gdb_session.specs.Harts.{hart_of_thread, hart_read, selected_harts, stopped_hart};
 
 use crate::selected::Selected;
@@ -32,7 +32,7 @@ impl<A: Allocator + Copy> Talk<A> {
 
     /// The hart of a thread, if it is there.
     pub(crate) fn hart_of_thread(&self, thread: u32) -> Option<u32>
-        ensures { result ≡ hart_of_thread (length (world_seen (talk_of self.now)).harts) thread }
+        ensures { result ≡ hart_of_thread (hart_count (talk_of self.now)) thread }
     {
         let hart = thread.checked_sub(1)?;
         if (hart as usize) < self.debugger.machine().harts() {
@@ -44,7 +44,7 @@ impl<A: Allocator + Copy> Talk<A> {
 
     /// The harts of threads, if they are there.
     pub(crate) fn select(&self, threads: Threads) -> Option<Selected>
-        ensures { result ≡ selected_harts (length (world_seen (talk_of self.now)).harts) threads }
+        ensures { result ≡ selected_harts (hart_count (talk_of self.now)) threads }
     {
         match threads {
             Threads::All => Some(Selected::All),

@@ -2,6 +2,7 @@
 #![tactic(auto)]
 
 pub use answer::{Next, answer_plain};
+pub use laws::chosen_harts_are_there;
 pub use selected::Selected;
 pub use talk::Talk;
 
@@ -9,6 +10,7 @@ mod answer;
 mod changes;
 mod fixed;
 mod harts;
+mod laws;
 mod memory;
 mod registers;
 mod selected;

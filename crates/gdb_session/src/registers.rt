@@ -2,9 +2,9 @@
 ghost use Rattle.std.specs.Prelude.{◌≡◌, ◌++◌, slice_get, OnOk, OnErr, Some};
 ghost use Rattle.hart_step.specs.Hart.{hart_of};
 ghost use Rattle.gdb_replies.specs.Fronts.{BeginsWith};
-ghost use Rattle.gdb_session.specs.Answers.{all_registers_text, hart_register_text, hart_registers_text, harts_seen, numbered_register_text};
+ghost use Rattle.gdb_session.specs.Answers.{all_registers_text, hart_register_text, hart_registers_text, numbered_register_text};
 ghost use Rattle.gdb_session.specs.Harts.{hart_read};
-ghost use Rattle.gdb_session.specs.Talk.{talk_of};
+ghost use Rattle.gdb_session.specs.Talk.{harts_seen, talk_of};
 
 use crate::fixed::push_fixed;
 use crate::talk::Talk;

@@ -2,9 +2,9 @@
 ghost use Rattle.std.specs.Prelude.{◌≡◌, ◌++◌, OnOk, OnErr};
 ghost use Rattle.gdb_replies.specs.Fronts.{BeginsWith};
 ghost use Rattle.gdb_replies.specs.Threads.{thread_list, thread_numbers};
-ghost use Rattle.gdb_session.specs.Answers.{done_if, hart_count, hart_state_text, harts_seen, part_text, thread_hart};
+ghost use Rattle.gdb_session.specs.Answers.{done_if, hart_state_text, part_text, thread_hart};
 ghost use Rattle.gdb_session.specs.Harts.{hart_of_thread};
-ghost use Rattle.gdb_session.specs.Talk.{talk_of};
+ghost use Rattle.gdb_session.specs.Talk.{hart_count, harts_seen, talk_of};
 
 use crate::fixed::push_fixed;
 use crate::talk::Talk;
