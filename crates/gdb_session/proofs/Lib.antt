@@ -1,3 +1,4 @@
 pub mod RegisterLemmas
 pub mod MemoryLemmas
 pub mod ChosenLemmas
+pub mod HomeLemmas

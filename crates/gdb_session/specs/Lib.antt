@@ -2,3 +2,4 @@ pub mod Talk
 pub mod Harts
 pub mod Memory
 pub mod Answers
+pub mod Moves

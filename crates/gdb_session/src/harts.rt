@@ -9,8 +9,8 @@ use gdb_replies::Stop;
 use gdb_requests::Threads;
 use std::alloc::Allocator;
 
-// The hart of the last stop; the first one before any.
-fn stopped_hart(stop: &Option<Stop>) -> u32
+/// The hart of the last stop; the first one before any.
+pub fn stopped_hart(stop: &Option<Stop>) -> u32
     ensures { result ≡ stopped_hart stop.now }
 {
     match stop {

@@ -6,4 +6,6 @@ mod moves_tests;
 #[cfg(test)]
 mod run;
 #[cfg(test)]
+mod session_moves_tests;
+#[cfg(test)]
 mod session_tests;

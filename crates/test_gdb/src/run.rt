@@ -1,5 +1,6 @@
 //! The run that the tests look at.
 use debug_session::Debugger;
+use gdb_session::Talk;
 use machine::{Choice, Inputs};
 use std::alloc::Global;
 use test_images::writable_program;
@@ -38,4 +39,15 @@ pub fn begin(alloc: Global) -> Option<Debugger<Global>> {
         return None;
     }
     Debugger::new(alloc, image, inputs, choices).ok()
+}
+
+/// What the server can do.
+pub const FEATURES: &str = "PacketSize=4000;QStartNoAckMode+;qXfer:features:read+;\
+    qXfer:threads:read+;ReverseStep+;ReverseContinue+;vContSupported+;swbreak+;hwbreak+";
+
+/// A session behind the first six choices.
+pub fn talk_at_six(alloc: Global) -> Option<Talk<Global>> {
+    let mut debugger = begin(alloc)?;
+    debugger.goto(alloc, 6).ok()?;
+    Some(Talk::new(alloc, debugger))
 }

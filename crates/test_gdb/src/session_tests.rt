@@ -1,6 +1,6 @@
 //! Tests what no clause says: that answers in a session are those that the model of it in Python
 //! gives, with which GDB 13.1 was tried, where memory suffices.
-use crate::run::begin;
+use crate::run::{FEATURES, talk_at_six};
 use gdb_requests::{Plain, Point, PointKind, Threads};
 use gdb_session::{Next, Selected, Talk, answer_plain};
 use std::alloc::Global;
@@ -17,10 +17,6 @@ const BREAK: Point = Point {
     address: 0x1000c,
     length: 4,
 };
-
-// What the server can do.
-const FEATURES: &str = "PacketSize=4000;QStartNoAckMode+;qXfer:features:read+;\
-    qXfer:threads:read+;ReverseStep+;ReverseContinue+;vContSupported+;swbreak+;hwbreak+";
 
 // The list of threads.
 const LIST: &str = "l<threads><thread id=\"1\" name=\"hart 0\">running</thread>\
@@ -100,13 +96,6 @@ fn count_answered(alloc: Global, talk: &mut Talk<Global>) -> Option<usize> {
         }
     }
     Some(ROWS.len())
-}
-
-// A session behind the first six choices.
-fn talk_at_six(alloc: Global) -> Option<Talk<Global>> {
-    let mut debugger = begin(alloc)?;
-    debugger.goto(alloc, 6).ok()?;
-    Some(Talk::new(alloc, debugger))
 }
 
 // Whether the session is left as the rows say.
