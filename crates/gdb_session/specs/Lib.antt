@@ -3,3 +3,4 @@ pub mod Harts
 pub mod Memory
 pub mod Answers
 pub mod Moves
+pub mod Resumes

@@ -10,8 +10,8 @@ use gdb_moves::{AddressRange, Whose};
 use gdb_requests::Plain;
 use std::alloc::Allocator;
 
-// The range that any step leaves.
-fn no_range() -> AddressRange
+/// The range that any step leaves.
+pub fn no_range() -> AddressRange
     ensures { result ≡ no_range }
 {
     AddressRange { from: 0, to: 0 }

@@ -19,6 +19,7 @@ mod memory;
 mod movement;
 mod moves;
 mod registers;
+mod resume;
 mod selected;
 mod stops;
 mod talk;

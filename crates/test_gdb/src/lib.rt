@@ -8,4 +8,6 @@ mod run;
 #[cfg(test)]
 mod session_moves_tests;
 #[cfg(test)]
+mod session_resume_tests;
+#[cfg(test)]
 mod session_tests;
