@@ -1,7 +1,6 @@
 //! What is told of the stops of moves.
 ghost use Rattle.std.specs.Prelude.{◌≡◌, slice_get};
 ghost use Rattle.hart_step.specs.Hart.{hart_of};
-ghost use Rattle.debug_session.specs.Session.{world_at};
 ghost use Rattle.gdb_session.specs.Harts.{stopped_hart};
 ghost use Rattle.gdb_session.specs.Moves.{end_told, hart_at_end, reason_told, signal_told, stop_in, stop_told};
 ghost use Rattle.gdb_session.specs.Talk.{talk_of, world_seen};
@@ -93,7 +92,8 @@ impl<A: Allocator + Copy> Talk<A> {
 
     /// What is told of a move that has ended at the position.
     pub(crate) fn stop_told(&self, movement: Move, stop: Option<ThreadStop>) -> Stop
-        ensures { result ≡ stop_told (talk_of self.now) movement (world_seen (talk_of self.now)) stop }
+        ensures { result ≡ stop_told (talk_of self.now) movement (world_seen (talk_of self.now))
+            stop }
     {
         match stop {
             Some(stop) => self.stop_in(

@@ -1,5 +1,6 @@
 //! Tests what no clause says: that the answers to `vCont` are those that the model of a session in
-//! Python gives, with which GDB 13.1 was tried, where memory suffices.
+//! Python gives, with which GDB 13.1 was tried, where memory suffices. Where a thread has two
+//! actions they are worked out by hand.
 use crate::run::talk_at_six;
 use gdb_replies::FixedReply;
 use gdb_requests::{Action, Point, PointKind, ThreadAction, Threads};
@@ -52,13 +53,19 @@ static ROWS: [Row; 16] = [
         answer: "T0502:00000000;08:00100100;20:0c000100;thread:2;swbreak:;" },
     Row { from: 0, position: 4,
         actions: &[
-            ThreadAction { action: Action::Range { from: 0x10000, to: 0x10008 }, threads: Some(Threads::One(1)) },
+            ThreadAction {
+                action: Action::Range { from: 0x10000, to: 0x10008 },
+                threads: Some(Threads::One(1)),
+            },
             ThreadAction { action: Action::Continue, threads: None },
         ],
         answer: "T0502:00000000;08:00100100;20:08000100;thread:1;" },
     Row { from: 14, position: 15,
         actions: &[
-            ThreadAction { action: Action::Range { from: 0x10000, to: 0x10020 }, threads: Some(Threads::One(1)) },
+            ThreadAction {
+                action: Action::Range { from: 0x10000, to: 0x10020 },
+                threads: Some(Threads::One(1)),
+            },
         ],
         answer: "T0502:00000000;08:00100100;20:20000100;thread:1;" },
     Row { from: 2, position: 5,
