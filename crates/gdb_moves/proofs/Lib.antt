@@ -2,3 +2,4 @@ pub mod LawLemmas
 pub mod PlaceLemmas
 pub mod SeenLemmas
 pub mod StepLemmas
+pub mod AfterLemmas

@@ -4,3 +4,4 @@ pub mod Sights
 pub mod Reasons
 pub mod Moves
 pub mod Steps
+pub mod After

@@ -1,6 +1,7 @@
 //! How GDB moves through a fixed run: its breakpoints and watches, and moves to where they are hit.
 #![tactic(auto)]
 
+pub use alone_steps::{AloneSteps, Way};
 pub use goal::Goal;
 pub use laws::{step_alone_is_the_choice_at_hand, step_back_alone_is_the_choice_below};
 pub use moves::{backward, forward, step_back};
@@ -11,10 +12,12 @@ pub use stop::{AddressRange, StopReason, ThreadStop, Whose};
 pub use thread_steps::{step, step_alone};
 pub use watch::{Watch, WatchKind};
 
+mod alone_steps;
 mod goal;
 mod hits;
 mod laws;
 mod moves;
+mod passing;
 mod points;
 mod search;
 mod seeing;
