@@ -1,8 +1,11 @@
 -- Searches that pass choices.
 use Rattle.std.proofs.Common.{◌≡◌, ℕ, ◌+◌, ◌-◌, ◌<◌, ◌≤◌, true, false, List, Option, Some, None, ◌⊎◌, inl, inr, ◌∙◌, sym, ap, refl, arith, rules}
 use Rattle.std.proofs.lemmas.Bool.{cases_Bool}
+use Rattle.std.proofs.lemmas.Option.{slice_get_past}
 use Rattle.debug_session.specs.Searches.{IsLeastStop, IsGreatestStop}
+use Rattle.debug_session.specs.Session.{Session, world_at, length_of, reason_at}
 use Rattle.debug_session.specs.Stops.{has}
+use Rattle.debug_session.specs.Wishes.{Wish, reason_on}
 use Rattle.gdb_moves.specs.After.{reason_unless}
 
 -- there is no reason from one choice on and below another
@@ -136,3 +139,11 @@ pub greatest_bounds : {R : Type 0} (reason : ℕ → Option R) (to k : ℕ) (why
     → why ≡ Some w → IsGreatestStop reason to k why → (0 < k) × (k ≤ to)
 greatest_bounds reason to k None w is greatest = absurd (search rules)
 greatest_bounds reason to k (Some v) w is greatest = (greatest.0, greatest.1)
+
+-- there is no reason behind the last choice
+pub none_past : {R : Type 0} (passed : List ℕ) (wish : Wish R) (s : Session) (end below : ℕ)
+    → ((i : ℕ) → end ≤ i → i < below → length_of s ≤ i)
+    → NoneIn (reason_unless passed (reason_at wish s)) end below
+unfolding reason_at
+none_past passed wish s end below past i low high = unless_none passed (reason_at wish s) i
+    (ap (reason_on wish (world_at s i)) (slice_get_past s.choices i (past i low high)))

@@ -1,10 +1,11 @@
 //! How GDB moves through a fixed run: its breakpoints and watches, and moves to where they are hit.
 #![tactic(auto)]
 
-pub use alone_steps::{AloneSteps, Way};
+pub use alone_steps::{AloneSteps, Way, own_choice};
 pub use goal::Goal;
 pub use laws::{step_alone_is_the_choice_at_hand, step_back_alone_is_the_choice_below};
 pub use moves::{backward, forward, step_back};
+pub use moves_after::{backward_after, forward_after};
 pub use points::Points;
 pub use search::Search;
 pub use seen::Seen;
@@ -17,6 +18,7 @@ mod goal;
 mod hits;
 mod laws;
 mod moves;
+mod moves_after;
 mod passing;
 mod points;
 mod search;

@@ -30,9 +30,9 @@ pub fn place_ahead(k: usize, stop: Option<ThreadStop>) -> usize
     }
 }
 
-// The position of a move backwards that has found a stop behind which k choices are done: behind a
-// watch, and before a breakpoint.
-fn place_back(k: usize, stop: Option<ThreadStop>) -> usize
+/// The position of a move backwards that has found a stop behind which k choices are done: behind a
+/// watch, and before a breakpoint.
+pub fn place_back(k: usize, stop: Option<ThreadStop>) -> usize
     requires { IfSome stop (λ _. 0 < k) }
     ensures behind { behind_back result stop ≡ k }
     ensures inside { result ≤ k }

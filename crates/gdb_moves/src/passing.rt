@@ -21,8 +21,8 @@ pub struct Met {
     pub stop: Option<ThreadStop>,
 }
 
-/// The least position above `from` behind a wanted choice that is not passed, or the end. Fails
-/// when out of memory.
+/// The least position above `from` behind a wanted choice that is not passed, or the end, also if
+/// `from` is past it. Fails when out of memory.
 pub fn first_met<A: Allocator + Copy>(
     alloc: A,
     debugger: &Debugger<A>,
@@ -30,7 +30,6 @@ pub fn first_met<A: Allocator + Copy>(
     passed: &[usize],
     from: usize,
 ) -> Result<Met, AllocError>
-    requires { from ≤ length_of (session debugger.now) }
     ensures least { IfOk result (λ met. IsLeastStop
         (reason_unless passed.now (reason_at
         (wanted_stop (marked search.now.points.now) search.now.whose search.now.goal)
@@ -38,6 +37,13 @@ pub fn first_met<A: Allocator + Copy>(
     ensures inside { IfOk result (λ met. met.position ≤ length_of (session debugger.now)) }
     ensures above { IfOk result (λ met. IfSome met.stop (λ _. 0 < met.position)) }
 {
+    let length = debugger.choices().len();
+    if from > length {
+        return Ok(Met {
+            position: length,
+            stop: None,
+        });
+    }
     let mut begin = from;
     'searches: loop {
         let target = debugger.first_from(alloc, search, begin)?;
@@ -67,7 +73,6 @@ pub fn last_met<A: Allocator + Copy>(
     passed: &[usize],
     below: usize,
 ) -> Result<Met, AllocError>
-    requires { below ≤ length_of (session debugger.now) }
     ensures greatest { IfOk result (λ met. IsGreatestStop
         (reason_unless passed.now (reason_at
         (wanted_stop (marked search.now.points.now) search.now.whose search.now.goal)
@@ -75,7 +80,7 @@ pub fn last_met<A: Allocator + Copy>(
     ensures inside { IfOk result (λ met. met.position ≤ length_of (session debugger.now)) }
     ensures above { IfOk result (λ met. IfSome met.stop (λ _. 0 < met.position)) }
 {
-    let mut end = below;
+    let mut end = below.min(debugger.choices().len());
     'searches: loop {
         let target = debugger.last_below(alloc, search, end)?;
         let position = target.position();

@@ -10,6 +10,7 @@ use Rattle.gdb_moves.proofs.passing.last_met.Given as goal
 abbrev pub invariant-searches : goal.invariant-searches
 invariant-searches g l = record {
   high : l.end ≤ l.below;
+  inside : l.end ≤ length_of (session l.debugger);
   none : NoneIn (reason_unless l.passed (reason_at
       (wanted_stop (marked l.search.points.now) l.search.whose l.search.goal)
       (session l.debugger))) l.end l.below;
