@@ -1,5 +1,5 @@
 -- What a move of all threads looks for after steps of a thread alone.
-use Rattle.std.specs.Prelude.{ℕ, ◌-◌, Bool, true, false, if◌then◌else◌, Option, Some, None, List, []}
+use Rattle.std.specs.Prelude.{◌≡◌, ◌⊎◌, ℕ, ◌+◌, ◌-◌, Bool, true, false, if◌then◌else◌, Option, Some, None, List, []}
 use Rattle.debug_session.specs.Stops.{has}
 use Rattle.gdb_moves.specs.declared.alone_steps.AloneSteps.{AloneSteps}
 use Rattle.gdb_moves.specs.declared.alone_steps.Way.{Way}
@@ -49,3 +49,8 @@ own_choice way position (Some stop) = own_of way position stop.reason
 -- the reason to stop at choice i, unless the choice is passed
 unfoldable pub reason_unless : {R : Type 0} → List ℕ → (ℕ → Option R) → ℕ → Option R
 reason_unless passed reason i = if has passed i then None else reason i
+
+-- choice i has no reason to stop, or it is the one behind which k choices are done, and its reason
+-- is that of the stop
+abbrev pub IsStopOrNone : {R : Type 0} → (ℕ → Option R) → ℕ → Option R → ℕ → Type 0
+IsStopOrNone reason k stop i = (reason i ≡ None) ⊎ ((i + 1 ≡ k) × (reason i ≡ stop))

@@ -3,7 +3,10 @@
 
 pub use alone_steps::{AloneSteps, Way, own_choice};
 pub use goal::Goal;
-pub use laws::{step_alone_is_the_choice_at_hand, step_back_alone_is_the_choice_below};
+pub use laws::{
+    a_stop_is_no_passed_choice, nothing_is_passed_unseen, step_alone_is_the_choice_at_hand,
+    step_back_alone_is_the_choice_below,
+};
 pub use moves::{backward, forward, step_back};
 pub use moves_after::{backward_after, forward_after};
 pub use points::Points;

@@ -2,6 +2,8 @@
 #![tactic(auto)]
 
 #[cfg(test)]
+mod after_tests;
+#[cfg(test)]
 mod moves_tests;
 #[cfg(test)]
 mod run;

@@ -10,41 +10,41 @@ use gdb_requests::{Point, PointKind};
 use hart_step::Cause;
 use std::alloc::{AllocError, Global};
 
-// No points.
+/// No points.
 #[rattlefmt::skip]
-const NOTHING: [Point; 0] = [];
+pub const NOTHING: [Point; 0] = [];
 
-// A breakpoint at the load.
+/// A breakpoint at the load.
 #[rattlefmt::skip]
-const BREAK: [Point; 1] = [Point { kind: PointKind::Software, address: 0x1000c, length: 4 }];
+pub const BREAK: [Point; 1] = [Point { kind: PointKind::Software, address: 0x1000c, length: 4 }];
 
-// Two breakpoints at the load, of both kinds, and one further on.
+/// Two breakpoints at the load, of both kinds, and one further on.
 #[rattlefmt::skip]
-const BREAKS: [Point; 3] = [
+pub const BREAKS: [Point; 3] = [
     Point { kind: PointKind::Hardware, address: 0x1000c, length: 4 },
     Point { kind: PointKind::Software, address: 0x1000c, length: 4 },
     Point { kind: PointKind::Hardware, address: 0x10018, length: 4 },
 ];
 
-// Changes of the word.
+/// Changes of the word.
 #[rattlefmt::skip]
-const CHANGE: [Point; 1] = [Point { kind: PointKind::Write, address: 0x11000, length: 4 }];
+pub const CHANGE: [Point; 1] = [Point { kind: PointKind::Write, address: 0x11000, length: 4 }];
 
-// Changes of a byte that is stored, and never changes.
+/// Changes of a byte that is stored, and never changes.
 #[rattlefmt::skip]
-const HIGH_CHANGE: [Point; 1] = [Point { kind: PointKind::Write, address: 0x11003, length: 4 }];
+pub const HIGH_CHANGE: [Point; 1] = [Point { kind: PointKind::Write, address: 0x11003, length: 4 }];
 
 // Changes of the byte that is stored by itself.
 #[rattlefmt::skip]
 const LOW_CHANGE: [Point; 1] = [Point { kind: PointKind::Write, address: 0x11001, length: 1 }];
 
-// Reads of the word's upper half, and of what follows it.
+/// Reads of the word's upper half, and of what follows it.
 #[rattlefmt::skip]
-const READ: [Point; 1] = [Point { kind: PointKind::Read, address: 0x11002, length: 8 }];
+pub const READ: [Point; 1] = [Point { kind: PointKind::Read, address: 0x11002, length: 8 }];
 
-// Accesses to the word's lower half, and to what comes before it.
+/// Accesses to the word's lower half, and to what comes before it.
 #[rattlefmt::skip]
-const ACCESS: [Point; 1] = [Point { kind: PointKind::Access, address: 0x10ffe, length: 4 }];
+pub const ACCESS: [Point; 1] = [Point { kind: PointKind::Access, address: 0x10ffe, length: 4 }];
 
 // Two watches, both of which are hit; the first one counts.
 #[rattlefmt::skip]
@@ -53,9 +53,9 @@ const FIRST: [Point; 2] = [
     Point { kind: PointKind::Write, address: 0x11000, length: 4 },
 ];
 
-// A breakpoint at the store-conditional, and changes of a byte that it changes.
+/// A breakpoint at the store-conditional, and changes of a byte that it changes.
 #[rattlefmt::skip]
-const BOTH: [Point; 2] = [
+pub const BOTH: [Point; 2] = [
     Point { kind: PointKind::Software, address: 0x10008, length: 4 },
     Point { kind: PointKind::Write, address: 0x11000, length: 1 },
 ];
@@ -246,8 +246,8 @@ fn make(
     }
 }
 
-// Puts points in.
-fn points_of(alloc: Global, list: &[Point]) -> Option<Points<Global>> {
+/// Puts points in.
+pub fn points_of(alloc: Global, list: &[Point]) -> Option<Points<Global>> {
     let mut points = Points::new(alloc);
     for point in list {
         points.insert(*point).ok()?;
