@@ -1,5 +1,5 @@
 -- What a move of all threads looks for after steps of a thread alone.
-use Rattle.std.specs.Prelude.{◌≡◌, ◌⊎◌, ℕ, ◌+◌, ◌-◌, Bool, true, false, if◌then◌else◌, Option, Some, None, List, []}
+use Rattle.std.specs.Prelude.{◌≡◌, ◌⊎◌, ℕ, ◌+◌, ◌-◌, Bool, true, false, if◌then◌else◌, Option, Some, None, List, [], ◌∷◌, ◌++◌}
 use Rattle.debug_session.specs.Stops.{has}
 use Rattle.gdb_moves.specs.declared.alone_steps.AloneSteps.{AloneSteps}
 use Rattle.gdb_moves.specs.declared.alone_steps.Way.{Way}
@@ -45,6 +45,11 @@ own_of way position other = None
 abbrev pub own_choice : Way → ℕ → Option ThreadStop → Option ℕ
 own_choice way position None = None
 own_choice way position (Some stop) = own_of way position stop.reason
+
+-- steps alone with one more own choice, if there is one
+abbrev pub with_own : Alone → Option ℕ → Alone
+with_own a None = a
+with_own a (Some choice) = record a { own = a.own ++ choice ∷ [] }
 
 -- the reason to stop at choice i, unless the choice is passed
 unfoldable pub reason_unless : {R : Type 0} → List ℕ → (ℕ → Option R) → ℕ → Option R

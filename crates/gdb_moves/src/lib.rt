@@ -9,6 +9,7 @@ pub use laws::{
 };
 pub use moves::{backward, forward, step_back};
 pub use moves_after::{backward_after, forward_after};
+pub use noting::{step_alone_kept, step_back_kept};
 pub use points::Points;
 pub use search::Search;
 pub use seen::Seen;
@@ -22,6 +23,7 @@ mod hits;
 mod laws;
 mod moves;
 mod moves_after;
+mod noting;
 mod passing;
 mod points;
 mod search;

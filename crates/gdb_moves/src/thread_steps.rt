@@ -122,8 +122,8 @@ fn alone(stop: ThreadStop) -> ThreadStop
     }
 }
 
-// The same of a stop, if there is one.
-fn alone_if(stop: Option<ThreadStop>) -> Option<ThreadStop>
+/// The stop of a thread that moves alone, if there is one.
+pub fn alone_if(stop: Option<ThreadStop>) -> Option<ThreadStop>
     ensures { result ≡ option_map alone_stop stop }
 {
     match stop {

@@ -5,8 +5,8 @@ use crate::moves_tests::{
 use crate::run::begin;
 use debug_session::Debugger;
 use gdb_moves::{
-    AddressRange, AloneSteps, Points, StopReason, ThreadStop, Way, Whose, backward_after,
-    forward_after, own_choice, step_alone, step_back,
+    AddressRange, AloneSteps, Points, StopReason, ThreadStop, Way, backward_after, forward_after,
+    step_alone_kept, step_back_kept,
 };
 use gdb_requests::Point;
 use hart_step::Cause;
@@ -155,11 +155,12 @@ fn step_once(
     alloc: Global,
     debugger: &mut Debugger<Global>,
     points: &Points<Global>,
-    steps: Steps,
+    alone: &mut AloneSteps<Global>,
+    hart: u32,
 ) -> Result<Option<ThreadStop>, AllocError> {
-    match steps.way {
-        Way::Forwards => step_alone(alloc, debugger, points, steps.hart, ONE),
-        Way::Backwards => { step_back(alloc, debugger, points, Whose::One(steps.hart), steps.hart) }
+    match alone.way {
+        Way::Forwards => step_alone_kept(alloc, debugger, points, alone, hart, ONE),
+        Way::Backwards => step_back_kept(alloc, debugger, points, alone, hart),
     }
 }
 
@@ -173,10 +174,7 @@ fn make_steps(
     debugger.goto(alloc, steps.from).ok()?;
     let mut alone = AloneSteps::new(alloc, steps.way, steps.from);
     for _ in 0..steps.count {
-        let stop = step_once(alloc, debugger, &none, steps).ok()?;
-        if let Some(choice) = own_choice(steps.way, debugger.position(), stop) {
-            alone.add(choice).ok()?;
-        }
+        step_once(alloc, debugger, &none, &mut alone, steps.hart).ok()?;
     }
     Some(alone)
 }
