@@ -108,7 +108,8 @@ greatest_end passed reason end below k (Some w) so_far none greatest = absurd (s
 greatest_end passed reason end below k None so_far none greatest = (
   greatest.0,
   λ i high. none_both (reason_unless passed reason) 0 end below
-      (λ j low before. unless_none passed reason j (greatest.1 j before)) so_far i (omega arith) high,
+      (λ j low before. unless_none passed reason j (greatest.1 j before)) so_far i
+      (omega arith) high,
 )
 
 -- a choice is met

@@ -38,7 +38,6 @@ pub fn step_back_alone_is_the_choice_below()
 
 /// A move of all threads that passes choices leaves nothing else unseen, forwards and backwards:
 /// each choice that was searched is passed, has no reason to stop, or is that of the stop.
-#[tactic(auto, using(crate::proofs::AfterLemmas::seen_ahead, crate::proofs::AfterLemmas::seen_back))]
 pub fn nothing_is_passed_unseen()
     ensures ahead { (passed : List ℕ) (reason : ℕ → Option ThreadStop) (from to k i : ℕ)
         (stop : Option ThreadStop) → IsLeastStop (reason_unless passed reason) from to k stop

@@ -8,7 +8,7 @@ pub use laws::{
     step_back_alone_is_the_choice_below,
 };
 pub use moves::{backward, forward, step_back};
-pub use moves_after::{backward_after, forward_after};
+pub use moves_after::{backward_after, forward_after, step_back_after};
 pub use noting::{step_alone_kept, step_back_kept};
 pub use points::Points;
 pub use search::Search;

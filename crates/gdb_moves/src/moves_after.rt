@@ -7,7 +7,7 @@ ghost use Rattle.gdb_moves.specs.Points.{marked};
 ghost use Rattle.gdb_moves.specs.Reasons.{wanted_stop};
 ghost use Rattle.gdb_moves.specs.Moves.{behind_ahead, behind_back};
 ghost use Rattle.gdb_moves.specs.declared.alone_steps.Way.TheVariants.{Forwards, Backwards};
-ghost use Rattle.gdb_moves.specs.declared.goal.Goal.TheVariants.{Ahead, Back};
+ghost use Rattle.gdb_moves.specs.declared.goal.Goal.TheVariants.{Ahead, Back, StepBack};
 ghost use Rattle.gdb_moves.specs.declared.stop.Whose.TheVariants.{All};
 
 use crate::alone_steps::{AloneSteps, Way};
@@ -50,6 +50,30 @@ pub fn forward_after<A: Allocator + Copy>(
     Ok(met.stop)
 }
 
+// Moves backwards to the greatest stop of a goal, of all threads, after steps alone.
+fn go_back_after<A: Allocator + Copy>(
+    alloc: A,
+    debugger: &mut Debugger<A>,
+    search: &Search<A>,
+    alone: &AloneSteps<A>,
+) -> Result<Option<ThreadStop>, AllocError>
+    ensures greatest { IfOk result (λ stop. IsGreatestStop
+        (reason_unless (passed_of Backwards (alone_of alone.now)) (reason_at
+        (wanted_stop (marked search.now.points.now) search.now.whose search.now.goal)
+        (session debugger.old)))
+        (begin_of Backwards (alone_of alone.now) (session debugger.old).position)
+        (behind_back (session debugger.new).position stop) stop) }
+    ensures moved { OnOk result (session debugger.new
+        ≡ moved (session debugger.old) (session debugger.new).position) }
+    ensures err { OnErr result (session debugger.new ≡ session debugger.old) }
+{
+    let passed = alone.passed_of(Way::Backwards);
+    let begin = alone.begin_of(Way::Backwards, debugger.position());
+    let met = last_met(alloc, debugger, search, passed, begin)?;
+    move_to(alloc, debugger, place_back(met.position, met.stop))?;
+    Ok(met.stop)
+}
+
 /// `backward` of all threads, after steps alone: if they went backwards, the search begins where
 /// they began and passes their own choices, so the position may become greater. Fails when out of
 /// memory.
@@ -73,9 +97,31 @@ pub fn backward_after<A: Allocator + Copy>(
         whose: Whose::All,
         goal: Goal::Back,
     };
-    let passed = alone.passed_of(Way::Backwards);
-    let begin = alone.begin_of(Way::Backwards, debugger.position());
-    let met = last_met(alloc, debugger, &search, passed, begin)?;
-    move_to(alloc, debugger, place_back(met.position, met.stop))?;
-    Ok(met.stop)
+    go_back_after(alloc, debugger, &search, alone)
+}
+
+/// `step_back` of a thread where all threads move, after steps alone, which count as they do for
+/// `backward_after`. Fails when out of memory.
+pub fn step_back_after<A: Allocator + Copy>(
+    alloc: A,
+    debugger: &mut Debugger<A>,
+    points: &Points<A>,
+    alone: &AloneSteps<A>,
+    hart: u32,
+) -> Result<Option<ThreadStop>, AllocError>
+    ensures greatest { IfOk result (λ stop. IsGreatestStop
+        (reason_unless (passed_of Backwards (alone_of alone.now)) (reason_at
+        (wanted_stop (marked points.now) All (StepBack hart)) (session debugger.old)))
+        (begin_of Backwards (alone_of alone.now) (session debugger.old).position)
+        (behind_back (session debugger.new).position stop) stop) }
+    ensures moved { OnOk result (session debugger.new
+        ≡ moved (session debugger.old) (session debugger.new).position) }
+    ensures err { OnErr result (session debugger.new ≡ session debugger.old) }
+{
+    let search = Search {
+        points,
+        whose: Whose::All,
+        goal: Goal::StepBack { hart },
+    };
+    go_back_after(alloc, debugger, &search, alone)
 }

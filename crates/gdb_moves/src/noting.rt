@@ -49,8 +49,8 @@ fn move_and_add<A: Allocator + Copy>(
     }
 }
 
-/// `step_alone`, whose own choice is kept with those of the steps alone before it. Fails when out of
-/// memory.
+/// `step_alone`, whose own choice is kept with those of the steps alone before it. Fails when out
+/// of memory.
 pub fn step_alone_kept<A: Allocator + Copy>(
     alloc: A,
     debugger: &mut Debugger<A>,

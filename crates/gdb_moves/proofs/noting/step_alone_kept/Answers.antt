@@ -27,5 +27,6 @@ returns-clause-found g c =
     c.in_ok-target.target.position _
     c.in_ok-target.target.reason c.reason.result c.alone_if-stop.result
     c.in_ok-target.ensures.found c.reason.ensures c.alone_if-stop.ensures
-    (ap (λ (s : Session). behind_ahead s.position c.alone_if-stop.result) c.in_ok-move_and_add.ensures.moved
+    (ap (λ (s : Session). behind_ahead s.position c.alone_if-stop.result)
+    c.in_ok-move_and_add.ensures.moved
     ∙ c.place_ahead-k.ensures.behind ∙ c.position.ensures)
