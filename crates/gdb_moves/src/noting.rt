@@ -49,18 +49,18 @@ fn move_and_add<A: Allocator + Copy>(
     }
 }
 
-/// `step_alone`, whose own choice is kept with those of the steps alone before it. Fails when out
-/// of memory.
+/// A `step_alone` of one instruction, whose own choice is kept with those of the steps alone before
+/// it. Fails when out of memory.
 pub fn step_alone_kept<A: Allocator + Copy>(
     alloc: A,
     debugger: &mut Debugger<A>,
     points: &Points<A>,
     alone: &mut AloneSteps<A>,
     hart: u32,
-    range: AddressRange,
 ) -> Result<Option<ThreadStop>, AllocError>
     ensures found { IfOk result (λ stop. (behind_ahead (session debugger.new).position stop, stop)
-        ≡ step_alone_found (marked points.now) hart range (session debugger.old)) }
+        ≡ step_alone_found (marked points.now) hart (record { from = 0; to = 0 })
+        (session debugger.old)) }
     ensures moved { OnOk result (session debugger.new
         ≡ moved (session debugger.old) (session debugger.new).position) }
     ensures kept { IfOk result (λ stop. alone_of alone.new ≡ with_own (alone_of alone.old)
@@ -71,7 +71,10 @@ pub fn step_alone_kept<A: Allocator + Copy>(
     let search = Search {
         points,
         whose: Whose::One(hart),
-        goal: Goal::Step { hart, range },
+        goal: Goal::Step {
+            hart,
+            range: AddressRange { from: 0, to: 0 },
+        },
     };
     let target = debugger.next(alloc, &search)?;
     let stop = alone_if(target.reason());

@@ -5,7 +5,7 @@ use crate::moves_tests::{
 use crate::run::begin;
 use debug_session::Debugger;
 use gdb_moves::{
-    AddressRange, AloneSteps, Points, StopReason, ThreadStop, Way, backward_after, forward_after,
+    AloneSteps, Points, StopReason, ThreadStop, Way, backward_after, forward_after,
     step_alone_kept, step_back_kept,
 };
 use gdb_requests::Point;
@@ -30,9 +30,6 @@ struct Row {
     stop: Option<(u32, StopReason)>,
     to: usize,
 }
-
-// The range of a single step.
-const ONE: AddressRange = AddressRange { from: 0, to: 0 };
 
 #[rattlefmt::skip]
 static ROWS: [Row; 56] = [
@@ -159,7 +156,7 @@ fn step_once(
     hart: u32,
 ) -> Result<Option<ThreadStop>, AllocError> {
     match alone.way {
-        Way::Forwards => step_alone_kept(alloc, debugger, points, alone, hart, ONE),
+        Way::Forwards => step_alone_kept(alloc, debugger, points, alone, hart),
         Way::Backwards => step_back_kept(alloc, debugger, points, alone, hart),
     }
 }

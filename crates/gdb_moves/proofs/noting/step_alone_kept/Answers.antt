@@ -13,7 +13,7 @@ pub place_ahead-k-requires : goal.place_ahead-k-requires
 place_ahead-k-requires g c =
     let s = session c.args.debugger.now in
     let target = c.in_ok-target.target in
-    let step = Step c.args.hart c.args.range in
+    let step = Step c.args.hart (record { from = 0; to = 0 }) in
     let wish = wanted_stop (marked c.args.points.now) (One c.args.hart) step in
     rw c.position.ensures
     (alone_above target.position target.reason c.alone_if-stop.result
@@ -23,8 +23,8 @@ place_ahead-k-requires g c =
 
 pub returns-clause-found : goal.returns-clause-found
 returns-clause-found g c =
-    step_alone_is (marked c.args.points.now) c.args.hart c.args.range (session c.args.debugger.now)
-    c.in_ok-target.target.position _
+    step_alone_is (marked c.args.points.now) c.args.hart (record { from = 0; to = 0 })
+    (session c.args.debugger.now) c.in_ok-target.target.position _
     c.in_ok-target.target.reason c.reason.result c.alone_if-stop.result
     c.in_ok-target.ensures.found c.reason.ensures c.alone_if-stop.ensures
     (ap (λ (s : Session). behind_ahead s.position c.alone_if-stop.result)
