@@ -2,7 +2,7 @@
 
 use crate::commands::CommandRow;
 use crate::help::EXPLAINED;
-use clap::{Arg, ArgAction, ArgMatches, Command};
+use clap::{Arg, ArgAction, ArgGroup, ArgMatches, Command};
 use std::alloc::{AllocError, Global};
 
 /// An argument of a command: its name, and its help text.
@@ -20,17 +20,21 @@ pub(crate) enum Argument {
     Optional(&'static str, &'static str),
     /// An optional option with a value, which has a letter too.
     Lettered(&'static str, char, &'static str),
-    /// An option with a value, which is given unless another one is: the names of both.
-    Either(&'static str, &'static str, &'static str),
+    /// An option with a value, one of those of which exactly one is given.
+    OneOf(&'static str, &'static str),
+    /// Another one of these, which needs an option beside it: the names of both.
+    OneOfWith(&'static str, &'static str, &'static str),
+    /// An optional option with a value that needs another option: the names of both.
+    With(&'static str, &'static str, &'static str),
     /// A required option with a value.
     NeededOption(&'static str, &'static str),
     /// An option without a value.
     Flag(&'static str, &'static str),
 }
 
-// An option that is given unless another one is.
-fn either<'a>(arg: Arg<'a>, other: &'static str) -> Result<Arg<'a>, AllocError> {
-    arg.required_unless_present(other)?.conflicts_with(other)
+// An option with a value.
+fn option_of<'a>(alloc: Global, id: &'a str, help: &'a str) -> Arg<'a> {
+    Arg::new(alloc, id).long(id).help(help)
 }
 
 // The argument as clap takes it. `objects` are the names of the library's objects.
@@ -43,16 +47,12 @@ fn arg_of<'a>(alloc: Global, argument: Argument, objects: &'a str) -> Result<Arg
             .required(true)
             .action(ArgAction::Append)
             .help(help),
-        Argument::Optional(id, help) => Arg::new(alloc, id).long(id).help(help),
-        Argument::Lettered(id, letter, help) => {
-            Arg::new(alloc, id).long(id).short(letter).help(help)
+        Argument::Optional(id, help) | Argument::OneOf(id, help) => option_of(alloc, id, help),
+        Argument::Lettered(id, letter, help) => option_of(alloc, id, help).short(letter),
+        Argument::OneOfWith(id, other, help) | Argument::With(id, other, help) => {
+            option_of(alloc, id, help).requires_arg(other)?
         }
-        Argument::Either(id, other, help) => {
-            either(Arg::new(alloc, id).long(id).help(help), other)?
-        }
-        Argument::NeededOption(id, help) => {
-            Arg::new(alloc, id).long(id).required(true).help(help)
-        }
+        Argument::NeededOption(id, help) => option_of(alloc, id, help).required(true),
         Argument::Flag(id, help) => Arg::new(alloc, id)
             .long(id)
             .action(ArgAction::SetTrue)
@@ -63,6 +63,37 @@ fn arg_of<'a>(alloc: Global, argument: Argument, objects: &'a str) -> Result<Arg
 
 /// The option that each command has.
 pub(crate) const EXPLAIN: &str = "explain";
+
+// The group of the options of which exactly one is given.
+const SCHEDULE: &str = "schedules";
+
+// The name of an argument that is one of those of which exactly one is given.
+fn one_of(argument: Argument) -> Option<&'static str> {
+    match argument {
+        Argument::OneOf(id, _) | Argument::OneOfWith(id, _, _) => Some(id),
+        _ => None,
+    }
+}
+
+// The command with a group of its options of which exactly one is given, if it has such options.
+fn with_group<'a>(
+    alloc: Global,
+    command: Command<'a>,
+    arguments: &[Argument],
+) -> Result<Command<'a>, AllocError> {
+    let mut group = ArgGroup::new(alloc, SCHEDULE).required(true);
+    let mut count = 0usize;
+    'arguments: for argument in arguments {
+        if let Some(id) = one_of(*argument) {
+            group = group.arg(id)?;
+            count = count.saturating_add(1);
+        }
+    }
+    if count == 0 {
+        return Ok(command);
+    }
+    command.group(group)
+}
 
 /// The command as clap takes it. `objects` are the names of the library's objects.
 pub(crate) fn command_of<'a>(
@@ -76,7 +107,8 @@ pub(crate) fn command_of<'a>(
     'arguments: for argument in row.arguments {
         command = command.arg(arg_of(alloc, *argument, objects)?)?;
     }
-    command.arg(arg_of(alloc, Argument::Optional(EXPLAIN, EXPLAINED), objects)?)
+    command = command.arg(arg_of(alloc, Argument::Optional(EXPLAIN, EXPLAINED), objects)?)?;
+    with_group(alloc, command, row.arguments)
 }
 
 /// The text of an argument.

@@ -13,8 +13,25 @@ pub(crate) const INPUTS: &str = "one decimal input below 2^32 for each hart, as 
 pub(crate) const CHOICES: &str =
     "a file of hart numbers, one for each step, as 0 1 0!; ! refuses a store-conditional";
 
+/// Of `--choices` where standard input is free.
+pub(crate) const CHOICES_OR_INPUT: &str =
+    "a file of hart numbers, one for each step, as 0 1 0!; ! refuses a store-conditional; - is standard input";
+
 /// Of `--list`.
 pub(crate) const LIST: &str = "the choices themselves, in place of a file, as '0*3 1 0!'";
+
+/// Of `--seed` in place of choices.
+pub(crate) const SEED: &str = "the choices that a campaign draws from this seed; with --steps";
+
+/// Of `--steps` beside it.
+pub(crate) const STEPS: &str = "how many choices the seed draws, below 2^32";
+
+/// Of `--turns` in place of choices.
+pub(crate) const TURNS: &str = "the harts take turns, for so many choices, below 2^32";
+
+/// Of `--history` in place of choices.
+pub(crate) const HISTORY_OF_CHOICES: &str =
+    "the choices of a history, which rvcons threads --history writes";
 
 /// Of `--history` where it is read.
 pub(crate) const HISTORY: &str =

@@ -2,7 +2,7 @@
 #![tactic(auto)]
 
 pub use arguments::{is_set, text_of, texts_of};
-pub use choice_text::{ChoiceText, choice_text_of};
+pub use choice_text::{ChoiceText, SeedText, choice_text_of};
 pub use explain::{Explain, explain_of, explain_said};
 pub use inputs::{part_len, read_input, read_inputs, read_word};
 pub use line::{LineFault, match_line, read_run};

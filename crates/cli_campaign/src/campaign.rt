@@ -180,34 +180,43 @@ fn report_campaign<R: Files + AllocGlobal + Print + Eprint + Threads + Sync, P: 
     }
 }
 
-// Shows the commands for a closer look at the run of a seed.
-fn show_commands<R: Eprint>(
+// Shows a command for the run of a seed, up to the options that only some commands have.
+fn show_command<R: Eprint>(
     rt: &R,
+    name: &str,
     order: &CampaignOrder,
-    harts: usize,
     campaign: Campaign,
     seed: u64,
 ) -> Option<()> {
     let (file, texts, steps) = (order.file, order.inputs, campaign.steps);
-    eprint!(rt;
-        "seed {seed} is the first such one. To look into it:\n    \
-         rvcons schedule --harts {harts} --steps {steps} --seed {seed}"
-    )
-    .ok()?;
+    eprint!(rt; "    rvcons {name} {file} --inputs {texts} --seed {seed} --steps {steps}").ok()?;
     if let Some(draw) = order.draw {
         eprint!(rt; " --schedule {draw}").ok()?;
     }
     if let Some(refusals) = order.refusals {
         eprint!(rt; " --refusals {refusals}").ok()?;
     }
-    if let Order::Priorities(_) = campaign.draw.order {
-        eprint!(rt; " --inputs {texts} {file}").ok()?;
+    Some(())
+}
+
+// Shows the commands for a closer look at the run of a seed.
+fn show_commands<R: Eprint>(
+    rt: &R,
+    order: &CampaignOrder,
+    campaign: Campaign,
+    seed: u64,
+) -> Option<()> {
+    eprintln!(rt; "seed {seed} is the first such one. To look into it:").ok()?;
+    show_command(rt, "debug", order, campaign, seed)?;
+    eprint!(rt; "\n").ok()?;
+    show_command(rt, "shrink", order, campaign, seed)?;
+    if let Some(rule) = order.rule {
+        eprint!(rt; " --rule {rule}").ok()?;
     }
-    eprintln!(rt;
-        " >seed_{seed}.choices\n    \
-         rvcons debug {file} --inputs {texts} --choices seed_{seed}.choices"
-    )
-    .ok()
+    if order.must_exit {
+        eprint!(rt; " --must-exit").ok()?;
+    }
+    eprint!(rt; "\n").ok()
 }
 
 // The program and the choices of a seed, which are made again.
@@ -237,7 +246,7 @@ fn explain_seed<R: Files + AllocGlobal + Eprint>(
     campaign: Campaign,
     seed: u64,
 ) -> Option<()> {
-    show_commands(rt, order, inputs.len(), campaign, seed)?;
+    show_commands(rt, order, campaign, seed)?;
     let (program, choices) = seed_again(rt, order, inputs, campaign, seed)?;
     let told = match campaign.expect.exit {
         Exit::Must => EndsTold::FaultsAndRunning,

@@ -2,8 +2,9 @@
 //! instead. Files are read again for them. If that fails, or is out of memory, there are none.
 
 use crate::audience::Audience;
+use crate::run_choices::RunChoices;
 use clap::error::ErrorKind;
-use cli_args::{ChoiceText, LineFault};
+use cli_args::LineFault;
 use hint_fault::{EndsTold, all_still_run, file_words, item_at, run_advice};
 use hint_text::{Mistake, order_advice};
 use program_open::{CommandFault, ProgramForm};
@@ -16,8 +17,8 @@ pub struct RunFiles<'a> {
     /// The program's file and its form.
     pub program: &'a str,
     pub form: ProgramForm,
-    /// Where the choices or the history are; an empty list if there are none.
-    pub choices: ChoiceText<'a>,
+    /// Where the choices or the history are; an empty text if there are none.
+    pub choices: RunChoices<'a>,
     /// Number of inputs.
     pub harts: usize,
 }
@@ -28,7 +29,10 @@ impl<'a> RunFiles<'a> {
         RunFiles {
             program,
             form: ProgramForm::Elf,
-            choices: ChoiceText::List(""),
+            choices: RunChoices::Held {
+                text: b"",
+                name: "",
+            },
             harts,
         }
     }
@@ -41,22 +45,6 @@ pub fn read_again<R: Files + AllocGlobal>(rt: &R, path: &str) -> Option<Vec<u8>>
         return None;
     }
     fs::read(rt, path).ok()
-}
-
-/// The bytes of a choice text, if they can be read again.
-pub fn choices_again<R: Files + AllocGlobal>(rt: &R, choices: ChoiceText<'_>) -> Option<Vec<u8>> {
-    match choices {
-        ChoiceText::File(path) => read_again(rt, path),
-        ChoiceText::List(text) => Vec::from_slice(rt.alloc(), text.as_bytes()).ok(),
-    }
-}
-
-/// What a choice text is called: its path, or the option that has it.
-pub(crate) fn name_of<'a>(choices: ChoiceText<'a>) -> &'a str {
-    match choices {
-        ChoiceText::File(path) => path,
-        ChoiceText::List(_) => "--list",
-    }
 }
 
 /// Shows whole lines.
@@ -175,8 +163,8 @@ fn told_of_choice<R: Files + AllocGlobal + Eprint>(
     files: RunFiles<'_>,
     offset: usize,
 ) -> Option<()> {
-    let path = name_of(files.choices);
-    let bytes = choices_again(rt, files.choices)?;
+    let path = files.choices.name();
+    let bytes = files.choices.again(rt)?;
     let item = item_at(&bytes, offset);
     let last = files.harts.saturating_sub(1);
     eprintln!(rt;
@@ -189,12 +177,12 @@ fn told_of_choice<R: Files + AllocGlobal + Eprint>(
 // The hints on an item that names a hart that doesn't exist.
 fn told_of_hart<R: Files + AllocGlobal + Eprint>(
     rt: &R,
-    choices: ChoiceText<'_>,
+    choices: RunChoices<'_>,
     harts: usize,
     offset: usize,
 ) -> Option<()> {
-    let path = name_of(choices);
-    let bytes = choices_again(rt, choices)?;
+    let path = choices.name();
+    let bytes = choices.again(rt)?;
     let item = item_at(&bytes, offset);
     let last = harts.saturating_sub(1);
     eprintln!(rt;
@@ -205,11 +193,11 @@ fn told_of_hart<R: Files + AllocGlobal + Eprint>(
 // The hints on an item that isn't an entry.
 fn told_of_entry<R: Files + AllocGlobal + Eprint>(
     rt: &R,
-    choices: ChoiceText<'_>,
+    choices: RunChoices<'_>,
     offset: usize,
 ) -> Option<()> {
-    let path = name_of(choices);
-    let bytes = choices_again(rt, choices)?;
+    let path = choices.name();
+    let bytes = choices.again(rt)?;
     let item = item_at(&bytes, offset);
     eprintln!(rt;
         "{path}: '{item}' at byte {offset} is no entry: a history is what rvcons threads --history writes, as 1+3, hart 1 with three steps of its own \

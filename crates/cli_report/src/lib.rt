@@ -4,11 +4,13 @@
 
 pub use arguments::read_arguments;
 pub use audience::Audience;
+pub use either_source::EitherSource;
 pub use explain::{
-    RunFiles, choices_again, ends_running, explain_ends, explain_line, explain_run, read_again,
-    show,
+    RunFiles, ends_running, explain_ends, explain_line, explain_run, read_again, show,
 };
-pub use files::{is_same_file, open_both, open_one, say_why};
+pub use files::{
+    ChoiceSource, is_same_file, open_both, open_one, open_run, read_input_to_end, say_why,
+};
 pub use hint_fault::EndsTold;
 pub use objects::{read_object, read_rule};
 pub use output_file::{OutputFault, OutputFile, PROGRAM_MODE, TEXT_MODE};
@@ -16,14 +18,17 @@ pub use progress_line::{WIPE, wipe_line};
 pub use report::{
     bad_line, cannot_open, cannot_read, cannot_write, out_of_memory, refuse, say, would_overwrite,
 };
-pub use said::{inputs_said, rule_said};
+pub use run_choices::RunChoices;
+pub use said::{form_said, inputs_said, rule_said};
 
 mod arguments;
 mod audience;
+mod either_source;
 mod explain;
 mod files;
 mod objects;
 mod output_file;
 mod progress_line;
 mod report;
+mod run_choices;
 mod said;

@@ -9,6 +9,16 @@ use crate::report::refuse;
 use byte_io::Status;
 use cli_args::read_inputs;
 use object_library::Kind;
+use program_open::ProgramForm;
+
+/// What a program's file has, by whether a line has `--hex`.
+pub fn form_said(hex: bool) -> ProgramForm {
+    if hex {
+        ProgramForm::Hex
+    } else {
+        ProgramForm::Elf
+    }
+}
 
 /// The inputs of a line; where they are invalid, that is reported.
 pub fn inputs_said<R: AllocGlobal + Print + Eprint>(rt: &R, text: &str) -> Result<Vec<u32>, Status>

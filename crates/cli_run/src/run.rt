@@ -1,24 +1,24 @@
 //! Runs `run`.
 
-ghost use Rattle.std.specs.Prelude.{◌-◌, ◌^◌, ◌<◌};
-
-use byte_io::{MemorySource, Source, Status, WriterSink};
-use cli_args::{ChoiceText, RunOrder};
+use byte_io::{Status, WriterSink};
+use cli_args::RunOrder;
 use cli_report::{
-    Audience, EndsTold, RunFiles, choices_again, explain_ends, inputs_said, open_both, open_one,
+    Audience, EndsTold, RunChoices, RunFiles, explain_ends, form_said, inputs_said, open_run,
     read_again, rule_said, say_why,
 };
 use cmd_run::{Exit, Expect, run_engine};
-use program_open::{ProgramForm, deliver};
+use program_open::deliver;
 use std::io;
 use std::rt::Files;
 
-/// Runs a program under a schedule. The program, and the file of the choices if there is one, are
-/// opened before either is read. The error is the status of what was refused, which is reported.
+/// Runs a program under choices, those of its order. The program, and the file of the choices if
+/// there is one, are opened before either is read. The error is the status of what was refused,
+/// which is reported.
 pub fn obey_run<R: Files + AllocGlobal + Print + Eprint>(
     rt: &R,
     audience: Audience,
     order: &RunOrder,
+    choices: RunChoices<'_>,
 ) -> Result<Status, Status> {
     let inputs = inputs_said(rt, order.inputs)?;
     let rule = rule_said(rt, order.rule)?;
@@ -26,54 +26,13 @@ pub fn obey_run<R: Files + AllocGlobal + Print + Eprint>(
         rule,
         exit: exit_of(order),
     };
-    match order.choices {
-        ChoiceText::File(path) => {
-            let (mut program, mut choices) = open_both(rt, audience, order.file, path)?;
-            run_opened(
-                rt,
-                audience,
-                order,
-                &inputs,
-                expect,
-                &mut program,
-                &mut choices,
-            )
-        }
-        ChoiceText::List(text) => {
-            let mut program = open_one(rt, audience, order.file)?;
-            let mut choices = MemorySource::new(text.as_bytes());
-            run_opened(
-                rt,
-                audience,
-                order,
-                &inputs,
-                expect,
-                &mut program,
-                &mut choices,
-            )
-        }
-    }
-}
-
-// Runs a program under choices, both of which are open.
-fn run_opened<R: Files + AllocGlobal + Print + Eprint, P: Source, C: Source>(
-    rt: &R,
-    audience: Audience,
-    order: &RunOrder,
-    inputs: &[u32],
-    expect: Expect,
-    program: &mut P,
-    choices: &mut C,
-) -> Result<Status, Status>
-    requires program_counts { P.failures program.old < 2 ^ 64 - 1 }
-    requires choices_count { C.failures choices.old < 2 ^ 64 - 1 }
-{
-    let form = form_of(order);
-    let answer = run_engine(rt.alloc(), form, inputs, expect, program, choices);
+    let form = form_said(order.hex);
+    let (mut program, mut source) = open_run(rt, audience, order.file, choices)?;
+    let answer = run_engine(rt.alloc(), form, &inputs, expect, &mut program, &mut source);
     match deliver(&mut WriterSink::new(io::writer(rt)), answer) {
         Ok(status) => {
             if status == Status::Faulted && audience.is_told() {
-                let _ = explain_faults(rt, order, inputs);
+                let _ = explain_faults(rt, order, &inputs, choices);
             }
             Ok(status)
         }
@@ -81,19 +40,11 @@ fn run_opened<R: Files + AllocGlobal + Print + Eprint, P: Source, C: Source>(
             let files = RunFiles {
                 program: order.file,
                 form,
-                choices: order.choices,
+                choices,
                 harts: inputs.len(),
             };
             Err(say_why(rt, audience, files, fault))
         }
-    }
-}
-
-fn form_of(order: &RunOrder) -> ProgramForm {
-    if order.hex {
-        ProgramForm::Hex
-    } else {
-        ProgramForm::Elf
     }
 }
 
@@ -111,13 +62,14 @@ fn explain_faults<R: Files + AllocGlobal + Eprint>(
     rt: &R,
     order: &RunOrder,
     inputs: &[u32],
+    choices: RunChoices<'_>,
 ) -> Option<()> {
     let program = read_again(rt, order.file)?;
-    let choices = choices_again(rt, order.choices)?;
+    let choices = choices.again(rt)?;
     let told = if order.must_exit {
         EndsTold::FaultsAndRunning
     } else {
         EndsTold::Faults
     };
-    explain_ends(rt, form_of(order), &program, inputs, &choices, told)
+    explain_ends(rt, form_said(order.hex), &program, inputs, &choices, told)
 }

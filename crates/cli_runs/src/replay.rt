@@ -2,10 +2,9 @@
 
 use crate::history_hint::history_advice;
 use byte_io::{Status, WriterSink};
-use cli_args::ChoiceText;
 use cli_orders::ReplayOrder;
 use cli_report::{
-    Audience, RunFiles, inputs_said, open_both, read_again, rule_said, say_why, show,
+    Audience, RunChoices, RunFiles, inputs_said, open_both, read_again, rule_said, say_why, show,
 };
 use cmd_replay::replay_engine;
 use program_open::{ProgramForm, deliver};
@@ -32,7 +31,7 @@ pub fn obey_replay<R: Files + AllocGlobal + Print + Eprint>(
     let files = RunFiles {
         program: order.file,
         form: ProgramForm::Elf,
-        choices: ChoiceText::File(order.history),
+        choices: RunChoices::File(order.history),
         harts: inputs.len(),
     };
     match deliver(&mut WriterSink::new(io::writer(rt)), answer) {

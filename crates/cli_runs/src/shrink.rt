@@ -1,12 +1,9 @@
 //! Runs `shrink`.
 
-ghost use Rattle.std.specs.Prelude.{◌-◌, ◌^◌, ◌<◌};
-
-use byte_io::{MemorySource, Source, Status, WriterSink};
-use cli_args::ChoiceText;
+use byte_io::{Status, WriterSink};
 use cli_orders::ShrinkOrder;
 use cli_report::{
-    Audience, RunFiles, WIPE, inputs_said, open_both, open_one, rule_said, say_why, show,
+    Audience, RunChoices, RunFiles, WIPE, inputs_said, open_run, rule_said, say_why, show,
 };
 use cmd_shrink::{ChoicesLeft, shrink_engine};
 use outcome::{Exit, Expect};
@@ -44,6 +41,7 @@ pub fn obey_shrink<R: Files + AllocGlobal + Print + Eprint>(
     rt: &R,
     audience: Audience,
     order: &ShrinkOrder,
+    choices: RunChoices<'_>,
 ) -> Result<Status, Status> {
     let exit = if order.must_exit {
         Exit::Must
@@ -53,53 +51,25 @@ pub fn obey_shrink<R: Files + AllocGlobal + Print + Eprint>(
     let inputs = inputs_said(rt, order.inputs)?;
     let rule = rule_said(rt, order.rule)?;
     let expect = Expect { rule, exit };
-    match order.choices {
-        ChoiceText::File(path) => {
-            let (mut program, mut choices) = open_both(rt, audience, order.file, path)?;
-            shrink_opened(
-                rt,
-                audience,
-                order,
-                &inputs,
-                expect,
-                &mut program,
-                &mut choices,
-            )
-        }
-        ChoiceText::List(text) => {
-            let mut program = open_one(rt, audience, order.file)?;
-            let mut choices = MemorySource::new(text.as_bytes());
-            shrink_opened(
-                rt,
-                audience,
-                order,
-                &inputs,
-                expect,
-                &mut program,
-                &mut choices,
-            )
-        }
-    }
-}
-
-// Prints a minimal choice text for a program and choices that are open.
-fn shrink_opened<R: Files + AllocGlobal + Print + Eprint, P: Source, C: Source>(
-    rt: &R,
-    audience: Audience,
-    order: &ShrinkOrder,
-    inputs: &[u32],
-    expect: Expect,
-    program: &mut P,
-    choices: &mut C,
-) -> Result<Status, Status>
-    requires program_counts { P.failures program.old < 2 ^ 64 - 1 }
-    requires choices_count { C.failures choices.old < 2 ^ 64 - 1 }
-{
+    let (mut program, mut source) = open_run(rt, audience, order.file, choices)?;
     let mut line = Line { rt, audience };
-    let answer = shrink_engine(rt.alloc(), inputs, expect, program, choices, &mut line);
+    let answer = shrink_engine(
+        rt.alloc(),
+        &inputs,
+        expect,
+        &mut program,
+        &mut source,
+        &mut line,
+    );
+    let files = RunFiles {
+        program: order.file,
+        form: ProgramForm::Elf,
+        choices,
+        harts: inputs.len(),
+    };
     match deliver(&mut WriterSink::new(io::writer(rt)), answer) {
         Ok(status) => Ok(status),
-        Err(fault) => Err(tell(rt, audience, order, inputs.len(), fault)),
+        Err(fault) => Err(tell(rt, audience, order, files, fault)),
     }
 }
 
@@ -117,15 +87,9 @@ fn tell<R: Files + AllocGlobal + Eprint>(
     rt: &R,
     audience: Audience,
     order: &ShrinkOrder,
-    harts: usize,
+    files: RunFiles<'_>,
     fault: CommandFault,
 ) -> Status {
-    let files = RunFiles {
-        program: order.file,
-        form: ProgramForm::Elf,
-        choices: order.choices,
-        harts,
-    };
     let status = say_why(rt, audience, files, fault);
     if fault == CommandFault::NothingFails && audience.is_told() {
         show(rt, what_would_fail(order.must_exit));

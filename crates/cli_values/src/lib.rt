@@ -1,15 +1,12 @@
-//! Parses the texts of an order to what the engines take: schedules, campaigns,
-//! explorations, traces.
+//! Parses the texts of an order to what the engines take: schedules, campaigns, explorations.
 #![tactic(auto)]
 
 pub use campaign::{SeedNumbers, read_report, read_seed_numbers};
 pub use draw::{DRAWS, DrawFault, OrderFault, REFUSALS, read_draw, read_order, read_refusals};
 pub use explore::{WORLDS, read_worlds};
 pub use schedule::{read_schedule, read_seed_plan};
-pub use trace::read_trace_plan;
 
 mod campaign;
 mod draw;
 mod explore;
 mod schedule;
-mod trace;

@@ -33,6 +33,12 @@ pub(crate) const COMMANDS: [Row; 13] = [
             "--inputs",
             "--choices",
             "--list",
+            "--seed",
+            "--turns",
+            "--history",
+            "--steps",
+            "--schedule",
+            "--refusals",
             "--rule",
             "--must-exit",
         ],
@@ -40,7 +46,17 @@ pub(crate) const COMMANDS: [Row; 13] = [
     },
     Row {
         name: "debug",
-        options: &["--inputs", "--choices", "--list"],
+        options: &[
+            "--inputs",
+            "--choices",
+            "--list",
+            "--seed",
+            "--turns",
+            "--history",
+            "--steps",
+            "--schedule",
+            "--refusals",
+        ],
         example: "rvcons debug prog.elf --inputs 7,9 --choices turns.choices",
     },
     Row {
@@ -103,8 +119,20 @@ pub(crate) const COMMANDS: [Row; 13] = [
     },
     Row {
         name: "shrink",
-        options: &["--inputs", "--choices", "--list", "--rule", "--must-exit"],
-        example: "rvcons shrink prog.elf --inputs 7,9 --choices seed_5.choices >few.choices",
+        options: &[
+            "--inputs",
+            "--choices",
+            "--list",
+            "--seed",
+            "--turns",
+            "--history",
+            "--steps",
+            "--schedule",
+            "--refusals",
+            "--rule",
+            "--must-exit",
+        ],
+        example: "rvcons shrink prog.elf --inputs 7,9 --seed 5 --steps 300 >few.choices",
     },
     Row {
         name: "trace",
@@ -113,6 +141,12 @@ pub(crate) const COMMANDS: [Row; 13] = [
             "--inputs",
             "--choices",
             "--list",
+            "--seed",
+            "--turns",
+            "--history",
+            "--steps",
+            "--schedule",
+            "--refusals",
             "--from",
             "--to",
             "--table",
@@ -125,11 +159,11 @@ pub(crate) const COMMANDS: [Row; 13] = [
 pub(crate) const OTHER_OPTIONS: [(&[&str], &str); 14] = [
     (
         &["--seed", "--seeds", "--random"],
-        "a seed's schedule is made by rvcons schedule --harts N --steps M --seed S >FILE and run by --choices FILE; campaign takes seeds by --first and --count",
+        "run, trace, shrink and debug take a seed's choices by --seed S --steps M; campaign takes seeds by --first and --count",
     ),
     (
         &["--schedule", "--choice", "--order", "--interleaving"],
-        "the schedule is choices: write --list '0*3 1*2', or --choices FILE, which rvcons schedule makes",
+        "the schedule is choices: write --list '0*3 1*2', --choices FILE, --turns M, or --seed S --steps M",
     ),
     (
         &["--input", "--args", "--arg", "-i"],
@@ -141,11 +175,11 @@ pub(crate) const OTHER_OPTIONS: [(&[&str], &str); 14] = [
     ),
     (
         &["--steps", "--max-steps", "--limit"],
-        "a run takes as many steps as its choices: rvcons schedule --harts N --steps M --turns >FILE, and --choices FILE",
+        "a run takes as many steps as its choices: write --turns M, or --seed S --steps M",
     ),
     (
         &["--turns", "--only"],
-        "rvcons schedule makes such choices: rvcons schedule --harts 2 --steps 100 --turns >FILE, and --choices FILE",
+        "rvcons schedule makes such choices: rvcons schedule --harts 2 --steps 100 --only 1 >FILE, and --choices FILE",
     ),
     (
         &["--output", "-o"],
@@ -177,7 +211,7 @@ pub(crate) const OTHER_OPTIONS: [(&[&str], &str); 14] = [
     ),
     (
         &["--first", "--count"],
-        "seeds are of campaign alone; one seed's schedule is made by rvcons schedule --seed S",
+        "only campaign runs many seeds; run takes one by --seed S --steps M",
     ),
 ];
 

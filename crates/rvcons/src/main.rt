@@ -1,14 +1,14 @@
 //! The whole program.
 #![tactic(auto)]
 
+use crate::chosen::{debug_chosen, run_chosen, shrink_chosen, trace_chosen};
 use byte_io::Status;
 use cli_campaign::{obey_campaign, obey_explore};
-use cli_debug::obey_debug;
+use cli_choices::obey_schedule;
 use cli_files::{obey_asm, obey_file, obey_lib};
 use cli_orders::{Order, read_line};
 use cli_report::{Audience, explain_line, out_of_memory, read_arguments, refuse};
-use cli_run::obey_run;
-use cli_runs::{obey_replay, obey_schedule, obey_shrink, obey_threads, obey_trace};
+use cli_runs::{obey_replay, obey_threads};
 use cmd_run::FileView;
 use object_library::KIND_NAMES;
 use std::io::{Input, IsTerminal};
@@ -16,6 +16,8 @@ use std::process::ExitCode;
 use std::rt::{Env, Files};
 use std::sync::Wait;
 use std::thread::Threads;
+
+mod chosen;
 
 fn main(rt: HostRuntime) -> ExitCode {
     let audience = if rt.stderr().is_terminal() {
@@ -52,18 +54,18 @@ fn obey<R: Files + AllocGlobal + Print + Eprint + Env + Threads + Wait + Sync + 
     let audience = seen_by.as_said(words.as_slice());
     match read_line(rt.alloc(), words.as_slice(), KIND_NAMES) {
         Ok(Order::Asm(order)) => Ok(obey_asm(rt, audience, &order)),
-        Ok(Order::Debug(order)) => obey_debug(rt, audience, talk, &order),
+        Ok(Order::Debug(order)) => debug_chosen(rt, audience, talk, &order),
         Ok(Order::Lib(order)) => Ok(obey_lib(rt, &order)),
         Ok(Order::List(order)) => Ok(obey_file(rt, audience, FileView::Listing, &order)),
         Ok(Order::Info(order)) => Ok(obey_file(rt, audience, FileView::Facts, &order)),
-        Ok(Order::Run(order)) => obey_run(rt, audience, &order),
+        Ok(Order::Run(order)) => run_chosen(rt, audience, &order),
         Ok(Order::Threads(order)) => obey_threads(rt, audience, &order),
         Ok(Order::Replay(order)) => obey_replay(rt, audience, &order),
         Ok(Order::Campaign(order)) => obey_campaign(rt, audience, &order),
         Ok(Order::Explore(order)) => obey_explore(rt, audience, &order),
         Ok(Order::Schedule(order)) => obey_schedule(rt, audience, &order),
-        Ok(Order::Shrink(order)) => obey_shrink(rt, audience, &order),
-        Ok(Order::Trace(order)) => obey_trace(rt, audience, &order),
+        Ok(Order::Shrink(order)) => shrink_chosen(rt, audience, &order),
+        Ok(Order::Trace(order)) => trace_chosen(rt, audience, &order),
         Err(fault) => {
             let status = refuse(rt, &fault);
             explain_line(rt, audience, words.as_slice(), &fault);

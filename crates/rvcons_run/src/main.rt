@@ -3,11 +3,14 @@
 #![tactic(auto)]
 
 use byte_io::Status;
-use cli_args::read_run;
-use cli_report::{Audience, bad_line, explain_line, out_of_memory, read_arguments, refuse};
+use cli_args::{ChoiceText, RunOrder, read_run};
+use cli_report::{
+    Audience, RunChoices, bad_line, explain_line, out_of_memory, read_arguments, read_input_to_end,
+    refuse,
+};
 use cli_run::obey_run;
 use object_library::KIND_NAMES;
-use std::io::IsTerminal;
+use std::io::{Input, IsTerminal};
 use std::process::ExitCode;
 use std::rt::{Env, Files};
 
@@ -23,7 +26,7 @@ fn main(rt: HostRuntime) -> ExitCode {
 }
 
 // Runs the `run` of the command line. A person sees explanations of faults.
-fn obey<R: Files + AllocGlobal + Print + Eprint + Env>(
+fn obey<R: Files + AllocGlobal + Print + Eprint + Env + Input>(
     rt: &R,
     seen_by: Audience,
 ) -> Result<Status, Status> {
@@ -37,7 +40,7 @@ fn obey<R: Files + AllocGlobal + Print + Eprint + Env>(
     };
     let audience = seen_by.as_said(words.as_slice());
     match read_run(rt.alloc(), words.as_slice(), KIND_NAMES) {
-        Ok(Some(order)) => obey_run(rt, audience, &order),
+        Ok(Some(order)) => run(rt, audience, &order),
         Ok(None) => Err(bad_line(
             rt,
             "this is the program of run alone: the other commands are those of the whole program",
@@ -48,4 +51,23 @@ fn obey<R: Files + AllocGlobal + Print + Eprint + Env>(
             Err(status)
         }
     }
+}
+
+// Runs a program under choices of a file, of the line or of standard input.
+fn run<R: Files + AllocGlobal + Print + Eprint + Input>(
+    rt: &R,
+    audience: Audience,
+    order: &RunOrder,
+) -> Result<Status, Status> {
+    let held = match order.choices {
+        ChoiceText::File(_) | ChoiceText::List(_) => Vec::new(rt.alloc()),
+        ChoiceText::Input => read_input_to_end(rt)?,
+        ChoiceText::Seed(_) | ChoiceText::Turns(_) | ChoiceText::History(_) => {
+            return Err(bad_line(
+                rt,
+                "this is the program of run alone: the whole program makes choices of seeds, turns and histories",
+            ));
+        }
+    };
+    obey_run(rt, audience, order, RunChoices::of(order.choices, &held))
 }

@@ -47,7 +47,7 @@ fn inputs_are_read(rt: HostRuntime) {
 
 // Lines, and what is read of each: its command and the texts of its arguments, by their names.
 #[rattlefmt::skip]
-const LINES: [(&str, &str); 61] = [
+const LINES: [(&str, &str); 68] = [
     ("rvcons asm a.s", "asm IN=a.s"),
     ("rvcons asm --out o a.s b.s", "asm out=o IN=a.s IN=b.s"),
     ("rvcons asm b.s a.s --out=o", "asm out=o IN=b.s IN=a.s"),
@@ -66,6 +66,14 @@ const LINES: [(&str, &str); 61] = [
     ("rvcons run p --must-exit --inputs 7,9 --rule k --choices c --hex",
         "run hex=yes FILE=p inputs=7,9 choices=c rule=k must-exit=yes"),
     ("rvcons run p --inputs 7,9 --list 0*3", "run FILE=p inputs=7,9 list=0*3"),
+    ("rvcons run p --inputs 7,9 --choices -", "run FILE=p inputs=7,9 choices=-"),
+    ("rvcons run p --inputs 7,9 --seed 5 --steps 3", "run FILE=p inputs=7,9 seed=5 steps=3"),
+    ("rvcons run --refusals r --schedule d --steps 3 --seed 5 p --inputs 7,9",
+        "run FILE=p inputs=7,9 seed=5 steps=3 schedule=d refusals=r"),
+    ("rvcons run p --inputs 7,9 --turns 3", "run FILE=p inputs=7,9 turns=3"),
+    ("rvcons shrink p --inputs 7,9 --history h", "shrink FILE=p inputs=7,9 history=h"),
+    ("rvcons trace p --inputs 7,9 --seed 5 --steps 3", "trace FILE=p inputs=7,9 seed=5 steps=3"),
+    ("rvcons debug p --inputs 7,9 --turns 3", "debug FILE=p inputs=7,9 turns=3"),
     ("rvcons debug p --inputs 7,9 --choices c", "debug FILE=p inputs=7,9 choices=c"),
     ("rvcons debug p --inputs 7,9 --list=0", "debug FILE=p inputs=7,9 list=0"),
     ("rvcons threads p --inputs 7,9 --budget 5", "threads FILE=p inputs=7,9 budget=5"),
@@ -296,7 +304,7 @@ enum Refusal {
 }
 
 // Lines that give no order, and how they are rejected.
-const REFUSED: [(&str, Refusal); 43] = [
+const REFUSED: [(&str, Refusal); 48] = [
     ("rvcons foo", Refusal::Fault),
     ("rvcons asm", Refusal::Fault),
     ("rvcons list", Refusal::Fault),
@@ -336,6 +344,17 @@ const REFUSED: [(&str, Refusal); 43] = [
     ),
     (
         "rvcons campaign p --inputs 7 --first 1 --count 2",
+        Refusal::Fault,
+    ),
+    ("rvcons run p --inputs 7 --seed 5", Refusal::Fault),
+    ("rvcons run p --inputs 7 --steps 5", Refusal::Fault),
+    (
+        "rvcons run p --inputs 7 --turns 5 --schedule d",
+        Refusal::Fault,
+    ),
+    ("rvcons run p --inputs 7 --turns 5 --list 0", Refusal::Fault),
+    (
+        "rvcons run p --inputs 7 --choices c --seed 5 --steps 3",
         Refusal::Fault,
     ),
     ("rvcons explore --inputs 7", Refusal::Fault),

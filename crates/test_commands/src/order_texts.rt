@@ -1,6 +1,6 @@
 //! What is read of a command line, as a text: its command, and the texts of its arguments by their
 //! names.
-use cli_args::{ChoiceText, RunOrder};
+use cli_args::{ChoiceText, RunOrder, SeedText};
 use cli_orders::{
     AsmOrder, CampaignOrder, DebugOrder, ExploreOrder, FileOrder, LibOrder, Locks, Order,
     ReplayOrder, ScheduleOrder, ShrinkOrder, ThreadsOrder, TraceOrder,
@@ -10,37 +10,50 @@ use std::alloc::{AllocError, Global};
 // The arguments of an order: their names and texts; `None` for one that isn't given.
 type Fields<'a> = &'a [(&'a str, Option<&'a str>)];
 
-// The path of the choices, if they are in a file.
-fn path_of<'a>(choices: ChoiceText<'a>) -> Option<&'a str> {
-    match choices {
-        ChoiceText::File(path) => Some(path),
-        ChoiceText::List(_) => None,
-    }
-}
-
-// The choices, if they are on the line.
-fn list_of<'a>(choices: ChoiceText<'a>) -> Option<&'a str> {
-    match choices {
-        ChoiceText::File(_) => None,
-        ChoiceText::List(text) => Some(text),
-    }
-}
-
 // The text of a flag.
 fn flag(is_set: bool) -> Option<&'static str> {
     if is_set { Some("yes") } else { None }
+}
+
+// Appends arguments.
+fn push_fields(text: &mut String, fields: Fields<'_>) -> Result<(), AllocError> {
+    for (name, value) in fields {
+        if let Some(value) = value {
+            write!(text, " {name}={value}")?;
+        }
+    }
+    Ok(())
 }
 
 // The text of a command with these arguments.
 fn text_with(alloc: Global, command: &str, fields: Fields<'_>) -> Result<String, AllocError> {
     let mut text = String::new(alloc);
     text.push_str(command)?;
-    for (name, value) in fields {
-        if let Some(value) = value {
-            write!(text, " {name}={value}")?;
-        }
-    }
+    push_fields(&mut text, fields)?;
     Ok(text)
+}
+
+// Appends the arguments that name the choices.
+fn push_choices(text: &mut String, choices: ChoiceText<'_>) -> Result<(), AllocError> {
+    match choices {
+        ChoiceText::File(path) => push_fields(text, &[("choices", Some(path))]),
+        ChoiceText::Input => push_fields(text, &[("choices", Some("-"))]),
+        ChoiceText::List(list) => push_fields(text, &[("list", Some(list))]),
+        ChoiceText::Turns(steps) => push_fields(text, &[("turns", Some(steps))]),
+        ChoiceText::History(path) => push_fields(text, &[("history", Some(path))]),
+        ChoiceText::Seed(said) => push_seed(text, said),
+    }
+}
+
+// Appends the arguments of a seed's choices.
+fn push_seed(text: &mut String, said: SeedText<'_>) -> Result<(), AllocError> {
+    let fields = &[
+        ("seed", Some(said.seed)),
+        ("steps", Some(said.steps)),
+        ("schedule", said.draw),
+        ("refusals", said.refusals),
+    ];
+    push_fields(text, fields)
 }
 
 /// The text of an order.
@@ -79,22 +92,19 @@ fn run_text(alloc: Global, order: &RunOrder) -> Result<String, AllocError> {
         ("hex", flag(order.hex)),
         ("FILE", Some(order.file)),
         ("inputs", Some(order.inputs)),
-        ("choices", path_of(order.choices)),
-        ("list", list_of(order.choices)),
-        ("rule", order.rule),
-        ("must-exit", flag(order.must_exit)),
     ];
-    text_with(alloc, "run", fields)
+    let mut text = text_with(alloc, "run", fields)?;
+    push_choices(&mut text, order.choices)?;
+    let fields = &[("rule", order.rule), ("must-exit", flag(order.must_exit))];
+    push_fields(&mut text, fields)?;
+    Ok(text)
 }
 
 fn debug_text(alloc: Global, order: &DebugOrder) -> Result<String, AllocError> {
-    let fields = &[
-        ("FILE", Some(order.file)),
-        ("inputs", Some(order.inputs)),
-        ("choices", path_of(order.choices)),
-        ("list", list_of(order.choices)),
-    ];
-    text_with(alloc, "debug", fields)
+    let fields = &[("FILE", Some(order.file)), ("inputs", Some(order.inputs))];
+    let mut text = text_with(alloc, "debug", fields)?;
+    push_choices(&mut text, order.choices)?;
+    Ok(text)
 }
 
 fn threads_text(alloc: Global, order: &ThreadsOrder) -> Result<String, AllocError> {
@@ -169,15 +179,12 @@ fn schedule_text(alloc: Global, order: &ScheduleOrder) -> Result<String, AllocEr
 }
 
 fn shrink_text(alloc: Global, order: &ShrinkOrder) -> Result<String, AllocError> {
-    let fields = &[
-        ("FILE", Some(order.file)),
-        ("inputs", Some(order.inputs)),
-        ("choices", path_of(order.choices)),
-        ("list", list_of(order.choices)),
-        ("rule", order.rule),
-        ("must-exit", flag(order.must_exit)),
-    ];
-    text_with(alloc, "shrink", fields)
+    let fields = &[("FILE", Some(order.file)), ("inputs", Some(order.inputs))];
+    let mut text = text_with(alloc, "shrink", fields)?;
+    push_choices(&mut text, order.choices)?;
+    let fields = &[("rule", order.rule), ("must-exit", flag(order.must_exit))];
+    push_fields(&mut text, fields)?;
+    Ok(text)
 }
 
 fn trace_text(alloc: Global, order: &TraceOrder) -> Result<String, AllocError> {
@@ -185,11 +192,14 @@ fn trace_text(alloc: Global, order: &TraceOrder) -> Result<String, AllocError> {
         ("hex", flag(order.hex)),
         ("FILE", Some(order.file)),
         ("inputs", Some(order.inputs)),
-        ("choices", path_of(order.choices)),
-        ("list", list_of(order.choices)),
+    ];
+    let mut text = text_with(alloc, "trace", fields)?;
+    push_choices(&mut text, order.choices)?;
+    let fields = &[
         ("from", order.from),
         ("to", order.to),
         ("table", flag(order.table)),
     ];
-    text_with(alloc, "trace", fields)
+    push_fields(&mut text, fields)?;
+    Ok(text)
 }

@@ -1,14 +1,10 @@
 -- Plans of traces.
-use Rattle.std.specs.Prelude.{ℕ, ◌^◌, ◌==◌, Bool, true, false, List, Option, Some, None, if◌then◌else◌, option_and_then, option_map}
+use Rattle.std.specs.Prelude.{ℕ, ◌^◌, Bool, true, false, List, Option, Some, None, option_and_then, option_map}
 use Rattle.std.specs.Borrow.{Bor}
-use Rattle.cli_args.specs.Numbers.{number_below}
+use Rattle.cli_args.specs.Numbers.{if_nonzero, number_below}
 use Rattle.cmd_trace.specs.declared.plan.TraceForm.{TraceForm}
 use Rattle.cmd_trace.specs.declared.plan.TraceForm.TheVariants as form
 use Rattle.cmd_trace.specs.declared.plan.TracePlan.{TracePlan}
-
--- a choice's number, which is not 0
-abbrev pub if_nonzero : ℕ → Option ℕ
-if_nonzero place = if place == 0 then None else Some place
 
 -- the number in a text: 1 to 2 ^ 64 - 1
 abbrev pub choice_number_of : List ℕ → Option ℕ

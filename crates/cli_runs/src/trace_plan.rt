@@ -1,7 +1,7 @@
 //! Parses the plan of a trace.
 
 ghost use Rattle.std.specs.Prelude.{◌≡◌};
-ghost use Rattle.cli_values.specs.TracePlans.{choice_number_of, first_choice_of, form_of, last_choice_of, trace_plan_of};
+ghost use Rattle.cli_runs.specs.TracePlans.{choice_number_of, first_choice_of, form_of, last_choice_of, trace_plan_of};
 
 use cli_args::read_number;
 use cmd_trace::{TraceForm, TracePlan};
