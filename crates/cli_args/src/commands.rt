@@ -14,7 +14,7 @@ pub(crate) struct CommandRow {
     pub(crate) name: &'static str,
     /// What the command does.
     pub(crate) does: &'static str,
-    /// An example, the last line of the command's help.
+    /// What help ends with; its last line is an example.
     pub(crate) example: &'static str,
     /// The arguments, in the order in which help lists them.
     pub(crate) arguments: &'static [Argument],
@@ -114,7 +114,7 @@ pub(crate) const COMMANDS: [CommandRow; 13] = [
     CommandRow {
         name: "campaign",
         does: "Runs a program under random schedules and prints a line for each seed",
-        example: "Example: rvcons campaign swap.elf --inputs 7,9 --first 0 --count 1000 --steps 40 --rule swap",
+        example: "If a program has few worlds, rvcons explore decides for all schedules at once.\n\nExample: rvcons campaign swap.elf --inputs 7,9 --first 0 --count 1000 --steps 40 --rule swap",
         arguments: &[
             Argument::Needed("FILE", FILE),
             Argument::NeededOption("inputs", INPUTS),
@@ -133,7 +133,7 @@ pub(crate) const COMMANDS: [CommandRow; 13] = [
     CommandRow {
         name: "explore",
         does: "Decides for all schedules of a program at once whether one fails, and prints it",
-        example: "Example: rvcons explore swap.elf --inputs 7,9 --rule swap",
+        example: "If a program has too many worlds, rvcons campaign tries single schedules.\n\nExample: rvcons explore swap.elf --inputs 7,9 --rule swap",
         arguments: &[
             Argument::Needed("FILE", FILE),
             Argument::NeededOption("inputs", INPUTS),
