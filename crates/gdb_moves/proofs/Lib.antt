@@ -1,4 +1,5 @@
 pub mod LawLemmas
+pub mod FoundLemmas
 pub mod PlaceLemmas
 pub mod SeenLemmas
 pub mod StepLemmas

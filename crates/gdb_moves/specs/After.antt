@@ -29,6 +29,13 @@ same_way one other = false
 abbrev pub begin_of : Way → Alone → ℕ → ℕ
 begin_of way a position = if same_way way a.way then a.begin else position
 
+-- the steps alone that go on a way at a position: those that are kept if they went that way, else
+-- none yet
+abbrev pub alone_from : Way → Option Alone → ℕ → Alone
+alone_from way None position = record { way = way; begin = position; own = [] }
+alone_from way (Some a) position =
+    if same_way way a.way then a else record { way = way; begin = position; own = [] }
+
 -- the choices that it passes
 abbrev pub passed_of : Way → Alone → List ℕ
 passed_of way a = if same_way way a.way then a.own else []

@@ -3,5 +3,5 @@ pub mod Touches
 pub mod Sights
 pub mod Reasons
 pub mod Moves
-pub mod Steps
 pub mod After
+pub mod Steps

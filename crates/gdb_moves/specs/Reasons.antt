@@ -5,7 +5,7 @@ use Rattle.debug_session.specs.Wishes.{Wish}
 use Rattle.gdb_moves.specs.Points.{Marked}
 use Rattle.gdb_moves.specs.Sights.{seen_at}
 use Rattle.gdb_moves.specs.declared.goal.Goal.{Goal}
-use Rattle.gdb_moves.specs.declared.goal.Goal.TheVariants.{Ahead, Step, Next, Back, StepBack}
+use Rattle.gdb_moves.specs.declared.goal.Goal.TheVariants.{Ahead, Step, Any, Next, Back, StepBack}
 use Rattle.gdb_moves.specs.declared.seen.Seen.{Seen}
 use Rattle.gdb_moves.specs.declared.stop.AddressRange.{AddressRange}
 use Rattle.gdb_moves.specs.declared.stop.StopReason.{StopReason}
@@ -36,6 +36,11 @@ abbrev pub step_reason : AddressRange → Option ℕ → Option StopReason
 step_reason range None = Some Done
 step_reason range (Some pc) = if range_has range pc then None else Some Ready
 
+-- the reason to stop behind any hart's step which leads to this address, or ends the hart
+abbrev pub done_reason : AddressRange → Option ℕ → Option StopReason
+done_reason range None = Some Done
+done_reason range (Some pc) = if range_has range pc then None else Some Done
+
 -- whether a choice of hart h is a step of the wanted one
 abbrev pub steps : ℕ → ℕ → Seen → Bool
 steps own h s = own == h && s.ran
@@ -45,6 +50,8 @@ abbrev pub reason_for : Goal → ℕ → Seen → Option StopReason
 reason_for Ahead h s = ahead s
 reason_for (Step own range) h s =
     option_or (ahead s) (if steps own h s then step_reason range s.next else None)
+reason_for (Any range) h s =
+    option_or (ahead s) (if s.ran then done_reason range s.next else None)
 reason_for (Next own) h s = if own == h then Some Ready else ahead s
 reason_for Back h s = behind s
 reason_for (StepBack own) h s =

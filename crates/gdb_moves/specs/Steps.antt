@@ -1,6 +1,8 @@
 -- Where a step of a thread ends.
-use Rattle.std.specs.Prelude.{ℕ, Bool, true, false, if◌then◌else◌, Option, Some, None, option_map}
-use Rattle.debug_session.specs.Session.{Session, Found, first_of, next_of}
+use Rattle.std.specs.Prelude.{ℕ, ◌-◌, min, Bool, true, false, if◌then◌else◌, List, Option, Some, None, option_map}
+use Rattle.debug_session.specs.Session.{Session, Found, first_found, length_of, next_of, reason_at}
+use Rattle.debug_session.specs.Wishes.{Wish}
+use Rattle.gdb_moves.specs.After.{reason_unless}
 use Rattle.gdb_moves.specs.Points.{Marked}
 use Rattle.gdb_moves.specs.Reasons.{wanted_stop}
 use Rattle.gdb_moves.specs.declared.goal.Goal.TheVariants.{Step, Next}
@@ -24,23 +26,32 @@ abbrev pub or_done : ℕ → Option ThreadStop → Option ThreadStop
 or_done hart None = Some (step_done hart)
 or_done hart (Some stop) = Some stop
 
--- what comes behind position k: a thread's next choice, or a hit or fault before it, or the end
-abbrev pub next_choice : Marked → ℕ → Session → ℕ → Found ThreadStop
-next_choice m hart s k =
-    let found = first_of (wanted_stop m All (Next hart)) s k in
+-- the result of a search forwards, from the choice `from` on, that passes choices; behind the last
+-- choice there is none
+unfoldable pub first_unless : {R : Type 0} → List ℕ → Wish R → Session → ℕ → Found R
+first_unless passed wish s from =
+    first_found (reason_unless passed (reason_at wish s)) (min from (length_of s))
+    (length_of s - from)
+
+-- what comes behind position k: a thread's next choice, or a hit or fault before it, or the end;
+-- choices that are passed don't count
+abbrev pub next_choice : Marked → ℕ → List ℕ → Session → ℕ → Found ThreadStop
+next_choice m hart passed s k =
+    let found = first_unless passed (wanted_stop m All (Next hart)) s k in
     (found.0, or_done hart found.1)
 
 -- where a step goes on to from position k, behind the choice of a stop
-abbrev pub then_next : Marked → ℕ → Session → ℕ → Option ThreadStop → Found ThreadStop
-then_next m hart s k None = (k, None)
-then_next m hart s k (Some stop) =
-    if is_ready stop.reason then next_choice m hart s k else (k, Some stop)
+abbrev pub then_next : Marked → ℕ → List ℕ → Session → ℕ → Option ThreadStop → Found ThreadStop
+then_next m hart passed s k None = (k, None)
+then_next m hart passed s k (Some stop) =
+    if is_ready stop.reason then next_choice m hart passed s k else (k, Some stop)
 
--- the end of a step of a thread from a session's position: a position and the stop there, if any
-unfoldable pub step_found : Marked → ℕ → AddressRange → Session → Found ThreadStop
-step_found m hart range s =
-    let own = next_of (wanted_stop m All (Step hart range)) s in
-    then_next m hart s own.0 own.1
+-- the end of a step of a thread from the choice `from` on, which passes choices: a position and the
+-- stop there, if any
+unfoldable pub step_found : Marked → ℕ → AddressRange → List ℕ → ℕ → Session → Found ThreadStop
+step_found m hart range passed from s =
+    let own = first_unless passed (wanted_stop m All (Step hart range)) s from in
+    then_next m hart passed s own.0 own.1
 
 -- the stop of a thread that moves alone: its step is done, whatever comes next
 abbrev pub alone_stop : ThreadStop → ThreadStop

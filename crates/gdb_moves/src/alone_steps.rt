@@ -1,7 +1,7 @@
 //! What is kept of steps of a thread alone.
 ghost use Rattle.std.specs.Prelude.{◌≡◌, ◌++◌, ◌∷◌, [], OnOk, OnErr};
 ghost use Rattle.debug_session.specs.Stops.{has};
-ghost use Rattle.gdb_moves.specs.After.{alone_of, same_way, begin_of, passed_of, own_choice};
+ghost use Rattle.gdb_moves.specs.After.{alone_of, same_way, begin_of, passed_of, own_choice, with_own};
 
 use crate::stop::{StopReason, ThreadStop};
 use std::alloc::{AllocError, Allocator};
@@ -59,6 +59,24 @@ impl<A: Allocator + Copy> AloneSteps<A> {
     {
         self.own.push(choice)?;
         Ok(())
+    }
+
+    /// Adds the own choice of one more step, if it has one. Fails when out of memory.
+    pub fn add_if(&mut self, choice: Option<usize>) -> Result<(), AllocError>
+        ensures ok { OnOk result (alone_of self.new ≡ with_own (alone_of self.old) choice) }
+        ensures err { OnErr result (alone_of self.new ≡ alone_of self.old) }
+    {
+        match choice {
+            Some(choice) => self.add(choice),
+            None => Ok(()),
+        }
+    }
+
+    /// Whether these steps went this way.
+    pub fn goes(&self, way: Way) -> bool
+        ensures { result ≡ same_way way (alone_of self.now).way }
+    {
+        is_same(way, self.way)
     }
 
     /// Where a move of all threads this way begins that is made at a position: where these steps

@@ -1,7 +1,7 @@
 //! What a move looks for.
 ghost use Rattle.std.specs.Prelude.{◌≡◌};
 ghost use Rattle.std.specs.Option.{option_or};
-ghost use Rattle.gdb_moves.specs.Reasons.{ahead, step_reason, steps, reason_for, counted_stop};
+ghost use Rattle.gdb_moves.specs.Reasons.{ahead, step_reason, done_reason, steps, reason_for, counted_stop};
 
 use crate::seen::Seen;
 use crate::stop::{AddressRange, StopReason, ThreadStop, Whose, counts, is_in_range};
@@ -15,6 +15,11 @@ pub enum Goal {
     Step {
         /// The hart's number, from 0.
         hart: u32,
+        /// The range to leave; an empty one is left by any step.
+        range: AddressRange,
+    },
+    /// Forwards: the same, or any hart's step that leaves the range.
+    Any {
         /// The range to leave; an empty one is left by any step.
         range: AddressRange,
     },
@@ -60,6 +65,20 @@ fn stepped(range: AddressRange, next: Option<u32>) -> Option<StopReason>
     }
 }
 
+// The reason to stop behind any hart's step, if it leaves a range or ends the hart.
+fn done(range: AddressRange, next: Option<u32>) -> Option<StopReason>
+    ensures { result ≡ done_reason range next }
+{
+    let Some(pc) = next else {
+        return Some(StopReason::Done);
+    };
+    if is_in_range(range, pc) {
+        None
+    } else {
+        Some(StopReason::Done)
+    }
+}
+
 // Whether a choice of a hart is a step of the wanted one.
 fn steps(own: u32, hart: u32, seen: Seen) -> bool
     ensures { result ≡ steps own hart seen }
@@ -87,6 +106,14 @@ impl Goal {
             Goal::Step { hart: own, range } => {
                 let step = if steps(own, hart, seen) {
                     stepped(range, seen.next)
+                } else {
+                    None
+                };
+                either(ahead(seen), step)
+            }
+            Goal::Any { range } => {
+                let step = if seen.ran {
+                    done(range, seen.next)
                 } else {
                     None
                 };

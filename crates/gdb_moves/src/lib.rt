@@ -8,13 +8,12 @@ pub use laws::{
     step_back_alone_is_the_choice_below,
 };
 pub use moves::{backward, forward, step_back};
-pub use moves_after::{backward_after, forward_after, step_back_after};
-pub use noting::{step_alone_kept, step_back_kept};
+pub use moves_after::{backward_after, forward_after, step_any_after, step_back_after};
 pub use points::Points;
 pub use search::Search;
 pub use seen::Seen;
 pub use stop::{AddressRange, StopReason, ThreadStop, Whose};
-pub use thread_steps::{step, step_alone};
+pub use thread_steps::{step, step_after, step_alone};
 pub use watch::{Watch, WatchKind};
 
 mod alone_steps;
@@ -23,7 +22,6 @@ mod hits;
 mod laws;
 mod moves;
 mod moves_after;
-mod noting;
 mod passing;
 mod points;
 mod search;

@@ -1,6 +1,6 @@
 -- Moves of a session, and the stops that are told: GDB's manual, "Remote Serial Protocol",
 -- "Packets" and "Stop Reply Packets".
-use Rattle.std.specs.Prelude.{◌≡◌, ℕ, Bool, slice_get, Option, Some, None, if◌then◌else◌}
+use Rattle.std.specs.Prelude.{◌≡◌, ℕ, Bool, slice_get, Option, Some, None, if◌then◌else◌, []}
 use Rattle.hart_step.specs.Hart.{HartValue}
 use Rattle.machine.specs.World.{World}
 use Rattle.debug_session.specs.Searches.{IsLeastStop, IsGreatestStop}
@@ -60,7 +60,8 @@ EndsAt m (move.Ahead who) s k stop =
     (behind_ahead k stop) stop
 EndsAt m (move.Back who) s k stop =
     IsGreatestStop (reason_at (wanted_stop m who goal.Back) s) s.position (behind_back k stop) stop
-EndsAt m (move.Step hart range) s k stop = (behind_ahead k stop, stop) ≡ step_found m hart range s
+EndsAt m (move.Step hart range) s k stop =
+    (behind_ahead k stop, stop) ≡ step_found m hart range [] s.position s
 EndsAt m (move.StepAlone hart range) s k stop =
     (behind_ahead k stop, stop) ≡ step_alone_found m hart range s
 EndsAt m (move.StepBack hart who) s k stop =

@@ -5,8 +5,8 @@ use crate::moves_tests::{
 use crate::run::begin;
 use debug_session::Debugger;
 use gdb_moves::{
-    AloneSteps, Points, StopReason, ThreadStop, Way, backward_after, forward_after,
-    step_alone_kept, step_back_kept,
+    AddressRange, AloneSteps, Points, StopReason, ThreadStop, Way, Whose, backward_after,
+    forward_after, own_choice, step_alone, step_back,
 };
 use gdb_requests::Point;
 use hart_step::Cause;
@@ -147,17 +147,20 @@ static ROWS: [Row; 56] = [
         way: Way::Forwards, stop: None, to: 20 },
 ];
 
+// The range that any step leaves.
+const NO_RANGE: AddressRange = AddressRange { from: 0, to: 0 };
+
 // Makes one step of a hart alone.
 fn step_once(
     alloc: Global,
     debugger: &mut Debugger<Global>,
     points: &Points<Global>,
-    alone: &mut AloneSteps<Global>,
+    way: Way,
     hart: u32,
 ) -> Result<Option<ThreadStop>, AllocError> {
-    match alone.way {
-        Way::Forwards => step_alone_kept(alloc, debugger, points, alone, hart),
-        Way::Backwards => step_back_kept(alloc, debugger, points, alone, hart),
+    match way {
+        Way::Forwards => step_alone(alloc, debugger, points, hart, NO_RANGE),
+        Way::Backwards => step_back(alloc, debugger, points, Whose::One(hart), hart),
     }
 }
 
@@ -171,7 +174,9 @@ fn make_steps(
     debugger.goto(alloc, steps.from).ok()?;
     let mut alone = AloneSteps::new(alloc, steps.way, steps.from);
     for _ in 0..steps.count {
-        step_once(alloc, debugger, &none, &mut alone, steps.hart).ok()?;
+        let stop = step_once(alloc, debugger, &none, steps.way, steps.hart).ok()?;
+        let own = own_choice(steps.way, debugger.position(), stop);
+        alone.add_if(own).ok()?;
     }
     Some(alone)
 }
