@@ -29,8 +29,8 @@ fn word_len(line: &[u8]) -> usize
     line.iter().take_while(|byte| **byte != b' ').count()
 }
 
-// The first word of a line, empty if there is none, and the rest after it.
-fn next_word(line: &[u8]) -> (&[u8], &[u8])
+/// The first word of a line, empty if there is none, and the rest after it.
+pub fn next_word(line: &[u8]) -> (&[u8], &[u8])
     ensures word { result.0.now ≡ next_word line.now }
     ensures behind { result.1.now ≡ behind_word line.now }
 {

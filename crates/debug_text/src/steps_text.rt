@@ -33,15 +33,15 @@ impl fmt::Display for EventText {
     }
 }
 
-// `!` if a choice refuses.
-fn mark_text(refuse: bool) -> &'static str
+/// `!` if a choice refuses.
+pub fn mark_text(refuse: bool) -> &'static str
     ensures { result.now ≡ mark_text refuse }
 {
     if refuse { "!" } else { "" }
 }
 
-// Appends the line of a step.
-fn push_step<A: Allocator>(text: &mut String<A>, view: StepView) -> Result<(), AllocError>
+/// Appends the line of a step. Fails when out of memory; a part of the line may then stand there.
+pub fn push_step<A: Allocator>(text: &mut String<A>, view: StepView) -> Result<(), AllocError>
     ensures { OnOk result (string_bytes text.new ≡ string_bytes text.old ++ step_entry view) }
 {
     let (index, hart) = (view.index, view.choice.hart);

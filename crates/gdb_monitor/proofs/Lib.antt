@@ -1,0 +1,2 @@
+pub mod ReservingLemmas
+pub mod HartLemmas

@@ -1,0 +1,4 @@
+pub mod Commands
+pub mod Texts
+pub mod Monitoring
+pub mod Reserving
