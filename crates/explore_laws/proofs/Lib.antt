@@ -2,3 +2,4 @@ pub mod PlaceLemmas
 pub mod SettleLemmas
 pub mod CoverLemmas
 pub mod TurnLemmas
+pub mod WayLemmas

@@ -19,7 +19,7 @@ pub run_of_turn : (w : World) (c : Choice) → run w (turn_choices w c) ≡ worl
 unfolding run
 run_of_turn w c = settled_is_run (step w c) c.hart
 
-turns_from : (p : Place) (turns : List Choice) → run p.world (turns_choices p.world turns) ≡ (place_reached p turns).world
+pub turns_from : (p : Place) (turns : List Choice) → run p.world (turns_choices p.world turns) ≡ (place_reached p turns).world
 unfolding place_reached turns_choices
 turns_from p [] = run_nothing p.world
 turns_from p (c ∷ turns) =

@@ -2,3 +2,4 @@ pub mod Settling
 pub mod Places
 pub mod Safe
 pub mod Covering
+pub mod WaysOut
