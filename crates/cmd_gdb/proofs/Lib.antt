@@ -1,0 +1,4 @@
+pub mod ConversationLemmas
+pub mod OpeningLemmas
+pub mod PacketLemmas
+pub mod ServerLemmas

@@ -1,0 +1,94 @@
+//! `gdb`: from a program, inputs, a choice text and packets to an answer for each packet.
+
+ghost use Rattle.std.specs.Prelude.{◌≡◌, ◌^◌, ◌-◌, ◌<◌, Ok, Err, IfOk, IfErr, IfSome, length};
+ghost use Rattle.std.specs.Io.KnownBytes.{Keeps};
+ghost use Rattle.program_open.specs.Program.{program_of};
+ghost use Rattle.machine.specs.Start.{IsStartable};
+ghost use Rattle.program_open.specs.CommandFaults.{IfNames, IsOfProgram, IsRefusal};
+ghost use Rattle.program_open.specs.Opening.{program_opening};
+ghost use Rattle.image.specs.Image.{ImageValue};
+ghost use Rattle.cmd_debug.specs.Opening.{opened, IfCut, IfUnopened};
+ghost use Rattle.cmd_gdb.specs.Opening.{BeginsToServe, Serves};
+
+use crate::conversation::serve;
+use crate::server::Server;
+use byte_io::{Progress, Sink, Source, Status};
+use cmd_debug::{DebugEngineFault, TalkFault, open_session};
+use program_open::{CommandFault, Input, ProgramForm, open_run};
+use std::alloc::{AllocError, Allocator};
+
+/// `gdb`: reads the file to its end and, if it is a valid program and the number of inputs is
+/// valid, the choice text to its end; then answers each packet before it reads more, until one
+/// ends the session or none is left. If the session can't begin, no packet is read. A long start
+/// reports its progress.
+#[tactic(auto, unfolding(cmd_debug::specs::Opening::opened))]
+pub fn gdb_engine<A: Allocator + Copy, P: Source, C: Source, S: Source, K: Sink>(
+    alloc: A,
+    inputs: &[u32],
+    program: &mut P,
+    choices: &mut C,
+    packets: &mut S,
+    sink: &mut K,
+    progress: &mut impl Progress,
+) -> Result<Status, DebugEngineFault>
+    requires program_counts { P.failures program.old < 2 ^ 64 - 1 }
+    requires choices_count { C.failures choices.old < 2 ^ 64 - 1 }
+    requires packets_count { S.failures packets.old < 2 ^ 64 - 1 }
+    requires sink_counts { K.failures sink.old < 2 ^ 64 - 1 }
+    ensures status { IfOk result (λ status. status ≡ Status.Done) }
+    // What the session sends for the packets was appended.
+    ensures done { IfOk result (λ _.
+        IfSome (P.left program.old) (λ p. IfSome (C.left choices.old) (λ c.
+        IfSome (S.left packets.old) (λ s.
+        Serves (opened inputs.now p c) s (K.held sink.old) (K.held sink.new))))) }
+    // An input is invalid, no packet is read and nothing is written.
+    ensures refused { IfErr result (λ fault. IfUnopened fault (λ why. IsRefusal why
+        → IfSome (P.left program.old) (λ p. IfSome (C.left choices.old) (λ c.
+        opened inputs.now p c ≡ Err why)))) }
+    // A fault of the program or of the number of inputs is that whatever the choices are.
+    ensures of_program { IfErr result (λ fault. IfUnopened fault (λ why. IsOfProgram why
+        → IfSome (P.left program.old) (λ p.
+        program_opening ProgramForm.Elf (length inputs.now) p ≡ Err why))) }
+    ensures unwritten { IfErr result (λ fault. IfUnopened fault (λ _.
+        Keeps (K.held sink.old) (K.held sink.new))) }
+    ensures unread { IfErr result (λ fault. IfUnopened fault (λ _.
+        Keeps (S.left packets.old) (S.left packets.new))) }
+    // A device is named only if it failed.
+    ensures read { IfErr result (λ fault. IfUnopened fault (λ why. IfNames why
+        (P.failures program.old < P.failures program.new)
+        (C.failures choices.old < C.failures choices.new) ⊥ ⊥)) }
+    // A fault of the program comes before one of the choices' device.
+    ensures program_first { result
+        ≡ Err (DebugEngineFault.Refused (CommandFault.Read Input.Choices))
+        → IfSome (P.left program.old) (λ p.
+        (image : ImageValue) × (program_of ProgramForm.Elf p ≡ Ok image)) }
+    // So does the fault of the number of inputs.
+    ensures inputs_first { result
+        ≡ Err (DebugEngineFault.Refused (CommandFault.Read Input.Choices))
+        → IsStartable inputs.now }
+    ensures packets { result ≡ Err DebugEngineFault.Commands
+        → S.failures packets.old < S.failures packets.new }
+    ensures write { result ≡ Err DebugEngineFault.Answers
+        → K.failures sink.old < K.failures sink.new }
+    // After a fault within the session the sink has a beginning of that.
+    ensures begun { IfErr result (λ fault. IfCut fault
+        (IfSome (P.left program.old) (λ p. IfSome (C.left choices.old) (λ c.
+        IfSome (S.left packets.old) (λ s.
+        BeginsToServe (opened inputs.now p c) s (K.held sink.old) (K.held sink.new)))))) }
+{
+    let run = match open_run(alloc, ProgramForm::Elf, inputs, program, choices) {
+        Ok(run) => run,
+        Err(fault) => return Err(DebugEngineFault::Refused(fault)),
+    };
+    let debugger = match open_session(alloc, run, progress) {
+        Ok(debugger) => debugger,
+        Err(AllocError) => return Err(DebugEngineFault::Refused(CommandFault::Memory)),
+    };
+    let mut server = Server::new(alloc, debugger);
+    match serve(alloc, &mut server, packets, sink) {
+        Ok(()) => Ok(Status::Done),
+        Err(TalkFault::Read) => Err(DebugEngineFault::Commands),
+        Err(TalkFault::Write) => Err(DebugEngineFault::Answers),
+        Err(TalkFault::Memory) => Err(DebugEngineFault::Memory),
+    }
+}
