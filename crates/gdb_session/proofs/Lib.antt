@@ -1,3 +1,4 @@
+pub mod BeginLemmas
 pub mod RegisterLemmas
 pub mod MemoryLemmas
 pub mod ChosenLemmas

@@ -11,7 +11,8 @@ use Rattle.gdb_requests.specs.declared.request.Threads.{Threads}
 use Rattle.gdb_requests.specs.declared.request.Threads.TheVariants.{All, Any, One}
 use Rattle.gdb_session.specs.declared.movement.Move.{Move}
 use Rattle.gdb_session.specs.declared.movement.Move.TheVariants as move
-use Rattle.gdb_session.specs.declared.resume.HartStep.{HartStep}
+use Rattle.gdb_session.specs.declared.resume.Stepping.{Stepping}
+use Rattle.gdb_session.specs.declared.resume.Stepping.TheVariants as step
 use Rattle.gdb_session.specs.Harts.{hart_of_thread, hart_read}
 use Rattle.gdb_session.specs.Moves.{no_range}
 use Rattle.gdb_session.specs.Talk.{TalkValue, hart_count}
@@ -54,26 +55,29 @@ step_range (Some Continue) = None
 step_range (Some Step) = Some no_range
 step_range (Some (Range from to)) = Some (record { from = from; to = to })
 
--- a hart's step
-abbrev pub step_by : ℕ → AddressRange → HartStep
-step_by hart range = record { hart = hart; range = range }
-
 -- the step of a hart, if its own action is one
-abbrev pub own_step : ℕ → List ThreadAction → ℕ → Option HartStep
-own_step read all hart = option_map (step_by hart) (step_range (own_action read hart all))
+abbrev pub own_step : ℕ → List ThreadAction → ℕ → Option Stepping
+own_step read all hart = option_map (step.Hart hart) (step_range (own_action read hart all))
 
--- the step of the first hart that actions mean whose own action is one
-abbrev pub first_step : ℕ → List ThreadAction → List ThreadAction → Option HartStep
+-- the step of any hart, if an action for all is one
+abbrev pub any_step : Action → Option Stepping
+any_step action = option_map step.Any (step_range (Some action))
+
+-- the step of the first hart that actions mean whose own action is one, before the first action for
+-- all; else that of any hart, if this action is one
+abbrev pub first_step : ℕ → List ThreadAction → List ThreadAction → Option Stepping
 first_step read all [] = None
 first_step read all (a ∷ rest) =
-    option_or (own_step read all (hart_meant read a.threads)) (first_step read all rest)
+    if is_for_all a.threads then any_step a.action
+    else option_or (own_step read all (hart_meant read a.threads)) (first_step read all rest)
 
--- a move by a step, or without one by this hart; alone unless there is an action for all
-abbrev pub resumed : Bool → ℕ → Option HartStep → Move
+-- a move by a step, or without one by this hart; a hart moves alone unless an action is for all
+abbrev pub resumed : Bool → ℕ → Option Stepping → Move
+resumed others hart (Some (step.Any range)) = move.StepAny range
 resumed true hart None = move.Ahead whose.All
 resumed false hart None = move.Ahead (whose.One hart)
-resumed true hart (Some step) = move.Step step.hart step.range
-resumed false hart (Some step) = move.StepAlone step.hart step.range
+resumed true hart (Some (step.Hart own range)) = move.Step own range
+resumed false hart (Some (step.Hart own range)) = move.StepAlone own range
 
 -- the move that actions ask for; none if there is no action, or a thread isn't there
 unfoldable pub resume_asked : TalkValue → List ThreadAction → Option Move

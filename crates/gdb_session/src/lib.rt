@@ -14,6 +14,7 @@ mod changes;
 mod fixed;
 mod harts;
 mod home;
+mod keep;
 mod laws;
 mod memory;
 mod movement;

@@ -16,6 +16,11 @@ pub enum Move {
         /// The range to leave; an empty one is left by any step.
         range: AddressRange,
     },
+    /// A step of any hart, whichever comes next, that leaves the range.
+    StepAny {
+        /// The range to leave; an empty one is left by any step.
+        range: AddressRange,
+    },
     /// A hart's step that leaves the range, alone: only its own hits and faults count.
     StepAlone {
         /// The hart's number, from 0.

@@ -2,7 +2,7 @@
 ghost use Rattle.std.specs.Prelude.{◌≡◌};
 ghost use Rattle.std.specs.List.{list_all, list_any};
 ghost use Rattle.gdb_requests.specs.declared.request.ThreadAction.{ThreadAction as Told};
-ghost use Rattle.gdb_session.specs.Resumes.{first_step, hart_meant, is_for, is_for_all, is_named_there, own_action, own_step, resume_asked, resumed, step_range};
+ghost use Rattle.gdb_session.specs.Resumes.{any_step, first_step, hart_meant, is_for, is_for_all, is_named_there, own_action, own_step, resume_asked, resumed, step_range};
 ghost use Rattle.gdb_session.specs.Talk.{hart_count, talk_of};
 
 use crate::asked::no_range;
@@ -12,13 +12,13 @@ use gdb_moves::{AddressRange, Whose};
 use gdb_requests::{Action, ThreadAction, Threads};
 use std::alloc::Allocator;
 
-// A hart's step.
+// A step that actions ask for.
 #[derive(Clone, Copy)]
-struct HartStep {
-    // The hart's number, from 0.
-    hart: u32,
-    // The range to leave.
-    range: AddressRange,
+enum Stepping {
+    // That of a hart that leaves the range.
+    Hart { hart: u32, range: AddressRange },
+    // That of any hart.
+    Any { range: AddressRange },
 }
 
 // Whether an action is for all threads.
@@ -75,18 +75,30 @@ fn step_range(action: Option<Action>) -> Option<AddressRange>
 }
 
 // The step of a hart, if its own action is one.
-fn own_step(read: u32, actions: &[ThreadAction], hart: u32) -> Option<HartStep>
+fn own_step(read: u32, actions: &[ThreadAction], hart: u32) -> Option<Stepping>
     ensures { result ≡ own_step read actions.now hart }
 {
     let range = step_range(own_action(read, hart, actions))?;
-    Some(HartStep { hart, range })
+    Some(Stepping::Hart { hart, range })
 }
 
-// The step of the first hart that actions mean whose own action is one.
-fn first_step(read: u32, all: &[ThreadAction]) -> Option<HartStep>
+// The step of any hart, if an action for all is one.
+fn any_step(action: Action) -> Option<Stepping>
+    ensures { result ≡ any_step action }
+{
+    let range = step_range(Some(action))?;
+    Some(Stepping::Any { range })
+}
+
+// The step of the first hart that actions mean whose own action is one, up to the first action for
+// all, which may be a step of any hart.
+fn first_step(read: u32, all: &[ThreadAction]) -> Option<Stepping>
     ensures { result ≡ first_step read all.now all.now }
 {
     'actions: for action in all {
+        if is_for_all(action.threads) {
+            return any_step(action.action);
+        }
         let step = own_step(read, all, hart_meant(read, action.threads));
         if step.is_some() {
             return step;
@@ -103,11 +115,12 @@ fn any_for_all(actions: &[ThreadAction]) -> bool
 }
 
 // A move by a step, or without one by a hart.
-fn resumed(others: bool, hart: u32, step: Option<HartStep>) -> Move
+fn resumed(others: bool, hart: u32, step: Option<Stepping>) -> Move
     ensures { result ≡ resumed others hart step }
 {
     match step {
-        Some(HartStep { hart, range }) => {
+        Some(Stepping::Any { range }) => Move::StepAny { range },
+        Some(Stepping::Hart { hart, range }) => {
             if others {
                 Move::Step { hart, range }
             } else {
@@ -148,8 +161,9 @@ impl<A: Allocator + Copy> Talk<A> {
 
     /// The move that actions of `vCont` ask for. The first action that is for a thread is its own.
     /// The first thread that is named and has a step as its own action steps, alone unless there is
-    /// an action for all; without a step all go on, or the first thread that is named alone. `None`
-    /// if there is no action, or a thread isn't there.
+    /// an action for all; else, if the first action for all is a step, whichever thread comes next.
+    /// Without a step all go on, or the first thread that is named alone. `None` if there is no
+    /// action, or a thread isn't there.
     #[tactic(auto, unfolding(crate::specs::Resumes::resume_asked))]
     pub fn resume_asked(&self, actions: &[ThreadAction]) -> Option<Move>
         ensures { result ≡ resume_asked (talk_of self.now) actions.now }

@@ -50,7 +50,9 @@ fn end_told(movement: Move) -> Reason
     ensures { result ≡ end_told movement }
 {
     match movement {
-        Move::Ahead(_) | Move::Step { .. } | Move::StepAlone { .. } => Reason::ListEnd,
+        Move::Ahead(_) | Move::Step { .. } | Move::StepAny { .. } | Move::StepAlone { .. } => {
+            Reason::ListEnd
+        }
         Move::Back(_) | Move::StepBack { .. } => Reason::ListBegin,
     }
 }
@@ -61,7 +63,7 @@ fn hart_at_end(last: &Option<Stop>, movement: Move) -> u32
     ensures { result ≡ hart_at_end last.now movement }
 {
     match movement {
-        Move::Ahead(_) | Move::Back(_) => stopped_hart(last),
+        Move::Ahead(_) | Move::Back(_) | Move::StepAny { .. } => stopped_hart(last),
         Move::Step { hart, .. } | Move::StepAlone { hart, .. } => hart,
         Move::StepBack { hart, .. } => hart,
     }

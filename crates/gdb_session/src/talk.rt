@@ -6,7 +6,7 @@ ghost use Rattle.gdb_session.specs.declared.selected.Selected.TheVariants.{Any};
 
 use crate::selected::Selected;
 use debug_session::Debugger;
-use gdb_moves::Points;
+use gdb_moves::{AloneSteps, Points};
 use gdb_replies::Stop;
 use std::alloc::Allocator;
 
@@ -23,6 +23,8 @@ pub struct Talk<A: Allocator + Copy> {
     pub moves: Selected,
     /// The last stop, as GDB was told; `None` before the first move.
     pub stop: Option<Stop>,
+    /// The steps of one hart alone that the last moves were; `None` if the last one was none.
+    pub alone: Option<AloneSteps<A>>,
     /// Whether packets are acknowledged.
     pub acknowledges: bool,
     /// Whether GDB knows `swbreak` as a reason to stop.
@@ -38,6 +40,7 @@ impl<A: Allocator + Copy> Talk<A> {
           reads = Any;
           moves = Any;
           stop = None;
+          alone = None;
           acknowledges = true;
           software_stops = false;
         } }
@@ -48,8 +51,16 @@ impl<A: Allocator + Copy> Talk<A> {
             reads: Selected::Any,
             moves: Selected::Any,
             stop: None,
+            alone: None,
             acknowledges: true,
             software_stops: false,
         }
+    }
+
+    /// Forgets the steps alone, as a move by a command of the user's has to.
+    pub fn forget_alone(&mut self)
+        ensures { talk_of self.new ≡ record (talk_of self.old) { alone = None } }
+    {
+        self.alone = None;
     }
 }
