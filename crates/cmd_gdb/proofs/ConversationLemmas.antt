@@ -7,15 +7,15 @@ use Rattle.gdb_frames.specs.Reading.{reader_state, ReaderState}
 use Rattle.gdb_frames.specs.declared.found.Found.{Found}
 use Rattle.gdb_frames.specs.declared.found.Place.TheVariants.{Outside}
 use Rattle.cmd_gdb.specs.Reading.{ReadsTo}
-use Rattle.cmd_gdb.specs.Serving.{BeginsServed, BeginsToServe, Reacts, Sends, SendsPart, Served, Serves, Standing}
+use Rattle.cmd_gdb.specs.Serving.{BeginsServed, BeginsToServe, Reacts, Sends, SendsPart, Served, Serves, ServerState}
 
 -- what is sent for the items that are left, behind what was sent so far, is sent for all of them
-pub record Leads (first : Standing) (all : List FrameItem) (done : List ℕ) (s : Standing)
+pub record Leads (first : ServerState) (all : List FrameItem) (done : List ℕ) (s : ServerState)
     (items : List FrameItem) : Type 0 where
   pub whole : (more : List ℕ) → Serves s items more → Serves first all (done ++ more)
   pub part : (more : List ℕ) → BeginsToServe s items more → BeginsToServe first all (done ++ more)
 
-leads_on : (first s u : Standing) (all items : List FrameItem) (item : FrameItem)
+leads_on : (first s u : ServerState) (all items : List FrameItem) (item : FrameItem)
     (done sent : List ℕ)
     → Leads first all done s (item ∷ items) → Reacts s item sent (Some u)
     → Leads first all (done ++ sent) u items
@@ -27,7 +27,7 @@ leads_on first s u all items item done sent leads reacts = record {
 }
 
 -- the same of bytes that are left, if they are known
-abbrev pub LeadsFrom : Standing → Option (List ℕ) → Option (List ℕ) → List ℕ → Standing
+abbrev pub LeadsFrom : ServerState → Option (List ℕ) → Option (List ℕ) → List ℕ → ServerState
     → ReaderState → Type 0
 LeadsFrom first None rest done s r = Unit {0}
 LeadsFrom first (Some input) None done s r = ⊥
@@ -35,22 +35,22 @@ LeadsFrom first (Some input) (Some rest) done s r =
     Leads first (frames_of input) done s (frames_from r rest)
 
 -- what was found so far was answered, and the rest is still to be answered from this state
-pub record IsServed (first : Standing) (input rest old now : Option (List ℕ)) (s : Standing)
+pub record IsServed (first : ServerState) (input rest old now : Option (List ℕ)) (s : ServerState)
     (r : ReaderState) : Type 0 where
   pub done : List ℕ
   pub wrote : Appends old now done
   pub left : LeadsFrom first input rest done s r
 
-starts_from : (s : Standing) (input : Option (List ℕ))
+starts_from : (s : ServerState) (input : Option (List ℕ))
     → LeadsFrom s input input [] s (reader_state Outside [])
 starts_from s None = tt
 starts_from s (Some input) = record { whole = λ more h. h; part = λ more h. h }
 
-pub starts : (s : Standing) (input old : Option (List ℕ))
+pub starts : (s : ServerState) (input old : Option (List ℕ))
     → IsServed s input input old old s (reader_state Outside [])
 starts s input old = record { done = []; wrote = Appends-nil old; left = starts_from s input }
 
-from_on : (first : Standing) (input l0 l1 : Option (List ℕ)) (s u : Standing)
+from_on : (first : ServerState) (input l0 l1 : Option (List ℕ)) (s u : ServerState)
     (r0 r1 : ReaderState) (found : Found) (done sent : List ℕ)
     → LeadsFrom first input l0 done s r0 → ReadsTo l0 l1 r0 r1 (Some found)
     → Reacts s (item_of found r1.body) sent (Some u) → LeadsFrom first input l1 (done ++ sent) u r1
@@ -62,7 +62,7 @@ from_on first (Some input) (Some rest) (Some more) s u r0 r1 found done sent lef
     (subst (Leads first (frames_of input) done s) read.0 left) reacts
 
 -- the session goes on behind an item
-pub goes_on_behind : (first : Standing) (input l0 l1 old k0 k1 : Option (List ℕ)) (s u : Standing)
+pub goes_on_behind : (first : ServerState) (input l0 l1 old k0 k1 : Option (List ℕ)) (s u : ServerState)
     (r0 r1 : ReaderState) (found : Found)
     → IsServed first input l0 old k0 s r0 → ReadsTo l0 l1 r0 r1 (Some found)
     → Sends s (item_of found r1.body) k0 k1 (Some u) → IsServed first input l1 old k1 u r1
@@ -74,7 +74,7 @@ goes_on_behind first input l0 l1 old k0 k1 s u r0 r1 found so_far read sends = r
 }
 
 -- what is left, as what was found and what is left behind it
-next_items : (first : Standing) (input l0 l1 : List ℕ) (s : Standing) (r0 r1 : ReaderState)
+next_items : (first : ServerState) (input l0 l1 : List ℕ) (s : ServerState) (r0 r1 : ReaderState)
     (found : Option Found) (done : List ℕ)
     → Leads first (frames_of input) done s (frames_from r0 l0)
     → ReadsTo (Some l0) (Some l1) r0 r1 found
@@ -83,7 +83,7 @@ next_items first input l0 l1 s r0 r1 found done left read =
     subst (Leads first (frames_of input) done s) read.0 left
 
 -- nothing was left
-pub is_done : (first : Standing) (input l0 l1 old now : Option (List ℕ)) (s : Standing)
+pub is_done : (first : ServerState) (input l0 l1 old now : Option (List ℕ)) (s : ServerState)
     (r0 r1 : ReaderState)
     → IsServed first input l0 old now s r0 → ReadsTo l0 l1 r0 r1 None
     → IfSome input (λ xs. Served first (frames_of xs) old now)
@@ -101,7 +101,7 @@ is_done first (Some input) (Some rest) (Some more) old now s r0 r1 so_far read =
     )
 
 -- an item has ended the session
-pub is_ended : (first : Standing) (input l0 l1 old k0 k1 : Option (List ℕ)) (s : Standing)
+pub is_ended : (first : ServerState) (input l0 l1 old k0 k1 : Option (List ℕ)) (s : ServerState)
     (r0 r1 : ReaderState) (found : Found)
     → IsServed first input l0 old k0 s r0 → ReadsTo l0 l1 r0 r1 (Some found)
     → Sends s (item_of found r1.body) k0 k1 None
@@ -119,7 +119,7 @@ is_ended first (Some input) (Some rest) (Some more) old k0 k1 s r0 r1 found so_f
     )
 
 -- what was sent is a beginning
-pub has_begun : (first : Standing) (input l0 old now : Option (List ℕ)) (s : Standing)
+pub has_begun : (first : ServerState) (input l0 old now : Option (List ℕ)) (s : ServerState)
     (r0 : ReaderState)
     → IsServed first input l0 old now s r0
     → IfSome input (λ xs. BeginsServed first (frames_of xs) old now)
@@ -132,7 +132,7 @@ has_begun first (Some input) (Some rest) old now s r0 so_far = (
 )
 
 -- an item was answered in part
-pub is_cut : (first : Standing) (input l0 l1 old k0 k1 : Option (List ℕ)) (s : Standing)
+pub is_cut : (first : ServerState) (input l0 l1 old k0 k1 : Option (List ℕ)) (s : ServerState)
     (r0 r1 : ReaderState) (found : Found)
     → IsServed first input l0 old k0 s r0 → ReadsTo l0 l1 r0 r1 (Some found)
     → SendsPart s (item_of found r1.body) k0 k1

@@ -2,6 +2,10 @@
 -- "Packets".
 use Rattle.std.specs.Prelude.{◌≡◌, ℕ, List, Option, Some, None, Result, Ok, Err}
 use Rattle.gdb_moves.specs.declared.stop.ThreadStop.{ThreadStop}
+use Rattle.gdb_monitor.specs.Monitoring.{Monitoring, monitored}
+use Rattle.gdb_monitor.specs.declared.monitored.Motion.{Motion}
+use Rattle.gdb_monitor.specs.declared.monitored.Motion.TheVariants.{Moved, Stayed}
+use Rattle.gdb_replies.specs.Digits.{bytes_text}
 use Rattle.gdb_replies.specs.Fixed.{fixed_text}
 use Rattle.gdb_replies.specs.declared.fixed.FixedReply.TheVariants as fixed
 use Rattle.gdb_requests.specs.Asked.{Asked, request_of}
@@ -37,6 +41,17 @@ abbrev pub AnswersResume : TalkValue → Option Move → List ℕ → Next → T
 AnswersResume t (Some move) text come u = AnswersMove t move text come u
 AnswersResume t None text come u = AnswersOnly t (fixed_text fixed.BadOperand) text come u
 
+-- the state after a command of `monitor`: steps alone are forgotten if it has moved
+abbrev pub after_motion : Motion → TalkValue → TalkValue
+after_motion Moved t = record t { alone = None }
+after_motion Stayed t = t
+
+-- a command of `monitor` is answered by its text in digits
+abbrev pub AnswersMonitor : TalkValue → Monitoring → List ℕ → Next → TalkValue → Type 0
+AnswersMonitor t m text come u =
+    (text ≡ bytes_text m.text) × (come ≡ next.Answered)
+    × (u ≡ after_motion m.motion (record t { session = m.after }))
+
 -- a request is answered by this text; this comes after it, from this state
 unfoldable pub AnswersRequest : TalkValue → Asked → List ℕ → Next → TalkValue → Type 0
 AnswersRequest t (Asked.plain simple) text come u =
@@ -44,7 +59,7 @@ AnswersRequest t (Asked.plain simple) text come u =
 AnswersRequest t (Asked.resume actions) text come u =
     AnswersResume t (resume_asked t actions) text come u
 AnswersRequest t (Asked.monitor command) text come u =
-    AnswersOnly t (fixed_text fixed.Unsupported) text come u
+    AnswersMonitor t (monitored t.session command) text come u
 
 -- a packet that is refused: E01 for bad operands, an empty packet for one that isn't known
 abbrev pub AnswersFault : TalkValue → RequestFault → List ℕ → Next → TalkValue → Type 0
@@ -59,5 +74,5 @@ AnswersAsked t (Ok request) text come u = AnswersRequest t request text come u
 AnswersAsked t (Err why) text come u = AnswersFault t why text come u
 
 -- a packet with this data is answered by this text; this comes after it, from this state
-unfoldable pub Answers : TalkValue → List ℕ → List ℕ → Next → TalkValue → Type 0
-Answers t body text come u = AnswersAsked t (request_of body) text come u
+unfoldable pub AnswersPacket : TalkValue → List ℕ → List ℕ → Next → TalkValue → Type 0
+AnswersPacket t body text come u = AnswersAsked t (request_of body) text come u

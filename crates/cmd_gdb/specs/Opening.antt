@@ -5,7 +5,7 @@ use Rattle.cmd_debug.specs.Opening.{Opening}
 use Rattle.gdb_frames.specs.Items.{frames_of}
 use Rattle.gdb_session.specs.Talk.{TalkValue}
 use Rattle.gdb_session.specs.declared.selected.Selected.TheVariants.{Any}
-use Rattle.cmd_gdb.specs.Serving.{standing, BeginsServed, Served, Standing}
+use Rattle.cmd_gdb.specs.Serving.{standing, BeginsServed, Served, ServerState}
 
 -- before the first packet: no breakpoint and no watch, no hart chosen, and packets are acknowledged
 abbrev pub first_talk : Session → TalkValue
@@ -15,20 +15,21 @@ first_talk s = record {
   reads = Any;
   moves = Any;
   stop = None;
+  alone = None;
   acknowledges = true;
   software_stops = false;
 }
 
 -- nothing was sent before
-abbrev pub first_standing : Session → Standing
+abbrev pub first_standing : Session → ServerState
 first_standing s = standing (first_talk s) []
 
 -- what is sent for the packets of an input was appended
-abbrev pub Serves : Opening → List ℕ → Option (List ℕ) → Option (List ℕ) → Type 0
-Serves (Ok s) input old new = Served (first_standing s) (frames_of input) old new
-Serves (Err why) input old new = ⊥
+abbrev pub ServesInput : Opening → List ℕ → Option (List ℕ) → Option (List ℕ) → Type 0
+ServesInput (Ok s) input old new = Served (first_standing s) (frames_of input) old new
+ServesInput (Err why) input old new = ⊥
 
 -- a beginning of it was appended
-abbrev pub BeginsToServe : Opening → List ℕ → Option (List ℕ) → Option (List ℕ) → Type 0
-BeginsToServe (Ok s) input old new = BeginsServed (first_standing s) (frames_of input) old new
-BeginsToServe (Err why) input old new = ⊥
+abbrev pub BeginsToServeInput : Opening → List ℕ → Option (List ℕ) → Option (List ℕ) → Type 0
+BeginsToServeInput (Ok s) input old new = BeginsServed (first_standing s) (frames_of input) old new
+BeginsToServeInput (Err why) input old new = ⊥

@@ -1,17 +1,19 @@
 //! The answer to one packet.
 
 ghost use Rattle.std.specs.Prelude.{◌≡◌, ◌++◌, IfOk, OnErr, OnOk};
+ghost use Rattle.gdb_monitor.specs.Monitoring.{monitored};
 ghost use Rattle.gdb_requests.specs.Asked.{asked};
 ghost use Rattle.gdb_session.specs.Moves.{move_asked};
 ghost use Rattle.gdb_session.specs.Resumes.{resume_asked};
 ghost use Rattle.gdb_session.specs.Talk.{talk_of};
 ghost use Rattle.gdb_session.specs.declared.answer.Next.TheVariants.{Answered};
 ghost use Rattle.gdb_replies.specs.Fixed.{fixed_text};
-ghost use Rattle.cmd_gdb.specs.Answers.{Answers, AnswersMove, AnswersPlain, AnswersRequest, AnswersResume};
+ghost use Rattle.cmd_gdb.specs.Answers.{AnswersMonitor, AnswersMove, AnswersPacket, AnswersPlain, AnswersRequest, AnswersResume};
 
-use gdb_replies::FixedReply;
+use gdb_monitor::{Motion, monitor};
+use gdb_replies::{FixedReply, push_bytes};
 use gdb_requests::{Plain, Request, RequestFault, ThreadAction, read_request};
-use gdb_session::{Move, Next, Talk, answer_move, answer_plain};
+use gdb_session::{Move, Next, Talk, answer_move, answer_plain, home};
 use std::alloc::{AllocError, Allocator};
 
 /// An answer, and what comes after it.
@@ -89,6 +91,34 @@ fn resume<A: Allocator + Copy>(
     }
 }
 
+// Does a command of `monitor`, and answers with its text. A move forgets steps alone.
+fn obey<A: Allocator + Copy>(
+    alloc: A,
+    talk: &mut Talk<A>,
+    command: &[u8],
+) -> Result<Answer<A>, AllocError>
+    ensures answers { IfOk result (λ answer. AnswersMonitor (talk_of talk.old)
+        (monitored (talk_of talk.old).session command.now) answer.text.items answer.next
+        (talk_of talk.new)) }
+    ensures err { OnErr result (talk_of talk.new ≡ talk_of talk.old) }
+{
+    let home = home(alloc, &talk.debugger)?;
+    let told = monitor(alloc, &mut talk.debugger, command)?;
+    let mut text = Vec::new(alloc);
+    if push_bytes(&mut text, told.text.as_bytes()).is_err() {
+        talk.debugger.settle(home);
+        return Err(AllocError);
+    }
+    match told.motion {
+        Motion::Moved => talk.forget_alone(),
+        Motion::Stayed => {}
+    }
+    Ok(Answer {
+        text,
+        next: Next::Answered,
+    })
+}
+
 /// Answers a request, and does what it asks for. Actions that ask for no move are refused with
 /// E01. If the host refuses memory, nothing has changed.
 #[tactic(auto, unfolding(crate::specs::Answers::AnswersRequest))]
@@ -104,20 +134,20 @@ pub fn answer_request<A: Allocator + Copy>(
     match request {
         Request::Plain(simple) => answer_simple(alloc, talk, simple),
         Request::Resume(actions) => resume(alloc, talk, &actions),
-        Request::Monitor(_) => fixed_answer(alloc, FixedReply::Unsupported),
+        Request::Monitor(command) => obey(alloc, talk, &command),
     }
 }
 
 /// Answers a packet with this data. One that is refused changes nothing: bad operands are answered
 /// by E01, a packet that isn't known by an empty one. If the host refuses memory, nothing has
 /// changed.
-#[tactic(auto, unfolding(crate::specs::Answers::Answers))]
+#[tactic(auto, unfolding(crate::specs::Answers::AnswersPacket))]
 pub fn answer_packet<A: Allocator + Copy>(
     alloc: A,
     talk: &mut Talk<A>,
     body: &[u8],
 ) -> Result<Answer<A>, AllocError>
-    ensures answers { IfOk result (λ answer. Answers (talk_of talk.old) body.now
+    ensures answers { IfOk result (λ answer. AnswersPacket (talk_of talk.old) body.now
         answer.text.items answer.next (talk_of talk.new)) }
     ensures err { OnErr result (talk_of talk.new ≡ talk_of talk.old) }
 {

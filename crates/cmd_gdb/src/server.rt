@@ -7,7 +7,7 @@ ghost use Rattle.gdb_frames.specs.Frames.{framed};
 ghost use Rattle.gdb_frames.specs.Items.{FrameItem, item_of};
 ghost use Rattle.gdb_session.specs.Talk.{talk_of};
 ghost use Rattle.cmd_gdb.specs.Opening.{first_standing};
-ghost use Rattle.cmd_gdb.specs.Serving.{after_turn, complaint, goes_on, packet_sent, standing, standing_of, while_acks, Sends, SendsPart};
+ghost use Rattle.cmd_gdb.specs.Serving.{after_turn, complaint, after_next, packet_sent, standing, standing_of, while_acks, Sends, SendsPart};
 
 use crate::answer::{Answer, answer_packet};
 use crate::sending::{SendFault, send, send_framed};
@@ -89,7 +89,7 @@ impl<A: Allocator + Copy> Server<A> {
     }
 
     // Sends an answer, unless the session ends without one.
-    #[tactic(auto, unfolding(crate::specs::Serving::packet_sent, crate::specs::Serving::goes_on))]
+    #[tactic(auto, unfolding(crate::specs::Serving::packet_sent, crate::specs::Serving::after_next))]
     fn send_answer<K: Sink>(
         &mut self,
         alloc: A,
@@ -100,7 +100,7 @@ impl<A: Allocator + Copy> Server<A> {
         ensures sent { OnOk result (Appends (K.held sink.old) (K.held sink.new)
             (packet_sent answer.next answer.text.items)) }
         ensures after { IfOk result (λ turn. after_turn turn (standing_of self.new)
-            ≡ goes_on answer.next (standing (talk_of self.old.talk) (framed answer.text.items))) }
+            ≡ after_next answer.next (standing (talk_of self.old.talk) (framed answer.text.items))) }
         ensures cut { OnErr result ((n : ℕ) × Appends (K.held sink.old) (K.held sink.new)
             (take n (packet_sent answer.next answer.text.items))) }
         ensures count { OnOk result (K.failures sink.new ≡ K.failures sink.old) }

@@ -107,8 +107,8 @@ module _ (meant : List Choice) (s : World)
       let near = nears_all w (length s.harts) (omega arith) covers in
       let at = run w near.choices in
       let harts_are : at.harts ≡ s.harts = same_lists at.harts s.harts (sym near.covers.count)
-          (λ h a b low e f. near.same h a b low e f) in
+      (λ h a b low e f. near.same h a b low e f) in
       let world_is : ◌≡◌ {A = World} (record { harts = at.harts; memory = at.memory; reserved = at.reserved })
-          (record { harts = s.harts; memory = s.memory; reserved = s.reserved })
+      (record { harts = s.harts; memory = s.memory; reserved = s.reserved })
       = λ i. record { harts = harts_are i; memory = sym near.covers.memory i; reserved = sym near.covers.reserved i } in
       (near.choices, near.are_meant, world_is)

@@ -31,9 +31,9 @@ begin_of way a position = if same_way way a.way then a.begin else position
 
 -- the steps alone that go on a way at a position: those that are kept if they went that way, else
 -- none yet
-abbrev pub alone_from : Way → Option Alone → ℕ → Alone
-alone_from way None position = record { way = way; begin = position; own = [] }
-alone_from way (Some a) position =
+abbrev pub steps_alone_from : Way → Option Alone → ℕ → Alone
+steps_alone_from way None position = record { way = way; begin = position; own = [] }
+steps_alone_from way (Some a) position =
     if same_way way a.way then a else record { way = way; begin = position; own = [] }
 
 -- the choices that it passes

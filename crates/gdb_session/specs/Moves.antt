@@ -5,7 +5,7 @@ use Rattle.hart_step.specs.Hart.{HartValue}
 use Rattle.machine.specs.World.{World}
 use Rattle.debug_session.specs.Searches.{IsLeastStop, IsGreatestStop}
 use Rattle.debug_session.specs.Session.{Session, length_of, moved, reason_at, world_at}
-use Rattle.gdb_moves.specs.After.{Alone, alone_from, begin_of, own_choice, passed_of, reason_unless, with_own}
+use Rattle.gdb_moves.specs.After.{Alone, steps_alone_from, begin_of, own_choice, passed_of, reason_unless, with_own}
 use Rattle.gdb_moves.specs.Moves.{behind_ahead, behind_back}
 use Rattle.gdb_moves.specs.Points.{Marked}
 use Rattle.gdb_moves.specs.Reasons.{wanted_stop}
@@ -124,7 +124,7 @@ own_after (move.StepBack hart who) k stop = own_choice Backwards k stop
 -- the steps alone behind one more choice that goes this way from a position, if the move is kept
 abbrev pub kept_on : Option Way → Option Alone → ℕ → Option ℕ → Option Alone
 kept_on None kept from choice = None
-kept_on (Some way) kept from choice = Some (with_own (alone_from way kept from) choice)
+kept_on (Some way) kept from choice = Some (with_own (steps_alone_from way kept from) choice)
 
 -- the steps alone behind a move from one position to another: those before it and its own choice if
 -- it goes their way, else that alone; none behind a move that isn't kept

@@ -1,6 +1,6 @@
 //! What is kept of moves by which one hart goes alone.
 ghost use Rattle.std.specs.Prelude.{◌≡◌, Some, OnOk, OnErr};
-ghost use Rattle.gdb_moves.specs.After.{alone_from, with_own};
+ghost use Rattle.gdb_moves.specs.After.{steps_alone_from, with_own};
 ghost use Rattle.gdb_session.specs.Moves.{alone_after, own_after, way_kept};
 ghost use Rattle.gdb_session.specs.Talk.{kept_of};
 
@@ -52,7 +52,7 @@ fn keep_choice<A: Allocator + Copy>(
     choice: Option<usize>,
 ) -> Result<(), AllocError>
     ensures ok { OnOk result (kept_of kept.new
-        ≡ Some (with_own (alone_from way (kept_of kept.old) from) choice)) }
+        ≡ Some (with_own (steps_alone_from way (kept_of kept.old) from) choice)) }
     ensures err { OnErr result (kept_of kept.new ≡ kept_of kept.old) }
 {
     if let Some(steps) = kept {

@@ -8,9 +8,9 @@ ghost use Rattle.gdb_session.specs.Answers.{last_stop_text};
 ghost use Rattle.gdb_session.specs.Moves.{EndsAt, Moves, steps_before};
 ghost use Rattle.gdb_session.specs.Talk.{kept_of, talk_of};
 
-use crate::home::home;
 use crate::keep::keep;
 use crate::movement::Move;
+use crate::returning::home;
 use crate::selected::Selected;
 use crate::talk::Talk;
 use debug_session::Debugger;

@@ -1,6 +1,6 @@
 use Rattle.debug_session.specs.Session.{session}
 use Rattle.gdb_session.proofs.HomeLemmas.{home_is_here}
-use Rattle.gdb_session.proofs.home.home.Goals as goal
+use Rattle.gdb_session.proofs.returning.home.Goals as goal
 
 pub returns-clause-here : goal.returns-clause-here
 returns-clause-here g c =
