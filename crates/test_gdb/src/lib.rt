@@ -8,6 +8,8 @@ mod moves_tests;
 #[cfg(test)]
 mod run;
 #[cfg(test)]
+mod session_after_tests;
+#[cfg(test)]
 mod session_moves_tests;
 #[cfg(test)]
 mod session_resume_tests;
