@@ -21,7 +21,7 @@ pub(crate) struct CommandRow {
 }
 
 /// The commands, in the order in which help lists them.
-pub(crate) const COMMANDS: [CommandRow; 13] = [
+pub(crate) const COMMANDS: [CommandRow; 14] = [
     CommandRow {
         name: "asm",
         does: "Assembles sources; prints the listing or writes an ELF file",
@@ -67,6 +67,23 @@ pub(crate) const COMMANDS: [CommandRow; 13] = [
         name: "debug",
         does: "Goes forward and back in a run, by commands of standard input",
         example: "Example: echo 'go' | rvcons debug swap.elf --inputs 7,9 --choices swap.choices",
+        arguments: &[
+            Argument::Needed("FILE", FILE),
+            Argument::NeededOption("inputs", INPUTS),
+            Argument::OneOf("choices", CHOICES),
+            Argument::OneOf("list", LIST),
+            Argument::OneOfWith("seed", "steps", SEED),
+            Argument::OneOf("turns", TURNS),
+            Argument::OneOf("history", HISTORY_OF_CHOICES),
+            Argument::With("steps", "seed", STEPS),
+            Argument::With("schedule", "seed", DRAW),
+            Argument::With("refusals", "seed", REFUSALS),
+        ],
+    },
+    CommandRow {
+        name: "gdb",
+        does: "Lets GDB go forward and back in a run, by its remote protocol on standard input",
+        example: "Example: gdb-multiarch swap.elf -ex 'target remote | rvcons gdb swap.elf --inputs 7,9 --choices swap.choices'",
         arguments: &[
             Argument::Needed("FILE", FILE),
             Argument::NeededOption("inputs", INPUTS),

@@ -1,10 +1,10 @@
-//! The command `debug`.
+//! The commands `debug` and `gdb`.
 
 use clap::ArgMatches;
 use cli_args::{ChoiceText, choice_text_of, text_of};
 
-/// `debug FILE --inputs L (--choices C | --list T)`: does the commands of standard input, which move forward and
-/// back in a run.
+/// `debug FILE --inputs L (--choices C | --list T)`: does the commands of standard input, which
+/// move forward and back in a run. `gdb` has the same arguments, and does the packets of GDB.
 #[derive(Drop)]
 pub struct DebugOrder<'a> {
     /// The program's path.

@@ -28,6 +28,8 @@ pub enum Order<'a> {
     Run(RunOrder<'a>),
     /// `debug`
     Debug(DebugOrder<'a>),
+    /// `gdb`
+    Gdb(DebugOrder<'a>),
     /// `threads`
     Threads(ThreadsOrder<'a>),
     /// `replay`
@@ -53,6 +55,7 @@ fn plain_order<'a>(name: &str, found: &ArgMatches<'a>) -> Option<Order<'a>> {
         "info" => Some(Order::Info(file_order(found)?)),
         "run" => Some(Order::Run(run_order(found)?)),
         "debug" => Some(Order::Debug(debug_order(found)?)),
+        "gdb" => Some(Order::Gdb(debug_order(found)?)),
         "threads" => Some(Order::Threads(threads_order(found)?)),
         "replay" => Some(Order::Replay(replay_order(found)?)),
         "lib" => Some(Order::Lib(lib_order(found)?)),

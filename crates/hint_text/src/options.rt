@@ -10,7 +10,7 @@ pub(crate) struct Row {
 }
 
 /// The commands.
-pub(crate) const COMMANDS: [Row; 13] = [
+pub(crate) const COMMANDS: [Row; 14] = [
     Row {
         name: "asm",
         options: &["--out", "-o"],
@@ -58,6 +58,21 @@ pub(crate) const COMMANDS: [Row; 13] = [
             "--refusals",
         ],
         example: "rvcons debug prog.elf --inputs 7,9 --choices turns.choices",
+    },
+    Row {
+        name: "gdb",
+        options: &[
+            "--inputs",
+            "--choices",
+            "--list",
+            "--seed",
+            "--turns",
+            "--history",
+            "--steps",
+            "--schedule",
+            "--refusals",
+        ],
+        example: "rvcons gdb prog.elf --inputs 7,9 --choices turns.choices",
     },
     Row {
         name: "threads",
@@ -221,7 +236,7 @@ pub(crate) const OTHER_COMMANDS: [(&[&str], &str); 9] = [
     (&["disasm", "objdump", "dump", "disassemble"], "list"),
     (&["readelf", "nm", "symbols", "show"], "info"),
     (&["exec", "start", "sim", "simulate"], "run"),
-    (&["gdb", "step"], "debug"),
+    (&["step"], "debug"),
     (&["fuzz", "test", "check", "random"], "campaign"),
     (&["choices", "seed"], "schedule"),
     (&["tell", "log", "record"], "trace"),

@@ -4,6 +4,7 @@ use byte_io::Status;
 use cli_args::{ChoiceText, RunOrder};
 use cli_choices::{NamedRun, hold_choices};
 use cli_debug::obey_debug;
+use cli_gdb::obey_gdb;
 use cli_orders::{DebugOrder, ShrinkOrder, TraceOrder};
 use cli_report::{Audience, RunChoices, bad_line, form_said};
 use cli_run::obey_run;
@@ -13,6 +14,9 @@ use std::rt::Files;
 
 const COMMANDS: &str =
     "debug reads its commands from standard input, so its choices are in a file or on the line";
+
+const PACKETS: &str =
+    "gdb reads packets from standard input, so its choices are in a file or on the line";
 
 /// Runs `run` under the choices that its line names.
 pub(crate) fn run_chosen<R: Files + AllocGlobal + Print + Eprint + Input>(
@@ -82,4 +86,22 @@ pub(crate) fn debug_chosen<R: Files + AllocGlobal + Print + Eprint + Input>(
         order,
         RunChoices::of(order.choices, &held),
     )
+}
+
+/// Runs `gdb` over the choices that its line names, which standard input can't have.
+pub(crate) fn gdb_chosen<R: Files + AllocGlobal + Print + Eprint + Input>(
+    rt: &R,
+    audience: Audience,
+    order: &DebugOrder,
+) -> Result<Status, Status> {
+    if let ChoiceText::Input = order.choices {
+        return Err(bad_line(rt, PACKETS));
+    }
+    let named = NamedRun {
+        file: order.file,
+        form: form_said(false),
+        inputs: order.inputs,
+    };
+    let held = hold_choices(rt, audience, named, order.choices)?;
+    obey_gdb(rt, audience, order, RunChoices::of(order.choices, &held))
 }

@@ -1,7 +1,7 @@
 //! The whole program.
 #![tactic(auto)]
 
-use crate::chosen::{debug_chosen, run_chosen, shrink_chosen, trace_chosen};
+use crate::chosen::{debug_chosen, gdb_chosen, run_chosen, shrink_chosen, trace_chosen};
 use byte_io::Status;
 use cli_campaign::{obey_campaign, obey_explore};
 use cli_choices::obey_schedule;
@@ -55,6 +55,7 @@ fn obey<R: Files + AllocGlobal + Print + Eprint + Env + Threads + Wait + Sync + 
     match read_line(rt.alloc(), words.as_slice(), KIND_NAMES) {
         Ok(Order::Asm(order)) => Ok(obey_asm(rt, audience, &order)),
         Ok(Order::Debug(order)) => debug_chosen(rt, audience, talk, &order),
+        Ok(Order::Gdb(order)) => gdb_chosen(rt, audience, &order),
         Ok(Order::Lib(order)) => Ok(obey_lib(rt, &order)),
         Ok(Order::List(order)) => Ok(obey_file(rt, audience, FileView::Listing, &order)),
         Ok(Order::Info(order)) => Ok(obey_file(rt, audience, FileView::Facts, &order)),

@@ -47,7 +47,7 @@ fn inputs_are_read(rt: HostRuntime) {
 
 // Lines, and what is read of each: its command and the texts of its arguments, by their names.
 #[rattlefmt::skip]
-const LINES: [(&str, &str); 68] = [
+const LINES: [(&str, &str); 69] = [
     ("rvcons asm a.s", "asm IN=a.s"),
     ("rvcons asm --out o a.s b.s", "asm out=o IN=a.s IN=b.s"),
     ("rvcons asm b.s a.s --out=o", "asm out=o IN=b.s IN=a.s"),
@@ -76,6 +76,7 @@ const LINES: [(&str, &str); 68] = [
     ("rvcons debug p --inputs 7,9 --turns 3", "debug FILE=p inputs=7,9 turns=3"),
     ("rvcons debug p --inputs 7,9 --choices c", "debug FILE=p inputs=7,9 choices=c"),
     ("rvcons debug p --inputs 7,9 --list=0", "debug FILE=p inputs=7,9 list=0"),
+    ("rvcons gdb p --inputs 7,9 --choices c", "gdb FILE=p inputs=7,9 choices=c"),
     ("rvcons threads p --inputs 7,9 --budget 5", "threads FILE=p inputs=7,9 budget=5"),
     ("rvcons threads p --inputs 7,9 --budget 5 --refuse 0:7",
         "threads FILE=p inputs=7,9 budget=5 refuse=0:7"),
@@ -304,7 +305,7 @@ enum Refusal {
 }
 
 // Lines that give no order, and how they are rejected.
-const REFUSED: [(&str, Refusal); 48] = [
+const REFUSED: [(&str, Refusal); 49] = [
     ("rvcons foo", Refusal::Fault),
     ("rvcons asm", Refusal::Fault),
     ("rvcons list", Refusal::Fault),
@@ -319,6 +320,7 @@ const REFUSED: [(&str, Refusal); 48] = [
     ("rvcons debug --inputs 7 --choices c", Refusal::Fault),
     ("rvcons debug p --choices c", Refusal::Fault),
     ("rvcons debug p --inputs 7", Refusal::Fault),
+    ("rvcons gdb p --choices c", Refusal::Fault),
     ("rvcons threads --inputs 7 --budget 5", Refusal::Fault),
     ("rvcons threads p --budget 5", Refusal::Fault),
     ("rvcons threads p --inputs 7", Refusal::Fault),

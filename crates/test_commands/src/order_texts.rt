@@ -63,7 +63,8 @@ pub(crate) fn order_text(alloc: Global, order: &Order) -> Result<String, AllocEr
         Order::List(order) => file_text(alloc, "list", order),
         Order::Info(order) => file_text(alloc, "info", order),
         Order::Run(order) => run_text(alloc, order),
-        Order::Debug(order) => debug_text(alloc, order),
+        Order::Debug(order) => debug_text(alloc, "debug", order),
+        Order::Gdb(order) => debug_text(alloc, "gdb", order),
         Order::Threads(order) => threads_text(alloc, order),
         Order::Replay(order) => replay_text(alloc, order),
         Order::Lib(order) => lib_text(alloc, order),
@@ -100,9 +101,9 @@ fn run_text(alloc: Global, order: &RunOrder) -> Result<String, AllocError> {
     Ok(text)
 }
 
-fn debug_text(alloc: Global, order: &DebugOrder) -> Result<String, AllocError> {
+fn debug_text(alloc: Global, command: &str, order: &DebugOrder) -> Result<String, AllocError> {
     let fields = &[("FILE", Some(order.file)), ("inputs", Some(order.inputs))];
-    let mut text = text_with(alloc, "debug", fields)?;
+    let mut text = text_with(alloc, command, fields)?;
     push_choices(&mut text, order.choices)?;
     Ok(text)
 }

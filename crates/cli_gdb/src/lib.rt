@@ -1,0 +1,6 @@
+//! Runs `gdb`.
+#![tactic(auto)]
+
+pub use gdb::obey_gdb;
+
+mod gdb;
