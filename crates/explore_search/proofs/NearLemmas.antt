@@ -7,6 +7,7 @@ use Rattle.machine.specs.declared.choice.Choice.{Choice}
 use Rattle.explore_laws.specs.Places.{Place, place_after, place_reached}
 use Rattle.explore_table.proofs.ListLemmas.{get_behind, get_either, get_there, at_contains}
 use Rattle.explore_search.specs.Searched.{GoesOn, IsSoon, AreReached, AreDone, AreRising, AreSoon}
+use Rattle.explore_search.specs.Marked.{AreAllSeen}
 use Rattle.explore_search.specs.declared.seen.Link.{Link}
 use Rattle.explore_search.proofs.SearchLemmas.{Added, get_later, old_at, below_or}
 
@@ -149,8 +150,16 @@ soons_more place choices keys links n key link there found seen soons k x y c h 
     same_key c d e = cc
 
 -- ---- no shorter list
-module _ (place : List ℕ → Place) (choices : List Choice) (keys : List (List ℕ)) (links : List Link) (n : ℕ) (last : Link)
-    (r : AreRising links n) (soons : AreSoon place choices keys links n) (there : slice_get links n ≡ Some last) where
+-- a place is that of one of the first n keys
+pub record IsSooner (place : List ℕ → Place) (keys : List (List ℕ)) (n : ℕ) (p : Place) : Type 0 where
+  pub number : ℕ
+  pub key : List ℕ
+  pub there : slice_get keys number ≡ Some key
+  pub sooner : number < n
+  pub is : place key ≡ p
+
+module _ (place : List ℕ → Place) (choices : List Choice) (keys : List (List ℕ)) (links : List Link) (n m : ℕ) (last : Link)
+    (r : AreRising links m) (soons : AreSoon place choices keys links n) (there : slice_get links n ≡ Some last) where
   -- what is found sooner than key n stands before it
   before_last : (k : ℕ) (a : Link) → slice_get links k ≡ Some a → a.steps < last.steps → k < n
   before_last k a e h = elim (either k n) [
@@ -177,10 +186,10 @@ module _ (place : List ℕ → Place) (choices : List Choice) (keys : List (List
       (omega (arith, room)) (All-tail (Contains choices) c list all) in
       soon_later place keys links (m + 1 + length list) (m + suc (length list)) (place_reached (place_after p c) list) (omega arith) rest
 
-  pub none_shorter : (IsKey : List ℕ → Type 0) (start : Place) (bad : Place → Bool) → AreReached IsKey place start choices keys links
-      → AreDone place bad choices keys n → (other : List Choice) → All (Contains choices) other → length other < last.steps
-      → bad (place_reached start other) ≡ false
-  none_shorter IsKey start bad reached_all done other all shorter =
+  -- where a shorter list leads is the place of a key before key n
+  pub seen_sooner : (IsKey : List ℕ → Type 0) (start : Place) → AreReached IsKey place start choices keys links → (other : List Choice)
+      → All (Contains choices) other → length other < last.steps → IsSooner place keys n (place_reached start other)
+  seen_sooner IsKey start reached_all other all shorter =
       let first_link = get_there links 0 (let w = slice_get_within links n last there in omega (arith, w)) in
       let begin : IsSoon place keys links 0 start = (
         record {
@@ -196,7 +205,20 @@ module _ (place : List ℕ → Place) (choices : List Choice) (keys : List (List
       let s = soon_from 0 start other begin (omega (arith, shorter)) all in
       let at = s.0 in
       let x = s.1 in
-      ap bad (sym at.is) ∙ done.good at.number at.key (before_last at.number at.link at.found (omega (arith, x, shorter))) at.there
+      record {
+        number = at.number;
+        key = at.key;
+        there = at.there;
+        sooner = before_last at.number at.link at.found (omega (arith, x, shorter));
+        is = at.is;
+      }
+
+  pub none_shorter : (IsKey : List ℕ → Type 0) (start : Place) (bad : Place → Bool) → AreReached IsKey place start choices keys links
+      → AreDone place bad choices keys n → (other : List Choice) → All (Contains choices) other → length other < last.steps
+      → bad (place_reached start other) ≡ false
+  none_shorter IsKey start bad reached_all done other all shorter =
+      let s = seen_sooner IsKey start reached_all other all shorter in
+      ap bad (sym s.is) ∙ done.good s.number s.key s.sooner s.there
 
 -- ---- adding a key
 pub soon_new : (later : List ℕ → Place) (keys longer : List (List ℕ)) (links others : List Link) (key : List ℕ) (link : Link) (number : ℕ)
@@ -287,3 +309,16 @@ counts_all links n at number count r zero_at within counts b f =
     let at_is : at ≡ 0 = omega (arith, zero_at) in
     let x = counts first.0 b (ap (slice_get links) at_is ∙ first.1) f in
     let z = r.zero_first first.0 first.1 in omega (arith, x, z)
+
+-- ---- a search that has looked at all places
+pub closed_is_seen : {IsKey : List ℕ → Type 0} {place : List ℕ → Place} {begun start : Place} {bad : Place → Bool}
+    {choices : List Choice} {keys : List (List ℕ)} {links : List Link} {n : ℕ} → AreReached IsKey place begun choices keys links
+    → AreDone place bad choices keys n → AreRising links n → AreSoon place choices keys links n → begun ≡ start → length keys ≤ n
+    → AreAllSeen IsKey place start choices keys links
+closed_is_seen {IsKey} {place} {begun} {start} {bad} {choices} {keys} {links} {n} r d rising soon first all =
+    subst (λ p. AreAllSeen IsKey place p choices keys links) first (record {
+      reached = r;
+      closed = λ k key c e is. d.next k key c (let w = slice_get_within keys k key e in omega (arith, w, all)) e is;
+      rising = (n, rising);
+      soon = λ k key link c low e f is. soon k key link c (omega (arith, low, all)) e f is;
+    })

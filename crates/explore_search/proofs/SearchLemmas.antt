@@ -46,7 +46,7 @@ pub below_or : (k n : ℕ) → k < n + 1 → (k < n) ⊎ (k ≡ n)
 below_or k n h = grind arith
 
 -- ---- a closed search has seen all
-seen_from : (place : List ℕ → Place) (bad : Place → Bool) (choices : List Choice) (keys : List (List ℕ))
+pub seen_from : (place : List ℕ → Place) (bad : Place → Bool) (choices : List Choice) (keys : List (List ℕ))
     → AreDone place bad choices keys (length keys) → (list : List Choice) → (p : Place) → IsSeen place keys p
     → All (Contains choices) list → IsSeen place keys (place_reached p list)
 unfolding place_reached

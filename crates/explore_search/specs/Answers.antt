@@ -18,14 +18,14 @@ pub record LeadsToBad (choices : List Choice) (first : Place) (bad : Place → B
 -- a search's answer is right: no list of the choices leads to a bad place, or this one does, and no
 -- shorter one
 abbrev pub SearchAnswers : {Z : Type 0} → List Choice → Place → (Place → Bool) → Found Z → Type 0
-SearchAnswers choices first bad (Safe keys) = IsSafe choices first bad
+SearchAnswers choices first bad (Safe seen) = IsSafe choices first bad
 SearchAnswers choices first bad (Bad list) = LeadsToBad choices first bad list.items
 SearchAnswers choices first bad Undecided = Unit {0}
 
 -- a search's keys are as many as the places that are reached, and it gives up only where more than
 -- `most` are
 abbrev pub SearchCounts : {Z : Type 0} → List Choice → Place → ℕ → Found Z → Type 0
-SearchCounts choices first most (Safe keys) = HasPlaces choices first (length keys)
+SearchCounts choices first most (Safe seen) = HasPlaces choices first (length seen.keys)
 SearchCounts choices first most (Bad list) = Unit {0}
 SearchCounts choices first most Undecided = HasMorePlaces choices first most
 
@@ -38,6 +38,6 @@ pub record AreAllReached (IsKey : List ℕ → Type 0) (place : List ℕ → Pla
 
 -- the keys of a search that has looked at all places are theirs
 abbrev pub SearchReaches : {Z : Type 0} → (List ℕ → Type 0) → (List ℕ → Place) → List Choice → Place → Found Z → Type 0
-SearchReaches IsKey place choices first (Safe keys) = AreAllReached IsKey place choices first keys
+SearchReaches IsKey place choices first (Safe seen) = AreAllReached IsKey place choices first seen.keys
 SearchReaches IsKey place choices first (Bad list) = Unit {0}
 SearchReaches IsKey place choices first Undecided = Unit {0}

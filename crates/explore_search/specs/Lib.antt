@@ -1,3 +1,4 @@
 pub mod Searched
 pub mod Counted
 pub mod Answers
+pub mod Marked

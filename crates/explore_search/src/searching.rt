@@ -3,6 +3,7 @@ ghost use Rattle.std.specs.Prelude.{◌≡◌, ℕ, ◌+◌, ◌<◌, false, Lis
 ghost use Rattle.explore_laws.specs.Places.{Place};
 ghost use Rattle.explore_search.specs.Searched.{AreReached, AreDone, AreRising, AreSoon};
 ghost use Rattle.explore_search.specs.Answers.{SearchAnswers, SearchCounts, SearchReaches};
+ghost use Rattle.explore_search.specs.Marked.{SearchSees};
 
 use crate::seen::{Link, Seen};
 use crate::space::Space;
@@ -14,8 +15,8 @@ use std::alloc::{AllocError, Allocator};
 #[derive(Drop)]
 pub enum Found<A: Allocator> {
     /// No list of the choices leads to a bad place; these are the keys of the places that lists
-    /// lead to.
-    Safe(Table<A>),
+    /// lead to, nearest first.
+    Safe(Seen<A>),
     /// This list leads to a bad place.
     Bad(Vec<Choice, A>),
     /// Lists lead to more places than may be looked at.
@@ -99,6 +100,8 @@ pub fn search<A: Allocator + Copy, S: Space<A>>(
     ensures counts { IfOk result (λ found. SearchCounts choices.now (S.first space.old) most found) }
     ensures reaches { IfOk result (λ found. SearchReaches (S.is_key space.new) (S.place space.new) choices.now
         (S.first space.old) found) }
+    ensures sees { IfOk result (λ found. SearchSees (S.is_key space.new) (S.place space.new) choices.now
+        (S.first space.old) found) }
     ensures first { OnOk result (S.first space.new ≡ S.first space.old) }
     ensures bad { OnOk result (S.bad space.new ≡ S.bad space.old) }
 {
@@ -106,7 +109,7 @@ pub fn search<A: Allocator + Copy, S: Space<A>>(
     'places: for from in 0..most {
         let count = seen.keys.len();
         if from >= count {
-            return Ok(Found::Safe(seen.keys));
+            return Ok(Found::Safe(seen));
         }
         let key = Vec::from_slice(alloc, seen.keys.key(from))?;
         let is_bad = space.is_bad(&key)?;
@@ -117,7 +120,7 @@ pub fn search<A: Allocator + Copy, S: Space<A>>(
     }
     let found = seen.keys.len();
     if found <= most {
-        return Ok(Found::Safe(seen.keys));
+        return Ok(Found::Safe(seen));
     }
     Ok(Found::Undecided)
 }

@@ -21,6 +21,9 @@ pub trait Space<A: Allocator> {
     /// Whether a place must not be reached.
     ghost bad: { Self → Place → Bool };
 
+    /// Whether a place has ended.
+    ghost ended: { Self → Place → Bool };
+
     /// The key of the first place. Keys from before may stand for nothing from now on.
     fn first_key(&mut self) -> Result<Vec<u32, A>, AllocError>
         ensures key { IfOk result (λ k. is_key self.new k.items × (place self.new k.items ≡ first self.old)) }
@@ -42,4 +45,9 @@ pub trait Space<A: Allocator> {
     fn is_bad(&self, key: &[u32]) -> Result<bool, AllocError>
         requires { is_key self.now key.now }
         ensures { IfOk result (λ answer. answer ≡ bad self.now (place self.now key.now)) };
+
+    /// Whether a key's place has ended. The only error is out of memory.
+    fn has_ended(&self, key: &[u32]) -> Result<bool, AllocError>
+        requires { is_key self.now key.now }
+        ensures { IfOk result (λ answer. answer ≡ ended self.now (place self.now key.now)) };
 }

@@ -53,7 +53,7 @@ plain_first : (refusals : ScRefusals) (n : ℕ) → Contains (hart_choices refus
 plain_first Also n = (0, omega arith, refl)
 plain_first Never n = (0, omega arith, refl)
 
-plain_meant : (refusals : ScRefusals) (n h : ℕ) → h < n → Contains (meant_choices refusals n) (record { hart = h; refuse = false })
+pub plain_meant : (refusals : ScRefusals) (n h : ℕ) → h < n → Contains (meant_choices refusals n) (record { hart = h; refuse = false })
 unfolding meant_choices
 plain_meant refusals zero h low = absurd (omega (arith, low))
 plain_meant refusals (suc n) h low = elim (below_or h n (omega (arith, low))) [

@@ -11,3 +11,4 @@ pub mod EveryLemmas
 pub mod EndLemmas
 pub mod StopLemmas
 pub mod EveryEnds
+pub mod ExitLemmas

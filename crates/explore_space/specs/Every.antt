@@ -8,13 +8,14 @@ use Rattle.machine.specs.declared.choice.Choice.{Choice}
 use Rattle.object_library.specs.declared.kind.Kind.{Kind}
 use Rattle.outcome.specs.Expect.{fails, judged}
 use Rattle.outcome.specs.Outcome.{some_run}
-use Rattle.outcome.specs.declared.expect.Exit.TheVariants.{May}
+use Rattle.outcome.specs.declared.expect.Exit.{Exit}
+use Rattle.outcome.specs.declared.expect.Exit.TheVariants.{May, Must}
 use Rattle.explore_laws.specs.Places.{place_begun}
 use Rattle.explore_laws.specs.Settling.{turns_choices}
 use Rattle.explore_search.specs.Counted.{HasPlaces, HasMorePlaces}
 use Rattle.explore_space.specs.Ends.{EndValue, end_with, ends_in}
 use Rattle.explore_space.specs.declared.exploring.Answer.{Answer}
-use Rattle.explore_space.specs.declared.exploring.Answer.TheVariants.{Holds, Fails, Undecided}
+use Rattle.explore_space.specs.declared.exploring.Answer.TheVariants.{Holds, Fails, Hangs, Undecided}
 use Rattle.explore_space.specs.declared.meant.ScRefusals.{ScRefusals}
 use Rattle.explore_space.specs.declared.meant.ScRefusals.TheVariants.{Also, Never}
 
@@ -51,13 +52,15 @@ pub record FailsFirst (meant : List Choice) (first : World) (is_failing : List C
   pub shortest : (other : List Choice) → IsListOf meant other → length other < count → is_failing other ≡ false
 
 -- an answer holds of every schedule: no list of the harts' choices fails, or this one does; where
--- it is undecided, nothing is said
+-- it is undecided, nothing is said, and where one hangs, none fails
 abbrev pub HoldsOfEvery : {Z : Type 0} → Option Kind → ScRefusals → ImageValue → List ℕ → Answer Z → Type 0
 HoldsOfEvery rule refusals image inputs (Holds held) =
     (choices : List Choice) → IsListOf (meant_choices refusals (length inputs)) choices → run_fails rule image inputs choices ≡ false
 HoldsOfEvery rule refusals image inputs (Fails failing) =
     FailsFirst (meant_choices refusals (length inputs)) (started image inputs) (run_fails rule image inputs)
     failing.choices.items failing.turns
+HoldsOfEvery rule refusals image inputs (Hangs hanging) =
+    (choices : List Choice) → IsListOf (meant_choices refusals (length inputs)) choices → run_fails rule image inputs choices ≡ false
 HoldsOfEvery rule refusals image inputs Undecided = Unit {0}
 
 -- an answer counts places: turns lead to so many where nothing fails, and to more than `most` where
@@ -66,6 +69,7 @@ abbrev pub CountsPlaces : {Z : Type 0} → ScRefusals → ImageValue → List �
 CountsPlaces refusals image inputs most (Holds held) =
     HasPlaces (meant_choices refusals (length inputs)) (place_begun (started image inputs)) held.places
 CountsPlaces refusals image inputs most (Fails failing) = Unit {0}
+CountsPlaces refusals image inputs most (Hangs hanging) = Unit {0}
 CountsPlaces refusals image inputs most Undecided =
     HasMorePlaces (meant_choices refusals (length inputs)) (place_begun (started image inputs)) most
 
@@ -97,4 +101,42 @@ pub record AreAllEnds (rule : Option Kind) (refusals : ScRefusals) (image : Imag
 abbrev pub TellsEnds : {Z : Type 0} → Option Kind → ScRefusals → ImageValue → List ℕ → Answer Z → Type 0
 TellsEnds rule refusals image inputs (Holds held) = AreAllEnds rule refusals image inputs (ends_in held.ends)
 TellsEnds rule refusals image inputs (Fails failing) = Unit {0}
+TellsEnds rule refusals image inputs (Hangs hanging) = Unit {0}
 TellsEnds rule refusals image inputs Undecided = Unit {0}
+
+-- some list of the harts' choices leads from a world to one in which no hart runs
+pub record HasExit (meant : List Choice) (w : World) : Type 0 where
+  pub choices : List Choice
+  pub meant_ones : IsListOf meant choices
+  pub stops : some_run (run w choices).harts ≡ false
+
+-- a list of these choices leads to a world that has no way out; it is the choices of so many turns,
+-- and the worlds of fewer turns, and those of fewer choices, have one
+pub record HangsFirst (meant : List Choice) (first : World) (choices : List Choice) (count : ℕ)
+    : Type 0 where
+  pub turns : List Choice
+  pub meant_turns : IsListOf meant turns
+  pub count_is : length turns ≡ count
+  pub choices_are : choices ≡ turns_choices first turns
+  pub meant_ones : IsListOf meant choices
+  pub hangs : HasExit meant (run first choices) → ⊥
+  pub fewest : (other : List Choice) → IsListOf meant other → length other < count
+      → HasExit meant (run first (turns_choices first other))
+  pub shortest : (other : List Choice) → IsListOf meant other → length other < count
+      → HasExit meant (run first other)
+
+-- an answer tells of ways out where they are asked for: each world that a list of the harts'
+-- choices leads to has one, or this list leads to one that has none
+abbrev pub TellsExits : {Z : Type 0} → Exit → ScRefusals → ImageValue → List ℕ → Answer Z → Type 0
+TellsExits May refusals image inputs (Holds held) = Unit {0}
+TellsExits May refusals image inputs (Fails failing) = Unit {0}
+TellsExits May refusals image inputs (Hangs hanging) = ⊥
+TellsExits May refusals image inputs Undecided = Unit {0}
+TellsExits Must refusals image inputs (Holds held) =
+    (choices : List Choice) → IsListOf (meant_choices refusals (length inputs)) choices
+    → HasExit (meant_choices refusals (length inputs)) (run (started image inputs) choices)
+TellsExits Must refusals image inputs (Fails failing) = Unit {0}
+TellsExits Must refusals image inputs (Hangs hanging) =
+    HangsFirst (meant_choices refusals (length inputs)) (started image inputs)
+    hanging.choices.items hanging.turns
+TellsExits Must refusals image inputs Undecided = Unit {0}

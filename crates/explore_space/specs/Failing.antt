@@ -1,8 +1,9 @@
 -- Whether the run that leads to a place has failed.
-use Rattle.std.specs.Prelude.{ℕ, zero, suc, Bool, false, if◌then◌else◌, List, [], ◌∷◌, length, Option}
+use Rattle.std.specs.Prelude.{ℕ, zero, suc, Bool, false, not, if◌then◌else◌, List, [], ◌∷◌, length, Option}
 use Rattle.machine.specs.declared.choice.Choice.{Choice}
 use Rattle.object_library.specs.declared.kind.Kind.{Kind}
 use Rattle.outcome.specs.Expect.{fails, judged}
+use Rattle.outcome.specs.Outcome.{some_run}
 use Rattle.outcome.specs.declared.expect.Exit.TheVariants.{May}
 use Rattle.explore_laws.specs.Places.{Place}
 
@@ -15,3 +16,7 @@ one_each (suc n) chosen =
 -- whether the run to a place has failed: its rule is broken, or without a rule a hart has faulted
 abbrev pub fails_there : Option Kind → List ℕ → Place → Bool
 fails_there rule inputs p = fails May (judged rule inputs (one_each (length inputs) p.chosen) p.world.harts)
+
+-- whether no hart runs in a place
+abbrev pub ends_there : Place → Bool
+ends_there p = not (some_run p.world.harts)

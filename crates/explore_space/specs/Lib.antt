@@ -1,4 +1,5 @@
 pub mod Places
 pub mod Failing
+pub mod Stuck
 pub mod Ends
 pub mod Every

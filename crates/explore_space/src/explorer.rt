@@ -6,9 +6,9 @@ ghost use Rattle.hart_local.specs.CodeMemory.{code_in};
 ghost use Rattle.machine.specs.Start.{started};
 ghost use Rattle.explore_laws.specs.Places.{Place, place_begun};
 ghost use Rattle.explore_space.specs.Places.{IsKey, place_of_key};
-ghost use Rattle.explore_space.specs.Failing.{fails_there};
+ghost use Rattle.explore_space.specs.Failing.{ends_there, fails_there};
 
-use crate::failing::fails_at;
+use crate::failing::{fails_at, has_ended_at};
 use crate::first::first_parts;
 use crate::kept::Kept;
 use crate::shared::Shared;
@@ -75,6 +75,8 @@ impl<'a, A: Allocator + Copy> Space<A> for Explorer<'a, A> {
 
     ghost bad = { λ e p. fails_there e.rule e.inputs.now p };
 
+    ghost ended = { λ e p. ends_there p };
+
     fn first_key(&mut self) -> Result<Vec<u32, A>, AllocError> {
         first_parts(
             self.alloc,
@@ -115,5 +117,10 @@ impl<'a, A: Allocator + Copy> Space<A> for Explorer<'a, A> {
             self.rule,
             key,
         )
+    }
+
+    fn has_ended(&self, key: &[u32]) -> Result<bool, AllocError> {
+        let count = self.inputs.harts() as usize;
+        has_ended_at(self.alloc, &self.harts.parts, count, key)
     }
 }

@@ -1,25 +1,32 @@
 //! Every schedule of a program.
-ghost use Rattle.std.specs.Prelude.{IfOk};
-ghost use Rattle.explore_space.specs.Every.{HoldsOfEvery, CountsPlaces, TellsEnds};
+ghost use Rattle.std.specs.Prelude.{◌≡◌, IfOk, length};
+ghost use Rattle.machine.specs.Start.{started};
+ghost use Rattle.explore_laws.specs.Places.{place_begun};
+ghost use Rattle.explore_laws.specs.Settling.{turns_choices};
+ghost use Rattle.explore_search.specs.Marked.{AreAllSeen};
+ghost use Rattle.explore_space.specs.Places.{IsKey, place_of_key};
+ghost use Rattle.explore_space.specs.Every.{HoldsOfEvery, CountsPlaces, TellsEnds, TellsExits};
+ghost use Rattle.explore_space.specs.Stuck.{AnswersExit};
 
 use crate::ending::ends_at_keys;
 use crate::expanding::choices_of_turns;
 use crate::explorer::Explorer;
 use crate::meant::{ScRefusals, meant_choices};
 use crate::run_end::Ends;
-use explore_search::{Found, search};
+use explore_search::{Found, Seen, nearest_stuck, search};
 use image::Image;
 use machine::{Choice, Inputs};
 use object_library::Kind;
+use outcome::Exit;
 use std::alloc::{AllocError, Allocator};
 
-/// A list of choices that fails.
+/// A list of choices that fails or hangs.
 #[derive(Drop)]
 pub struct Failing<A: Allocator> {
     /// The choices.
     pub choices: Vec<Choice, A>,
     /// How many turns they are: a choice, and the local steps of its hart behind it. No fewer turns
-    /// fail, and no list of fewer choices does.
+    /// fail or hang, and no list of fewer choices does.
     pub turns: usize,
 }
 
@@ -39,36 +46,87 @@ pub enum Answer<A: Allocator> {
     Holds(Held<A>),
     /// This list fails.
     Fails(Failing<A>),
+    /// No list fails, and this one hangs: from its world no list leads to one in which no hart runs.
+    Hangs(Failing<A>),
     /// Turns reach more places than may be looked at.
     Undecided,
 }
 
+// The turns that lead to the nearest place without a way out, if that is asked for and there is one.
+fn stuck_turns<A: Allocator + Copy>(
+    alloc: A,
+    explorer: &mut Explorer<A>,
+    meant: &[Choice],
+    seen: &Seen<A>,
+    exit: Exit,
+) -> Result<Option<Vec<Choice, A>>, AllocError>
+    requires { AreAllSeen (IsKey explorer.old.image.now (length explorer.old.inputs.now) explorer.old.harts.parts.items
+        explorer.old.shareds.parts.items)
+        (place_of_key explorer.old.image.now (length explorer.old.inputs.now) explorer.old.harts.parts.items
+        explorer.old.shareds.parts.items)
+        (place_begun (started explorer.old.image.now explorer.old.inputs.now)) meant.now seen.now.keys seen.now.links.items }
+    ensures { IfOk result (λ found. AnswersExit exit meant.now
+        (place_begun (started explorer.old.image.now explorer.old.inputs.now)) found) }
+{
+    match exit {
+        Exit::May => Ok(None),
+        Exit::Must => nearest_stuck(alloc, explorer, meant, seen),
+    }
+}
+
+// The choices of turns, and how many these are.
+fn choices_and_turns<A: Allocator + Copy>(
+    alloc: A,
+    image: &Image<A>,
+    inputs: &Inputs,
+    turns: &[Choice],
+) -> Result<Failing<A>, AllocError>
+    ensures choices { IfOk result (λ list. list.choices.items ≡ turns_choices (started image.now inputs.now) turns.now) }
+    ensures turns { IfOk result (λ list. length turns.now ≡ list.turns) }
+{
+    Ok(Failing {
+        choices: choices_of_turns(alloc, image, inputs, turns)?,
+        turns: turns.len(),
+    })
+}
+
 /// Whether a list of the harts' choices, of any length, leads a program with these inputs to a
 /// failure: a broken rule, or without a rule a hart that has faulted. None does; or one does, which
-/// is given; or turns reach more than `most` places. The only error is out of memory.
+/// is given; or turns reach more than `most` places. Where each hart must exit and none fails, it is
+/// also answered whether a list leads to a world that has no way out, and one that does is given.
+/// The only error is out of memory.
 pub fn explore<A: Allocator + Copy>(
     alloc: A,
     image: &Image<A>,
     inputs: &Inputs,
     rule: Option<Kind>,
+    exit: Exit,
     refusals: ScRefusals,
     most: usize,
 ) -> Result<Answer<A>, AllocError>
     ensures holds { IfOk result (λ answer. HoldsOfEvery rule refusals image.now inputs.now answer) }
     ensures places { IfOk result (λ answer. CountsPlaces refusals image.now inputs.now most answer) }
     ensures ends { IfOk result (λ answer. TellsEnds rule refusals image.now inputs.now answer) }
+    ensures exits { IfOk result (λ answer. TellsExits exit refusals image.now inputs.now answer) }
 {
     let meant = meant_choices(alloc, refusals, inputs.harts())?;
     let mut explorer = Explorer::new(alloc, image, inputs, rule)?;
     match search(alloc, &mut explorer, &meant, most)? {
-        Found::Safe(keys) => Ok(Answer::Holds(Held {
-            places: keys.len(),
-            ends: ends_at_keys(alloc, explorer.known_harts(), inputs.words(), rule, &keys)?,
-        })),
-        Found::Bad(turns) => Ok(Answer::Fails(Failing {
-            choices: choices_of_turns(alloc, image, inputs, &turns)?,
-            turns: turns.len(),
-        })),
+        Found::Safe(seen) => {
+            let places = seen.keys.len();
+            let ends = ends_at_keys(
+                alloc,
+                explorer.known_harts(),
+                inputs.words(),
+                rule,
+                &seen.keys,
+            )?;
+            match stuck_turns(alloc, &mut explorer, &meant, &seen, exit)? {
+                None => Ok(Answer::Holds(Held { places, ends })),
+                Some(turns) => Ok(Answer::Hangs(choices_and_turns(alloc, image, inputs, &turns)?)),
+            }
+        }
+        Found::Bad(turns) => Ok(Answer::Fails(choices_and_turns(alloc, image, inputs, &turns)?)),
         Found::Undecided => Ok(Answer::Undecided),
     }
 }

@@ -1,7 +1,8 @@
-//! Whether the run to a key's place has failed.
-ghost use Rattle.std.specs.Prelude.{◌≡◌, ◌<◌, ◌≤◌, ◌+◌, ◌*◌, ◌==◌, ◌&&◌, nat_lt, ℕ, Bool, Some, IfOk, length, map, slice_get, slice_index, take};
+//! Whether the run to a key's place has failed, and whether it has ended.
+ghost use Rattle.std.specs.Prelude.{◌≡◌, ◌<◌, ◌≤◌, ◌+◌, ◌*◌, ◌==◌, ◌&&◌, nat_lt, not, ℕ, Bool, Some, IfOk, length, map, slice_get, slice_index, take};
 ghost use Rattle.hart_step.specs.Hart.{hart_of};
 ghost use Rattle.outcome.specs.Expect.{fails, judged};
+ghost use Rattle.outcome.specs.Outcome.{some_run};
 ghost use Rattle.outcome.specs.declared.expect.Exit.TheVariants.{May};
 ghost use Rattle.sched_run.specs.Chosen.{harts_of};
 ghost use Rattle.explore_space.specs.Places.{hart_numbered};
@@ -9,7 +10,7 @@ ghost use Rattle.explore_space.specs.Failing.{one_each};
 
 use hart_step::Hart;
 use object_library::Kind;
-use outcome::{Exit, Expect};
+use outcome::{Exit, Expect, some_run};
 use sched_run::Chosen;
 use std::alloc::{AllocError, Allocator};
 
@@ -70,4 +71,20 @@ pub fn fails_at<A: Allocator + Copy>(
     };
     let outcome = expect.judge(alloc, inputs, &chosen, &ends)?;
     Ok(expect.fails(outcome))
+}
+
+/// Whether no hart runs in a key's place. The only error is out of memory.
+pub fn has_ended_at<A: Allocator>(
+    alloc: A,
+    harts: &[Hart],
+    count: usize,
+    key: &[u32],
+) -> Result<bool, AllocError>
+    requires long { count ≤ length key.now }
+    requires there { (k id : ℕ) → slice_get (take count key.now) k ≡ Some id → id < length harts.now }
+    ensures { IfOk result (λ answer. answer ≡ not (some_run (map (hart_numbered harts.now) (take count key.now)))) }
+{
+    let by_key = harts_by_key(alloc, harts, count, key)?;
+    let runs = some_run(by_key.as_slice());
+    Ok(!runs)
 }

@@ -3,7 +3,7 @@ use Rattle.explore_laws.specs.Places.{place_reached}
 use Rattle.explore_search.specs.Searched.{AreReached, AreDone}
 use Rattle.explore_search.proofs.SearchLemmas.{closed_is_safe, closed_is_all, closed_is_counted, more_are_counted}
 use Rattle.explore_table.proofs.ListLemmas.{get_there}
-use Rattle.explore_search.proofs.NearLemmas.{none_shorter}
+use Rattle.explore_search.proofs.NearLemmas.{closed_is_seen, none_shorter}
 use Rattle.explore_search.proofs.searching.search.Goals as goal
 
 pub returns-then-from-count-clause-answers : goal.returns-then-from-count-clause-answers
@@ -37,7 +37,7 @@ returns-then-is_bad-clause-answers g c =
           let even = c.places.invariant.reached.even in
           let last = get_there c.places.seen.links.items c.places.from (omega (arith, more, count, even)) in
           let steps = c.in_ok-path_to.ensures.steps last.0 last.1 in
-          none_shorter (g.S.Space.place c.places.space) c.args.choices.now c.places.seen.keys c.places.seen.links.items c.places.from last.0
+          none_shorter (g.S.Space.place c.places.space) c.args.choices.now c.places.seen.keys c.places.seen.links.items c.places.from c.places.from last.0
           c.places.invariant.rising c.places.invariant.soon last.1 (g.S.Space.is_key c.places.space) (g.S.Space.first c.args.space.now)
           (g.S.Space.bad c.args.space.now)
           (subst (λ first. AreReached (g.S.Space.is_key c.places.space) (g.S.Space.place c.places.space) first c.args.choices.now
@@ -75,3 +75,18 @@ returns-clause-counts g c =
     let more = c.if-found-most.false in
     let count = c.len-found.ensures in
     more_are_counted c.places.invariant.reached c.places.invariant.first (omega (arith, more, count))
+
+pub returns-then-from-count-clause-sees : goal.returns-then-from-count-clause-sees
+returns-then-from-count-clause-sees g c =
+    let all = c.if-from-count.true in
+    let count = c.len-count.ensures in
+    closed_is_seen c.places.invariant.reached c.places.invariant.done c.places.invariant.rising c.places.invariant.soon c.places.invariant.first
+    (omega (arith, all, count))
+
+pub returns-then-found-most-clause-sees : goal.returns-then-found-most-clause-sees
+returns-then-found-most-clause-sees g c =
+    let few = c.if-found-most.true in
+    let count = c.len-found.ensures in
+    let over = c.places-test.false in
+    closed_is_seen c.places.invariant.reached c.places.invariant.done c.places.invariant.rising c.places.invariant.soon c.places.invariant.first
+    (omega (arith, few, count, over))

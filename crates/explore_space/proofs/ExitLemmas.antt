@@ -1,0 +1,134 @@
+-- Ways out of places and of worlds.
+use Rattle.std.proofs.Common.{◌≡◌, ℕ, ◌<◌, Bool, true, false, not, List, ◌++◌, length, Option, Some, None, refl, ap, sym, ◌∙◌, subst, arith}
+use Rattle.std.proofs.lemmas.List.Elements.{All-append}
+use Rattle.std.specs.List.{Contains}
+use Rattle.std.specs.Prelude.{Vec}
+use Rattle.image.specs.Image.{ImageValue}
+use Rattle.hart_step.specs.Hart.{HartValue}
+use Rattle.machine.specs.Start.{started}
+use Rattle.machine.specs.World.{World, run}
+use Rattle.machine.specs.declared.choice.Choice.{Choice}
+use Rattle.machine.proofs.RunLaws.{run_length, length-started}
+use Rattle.outcome.specs.Outcome.{some_run}
+use Rattle.outcome.specs.declared.expect.Exit.{Exit}
+use Rattle.outcome.specs.declared.expect.Exit.TheVariants.{May, Must}
+use Rattle.explore_laws.proofs.CoverLemmas.{run_has_turns}
+use Rattle.explore_laws.proofs.TurnLemmas.{run_joined, run_of_turns, turns_from}
+use Rattle.explore_laws.proofs.WayLemmas.{walks_there}
+use Rattle.explore_laws.specs.Covering.{HasTurns, WorldCovers}
+use Rattle.explore_laws.specs.Places.{Place, place_begun, place_reached}
+use Rattle.explore_laws.specs.Settling.{turns_choices}
+use Rattle.explore_laws.specs.WaysOut.{HasWayOut, HaveWaysOut}
+use Rattle.explore_search.specs.Marked.{LeadsToStuck}
+use Rattle.explore_space.specs.Every.{meant_choices, IsListOf, HasExit, HangsFirst, TellsExits}
+use Rattle.explore_space.specs.Failing.{ends_there}
+use Rattle.explore_space.specs.Stuck.{AnswersExit}
+use Rattle.explore_space.specs.declared.exploring.Answer.TheVariants.{Holds, Hangs}
+use Rattle.explore_space.specs.declared.exploring.Failing.{Failing}
+use Rattle.explore_space.specs.declared.exploring.Held.{Held}
+use Rattle.explore_space.specs.declared.meant.ScRefusals.{ScRefusals}
+use Rattle.explore_space.proofs.EveryLemmas.{plain_meant, turns_meant}
+use Rattle.explore_space.proofs.StopLemmas.{same_harts}
+
+stopped : (b : Bool) → not b ≡ true → b ≡ false
+stopped false e = refl
+stopped true e = absurd (let no : false ≡ true = e in cc)
+
+module _ (refusals : ScRefusals) (image : ImageValue) (inputs : List ℕ) where
+  abbrev meant : List Choice
+  meant = meant_choices refusals (length inputs)
+
+  abbrev first : World
+  first = started image inputs
+
+  abbrev reached : List Choice → Place
+  reached turns = place_reached (place_begun first) turns
+
+  -- turns lead out of a place where their choices lead out of its world
+  place_exit : (p : Place) → HasWayOut meant ends_there p → HasExit meant p.world
+  place_exit p way = record {
+    choices = turns_choices p.world way.turns;
+    meant_ones = turns_meant refusals (length inputs) p.world way.turns way.are_meant;
+    stops = ap (λ (x : World). some_run x.harts) (turns_from p way.turns)
+        ∙ stopped (some_run (place_reached p way.turns).world.harts) way.ends;
+  }
+
+  exit_place : (p : Place) → HasExit meant p.world → HasWayOut meant ends_there p
+  exit_place p exit =
+      let found = run_has_turns meant p.world exit.choices exit.meant_ones in
+      let world = sym (turns_from p found.turns) ∙ run_of_turns p.world found.turns in
+      let harts = same_harts (place_reached (place_begun p.world) found.turns).world (run p.world exit.choices) found.place.covers exit.stops in
+      record {
+        turns = found.turns;
+        are_meant = found.are_meant;
+        ends = ap (λ (x : World). not (some_run x.harts)) world ∙ ap (λ (hs : List HartValue). not (some_run hs)) harts ∙ ap not exit.stops;
+      }
+
+  -- local steps lead to a world that covers another, and so out of that one
+  covered_exit : (s w : World) → length s.harts ≡ length inputs → WorldCovers s w → HasExit meant s → HasExit meant w
+  covered_exit s w count covers exit =
+      let there = walks_there meant s (λ h low. plain_meant refusals (length inputs) h (omega (arith, low, count))) w covers in
+      record {
+        choices = there.0 ++ exit.choices;
+        meant_ones = All-append (Contains meant) there.0 exit.choices there.1 exit.meant_ones;
+        stops = ap (λ (x : World). some_run x.harts)
+            (run_joined w there.0 exit.choices ∙ ap (λ (x : World). run x exit.choices) there.2) ∙ exit.stops;
+      }
+
+  count_of : (turns : List Choice) → length (reached turns).world.harts ≡ length inputs
+  count_of turns =
+      ap (λ (x : World). length x.harts) (sym (run_of_turns first turns)) ∙ run_length first (turns_choices first turns)
+      ∙ length-started image inputs
+
+  run_exit : (choices : List Choice) (found : HasTurns meant first choices) → HasWayOut meant ends_there (reached found.turns)
+      → HasExit meant (run first choices)
+  run_exit choices found way =
+      covered_exit (reached found.turns).world (run first choices) (count_of found.turns) found.place.covers
+      (place_exit (reached found.turns) way)
+
+  exits_all : HaveWaysOut meant (place_begun first) ends_there → (choices : List Choice) → IsListOf meant choices
+      → HasExit meant (run first choices)
+  exits_all ways choices all =
+      let found = run_has_turns meant first choices all in run_exit choices found (ways found.turns found.are_meant)
+
+  hangs_first : (turns choices : List Choice) (count : ℕ) → LeadsToStuck meant (place_begun first) ends_there turns
+      → choices ≡ turns_choices first turns → length turns ≡ count → HangsFirst meant first choices count
+  hangs_first turns choices count leads is count_is =
+      let world : run first choices ≡ (reached turns).world = ap (run first) is ∙ run_of_turns first turns in
+      record {
+        turns = turns;
+        meant_turns = leads.meant;
+        count_is = count_is;
+        choices_are = is;
+        meant_ones = subst (IsListOf meant) (sym is) (turns_meant refusals (length inputs) first turns leads.meant);
+        hangs = λ exit. leads.stuck (exit_place (reached turns) (subst (HasExit meant) world exit));
+        fewest = λ other all less.
+            subst (HasExit meant) (sym (run_of_turns first other))
+            (place_exit (reached other) (leads.nearest other all (omega (arith, less, count_is))));
+        shortest = λ other all less.
+            let found = run_has_turns meant first other all in
+            run_exit other found (leads.nearest found.turns found.are_meant
+            (let few = found.no_more in omega (arith, few, less, count_is)));
+      }
+
+  -- ---- an answer for places is one for runs
+  pub held_exits : {Z : Type 0} (exit : Exit) (held : Held Z) (found : Option (Vec Choice Z)) → found ≡ None
+      → AnswersExit exit meant (place_begun first) found → TellsExits exit refusals image inputs (Holds held)
+  held_exits May held found none answers = tt
+  held_exits Must held found none answers =
+      exits_all (subst (AnswersExit Must meant (place_begun first)) none answers)
+
+  pub hanging_exits : {Z : Type 0} (exit : Exit) (hanging : Failing Z) (found : Option (Vec Choice Z)) (turns : Vec Choice Z)
+      → found ≡ Some turns → AnswersExit exit meant (place_begun first) found
+      → hanging.choices.items ≡ turns_choices first turns.items → length turns.items ≡ hanging.turns
+      → TellsExits exit refusals image inputs (Hangs hanging)
+  hanging_exits May hanging found turns is none choices count = absurd (cc)
+  hanging_exits Must hanging found turns is answers choices count =
+      hangs_first turns.items hanging.choices.items hanging.turns
+      (subst (AnswersExit Must meant (place_begun first)) is answers) choices count
+
+-- the same by equal parts
+pub moved_exit : {Z : Type 0} (exit : Exit) {ms ns : List Choice} {p q : Place} (found : Option (Vec Choice Z)) → ms ≡ ns → p ≡ q
+    → AnswersExit exit ms p found → AnswersExit exit ns q found
+moved_exit {Z} exit {ms} {ns} {p} {q} found m e a =
+    subst (λ x. AnswersExit exit ns x found) e (subst (λ xs. AnswersExit exit xs p found) m a)

@@ -1,0 +1,13 @@
+-- Places without a way out, where each hart must exit.
+use Rattle.std.specs.Prelude.{◌≡◌, List, Option, None, Vec}
+use Rattle.machine.specs.declared.choice.Choice.{Choice}
+use Rattle.outcome.specs.declared.expect.Exit.{Exit}
+use Rattle.outcome.specs.declared.expect.Exit.TheVariants.{May, Must}
+use Rattle.explore_laws.specs.Places.{Place}
+use Rattle.explore_search.specs.Marked.{AnswersStuck}
+use Rattle.explore_space.specs.Failing.{ends_there}
+
+-- a search for a place without a way out is right, or none was asked for
+abbrev pub AnswersExit : {Z : Type 0} → Exit → List Choice → Place → Option (Vec Choice Z) → Type 0
+AnswersExit May meant first found = found ≡ None
+AnswersExit Must meant first found = AnswersStuck meant first ends_there found
