@@ -25,11 +25,11 @@ abbrev pub first_standing : Session → ServerState
 first_standing s = standing (first_talk s) []
 
 -- what is sent for the packets of an input was appended
-abbrev pub ServesInput : Opening → List ℕ → Option (List ℕ) → Option (List ℕ) → Type 0
-ServesInput (Ok s) input old new = Served (first_standing s) (frames_of input) old new
-ServesInput (Err why) input old new = ⊥
+abbrev pub ServesOpened : Opening → List ℕ → Option (List ℕ) → Option (List ℕ) → Type 0
+ServesOpened (Ok s) input old new = Served (first_standing s) (frames_of input) old new
+ServesOpened (Err why) input old new = ⊥
 
 -- a beginning of it was appended
-abbrev pub BeginsToServeInput : Opening → List ℕ → Option (List ℕ) → Option (List ℕ) → Type 0
-BeginsToServeInput (Ok s) input old new = BeginsServed (first_standing s) (frames_of input) old new
-BeginsToServeInput (Err why) input old new = ⊥
+abbrev pub BeginsOpened : Opening → List ℕ → Option (List ℕ) → Option (List ℕ) → Type 0
+BeginsOpened (Ok s) input old new = BeginsServed (first_standing s) (frames_of input) old new
+BeginsOpened (Err why) input old new = ⊥

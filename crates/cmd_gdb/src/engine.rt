@@ -8,7 +8,7 @@ ghost use Rattle.program_open.specs.CommandFaults.{IfNames, IsOfProgram, IsRefus
 ghost use Rattle.program_open.specs.Opening.{program_opening};
 ghost use Rattle.image.specs.Image.{ImageValue};
 ghost use Rattle.cmd_debug.specs.Opening.{opened, IfCut, IfUnopened};
-ghost use Rattle.cmd_gdb.specs.Opening.{BeginsToServeInput, ServesInput};
+ghost use Rattle.cmd_gdb.specs.Opening.{BeginsOpened, ServesOpened};
 
 use crate::conversation::serve;
 use crate::server::Server;
@@ -40,7 +40,7 @@ pub fn gdb_engine<A: Allocator + Copy, P: Source, C: Source, S: Source, K: Sink>
     ensures done { IfOk result (λ _.
         IfSome (P.left program.old) (λ p. IfSome (C.left choices.old) (λ c.
         IfSome (S.left packets.old) (λ s.
-        ServesInput (opened inputs.now p c) s (K.held sink.old) (K.held sink.new))))) }
+        ServesOpened (opened inputs.now p c) s (K.held sink.old) (K.held sink.new))))) }
     // An input is invalid, no packet is read and nothing is written.
     ensures refused { IfErr result (λ fault. IfUnopened fault (λ why. IsRefusal why
         → IfSome (P.left program.old) (λ p. IfSome (C.left choices.old) (λ c.
@@ -74,7 +74,7 @@ pub fn gdb_engine<A: Allocator + Copy, P: Source, C: Source, S: Source, K: Sink>
     ensures begun { IfErr result (λ fault. IfCut fault
         (IfSome (P.left program.old) (λ p. IfSome (C.left choices.old) (λ c.
         IfSome (S.left packets.old) (λ s.
-        BeginsToServeInput (opened inputs.now p c) s (K.held sink.old) (K.held sink.new)))))) }
+        BeginsOpened (opened inputs.now p c) s (K.held sink.old) (K.held sink.new)))))) }
 {
     let run = match open_run(alloc, ProgramForm::Elf, inputs, program, choices) {
         Ok(run) => run,
