@@ -4,7 +4,7 @@ use crate::arguments::Argument;
 use crate::help::{
     BANKED, BUDGET, CHOICES, CHOICES_OR_INPUT, DRAW, DRAW_OF_SCHEDULE, FILE, HANGS, HEX, HISTORY,
     HISTORY_OF_CHOICES, INPUTS, INPUTS_OF_SCHEDULE, LIST, MUST_EXIT, OUTCOMES, REFUSALS, REFUSE,
-    RULE, SC_REFUSALS, SEED, STEPS, SUMMARY, TURNS, WORLDS, WRITTEN,
+    RULE, SC_REFUSALS, SEED, STEPS, SUMMARY, TURNS, WAYS_OUT, WORLDS, WRITTEN,
 };
 
 /// A command.
@@ -157,6 +157,7 @@ pub(crate) const COMMANDS: [CommandRow; 14] = [
             Argument::Optional("rule", RULE),
             Argument::Optional("refusals", SC_REFUSALS),
             Argument::Optional("worlds", WORLDS),
+            Argument::Flag("must-exit", WAYS_OUT),
         ],
     },
     CommandRow {

@@ -62,6 +62,10 @@ pub(crate) const WORLDS: &str = "the most worlds that are looked at, below 2^32;
 /// Of `--must-exit` of a run or a campaign.
 pub(crate) const MUST_EXIT: &str = "a hart that still runs at the end is a failure, with status 3";
 
+/// Of `--must-exit` of `explore`.
+pub(crate) const WAYS_OUT: &str =
+    "a list after which no list lets all harts stop is a failure, with status 3";
+
 /// Of `--must-exit` of a shrinking.
 pub(crate) const HANGS: &str =
     "a run that hangs is a failure: given as many steps more, a hart still runs";

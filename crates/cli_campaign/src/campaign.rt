@@ -2,6 +2,7 @@
 
 ghost use Rattle.std.specs.Prelude.{◌+◌, ◌-◌, ◌<◌, ◌≤◌, ◌^◌, IfOk};
 
+use crate::exiting::exit_of;
 use crate::watching::Watching;
 use byte_io::{MemorySource, Progress, Source, Status, WriterSink};
 use cli_orders::CampaignOrder;
@@ -56,7 +57,7 @@ fn read_expect<R: Print + Eprint>(rt: &R, order: &CampaignOrder) -> Result<Expec
     let rule = rule_said(rt, order.rule)?;
     Ok(Expect {
         rule,
-        exit: exit_of(order),
+        exit: exit_of(order.must_exit),
     })
 }
 
@@ -95,15 +96,6 @@ fn why_no_report(order: &CampaignOrder) -> &'static str {
         "--failures prints lines, and --summary none: write one of the two"
     } else {
         "--outcomes goes with --summary alone"
-    }
-}
-
-// What is expected of a hart that still runs at the end.
-fn exit_of(order: &CampaignOrder) -> Exit {
-    if order.must_exit {
-        Exit::Must
-    } else {
-        Exit::May
     }
 }
 

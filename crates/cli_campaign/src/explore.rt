@@ -1,5 +1,6 @@
 //! Runs `explore`.
 
+use crate::exiting::exit_of;
 use byte_io::{Status, WriterSink};
 use cli_orders::ExploreOrder;
 use cli_report::{
@@ -24,6 +25,7 @@ fn read_question<R: Print + Eprint>(rt: &R, order: &ExploreOrder) -> Result<Ques
     };
     Ok(Question {
         rule,
+        exit: exit_of(order.must_exit),
         refusals,
         most: worlds as usize,
     })
@@ -82,13 +84,19 @@ fn explain_list<R: Files + AllocGlobal + Eprint>(
     found: &Explored<Global>,
 ) -> Option<()> {
     let turns = found.turns?;
+    let does = if found.hangs { "hang" } else { "fail" };
     eprintln!(rt;
-        "these choices fail, in {turns} turns, each a choice and the local steps behind it; no list of fewer choices fails.\n\
+        "these choices {does}, in {turns} turns, each a choice and the local steps behind it; no list of fewer choices {does}s.\n\
          To look into it, write >failing.choices behind the command, and then\n    \
          rvcons debug {} --inputs {} --choices failing.choices",
         order.file, order.inputs
     )
     .ok()?;
+    if found.hangs {
+        return eprintln!(rt;
+            "From the world that they lead to no list of choices leads to one in which no hart runs."
+        ).ok();
+    }
     let program = read_again(rt, order.file)?;
     explain_ends(
         rt,

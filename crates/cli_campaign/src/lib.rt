@@ -5,5 +5,6 @@ pub use campaign::obey_campaign;
 pub use explore::obey_explore;
 
 mod campaign;
+mod exiting;
 mod explore;
 mod watching;

@@ -1,10 +1,10 @@
 //! The command `explore`.
 
 use clap::ArgMatches;
-use cli_args::text_of;
+use cli_args::{is_set, text_of};
 
-/// `explore FILE --inputs L [--rule K] [--refusals never] [--worlds N]`: decides whether some
-/// schedule fails.
+/// `explore FILE --inputs L [--rule K] [--refusals never] [--worlds N] [--must-exit]`: decides
+/// whether some schedule fails.
 #[derive(Drop)]
 pub struct ExploreOrder<'a> {
     /// The program's path.
@@ -17,6 +17,8 @@ pub struct ExploreOrder<'a> {
     pub refusals: Option<&'a str>,
     /// The most worlds that are looked at.
     pub worlds: Option<&'a str>,
+    /// Whether each world must have a way out.
+    pub must_exit: bool,
 }
 
 /// The order in clap's matches.
@@ -27,5 +29,6 @@ pub(crate) fn explore_order<'a>(matches: &ArgMatches<'a>) -> Option<ExploreOrder
         rule: text_of(matches, "rule"),
         refusals: text_of(matches, "refusals"),
         worlds: text_of(matches, "worlds"),
+        must_exit: is_set(matches, "must-exit"),
     })
 }

@@ -1,5 +1,5 @@
 -- The choice text of a failing list.
-use Rattle.std.proofs.Common.{◌≡◌, ℕ, zero, suc, ◌<◌, ◌^◌, ◌⊎◌, List, [], ◌∷◌, ◌++◌, length, string_bytes, Some, Ok, ap, sym, ◌∙◌, arith, inl, inr}
+use Rattle.std.proofs.Common.{◌≡◌, ℕ, zero, suc, ◌<◌, ◌^◌, ◌⊎◌, List, [], ◌∷◌, ◌++◌, length, string_bytes, Bool, true, false, Some, Ok, ap, sym, ◌∙◌, arith, inl, inr}
 use Rattle.std.specs.List.{All, Contains, slice_index_or}
 use Rattle.image.specs.Image.{ImageValue}
 use Rattle.machine.specs.declared.choice.Choice.{Choice}
@@ -7,8 +7,11 @@ use Rattle.sched_text.specs.Printing.{runs_text}
 use Rattle.sched_text.specs.Reading.{choices_read}
 use Rattle.sched_text.proofs.Agreement.{choices_of-spelled}
 use Rattle.sched_text.proofs.PrintLemmas.{runs_spell}
-use Rattle.explore_space.specs.Every.{hart_choices, meant_choices, HoldsOfEvery, IsListOf}
-use Rattle.explore_space.specs.declared.exploring.Answer.TheVariants.{Fails}
+use Rattle.byte_io.specs.declared.status.Status.TheVariants as status
+use Rattle.outcome.specs.declared.expect.Exit.{Exit}
+use Rattle.outcome.specs.declared.expect.Exit.TheVariants.{May, Must}
+use Rattle.explore_space.specs.Every.{hart_choices, meant_choices, HoldsOfEvery, IsListOf, TellsExits}
+use Rattle.explore_space.specs.declared.exploring.Answer.TheVariants.{Fails, Hangs}
 use Rattle.explore_space.specs.declared.exploring.Failing.{Failing}
 use Rattle.explore_space.specs.declared.meant.ScRefusals.{ScRefusals}
 use Rattle.explore_space.specs.declared.meant.ScRefusals.TheVariants.{Also, Never}
@@ -55,20 +58,49 @@ read_again refusals n choices text few are is =
     ap (choices_read n) is ∙ choices_of-spelled n (runs_text choices) choices few (runs_spell n choices few (harts_below refusals n choices are))
 
 -- ---- what is told
+hanging_meant : {Z : Type 0} (exit : Exit) (refusals : ScRefusals) (image : ImageValue) (inputs : List ℕ) (hanging : Failing Z)
+    → TellsExits exit refusals image inputs (Hangs hanging) → IsListOf (meant_choices refusals (length inputs)) hanging.choices.items
+hanging_meant May refusals image inputs hanging none = absurd none
+hanging_meant Must refusals image inputs hanging hangs = hangs.meant_ones
+
 module _ {Z : Type 0} (question : Question) (image : ImageValue) (inputs : List ℕ) (found : Explored Z) where
   pub tells_failing : length inputs < 2 ^ 32 → (failing : Failing Z)
       → HoldsOfEvery {Z = Z} question.rule question.refusals image inputs (Fails failing)
+      → TellsExits {Z = Z} question.exit question.refusals image inputs (Fails failing)
       → string_bytes found.text ≡ runs_text failing.choices.items → found.status ≡ failing_status question.rule
-      → found.turns ≡ Some failing.turns → IsExplored question image inputs found
-  tells_failing few failing fails text status turns = record {
+      → found.turns ≡ Some failing.turns → found.hangs ≡ false → IsExplored question image inputs found
+  tells_failing few failing fails exits text status turns hangs = record {
     answer = Fails failing;
     holds = fails;
     counts = tt;
     ends = tt;
+    exits = exits;
     told = (
       text,
       read_again question.refusals (length inputs) failing.choices.items (string_bytes found.text) few fails.meant_ones text,
       status,
       turns,
+      hangs,
+    );
+  }
+
+  pub tells_hanging : length inputs < 2 ^ 32 → (hanging : Failing Z)
+      → HoldsOfEvery {Z = Z} question.rule question.refusals image inputs (Hangs hanging)
+      → TellsExits {Z = Z} question.exit question.refusals image inputs (Hangs hanging)
+      → string_bytes found.text ≡ runs_text hanging.choices.items → found.status ≡ status.Faulted
+      → found.turns ≡ Some hanging.turns → found.hangs ≡ true → IsExplored question image inputs found
+  tells_hanging few hanging holds exits text status turns hangs = record {
+    answer = Hangs hanging;
+    holds = holds;
+    counts = tt;
+    ends = tt;
+    exits = exits;
+    told = (
+      text,
+      read_again question.refusals (length inputs) hanging.choices.items (string_bytes found.text) few
+          (hanging_meant question.exit question.refusals image inputs hanging exits) text,
+      status,
+      turns,
+      hangs,
     );
   }

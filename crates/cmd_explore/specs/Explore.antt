@@ -1,5 +1,5 @@
 -- What `explore` answers.
-use Rattle.std.specs.Prelude.{◌≡◌, ℕ, ◌++◌, List, codes, length, string_bytes, Option, Some, None}
+use Rattle.std.specs.Prelude.{◌≡◌, ℕ, ◌++◌, Bool, true, false, List, codes, length, string_bytes, Option, Some, None}
 use Rattle.std.specs.Fmt.{decimal}
 use Rattle.std.specs.declared.result.Result.{Result}
 use Rattle.std.specs.declared.result.Result.TheVariants.{Ok, Err}
@@ -11,36 +11,49 @@ use Rattle.byte_io.specs.declared.status.Status.{Status}
 use Rattle.byte_io.specs.declared.status.Status.TheVariants as status
 use Rattle.program_open.specs.declared.command_fault.CommandFault.{CommandFault}
 use Rattle.program_open.specs.declared.command_fault.CommandFault.TheVariants as fault
+use Rattle.outcome.specs.declared.expect.Exit.{Exit}
+use Rattle.outcome.specs.declared.expect.Exit.TheVariants.{May, Must}
 use Rattle.explore_space.specs.Ends.{EndValue, ends_in}
-use Rattle.explore_space.specs.Every.{CountsPlaces, HoldsOfEvery, TellsEnds}
+use Rattle.explore_space.specs.Every.{CountsPlaces, HoldsOfEvery, TellsEnds, TellsExits}
 use Rattle.explore_space.specs.declared.exploring.Answer.{Answer}
-use Rattle.explore_space.specs.declared.exploring.Answer.TheVariants.{Holds, Fails, Undecided}
+use Rattle.explore_space.specs.declared.exploring.Answer.TheVariants.{Holds, Fails, Hangs, Undecided}
 use Rattle.cmd_explore.specs.EndLines.{IsEndsText}
 use Rattle.cmd_explore.specs.declared.question.Question.{Question}
 use Rattle.cmd_explore.specs.declared.question.Explored.{Explored}
 
--- the first line of a program that fails in no schedule
-abbrev pub worlds_line : ℕ → List ℕ
-worlds_line worlds = codes "every schedule: " ++ (decimal worlds ++ codes " worlds\n")
+-- the first line of a program that fails in no schedule, nor hangs in one if each hart must exit
+abbrev pub worlds_line : Exit → ℕ → List ℕ
+worlds_line May worlds = codes "every schedule: " ++ (decimal worlds ++ codes " worlds\n")
+worlds_line Must worlds =
+    codes "every schedule: " ++ (decimal worlds ++ codes " worlds, each with a way out\n")
 
 -- the number of worlds of a program that fails in no schedule, and behind it the lines of its ends
-abbrev pub TellsHeld : ℕ → List EndValue → List ℕ → Type 0
-TellsHeld worlds ends text = (lines : List ℕ) × IsEndsText ends lines × (text ≡ worlds_line worlds ++ lines)
+abbrev pub TellsHeld : Exit → ℕ → List EndValue → List ℕ → Type 0
+TellsHeld exit worlds ends text =
+    (lines : List ℕ) × IsEndsText ends lines × (text ≡ worlds_line exit worlds ++ lines)
 
 -- the status of a failing run: under a rule it is broken, without one a hart has faulted
 abbrev pub failing_status : Option Kind → Status
 failing_status None = status.Faulted
 failing_status (Some kind) = status.Broken
 
--- an answer about every schedule of harts is told by a text, a status and a number of turns: by the
--- lines, or by a choice text that reads as the failing list
-abbrev pub TellsEvery : {Z : Type 0} → Option Kind → ℕ → Answer Z → Explored Z → Type 0
-TellsEvery rule harts (Holds held) found =
-    TellsHeld held.places (ends_in held.ends) (string_bytes found.text) × (found.status ≡ status.Done) × (found.turns ≡ None)
-TellsEvery rule harts (Fails failing) found =
-    (string_bytes found.text ≡ runs_text failing.choices.items) × (choices_read harts (string_bytes found.text) ≡ Ok failing.choices.items)
+-- an answer about every schedule of harts is told by a text, a status, a number of turns and
+-- whether a list hangs: by the lines, or by a choice text that reads as the list
+abbrev pub TellsEvery : {Z : Type 0} → Option Kind → Exit → ℕ → Answer Z → Explored Z → Type 0
+TellsEvery rule exit harts (Holds held) found =
+    TellsHeld exit held.places (ends_in held.ends) (string_bytes found.text)
+    × (found.status ≡ status.Done) × (found.turns ≡ None) × (found.hangs ≡ false)
+TellsEvery rule exit harts (Fails failing) found =
+    (string_bytes found.text ≡ runs_text failing.choices.items)
+    × (choices_read harts (string_bytes found.text) ≡ Ok failing.choices.items)
     × (found.status ≡ failing_status rule) × (found.turns ≡ Some failing.turns)
-TellsEvery rule harts Undecided found = ⊥
+    × (found.hangs ≡ false)
+TellsEvery rule exit harts (Hangs hanging) found =
+    (string_bytes found.text ≡ runs_text hanging.choices.items)
+    × (choices_read harts (string_bytes found.text) ≡ Ok hanging.choices.items)
+    × (found.status ≡ status.Faulted) × (found.turns ≡ Some hanging.turns)
+    × (found.hangs ≡ true)
+TellsEvery rule exit harts Undecided found = ⊥
 
 -- what is found tells an answer that holds of every schedule of an image
 pub record IsExplored {Z : Type 0} (question : Question) (image : ImageValue) (inputs : List ℕ) (found : Explored Z) : Type 0 where
@@ -48,7 +61,8 @@ pub record IsExplored {Z : Type 0} (question : Question) (image : ImageValue) (i
   pub holds : HoldsOfEvery question.rule question.refusals image inputs answer
   pub counts : CountsPlaces question.refusals image inputs question.most answer
   pub ends : TellsEnds question.rule question.refusals image inputs answer
-  pub told : TellsEvery question.rule (length inputs) answer found
+  pub exits : TellsExits question.exit question.refusals image inputs answer
+  pub told : TellsEvery question.rule question.exit (length inputs) answer found
 
 -- the same of an image that may have been opened
 abbrev pub ExploresOpened : {Z : Type 0} → Question → List ℕ → Result ImageValue CommandFault → Explored Z → Type 0

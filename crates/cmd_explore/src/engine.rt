@@ -1,4 +1,4 @@
-//! `explore`: from a program and inputs to whether some schedule of it fails.
+//! `explore`: from a program and inputs to whether some schedule of it fails or hangs.
 
 ghost use Rattle.std.specs.Prelude.{◌≡◌, ◌-◌, ◌^◌, ◌<◌, None, Ok, IfErr, IfOk, IfSome, length};
 ghost use Rattle.machine.specs.Start.{IsStartable};
@@ -38,17 +38,25 @@ fn explored<A: Allocator + Copy>(
     ensures told { IfOk result (λ answer. IfSome answer (λ found. IsExplored question image.now inputs.now found)) }
     ensures too_many { result ≡ Ok None → HasTooMany question image.now inputs.now }
 {
-    let (rule, refusals) = (question.rule, question.refusals);
-    match explore(alloc, image, inputs, rule, refusals, question.most)? {
+    let (rule, exit, refusals) = (question.rule, question.exit, question.refusals);
+    match explore(alloc, image, inputs, rule, exit, refusals, question.most)? {
         Answer::Holds(held) => Ok(Some(Explored {
-            text: holding_text(alloc, &held)?,
+            text: holding_text(alloc, exit, &held)?,
             status: Status::Done,
             turns: None,
+            hangs: false,
         })),
         Answer::Fails(failing) => Ok(Some(Explored {
             text: print_runs(alloc, &failing.choices)?,
             status: failing_status(rule),
             turns: Some(failing.turns),
+            hangs: false,
+        })),
+        Answer::Hangs(hanging) => Ok(Some(Explored {
+            text: print_runs(alloc, &hanging.choices)?,
+            status: Status::Faulted,
+            turns: Some(hanging.turns),
+            hangs: true,
         })),
         Answer::Undecided => Ok(None),
     }

@@ -5,14 +5,18 @@ ghost use Rattle.cmd_explore.specs.Explore.{TellsHeld, worlds_line};
 
 use crate::end_lines::ends_text;
 use explore_space::Held;
+use outcome::Exit;
 use std::alloc::{AllocError, Allocator};
 
 // The line with the number of worlds.
-fn worlds_line<A: Allocator>(alloc: A, worlds: usize) -> Result<String<A>, AllocError>
-    ensures { IfOk result (λ text. string_bytes text ≡ worlds_line worlds) }
+fn worlds_line<A: Allocator>(alloc: A, exit: Exit, worlds: usize) -> Result<String<A>, AllocError>
+    ensures { IfOk result (λ text. string_bytes text ≡ worlds_line exit worlds) }
 {
     let mut text = String::new(alloc);
-    writeln!(text, "every schedule: {worlds} worlds")?;
+    match exit {
+        Exit::May => writeln!(text, "every schedule: {worlds} worlds")?,
+        Exit::Must => writeln!(text, "every schedule: {worlds} worlds, each with a way out")?,
+    }
     Ok(text)
 }
 
@@ -20,11 +24,12 @@ fn worlds_line<A: Allocator>(alloc: A, worlds: usize) -> Result<String<A>, Alloc
 /// ends. Fails when out of memory.
 pub(crate) fn holding_text<A: Allocator + Copy>(
     alloc: A,
+    exit: Exit,
     held: &Held<A>,
 ) -> Result<String<A>, AllocError>
-    ensures { IfOk result (λ text. TellsHeld held.now.places (ends_in held.now.ends) (string_bytes text)) }
+    ensures { IfOk result (λ text. TellsHeld exit held.now.places (ends_in held.now.ends) (string_bytes text)) }
 {
-    let mut text = worlds_line(alloc, held.places)?;
+    let mut text = worlds_line(alloc, exit, held.places)?;
     let ends = ends_text(alloc, &held.ends)?;
     text.push_str(&ends)?;
     Ok(text)

@@ -3,6 +3,7 @@
 use byte_io::Status;
 use explore_space::ScRefusals;
 use object_library::Kind;
+use outcome::Exit;
 use std::alloc::Allocator;
 
 /// What is asked of every schedule of a program.
@@ -10,6 +11,9 @@ use std::alloc::Allocator;
 pub struct Question {
     /// The rule that each run has to keep. Without one no hart may fault.
     pub rule: Option<Kind>,
+    /// Whether each world must have a way out: a list of choices from it to a world in which no hart
+    /// runs.
+    pub exit: Exit,
     /// Whether store-conditionals are refused too that could succeed.
     pub refusals: ScRefusals,
     /// The most worlds that are looked at.
@@ -19,12 +23,15 @@ pub struct Question {
 /// The answer.
 #[derive(Drop)]
 pub struct Explored<A: Allocator> {
-    /// Where no schedule fails a line with the number of worlds, and behind it the lines of how runs
-    /// end; else a choice text that fails.
+    /// Where no schedule fails or hangs a line with the number of worlds, and behind it the lines of
+    /// how runs end; else a choice text that does.
     pub text: String<A>,
-    /// `Done` where no schedule fails; else `Broken` under a rule, and `Faulted` without one.
+    /// `Done` where no schedule fails or hangs; `Faulted` where one hangs; where one fails, `Broken`
+    /// under a rule, and `Faulted` without one.
     pub status: Status,
-    /// The number of turns of the failing list: a choice, and the local steps of its hart behind
-    /// it. No list of fewer choices fails. `None` where no schedule fails.
+    /// The number of turns of the list: a choice, and the local steps of its hart behind it. No list
+    /// of fewer choices fails or hangs. `None` where no schedule does.
     pub turns: Option<usize>,
+    /// Whether the list hangs: it leads to a world that has no way out.
+    pub hangs: bool,
 }

@@ -2,6 +2,7 @@
 use explore_space::{Answer, RunEnd, ScRefusals, explore};
 use machine::Inputs;
 use object_library::{Kind, Verdict, make_image};
+use outcome::Exit;
 use std::alloc::Global;
 
 // What each hart has in `a0` and `a1` at an end.
@@ -43,7 +44,15 @@ fn has_ends(alloc: Global, row: &Row) -> Option<bool> {
     let image = make_image(alloc, row.kind).ok()?;
     let inputs = Inputs::new(row.inputs).ok()?;
     let rule = Some(row.kind);
-    match explore(alloc, &image, &inputs, rule, ScRefusals::Also, 100_000) {
+    match explore(
+        alloc,
+        &image,
+        &inputs,
+        rule,
+        Exit::May,
+        ScRefusals::Also,
+        100_000,
+    ) {
         Ok(Answer::Holds(held)) => {
             let ends = held.ends.as_slice();
             Some(
@@ -54,7 +63,7 @@ fn has_ends(alloc: Global, row: &Row) -> Option<bool> {
                         .all(|words| ends.iter().any(|end| is_end(end, words))),
             )
         }
-        Ok(Answer::Fails(_) | Answer::Undecided) | Err(_) => None,
+        Ok(Answer::Fails(_) | Answer::Hangs(_) | Answer::Undecided) | Err(_) => None,
     }
 }
 

@@ -4,6 +4,7 @@ use hart_step::HartState;
 use machine::{Choice, Inputs, Machine};
 use mem_flat::FlatStore;
 use object_library::{Kind, make_image};
+use outcome::Exit;
 use std::alloc::Global;
 use test_images::{Program, program_image};
 
@@ -79,12 +80,20 @@ fn faults(alloc: Global, row: &Row, choices: &[Choice]) -> Option<bool> {
 fn is_found(alloc: Global, row: &Row) -> Option<bool> {
     let image = program_image(alloc, row.program).ok()?;
     let inputs = Inputs::new(row.inputs).ok()?;
-    match explore(alloc, &image, &inputs, None, ScRefusals::Also, 10_000) {
+    match explore(
+        alloc,
+        &image,
+        &inputs,
+        None,
+        Exit::May,
+        ScRefusals::Also,
+        10_000,
+    ) {
         Ok(Answer::Holds(_)) => Some(row.first.is_none()),
         Ok(Answer::Fails(failing)) => {
             Some(row.first == Some(failing.turns) && faults(alloc, row, &failing.choices)?)
         }
-        Ok(Answer::Undecided) | Err(_) => None,
+        Ok(Answer::Hangs(_) | Answer::Undecided) | Err(_) => None,
     }
 }
 
@@ -114,9 +123,17 @@ fn breaks_consensus(alloc: Global, inputs: &[u32]) -> Option<bool> {
     let image = make_image(alloc, Kind::AdoptCommit).ok()?;
     let inputs = Inputs::new(inputs).ok()?;
     let rule = Some(Kind::Swap);
-    match explore(alloc, &image, &inputs, rule, ScRefusals::Never, 100_000) {
+    match explore(
+        alloc,
+        &image,
+        &inputs,
+        rule,
+        Exit::May,
+        ScRefusals::Never,
+        100_000,
+    ) {
         Ok(Answer::Fails(_)) => Some(true),
         Ok(Answer::Holds(_)) => Some(false),
-        Ok(Answer::Undecided) | Err(_) => None,
+        Ok(Answer::Hangs(_) | Answer::Undecided) | Err(_) => None,
     }
 }

@@ -4,6 +4,8 @@
 #[cfg(test)]
 mod end_tests;
 #[cfg(test)]
+mod exit_tests;
+#[cfg(test)]
 mod failing_tests;
 #[cfg(test)]
 mod world_tests;

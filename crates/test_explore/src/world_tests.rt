@@ -3,6 +3,7 @@
 use explore_space::{Answer, ScRefusals, explore};
 use machine::Inputs;
 use object_library::{Kind, make_image};
+use outcome::Exit;
 use std::alloc::Global;
 
 // An object with its inputs, and the number of places that turns reach.
@@ -28,10 +29,18 @@ const ROWS: [Row; 6] = [
 fn places_of(alloc: Global, row: &Row, most: usize) -> Option<Option<usize>> {
     let image = make_image(alloc, row.kind).ok()?;
     let inputs = Inputs::new(row.inputs).ok()?;
-    match explore(alloc, &image, &inputs, Some(row.kind), row.refusals, most) {
+    match explore(
+        alloc,
+        &image,
+        &inputs,
+        Some(row.kind),
+        Exit::May,
+        row.refusals,
+        most,
+    ) {
         Ok(Answer::Holds(held)) => Some(Some(held.places)),
         Ok(Answer::Undecided) => Some(None),
-        Ok(Answer::Fails(_)) | Err(_) => None,
+        Ok(Answer::Fails(_) | Answer::Hangs(_)) | Err(_) => None,
     }
 }
 
