@@ -136,8 +136,8 @@ module _ (place : List ℕ → Place) (choices : List Choice) (keys : List (List
 
 -- ---- one mark more
 pub fewer_unmarked : (marks : List Bool) (i : ℕ) → slice_get marks i ≡ Some false
-    → suc (unmarked (set marks i true)) ≡ unmarked marks
-unfolding unmarked
+    → suc (marks_missing (set marks i true)) ≡ marks_missing marks
+unfolding marks_missing
 fewer_unmarked [] i e = absurd (cc)
 fewer_unmarked (true ∷ marks) zero e = absurd (not_both (true ∷ marks) 0 refl e)
 fewer_unmarked (false ∷ marks) zero e = refl
@@ -189,17 +189,17 @@ module _ (place : List ℕ → Place) (choices : List Choice) (keys : List (List
       → MarksMore place choices keys before more m true
   pass_marked before marks more n m number key true so_far one =
       let fewer = fewer_unmarked marks number one.0 in
-      let is = ap unmarked one.1 in omega (arith, so_far, fewer, is)
+      let is = ap marks_missing one.1 in omega (arith, so_far, fewer, is)
   pass_marked before marks more n m number key false so_far one =
       let fewer = fewer_unmarked marks number one.0 in
-      let was = ap unmarked so_far.0 in
-      let is = ap unmarked one.1 in omega (arith, was, fewer, is)
+      let was = ap marks_missing so_far.0 in
+      let is = ap marks_missing one.1 in omega (arith, was, fewer, is)
 
   pub pass_same : (before marks more : List Bool) (n number : ℕ) (key : List ℕ) (so_far : Bool) → n ≤ number + 1
       → slice_get keys number ≡ Some key → MarksMore place choices keys before marks n so_far
       → MarksOne place choices keys marks more number key false → MarksMore place choices keys before more number so_far
   pass_same before marks more n number key true low there so_far one =
-      let is = ap unmarked one.0 in omega (arith, so_far, is)
+      let is = ap marks_missing one.0 in omega (arith, so_far, is)
   pass_same before marks more n number key false low there so_far one = (
     one.0 ∙ so_far.0,
     λ k x above e no_. elim (cases_eq k number) [
@@ -250,10 +250,10 @@ module _ (place later : List ℕ → Place) (keys : List (List ℕ)) (stays : Pl
 
 pub pass_smaller : (place : List ℕ → Place) (choices : List Choice) (keys : List (List ℕ)) (marks more : List Bool) (before answer : Bool)
     → before ≡ true → MarksMore place choices keys marks more 0 answer
-    → unmarked more + cond answer 1 0 < unmarked marks + cond before 1 0
+    → marks_missing more + cond answer 1 0 < marks_missing marks + cond before 1 0
 pass_smaller place choices keys marks more false answer was passed = absurd (let no : false ≡ true = was in cc)
 pass_smaller place choices keys marks more true true was passed = omega (arith, passed)
-pass_smaller place choices keys marks more true false was passed = let is = ap unmarked passed.0 in omega (arith, is)
+pass_smaller place choices keys marks more true false was passed = let is = ap marks_missing passed.0 in omega (arith, is)
 
 -- ---- marks of places that have ended
 pub ended_more : (place : List ℕ → Place) (ended : Place → Bool) (keys : List (List ℕ)) (marks more : List Bool) (number : ℕ) (last : List ℕ)

@@ -95,10 +95,10 @@ abbrev pub MarksStay : List Bool → List Bool → Type 0
 MarksStay marks more = (k : ℕ) → slice_get marks k ≡ Some true → slice_get more k ≡ Some true
 
 -- how many marks are missing
-unfoldable pub unmarked : List Bool → ℕ
-unmarked [] = 0
-unmarked (true ∷ marks) = unmarked marks
-unmarked (false ∷ marks) = suc (unmarked marks)
+unfoldable pub marks_missing : List Bool → ℕ
+marks_missing [] = 0
+marks_missing (true ∷ marks) = marks_missing marks
+marks_missing (false ∷ marks) = suc (marks_missing marks)
 
 -- a key was marked, since a choice leads to a marked one; or it was before, or none does
 abbrev pub MarksOne : (List ℕ → Place) → List Choice → List (List ℕ) → List Bool → List Bool → ℕ
@@ -114,7 +114,7 @@ MarksOne place choices keys marks more number key false =
 -- keys were marked, or nothing is left to be marked among those from number n on
 abbrev pub MarksMore : (List ℕ → Place) → List Choice → List (List ℕ) → List Bool → List Bool → ℕ
     → Bool → Type 0
-MarksMore place choices keys marks more n true = unmarked more < unmarked marks
+MarksMore place choices keys marks more n true = marks_missing more < marks_missing marks
 MarksMore place choices keys marks more n false =
     (more ≡ marks) × AreShut place choices keys marks n
 

@@ -22,4 +22,4 @@ invariant-passes g l = record {
 
 -- each pass marks a key, or is the last one
 abbrev pub decreases-passes : goal.decreases-passes
-decreases-passes g l = unmarked l.marks + cond l.is_more 1 0
+decreases-passes g l = marks_missing l.marks + cond l.is_more 1 0
