@@ -2,6 +2,7 @@
 #![tactic(auto)]
 
 pub use asm::obey_asm;
+pub use cmd_run::FileView;
 pub use file::obey_file;
 pub use library::obey_lib;
 

@@ -5,11 +5,10 @@ use crate::chosen::{debug_chosen, gdb_chosen, run_chosen, shrink_chosen, trace_c
 use byte_io::Status;
 use cli_campaign::{obey_campaign, obey_explore};
 use cli_choices::obey_schedule;
-use cli_files::{obey_asm, obey_file, obey_lib};
+use cli_files::{FileView, obey_asm, obey_file, obey_lib};
 use cli_orders::{Order, read_line};
 use cli_report::{Audience, explain_line, out_of_memory, read_arguments, refuse};
 use cli_runs::{obey_replay, obey_threads};
-use cmd_run::FileView;
 use object_library::KIND_NAMES;
 use std::io::{Input, IsTerminal};
 use std::process::ExitCode;
