@@ -1,7 +1,10 @@
 //! Arguments of commands, and their values in clap's matches.
 
-use crate::commands::CommandRow;
-use crate::help::EXPLAINED;
+use crate::commands::{CommandRow, Schedule};
+use crate::help::{
+    CHOICES, CHOICES_OR_INPUT, DRAW, EXPLAINED, HISTORY_OF_CHOICES, LIST, REFUSALS, SEED, STEPS,
+    TURNS,
+};
 use clap::{Arg, ArgAction, ArgGroup, ArgMatches, Command};
 use std::alloc::{AllocError, Global};
 
@@ -20,10 +23,6 @@ pub(crate) enum Argument {
     Optional(&'static str, &'static str),
     /// An optional option with a value, which has a letter too.
     Lettered(&'static str, char, &'static str),
-    /// An option with a value, one of those of which exactly one is given.
-    OneOf(&'static str, &'static str),
-    /// Another one of these, which needs an option beside it: the names of both.
-    OneOfWith(&'static str, &'static str, &'static str),
     /// An optional option with a value that needs another option: the names of both.
     With(&'static str, &'static str, &'static str),
     /// A required option with a value.
@@ -47,11 +46,9 @@ fn arg_of<'a>(alloc: Global, argument: Argument, objects: &'a str) -> Result<Arg
             .required(true)
             .action(ArgAction::Append)
             .help(help),
-        Argument::Optional(id, help) | Argument::OneOf(id, help) => option_of(alloc, id, help),
+        Argument::Optional(id, help) => option_of(alloc, id, help),
         Argument::Lettered(id, letter, help) => option_of(alloc, id, help).short(letter),
-        Argument::OneOfWith(id, other, help) | Argument::With(id, other, help) => {
-            option_of(alloc, id, help).requires_arg(other)?
-        }
+        Argument::With(id, other, help) => { option_of(alloc, id, help).requires_arg(other)? }
         Argument::NeededOption(id, help) => option_of(alloc, id, help).required(true),
         Argument::Flag(id, help) => Arg::new(alloc, id)
             .long(id)
@@ -64,35 +61,61 @@ fn arg_of<'a>(alloc: Global, argument: Argument, objects: &'a str) -> Result<Arg
 /// The option that each command has.
 pub(crate) const EXPLAIN: &str = "explain";
 
-// The group of the options of which exactly one is given.
-const SCHEDULE: &str = "schedules";
+// The options that name the choices of a run, but for `--choices`.
+const NAMED: [Argument; 7] = [
+    Argument::Optional("list", LIST),
+    Argument::With("seed", "steps", SEED),
+    Argument::Optional("turns", TURNS),
+    Argument::Optional("history", HISTORY_OF_CHOICES),
+    Argument::With("steps", "seed", STEPS),
+    Argument::With("schedule", "seed", DRAW),
+    Argument::With("refusals", "seed", REFUSALS),
+];
 
-// The name of an argument that is one of those of which exactly one is given.
-fn one_of(argument: Argument) -> Option<&'static str> {
-    match argument {
-        Argument::OneOf(id, _) | Argument::OneOfWith(id, _, _) => Some(id),
-        _ => None,
-    }
-}
-
-// The command with a group of its options of which exactly one is given, if it has such options.
-fn with_group<'a>(
+// The command with these arguments.
+fn with_arguments<'a>(
     alloc: Global,
     command: Command<'a>,
     arguments: &[Argument],
+    objects: &'a str,
 ) -> Result<Command<'a>, AllocError> {
-    let mut group = ArgGroup::new(alloc, SCHEDULE).required(true);
-    let mut count = 0usize;
+    let mut command = command;
     'arguments: for argument in arguments {
-        if let Some(id) = one_of(*argument) {
-            group = group.arg(id)?;
-            count = count.saturating_add(1);
-        }
+        command = command.arg(arg_of(alloc, *argument, objects)?)?;
     }
-    if count == 0 {
-        return Ok(command);
-    }
+    Ok(command)
+}
+
+// The command with the options that name the choices of a run, of which exactly one is given; and
+// with those that say how a seed draws them.
+fn with_choices<'a>(
+    alloc: Global,
+    command: Command<'a>,
+    choices: &'static str,
+) -> Result<Command<'a>, AllocError> {
+    let command = command.arg(option_of(alloc, "choices", choices))?;
+    let command = with_arguments(alloc, command, &NAMED, "")?;
+    let group = ArgGroup::new(alloc, "schedules")
+        .required(true)
+        .arg("choices")?
+        .arg("list")?
+        .arg("seed")?
+        .arg("turns")?
+        .arg("history")?;
     command.group(group)
+}
+
+// The command with the options that name the choices of its run.
+fn with_schedule<'a>(
+    alloc: Global,
+    command: Command<'a>,
+    schedule: Schedule,
+) -> Result<Command<'a>, AllocError> {
+    match schedule {
+        Schedule::None => Ok(command),
+        Schedule::File => with_choices(alloc, command, CHOICES),
+        Schedule::FileOrInput => with_choices(alloc, command, CHOICES_OR_INPUT),
+    }
 }
 
 /// The command as clap takes it. `objects` are the names of the library's objects.
@@ -101,14 +124,12 @@ pub(crate) fn command_of<'a>(
     row: &CommandRow,
     objects: &'a str,
 ) -> Result<Command<'a>, AllocError> {
-    let mut command = Command::new(alloc, row.name)
+    let command = Command::new(alloc, row.name)
         .about(row.does)
         .after_help(row.example);
-    'arguments: for argument in row.arguments {
-        command = command.arg(arg_of(alloc, *argument, objects)?)?;
-    }
-    command = command.arg(arg_of(alloc, Argument::Optional(EXPLAIN, EXPLAINED), objects)?)?;
-    with_group(alloc, command, row.arguments)
+    let command = with_arguments(alloc, command, row.arguments, objects)?;
+    let command = with_schedule(alloc, command, row.schedule)?;
+    command.arg(arg_of(alloc, Argument::Optional(EXPLAIN, EXPLAINED), objects)?)
 }
 
 /// The text of an argument.

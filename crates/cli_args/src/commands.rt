@@ -2,10 +2,20 @@
 
 use crate::arguments::Argument;
 use crate::help::{
-    BANKED, BUDGET, CHOICES, CHOICES_OR_INPUT, DRAW, DRAW_OF_SCHEDULE, FILE, HANGS, HEX, HISTORY,
-    HISTORY_OF_CHOICES, INPUTS, INPUTS_OF_SCHEDULE, LIST, MUST_EXIT, OUTCOMES, REFUSALS, REFUSE,
-    RULE, SC_REFUSALS, SEED, STEPS, SUMMARY, TURNS, WAYS_OUT, WORLDS, WRITTEN,
+    BANKED, BUDGET, DRAW, DRAW_OF_SCHEDULE, FILE, HANGS, HEX, HISTORY, INPUTS, INPUTS_OF_SCHEDULE,
+    MUST_EXIT, OUTCOMES, REFUSALS, REFUSE, RULE, SC_REFUSALS, SUMMARY, WAYS_OUT, WORLDS, WRITTEN,
 };
+
+/// Which options name the choices of a command's run.
+#[derive(Clone, Copy)]
+pub(crate) enum Schedule {
+    /// None: it runs nothing, or makes the choices itself.
+    None,
+    /// All, but standard input has something else.
+    File,
+    /// All, and `--choices -` is standard input.
+    FileOrInput,
+}
 
 /// A command.
 #[derive(Clone, Copy)]
@@ -18,6 +28,8 @@ pub(crate) struct CommandRow {
     pub(crate) example: &'static str,
     /// The arguments, in the order in which help lists them.
     pub(crate) arguments: &'static [Argument],
+    /// The options that name the choices of its run, which help lists behind them.
+    pub(crate) schedule: Schedule,
 }
 
 /// The commands, in the order in which help lists them.
@@ -30,18 +42,21 @@ pub(crate) const COMMANDS: [CommandRow; 14] = [
             Argument::Lettered("out", 'o', "the ELF file that is written"),
             Argument::Many("IN", "the sources, in order"),
         ],
+        schedule: Schedule::None,
     },
     CommandRow {
         name: "list",
         does: "Lists the executable segments of an ELF file",
         example: "Example: rvcons list swap.elf",
         arguments: &[Argument::Needed("FILE", "an ELF file")],
+        schedule: Schedule::None,
     },
     CommandRow {
         name: "info",
         does: "Shows the entry, the segments, the symbols and the library's object of an ELF file",
         example: "Example: rvcons info swap.elf",
         arguments: &[Argument::Needed("FILE", "an ELF file")],
+        schedule: Schedule::None,
     },
     CommandRow {
         name: "run",
@@ -51,17 +66,10 @@ pub(crate) const COMMANDS: [CommandRow; 14] = [
             Argument::Flag("hex", HEX),
             Argument::Needed("FILE", FILE),
             Argument::NeededOption("inputs", INPUTS),
-            Argument::OneOf("choices", CHOICES_OR_INPUT),
-            Argument::OneOf("list", LIST),
-            Argument::OneOfWith("seed", "steps", SEED),
-            Argument::OneOf("turns", TURNS),
-            Argument::OneOf("history", HISTORY_OF_CHOICES),
-            Argument::With("steps", "seed", STEPS),
-            Argument::With("schedule", "seed", DRAW),
-            Argument::With("refusals", "seed", REFUSALS),
             Argument::Optional("rule", RULE),
             Argument::Flag("must-exit", MUST_EXIT),
         ],
+        schedule: Schedule::FileOrInput,
     },
     CommandRow {
         name: "debug",
@@ -70,15 +78,8 @@ pub(crate) const COMMANDS: [CommandRow; 14] = [
         arguments: &[
             Argument::Needed("FILE", FILE),
             Argument::NeededOption("inputs", INPUTS),
-            Argument::OneOf("choices", CHOICES),
-            Argument::OneOf("list", LIST),
-            Argument::OneOfWith("seed", "steps", SEED),
-            Argument::OneOf("turns", TURNS),
-            Argument::OneOf("history", HISTORY_OF_CHOICES),
-            Argument::With("steps", "seed", STEPS),
-            Argument::With("schedule", "seed", DRAW),
-            Argument::With("refusals", "seed", REFUSALS),
         ],
+        schedule: Schedule::File,
     },
     CommandRow {
         name: "gdb",
@@ -87,15 +88,8 @@ pub(crate) const COMMANDS: [CommandRow; 14] = [
         arguments: &[
             Argument::Needed("FILE", FILE),
             Argument::NeededOption("inputs", INPUTS),
-            Argument::OneOf("choices", CHOICES),
-            Argument::OneOf("list", LIST),
-            Argument::OneOfWith("seed", "steps", SEED),
-            Argument::OneOf("turns", TURNS),
-            Argument::OneOf("history", HISTORY_OF_CHOICES),
-            Argument::With("steps", "seed", STEPS),
-            Argument::With("schedule", "seed", DRAW),
-            Argument::With("refusals", "seed", REFUSALS),
         ],
+        schedule: Schedule::File,
     },
     CommandRow {
         name: "threads",
@@ -110,6 +104,7 @@ pub(crate) const COMMANDS: [CommandRow; 14] = [
             Argument::Optional("rule", RULE),
             Argument::Flag("banked", BANKED),
         ],
+        schedule: Schedule::None,
     },
     CommandRow {
         name: "replay",
@@ -121,12 +116,14 @@ pub(crate) const COMMANDS: [CommandRow; 14] = [
             Argument::NeededOption("history", HISTORY),
             Argument::Optional("rule", RULE),
         ],
+        schedule: Schedule::None,
     },
     CommandRow {
         name: "lib",
         does: "Prints the source of an object of the library",
         example: "Example: rvcons lib swap",
         arguments: &[Argument::Object("K")],
+        schedule: Schedule::None,
     },
     CommandRow {
         name: "campaign",
@@ -146,6 +143,7 @@ pub(crate) const COMMANDS: [CommandRow; 14] = [
             Argument::Optional("refusals", REFUSALS),
             Argument::Flag("must-exit", MUST_EXIT),
         ],
+        schedule: Schedule::None,
     },
     CommandRow {
         name: "explore",
@@ -159,6 +157,7 @@ pub(crate) const COMMANDS: [CommandRow; 14] = [
             Argument::Optional("worlds", WORLDS),
             Argument::Flag("must-exit", WAYS_OUT),
         ],
+        schedule: Schedule::None,
     },
     CommandRow {
         name: "schedule",
@@ -175,6 +174,7 @@ pub(crate) const COMMANDS: [CommandRow; 14] = [
             Argument::Optional("inputs", INPUTS_OF_SCHEDULE),
             Argument::Allowed("FILE", "with priorities:DEPTH: the program, an ELF file"),
         ],
+        schedule: Schedule::None,
     },
     CommandRow {
         name: "shrink",
@@ -183,17 +183,10 @@ pub(crate) const COMMANDS: [CommandRow; 14] = [
         arguments: &[
             Argument::Needed("FILE", FILE),
             Argument::NeededOption("inputs", INPUTS),
-            Argument::OneOf("choices", CHOICES_OR_INPUT),
-            Argument::OneOf("list", LIST),
-            Argument::OneOfWith("seed", "steps", SEED),
-            Argument::OneOf("turns", TURNS),
-            Argument::OneOf("history", HISTORY_OF_CHOICES),
-            Argument::With("steps", "seed", STEPS),
-            Argument::With("schedule", "seed", DRAW),
-            Argument::With("refusals", "seed", REFUSALS),
             Argument::Optional("rule", RULE),
             Argument::Flag("must-exit", HANGS),
         ],
+        schedule: Schedule::FileOrInput,
     },
     CommandRow {
         name: "trace",
@@ -203,14 +196,6 @@ pub(crate) const COMMANDS: [CommandRow; 14] = [
             Argument::Flag("hex", HEX),
             Argument::Needed("FILE", FILE),
             Argument::NeededOption("inputs", INPUTS),
-            Argument::OneOf("choices", CHOICES_OR_INPUT),
-            Argument::OneOf("list", LIST),
-            Argument::OneOfWith("seed", "steps", SEED),
-            Argument::OneOf("turns", TURNS),
-            Argument::OneOf("history", HISTORY_OF_CHOICES),
-            Argument::With("steps", "seed", STEPS),
-            Argument::With("schedule", "seed", DRAW),
-            Argument::With("refusals", "seed", REFUSALS),
             Argument::Optional("from", "the first choice that is told, counted from 1"),
             Argument::Optional("to", "the last choice that is told"),
             Argument::Flag(
@@ -218,5 +203,6 @@ pub(crate) const COMMANDS: [CommandRow; 14] = [
                 "print a table in Markdown, with a column for each hart",
             ),
         ],
+        schedule: Schedule::FileOrInput,
     },
 ];

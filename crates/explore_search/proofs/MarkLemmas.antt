@@ -11,7 +11,7 @@ use Rattle.explore_laws.specs.Places.{Place, place_after, place_reached}
 use Rattle.explore_laws.specs.WaysOut.{HasWayOut, HaveWaysOut}
 use Rattle.explore_laws.proofs.SettleLemmas.{there_set, get_set_other}
 use Rattle.explore_search.specs.Searched.{KeysDiffer, IsSeen}
-use Rattle.explore_search.specs.Marked.{AreAllSeen, AreClosed, LeadsToStuck, PlacesStay, IsMarked, LeadsToMarked, MarkEnded, HaveMarkedWaysOut, AreShut, MarksStay, unmarked, MarksOne, MarksMore}
+use Rattle.explore_search.specs.Marked.{AreAllSeen, AreClosed, LeadsToStuck, PlacesStay, IsMarked, LeadsToMarked, MarkEnded, HaveMarkedWaysOut, AreShut, MarksStay, marks_missing, MarksOne, MarksMore}
 use Rattle.explore_search.specs.declared.seen.Link.{Link}
 use Rattle.explore_search.proofs.SearchLemmas.{seen_from, below_or}
 use Rattle.explore_search.proofs.NearLemmas.{IsSooner, seen_sooner}

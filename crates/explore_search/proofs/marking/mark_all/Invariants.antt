@@ -1,6 +1,6 @@
 use Rattle.std.proofs.Common.{◌≡◌, ◌≢◌, ◌+◌, ◌⊎◌, Bool, true, false, cond, length}
 use Rattle.explore_laws.specs.Places.{Place}
-use Rattle.explore_search.specs.Marked.{AreShut, HaveMarkedWaysOut, MarksStay, PlacesStay, unmarked}
+use Rattle.explore_search.specs.Marked.{AreShut, HaveMarkedWaysOut, MarksStay, PlacesStay, marks_missing}
 use Rattle.explore_search.specs.Searched.{AreReached}
 use Rattle.explore_search.proofs.marking.mark_all.Given as goal
 
