@@ -143,6 +143,7 @@ fn answer(
 // Whether actions are answered as their row says.
 fn is_answered(alloc: Global, talk: &mut Talk<Global>, row: &Row) -> Option<bool> {
     talk.debugger.goto(alloc, row.from).ok()?;
+    talk.forget_alone();
     let out = answer(alloc, talk, row.actions)?;
     Some(&*out == row.answer.as_bytes() && talk.debugger.position() == row.position)
 }
