@@ -7,8 +7,8 @@ use crate::watching::Watching;
 use byte_io::{MemorySource, Progress, Source, Status, WriterSink};
 use cli_orders::CampaignOrder;
 use cli_report::{
-    Audience, EndsTold, RunFiles, WIPE, bad_line, ends_running, explain_ends, inputs_said,
-    open_one, read_again, rule_said, say_why, wipe_line,
+    Audience, EndsTold, Explained, RunFiles, WIPE, bad_line, ends_running, explain_ends,
+    inputs_said, open_one, read_again, rule_said, say_why, wipe_line,
 };
 use cli_values::{read_draw, read_report, read_seed_numbers};
 use cmd_campaign::{Campaign, Exit, Expect, Finished, campaign_engine};
@@ -240,17 +240,18 @@ fn explain_seed<R: Files + AllocGlobal + Eprint>(
 ) -> Option<()> {
     show_commands(rt, order, campaign, seed)?;
     let (program, choices) = seed_again(rt, order, inputs, campaign, seed)?;
-    let told = match campaign.expect.exit {
+    let ends = match campaign.expect.exit {
         Exit::Must => EndsTold::FaultsAndRunning,
         Exit::May => EndsTold::Faults,
     };
+    let rule = campaign.expect.rule;
     explain_ends(
         rt,
         ProgramForm::Elf,
         &program,
         inputs,
         choices.as_bytes(),
-        told,
+        Explained { ends, rule },
     )
 }
 

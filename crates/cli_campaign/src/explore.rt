@@ -4,11 +4,12 @@ use crate::exiting::exit_of;
 use byte_io::{Status, WriterSink};
 use cli_orders::ExploreOrder;
 use cli_report::{
-    Audience, EndsTold, RunFiles, bad_line, explain_ends, inputs_said, open_one, read_again,
-    rule_said, say_why,
+    Audience, EndsTold, Explained, RunFiles, bad_line, explain_ends, inputs_said, open_one,
+    read_again, rule_said, say_why,
 };
 use cli_values::{WORLDS, read_worlds};
 use cmd_explore::{Explored, Question, explore_engine, read_refusals};
+use object_library::Kind;
 use program_open::{CommandFault, ProgramForm, write_text};
 use std::alloc::Global;
 use std::io;
@@ -42,7 +43,14 @@ pub fn obey_explore<R: Files + AllocGlobal + Print + Eprint>(
     let inputs = inputs_said(rt, order.inputs)?;
     let mut program = open_one(rt, audience, order.file)?;
     match explore_engine(rt.alloc(), inputs.as_slice(), question, &mut program) {
-        Ok(found) => tell(rt, audience, order, inputs.as_slice(), &found),
+        Ok(found) => tell(
+            rt,
+            audience,
+            order,
+            inputs.as_slice(),
+            question.rule,
+            &found,
+        ),
         Err(fault) => Err(tell_fault(rt, audience, order, inputs.len(), fault)),
     }
 }
@@ -53,6 +61,7 @@ fn tell<R: Files + AllocGlobal + Print + Eprint>(
     audience: Audience,
     order: &ExploreOrder,
     inputs: &[u32],
+    rule: Option<Kind>,
     found: &Explored<Global>,
 ) -> Result<Status, Status> {
     let mut sink = WriterSink::new(io::writer(rt));
@@ -60,7 +69,7 @@ fn tell<R: Files + AllocGlobal + Print + Eprint>(
         return Err(tell_fault(rt, audience, order, inputs.len(), fault));
     }
     if audience.is_told() {
-        let _ = explain_list(rt, order, inputs, found);
+        let _ = explain_list(rt, order, inputs, rule, found);
     }
     Ok(found.status)
 }
@@ -76,11 +85,12 @@ fn tell_fault<R: Files + AllocGlobal + Eprint>(
     say_why(rt, audience, RunFiles::of_program(order.file, harts), fault)
 }
 
-// Shows how long a failing list is, and explains its faults.
+// Shows how long a failing list is, and explains how its run ends.
 fn explain_list<R: Files + AllocGlobal + Eprint>(
     rt: &R,
     order: &ExploreOrder,
     inputs: &[u32],
+    rule: Option<Kind>,
     found: &Explored<Global>,
 ) -> Option<()> {
     let turns = found.turns?;
@@ -104,6 +114,9 @@ fn explain_list<R: Files + AllocGlobal + Eprint>(
         &program,
         inputs,
         found.text.as_bytes(),
-        EndsTold::Faults,
+        Explained {
+            ends: EndsTold::Faults,
+            rule,
+        },
     )
 }

@@ -5,7 +5,7 @@ use crate::audience::Audience;
 use crate::run_choices::RunChoices;
 use clap::error::ErrorKind;
 use cli_args::LineFault;
-use hint_fault::{EndsTold, all_still_run, file_words, item_at, run_advice};
+use hint_fault::{Explained, all_still_run, file_words, item_at, run_advice};
 use hint_text::{Mistake, order_advice};
 use program_open::{CommandFault, ProgramForm};
 use std::rt::Files;
@@ -53,16 +53,17 @@ pub fn show(rt: &impl Eprint, text: &str) {
     let _ = eprint!(rt; "{text}");
 }
 
-/// Explains how a program's run under a choice text ends. `None` if there is no such run.
+/// Explains how a program's run under a choice text ends, and which clause of a rule it breaks.
+/// `None` if there is no such run.
 pub fn explain_ends<R: AllocGlobal + Eprint>(
     rt: &R,
     form: ProgramForm,
     program: &[u8],
     inputs: &[u32],
     choices: &[u8],
-    told: EndsTold,
+    explained: Explained,
 ) -> Option<()> {
-    let text = run_advice(rt.alloc(), form, program, inputs, choices, told)?;
+    let text = run_advice(rt.alloc(), form, program, inputs, choices, explained)?;
     show(rt, &text);
     Some(())
 }

@@ -3,8 +3,8 @@
 use byte_io::{Status, WriterSink};
 use cli_args::RunOrder;
 use cli_report::{
-    Audience, EndsTold, RunChoices, RunFiles, explain_ends, form_said, inputs_said, open_run,
-    read_again, rule_said, say_why,
+    Audience, EndsTold, Explained, RunChoices, RunFiles, explain_ends, form_said, inputs_said,
+    open_run, read_again, rule_said, say_why,
 };
 use cmd_run::{Exit, Expect, run_engine};
 use program_open::deliver;
@@ -31,8 +31,9 @@ pub fn obey_run<R: Files + AllocGlobal + Print + Eprint>(
     let answer = run_engine(rt.alloc(), form, &inputs, expect, &mut program, &mut source);
     match deliver(&mut WriterSink::new(io::writer(rt)), answer) {
         Ok(status) => {
-            if status == Status::Faulted && audience.is_told() {
-                let _ = explain_faults(rt, order, &inputs, choices);
+            if has_failed(status) && audience.is_told() {
+                let ends = ends_told(order);
+                let _ = explain_failure(rt, order, &inputs, choices, Explained { ends, rule });
             }
             Ok(status)
         }
@@ -57,19 +58,36 @@ fn exit_of(order: &RunOrder) -> Exit {
     }
 }
 
+// Whether a run has failed that was done.
+fn has_failed(status: Status) -> bool {
+    matches!(status, Status::Faulted | Status::Broken)
+}
+
+// Which ends of harts are explained.
+fn ends_told(order: &RunOrder) -> EndsTold {
+    if order.must_exit {
+        EndsTold::FaultsAndRunning
+    } else {
+        EndsTold::Faults
+    }
+}
+
 // Explains how the run ended, if its files can be read again.
-fn explain_faults<R: Files + AllocGlobal + Eprint>(
+fn explain_failure<R: Files + AllocGlobal + Eprint>(
     rt: &R,
     order: &RunOrder,
     inputs: &[u32],
     choices: RunChoices<'_>,
+    explained: Explained,
 ) -> Option<()> {
     let program = read_again(rt, order.file)?;
     let choices = choices.again(rt)?;
-    let told = if order.must_exit {
-        EndsTold::FaultsAndRunning
-    } else {
-        EndsTold::Faults
-    };
-    explain_ends(rt, form_said(order.hex), &program, inputs, &choices, told)
+    explain_ends(
+        rt,
+        form_said(order.hex),
+        &program,
+        inputs,
+        &choices,
+        explained,
+    )
 }

@@ -1,14 +1,16 @@
 //! Runs a program again to explain how it ends.
 
 use crate::harts::{EndsTold, harts_advice};
+use crate::rules::{Judged, push_broken};
 use elf_read::{Symbol, symbols};
 use hart_step::HartState;
 use image::Image;
 use machine::{Inputs, Machine};
 use mem_flat::FlatStore;
+use object_library::Kind;
 use program_open::{ProgramForm, read_program};
-use sched_run::run_choices;
-use std::alloc::Allocator;
+use sched_run::{Chosen, run_choices};
+use std::alloc::{AllocError, Allocator};
 
 // Whether a name is that of a mapping symbol, which marks where code or data begins and is no label
 // (RISC-V ELF psABI, "Mapping Symbol").
@@ -39,11 +41,21 @@ pub fn ends_advice<A: Allocator + Copy>(
     harts_advice(alloc, image, &symbols, machine, told).ok()
 }
 
-// A program and its machine after a run.
+/// What is explained of the end of a run.
+#[derive(Clone, Copy)]
+pub struct Explained {
+    /// Which ends of harts.
+    pub ends: EndsTold,
+    /// The object whose rule is judged; `None` if none is.
+    pub rule: Option<Kind>,
+}
+
+// A program, its machine after a run, and which harts were chosen.
 #[derive(Drop)]
 struct Ran<A: Allocator> {
     image: Image<A>,
     machine: Machine<FlatStore<A>, A>,
+    chosen: Chosen,
 }
 
 // A program's run under a choice text. `None` if there is no such run, or out of memory.
@@ -58,23 +70,49 @@ fn run_again<A: Allocator + Copy>(
     let inputs = Inputs::new(inputs).ok()?;
     let mut machine: Machine<FlatStore<A>, A> = Machine::start(alloc, &image, &inputs).ok()?;
     match run_choices(&mut machine, choices, inputs.harts()) {
-        Ok(_) => Some(Ran { image, machine }),
+        Ok(chosen) => Some(Ran {
+            image,
+            machine,
+            chosen,
+        }),
         Err(_) => None,
     }
 }
 
-/// Explains how a program's run under a choice text ends. `None` if there is no such run, or out of
-/// memory.
+// Adds which clause of a rule a run breaks, if it breaks one.
+fn push_rule<A: Allocator + Copy>(
+    alloc: A,
+    text: &mut String<A>,
+    ran: &Ran<A>,
+    inputs: &[u32],
+    kind: Kind,
+) -> Result<(), AllocError> {
+    let choices = ran.chosen.choices(alloc)?;
+    let judged = Judged {
+        kind,
+        inputs,
+        choices: &choices,
+        harts: ran.machine.ends(),
+    };
+    push_broken(text, &judged)
+}
+
+/// Explains how a program's run under a choice text ends, and which clause of a rule it breaks.
+/// `None` if there is no such run, or out of memory.
 pub fn run_advice<A: Allocator + Copy>(
     alloc: A,
     form: ProgramForm,
     program: &[u8],
     inputs: &[u32],
     choices: &[u8],
-    told: EndsTold,
+    explained: Explained,
 ) -> Option<String<A>> {
     let ran = run_again(alloc, form, program, inputs, choices)?;
-    ends_advice(alloc, &ran.image, program, &ran.machine, told)
+    let mut text = ends_advice(alloc, &ran.image, program, &ran.machine, explained.ends)?;
+    if let Some(kind) = explained.rule {
+        push_rule(alloc, &mut text, &ran, inputs, kind).ok()?;
+    }
+    Some(text)
 }
 
 /// Whether all harts still run at the end of a program's run under a choice text. `None` if there is
