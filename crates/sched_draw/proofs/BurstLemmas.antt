@@ -1,5 +1,5 @@
 -- Bursts, drawn a choice at a time.
-use Rattle.std.proofs.Common.{◌≡◌, ◌≢◌, ℕ, zero, suc, ◌+◌, ◌-◌, ◌*◌, ◌%◌, ◌<◌, ◌≤◌, Bool, List, [], ◌∷◌, refl, arith, ap, ap₂, sym, subst, ◌∙◌, mod-lt, if◌then◌else◌}
+use Rattle.std.proofs.Common.{◌≡◌, ◌≢◌, ℕ, zero, suc, ◌+◌, ◌-◌, ◌*◌, ◌%◌, ◌<◌, ◌≤◌, Bool, [], ◌∷◌, refl, arith, ap, ap₂, sym, subst, ◌∙◌, mod-lt, if◌then◌else◌}
 use Rattle.std.proofs.lemmas.Bool.{ne_eqb}
 use Rattle.std.proofs.lemmas.List.Elements.{All-nil, All-cons}
 use Rattle.std.specs.List.{All}
@@ -90,7 +90,7 @@ unfolding next_burst_choice
 next-there d there = in_burst-there d there
 
 -- each choice that is drawn names a hart that exists
-drawn_within : (steps : ℕ) (d : BurstDrawing) → d.hart < d.harts → All (λ c. c.hart < d.harts) (burst_choices_drawn steps d)
+pub drawn_within : (steps : ℕ) (d : BurstDrawing) → d.hart < d.harts → All (λ c. c.hart < d.harts) (burst_choices_drawn steps d)
 unfolding burst_choices_drawn
 drawn_within zero d there = All-nil (λ (c : Choice). c.hart < d.harts)
 drawn_within (suc steps) d there =

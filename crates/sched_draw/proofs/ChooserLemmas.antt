@@ -1,23 +1,20 @@
 -- Choices that are made one by one: the run over them, and their list.
-use Rattle.std.proofs.Common.{◌≡◌, ℕ, ◌+◌, false, List, [], ◌∷◌, ◌++◌, append-nil, append_assoc, refl, ap, sym, ◌∙◌}
+use Rattle.std.proofs.Common.{◌≡◌, ℕ, ◌<◌, ◌≤◌, false, true, ◌||◌, List, [], ◌∷◌, ◌++◌, get_or, append-nil, append_assoc, refl, ap, sym, ◌∙◌}
+use Rattle.std.specs.List.{All}
+use Rattle.hart_step.specs.Hart.{HartValue}
 use Rattle.machine.specs.World.{World, step, run}
 use Rattle.machine.specs.Chosen.{is_chosen}
 use Rattle.machine.specs.declared.choice.Choice.{Choice}
 use Rattle.machine.proofs.WorldLemmas.{run_append, run_none}
 use Rattle.sched_run.specs.Harts.{Harts, with_hart}
-use Rattle.sched_run.proofs.ChosenLemmas.{choice_chosen}
+use Rattle.sched_run.proofs.ChosenLemmas.{any-append, choice_chosen}
+use Rattle.sched_draw.specs.Priorities.{runs}
 use Rattle.sched_draw.specs.Schedules.{RanOver}
-
--- of all choices those that were taken, whose run has led from a world to another, come before
--- those that are left
-pub record SoFar (all left : List Choice) (old now : World) (chosen : Harts) : Type 0 where
-  pub done : List Choice
-  pub order : all ≡ done ++ left
-  pub led : now ≡ run old done
-  pub told : (k : ℕ) → chosen k ≡ is_chosen done k
+use Rattle.sched_draw.specs.Partway.{Partway}
+use Rattle.sched_draw.proofs.StoppedLemmas.{run-stopped, all_named}
 
 -- no choice was taken
-pub begun : (all left : List Choice) (world : World) (chosen : Harts) → left ≡ all → chosen ≡ (λ _. false) → SoFar all left world world chosen
+pub begun : (all left : List Choice) (world : World) (chosen : Harts) → left ≡ all → chosen ≡ (λ _. false) → Partway all left world world chosen
 begun all left world chosen whole none = record {
   done = [];
   order = sym whole;
@@ -32,7 +29,7 @@ run_one w c = refl
 -- one choice more was taken
 pub one_more : (all left next : List Choice) (old before after : World) (chosen more : Harts) (c : Choice)
     → left ≡ c ∷ next → after ≡ step before c → more ≡ with_hart chosen c.hart
-    → SoFar all left old before chosen → SoFar all next old after more
+    → Partway all left old before chosen → Partway all next old after more
 one_more all left next old before after chosen more c is stepped added s = record {
   done = s.done ++ c ∷ [];
   order = s.order ∙ ap (λ cs. s.done ++ cs) is ∙ sym (append_assoc s.done (c ∷ []) next);
@@ -42,10 +39,26 @@ one_more all left next old before after chosen more c is stepped added s = recor
 
 -- all were taken
 pub all_done : (all left : List Choice) (old now : World) (chosen : Harts) → left ≡ []
-    → SoFar all left old now chosen → RanOver all old now chosen
+    → Partway all left old now chosen → RanOver all old now chosen
 all_done all left old now chosen none s =
     let whole : s.done ≡ all = sym (s.order ∙ ap (λ cs. s.done ++ cs) none ∙ append-nil s.done) in
     (s.led ∙ ap (run old) whole, λ k. s.told k ∙ ap (λ cs. is_chosen cs k) whole)
+
+-- those that are left are of these harts, which have stopped and were chosen
+pub ended : (all left : List Choice) (old now : World) (chosen : Harts) (first last : ℕ) (harts : List HartValue) → harts ≡ now.harts
+    → All (λ c. (first ≤ c.hart) × (c.hart < last)) left
+    → ((hart : ℕ) → first ≤ hart → hart < last → (runs harts hart ≡ false) × (chosen hart ≡ true))
+    → Partway all left old now chosen → RanOver all old now chosen
+ended all left old now chosen first last harts same among idle s =
+    let done : All (λ c. (runs harts c.hart ≡ false) × (chosen c.hart ≡ true)) left =
+    λ i c below. idle (get_or left i c).hart (among i c below).0 (among i c below).1 in
+    let stopped : All (λ c. runs now.harts c.hart ≡ false) left =
+    λ i c below. ap (λ hs. runs hs (get_or left i c).hart) (sym same) ∙ (done i c below).0 in (
+      sym (ap (run old) s.order ∙ run_append old s.done left ∙ ap (λ w. run w left) (sym s.led) ∙ run-stopped now left stopped),
+      λ k.
+          all_named chosen left k (λ i c below. (done i c below).1) ∙ ap (λ b. b || is_chosen left k) (s.told k)
+          ∙ sym (any-append s.done left k) ∙ sym (ap (λ cs. is_chosen cs k) s.order),
+    )
 
 -- the choices so far, and then those that are left
 module _ (old left whole : List Choice) (so_far : old ++ left ≡ whole) where

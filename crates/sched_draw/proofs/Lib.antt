@@ -2,5 +2,7 @@ pub mod SeedLemmas
 pub mod RefusalLemmas
 pub mod BurstLemmas
 pub mod PriorityLemmas
+pub mod TurnLemmas
 pub mod ChoiceLemmas
+pub mod StoppedLemmas
 pub mod ChooserLemmas

@@ -349,3 +349,14 @@ some_steps refusals harts depth zero seed w places is = refl
 some_steps refusals harts depth (suc steps) seed w places is =
     let same : places ≡ suc steps = omega (arith, is) in
     ap (λ n. priority_choices_drawn refusals 0 (suc steps) (priority_drawing harts depth n seed) w) same
+
+-- each choice that is drawn names a hart that exists
+pub drawn-within : (refusals : Refusals) (n place steps : ℕ) (d : PriorityDrawing) (w : World) → 0 < n → All (λ h. h < n) d.order
+    → All (λ c. c.hart < n) (priority_choices_drawn refusals place steps d w)
+unfolding priority_choices_drawn
+drawn-within refusals n place zero d w some all = All-nil (λ (c : Choice). c.hart < n)
+drawn-within refusals n place (suc steps) d w some all =
+    let c = next_priority_choice refusals w.harts d in
+    let e = after_priority_choice place w.harts d in
+    All-cons (λ (c : Choice). c.hart < n) c (priority_choices_drawn refusals (place + 1) steps e (step w c)) (next-below refusals n w.harts d some all)
+    (drawn-within refusals n (place + 1) steps e (step w c) some (after-below n place w.harts d some all))

@@ -1,5 +1,5 @@
 -- Drawn choices with refusals, one more at a time.
-use Rattle.std.proofs.Common.{◌≡◌, ℕ, zero, suc, ◌+◌, ◌/◌, ◌%◌, ◌==◌, ◌<◌, Bool, true, false, List, [], ◌∷◌, refl, arith, ap, ap₂, sym, subst, mod-lt, ◌∙◌}
+use Rattle.std.proofs.Common.{◌≡◌, ℕ, zero, suc, ◌+◌, ◌/◌, ◌%◌, ◌==◌, ◌<◌, Bool, true, false, ◌∷◌, refl, arith, ap, ap₂, sym, subst, mod-lt, ◌∙◌}
 use Rattle.std.proofs.lemmas.Bool.{eq-eqb}
 use Rattle.std.proofs.lemmas.List.Elements.{All-nil, All-cons}
 use Rattle.std.specs.List.{All}
@@ -42,9 +42,12 @@ word-within : (refusals : Refusals) (harts word : ℕ) → 0 < harts → (choice
 unfolding choice_of_word
 word-within refusals harts word some = mod-lt word some
 
+pub drawn-within : (refusals : Refusals) (harts steps : ℕ) (g : Lcg) → 0 < harts → All (λ c. c.hart < harts) (even_choices_drawn refusals harts steps g)
+drawn-within refusals harts steps g some =
+    all-drawn (λ c. c.hart < harts) refusals harts (λ word. word-within refusals harts word some) steps g
+
 pub even-within : (refusals : Refusals) (harts steps seed : ℕ) → 0 < harts → All (λ c. c.hart < harts) (even_choices refusals harts steps seed)
-even-within refusals harts steps seed some =
-    all-drawn (λ c. c.hart < harts) refusals harts (λ word. word-within refusals harts word some) steps (plain.generator_of seed)
+even-within refusals harts steps seed some = drawn-within refusals harts steps (plain.generator_of seed) some
 
 -- ---- the usual refusals
 pub usual-word : (refusals : Refusals) (word : ℕ) → IsOneIn 16 refusals → is_refused refusals word ≡ (word / 65536 % 16 == 0)

@@ -7,3 +7,4 @@ pub mod Priorities
 pub mod Drawn
 pub mod NoSteps
 pub mod Schedules
+pub mod Partway

@@ -13,6 +13,7 @@ use machine::Choice;
 use rand_core::utils::NextWord;
 use rand_pcg::Lcg64Xsh32;
 use std::marker::Model;
+use std::ops::Range;
 
 /// The state of drawing choices in bursts from a seed.
 #[derive(Drop)]
@@ -98,5 +99,9 @@ impl Drawer for Bursts {
 
     fn draw(&mut self, _step: u64) -> Choice {
         self.next_choice()
+    }
+
+    fn span(&self) -> Range<u32> {
+        0..self.harts
     }
 }

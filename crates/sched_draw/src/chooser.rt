@@ -1,6 +1,7 @@
 //! The sources of a run's choices, one choice at a time.
 
-ghost use Rattle.std.specs.Prelude.{◌≡◌, ◌+◌, ◌<◌, ℕ, List, [], ◌∷◌, IfOk, length, map};
+ghost use Rattle.std.specs.Prelude.{◌≡◌, ◌+◌, ◌<◌, ◌≤◌, ℕ, List, [], ◌∷◌, IfOk, length, map};
+ghost use Rattle.std.specs.List.{All};
 ghost use Rattle.hart_step.specs.Hart.{hart_of};
 ghost use Rattle.machine.specs.World.{World, step as stepped};
 ghost use Rattle.machine.specs.declared.choice.Choice.{Choice};
@@ -8,6 +9,7 @@ ghost use Rattle.machine.specs.declared.choice.Choice.{Choice};
 use hart_step::Hart;
 use machine::Choice;
 use std::alloc::AllocError;
+use std::ops::Range;
 
 /// A source of a run's choices. Each is asked for when its step comes.
 pub trait Chooser: Drop {
@@ -24,6 +26,13 @@ pub trait Chooser: Drop {
             → choices self.old step (n + 1) w ≡ choice ∷ choices self.new (step + 1) n (stepped w choice)) }
         ensures within { IfOk result (λ choice. choice.hart < length harts.now) }
         ensures stays { IfOk result (λ _. IsFor self.new (length harts.now)) };
+
+    /// The harts that it can choose from now on, of this number of harts.
+    fn span(&self, harts: u32) -> Range<u32>
+        requires { IsFor self.now harts }
+        ensures among { (step n : ℕ) (w : World)
+            → All (λ c. (result.start ≤ c.hart) × (c.hart < result.end)) (choices self.now step n w) }
+        ensures there { result.end ≤ harts };
 
     /// No choices for 0 steps.
     ghost none: { (c : Self) (step : ℕ) (w : World) → choices c step 0 w ≡ [] };
@@ -43,6 +52,12 @@ pub trait Drawer: Drop {
         ensures within { result.hart < harts self.old }
         ensures stays { harts self.new ≡ harts self.old };
 
+    /// The harts that it can draw from now on.
+    fn span(&self) -> Range<u32>
+        ensures among { (step n : ℕ)
+            → All (λ c. (result.start ≤ c.hart) × (c.hart < result.end)) (drawn self.now step n) }
+        ensures there { result.end ≤ harts self.now };
+
     /// No choices for 0 steps.
     ghost none: { (d : Self) (step : ℕ) → drawn d step 0 ≡ [] };
 }
@@ -61,5 +76,9 @@ impl<D: Drawer> Chooser for Same<D> {
     #[inline(always)]
     fn next(&mut self, step: u64, _harts: &[Hart]) -> Result<Choice, AllocError> {
         Ok(self.0.draw(step))
+    }
+
+    fn span(&self, _harts: u32) -> Range<u32> {
+        self.0.span()
     }
 }

@@ -9,6 +9,7 @@ use machine::Choice;
 use rand_core::SeedableRng;
 use rand_core::utils::NextWord;
 use rand_pcg::Lcg64Xsh32;
+use std::ops::Range;
 
 /// The generator that a seed starts.
 #[tactic(auto, unfolding(crate::specs::Seeds::generator_of))]
@@ -77,6 +78,10 @@ impl Drawer for Usual {
             refuse: word / 65536 % 16 == 0,
         }
     }
+
+    fn span(&self) -> Range<u32> {
+        0..self.harts
+    }
 }
 
 /// Draws each choice from all harts; it refuses its store-conditional if the refusals say so for
@@ -122,5 +127,9 @@ impl Drawer for Even {
             hart: hart_of_word(word, self.harts),
             refuse: self.refusals.refuses(word),
         }
+    }
+
+    fn span(&self) -> Range<u32> {
+        0..self.harts
     }
 }

@@ -3,7 +3,8 @@
 ghost use Rattle.std.specs.Prelude.{◌≡◌, ◌≢◌, ◌-◌, ◌*◌, ◌/◌, ◌%◌, ◌==◌, ◌<◌, ◌≤◌, ℕ, true, false, List, length};
 ghost use Rattle.std.specs.List.{All, Contains};
 ghost use Rattle.hart_step.specs.Hart.{HartValue};
-ghost use Rattle.machine.specs.World.{World};
+ghost use Rattle.machine.specs.World.{World, run};
+ghost use Rattle.machine.specs.declared.choice.Choice.{Choice};
 ghost use Rattle.sched_draw.specs.Bursts as bursts;
 ghost use Rattle.sched_draw.specs.Priorities.{PriorityDrawing, priority_drawing, is_point, runs, next_priority_choice, after_priority_choice, priority_choices, NeverWaits};
 ghost use Rattle.sched_draw.specs.Refusing.{even_choices, is_refused, IsOneIn};
@@ -68,6 +69,15 @@ pub fn change_points_are_places()
 pub fn a_stopped_hart_waits()
     ensures { (world : World) (refusals : Refusals) (depth steps seed : ℕ)
         → NeverWaits world (priority_choices world (length world.harts) depth refusals steps seed) }
+{}
+
+/// Steps of harts that have stopped change nothing; so once all have stopped, nothing changes any
+/// more.
+pub fn nothing_changes_once_all_have_stopped()
+    ensures stopped { (world : World) (choices : List Choice) → All (λ c. runs world.harts c.hart ≡ false) choices
+        → run world choices ≡ world }
+    ensures all { (world : World) (choices : List Choice) → ((hart : ℕ) → runs world.harts hart ≡ false)
+        → run world choices ≡ world }
 {}
 
 /// A hart that falls at a change point is last: the next choice, whatever the harts' states by

@@ -7,7 +7,7 @@ pub use even::seeded_generator;
 pub use laws::{
     a_burst_begins_within_its_bounds, a_burst_is_of_one_hart, a_change_point_lets_a_hart_fall,
     a_stopped_hart_waits, change_points_are_places, each_hart_has_a_place, never_refuses,
-    one_in_1_refuses_each, usual_refusals,
+    nothing_changes_once_all_have_stopped, one_in_1_refuses_each, usual_refusals,
 };
 pub use limits::limits_of_draws;
 pub use listing::{list_run, list_schedule};

@@ -19,6 +19,7 @@ use machine::Choice;
 use rand_core::utils::NextWord;
 use rand_pcg::Lcg64Xsh32;
 use std::alloc::{AllocError, Allocator};
+use std::ops::Range;
 
 /// The state of drawing choices by priorities from a seed.
 #[derive(Drop)]
@@ -30,8 +31,8 @@ pub(crate) struct Priorities<A: Allocator> {
     generator: Lcg64Xsh32,
 }
 
-// Whether a hart exists and runs.
-fn runs(harts: &[Hart], number: u32) -> bool
+/// Whether a hart exists and runs.
+pub(crate) fn runs(harts: &[Hart], number: u32) -> bool
     ensures { result ≡ runs (map hart_of harts.now) number }
 {
     match harts.get(number as usize) {
@@ -206,5 +207,9 @@ impl<A: Allocator> Chooser for ByPriorities<A> {
     fn next(&mut self, step: u64, harts: &[Hart]) -> Result<Choice, AllocError> {
         let choice = self.priorities.next_choice(step, harts, self.refusals)?;
         Ok(choice)
+    }
+
+    fn span(&self, harts: u32) -> Range<u32> {
+        0..harts
     }
 }

@@ -1,22 +1,33 @@
 //! A machine's run under a schedule.
 
-ghost use Rattle.std.specs.Prelude.{◌≡◌, ◌<◌, ◌≤◌, true, IfOk, length};
+ghost use Rattle.std.specs.Prelude.{◌≡◌, ℕ, ◌-◌, ◌<◌, ◌≤◌, true, false, List, IfOk, length, map};
+ghost use Rattle.hart_step.specs.Hart.{hart_of};
 ghost use Rattle.sched_run.specs.Chosen.{harts_of};
 ghost use Rattle.machine.specs.Machine.{world};
+ghost use Rattle.machine.specs.World.{World};
+ghost use Rattle.machine.specs.declared.choice.Choice.{Choice};
 ghost use Rattle.hart_reservations.specs.Limit.{most_harts};
+ghost use Rattle.sched_draw.specs.Priorities.{runs};
+ghost use Rattle.sched_draw.specs.Partway.{Partway};
 ghost use Rattle.sched_draw.specs.Schedules.{choices_of, drawn_choices, is_of_harts, RanOver};
 
 use crate::bursts::Bursts;
 use crate::chooser::{Chooser, Same};
 use crate::even::{Even, Usual};
 use crate::order::Order;
-use crate::priorities::ByPriorities;
+use crate::priorities::{ByPriorities, runs};
 use crate::schedule::{Draw, Schedule};
 use crate::turns::{Alone, Turns};
+use hart_step::Hart;
 use machine::Machine;
 use mem_store::Store;
 use sched_run::Chosen;
 use std::alloc::{AllocError, Allocator};
+use std::ops::Range;
+
+// The number of steps between two looks whether the run is over: few are wasted at its end, and a
+// look takes a small part of the time of so many.
+const STRETCH: u64 = 1024;
 
 /// Runs a machine under a schedule, and returns which harts were chosen. Each choice is made when
 /// its step comes, so the list is never held. The only error is out of memory; the machine has then
@@ -80,7 +91,8 @@ fn run_drawn<S: Store, A: Allocator + Copy>(
     }
 }
 
-// Runs a machine over a chooser's choices, each made when its step comes.
+// Runs a machine over a chooser's choices, each made when its step comes. It ends early where the
+// harts of all later choices have stopped and were chosen.
 fn run_by<S: Store, A: Allocator, C: Chooser>(
     machine: &mut Machine<S, A>,
     chooser: C,
@@ -93,10 +105,61 @@ fn run_by<S: Store, A: Allocator, C: Chooser>(
 {
     let mut chooser = chooser;
     let mut chosen = Chosen::new();
-    'steps: for step in 0..steps {
+    let mut from = 0;
+    'stretches: while from < steps {
+        let to = from + (steps - from).min(STRETCH);
+        run_some(machine, &mut chooser, &mut chosen, from, to)?;
+        if is_over(
+            chooser.span(machine.harts() as u32),
+            machine.ends(),
+            &chosen,
+        ) {
+            return Ok(chosen);
+        }
+        from = to;
+    }
+    Ok(chosen)
+}
+
+// Takes the steps from one up to another. Inlined, so that the chooser stays in registers.
+#[inline(always)]
+fn run_some<S: Store, A: Allocator, C: Chooser>(
+    machine: &mut Machine<S, A>,
+    chooser: &mut C,
+    chosen: &mut Chosen,
+    from: u64,
+    to: u64,
+) -> Result<(), AllocError>
+    requires few { length (world S.memory machine.old).harts ≤ most_harts }
+    requires chooses { C.IsFor chooser.old (length (world S.memory machine.old).harts) }
+    requires ahead { from ≤ to }
+    ensures harts { IfOk result (λ _. length (world S.memory machine.new).harts
+        ≡ length (world S.memory machine.old).harts) }
+    ensures chooses { IfOk result (λ _. C.IsFor chooser.new (length (world S.memory machine.old).harts)) }
+    ensures ran { IfOk result (λ _. (all : List Choice) (old : World) (steps : ℕ) → to ≤ steps
+        → Partway all (C.choices chooser.old from (steps - from) (world S.memory machine.old)) old
+        (world S.memory machine.old) (harts_of chosen.old)
+        → Partway all (C.choices chooser.new to (steps - to) (world S.memory machine.new)) old
+        (world S.memory machine.new) (harts_of chosen.new)) }
+{
+    'steps: for step in from..to {
         let choice = chooser.next(step, machine.ends())?;
         chosen.add(choice.hart as usize);
         machine.step(choice)?;
     }
-    Ok(chosen)
+    Ok(())
+}
+
+// Whether each of these harts has stopped and was chosen: no choice of them does more.
+fn is_over(span: Range<u32>, harts: &[Hart], chosen: &Chosen) -> bool
+    requires { span.end ≤ most_harts }
+    ensures { result ≡ true → (hart : ℕ) → span.start ≤ hart → hart < span.end
+        → (runs (map hart_of harts.now) hart ≡ false) × (harts_of chosen.now hart ≡ true) }
+{
+    'harts: for hart in span.start..span.end {
+        if runs(harts, hart) || !chosen.has(hart as usize) {
+            return false;
+        }
+    }
+    true
 }

@@ -4,6 +4,7 @@ ghost use Rattle.std.specs.Prelude.{◌≡◌, ◌<◌, refl};
 
 use crate::chooser::Drawer;
 use machine::Choice;
+use std::ops::Range;
 
 /// The harts in turn: hart `i mod harts` takes step `i`, and no store-conditional is refused.
 #[derive(Drop)]
@@ -37,6 +38,10 @@ impl Drawer for Turns {
             hart: (step % u64::from(self.harts)) as u32,
             refuse: false,
         }
+    }
+
+    fn span(&self) -> Range<u32> {
+        0..self.harts
     }
 }
 
@@ -74,5 +79,9 @@ impl Drawer for Alone {
             hart: self.hart,
             refuse: false,
         }
+    }
+
+    fn span(&self) -> Range<u32> {
+        self.hart..self.hart + 1
     }
 }

@@ -6,7 +6,7 @@ use Rattle.machine.specs.Chosen.{is_chosen}
 use Rattle.machine.specs.declared.choice.Choice.{Choice}
 use Rattle.sched_run.specs.Harts.{Harts, with_hart, marked_at}
 
-any-append : (a b : List Choice) (k : ℕ) → is_chosen (a ++ b) k ≡ (is_chosen a k || is_chosen b k)
+pub any-append : (a b : List Choice) (k : ℕ) → is_chosen (a ++ b) k ≡ (is_chosen a k || is_chosen b k)
 any-append [] b k = refl
 any-append (c ∷ a) b k = go (c.hart == k) (any-append a b k)
   where
@@ -14,7 +14,7 @@ any-append (c ∷ a) b k = go (c.hart == k) (any-append a b k)
     go true e = refl
     go false e = e
 
-or-none : (x : Bool) → (x || false) ≡ x
+pub or-none : (x : Bool) → (x || false) ≡ x
 or-none true = refl
 or-none false = refl
 

@@ -36,6 +36,14 @@ impl Chosen {
         self.marks[hart] = true;
     }
 
+    /// Whether a hart was chosen.
+    pub fn has(&self, hart: usize) -> bool
+        requires { hart < most_harts }
+        ensures { result ≡ harts_of self.now hart }
+    {
+        self.marks[hart]
+    }
+
     /// One choice of each hart that was chosen, in order of the harts. A judge needs no more of a
     /// list of choices.
     pub fn choices<A: Allocator>(&self, alloc: A) -> Result<Vec<Choice, A>, AllocError>

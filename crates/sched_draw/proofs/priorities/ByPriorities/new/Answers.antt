@@ -1,7 +1,7 @@
-use Rattle.std.proofs.Common.{◌≡◌, ◌<◌, ap, sym, subst, ◌∙◌}
+use Rattle.std.proofs.Common.{◌<◌, ap, sym, subst, ◌∙◌}
 use Rattle.std.specs.List.{All}
 use Rattle.sched_draw.specs.Drawn.{drawing}
-use Rattle.sched_draw.specs.Priorities.{PriorityDrawing, priority_choices_drawn, priority_drawing}
+use Rattle.sched_draw.specs.Priorities.{PriorityDrawing, priority_choices_drawn}
 use Rattle.sched_draw.proofs.PriorityLemmas.{order-there, some_steps}
 use Rattle.sched_draw.proofs.priorities.ByPriorities.new.Goals as goal
 
