@@ -146,7 +146,7 @@ LINES_OF_C = [
     ("step", "once (old=0, by=1) at adders.c:", "unsigned sum = old + by;"),
     ("bt", "#0  once (old=0, by=1)", "#1", "in add (hart=1)", "#2", "in main (hart=1, input=3, harts=2)"),
     ("finish", "in add (hart=1)", "unsigned next = once(seen, 1);", "= 1"),
-    ("reverse-step", "once (old=0, by=1)", "return sum;"),
+    ("reverse-step", "once (old=0, by=1) at adders.c:"),
     ("reverse-finish", "in add (hart=1)", "unsigned next = once(seen, 1);"),
     ("reverse-next", "unsigned next = once(seen, 1);"),
     ("tbreak adders.c:BYTES", "Temporary breakpoint 2"),
