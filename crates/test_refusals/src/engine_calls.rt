@@ -4,6 +4,7 @@ use cli_args::{LineFault, read_inputs};
 use cli_orders::read_plan;
 use cmd_asm::{AssemblyFault, assembled_file, listing_engine};
 use cmd_debug::{DebugEngineFault, debug_engine};
+use cmd_gdb::gdb_engine;
 use cmd_replay::replay_engine;
 use cmd_run::{Exit, Expect, FileView, ends_text, file_engine, run_engine};
 use cmd_schedule::{Plan, schedule_engine};
@@ -24,6 +25,7 @@ enum EngineCall {
     Info,
     Replay,
     Debug,
+    Gdb,
     Schedule,
     AssembledFile,
     AssembledListing,
@@ -36,13 +38,14 @@ enum EngineCall {
 }
 
 // All of them.
-const CALLS: [(&str, EngineCall); 15] = [
+const CALLS: [(&str, EngineCall); 16] = [
     ("run", EngineCall::Run),
     ("run in hexadecimal", EngineCall::RunHex),
     ("list", EngineCall::List),
     ("info", EngineCall::Info),
     ("replay", EngineCall::Replay),
     ("debug", EngineCall::Debug),
+    ("gdb", EngineCall::Gdb),
     ("schedule", EngineCall::Schedule),
     ("assembled file", EngineCall::AssembledFile),
     ("assembled listing", EngineCall::AssembledListing),
@@ -63,6 +66,7 @@ impl Call for EngineCall {
             EngineCall::Info => is_shown(alloc, host, FileView::Facts, EXITS_FACTS),
             EngineCall::Replay => is_replayed(alloc, host),
             EngineCall::Debug => is_debugged(alloc, host),
+            EngineCall::Gdb => is_served(alloc, host),
             EngineCall::Schedule => is_scheduled(alloc),
             EngineCall::AssembledFile => is_assembled(alloc),
             EngineCall::AssembledListing => is_listed(alloc, host),
@@ -82,6 +86,11 @@ const COMMANDS: &str = "where\ngo\nsteps 0 1\nregs 9\nback\nquit\n";
 
 const ANSWERS: &str =
     "step 0 of 2\nend\nstep 2 of 2\n0 h0 00010000 addi a7, zero, 93\nbad command\nstep 1 of 2\n";
+
+const PACKETS: &[u8] = b"$?#3f+$qRcmd,7768657265#3e$c#63+$D#44";
+
+const SENT: &str = "+$T05thread:1;#d7+$737465702030206f6620322c206e657874206861727420300a#d5\
+    +$T0502:00000000;08:00000000;20:04000100;thread:1;replaylog:end;#62+$OK#9a";
 
 // How an engine that was called ended: with its full answer or without, or for want of memory.
 #[derive(Clone, Copy)]
@@ -175,15 +184,16 @@ fn is_replayed<A: Allocator + Copy>(alloc: A, host: Global) -> Result<bool, Allo
     answer_of(end_of_run(ending), sink.bytes(), ENDS)
 }
 
-// Lines are answered as they come, so that a beginning of the answers may be written.
+// Lines and packets are answered as they come, so that a beginning of the answers may be written.
 fn answer_of_session(
     ending: Result<Status, DebugEngineFault>,
     bytes: &[u8],
+    answers: &str,
 ) -> Result<bool, AllocError> {
     match ending {
-        Ok(status) => Ok(status == Status::Done && bytes == ANSWERS.as_bytes()),
+        Ok(status) => Ok(status == Status::Done && bytes == answers.as_bytes()),
         Err(DebugEngineFault::Refused(CommandFault::Memory)) if bytes.is_empty() => Err(AllocError),
-        Err(DebugEngineFault::Memory) if ANSWERS.as_bytes().starts_with(bytes) => Err(AllocError),
+        Err(DebugEngineFault::Memory) if answers.as_bytes().starts_with(bytes) => Err(AllocError),
         Err(_) => Ok(false),
     }
 }
@@ -202,7 +212,24 @@ fn is_debugged<A: Allocator + Copy>(alloc: A, host: Global) -> Result<bool, Allo
         &mut sink,
         &mut Unheard,
     );
-    answer_of_session(ending, sink.bytes())
+    answer_of_session(ending, sink.bytes(), ANSWERS)
+}
+
+fn is_served<A: Allocator + Copy>(alloc: A, host: Global) -> Result<bool, AllocError> {
+    let mut program = MemorySource::new(&EXITS);
+    let mut choices = MemorySource::new(b"0 0");
+    let mut packets = MemorySource::new(PACKETS);
+    let mut sink = MemorySink::new(host);
+    let ending = gdb_engine(
+        alloc,
+        &[7, 9],
+        &mut program,
+        &mut choices,
+        &mut packets,
+        &mut sink,
+        &mut Unheard,
+    );
+    answer_of_session(ending, sink.bytes(), SENT)
 }
 
 fn is_scheduled<A: Allocator + Copy>(alloc: A) -> Result<bool, AllocError> {

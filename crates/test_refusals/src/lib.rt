@@ -7,6 +7,9 @@
 mod engine_calls;
 #[cfg(test)]
 mod file_calls;
+// Sessions with GDB.
+#[cfg(test)]
+mod gdb_calls;
 // Calls of machines, and of the debugger.
 #[cfg(test)]
 mod machine_calls;

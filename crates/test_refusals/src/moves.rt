@@ -63,7 +63,10 @@ fn turn(hart: u32) -> Choice {
 }
 
 // So many choices, each hart twice in turn.
-fn turns<A: Allocator + Copy>(alloc: A, count: u32) -> Result<Vec<Choice, A>, AllocError> {
+pub(crate) fn turns<A: Allocator + Copy>(
+    alloc: A,
+    count: u32,
+) -> Result<Vec<Choice, A>, AllocError> {
     let mut choices = Vec::new(alloc);
     for number in 0..count {
         choices.push(turn(number / 2 % 2))?;
