@@ -3,14 +3,14 @@
 ghost use Rattle.std.specs.Prelude.{◌-◌, ◌^◌, ◌<◌};
 
 use byte_io::{MemorySource, Progress, ReadFault, Source, Status, read_all};
-use cmd_debug::{DebugEngineFault, open_session};
+use cmd_debug::{DebugEngineFault, NamedRun, open_named, open_session};
 use debug_session::Debugger;
 use debug_text::{Answer, Command, DebugFault, obey, read_command};
 use elf_read::Symbol;
 use hint_debug::{GREETING, Prompt, line_advice, next_text, watched_word, word_before};
 use hint_fault::symbols_or_none;
 use image::Image;
-use program_open::{CommandFault, Input as InputFile, ProgramForm, open_run, read_program};
+use program_open::{CommandFault, Input as InputFile, ProgramForm, read_program};
 use std::alloc::{AllocError, Global};
 use std::io::{self, Input};
 
@@ -18,7 +18,10 @@ use std::io::{self, Input};
 #[derive(Drop)]
 struct Names {
     image: Image<Global>,
-    symbols: Vec<Symbol<Global>>,
+    // Those that commands may name: all.
+    named: Vec<Symbol<Global>>,
+    // Those that are shown.
+    shown: Vec<Symbol<Global>>,
 }
 
 // Whether more lines are read.
@@ -54,11 +57,11 @@ pub(crate) fn talk_to_person<R: AllocGlobal + Print + Input, P: Source, C: Sourc
         Err(ReadFault::Memory) => return Err(DebugEngineFault::Memory),
     };
     let mut source = MemorySource::new(&bytes);
-    let run = match open_run(rt.alloc(), ProgramForm::Elf, inputs, &mut source, choices) {
-        Ok(run) => run,
+    let NamedRun { opened, symbols } = match open_named(rt.alloc(), inputs, &mut source, choices) {
+        Ok(named) => named,
         Err(fault) => return Err(DebugEngineFault::Refused(fault)),
     };
-    let mut debugger = match open_session(rt.alloc(), run, progress) {
+    let mut debugger = match open_session(rt.alloc(), opened, progress) {
         Ok(debugger) => debugger,
         Err(AllocError) => return Err(DebugEngineFault::Refused(CommandFault::Memory)),
     };
@@ -66,8 +69,11 @@ pub(crate) fn talk_to_person<R: AllocGlobal + Print + Input, P: Source, C: Sourc
         Ok(image) => image,
         Err(fault) => return Err(DebugEngineFault::Refused(fault)),
     };
-    let symbols = symbols_or_none(rt.alloc(), &bytes);
-    let names = Names { image, symbols };
+    let names = Names {
+        image,
+        named: symbols,
+        shown: symbols_or_none(rt.alloc(), &bytes),
+    };
     show(rt, GREETING)?;
     show_next(rt, &debugger, &names)?;
     answer_lines(rt, &mut debugger, &names)
@@ -111,10 +117,9 @@ fn answer_line<R: AllocGlobal + Print>(
     names: &Names,
     line: &str,
 ) -> Result<Turn, DebugEngineFault> {
-    let Some(command) = read_command(line.as_bytes()) else {
-        show(rt, "bad command\n")?;
-        show_advice(rt, names, line)?;
-        return Ok(Turn::Next);
+    let command = match read_command(&names.named, line.as_bytes()) {
+        Ok(command) => command,
+        Err(fault) => return refuse_line(rt, names, line, fault),
     };
     match obey(rt.alloc(), debugger, command) {
         Ok(Answer::Quit) => Ok(Turn::Last),
@@ -139,7 +144,26 @@ fn answer_line<R: AllocGlobal + Print>(
             tell(rt, Limit::Choices(debugger.choices().len()))?;
             Ok(Turn::Next)
         }
+        // A command has numbers in place of names.
+        Err(fault @ (DebugFault::NoSymbol | DebugFault::SeveralSymbols)) => {
+            refuse_line(rt, names, line, fault)
+        }
     }
+}
+
+// Shows why a line is no command, with hints on it.
+fn refuse_line<R: AllocGlobal + Print>(
+    rt: &R,
+    names: &Names,
+    line: &str,
+    fault: DebugFault,
+) -> Result<Turn, DebugEngineFault> {
+    match println!(rt; "{fault}") {
+        Ok(()) => {}
+        Err(_) => return Err(DebugEngineFault::Answers),
+    }
+    show_advice(rt, names, line)?;
+    Ok(Turn::Next)
 }
 
 // A limit that a command has exceeded.
@@ -178,7 +202,7 @@ fn show_advice<R: AllocGlobal + Print>(
     names: &Names,
     line: &str,
 ) -> Result<(), DebugEngineFault> {
-    match line_advice(rt.alloc(), names.image.segments(), line) {
+    match line_advice(rt.alloc(), names.image.segments(), &names.named, line) {
         Ok(text) => show(rt, &text),
         Err(AllocError) => Err(DebugEngineFault::Memory),
     }
@@ -190,7 +214,7 @@ fn show_next<R: AllocGlobal + Print>(
     debugger: &Debugger<Global>,
     names: &Names,
 ) -> Result<(), DebugEngineFault> {
-    match next_text(rt.alloc(), debugger, &names.symbols) {
+    match next_text(rt.alloc(), debugger, &names.shown) {
         Ok(text) => show(rt, &text),
         Err(AllocError) => Err(DebugEngineFault::Memory),
     }

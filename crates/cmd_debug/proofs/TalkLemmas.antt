@@ -9,6 +9,7 @@ use Rattle.std.proofs.lemmas.List.Splits.{length-slice_split, slice_split-cons_n
 use Rattle.std.specs.Io.KnownBytes.{Appends}
 use Rattle.std.specs.List.{onto_first, slice_split}
 use Rattle.std.specs.Str.Lines.{lines, lines_of_parts, strip_carriage_return}
+use Rattle.elf_read.specs.Symbol.{SymbolValue}
 use Rattle.debug_session.specs.Session.{Session}
 use Rattle.debug_text.specs.Reply.{Outcome}
 use Rattle.cmd_debug.specs.Lines.{has_no_end, TakesEnded, TakesLast, TakesLine, TakesNone}
@@ -51,99 +52,99 @@ lines_last : (bytes : List ℕ) → has_no_end bytes ≡ true → 0 < length byt
 lines_last bytes plain some = ap lines_of_parts (split_whole bytes plain) ∙ last_part bytes some
 
 -- what is shown from a line on
-abbrev pub shown_on : Outcome → List (List ℕ) → List ℕ
-shown_on outcome others = outcome.text ++ (if outcome.ended then [] else answers outcome.after others)
+abbrev pub shown_on : List SymbolValue → Outcome → List (List ℕ) → List ℕ
+shown_on symbols outcome others = outcome.text ++ (if outcome.ended then [] else answers symbols outcome.after others)
 
-answers_first : (s : Session) (rest after line : List ℕ) → TakesLine (Some rest) (Some after) line
-    → answers s (lines rest) ≡ shown_on (outcome_to s line) (lines after)
-answers_first s rest after line took = ⊎_elim
+answers_first : (symbols : List SymbolValue) (s : Session) (rest after line : List ℕ) → TakesLine (Some rest) (Some after) line
+    → answers symbols s (lines rest) ≡ shown_on symbols (outcome_to symbols s line) (lines after)
+answers_first symbols s rest after line took = ⊎_elim
     (λ (t : TakesEnded (Some rest) (Some after) line).
     let split : lines rest ≡ strip_carriage_return t.bytes ∷ lines after
     = ap lines (t.took ∙ append_assoc t.bytes (10 ∷ []) after) ∙ lines_first t.bytes after t.plain in
-    ap (answers s) split ∙ ap (λ xs. shown_on (outcome_to s xs) (lines after)) (sym t.is))
+    ap (answers symbols s) split ∙ ap (λ xs. shown_on symbols (outcome_to symbols s xs) (lines after)) (sym t.is))
     (λ (t : TakesLast (Some rest) (Some after) line).
     let whole : rest ≡ line = t.took ∙ ap (λ xs. line ++ xs) t.end ∙ append-nil line in
     let split : lines rest ≡ line ∷ lines after
     = ap lines whole ∙ lines_last line t.plain t.some ∙ ap (λ xs. line ∷ lines xs) (sym t.end) in
-    ap (answers s) split)
+    ap (answers symbols s) split)
     took
 
 -- what is shown of the whole input is what was shown, and then what is shown of the rest in this
 -- session
-abbrev pub AnswersLeft : Session → Option (List ℕ) → Option (List ℕ) → List ℕ → Session → Type 0
-AnswersLeft first None rest done s = Unit {0}
-AnswersLeft first (Some input) None done s = ⊥
-AnswersLeft first (Some input) (Some rest) done s = answers first (lines input) ≡ done ++ answers s (lines rest)
+abbrev pub AnswersLeft : List SymbolValue → Session → Option (List ℕ) → Option (List ℕ) → List ℕ → Session → Type 0
+AnswersLeft symbols first None rest done s = Unit {0}
+AnswersLeft symbols first (Some input) None done s = ⊥
+AnswersLeft symbols first (Some input) (Some rest) done s = answers symbols first (lines input) ≡ done ++ answers symbols s (lines rest)
 
 takes_known : (rest line : List ℕ) → TakesLine (Some rest) None line → ⊥
 takes_known rest line took = ⊎_elim (λ (t : TakesEnded (Some rest) None line). t.took) (λ (t : TakesLast (Some rest) None line). t.took) took
 
-left_on : (first : Session) (input l0 l1 : Option (List ℕ)) (s after : Session) (line text done : List ℕ)
-    → AnswersLeft first input l0 done s → TakesLine l0 l1 line
-    → outcome_to s line ≡ record { text = text; after = after; ended = false }
-    → AnswersLeft first input l1 (done ++ text) after
-left_on first None l0 l1 s after line text done left took outcome = tt
-left_on first (Some input) None l1 s after line text done left took outcome = absurd left
-left_on first (Some input) (Some rest) None s after line text done left took outcome = absurd (takes_known rest line took)
-left_on first (Some input) (Some rest) (Some others) s after line text done left took outcome =
-    left ∙ ap (λ xs. done ++ xs) (answers_first s rest others line took ∙ ap (λ o. shown_on o (lines others)) outcome)
-    ∙ sym (append_assoc done text (answers after (lines others)))
+left_on : (symbols : List SymbolValue) (first : Session) (input l0 l1 : Option (List ℕ)) (s after : Session) (line text done : List ℕ)
+    → AnswersLeft symbols first input l0 done s → TakesLine l0 l1 line
+    → outcome_to symbols s line ≡ record { text = text; after = after; ended = false }
+    → AnswersLeft symbols first input l1 (done ++ text) after
+left_on symbols first None l0 l1 s after line text done left took outcome = tt
+left_on symbols first (Some input) None l1 s after line text done left took outcome = absurd left
+left_on symbols first (Some input) (Some rest) None s after line text done left took outcome = absurd (takes_known rest line took)
+left_on symbols first (Some input) (Some rest) (Some others) s after line text done left took outcome =
+    left ∙ ap (λ xs. done ++ xs) (answers_first symbols s rest others line took ∙ ap (λ o. shown_on symbols o (lines others)) outcome)
+    ∙ sym (append_assoc done text (answers symbols after (lines others)))
 
 -- the lines so far were answered, and the rest is still to be answered in this session
-pub record IsAnswered (first : Session) (input rest old now : Option (List ℕ)) (s : Session) : Type 0 where
+pub record IsAnswered (symbols : List SymbolValue) (first : Session) (input rest old now : Option (List ℕ)) (s : Session) : Type 0 where
   pub done : List ℕ
   pub wrote : Appends old now done
-  pub left : AnswersLeft first input rest done s
+  pub left : AnswersLeft symbols first input rest done s
 
-pub starts : (s : Session) (input old : Option (List ℕ)) → IsAnswered s input input old old s
-starts s None old = record { done = []; wrote = Appends-nil old; left = tt }
-starts s (Some input) old = record { done = []; wrote = Appends-nil old; left = refl }
+pub starts : (symbols : List SymbolValue) (s : Session) (input old : Option (List ℕ)) → IsAnswered symbols s input input old old s
+starts symbols s None old = record { done = []; wrote = Appends-nil old; left = tt }
+starts symbols s (Some input) old = record { done = []; wrote = Appends-nil old; left = refl }
 
 -- a line was answered, and the session goes on
-pub goes_on : (first : Session) (input l0 l1 old k0 k1 : Option (List ℕ)) (s after : Session) (line text : List ℕ)
-    → IsAnswered first input l0 old k0 s → TakesLine l0 l1 line
-    → outcome_to s line ≡ record { text = text; after = after; ended = false } → Appends k0 k1 text
-    → IsAnswered first input l1 old k1 after
-goes_on first input l0 l1 old k0 k1 s after line text so_far took outcome wrote = record {
+pub goes_on : (symbols : List SymbolValue) (first : Session) (input l0 l1 old k0 k1 : Option (List ℕ)) (s after : Session) (line text : List ℕ)
+    → IsAnswered symbols first input l0 old k0 s → TakesLine l0 l1 line
+    → outcome_to symbols s line ≡ record { text = text; after = after; ended = false } → Appends k0 k1 text
+    → IsAnswered symbols first input l1 old k1 after
+goes_on symbols first input l0 l1 old k0 k1 s after line text so_far took outcome wrote = record {
   done = so_far.done ++ text;
   wrote = Appends-trans old k0 k1 so_far.done text so_far.wrote wrote;
-  left = left_on first input l0 l1 s after line text so_far.done so_far.left took outcome;
+  left = left_on symbols first input l0 l1 s after line text so_far.done so_far.left took outcome;
 }
 
 -- the last line was answered
-pub is_done : (first : Session) (input l0 l1 old now : Option (List ℕ)) (s : Session)
-    → IsAnswered first input l0 old now s → TakesNone l0 l1
-    → IfSome input (λ xs. Appends old now (answers first (lines xs)))
-is_done first None l0 l1 old now s so_far (took, end) = tt
-is_done first (Some input) None l1 old now s so_far (took, end) = absurd so_far.left
-is_done first (Some input) (Some rest) None old now s so_far (took, end) = absurd took
-is_done first (Some input) (Some rest) (Some after) old now s so_far (took, end) =
+pub is_done : (symbols : List SymbolValue) (first : Session) (input l0 l1 old now : Option (List ℕ)) (s : Session)
+    → IsAnswered symbols first input l0 old now s → TakesNone l0 l1
+    → IfSome input (λ xs. Appends old now (answers symbols first (lines xs)))
+is_done symbols first None l0 l1 old now s so_far (took, end) = tt
+is_done symbols first (Some input) None l1 old now s so_far (took, end) = absurd so_far.left
+is_done symbols first (Some input) (Some rest) None old now s so_far (took, end) = absurd took
+is_done symbols first (Some input) (Some rest) (Some after) old now s so_far (took, end) =
     let none : rest ≡ [] = took ∙ end in
-    let all : answers first (lines input) ≡ so_far.done
-    = so_far.left ∙ ap (λ xs. so_far.done ++ answers s (lines xs)) none ∙ append-nil so_far.done in
+    let all : answers symbols first (lines input) ≡ so_far.done
+    = so_far.left ∙ ap (λ xs. so_far.done ++ answers symbols s (lines xs)) none ∙ append-nil so_far.done in
     subst (Appends old now) (sym all) so_far.wrote
 
 -- a line has ended the session
-pub is_ended : (first : Session) (input l0 l1 old now : Option (List ℕ)) (s after : Session) (line : List ℕ)
-    → IsAnswered first input l0 old now s → TakesLine l0 l1 line
-    → outcome_to s line ≡ record { text = []; after = after; ended = true }
-    → IfSome input (λ xs. Appends old now (answers first (lines xs)))
-is_ended first None l0 l1 old now s after line so_far took outcome = tt
-is_ended first (Some input) None l1 old now s after line so_far took outcome = absurd so_far.left
-is_ended first (Some input) (Some rest) None old now s after line so_far took outcome = absurd (takes_known rest line took)
-is_ended first (Some input) (Some rest) (Some more) old now s after line so_far took outcome =
-    let all : answers first (lines input) ≡ so_far.done
-    = so_far.left ∙ ap (λ xs. so_far.done ++ xs) (answers_first s rest more line took ∙ ap (λ o. shown_on o (lines more)) outcome) ∙ append-nil so_far.done in
+pub is_ended : (symbols : List SymbolValue) (first : Session) (input l0 l1 old now : Option (List ℕ)) (s after : Session) (line : List ℕ)
+    → IsAnswered symbols first input l0 old now s → TakesLine l0 l1 line
+    → outcome_to symbols s line ≡ record { text = []; after = after; ended = true }
+    → IfSome input (λ xs. Appends old now (answers symbols first (lines xs)))
+is_ended symbols first None l0 l1 old now s after line so_far took outcome = tt
+is_ended symbols first (Some input) None l1 old now s after line so_far took outcome = absurd so_far.left
+is_ended symbols first (Some input) (Some rest) None old now s after line so_far took outcome = absurd (takes_known rest line took)
+is_ended symbols first (Some input) (Some rest) (Some more) old now s after line so_far took outcome =
+    let all : answers symbols first (lines input) ≡ so_far.done
+    = so_far.left ∙ ap (λ xs. so_far.done ++ xs) (answers_first symbols s rest more line took ∙ ap (λ o. shown_on symbols o (lines more)) outcome) ∙ append-nil so_far.done in
     subst (Appends old now) (sym all) so_far.wrote
 
 -- what was written is a beginning
-pub has_begun : (first : Session) (input rest old now : Option (List ℕ)) (s : Session)
-    → IsAnswered first input rest old now s → IfSome input (λ xs. BeginsTalk old now (answers first (lines xs)))
-has_begun first None rest old now s so_far = tt
-has_begun first (Some input) None old now s so_far = absurd so_far.left
-has_begun first (Some input) (Some rest) old now s so_far =
-    let front : take (length so_far.done) (answers first (lines input)) ≡ so_far.done
-    = ap (take (length so_far.done)) so_far.left ∙ take-append_seam so_far.done (answers s (lines rest)) in
+pub has_begun : (symbols : List SymbolValue) (first : Session) (input rest old now : Option (List ℕ)) (s : Session)
+    → IsAnswered symbols first input rest old now s → IfSome input (λ xs. BeginsTalk old now (answers symbols first (lines xs)))
+has_begun symbols first None rest old now s so_far = tt
+has_begun symbols first (Some input) None old now s so_far = absurd so_far.left
+has_begun symbols first (Some input) (Some rest) old now s so_far =
+    let front : take (length so_far.done) (answers symbols first (lines input)) ≡ so_far.done
+    = ap (take (length so_far.done)) so_far.left ∙ take-append_seam so_far.done (answers symbols s (lines rest)) in
     (length so_far.done, subst (Appends old now) (sym front) so_far.wrote)
 
 part_of : (n : ℕ) (text more : List ℕ) → (m : ℕ) × (take m (text ++ more) ≡ take n text)
@@ -153,18 +154,18 @@ part_of n text more = ⊎_elim
     (cases_lt n (length text + 1))
 
 -- an answer was written in part
-pub is_cut : (first : Session) (input l0 l1 old k0 k1 : Option (List ℕ)) (s after : Session) (line text : List ℕ) (n : ℕ)
-    → IsAnswered first input l0 old k0 s → TakesLine l0 l1 line
-    → outcome_to s line ≡ record { text = text; after = after; ended = false } → Appends k0 k1 (take n text)
-    → IfSome input (λ xs. BeginsTalk old k1 (answers first (lines xs)))
-is_cut first None l0 l1 old k0 k1 s after line text n so_far took outcome wrote = tt
-is_cut first (Some input) None l1 old k0 k1 s after line text n so_far took outcome wrote = absurd so_far.left
-is_cut first (Some input) (Some rest) None old k0 k1 s after line text n so_far took outcome wrote = absurd (takes_known rest line took)
-is_cut first (Some input) (Some rest) (Some others) old k0 k1 s after line text n so_far took outcome wrote =
-    let more : List ℕ = answers after (lines others) in
+pub is_cut : (symbols : List SymbolValue) (first : Session) (input l0 l1 old k0 k1 : Option (List ℕ)) (s after : Session) (line text : List ℕ) (n : ℕ)
+    → IsAnswered symbols first input l0 old k0 s → TakesLine l0 l1 line
+    → outcome_to symbols s line ≡ record { text = text; after = after; ended = false } → Appends k0 k1 (take n text)
+    → IfSome input (λ xs. BeginsTalk old k1 (answers symbols first (lines xs)))
+is_cut symbols first None l0 l1 old k0 k1 s after line text n so_far took outcome wrote = tt
+is_cut symbols first (Some input) None l1 old k0 k1 s after line text n so_far took outcome wrote = absurd so_far.left
+is_cut symbols first (Some input) (Some rest) None old k0 k1 s after line text n so_far took outcome wrote = absurd (takes_known rest line took)
+is_cut symbols first (Some input) (Some rest) (Some others) old k0 k1 s after line text n so_far took outcome wrote =
+    let more : List ℕ = answers symbols after (lines others) in
     let part = part_of n text more in
-    let all : answers first (lines input) ≡ so_far.done ++ (text ++ more)
-    = so_far.left ∙ ap (λ xs. so_far.done ++ xs) (answers_first s rest others line took ∙ ap (λ o. shown_on o (lines others)) outcome) in
-    let front : take (length so_far.done + part.0) (answers first (lines input)) ≡ so_far.done ++ take n text
+    let all : answers symbols first (lines input) ≡ so_far.done ++ (text ++ more)
+    = so_far.left ∙ ap (λ xs. so_far.done ++ xs) (answers_first symbols s rest others line took ∙ ap (λ o. shown_on symbols o (lines others)) outcome) in
+    let front : take (length so_far.done + part.0) (answers symbols first (lines input)) ≡ so_far.done ++ take n text
     = ap (take (length so_far.done + part.0)) all ∙ take-append-add so_far.done (text ++ more) part.0 ∙ ap (λ xs. so_far.done ++ xs) part.1 in
     (length so_far.done + part.0, subst (Appends old k1) (sym front) (Appends-trans old k0 k1 so_far.done (take n text) so_far.wrote wrote))

@@ -4,6 +4,8 @@ use Rattle.std.specs.Io.KnownBytes.{Appends}
 use Rattle.std.specs.Str.Lines.{lines}
 use Rattle.std.specs.declared.result.Result.{Result}
 use Rattle.std.specs.declared.result.Result.TheVariants.{Ok, Err}
+use Rattle.elf_read.specs.Symbol.{SymbolValue}
+use Rattle.elf_read.specs.SymbolTable.{Symbols, symbols_of}
 use Rattle.image.specs.Image.{ImageValue}
 use Rattle.machine.specs.declared.choice.Choice.{Choice}
 use Rattle.debug_session.specs.Session.{Session}
@@ -35,15 +37,24 @@ session_after inputs (Err why) = Err why
 unfoldable pub opened : List ℕ → List ℕ → List ℕ → Opening
 opened inputs program text = session_after inputs (opening form.Elf (length inputs) program text)
 
+-- the symbols of a table, if it is valid
+abbrev pub symbols_or_none : Symbols → List SymbolValue
+symbols_or_none (Ok symbols) = symbols
+symbols_or_none (Err why) = []
+
+-- the symbols of a file; none if it has no valid table
+abbrev pub file_symbols : List ℕ → List SymbolValue
+file_symbols program = symbols_or_none (symbols_of program)
+
 -- the answers to the lines of the commands were appended
-abbrev pub Answers : Opening → List ℕ → Option (List ℕ) → Option (List ℕ) → Type 0
-Answers (Ok s) commands old new = Appends old new (answers s (lines commands))
-Answers (Err why) commands old new = ⊥
+abbrev pub Answers : List SymbolValue → Opening → List ℕ → Option (List ℕ) → Option (List ℕ) → Type 0
+Answers symbols (Ok s) commands old new = Appends old new (answers symbols s (lines commands))
+Answers symbols (Err why) commands old new = ⊥
 
 -- a beginning of the answers was appended
-abbrev pub BeginsToAnswer : Opening → List ℕ → Option (List ℕ) → Option (List ℕ) → Type 0
-BeginsToAnswer (Ok s) commands old new = BeginsTalk old new (answers s (lines commands))
-BeginsToAnswer (Err why) commands old new = ⊥
+abbrev pub BeginsToAnswer : List SymbolValue → Opening → List ℕ → Option (List ℕ) → Option (List ℕ) → Type 0
+BeginsToAnswer symbols (Ok s) commands old new = BeginsTalk old new (answers symbols s (lines commands))
+BeginsToAnswer symbols (Err why) commands old new = ⊥
 
 -- a fact for the case that no session began
 abbrev pub IfUnopened : DebugEngineFault → (CommandFault → Type 0) → Type 0

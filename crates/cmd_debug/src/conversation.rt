@@ -11,6 +11,7 @@ use crate::line::read_line;
 use byte_io::{ReadFault, Sink, Source, write_all};
 use debug_session::Debugger;
 use debug_text::{Answer, DebugFault, command};
+use elf_read::Symbol;
 use std::alloc::{AllocError, Allocator};
 
 /// Why a session ended early.
@@ -31,6 +32,8 @@ fn fault_text<A: Allocator>(alloc: A, fault: DebugFault) -> Result<String<A>, Al
     let line = match fault {
         DebugFault::BadCommand => "bad command\n",
         DebugFault::PastEnd => "past end\n",
+        DebugFault::NoSymbol => "no symbol\n",
+        DebugFault::SeveralSymbols => "several symbols\n",
         DebugFault::Memory => "out of memory\n",
     };
     String::from_str(alloc, line)
@@ -41,15 +44,16 @@ fn fault_text<A: Allocator>(alloc: A, fault: DebugFault) -> Result<String<A>, Al
 fn answer_line<A: Allocator + Copy>(
     alloc: A,
     debugger: &mut Debugger<A>,
+    symbols: &[Symbol<A>],
     line: &[u8],
 ) -> Result<Answer<A>, AllocError>
-    ensures { IfOk result (λ answer. outcome_to (session debugger.old) line.now
+    ensures { IfOk result (λ answer. outcome_to symbols.now (session debugger.old) line.now
         ≡ reply_outcome answer (session debugger.new)) }
 {
     let Ok(text) = str::from_utf8(line) else {
         return Ok(Answer::Text(fault_text(alloc, DebugFault::BadCommand)?));
     };
-    match command(alloc, debugger, text) {
+    match command(alloc, debugger, symbols, text) {
         Ok(answer) => Ok(answer),
         Err(DebugFault::Memory) => Err(AllocError),
         Err(fault) => Ok(Answer::Text(fault_text(alloc, fault)?)),
@@ -57,10 +61,11 @@ fn answer_line<A: Allocator + Copy>(
 }
 
 /// Answers the lines of a source, each as soon as it is read, until one ends the session or none is
-/// left.
+/// left. The program has these symbols.
 pub fn talk<A: Allocator + Copy, S: Source, K: Sink>(
     alloc: A,
     debugger: &mut Debugger<A>,
+    symbols: &[Symbol<A>],
     source: &mut S,
     sink: &mut K,
 ) -> Result<(), TalkFault>
@@ -68,10 +73,10 @@ pub fn talk<A: Allocator + Copy, S: Source, K: Sink>(
     requires sink_counts { K.failures sink.old < 2 ^ 64 - 1 }
     ensures done { IfOk result (λ _. IfSome (S.left source.old) (λ input.
         Appends (K.held sink.old) (K.held sink.new)
-        (answers (session debugger.old) (lines input)))) }
+        (answers symbols.now (session debugger.old) (lines input)))) }
     ensures begun { IfErr result (λ _. IfSome (S.left source.old) (λ input.
         BeginsTalk (K.held sink.old) (K.held sink.new)
-        (answers (session debugger.old) (lines input)))) }
+        (answers symbols.now (session debugger.old) (lines input)))) }
     ensures read { result ≡ Err TalkFault.Read → S.failures source.old < S.failures source.new }
     ensures write { result ≡ Err TalkFault.Write → K.failures sink.old < K.failures sink.new }
 {
@@ -82,7 +87,7 @@ pub fn talk<A: Allocator + Copy, S: Source, K: Sink>(
             Err(ReadFault::Device) => return Err(TalkFault::Read),
             Err(ReadFault::Memory) => return Err(TalkFault::Memory),
         };
-        let text = match answer_line(alloc, debugger, &line) {
+        let text = match answer_line(alloc, debugger, symbols, &line) {
             Ok(Answer::Text(text)) => text,
             Ok(Answer::Quit) => return Ok(()),
             Err(_) => return Err(TalkFault::Memory),

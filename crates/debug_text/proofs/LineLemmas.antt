@@ -5,6 +5,7 @@ use Rattle.std.specs.List.{All, position_or_len}
 use Rattle.std.proofs.lemmas.Bool.{eqb-false}
 use Rattle.std.proofs.lemmas.List.Elements.{All-nil, All-cons, All-head, All-tail}
 use Rattle.std.proofs.Math.Seq.{take-append_seam, drop-append_seam}
+use Rattle.elf_read.specs.Symbol.{SymbolValue}
 use Rattle.debug_text.specs.Words.{is_space, from_word, next_word, behind_word}
 use Rattle.debug_text.specs.Commands.{command_by, if_no_more, command_of}
 use Rattle.debug_text.specs.Lines.{ends_word, HasWords, command_of_words}
@@ -68,30 +69,30 @@ are_words _ _ (HasWords.word b bytes rest words all end has) =
     All-cons IsWord (b ∷ bytes) words tt (are_words rest words has)
 
 -- the command of the first words
-of_first : (words : List (List ℕ)) → All IsWord words
+of_first : (symbols : List SymbolValue) (words : List (List ℕ)) → All IsWord words
     → if_no_more (first_of (others_of (others_of (others_of words))))
-    (command_by (first_of words) (first_of (others_of words)) (first_of (others_of (others_of words))))
-    ≡ command_of_words words
-of_first [] all = refl
-of_first ([] ∷ words) all = absurd (All-head IsWord [] words all)
-of_first ((x ∷ xs) ∷ []) all = refl
-of_first ((x ∷ xs) ∷ ([] ∷ words)) all =
+    (command_by symbols (first_of words) (first_of (others_of words)) (first_of (others_of (others_of words))))
+    ≡ command_of_words symbols words
+of_first symbols [] all = refl
+of_first symbols ([] ∷ words) all = absurd (All-head IsWord [] words all)
+of_first symbols ((x ∷ xs) ∷ []) all = refl
+of_first symbols ((x ∷ xs) ∷ ([] ∷ words)) all =
     absurd (All-head IsWord [] words (All-tail IsWord (x ∷ xs) ([] ∷ words) all))
-of_first ((x ∷ xs) ∷ ((y ∷ ys) ∷ [])) all = refl
-of_first ((x ∷ xs) ∷ ((y ∷ ys) ∷ ([] ∷ words))) all =
+of_first symbols ((x ∷ xs) ∷ ((y ∷ ys) ∷ [])) all = refl
+of_first symbols ((x ∷ xs) ∷ ((y ∷ ys) ∷ ([] ∷ words))) all =
     absurd (All-head IsWord [] words (All-tail IsWord (y ∷ ys) ([] ∷ words)
     (All-tail IsWord (x ∷ xs) ((y ∷ ys) ∷ ([] ∷ words)) all)))
-of_first ((x ∷ xs) ∷ ((y ∷ ys) ∷ ((z ∷ zs) ∷ []))) all = refl
-of_first ((x ∷ xs) ∷ ((y ∷ ys) ∷ ((z ∷ zs) ∷ ([] ∷ words)))) all =
+of_first symbols ((x ∷ xs) ∷ ((y ∷ ys) ∷ ((z ∷ zs) ∷ []))) all = refl
+of_first symbols ((x ∷ xs) ∷ ((y ∷ ys) ∷ ((z ∷ zs) ∷ ([] ∷ words)))) all =
     absurd (All-head IsWord [] words (All-tail IsWord (z ∷ zs) ([] ∷ words)
     (All-tail IsWord (y ∷ ys) ((z ∷ zs) ∷ ([] ∷ words))
     (All-tail IsWord (x ∷ xs) ((y ∷ ys) ∷ ((z ∷ zs) ∷ ([] ∷ words))) all))))
-of_first ((x ∷ xs) ∷ ((y ∷ ys) ∷ ((z ∷ zs) ∷ ((v ∷ vs) ∷ words)))) all = refl
+of_first symbols ((x ∷ xs) ∷ ((y ∷ ys) ∷ ((z ∷ zs) ∷ ((v ∷ vs) ∷ words)))) all = refl
 
-pub command_is : (line : List ℕ) (words : List (List ℕ)) → HasWords line words
-    → command_of line ≡ command_of_words words
+pub command_is : (symbols : List SymbolValue) (line : List ℕ) (words : List (List ℕ)) → HasWords line words
+    → command_of symbols line ≡ command_of_words symbols words
 unfolding command_of
-command_is line words has =
+command_is symbols line words has =
     let behind : List ℕ = behind_word line in
     let behind_2 : List ℕ = behind_word behind in
     let others : List (List ℕ) = others_of words in
@@ -100,12 +101,12 @@ command_is line words has =
     let two : FollowsWords behind others = next_words behind others one.1 in
     let three : FollowsWords behind_2 others_2 = next_words behind_2 others_2 two.1 in
     let four = next_words (behind_word behind_2) (others_of others_2) three.1 in
-    ap (λ w. if_no_more w (command_by (next_word line) (next_word behind) (next_word behind_2))) four.0
+    ap (λ w. if_no_more w (command_by symbols (next_word line) (next_word behind) (next_word behind_2))) four.0
     ∙ ap (λ c. if_no_more (first_of (others_of others_2)) c)
-    (ap (λ w. command_by w (next_word behind) (next_word behind_2)) one.0
-    ∙ ap (λ w. command_by (first_of words) w (next_word behind_2)) two.0
-    ∙ ap (λ w. command_by (first_of words) (first_of others) w) three.0)
-    ∙ of_first words (are_words line words has)
+    (ap (λ w. command_by symbols w (next_word behind) (next_word behind_2)) one.0
+    ∙ ap (λ w. command_by symbols (first_of words) w (next_word behind_2)) two.0
+    ∙ ap (λ w. command_by symbols (first_of words) (first_of others) w) three.0)
+    ∙ of_first symbols words (are_words line words has)
 
 one_byte : (b : ℕ) → b ≢ 32 → All IsWordByte (b ∷ [])
 one_byte b other = All-cons IsWordByte b [] other (All-nil IsWordByte)

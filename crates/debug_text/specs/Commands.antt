@@ -1,59 +1,71 @@
 -- The commands of lines.
-use Rattle.std.specs.Prelude.{ℕ, List, [], ◌∷◌, Option, Some, None, codes, if◌then◌else◌}
-use Rattle.std.specs.Option.{option_map}
+use Rattle.std.specs.Prelude.{ℕ, List, [], ◌∷◌, Result, Ok, Err, codes, if◌then◌else◌}
 use Rattle.std.specs.Str.{bytes_eq}
+use Rattle.elf_read.specs.Symbol.{SymbolValue}
 use Rattle.debug_text.specs.Words.{next_word, behind_word}
-use Rattle.debug_text.specs.Numbers.{decimal_of, read_address}
+use Rattle.debug_text.specs.Numbers.{decimal_of}
+use Rattle.debug_text.specs.Addresses.{NumberRead, or_bad, address_meant}
 use Rattle.debug_text.specs.declared.commands.Command.{Command}
 use Rattle.debug_text.specs.declared.commands.Command.TheVariants.{Nothing, Where, Goto, Forward, Back, Break, Watch, Go, Rgo, Steps, Regs, Mem, Quit}
+use Rattle.debug_text.specs.declared.fault.DebugFault.{DebugFault}
+use Rattle.debug_text.specs.declared.fault.DebugFault.TheVariants.{BadCommand}
+
+-- a command, or why a line is none
+abbrev pub CommandRead : Type 0
+CommandRead = Result Command DebugFault
 
 -- the command of a single word
-abbrev pub bare_command : List ℕ → Option Command
+abbrev pub bare_command : List ℕ → CommandRead
 bare_command name =
-    if bytes_eq name (codes "where") then Some Where
-    else (if bytes_eq name (codes "forward") then Some (Forward 1)
-    else (if bytes_eq name (codes "back") then Some (Back 1)
-    else (if bytes_eq name (codes "go") then Some Go
-    else (if bytes_eq name (codes "rgo") then Some Rgo
-    else (if bytes_eq name (codes "quit") then Some Quit else None)))))
+    if bytes_eq name (codes "where") then Ok Where
+    else (if bytes_eq name (codes "forward") then Ok (Forward 1)
+    else (if bytes_eq name (codes "back") then Ok (Back 1)
+    else (if bytes_eq name (codes "go") then Ok Go
+    else (if bytes_eq name (codes "rgo") then Ok Rgo
+    else (if bytes_eq name (codes "quit") then Ok Quit else Err BadCommand)))))
+
+-- a command of one number, if it is valid
+abbrev pub with_one : (ℕ → Command) → NumberRead → CommandRead
+with_one make (Err why) = Err why
+with_one make (Ok a) = Ok (make a)
 
 -- the command of a word with one operand
-abbrev pub single_command : List ℕ → List ℕ → Option Command
-single_command name operand =
-    if bytes_eq name (codes "goto") then option_map Goto (decimal_of operand)
-    else (if bytes_eq name (codes "forward") then option_map Forward (decimal_of operand)
-    else (if bytes_eq name (codes "back") then option_map Back (decimal_of operand)
-    else (if bytes_eq name (codes "break") then option_map Break (read_address operand)
-    else (if bytes_eq name (codes "watch") then option_map Watch (read_address operand)
-    else (if bytes_eq name (codes "regs") then option_map Regs (decimal_of operand) else None)))))
+abbrev pub single_command : List SymbolValue → List ℕ → List ℕ → CommandRead
+single_command symbols name operand =
+    if bytes_eq name (codes "goto") then with_one Goto (or_bad (decimal_of operand))
+    else (if bytes_eq name (codes "forward") then with_one Forward (or_bad (decimal_of operand))
+    else (if bytes_eq name (codes "back") then with_one Back (or_bad (decimal_of operand))
+    else (if bytes_eq name (codes "break") then with_one Break (address_meant symbols operand)
+    else (if bytes_eq name (codes "watch") then with_one Watch (address_meant symbols operand)
+    else (if bytes_eq name (codes "regs") then with_one Regs (or_bad (decimal_of operand)) else Err BadCommand)))))
 
--- a command of two numbers, if both are valid
-abbrev pub with_both : (ℕ → ℕ → Command) → Option ℕ → Option ℕ → Option Command
-with_both make None second = None
-with_both make (Some a) None = None
-with_both make (Some a) (Some b) = Some (make a b)
+-- a command of two numbers, if both are valid; else the first fault
+abbrev pub with_both : (ℕ → ℕ → Command) → NumberRead → NumberRead → CommandRead
+with_both make (Err why) second = Err why
+with_both make (Ok a) (Err why) = Err why
+with_both make (Ok a) (Ok b) = Ok (make a b)
 
 -- the command of a word with two operands
-abbrev pub double_command : List ℕ → List ℕ → List ℕ → Option Command
-double_command name first second =
-    if bytes_eq name (codes "steps") then with_both Steps (decimal_of first) (decimal_of second)
-    else (if bytes_eq name (codes "mem") then with_both Mem (read_address first) (decimal_of second) else None)
+abbrev pub double_command : List SymbolValue → List ℕ → List ℕ → List ℕ → CommandRead
+double_command symbols name first second =
+    if bytes_eq name (codes "steps") then with_both Steps (or_bad (decimal_of first)) (or_bad (decimal_of second))
+    else (if bytes_eq name (codes "mem") then with_both Mem (address_meant symbols first) (or_bad (decimal_of second)) else Err BadCommand)
 
 -- the command of a word with at most two operands; a line without words is blank
-abbrev pub command_by : List ℕ → List ℕ → List ℕ → Option Command
-command_by [] first second = Some Nothing
-command_by (b ∷ name) [] second = bare_command (b ∷ name)
-command_by (b ∷ name) (c ∷ first) [] = single_command (b ∷ name) (c ∷ first)
-command_by (b ∷ name) (c ∷ first) (d ∷ second) = double_command (b ∷ name) (c ∷ first) (d ∷ second)
+abbrev pub command_by : List SymbolValue → List ℕ → List ℕ → List ℕ → CommandRead
+command_by symbols [] first second = Ok Nothing
+command_by symbols (b ∷ name) [] second = bare_command (b ∷ name)
+command_by symbols (b ∷ name) (c ∷ first) [] = single_command symbols (b ∷ name) (c ∷ first)
+command_by symbols (b ∷ name) (c ∷ first) (d ∷ second) = double_command symbols (b ∷ name) (c ∷ first) (d ∷ second)
 
 -- no command has more than two operands
-abbrev pub if_no_more : List ℕ → Option Command → Option Command
+abbrev pub if_no_more : List ℕ → CommandRead → CommandRead
 if_no_more [] command = command
-if_no_more (b ∷ more) command = None
+if_no_more (b ∷ more) command = Err BadCommand
 
--- the command of a line, if it is one
-unfoldable pub command_of : List ℕ → Option Command
-command_of line =
+-- the command of a line, whose addresses may be these symbols, or why it is none
+unfoldable pub command_of : List SymbolValue → List ℕ → CommandRead
+command_of symbols line =
     let rest = behind_word line in
     let rest_2 = behind_word rest in
-    if_no_more (next_word (behind_word rest_2)) (command_by (next_word line) (next_word rest) (next_word rest_2))
+    if_no_more (next_word (behind_word rest_2)) (command_by symbols (next_word line) (next_word rest) (next_word rest_2))

@@ -1,5 +1,6 @@
 pub mod Words
 pub mod Numbers
+pub mod Addresses
 pub mod Commands
 pub mod Lines
 pub mod Texts

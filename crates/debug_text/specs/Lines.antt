@@ -1,10 +1,11 @@
 -- Lines as words between spaces: what a line's words are, and the command of so many of them.
-use Rattle.std.specs.Prelude.{◌≡◌, ◌≢◌, ℕ, Bool, true, List, [], ◌∷◌, ◌++◌, Option, Some, None}
+use Rattle.std.specs.Prelude.{◌≡◌, ◌≢◌, ℕ, Bool, true, List, [], ◌∷◌, ◌++◌, Ok, Err}
 use Rattle.std.specs.List.{All}
 use Rattle.debug_text.specs.Words.{is_space}
-use Rattle.debug_text.specs.Commands.{bare_command, single_command, double_command}
-use Rattle.debug_text.specs.declared.commands.Command.{Command}
+use Rattle.elf_read.specs.Symbol.{SymbolValue}
+use Rattle.debug_text.specs.Commands.{CommandRead, bare_command, single_command, double_command}
 use Rattle.debug_text.specs.declared.commands.Command.TheVariants.{Nothing}
+use Rattle.debug_text.specs.declared.fault.DebugFault.TheVariants.{BadCommand}
 
 -- a word may end before this rest of a line: at its end, or at a space
 abbrev pub ends_word : List ℕ → Bool
@@ -20,9 +21,9 @@ pub data HasWords : List ℕ → List (List ℕ) → Type 0 where
       → HasWords ((b ∷ bytes) ++ rest) ((b ∷ bytes) ∷ words)
 
 -- no word is a blank line, and more than three are no command
-abbrev pub command_of_words : List (List ℕ) → Option Command
-command_of_words [] = Some Nothing
-command_of_words (name ∷ []) = bare_command name
-command_of_words (name ∷ (operand ∷ [])) = single_command name operand
-command_of_words (name ∷ (first ∷ (second ∷ []))) = double_command name first second
-command_of_words (name ∷ (first ∷ (second ∷ (more ∷ words)))) = None
+abbrev pub command_of_words : List SymbolValue → List (List ℕ) → CommandRead
+command_of_words symbols [] = Ok Nothing
+command_of_words symbols (name ∷ []) = bare_command name
+command_of_words symbols (name ∷ (operand ∷ [])) = single_command symbols name operand
+command_of_words symbols (name ∷ (first ∷ (second ∷ []))) = double_command symbols name first second
+command_of_words symbols (name ∷ (first ∷ (second ∷ (more ∷ words)))) = Err BadCommand

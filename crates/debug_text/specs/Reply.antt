@@ -6,7 +6,8 @@ use Rattle.debug_session.specs.Points.{with_address}
 use Rattle.debug_session.specs.Session.{Session, length_of, moved, world_at, Found, next_found, earlier_found}
 use Rattle.debug_session.specs.Steps.{shown_steps}
 use Rattle.debug_session.specs.declared.stop.Stop.{Stop}
-use Rattle.debug_text.specs.Commands.{command_of}
+use Rattle.elf_read.specs.Symbol.{SymbolValue}
+use Rattle.debug_text.specs.Commands.{CommandRead, command_of}
 use Rattle.debug_text.specs.Texts.{position_text, break_text, watch_text, found_text, steps_text, hart_text, cells_text}
 use Rattle.debug_text.specs.declared.answer.Answer.{Answer}
 use Rattle.debug_text.specs.declared.answer.Answer.TheVariants as answer
@@ -63,14 +64,14 @@ reply s (Mem a n) =
     else shows (cells_text (world_at s s.position).memory (word_of a) n) s
 reply s Quit = Ok (record { text = []; after = s; ended = true })
 
--- the answer of a line with this command
-abbrev pub reply_if : Session → Option Command → Reply
-reply_if s None = Err BadCommand
-reply_if s (Some command) = reply s command
+-- the answer of a line with this command, or the line's fault
+abbrev pub reply_if : Session → CommandRead → Reply
+reply_if s (Err why) = Err why
+reply_if s (Ok command) = reply s command
 
--- the answer of a line, without its end, in a session
-unfoldable pub reply_to : Session → List ℕ → Reply
-reply_to s line = reply_if s (command_of line)
+-- the answer of a line, without its end, in a session of a program with these symbols
+unfoldable pub reply_to : List SymbolValue → Session → List ℕ → Reply
+reply_to symbols s line = reply_if s (command_of symbols line)
 
 -- an answer as an outcome
 abbrev pub reply_outcome : {Z : Type 0} → Answer Z → Session → Outcome

@@ -3,7 +3,10 @@ ghost use Rattle.std.specs.Prelude.{◌≡◌};
 ghost use Rattle.std.specs.Str.{bytes_eq};
 ghost use Rattle.debug_text.specs.Commands.{bare_command, single_command, double_command, command_by};
 
-use crate::number::{address_of, decimal_of};
+use crate::address::{address_meant, count_in};
+use crate::fault::DebugFault;
+use elf_read::Symbol;
+use std::alloc::Allocator;
 
 /// A command. A number above 2^64 - 1 is capped at that: it is past every end.
 #[derive(Clone, Copy, PartialEq, Eq)]
@@ -54,84 +57,98 @@ fn is_word(name: &[u8], word: &str) -> bool
 }
 
 // The command of a single word.
-fn bare_command(name: &[u8]) -> Option<Command>
+fn bare_command(name: &[u8]) -> Result<Command, DebugFault>
     ensures { result ≡ bare_command name.now }
 {
     if is_word(name, "where") {
-        return Some(Command::Where);
+        return Ok(Command::Where);
     }
     if is_word(name, "forward") {
-        return Some(Command::Forward(1));
+        return Ok(Command::Forward(1));
     }
     if is_word(name, "back") {
-        return Some(Command::Back(1));
+        return Ok(Command::Back(1));
     }
     if is_word(name, "go") {
-        return Some(Command::Go);
+        return Ok(Command::Go);
     }
     if is_word(name, "rgo") {
-        return Some(Command::Rgo);
+        return Ok(Command::Rgo);
     }
     if is_word(name, "quit") {
-        return Some(Command::Quit);
+        return Ok(Command::Quit);
     }
-    None
+    Err(DebugFault::BadCommand)
 }
 
 // The command of a word with one operand.
-fn single_command(name: &[u8], operand: &[u8]) -> Option<Command>
-    ensures { result ≡ single_command name.now operand.now }
+fn single_command<A: Allocator>(
+    symbols: &[Symbol<A>],
+    name: &[u8],
+    operand: &[u8],
+) -> Result<Command, DebugFault>
+    ensures { result ≡ single_command symbols.now name.now operand.now }
 {
     if is_word(name, "goto") {
-        return Some(Command::Goto(decimal_of(operand)?));
+        return Ok(Command::Goto(count_in(operand)?));
     }
     if is_word(name, "forward") {
-        return Some(Command::Forward(decimal_of(operand)?));
+        return Ok(Command::Forward(count_in(operand)?));
     }
     if is_word(name, "back") {
-        return Some(Command::Back(decimal_of(operand)?));
+        return Ok(Command::Back(count_in(operand)?));
     }
     if is_word(name, "break") {
-        return Some(Command::Break(address_of(operand)?));
+        return Ok(Command::Break(address_meant(symbols, operand)?));
     }
     if is_word(name, "watch") {
-        return Some(Command::Watch(address_of(operand)?));
+        return Ok(Command::Watch(address_meant(symbols, operand)?));
     }
     if is_word(name, "regs") {
-        return Some(Command::Regs(decimal_of(operand)?));
+        return Ok(Command::Regs(count_in(operand)?));
     }
-    None
+    Err(DebugFault::BadCommand)
 }
 
 // The command of a word with two operands.
-fn double_command(name: &[u8], first: &[u8], second: &[u8]) -> Option<Command>
-    ensures { result ≡ double_command name.now first.now second.now }
+fn double_command<A: Allocator>(
+    symbols: &[Symbol<A>],
+    name: &[u8],
+    first: &[u8],
+    second: &[u8],
+) -> Result<Command, DebugFault>
+    ensures { result ≡ double_command symbols.now name.now first.now second.now }
 {
     if is_word(name, "steps") {
-        let from = decimal_of(first)?;
-        let to = decimal_of(second)?;
-        return Some(Command::Steps { from, to });
+        let from = count_in(first)?;
+        let to = count_in(second)?;
+        return Ok(Command::Steps { from, to });
     }
     if is_word(name, "mem") {
-        let address = address_of(first)?;
-        let count = decimal_of(second)?;
-        return Some(Command::Mem { address, count });
+        let address = address_meant(symbols, first)?;
+        let count = count_in(second)?;
+        return Ok(Command::Mem { address, count });
     }
-    None
+    Err(DebugFault::BadCommand)
 }
 
 /// The command of a word with at most two operands; an empty operand counts as missing.
-pub fn command_by(name: &[u8], first: &[u8], second: &[u8]) -> Option<Command>
-    ensures { result ≡ command_by name.now first.now second.now }
+pub fn command_by<A: Allocator>(
+    symbols: &[Symbol<A>],
+    name: &[u8],
+    first: &[u8],
+    second: &[u8],
+) -> Result<Command, DebugFault>
+    ensures { result ≡ command_by symbols.now name.now first.now second.now }
 {
     if name.is_empty() {
-        return Some(Command::Nothing);
+        return Ok(Command::Nothing);
     }
     if first.is_empty() {
         return bare_command(name);
     }
     if second.is_empty() {
-        return single_command(name, first);
+        return single_command(symbols, name, first);
     }
-    double_command(name, first, second)
+    double_command(symbols, name, first, second)
 }

@@ -13,6 +13,12 @@ pub enum DebugFault {
     /// A position is above the number of choices, or below 0.
     #[error("past end")]
     PastEnd,
+    /// No symbol of the program has the name that stands for an address.
+    #[error("no symbol")]
+    NoSymbol,
+    /// Several symbols have this name, at different addresses.
+    #[error("several symbols")]
+    SeveralSymbols,
     /// The host refused memory.
     #[error("out of memory")]
     Memory,

@@ -4,12 +4,13 @@
 pub use answer::Answer;
 pub use commands::Command;
 pub use fault::DebugFault;
-pub use laws::lines_are_commands_of_words;
+pub use laws::{lines_are_commands_of_words, numbers_are_no_names};
 pub use line::{command, next_word, read_command};
 pub use number::decimal_of;
 pub use replies::obey;
 pub use steps_text::{mark_text, push_step};
 
+mod address;
 mod answer;
 mod commands;
 mod fault;

@@ -11,6 +11,7 @@ use crate::commands::{Command, command_by};
 use crate::fault::DebugFault;
 use crate::replies::obey;
 use debug_session::Debugger;
+use elf_read::Symbol;
 use std::alloc::Allocator;
 
 // Number of spaces at the front.
@@ -38,38 +39,37 @@ pub fn next_word(line: &[u8]) -> (&[u8], &[u8])
     rest.split_at(word_len(rest))
 }
 
-/// The command of a line without its end; `None` if it is no command. Words are separated by
-/// spaces.
+/// The command of a line without its end, or why it is none. Words are separated by spaces.
+/// Addresses may be given as symbols of the program, which are these.
 #[tactic(auto, unfolding(crate::specs::Commands::command_of))]
-pub fn read_command(line: &[u8]) -> Option<Command>
-    ensures { result ≡ command_of line.now }
+pub fn read_command<A: Allocator>(symbols: &[Symbol<A>], line: &[u8]) -> Result<Command, DebugFault>
+    ensures { result ≡ command_of symbols.now line.now }
 {
     let (name, rest) = next_word(line);
     let (first, rest) = next_word(rest);
     let (second, rest) = next_word(rest);
     let (more, _) = next_word(rest);
     if !more.is_empty() {
-        return None;
+        return Err(DebugFault::BadCommand);
     }
-    command_by(name, first, second)
+    command_by(symbols, name, first, second)
 }
 
-/// Does the command of a line without its end, and returns its text. After a fault nothing has
-/// changed.
+/// Does the command of a line without its end, and returns its text. Addresses may be given as
+/// symbols of the program, which are these. After a fault nothing has changed.
 #[tactic(auto, unfolding(crate::specs::Reply::reply_to))]
 pub fn command<A: Allocator + Copy>(
     alloc: A,
     debugger: &mut Debugger<A>,
+    symbols: &[Symbol<A>],
     line: &str,
 ) -> Result<Answer<A>, DebugFault>
-    ensures ok { IfOk result (λ answer. reply_to (session debugger.old) line.now
+    ensures ok { IfOk result (λ answer. reply_to symbols.now (session debugger.old) line.now
         ≡ Ok (reply_outcome answer (session debugger.new))) }
     ensures unchanged { OnErr result (session debugger.new ≡ session debugger.old) }
     ensures fault { IfErr result (λ fault. fault ≢ DebugFault.Memory
-        → reply_to (session debugger.old) line.now ≡ Err fault) }
+        → reply_to symbols.now (session debugger.old) line.now ≡ Err fault) }
 {
-    let Some(command) = read_command(line.as_bytes()) else {
-        return Err(DebugFault::BadCommand);
-    };
+    let command = read_command(symbols, line.as_bytes())?;
     obey(alloc, debugger, command)
 }

@@ -1,9 +1,10 @@
 //! The hints on a typed line.
 
-use debug_text::{Command, read_command};
+use debug_text::{Command, DebugFault, read_command};
+use elf_read::Symbol;
 use hint_fault::segment_at;
 use hint_text::Part::{First, Second, Words};
-use hint_text::{Form, Sentence, push_sentence, told_of};
+use hint_text::{Form, Sentence, nearest, push_sentence, told_of};
 use image::{Rights, Segment};
 use isa_names::Word;
 use std::alloc::{AllocError, Allocator};
@@ -37,6 +38,26 @@ const THE_COMMANDS: Form = &[Words(
     "the commands are where, goto, forward, back, break, watch, go, rgo, steps, regs, mem and quit, in small letters\n",
 )];
 
+// A name that no symbol has, with and without the nearest one.
+const NO_SYMBOL: Form = &[First, Words(" is no symbol of the program\n")];
+
+const NEAR_SYMBOL: Form = &[
+    First,
+    Words(" is no symbol of the program: is "),
+    Second,
+    Words(" meant?\n"),
+];
+
+// A name that several symbols have.
+const SEVERAL_SYMBOLS: Form = &[
+    Words("several symbols are named "),
+    First,
+    Words(", at different addresses: write the address with 0x\n"),
+];
+
+// A symbol with a smaller edit distance may be the intended one.
+const EDITS: usize = 3;
+
 // A word of a line by its number, from 0.
 fn word_of(line: &str, number: usize) -> Option<&str> {
     line.split(' ').filter(|word| !word.is_empty()).nth(number)
@@ -44,7 +65,7 @@ fn word_of(line: &str, number: usize) -> Option<&str> {
 
 // Whether a decimal address looks hexadecimal: with leading zeros, or with eight digits.
 fn looks_hexadecimal(operand: &str) -> bool {
-    !operand.starts_with("0x")
+    operand.as_bytes().iter().all(|byte| byte.is_ascii_digit())
         && (operand.len() >= 8 || (operand.starts_with("0") && operand.len() > 1))
 }
 
@@ -104,17 +125,18 @@ fn push_unreached<A: Allocator>(
 }
 
 /// The hints on a line, as whole lines: that an address was read as decimal though it looks
-/// hexadecimal, that no hart can reach a breakpoint, or, if it is no command, what the commands
-/// are; empty for other lines.
+/// hexadecimal, that no hart can reach a breakpoint, which name is no symbol, or, if it is no
+/// command, what the commands are; empty for other lines.
 pub fn line_advice<A: Allocator + Copy>(
     alloc: A,
     segments: &[Segment<A>],
+    symbols: &[Symbol<A>],
     line: &str,
 ) -> Result<String<A>, AllocError> {
     let mut text = String::new(alloc);
-    match read_command(line.as_bytes()) {
-        Some(command) => push_read(&mut text, segments, line, command)?,
-        None => push_sentence(&mut text, &unread(word_of(line, 0).unwrap_or("")))?,
+    match read_command(symbols, line.as_bytes()) {
+        Ok(command) => push_read(&mut text, segments, line, command)?,
+        Err(fault) => push_sentence(&mut text, &refused(alloc, symbols, line, fault)?)?,
     }
     Ok(text)
 }
@@ -135,7 +157,48 @@ fn push_read<A: Allocator>(
     }
 }
 
-// The hint on a line that is no command, by its first word.
+// The hint on a line that is no command.
+fn refused<'a, A: Allocator + Copy>(
+    alloc: A,
+    symbols: &'a [Symbol<A>],
+    line: &'a str,
+    fault: DebugFault,
+) -> Result<Sentence<'a>, AllocError> {
+    match fault {
+        DebugFault::NoSymbol => unnamed(alloc, symbols, name_in(line)),
+        DebugFault::SeveralSymbols => Ok(Sentence::of(SEVERAL_SYMBOLS, name_in(line))),
+        DebugFault::BadCommand | DebugFault::PastEnd | DebugFault::Memory => {
+            Ok(unread(word_of(line, 0).unwrap_or("")))
+        }
+    }
+}
+
+// The name in a line's first operand, without its offset.
+fn name_in(line: &str) -> &str {
+    let operand = word_of(line, 1).unwrap_or("");
+    match operand.rsplit_once('+') {
+        Some((name, _)) => name,
+        None => operand,
+    }
+}
+
+// The hint on a name that no symbol has.
+fn unnamed<'a, A: Allocator + Copy>(
+    alloc: A,
+    symbols: &'a [Symbol<A>],
+    name: &'a str,
+) -> Result<Sentence<'a>, AllocError> {
+    let mut names = Vec::new(alloc);
+    'symbols: for symbol in symbols {
+        names.push(symbol.name.as_str())?;
+    }
+    Ok(match nearest(alloc, &names, name, EDITS)? {
+        Some(near) => Sentence::of_two(NEAR_SYMBOL, name, near),
+        None => Sentence::of(NO_SYMBOL, name),
+    })
+}
+
+// The hint on a line that is a bad command, by its first word.
 fn unread<'a>(name: &'a str) -> Sentence<'a> {
     match told_of(&TAKES, name) {
         Some(takes) => Sentence::of_two(COMMAND_TAKES, name, takes),

@@ -157,6 +157,8 @@ static SESSIONS: [Session; 11] = [
             ("where\r", "bad command\n"),
             ("break 0X10", "bad command\n"),
             ("break 0x", "bad command\n"),
+            ("break start", "bad command\n"),
+            ("watch start+4", "bad command\n"),
             ("break 0xg", "bad command\n"),
             ("break 4294967296", "bad command\n"),
             ("break 0x100000000", "bad command\n"),
@@ -203,7 +205,7 @@ fn shown(
     debugger: &mut Debugger<Global>,
     line: &str,
 ) -> Result<String<Global>, AllocError> {
-    match command(alloc, debugger, line) {
+    match command(alloc, debugger, &[], line) {
         Ok(Answer::Text(text)) => Ok(text),
         Ok(Answer::Quit) => String::from_str(alloc, "quit"),
         Err(DebugFault::Memory) => Err(AllocError),

@@ -8,6 +8,8 @@ mod debug_commands_tests;
 #[cfg(test)]
 mod debug_engine_tests;
 #[cfg(test)]
+mod debug_symbols_tests;
+#[cfg(test)]
 mod told_tests;
 #[cfg(test)]
 mod words_tests;

@@ -1,6 +1,7 @@
 //! What is told of command lines, sources and lines at the debugger, and marks, with each request
 //! for memory refused in turn; `tests/people` has typical mistakes.
 use asm_statement::{Fault, FaultKind};
+use elf_read::Symbol;
 use hint_asm::{SourceText, asm_advice};
 use hint_debug::line_advice;
 use hint_text::{Mistake, order_advice, push_mark};
@@ -46,10 +47,20 @@ fn told_of_source<A: Allocator + Copy>(
     asm_advice(alloc, &sources, Fault { kind, source, line })
 }
 
-// What is told of a line at the debugger of a program without segments.
+// What is told of a line at the debugger of a program without segments, in which two symbols are
+// named `f`, and one is named `wait`.
 fn told_of_typed<A: Allocator + Copy>(alloc: A, line: &str) -> Result<String<A>, AllocError> {
     let segments: Vec<Segment<A>, A> = Vec::new(alloc);
-    line_advice(alloc, &segments, line)
+    let mut symbols = Vec::new(alloc);
+    for (name, address) in [
+        ("f", 0x0001_0000),
+        ("wait", 0x0001_0004),
+        ("f", 0x0001_0008),
+    ] {
+        let name = String::from_str(alloc, name)?;
+        symbols.push(Symbol { name, address })?;
+    }
+    line_advice(alloc, &segments, &symbols, line)
 }
 
 // What is told.
@@ -70,7 +81,7 @@ impl<'a> Call for Case<'a> {
 }
 
 #[rattlefmt::skip]
-const TOLD: [Case<'static>; 14] = [
+const TOLD: [Case<'static>; 19] = [
     Case { asked: Asked::Order(Mistake::Command, &["rvcons", "disasm", "a.elf"]),
         wanted: "disasm is called list here: see rvcons list --help\n" },
     Case { asked: Asked::Order(Mistake::Command, &["rvcons", "rn", "a.elf"]),
@@ -91,6 +102,12 @@ const TOLD: [Case<'static>; 14] = [
         wanted: "no hart stops at 00010002: instructions begin at multiples of 4\n" },
     Case { asked: Asked::Typed("break 0x00010004"),
         wanted: "no hart executes 00010004: it is in no segment that may be executed; rvcons info shows them\n" },
+    Case { asked: Asked::Typed("watch wait+00000008"), wanted: "" },
+    Case { asked: Asked::Typed("watch wiat+8"), wanted: "wiat is no symbol of the program: is wait meant?\n" },
+    Case { asked: Asked::Typed("watch elsewhere"), wanted: "elsewhere is no symbol of the program\n" },
+    Case { asked: Asked::Typed("mem f 1"),
+        wanted: "several symbols are named f, at different addresses: write the address with 0x\n" },
+    Case { asked: Asked::Typed("watch 4wait"), wanted: "watch takes an address, as watch 0x00011000\n" },
     Case { asked: Asked::Typed("regs"), wanted: "regs takes the number of a hart, as regs 0\n" },
     Case { asked: Asked::Part("addi a0, q9, 1", 9), wanted: "         ^" },
     Case { asked: Asked::Part("\tj far", 3), wanted: "\t  ^" },

@@ -245,7 +245,7 @@ fn is_answered<A: Allocator + Copy>(
     line: &str,
     wanted: &str,
 ) -> Result<bool, MoveFault> {
-    match command(alloc, debugger, line) {
+    match command(alloc, debugger, &[], line) {
         Ok(Answer::Text(text)) => Ok(text.as_str() == wanted),
         Ok(Answer::Quit) => Ok(false),
         Err(DebugFault::Memory) => Err(MoveFault::Memory),

@@ -5,7 +5,7 @@ use Rattle.cmd_debug.proofs.conversation.talk.Given as goal
 
 abbrev pub invariant-lines : goal.invariant-lines
 invariant-lines g l =
-    IsAnswered (session l.initial.debugger) (g.S.Source.left l.initial.source) (g.S.Source.left l.source) (g.K.Sink.held l.initial.sink) (g.K.Sink.held l.sink) (session l.debugger)
+    IsAnswered l.symbols (session l.initial.debugger) (g.S.Source.left l.initial.source) (g.S.Source.left l.source) (g.K.Sink.held l.initial.sink) (g.K.Sink.held l.sink) (session l.debugger)
     × (g.S.Source.failures l.source ≡ g.S.Source.failures l.initial.source)
     × (g.K.Sink.failures l.sink ≡ g.K.Sink.failures l.initial.sink)
 

@@ -6,24 +6,24 @@ use Rattle.cmd_debug.proofs.engine.debug_engine.Goals as goal
 
 pub returns-in-Ok-talk-clause-done : goal.returns-in-Ok-talk-clause-done
 returns-in-Ok-talk-clause-done g c =
-    in_session (λ r xs. Answers r xs (g.K.Sink.held c.args.sink.now) (g.K.Sink.held c.talk.new.sink))
-    c.args.inputs.now _ _ (session c.in-Ok-open_session.debugger) _ _ (g.S.Source.left c.args.commands.now)
-    c.in-Ok.ensures.opened (c.in-Ok-open_session.ensures ∙ same_inputs c.in-Ok.run'.image _ _ c.in-Ok.run'.choices.items c.in-Ok.ensures.inputs.0) c.in-Ok-talk.ensures.done
+    in_session (λ names r xs. Answers names r xs (g.K.Sink.held c.args.sink.now) (g.K.Sink.held c.talk.new.sink))
+    c.args.inputs.now _ _ c.in-Ok.named.symbols.items c.deref.result.now (session c.in-Ok-open_session.debugger) _ _ (g.S.Source.left c.args.commands.now)
+    c.in-Ok.ensures.opened c.in-Ok.ensures.symbols c.deref.ensures.value (c.in-Ok-open_session.ensures ∙ same_inputs c.in-Ok.named.opened.image _ _ c.in-Ok.named.opened.choices.items c.in-Ok.ensures.inputs) c.in-Ok-talk.ensures.done
 
 pub returns-in-Err-Read-clause-begun : goal.returns-in-Err-Read-clause-begun
 returns-in-Err-Read-clause-begun g c =
-    in_session (λ r xs. BeginsToAnswer r xs (g.K.Sink.held c.args.sink.now) (g.K.Sink.held c.talk.new.sink))
-    c.args.inputs.now _ _ (session c.in-Ok-open_session.debugger) _ _ (g.S.Source.left c.args.commands.now)
-    c.in-Ok.ensures.opened (c.in-Ok-open_session.ensures ∙ same_inputs c.in-Ok.run'.image _ _ c.in-Ok.run'.choices.items c.in-Ok.ensures.inputs.0) c.in-Err-Read.ensures.begun
+    in_session (λ names r xs. BeginsToAnswer names r xs (g.K.Sink.held c.args.sink.now) (g.K.Sink.held c.talk.new.sink))
+    c.args.inputs.now _ _ c.in-Ok.named.symbols.items c.deref.result.now (session c.in-Ok-open_session.debugger) _ _ (g.S.Source.left c.args.commands.now)
+    c.in-Ok.ensures.opened c.in-Ok.ensures.symbols c.deref.ensures.value (c.in-Ok-open_session.ensures ∙ same_inputs c.in-Ok.named.opened.image _ _ c.in-Ok.named.opened.choices.items c.in-Ok.ensures.inputs) c.in-Err-Read.ensures.begun
 
 pub returns-in-Err-Write-clause-begun : goal.returns-in-Err-Write-clause-begun
 returns-in-Err-Write-clause-begun g c =
-    in_session (λ r xs. BeginsToAnswer r xs (g.K.Sink.held c.args.sink.now) (g.K.Sink.held c.talk.new.sink))
-    c.args.inputs.now _ _ (session c.in-Ok-open_session.debugger) _ _ (g.S.Source.left c.args.commands.now)
-    c.in-Ok.ensures.opened (c.in-Ok-open_session.ensures ∙ same_inputs c.in-Ok.run'.image _ _ c.in-Ok.run'.choices.items c.in-Ok.ensures.inputs.0) c.in-Err-Write.ensures.begun
+    in_session (λ names r xs. BeginsToAnswer names r xs (g.K.Sink.held c.args.sink.now) (g.K.Sink.held c.talk.new.sink))
+    c.args.inputs.now _ _ c.in-Ok.named.symbols.items c.deref.result.now (session c.in-Ok-open_session.debugger) _ _ (g.S.Source.left c.args.commands.now)
+    c.in-Ok.ensures.opened c.in-Ok.ensures.symbols c.deref.ensures.value (c.in-Ok-open_session.ensures ∙ same_inputs c.in-Ok.named.opened.image _ _ c.in-Ok.named.opened.choices.items c.in-Ok.ensures.inputs) c.in-Err-Write.ensures.begun
 
 pub returns-clause-begun : goal.returns-clause-begun
 returns-clause-begun g c =
-    in_session (λ r xs. BeginsToAnswer r xs (g.K.Sink.held c.args.sink.now) (g.K.Sink.held c.talk.new.sink))
-    c.args.inputs.now _ _ (session c.in-Ok-open_session.debugger) _ _ (g.S.Source.left c.args.commands.now)
-    c.in-Ok.ensures.opened (c.in-Ok-open_session.ensures ∙ same_inputs c.in-Ok.run'.image _ _ c.in-Ok.run'.choices.items c.in-Ok.ensures.inputs.0) c.in-Err-Memory.ensures.begun
+    in_session (λ names r xs. BeginsToAnswer names r xs (g.K.Sink.held c.args.sink.now) (g.K.Sink.held c.talk.new.sink))
+    c.args.inputs.now _ _ c.in-Ok.named.symbols.items c.deref.result.now (session c.in-Ok-open_session.debugger) _ _ (g.S.Source.left c.args.commands.now)
+    c.in-Ok.ensures.opened c.in-Ok.ensures.symbols c.deref.ensures.value (c.in-Ok-open_session.ensures ∙ same_inputs c.in-Ok.named.opened.image _ _ c.in-Ok.named.opened.choices.items c.in-Ok.ensures.inputs) c.in-Err-Memory.ensures.begun

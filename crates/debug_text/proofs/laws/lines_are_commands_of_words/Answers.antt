@@ -5,4 +5,4 @@ pub returns-clause-words : goal.returns-clause-words
 returns-clause-words g line = has_words line
 
 pub returns-clause-command : goal.returns-clause-command
-returns-clause-command g line = command_is line
+returns-clause-command g symbols line = command_is symbols line

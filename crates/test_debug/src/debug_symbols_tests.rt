@@ -1,0 +1,118 @@
+//! What no clause says: worked lines with symbols, with each request for memory refused in turn.
+use debug_session::Debugger;
+use debug_text::{Answer, DebugFault, command};
+use elf_read::Symbol;
+use machine::{Choice, Inputs};
+use program_open::{hex_image, read_hex};
+use std::alloc::{AllocError, Allocator, Global};
+use test_refusing::{Call, tried};
+
+// A loop that counts: addi t0, t0, 1 and a jump back.
+const COUNT: &[u8] = b"00128293 FFDFF06F";
+
+const SYMBOLS: [(&str, u32); 10] = [
+    ("start", 0x0001_0000),
+    ("loop", 0x0001_0004),
+    ("twice", 0x0001_0000),
+    ("twice", 0x0001_0004),
+    ("same", 0x0001_0004),
+    ("same", 0x0001_0004),
+    ("a+b", 0x0001_0000),
+    ("top", 0xffff_fffe),
+    ("0xab", 0x0001_0000),
+    ("7up", 0x0001_0000),
+];
+
+// A line, and what is shown for it.
+struct Row {
+    line: &'static str,
+    wanted: &'static str,
+}
+
+#[rattlefmt::skip]
+const ROWS: [Row; 38] = [
+    Row { line: "break start", wanted: "break 00010000\n" },
+    Row { line: "break loop+4", wanted: "break 00010008\n" },
+    Row { line: "break loop+0x10", wanted: "break 00010014\n" },
+    Row { line: "break loop+00", wanted: "break 00010004\n" },
+    Row { line: "watch loop", wanted: "watch 00010004\n" },
+    Row { line: "watch start+7", wanted: "watch 00010004\n" },
+    Row { line: "mem start 1", wanted: "00010000 00128293\n" },
+    Row { line: "mem start+4 1", wanted: "00010004 ffdff06f\n" },
+    Row { line: "break same", wanted: "break 00010004\n" },
+    Row { line: "break same+4", wanted: "break 00010008\n" },
+    Row { line: "break twice", wanted: "several symbols\n" },
+    Row { line: "watch twice+4", wanted: "several symbols\n" },
+    Row { line: "mem twice 1", wanted: "several symbols\n" },
+    Row { line: "break Start", wanted: "no symbol\n" },
+    Row { line: "break star", wanted: "no symbol\n" },
+    Row { line: "watch starts+4", wanted: "no symbol\n" },
+    Row { line: "mem nowhere 0", wanted: "no symbol\n" },
+    Row { line: "mem nowhere x", wanted: "no symbol\n" },
+    Row { line: "mem start 0", wanted: "bad command\n" },
+    Row { line: "mem start x", wanted: "bad command\n" },
+    Row { line: "break a+b", wanted: "bad command\n" },
+    Row { line: "break a+b+4", wanted: "break 00010004\n" },
+    Row { line: "break top+1", wanted: "break ffffffff\n" },
+    Row { line: "break top+2", wanted: "bad command\n" },
+    Row { line: "break top+4294967295", wanted: "bad command\n" },
+    Row { line: "break start+4294967296", wanted: "bad command\n" },
+    Row { line: "break 0xab", wanted: "break 000000ab\n" },
+    Row { line: "break 7up", wanted: "bad command\n" },
+    Row { line: "break -start", wanted: "bad command\n" },
+    Row { line: "break +4", wanted: "bad command\n" },
+    Row { line: "break start+", wanted: "bad command\n" },
+    Row { line: "break start+-1", wanted: "bad command\n" },
+    Row { line: "break start+0x", wanted: "bad command\n" },
+    Row { line: "break nowhere+x", wanted: "bad command\n" },
+    Row { line: "goto start", wanted: "bad command\n" },
+    Row { line: "regs start", wanted: "bad command\n" },
+    Row { line: "steps start 1", wanted: "bad command\n" },
+    Row { line: "mem 4 start", wanted: "bad command\n" },
+];
+
+// The symbols.
+fn symbols_of<A: Allocator + Copy>(alloc: A) -> Result<Vec<Symbol<A>, A>, AllocError> {
+    let mut symbols = Vec::new(alloc);
+    for (name, address) in &SYMBOLS {
+        let name = String::from_str(alloc, *name)?;
+        let address = *address;
+        symbols.push(Symbol { name, address })?;
+    }
+    Ok(symbols)
+}
+
+// A debugger of the program with one hart and no choices; `None` if out of memory.
+fn begin<A: Allocator + Copy>(alloc: A) -> Option<Debugger<A>> {
+    let words = read_hex(alloc, COUNT).ok()?;
+    let image = hex_image(alloc, &words).ok()?;
+    let inputs = Inputs::new(&[7]).ok()?;
+    let choices: Vec<Choice, A> = Vec::new(alloc);
+    Debugger::new(alloc, image, inputs, choices).ok()
+}
+
+impl Call for Row {
+    fn answer<A: Allocator + Copy>(&self, alloc: A, _host: Global) -> Result<bool, AllocError> {
+        let symbols = symbols_of(alloc)?;
+        let Some(mut debugger) = begin(alloc) else {
+            return Err(AllocError);
+        };
+        match command(alloc, &mut debugger, &symbols, self.line) {
+            Ok(Answer::Text(text)) => Ok(text.as_str() == self.wanted),
+            Ok(Answer::Quit) => Ok(false),
+            Err(DebugFault::Memory) => Err(AllocError),
+            Err(fault) => {
+                let text = format!(in alloc; "{fault}\n")?;
+                Ok(text.as_str() == self.wanted)
+            }
+        }
+    }
+}
+
+#[test]
+fn symbols_stand_for_addresses(rt: HostRuntime) {
+    for row in &ROWS {
+        let line = row.line;
+        assert!(rt; tried(rt.alloc(), row).is_ok(), "{line}");
+    }
+}
