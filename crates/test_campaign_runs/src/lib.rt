@@ -16,6 +16,9 @@ mod plans;
 mod refusal_tests;
 #[cfg(test)]
 mod seed_run_tests;
+// Runs that end early.
+#[cfg(test)]
+mod early_end_tests;
 // Worked summaries.
 #[cfg(test)]
 mod summary_tests;
