@@ -150,7 +150,9 @@ fn run_some<S: Store, A: Allocator, C: Chooser>(
     Ok(())
 }
 
-// Whether each of these harts has stopped and was chosen: no choice of them does more.
+// Whether each of these harts has stopped and was chosen: no choice of them does more. Inlined it
+// would take registers from the steps: one in bursts would take 5 more host instructions.
+#[inline(never)]
 fn is_over(span: Range<u32>, harts: &[Hart], chosen: &Chosen) -> bool
     requires { span.end ≤ most_harts }
     ensures { result ≡ true → (hart : ℕ) → span.start ≤ hart → hart < span.end
