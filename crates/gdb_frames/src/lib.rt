@@ -16,6 +16,4 @@ mod found;
 mod laws;
 mod reader;
 mod sum;
-#[cfg(test)]
-mod tests;
 mod writing;

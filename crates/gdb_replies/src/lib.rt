@@ -23,7 +23,5 @@ mod pieces;
 mod registers;
 mod stop;
 mod target;
-#[cfg(test)]
-mod tests;
 mod thread_list;
 mod threads;

@@ -20,6 +20,4 @@ mod operands;
 mod plain;
 mod reading;
 mod request;
-#[cfg(test)]
-mod tests;
 mod words;

@@ -1,10 +1,16 @@
-//! Tests of `gdb_moves` and `gdb_session`.
+//! Tests of the crates of GDB's protocol below its commands.
 #![tactic(auto)]
 
 #[cfg(test)]
 mod after_tests;
 #[cfg(test)]
+mod frames_tests;
+#[cfg(test)]
 mod moves_tests;
+#[cfg(test)]
+mod replies_tests;
+#[cfg(test)]
+mod requests_tests;
 #[cfg(test)]
 mod run;
 #[cfg(test)]

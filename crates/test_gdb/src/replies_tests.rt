@@ -1,5 +1,5 @@
 //! What no clause says: answers that GDB 13.1 took in dialogues, where memory suffices.
-use crate::{
+use gdb_replies::{
     FixedReply, Reason, Signal, Stop, push_bytes, push_current_thread, push_number, push_piece,
     push_registers, push_stop, push_thread_list, push_thread_numbers, push_thread_state, push_word,
     target_document,

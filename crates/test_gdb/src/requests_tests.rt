@@ -1,6 +1,8 @@
 //! What no clause says: packets of GDB 13.1, and packets that are refused.
-use crate::request::{Action, Plain, Point, PointKind, Request, ThreadAction, Threads};
-use crate::{RequestFault, hex_number, read_actions, read_plain, read_request};
+use gdb_requests::{
+    Action, Plain, Point, PointKind, Request, RequestFault, ThreadAction, Threads, hex_number,
+    read_actions, read_plain, read_request,
+};
 use std::alloc::Global;
 
 // A packet's data, and what it asks for.

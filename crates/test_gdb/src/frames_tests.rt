@@ -1,5 +1,5 @@
 //! What no clause says: frames that GDB 13.1 sends and takes, and each call on its way.
-use crate::{Advance, Found, FrameReader, push_framed};
+use gdb_frames::{Advance, Found, FrameReader, push_framed};
 use std::alloc::{AllocError, Global};
 
 // An input, and what is found in it: `$`, data and `;` for a packet, `bad;`, `+`, `-`.
