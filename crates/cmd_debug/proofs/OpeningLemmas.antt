@@ -14,15 +14,26 @@ use Rattle.program_open.specs.declared.command_fault.CommandFault.TheVariants as
 use Rattle.cmd_debug.specs.Opening.{file_symbols, session_after, first_session, opened, Opening}
 
 -- what holds of the session that was begun holds of the one that the devices' bytes begin
-pub in_session : (P : List SymbolValue → Opening → List ℕ → Type 0) (inputs : List ℕ) (image : ImageValue) (choices : List Choice) (symbols slice : List SymbolValue) (s : Session) (file text commands : Option (List ℕ))
+pub in_session : (P : Opening → List ℕ → Type 0) (inputs : List ℕ) (image : ImageValue) (choices : List Choice) (s : Session) (file text commands : Option (List ℕ))
+    → IfSome file (λ p. IfSome text (λ t. opening form.Elf (length inputs) p t ≡ Ok (image, choices)))
+    → s ≡ first_session image inputs choices → IfSome commands (P (Ok s))
+    → IfSome file (λ p. IfSome text (λ t. IfSome commands (P (opened inputs p t))))
+unfolding opened
+in_session P inputs image choices s None text commands opens begun h = tt
+in_session P inputs image choices s (Some p) None commands opens begun h = tt
+in_session P inputs image choices s (Some p) (Some t) commands opens begun h =
+    subst (λ r. IfSome commands (P r)) (ap Ok begun ∙ sym (ap (session_after inputs) opens)) h
+
+-- so does what holds of it and the symbols that were read
+pub in_named_session : (P : List SymbolValue → Opening → List ℕ → Type 0) (inputs : List ℕ) (image : ImageValue) (choices : List Choice) (symbols slice : List SymbolValue) (s : Session) (file text commands : Option (List ℕ))
     → IfSome file (λ p. IfSome text (λ t. opening form.Elf (length inputs) p t ≡ Ok (image, choices)))
     → IfSome file (λ p. symbols ≡ file_symbols p) → slice ≡ symbols
     → s ≡ first_session image inputs choices → IfSome commands (P slice (Ok s))
     → IfSome file (λ p. IfSome text (λ t. IfSome commands (P (file_symbols p) (opened inputs p t))))
 unfolding opened
-in_session P inputs image choices symbols slice s None text commands opens named same begun h = tt
-in_session P inputs image choices symbols slice s (Some p) None commands opens named same begun h = tt
-in_session P inputs image choices symbols slice s (Some p) (Some t) commands opens named same begun h =
+in_named_session P inputs image choices symbols slice s None text commands opens named same begun h = tt
+in_named_session P inputs image choices symbols slice s (Some p) None commands opens named same begun h = tt
+in_named_session P inputs image choices symbols slice s (Some p) (Some t) commands opens named same begun h =
     subst (λ names. IfSome commands (P names (opened inputs p t))) (same ∙ named)
     (subst (λ r. IfSome commands (P slice r)) (ap Ok begun ∙ sym (ap (session_after inputs) opens)) h)
 
