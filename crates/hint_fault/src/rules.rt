@@ -158,7 +158,13 @@ fn push_clause<A: Allocator>(
         Clause::Decided(flag) => push_flag(text, flag, ", and not with 1")?,
         Clause::Answered(flag) => push_flag(text, flag, ", and neither with 0 nor with 1")?,
         Clause::Agreed(value, other) => push_other(text, "has exited with", value, "with", other)?,
-        Clause::Committed(value, other) => push_other(text, "has committed to", value, "has exited with", other)?,
+        Clause::Committed(value, other) => push_other(
+            text,
+            "has committed to",
+            value,
+            "has exited with",
+            other,
+        )?,
         Clause::Convergent => {
             text.push_str("has not committed, and all chosen harts have the same input")?;
         }
