@@ -2,6 +2,7 @@
 //! commands.
 use debug_session::{Debugger, MoveFault, Stop};
 use debug_text::{Answer, DebugFault, command};
+use elf_read::Symbol;
 use machine::{Choice, Inputs};
 use std::alloc::{AllocError, Allocator, Global};
 use test_images::{STORES_INPUT, writable_program};
@@ -245,7 +246,8 @@ fn is_answered<A: Allocator + Copy>(
     line: &str,
     wanted: &str,
 ) -> Result<bool, MoveFault> {
-    match command(alloc, debugger, &[], line) {
+    let symbols: Vec<Symbol<A>, A> = Vec::new(alloc);
+    match command(alloc, debugger, &symbols, line) {
         Ok(Answer::Text(text)) => Ok(text.as_str() == wanted),
         Ok(Answer::Quit) => Ok(false),
         Err(DebugFault::Memory) => Err(MoveFault::Memory),
