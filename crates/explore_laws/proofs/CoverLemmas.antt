@@ -1,5 +1,5 @@
 -- Turns cover every run.
-use Rattle.std.proofs.Common.{◌≡◌, ◌≢◌, ℕ, zero, suc, ◌+◌, ◌≤◌, ◌==◌, Bool, true, false, ◌||◌, List, [], ◌∷◌, length, set, cond, Option, Some, None, refl, ap, sym, ◌∙◌, subst, inl, inr, ◌⊎◌, arith, rules}
+use Rattle.std.proofs.Common.{◌≡◌, ℕ, zero, suc, ◌+◌, ◌≤◌, ◌==◌, Bool, true, false, ◌||◌, List, [], ◌∷◌, length, set, cond, Option, Some, None, refl, ap, sym, ◌∙◌, subst, inl, inr, ◌⊎◌, arith, rules}
 use Rattle.std.proofs.lemmas.Bool.{cases_eq, or_right}
 use Rattle.std.proofs.lemmas.List.{length-set}
 use Rattle.std.proofs.lemmas.List.Elements.{All-head, All-tail, All-cons}
@@ -21,11 +21,11 @@ use Rattle.explore_laws.specs.Covering.{WalksTo, WorldCovers, HasTurns}
 use Rattle.explore_laws.proofs.SettleLemmas.{same_value, there_set, get_set_other, there_too, covers_itself, settled_covers}
 
 -- ---- one walk
-walked_none : (code : Memory) (v u : HartValue) → walk code zero v ≡ Some u → v ≡ u
+pub walked_none : (code : Memory) (v u : HartValue) → walk code zero v ≡ Some u → v ≡ u
 unfolding walk
 walked_none code v u e = same_value v u (Some v) refl e
 
-walked_more : (code : Memory) (n : ℕ) (v u : HartValue) → walk code (suc n) v ≡ Some u
+pub walked_more : (code : Memory) (n : ℕ) (v u : HartValue) → walk code (suc n) v ≡ Some u
     → (is_local_next code v ≡ true) × (walk code n (step_alone code v) ≡ Some u)
 unfolding walk
 walked_more code n v u e = by_class (is_local_next code v) refl e
@@ -40,7 +40,7 @@ pub step_code : (w : World) (c : Choice) → code_in (step w c).memory ≡ code_
 unfolding run
 step_code w c = code_kept w.memory (step w c).memory (run-keeps w (c ∷ []))
 
-step_is : (w : World) (c : Choice) (v : HartValue) → slice_get w.harts c.hart ≡ Some v
+pub step_is : (w : World) (c : Choice) (v : HartValue) → slice_get w.harts c.hart ≡ Some v
     → step w c ≡ placed w c.hart (stepped c.hart c.refuse (site v w.memory w.reserved))
 unfolding step
 step_is w c v there = ap (step_of w c) there
@@ -50,7 +50,7 @@ unfolding step
 step_of_nobody w c none = ap (step_of w c) none
 
 -- a hart that is behind takes a local step: the same world covers what it leaves
-local_covered : (s w : World) (c : Choice) (v u : HartValue) (n : ℕ) → WorldCovers s w → slice_get w.harts c.hart ≡ Some v
+pub local_covered : (s w : World) (c : Choice) (v u : HartValue) (n : ℕ) → WorldCovers s w → slice_get w.harts c.hart ≡ Some v
     → slice_get s.harts c.hart ≡ Some u → walk (code_in w.memory) (suc n) v ≡ Some u → WorldCovers s (step w c)
 local_covered s w c v u n covers there too walks =
     let more = walked_more (code_in w.memory) n v u walks in
@@ -75,7 +75,7 @@ local_covered s w c v u n covers there too walks =
     })
 
 -- a hart that isn't behind takes the same step in both, and local steps go on behind it
-same_covered : (t s w : World) (c : Choice) (v : HartValue) → WorldCovers s w → slice_get w.harts c.hart ≡ Some v
+pub same_covered : (t s w : World) (c : Choice) (v : HartValue) → WorldCovers s w → slice_get w.harts c.hart ≡ Some v
     → slice_get s.harts c.hart ≡ Some v → WorldCovers t (step s c) → WorldCovers t (step w c)
 same_covered t s w c v covers there too over =
     let new : Site = stepped c.hart c.refuse (site v w.memory w.reserved) in
@@ -119,7 +119,7 @@ by_walk s w c v u zero covers there too walks =
     (too ∙ ap Some (sym (walked_none (code_in w.memory) v u walks))) (settled_covers (step s c) c.hart))
 by_walk s w c v u (suc n) covers there too walks = inl (local_covered s w c v u n covers there too walks)
 
-by_hart : (s w : World) (c : Choice) (o : Option HartValue) → WorldCovers s w → slice_get w.harts c.hart ≡ o
+pub by_hart : (s w : World) (c : Choice) (o : Option HartValue) → WorldCovers s w → slice_get w.harts c.hart ≡ o
     → WorldCovers s (step w c) ⊎ WorldCovers (world_settled (step s c) c.hart) (step w c)
 by_hart s w c None covers e = inl (subst (WorldCovers s) (sym (step_of_nobody w c e)) covers)
 by_hart s w c (Some v) covers e =

@@ -3,3 +3,11 @@ pub mod SettleLemmas
 pub mod CoverLemmas
 pub mod TurnLemmas
 pub mod WayLemmas
+pub mod StopLemmas
+pub mod BehindLemmas
+pub mod OwnLemmas
+pub mod BoundLemmas
+pub mod RoundLemmas
+pub mod ExactLemmas
+pub mod PathLemmas
+pub mod NumberLemmas

@@ -3,3 +3,5 @@ pub mod Places
 pub mod Safe
 pub mod Covering
 pub mod WaysOut
+pub mod Bounds
+pub mod OwnSteps
