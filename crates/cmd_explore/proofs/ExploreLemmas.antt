@@ -1,5 +1,5 @@
 -- The choice text of a failing list.
-use Rattle.std.proofs.Common.{◌≡◌, ℕ, zero, suc, ◌<◌, ◌^◌, ◌⊎◌, List, [], ◌∷◌, ◌++◌, length, string_bytes, Bool, true, false, Some, Ok, ap, sym, ◌∙◌, arith, inl, inr}
+use Rattle.std.proofs.Common.{◌≡◌, ℕ, zero, suc, ◌<◌, ◌^◌, ◌⊎◌, List, [], ◌∷◌, ◌++◌, length, string_bytes, Ok, ap, sym, ◌∙◌, arith, inl, inr}
 use Rattle.std.specs.List.{All, Contains, slice_index_or}
 use Rattle.image.specs.Image.{ImageValue}
 use Rattle.machine.specs.declared.choice.Choice.{Choice}
@@ -17,6 +17,7 @@ use Rattle.explore_space.specs.declared.meant.ScRefusals.{ScRefusals}
 use Rattle.explore_space.specs.declared.meant.ScRefusals.TheVariants.{Also, Never}
 use Rattle.cmd_explore.specs.declared.question.Question.{Question}
 use Rattle.cmd_explore.specs.declared.question.Explored.{Explored}
+use Rattle.cmd_explore.specs.declared.question.Finding.TheVariants as finding
 use Rattle.cmd_explore.specs.Explore.{failing_status, IsExplored}
 
 -- ---- the harts of meant choices
@@ -68,8 +69,8 @@ module _ {Z : Type 0} (question : Question) (image : ImageValue) (inputs : List 
       → HoldsOfEvery {Z = Z} question.rule question.refusals image inputs (Fails failing)
       → TellsExits {Z = Z} question.exit question.refusals image inputs (Fails failing)
       → string_bytes found.text ≡ runs_text failing.choices.items → found.status ≡ failing_status question.rule
-      → found.turns ≡ Some failing.turns → found.hangs ≡ false → IsExplored question image inputs found
-  tells_failing few failing fails exits text status turns hangs = record {
+      → found.finding ≡ finding.Fails failing.turns → IsExplored question image inputs found
+  tells_failing few failing fails exits text status finding_is = record {
     answer = Fails failing;
     holds = fails;
     counts = tt;
@@ -79,8 +80,7 @@ module _ {Z : Type 0} (question : Question) (image : ImageValue) (inputs : List 
       text,
       read_again question.refusals (length inputs) failing.choices.items (string_bytes found.text) few fails.meant_ones text,
       status,
-      turns,
-      hangs,
+      finding_is,
     );
   }
 
@@ -88,8 +88,8 @@ module _ {Z : Type 0} (question : Question) (image : ImageValue) (inputs : List 
       → HoldsOfEvery {Z = Z} question.rule question.refusals image inputs (Hangs hanging)
       → TellsExits {Z = Z} question.exit question.refusals image inputs (Hangs hanging)
       → string_bytes found.text ≡ runs_text hanging.choices.items → found.status ≡ status.Faulted
-      → found.turns ≡ Some hanging.turns → found.hangs ≡ true → IsExplored question image inputs found
-  tells_hanging few hanging holds exits text status turns hangs = record {
+      → found.finding ≡ finding.Hangs hanging.turns → IsExplored question image inputs found
+  tells_hanging few hanging holds exits text status finding_is = record {
     answer = Hangs hanging;
     holds = holds;
     counts = tt;
@@ -100,7 +100,6 @@ module _ {Z : Type 0} (question : Question) (image : ImageValue) (inputs : List 
       read_again question.refusals (length inputs) hanging.choices.items (string_bytes found.text) few
           (hanging_meant question.exit question.refusals image inputs hanging exits) text,
       status,
-      turns,
-      hangs,
+      finding_is,
     );
   }

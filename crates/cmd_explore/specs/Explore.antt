@@ -1,5 +1,5 @@
 -- What `explore` answers.
-use Rattle.std.specs.Prelude.{◌≡◌, ℕ, ◌++◌, Bool, true, false, List, codes, length, string_bytes, Option, Some, None}
+use Rattle.std.specs.Prelude.{◌≡◌, ℕ, ◌++◌, List, codes, length, string_bytes, Option, Some, None}
 use Rattle.std.specs.Fmt.{decimal}
 use Rattle.std.specs.declared.result.Result.{Result}
 use Rattle.std.specs.declared.result.Result.TheVariants.{Ok, Err}
@@ -19,6 +19,7 @@ use Rattle.explore_space.specs.declared.exploring.Answer.{Answer}
 use Rattle.explore_space.specs.declared.exploring.Answer.TheVariants.{Holds, Fails, Hangs, Undecided}
 use Rattle.cmd_explore.specs.EndLines.{IsEndsText}
 use Rattle.cmd_explore.specs.declared.question.Question.{Question}
+use Rattle.cmd_explore.specs.declared.question.Finding.TheVariants as finding
 use Rattle.cmd_explore.specs.declared.question.Explored.{Explored}
 
 -- the first line of a program that fails in no schedule, nor hangs in one if each hart must exit
@@ -37,22 +38,20 @@ abbrev pub failing_status : Option Kind → Status
 failing_status None = status.Faulted
 failing_status (Some kind) = status.Broken
 
--- an answer about every schedule of harts is told by a text, a status, a number of turns and
--- whether a list hangs: by the lines, or by a choice text that reads as the list
+-- an answer about every schedule of harts is told by a text, a status and a finding with a number
+-- of turns: by the lines, or by a choice text that reads as the list
 abbrev pub TellsEvery : {Z : Type 0} → Option Kind → Exit → ℕ → Answer Z → Explored Z → Type 0
 TellsEvery rule exit harts (Holds held) found =
     TellsHeld exit held.places (ends_in held.ends) (string_bytes found.text)
-    × (found.status ≡ status.Done) × (found.turns ≡ None) × (found.hangs ≡ false)
+    × (found.status ≡ status.Done) × (found.finding ≡ finding.Holds)
 TellsEvery rule exit harts (Fails failing) found =
     (string_bytes found.text ≡ runs_text failing.choices.items)
     × (choices_read harts (string_bytes found.text) ≡ Ok failing.choices.items)
-    × (found.status ≡ failing_status rule) × (found.turns ≡ Some failing.turns)
-    × (found.hangs ≡ false)
+    × (found.status ≡ failing_status rule) × (found.finding ≡ finding.Fails failing.turns)
 TellsEvery rule exit harts (Hangs hanging) found =
     (string_bytes found.text ≡ runs_text hanging.choices.items)
     × (choices_read harts (string_bytes found.text) ≡ Ok hanging.choices.items)
-    × (found.status ≡ status.Faulted) × (found.turns ≡ Some hanging.turns)
-    × (found.hangs ≡ true)
+    × (found.status ≡ status.Faulted) × (found.finding ≡ finding.Hangs hanging.turns)
 TellsEvery rule exit harts Undecided found = ⊥
 
 -- what is found tells an answer that holds of every schedule of an image

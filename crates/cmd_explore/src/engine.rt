@@ -7,7 +7,7 @@ ghost use Rattle.program_open.specs.Opening.{program_opening};
 ghost use Rattle.cmd_explore.specs.Explore.{failing_status, ExploresOpened, HasTooMany, IsExplored, RefusesOpened};
 
 use crate::holding::holding_text;
-use crate::question::{Explored, Question};
+use crate::question::{Explored, Finding, Question};
 use byte_io::{Source, Status};
 use explore_space::{Answer, explore};
 use image::Image;
@@ -43,20 +43,17 @@ fn explored<A: Allocator + Copy>(
         Answer::Holds(held) => Ok(Some(Explored {
             text: holding_text(alloc, exit, &held)?,
             status: Status::Done,
-            turns: None,
-            hangs: false,
+            finding: Finding::Holds,
         })),
         Answer::Fails(failing) => Ok(Some(Explored {
             text: print_runs(alloc, &failing.choices)?,
             status: failing_status(rule),
-            turns: Some(failing.turns),
-            hangs: false,
+            finding: Finding::Fails(failing.turns),
         })),
         Answer::Hangs(hanging) => Ok(Some(Explored {
             text: print_runs(alloc, &hanging.choices)?,
             status: Status::Faulted,
-            turns: Some(hanging.turns),
-            hangs: true,
+            finding: Finding::Hangs(hanging.turns),
         })),
         Answer::Undecided => Ok(None),
     }

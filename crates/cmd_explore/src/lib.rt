@@ -2,7 +2,7 @@
 #![tactic(auto)]
 
 pub use engine::explore_engine;
-pub use question::{Explored, Question};
+pub use question::{Explored, Finding, Question};
 pub use refusals::read_refusals;
 
 mod end_lines;

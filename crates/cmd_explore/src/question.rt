@@ -20,6 +20,19 @@ pub struct Question {
     pub most: usize,
 }
 
+/// What is found of all schedules.
+#[derive(Clone, Copy)]
+pub enum Finding {
+    /// None fails or hangs.
+    Holds,
+    /// A list fails, of so many turns: a choice, and the local steps of its hart behind it. No list
+    /// of fewer choices fails.
+    Fails(usize),
+    /// None fails, and a list hangs, of so many turns: it leads to a world that has no way out. No
+    /// list of fewer choices hangs.
+    Hangs(usize),
+}
+
 /// The answer.
 #[derive(Drop)]
 pub struct Explored<A: Allocator> {
@@ -29,9 +42,6 @@ pub struct Explored<A: Allocator> {
     /// `Done` where no schedule fails or hangs; `Faulted` where one hangs; where one fails, `Broken`
     /// under a rule, and `Faulted` without one.
     pub status: Status,
-    /// The number of turns of the list: a choice, and the local steps of its hart behind it. No list
-    /// of fewer choices fails or hangs. `None` where no schedule does.
-    pub turns: Option<usize>,
-    /// Whether the list hangs: it leads to a world that has no way out.
-    pub hangs: bool,
+    /// Whether the text is that of a list that fails or hangs.
+    pub finding: Finding,
 }

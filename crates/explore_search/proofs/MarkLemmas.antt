@@ -10,8 +10,9 @@ use Rattle.machine.specs.declared.choice.Choice.{Choice}
 use Rattle.explore_laws.specs.Places.{Place, place_after, place_reached}
 use Rattle.explore_laws.specs.WaysOut.{HasWayOut, HaveWaysOut}
 use Rattle.explore_laws.proofs.SettleLemmas.{there_set, get_set_other}
-use Rattle.explore_search.specs.Searched.{KeysDiffer, IsSeen}
-use Rattle.explore_search.specs.Marked.{AreAllSeen, AreClosed, LeadsToStuck, PlacesStay, IsMarked, LeadsToMarked, MarkEnded, HaveMarkedWaysOut, AreShut, MarksStay, marks_missing, MarksOne, MarksMore}
+use Rattle.explore_search.specs.Edges.{HaveEdges}
+use Rattle.explore_search.specs.Searched.{IsSeen}
+use Rattle.explore_search.specs.Marked.{AreAllSeen, LeadsToStuck, IsMarked, LeadsToMarked, MarkEnded, HaveMarkedWaysOut, AreShut, MarksStay, marks_missing, MarksOne, MarksMore}
 use Rattle.explore_search.specs.declared.seen.Link.{Link}
 use Rattle.explore_search.proofs.SearchLemmas.{seen_from, below_or}
 use Rattle.explore_search.proofs.NearLemmas.{IsSooner, seen_sooner}
@@ -27,112 +28,22 @@ not_both : (marks : List Bool) (k : ℕ) → slice_get marks k ≡ Some true
     → slice_get marks k ≡ Some false → ⊥
 not_both marks k e f = let no : true ≡ false = same_at marks k true false e f in cc
 
--- ---- keys whose places stay
-pub places_stay : (place later last : List ℕ → Place) (keys : List (List ℕ)) → PlacesStay place later keys
-    → PlacesStay later last keys → PlacesStay place last keys
-places_stay place later last keys a b k key e = b k key e ∙ a k key e
+-- ---- what a row leads to
+pub leads_there : (row : List ℕ) (marks : List Bool) (i to : ℕ) → slice_get row i ≡ Some to → slice_get marks to ≡ Some true
+    → LeadsToMarked row marks true
+leads_there row marks i to e mark = (i, to, e, mark)
 
-module _ (place later : List ℕ → Place) (keys : List (List ℕ)) (stays : PlacesStay place later keys) where
-  pub marked_back : (marks : List Bool) (mark : Bool) (p : Place) → IsMarked later keys marks mark p
-      → IsMarked place keys marks mark p
-  marked_back marks mark p m = record {
-    number = m.number;
-    key = m.key;
-    there = m.there;
-    is = sym (stays m.number m.key m.there) ∙ m.is;
-    mark_is = m.mark_is;
-  }
+pub leads_nowhere : (row : List ℕ) (marks : List Bool) (n : ℕ) → length row ≤ n
+    → ((i to : ℕ) → i < n → slice_get row i ≡ Some to → slice_get marks to ≡ Some false) → LeadsToMarked row marks false
+leads_nowhere row marks n all none i to e = none i to (let w = slice_get_within row i to e in omega (arith, w, all)) e
 
-  leads_back : (choices : List Choice) (marks : List Bool) (k : ℕ) (key : List ℕ) (answer : Bool)
-      → slice_get keys k ≡ Some key → LeadsToMarked later choices keys marks (later key) answer
-      → LeadsToMarked place choices keys marks (place key) answer
-  leads_back choices marks k key true e leads = (
-    leads.0,
-    leads.1,
-    marked_back marks true (place_after (place key) leads.0)
-        (subst (λ p. IsMarked later keys marks true (place_after p leads.0)) (stays k key e) leads.2),
-  )
-  leads_back choices marks k key false e leads = λ c is.
-      marked_back marks false (place_after (place key) c)
-      (subst (λ p. IsMarked later keys marks false (place_after p c)) (stays k key e) (leads c is))
-
-  pub one_back : (choices : List Choice) (marks more : List Bool) (k : ℕ) (key : List ℕ) (answer : Bool)
-      → slice_get keys k ≡ Some key → MarksOne later choices keys marks more k key answer
-      → MarksOne place choices keys marks more k key answer
-  one_back choices marks more k key true e one =
-      (one.0, one.1, leads_back choices marks k key true e one.2)
-  one_back choices marks more k key false e one =
-      (one.0, λ no_. leads_back choices marks k key false e (one.1 no_))
-
-  pub closed_later : (choices : List Choice) → AreClosed place choices keys → AreClosed later choices keys
-  closed_later choices closed k key c e is =
-      let seen = closed k key c e is in
-      record {
-        number = seen.number;
-        key = seen.key;
-        there = seen.there;
-        is = stays seen.number seen.key seen.there ∙ seen.is
-            ∙ ap (λ p. place_after p c) (sym (stays k key e));
-      }
-
--- ---- what a choice leads to, by its key
-pub stay_kept : (IsKey IsKeyLater : List ℕ → Type 0) (place later : List ℕ → Place) (keys : List (List ℕ))
-    → ((k : List ℕ) → IsKey k → IsKeyLater k × (later k ≡ place k))
-    → ((k : ℕ) (key : List ℕ) → slice_get keys k ≡ Some key → IsKey key) → PlacesStay place later keys
-stay_kept IsKey IsKeyLater place later keys kept are k key e = (kept key (are k key e)).1
-
-module _ (IsKey IsKeyLater : List ℕ → Type 0) (place later : List ℕ → Place)
-    (kept : (k : List ℕ) → IsKey k → IsKeyLater k × (later k ≡ place k)) (keys : List (List ℕ))
-    (are : (k : ℕ) (key : List ℕ) → slice_get keys k ≡ Some key → IsKey key)
-    (before : List ℕ → Place) (stays : PlacesStay before place keys) (number : ℕ) (key : List ℕ)
-    (there : slice_get keys number ≡ Some key) (c : Choice) (next found : List ℕ) (found_is : found ≡ next)
-    (next_is : later next ≡ place_after (place key) c) where
-  pub found_is_there : (choices : List Choice) (i : ℕ) → AreClosed before choices keys → slice_get choices i ≡ Some c
-      → KeysDiffer IsKeyLater later → IsKeyLater next → Contains keys found
-  found_is_there choices i closed at_i differ is =
-      let seen = closed_later before place keys stays choices closed number key c there (contains_at choices i c at_i) in
-      let old = kept seen.key (are seen.number seen.key seen.there) in
-      subst (Contains keys) (differ seen.key next old.0 is (old.1 ∙ seen.is ∙ sym next_is) ∙ sym found_is)
-      (contains_at keys seen.number seen.key seen.there)
-
-  pub found_is_marked : (marks : List Bool) (mark : Bool) (n : ℕ) → slice_get keys n ≡ Some found
-      → slice_get marks n ≡ Some mark → IsMarked before keys marks mark (place_after (before key) c)
-  found_is_marked marks mark n e is = record {
-    number = n;
-    key = found;
-    there = e;
-    is = sym (stays n found e) ∙ sym (kept found (are n found e)).1 ∙ ap later found_is ∙ next_is
-        ∙ ap (λ p. place_after p c) (stays number key there);
-    mark_is = is;
-  }
-
-module _ (place : List ℕ → Place) (choices : List Choice) (keys : List (List ℕ)) (marks : List Bool) where
-  pub leads_there : (number : ℕ) (key other : List ℕ) (i : ℕ) (c : Choice) → slice_get keys number ≡ Some key
-      → slice_get keys number ≡ Some other → slice_get choices i ≡ Some c
-      → IsMarked place keys marks true (place_after (place key) c) → LeadsToMarked place choices keys marks (place other) true
-  leads_there number key other i c e f at_i is =
-      subst (λ k. LeadsToMarked place choices keys marks (place k) true) (same_at keys number key other e f)
-      (c, contains_at choices i c at_i, is)
-
-  pub leads_nowhere : (number : ℕ) (key other : List ℕ) (n : ℕ) → slice_get keys number ≡ Some key
-      → slice_get keys number ≡ Some other → length choices ≤ n
-      → ((k : ℕ) (c : Choice) → k < n → slice_get choices k ≡ Some c → IsMarked place keys marks false (place_after (place key) c))
-      → LeadsToMarked place choices keys marks (place other) false
-  leads_nowhere number key other n e f all none c is =
-      let at = at_contains choices c is in
-      let within = slice_get_within choices at.0 c at.1 in
-      subst (λ k. IsMarked place keys marks false (place_after (place k) c)) (same_at keys number key other e f)
-      (none at.0 c (omega (arith, within, all)) at.1)
-
-  pub none_more : (key : List ℕ) (i : ℕ) (c : Choice) → slice_get choices i ≡ Some c
-      → ((k : ℕ) (d : Choice) → k < i → slice_get choices k ≡ Some d → IsMarked place keys marks false (place_after (place key) d))
-      → IsMarked place keys marks false (place_after (place key) c)
-      → (k : ℕ) (d : Choice) → k < i + 1 → slice_get choices k ≡ Some d → IsMarked place keys marks false (place_after (place key) d)
-  none_more key i c at_i before now k d h e = elim (below_or k i h) [
-    | inl below ↦ before k d below e
-    | inr here ↦ subst (λ x. IsMarked place keys marks false (place_after (place key) x))
-        (same_at choices i c d at_i (ap (slice_get choices) (sym here) ∙ e)) now
-  ]
+pub none_more : (row : List ℕ) (marks : List Bool) (n to : ℕ) → slice_get row n ≡ Some to → slice_get marks to ≡ Some false
+    → ((i next : ℕ) → i < n → slice_get row i ≡ Some next → slice_get marks next ≡ Some false)
+    → (i next : ℕ) → i < n + 1 → slice_get row i ≡ Some next → slice_get marks next ≡ Some false
+none_more row marks n to at_n mark before i next h e = elim (below_or i n h) [
+  | inl below ↦ before i next below e
+  | inr here ↦ subst (λ x. slice_get marks x ≡ Some false) (same_at row n to next at_n (ap (slice_get row) (sym here) ∙ e)) mark
+]
 
 -- ---- one mark more
 pub fewer_unmarked : (marks : List Bool) (i : ℕ) → slice_get marks i ≡ Some false
@@ -144,116 +55,118 @@ fewer_unmarked (false ∷ marks) zero e = refl
 fewer_unmarked (true ∷ marks) (suc i) e = fewer_unmarked marks i e
 fewer_unmarked (false ∷ marks) (suc i) e = ap suc (fewer_unmarked marks i e)
 
-module _ (place : List ℕ → Place) (choices : List Choice) (keys : List (List ℕ)) where
-  further : (ended : Place → Bool) (p : Place) (c : Choice) → Contains choices c
-      → HasWayOut choices ended (place_after p c) → HasWayOut choices ended p
-  unfolding place_reached
-  further ended p c is way = record {
-    turns = c ∷ way.turns;
-    are_meant = All-cons (Contains choices) c way.turns is way.are_meant;
-    ends = way.ends;
-  }
+further : (choices : List Choice) (ended : Place → Bool) (p : Place) (c : Choice) → Contains choices c
+    → HasWayOut choices ended (place_after p c) → HasWayOut choices ended p
+unfolding place_reached
+further choices ended p c is way = record {
+  turns = c ∷ way.turns;
+  are_meant = All-cons (Contains choices) c way.turns is way.are_meant;
+  ends = way.ends;
+}
 
-  pub one_ways : (ended : Place → Bool) (marks more : List Bool) (number : ℕ) (key : List ℕ) (answer : Bool)
-      → slice_get keys number ≡ Some key → MarksOne place choices keys marks more number key answer
-      → HaveMarkedWaysOut choices ended place keys marks → HaveMarkedWaysOut choices ended place keys more
-  one_ways ended marks more number key false there one ways =
-      subst (HaveMarkedWaysOut choices ended place keys) (sym one.0) ways
-  one_ways ended marks more number key true there one ways = λ k x e mark. elim (cases_eq k number) [
-    | inl same ↦
-        let leads = one.2 in
-        let by = leads.2 in
-        let x_is : key ≡ x = same_at keys number key x there (ap (slice_get keys) (sym same) ∙ e) in
-        subst (λ y. HasWayOut choices ended (place y)) x_is (further ended (place key) leads.0 leads.1
-        (subst (HasWayOut choices ended) by.is (ways by.number by.key by.there by.mark_is)))
-    | inr other ↦ ways k x e
-        (sym (get_set_other marks number k true other) ∙ ap (λ ms. slice_get ms k) (sym one.1) ∙ mark)
-  ]
+-- a row that leads to a key with a way out
+way_by : (place : List ℕ → Place) (choices : List Choice) (keys rows : List (List ℕ)) → HaveEdges place choices keys rows
+    → (ended : Place → Bool) (marks : List Bool) (number : ℕ) (row key : List ℕ) → slice_get rows number ≡ Some row
+    → slice_get keys number ≡ Some key → LeadsToMarked row marks true → HaveMarkedWaysOut choices ended place keys marks
+    → HasWayOut choices ended (place key)
+way_by place choices keys rows have ended marks number row key there key_there leads ways =
+    let i = leads.0 in
+    let to = leads.1 in
+    let e = leads.2 in
+    let mark = leads.3 in
+    let from = have.edges number key row key_there there in
+    let inside = slice_get_within row i to e in
+    let even = from.count in
+    let choice = get_there choices i (omega (arith, inside, even)) in
+    let at = from.lead i to choice.0 e choice.1 in
+    further choices ended (place key) choice.0 (contains_at choices i choice.0 choice.1)
+    (subst (HasWayOut choices ended) at.is (ways to at.key at.there mark))
 
-  pub one_stays : (marks more : List Bool) (number : ℕ) (key : List ℕ) (answer : Bool)
-      → MarksOne place choices keys marks more number key answer → MarksStay marks more
-  one_stays marks more number key false one = subst (MarksStay marks) (sym one.0) (λ k e. e)
-  one_stays marks more number key true one = λ k e. elim (cases_eq k number) [
-    | inl same ↦ ap (λ ms. slice_get ms k) one.1 ∙ ap (slice_get (set marks number true)) same
-        ∙ there_set marks number false true one.0
-    | inr other ↦ ap (λ ms. slice_get ms k) one.1 ∙ get_set_other marks number k true other ∙ e
-  ]
+pub one_ways : (place : List ℕ → Place) (choices : List Choice) (keys rows : List (List ℕ)) → HaveEdges place choices keys rows
+    → (ended : Place → Bool) (marks more : List Bool) (number : ℕ) (row : List ℕ) (answer : Bool)
+    → slice_get rows number ≡ Some row → MarksOne row marks more number answer
+    → HaveMarkedWaysOut choices ended place keys marks → HaveMarkedWaysOut choices ended place keys more
+one_ways place choices keys rows have ended marks more number row false there one ways =
+    subst (HaveMarkedWaysOut choices ended place keys) (sym one.0) ways
+one_ways place choices keys rows have ended marks more number row true there one ways = λ k x e mark. elim (cases_eq k number) [
+  | inl same ↦ way_by place choices keys rows have ended marks number row x there (ap (slice_get keys) (sym same) ∙ e) one.2 ways
+  | inr other ↦ ways k x e
+      (sym (get_set_other marks number k true other) ∙ ap (λ ms. slice_get ms k) (sym one.1) ∙ mark)
+]
 
-  -- ---- a pass
-  pub pass_begins : (marks : List Bool) (n : ℕ) → length keys ≤ n → MarksMore place choices keys marks marks n false
+pub one_stays : (marks more : List Bool) (number : ℕ) (row : List ℕ) (answer : Bool)
+    → MarksOne row marks more number answer → MarksStay marks more
+one_stays marks more number row false one = subst (MarksStay marks) (sym one.0) (λ k e. e)
+one_stays marks more number row true one = λ k e. elim (cases_eq k number) [
+  | inl same ↦ ap (λ ms. slice_get ms k) one.1 ∙ ap (slice_get (set marks number true)) same
+      ∙ there_set marks number false true one.0
+  | inr other ↦ ap (λ ms. slice_get ms k) one.1 ∙ get_set_other marks number k true other ∙ e
+]
+
+-- ---- a pass
+module _ (rows : List (List ℕ)) where
+  pub pass_begins : (marks : List Bool) (n : ℕ) → length rows ≤ n → MarksMore rows marks marks n false
   pass_begins marks n all =
-      (refl, λ k key low there. absurd (let w = slice_get_within keys k key there in omega (arith, w, low, all)))
+      (refl, λ k row low there. absurd (let w = slice_get_within rows k row there in omega (arith, w, low, all)))
 
-  pub pass_marked : (before marks more : List Bool) (n m number : ℕ) (key : List ℕ) (so_far : Bool)
-      → MarksMore place choices keys before marks n so_far → MarksOne place choices keys marks more number key true
-      → MarksMore place choices keys before more m true
-  pass_marked before marks more n m number key true so_far one =
+  pass_marked : (before marks more : List Bool) (n m number : ℕ) (row : List ℕ) (so_far : Bool)
+      → MarksMore rows before marks n so_far → MarksOne row marks more number true
+      → MarksMore rows before more m true
+  pass_marked before marks more n m number row true so_far one =
       let fewer = fewer_unmarked marks number one.0 in
       let is = ap marks_missing one.1 in omega (arith, so_far, fewer, is)
-  pass_marked before marks more n m number key false so_far one =
+  pass_marked before marks more n m number row false so_far one =
       let fewer = fewer_unmarked marks number one.0 in
       let was = ap marks_missing so_far.0 in
       let is = ap marks_missing one.1 in omega (arith, was, fewer, is)
 
-  pub pass_same : (before marks more : List Bool) (n number : ℕ) (key : List ℕ) (so_far : Bool) → n ≤ number + 1
-      → slice_get keys number ≡ Some key → MarksMore place choices keys before marks n so_far
-      → MarksOne place choices keys marks more number key false → MarksMore place choices keys before more number so_far
-  pass_same before marks more n number key true low there so_far one =
+  pass_same : (before marks more : List Bool) (n number : ℕ) (row : List ℕ) (so_far : Bool) → n ≤ number + 1
+      → slice_get rows number ≡ Some row → MarksMore rows before marks n so_far
+      → MarksOne row marks more number false → MarksMore rows before more number so_far
+  pass_same before marks more n number row true low there so_far one =
       let is = ap marks_missing one.0 in omega (arith, so_far, is)
-  pass_same before marks more n number key false low there so_far one = (
+  pass_same before marks more n number row false low there so_far one = (
     one.0 ∙ so_far.0,
     λ k x above e no_. elim (cases_eq k number) [
       | inl same ↦
-          let x_is : key ≡ x = same_at keys number key x there (ap (slice_get keys) (sym same) ∙ e) in
-          subst (λ y. LeadsToMarked place choices keys before (place y) false) x_is
-          (subst (λ ms. LeadsToMarked place choices keys ms (place key) false) so_far.0
+          let x_is : row ≡ x = same_at rows number row x there (ap (slice_get rows) (sym same) ∙ e) in
+          subst (λ y. LeadsToMarked y before false) x_is
+          (subst (λ ms. LeadsToMarked row ms false) so_far.0
           (one.1 (ap (λ ms. slice_get ms number) so_far.0 ∙ ap (slice_get before) (sym same) ∙ no_)))
       | inr other ↦ so_far.1 k x (omega (arith, above, other, low)) e no_
     ],
   )
 
   pub pass_ends : (before marks : List Bool) (n : ℕ) (so_far : Bool) → n ≡ 0
-      → MarksMore place choices keys before marks n so_far → MarksMore place choices keys before marks 0 so_far
-  pass_ends before marks n so_far none more = subst (λ m. MarksMore place choices keys before marks m so_far) none more
+      → MarksMore rows before marks n so_far → MarksMore rows before marks 0 so_far
+  pass_ends before marks n so_far none more = subst (λ m. MarksMore rows before marks m so_far) none more
 
-  pub pass_one : (before marks more : List Bool) (n m number : ℕ) (key : List ℕ) (so_far answer after : Bool) → n ≤ number + 1
-      → m ≡ number → slice_get keys number ≡ Some key → MarksMore place choices keys before marks n so_far
-      → MarksOne place choices keys marks more number key answer
+  pub pass_one : (before marks more : List Bool) (n m number : ℕ) (row : List ℕ) (so_far answer after : Bool) → n ≤ number + 1
+      → m ≡ number → slice_get rows number ≡ Some row → MarksMore rows before marks n so_far
+      → MarksOne row marks more number answer
       → ((answer ≡ true) × (after ≡ true)) ⊎ ((answer ≡ false) × (after ≡ so_far))
-      → MarksMore place choices keys before more m after
-  pass_one before marks more n m number key so_far answer after low m_is there passed one by = elim by [
-    | inl yes_ ↦ subst (MarksMore place choices keys before more m) (sym yes_.1) (pass_marked before marks more n m number key so_far passed
-        (subst (MarksOne place choices keys marks more number key) yes_.0 one))
-    | inr no_ ↦ subst (MarksMore place choices keys before more m) (sym no_.1)
-        (subst (λ at. MarksMore place choices keys before more at so_far) (sym m_is)
-        (pass_same before marks more n number key so_far low there passed
-        (subst (MarksOne place choices keys marks more number key) no_.0 one)))
+      → MarksMore rows before more m after
+  pass_one before marks more n m number row so_far answer after low m_is there passed one by = elim by [
+    | inl yes_ ↦ subst (MarksMore rows before more m) (sym yes_.1) (pass_marked before marks more n m number row so_far passed
+        (subst (MarksOne row marks more number) yes_.0 one))
+    | inr no_ ↦ subst (MarksMore rows before more m) (sym no_.1)
+        (subst (λ at. MarksMore rows before more at so_far) (sym m_is)
+        (pass_same before marks more n number row so_far low there passed
+        (subst (MarksOne row marks more number) no_.0 one)))
   ]
 
--- ---- passes, over keys whose places stay
-module _ (place later : List ℕ → Place) (keys : List (List ℕ)) (stays : PlacesStay place later keys)
-    (choices : List Choice) where
-  pub ways_back : (ended : Place → Bool) (marks more : List Bool)
-      → (HaveMarkedWaysOut choices ended later keys marks → HaveMarkedWaysOut choices ended later keys more)
-      → HaveMarkedWaysOut choices ended place keys marks → HaveMarkedWaysOut choices ended place keys more
-  ways_back ended marks more step ways k key e mark =
-      subst (HasWayOut choices ended) (stays k key e)
-      (step (λ i x f is. subst (HasWayOut choices ended) (sym (stays i x f)) (ways i x f is)) k key e mark)
-
-  pub shut_after : (marks more : List Bool) (answer : Bool) → MarksMore later choices keys marks more 0 answer → answer ≡ false
-      → AreShut place choices keys more 0
+  pub shut_after : (marks more : List Bool) (answer : Bool) → MarksMore rows marks more 0 answer → answer ≡ false
+      → AreShut rows more 0
   shut_after marks more true passed none = absurd (let no : true ≡ false = none in cc)
-  shut_after marks more false passed none = λ k key low e no_.
-      subst (λ ms. LeadsToMarked place choices keys ms (place key) false) (sym passed.0)
-      (leads_back place later keys stays choices marks k key false e
-      (passed.1 k key low e (ap (λ ms. slice_get ms k) (sym passed.0) ∙ no_)))
+  shut_after marks more false passed none = λ k row low e no_.
+      subst (λ ms. LeadsToMarked row ms false) (sym passed.0)
+      (passed.1 k row low e (ap (λ ms. slice_get ms k) (sym passed.0) ∙ no_))
 
-pub pass_smaller : (place : List ℕ → Place) (choices : List Choice) (keys : List (List ℕ)) (marks more : List Bool) (before answer : Bool)
-    → before ≡ true → MarksMore place choices keys marks more 0 answer
-    → marks_missing more + cond answer 1 0 < marks_missing marks + cond before 1 0
-pass_smaller place choices keys marks more false answer was passed = absurd (let no : false ≡ true = was in cc)
-pass_smaller place choices keys marks more true true was passed = omega (arith, passed)
-pass_smaller place choices keys marks more true false was passed = let is = ap marks_missing passed.0 in omega (arith, is)
+  pub pass_smaller : (marks more : List Bool) (before answer : Bool) → before ≡ true → MarksMore rows marks more 0 answer
+      → marks_missing more + cond answer 1 0 < marks_missing marks + cond before 1 0
+  pass_smaller marks more false answer was passed = absurd (let no : false ≡ true = was in cc)
+  pass_smaller marks more true true was passed = omega (arith, passed)
+  pass_smaller marks more true false was passed = let is = ap marks_missing passed.0 in omega (arith, is)
 
 -- ---- marks of places that have ended
 pub ended_more : (place : List ℕ → Place) (ended : Place → Bool) (keys : List (List ℕ)) (marks more : List Bool) (number : ℕ) (last : List ℕ)
@@ -271,16 +184,38 @@ ended_more place ended keys marks more number last mark count there is pushed be
 -- ---- places without a way out
 module _ (IsKey : List ℕ → Type 0) (place : List ℕ → Place) (start : Place) (choices : List Choice) (keys : List (List ℕ)) (links : List Link)
     (seen : AreAllSeen IsKey place start choices keys links) (ended : Place → Bool) (marks all : List Bool)
+    (rows : List (List ℕ)) (have : HaveEdges place choices keys rows)
     (shown : MarkEnded place ended keys marks) (stay : MarksStay marks all) (ways : HaveMarkedWaysOut choices ended place keys all) where
+  -- a choice leads from a key's place that isn't marked to another
+  next_shut : AreShut rows all 0 → (c : Choice) (number : ℕ) (key : List ℕ) → slice_get keys number ≡ Some key
+      → slice_get all number ≡ Some false → Contains choices c → IsMarked place keys all false (place_after (place key) c)
+  next_shut shut c number key there no_ is =
+      let inside = slice_get_within keys number key there in
+      let count = have.count in
+      let row = get_there rows number (omega (arith, inside, count)) in
+      let from = have.edges number key row.0 there row.1 in
+      let choice = at_contains choices c is in
+      let low = slice_get_within choices choice.0 c choice.1 in
+      let even = from.count in
+      let to = get_there row.0 choice.0 (omega (arith, low, even)) in
+      let at = from.lead choice.0 to.0 c to.1 choice.1 in
+      record {
+        number = to.0;
+        key = at.key;
+        there = at.there;
+        is = at.is;
+        mark_is = shut number row.0 (omega arith) row.1 no_ choice.0 to.0 to.1;
+      }
+
   -- from a place that isn't marked no list leads to one that has ended
-  never_ends : AreShut place choices keys all 0 → (list : List Choice) (p : Place) → IsMarked place keys all false p
+  never_ends : AreShut rows all 0 → (list : List Choice) (p : Place) → IsMarked place keys all false p
       → All (Contains choices) list → ended (place_reached p list) ≡ true → ⊥
   unfolding place_reached
   never_ends shut [] p is meant ends =
       not_both all is.number (stay is.number (shown is.number is.key is.there ∙ ap (λ q. Some (ended q)) is.is ∙ ap Some ends)) is.mark_is
   never_ends shut (c ∷ list) p is meant ends =
-      let next = shut is.number is.key (omega arith) is.there is.mark_is c (All-head (Contains choices) c list meant) in
-      never_ends shut list (place_after p c) (subst (λ q. IsMarked place keys all false (place_after q c)) is.is next)
+      never_ends shut list (place_after p c) (subst (λ q. IsMarked place keys all false (place_after q c)) is.is
+      (next_shut shut c is.number is.key is.there is.mark_is (All-head (Contains choices) c list meant)))
       (All-tail (Contains choices) c list meant) ends
 
   way_seen : (p : Place) → ((k : ℕ) → k < length all → slice_get all k ≡ Some true) → length all ≡ length keys
@@ -301,7 +236,7 @@ module _ (IsKey : List ℕ → Type 0) (place : List ℕ → Place) (start : Pla
       (record { good = λ k key h e. refl; next = λ k key c h e is. seen.closed k key c e is }) list start
       (record { number = 0; key = seen.reached.first.0; there = seen.reached.first.1; is = seen.reached.first.2 }) meant)
 
-  pub is_stuck : AreShut place choices keys all 0 → (number : ℕ) (path : List Choice) → slice_get all number ≡ Some false
+  pub is_stuck : AreShut rows all 0 → (number : ℕ) (path : List Choice) → slice_get all number ≡ Some false
       → length all ≡ length keys → ((k : ℕ) → k < number → slice_get all k ≡ Some true) → All (Contains choices) path
       → ((a : Link) → slice_get links number ≡ Some a → length path ≡ a.steps)
       → ((key : List ℕ) → slice_get keys number ≡ Some key → place_reached start path ≡ place key)

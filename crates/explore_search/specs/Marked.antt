@@ -49,11 +49,6 @@ SearchSees IsKey place choices first (Safe seen) =
 SearchSees IsKey place choices first (Bad list) = Unit {0}
 SearchSees IsKey place choices first Undecided = Unit {0}
 
--- keys stand for the same places as before
-abbrev pub PlacesStay : (List ℕ → Place) → (List ℕ → Place) → List (List ℕ) → Type 0
-PlacesStay place later keys =
-    (k : ℕ) (key : List ℕ) → slice_get keys k ≡ Some key → later key ≡ place key
-
 -- a place is that of some key with this mark
 pub record IsMarked (place : List ℕ → Place) (keys : List (List ℕ)) (marks : List Bool)
     (mark : Bool) (p : Place) : Type 0 where
@@ -63,13 +58,20 @@ pub record IsMarked (place : List ℕ → Place) (keys : List (List ℕ)) (marks
   pub is : place key ≡ p
   pub mark_is : slice_get marks number ≡ Some mark
 
--- some choice leads from a place to a marked one, or each leads to one that isn't
-abbrev pub LeadsToMarked : (List ℕ → Place) → List Choice → List (List ℕ) → List Bool → Place
-    → Bool → Type 0
-LeadsToMarked place choices keys marks p true =
-    (c : Choice) × Contains choices c × IsMarked place keys marks true (place_after p c)
-LeadsToMarked place choices keys marks p false =
-    (c : Choice) → Contains choices c → IsMarked place keys marks false (place_after p c)
+-- each number of a row is below n
+abbrev pub AreBelow : ℕ → List ℕ → Type 0
+AreBelow n row = (i to : ℕ) → slice_get row i ≡ Some to → to < n
+
+-- so are those of all rows
+abbrev pub AllBelow : ℕ → List (List ℕ) → Type 0
+AllBelow n rows = (k : ℕ) (row : List ℕ) → slice_get rows k ≡ Some row → AreBelow n row
+
+-- a row leads to some marked key, or to none
+abbrev pub LeadsToMarked : List ℕ → List Bool → Bool → Type 0
+LeadsToMarked row marks true =
+    (i : ℕ) × (to : ℕ) × (slice_get row i ≡ Some to) × (slice_get marks to ≡ Some true)
+LeadsToMarked row marks false =
+    (i to : ℕ) → slice_get row i ≡ Some to → slice_get marks to ≡ Some false
 
 -- the keys' marks, one for each, tell which places have ended
 abbrev pub MarkEnded : (List ℕ → Place) → (Place → Bool) → List (List ℕ) → List Bool → Type 0
@@ -84,11 +86,11 @@ HaveMarkedWaysOut choices ended place keys marks =
     (k : ℕ) (key : List ℕ) → slice_get keys k ≡ Some key → slice_get marks k ≡ Some true
     → HasWayOut choices ended (place key)
 
--- no choice leads from a place that isn't marked to one that is; of the keys from number n on
-abbrev pub AreShut : (List ℕ → Place) → List Choice → List (List ℕ) → List Bool → ℕ → Type 0
-AreShut place choices keys marks n =
-    (k : ℕ) (key : List ℕ) → n < suc k → slice_get keys k ≡ Some key
-    → slice_get marks k ≡ Some false → LeadsToMarked place choices keys marks (place key) false
+-- no row of a key that isn't marked leads to one that is; of the keys from number n on
+abbrev pub AreShut : List (List ℕ) → List Bool → ℕ → Type 0
+AreShut rows marks n =
+    (k : ℕ) (row : List ℕ) → n < suc k → slice_get rows k ≡ Some row
+    → slice_get marks k ≡ Some false → LeadsToMarked row marks false
 
 -- what was marked stays marked
 abbrev pub MarksStay : List Bool → List Bool → Type 0
@@ -100,23 +102,18 @@ marks_missing [] = 0
 marks_missing (true ∷ marks) = marks_missing marks
 marks_missing (false ∷ marks) = suc (marks_missing marks)
 
--- a key was marked, since a choice leads to a marked one; or it was before, or none does
-abbrev pub MarksOne : (List ℕ → Place) → List Choice → List (List ℕ) → List Bool → List Bool → ℕ
-    → List ℕ → Bool → Type 0
-MarksOne place choices keys marks more number key true =
+-- a key was marked, since its row leads to a marked one; or it was before, or the row doesn't
+abbrev pub MarksOne : List ℕ → List Bool → List Bool → ℕ → Bool → Type 0
+MarksOne row marks more number true =
     (slice_get marks number ≡ Some false) × (more ≡ slice_set marks number true)
-    × LeadsToMarked place choices keys marks (place key) true
-MarksOne place choices keys marks more number key false =
-    (more ≡ marks)
-    × (slice_get marks number ≡ Some false
-    → LeadsToMarked place choices keys marks (place key) false)
+    × LeadsToMarked row marks true
+MarksOne row marks more number false =
+    (more ≡ marks) × (slice_get marks number ≡ Some false → LeadsToMarked row marks false)
 
 -- keys were marked, or nothing is left to be marked among those from number n on
-abbrev pub MarksMore : (List ℕ → Place) → List Choice → List (List ℕ) → List Bool → List Bool → ℕ
-    → Bool → Type 0
-MarksMore place choices keys marks more n true = marks_missing more < marks_missing marks
-MarksMore place choices keys marks more n false =
-    (more ≡ marks) × AreShut place choices keys marks n
+abbrev pub MarksMore : List (List ℕ) → List Bool → List Bool → ℕ → Bool → Type 0
+MarksMore rows marks more n true = marks_missing more < marks_missing marks
+MarksMore rows marks more n false = (more ≡ marks) × AreShut rows marks n
 
 -- a list of meant choices leads to a place that has no way out, and each shorter one to a place
 -- that has one

@@ -1,13 +1,15 @@
 //! The search.
-ghost use Rattle.std.specs.Prelude.{◌≡◌, ℕ, ◌+◌, ◌<◌, false, List, Some, IfOk, OnOk, slice_get};
+ghost use Rattle.std.specs.Prelude.{◌≡◌, ℕ, ◌+◌, ◌<◌, ◌≤◌, false, List, [], Some, IfOk, OnOk, length, slice_get};
 ghost use Rattle.explore_laws.specs.Places.{Place};
 ghost use Rattle.explore_search.specs.Searched.{AreReached, AreDone, AreRising, AreSoon};
 ghost use Rattle.explore_search.specs.Answers.{SearchAnswers, SearchCounts, SearchReaches};
+ghost use Rattle.explore_search.specs.Edges.{AreEdges, AreEdgesFrom, SearchLeads};
 ghost use Rattle.explore_search.specs.Marked.{SearchSees};
 
+use crate::edges::{Edges, keep_row};
 use crate::seen::{Link, Seen};
 use crate::space::Space;
-use explore_table::Table;
+use explore_table::{Rows, Table};
 use machine::Choice;
 use std::alloc::{AllocError, Allocator};
 
@@ -23,13 +25,14 @@ pub enum Found<A: Allocator> {
     Undecided,
 }
 
-// Sees what follows a key.
+// Sees what follows a key, and makes the row of its place.
 fn see_next<A: Allocator, S: Space<A>>(
     space: &mut S,
     choices: &[Choice],
     seen: &mut Seen<A>,
     key: &[u32],
     from: usize,
+    row: &mut Vec<u32, A>,
 ) -> Result<(), AllocError>
     requires reached { AreReached (S.is_key space.old) (S.place space.old) (S.first space.old) choices.now
         seen.old.keys seen.old.links.items }
@@ -38,6 +41,8 @@ fn see_next<A: Allocator, S: Space<A>>(
     requires good { S.bad space.old (S.place space.old key.now) ≡ false }
     requires rising { AreRising seen.old.links.items from }
     requires soon { AreSoon (S.place space.old) choices.now seen.old.keys seen.old.links.items from }
+    requires edges { AreEdges (S.place space.old) choices.now seen.old.keys seen.old.rows }
+    requires few { length seen.old.rows ≤ from }
     ensures reached { OnOk result (AreReached (S.is_key space.new) (S.place space.new) (S.first space.old) choices.now
         seen.new.keys seen.new.links.items) }
     ensures done { OnOk result (AreDone (S.place space.new) (S.bad space.old) choices.now seen.new.keys (from + 1)) }
@@ -45,7 +50,13 @@ fn see_next<A: Allocator, S: Space<A>>(
     ensures soon { OnOk result (AreSoon (S.place space.new) choices.now seen.new.keys seen.new.links.items (from + 1)) }
     ensures first { OnOk result (S.first space.new ≡ S.first space.old) }
     ensures bad { OnOk result (S.bad space.new ≡ S.bad space.old) }
+    ensures stays { OnOk result (slice_get seen.new.keys from ≡ Some key.now) }
+    ensures edges { OnOk result (AreEdges (S.place space.new) choices.now seen.new.keys seen.new.rows) }
+    ensures rows { OnOk result (seen.new.rows ≡ seen.old.rows) }
+    ensures row { OnOk result (AreEdgesFrom (S.place space.new) choices.now seen.new.keys (S.place space.new key.now)
+        row.new.items) }
 {
+    row.clear();
     let steps = seen.links[from].steps + 1;
     'choices: for choice in choices {
         let link = Link {
@@ -53,7 +64,11 @@ fn see_next<A: Allocator, S: Space<A>>(
             choice: *choice,
             steps,
         };
-        seen.see_after(space, choices, key, link)?;
+        let to = seen.see_after(space, choices, key, link)?;
+        if to > 0xffff_ffff {
+            return Err(AllocError);
+        }
+        row.push(to as u32)?;
     }
     Ok(())
 }
@@ -69,6 +84,7 @@ fn see_first<A: Allocator + Copy, S: Space<A>>(
     ensures reached { IfOk result (λ seen. AreReached (S.is_key space.new) (S.place space.new) (S.first space.old)
         choices.now seen.keys seen.links.items) }
     ensures rising { IfOk result (λ seen. AreRising seen.links.items 0) }
+    ensures rows { IfOk result (λ seen. seen.rows ≡ []) }
     ensures first { S.first space.new ≡ S.first space.old }
     ensures bad { S.bad space.new ≡ S.bad space.old }
 {
@@ -85,16 +101,21 @@ fn see_first<A: Allocator + Copy, S: Space<A>>(
         },
         steps: 0,
     })?;
-    Ok(Seen { keys, links })
+    Ok(Seen {
+        keys,
+        links,
+        rows: Rows::new(alloc),
+    })
 }
 
 /// Looks at every place that a list of the choices leads to, nearest first, each once, and at
-/// `most` of them at most.
+/// `most` of them at most. 2^32 places or more are answered as want of memory.
 pub fn search<A: Allocator + Copy, S: Space<A>>(
     alloc: A,
     space: &mut S,
     choices: &[Choice],
     most: usize,
+    edges: Edges,
 ) -> Result<Found<A>, AllocError>
     ensures answers { IfOk result (λ found. SearchAnswers choices.now (S.first space.old) (S.bad space.old) found) }
     ensures counts { IfOk result (λ found. SearchCounts choices.now (S.first space.old) most found) }
@@ -102,10 +123,12 @@ pub fn search<A: Allocator + Copy, S: Space<A>>(
         (S.first space.old) found) }
     ensures sees { IfOk result (λ found. SearchSees (S.is_key space.new) (S.place space.new) choices.now
         (S.first space.old) found) }
+    ensures leads { IfOk result (λ found. SearchLeads edges (S.place space.new) choices.now found) }
     ensures first { OnOk result (S.first space.new ≡ S.first space.old) }
     ensures bad { OnOk result (S.bad space.new ≡ S.bad space.old) }
 {
     let mut seen = see_first(alloc, space, choices, 1024)?;
+    let mut row = Vec::new(alloc);
     'places: for from in 0..most {
         let count = seen.keys.len();
         if from >= count {
@@ -116,7 +139,8 @@ pub fn search<A: Allocator + Copy, S: Space<A>>(
         if is_bad {
             return Ok(Found::Bad(seen.path_to(alloc, space, choices, from)?));
         }
-        see_next(space, choices, &mut seen, &key, from)?;
+        see_next(space, choices, &mut seen, &key, from, &mut row)?;
+        keep_row(&mut seen.rows, edges, &row)?;
     }
     let found = seen.keys.len();
     if found <= most {

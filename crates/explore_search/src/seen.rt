@@ -3,10 +3,11 @@ ghost use Rattle.std.specs.Prelude.{◌≡◌, ℕ, ◌+◌, ◌<◌, List, Some
 ghost use Rattle.std.specs.List.{All, Contains};
 ghost use Rattle.explore_laws.specs.Places.{Place, place_after, place_reached};
 ghost use Rattle.explore_search.specs.Searched.{AreReached, IsSeen, IsSoon, AreRising, GoesOn};
+ghost use Rattle.explore_search.specs.Edges.{IsNumberOf};
 ghost use Rattle.explore_search.specs.declared.seen.Link.{Link as LinkValue};
 
 use crate::space::Space;
-use explore_table::Table;
+use explore_table::{Rows, Table};
 use machine::Choice;
 use std::alloc::{AllocError, Allocator};
 
@@ -28,17 +29,20 @@ pub struct Seen<A: Allocator> {
     pub keys: Table<A>,
     /// For each key how it was found; the first one's tells nothing.
     pub links: Vec<Link, A>,
+    /// For each key the numbers of the keys of the places that the choices lead to from its place,
+    /// in their order; nothing where these aren't kept.
+    pub rows: Rows<A>,
 }
 
 impl<A: Allocator> Seen<A> {
-    /// Sees the place that one choice leads to from a key's.
+    /// Sees the place that one choice leads to from a key's, and returns the number of its key.
     pub fn see_after<S: Space<A>>(
         &mut self,
         space: &mut S,
         choices: &[Choice],
         key: &[u32],
         link: Link,
-    ) -> Result<(), AllocError>
+    ) -> Result<usize, AllocError>
         requires reached { AreReached (S.is_key space.old) (S.place space.old) (S.first space.old) choices.now
             self.old.keys self.old.links.items }
         requires there { slice_get self.old.keys link.from ≡ Some key.now }
@@ -49,6 +53,9 @@ impl<A: Allocator> Seen<A> {
             self.new.keys self.new.links.items) }
         ensures seen { OnOk result (IsSeen (S.place space.new) self.new.keys
             (place_after (S.place space.old key.now) link.choice)) }
+        ensures number { IfOk result (λ number. IsNumberOf (S.place space.new) self.new.keys number
+            (place_after (S.place space.old key.now) link.choice)) }
+        ensures rows { self.new.rows ≡ self.old.rows }
         ensures soon { OnOk result (IsSoon (S.place space.new) self.new.keys self.new.links.items link.steps
             (place_after (S.place space.old key.now) link.choice)) }
         ensures rising { OnOk result (AreRising self.new.links.items link.from) }
@@ -64,7 +71,7 @@ impl<A: Allocator> Seen<A> {
         if number == self.links.len() {
             self.links.push(link)?;
         }
-        Ok(())
+        Ok(number)
     }
 
     /// The choices that lead to a key's place.

@@ -19,10 +19,15 @@ use Rattle.explore_laws.specs.Covering.{HasTurns, WorldCovers}
 use Rattle.explore_laws.specs.Places.{Place, place_begun, place_reached}
 use Rattle.explore_laws.specs.Settling.{turns_choices}
 use Rattle.explore_laws.specs.WaysOut.{HasWayOut, HaveWaysOut}
+use Rattle.explore_search.specs.Edges.{HaveEdges, SearchLeads}
 use Rattle.explore_search.specs.Marked.{LeadsToStuck}
+use Rattle.explore_search.specs.declared.edges.Edges.{Edges}
+use Rattle.explore_search.specs.declared.searching.Found.{Found}
+use Rattle.explore_search.specs.declared.searching.Found.TheVariants.{Safe}
+use Rattle.explore_search.specs.declared.seen.Seen.{Seen}
 use Rattle.explore_space.specs.Every.{meant_choices, IsListOf, HasExit, HangsFirst, TellsExits}
 use Rattle.explore_space.specs.Failing.{ends_there}
-use Rattle.explore_space.specs.Stuck.{AnswersExit}
+use Rattle.explore_space.specs.Stuck.{AnswersExit, edges_for}
 use Rattle.explore_space.specs.declared.exploring.Answer.TheVariants.{Holds, Hangs}
 use Rattle.explore_space.specs.declared.exploring.Failing.{Failing}
 use Rattle.explore_space.specs.declared.exploring.Held.{Held}
@@ -132,3 +137,13 @@ pub moved_exit : {Z : Type 0} (exit : Exit) {ms ns : List Choice} {p q : Place} 
     → AnswersExit exit ms p found → AnswersExit exit ns q found
 moved_exit {Z} exit {ms} {ns} {p} {q} found m e a =
     subst (λ x. AnswersExit exit ns x found) e (subst (λ xs. AnswersExit exit xs p found) m a)
+
+-- the edges of a search are kept where ways out are asked for
+pub leads_where : {Z : Type 0} (place : List ℕ → Place) (exit : Exit) {edges : Edges} {found : Found Z} {seen : Seen Z}
+    {choices meant : List Choice} → edges ≡ edges_for exit → found ≡ Safe seen → choices ≡ meant
+    → SearchLeads edges place choices found → exit ≡ Must → HaveEdges place meant seen.keys seen.rows
+leads_where {Z} place May {edges} {found} {seen} {choices} {meant} edges_are is same leads must = absurd (let no : May ≡ Must = must in cc)
+leads_where {Z} place Must {edges} {found} {seen} {choices} {meant} edges_are is same leads must =
+    subst (λ ms. HaveEdges place ms seen.keys seen.rows) same
+    (subst (λ f. SearchLeads (edges_for Must) place choices f) is
+    (subst (λ e. SearchLeads e place choices found) edges_are leads))

@@ -5,9 +5,16 @@ use Rattle.outcome.specs.declared.expect.Exit.{Exit}
 use Rattle.outcome.specs.declared.expect.Exit.TheVariants.{May, Must}
 use Rattle.explore_laws.specs.Places.{Place}
 use Rattle.explore_search.specs.Marked.{AnswersStuck}
+use Rattle.explore_search.specs.declared.edges.Edges.{Edges}
+use Rattle.explore_search.specs.declared.edges.Edges.TheVariants.{Kept, NotKept}
 use Rattle.explore_space.specs.Failing.{ends_there}
 
 -- a search for a place without a way out is right, or none was asked for
 abbrev pub AnswersExit : {Z : Type 0} → Exit → List Choice → Place → Option (Vec Choice Z) → Type 0
 AnswersExit May meant first found = found ≡ None
 AnswersExit Must meant first found = AnswersStuck meant first ends_there found
+
+-- edges are kept where ways out are asked for
+abbrev pub edges_for : Exit → Edges
+edges_for May = NotKept
+edges_for Must = Kept

@@ -3,17 +3,19 @@ ghost use Rattle.std.specs.Prelude.{◌≡◌, IfOk, length};
 ghost use Rattle.machine.specs.Start.{started};
 ghost use Rattle.explore_laws.specs.Places.{place_begun};
 ghost use Rattle.explore_laws.specs.Settling.{turns_choices};
+ghost use Rattle.outcome.specs.declared.expect.Exit.TheVariants.{Must};
+ghost use Rattle.explore_search.specs.Edges.{HaveEdges};
 ghost use Rattle.explore_search.specs.Marked.{AreAllSeen};
 ghost use Rattle.explore_space.specs.Places.{IsKey, place_of_key};
 ghost use Rattle.explore_space.specs.Every.{HoldsOfEvery, CountsPlaces, TellsEnds, TellsExits};
-ghost use Rattle.explore_space.specs.Stuck.{AnswersExit};
+ghost use Rattle.explore_space.specs.Stuck.{AnswersExit, edges_for};
 
 use crate::ending::ends_at_keys;
 use crate::expanding::choices_of_turns;
 use crate::explorer::Explorer;
 use crate::meant::{ScRefusals, meant_choices};
 use crate::run_end::Ends;
-use explore_search::{Found, Seen, nearest_stuck, search};
+use explore_search::{Edges, Found, Seen, nearest_stuck, search};
 use image::Image;
 use machine::{Choice, Inputs};
 use object_library::Kind;
@@ -52,21 +54,33 @@ pub enum Answer<A: Allocator> {
     Undecided,
 }
 
+// Whether edges are kept: where ways out are asked for.
+fn edges_for(exit: Exit) -> Edges
+    ensures { result ≡ edges_for exit }
+{
+    match exit {
+        Exit::May => Edges::NotKept,
+        Exit::Must => Edges::Kept,
+    }
+}
+
 // The turns that lead to the nearest place without a way out, if that is asked for and there is one.
 fn stuck_turns<A: Allocator + Copy>(
     alloc: A,
-    explorer: &mut Explorer<A>,
+    explorer: &Explorer<A>,
     meant: &[Choice],
     seen: &Seen<A>,
     exit: Exit,
 ) -> Result<Option<Vec<Choice, A>>, AllocError>
-    requires { AreAllSeen (IsKey explorer.old.image.now (length explorer.old.inputs.now) explorer.old.harts.parts.items
-        explorer.old.shareds.parts.items)
-        (place_of_key explorer.old.image.now (length explorer.old.inputs.now) explorer.old.harts.parts.items
-        explorer.old.shareds.parts.items)
-        (place_begun (started explorer.old.image.now explorer.old.inputs.now)) meant.now seen.now.keys seen.now.links.items }
+    requires seen { AreAllSeen (IsKey explorer.now.image.now (length explorer.now.inputs.now) explorer.now.harts.parts.items
+        explorer.now.shareds.parts.items)
+        (place_of_key explorer.now.image.now (length explorer.now.inputs.now) explorer.now.harts.parts.items
+        explorer.now.shareds.parts.items)
+        (place_begun (started explorer.now.image.now explorer.now.inputs.now)) meant.now seen.now.keys seen.now.links.items }
+    requires edges { exit ≡ Must → HaveEdges (place_of_key explorer.now.image.now (length explorer.now.inputs.now)
+        explorer.now.harts.parts.items explorer.now.shareds.parts.items) meant.now seen.now.keys seen.now.rows }
     ensures { IfOk result (λ found. AnswersExit exit meant.now
-        (place_begun (started explorer.old.image.now explorer.old.inputs.now)) found) }
+        (place_begun (started explorer.now.image.now explorer.now.inputs.now)) found) }
 {
     match exit {
         Exit::May => Ok(None),
@@ -111,7 +125,7 @@ pub fn explore<A: Allocator + Copy>(
 {
     let meant = meant_choices(alloc, refusals, inputs.harts())?;
     let mut explorer = Explorer::new(alloc, image, inputs, rule)?;
-    match search(alloc, &mut explorer, &meant, most)? {
+    match search(alloc, &mut explorer, &meant, most, edges_for(exit))? {
         Found::Safe(seen) => {
             let places = seen.keys.len();
             let ends = ends_at_keys(
@@ -121,7 +135,7 @@ pub fn explore<A: Allocator + Copy>(
                 rule,
                 &seen.keys,
             )?;
-            match stuck_turns(alloc, &mut explorer, &meant, &seen, exit)? {
+            match stuck_turns(alloc, &explorer, &meant, &seen, exit)? {
                 None => Ok(Answer::Holds(Held { places, ends })),
                 Some(turns) => Ok(Answer::Hangs(choices_and_turns(alloc, image, inputs, &turns)?)),
             }

@@ -12,7 +12,7 @@ returns-in_ok-print_runs-in-Fails-clause-told g c =
     c.in_ok-held.ensures.holds)
     (subst (λ a. TellsExits c.args.question.exit c.args.question.refusals c.args.image.now c.args.inputs.now a) c.in-Fails.is
     c.in_ok-held.ensures.exits)
-    (c.in_ok-print_runs-in-Fails.ensures.text ∙ ap runs_text c.deref.ensures.value) c.failing_status.ensures refl refl
+    (c.in_ok-print_runs-in-Fails.ensures.text ∙ ap runs_text c.deref.ensures.value) c.failing_status.ensures refl
 
 pub returns-in_ok-print_runs-in-Hangs-clause-told : goal.returns-in_ok-print_runs-in-Hangs-clause-told
 returns-in_ok-print_runs-in-Hangs-clause-told g c =
@@ -22,4 +22,4 @@ returns-in_ok-print_runs-in-Hangs-clause-told g c =
     c.in_ok-held.ensures.holds)
     (subst (λ a. TellsExits c.args.question.exit c.args.question.refusals c.args.image.now c.args.inputs.now a) c.in-Hangs.is
     c.in_ok-held.ensures.exits)
-    (c.in_ok-print_runs-in-Hangs.ensures.text ∙ ap runs_text c.deref-in-Hangs.ensures.value) refl refl refl
+    (c.in_ok-print_runs-in-Hangs.ensures.text ∙ ap runs_text c.deref-in-Hangs.ensures.value) refl refl

@@ -1,9 +1,12 @@
-use Rattle.std.proofs.Common.{◌≡◌, ◌∙◌, true, arith, subst, sym, ap}
+use Rattle.std.proofs.Common.{◌≡◌, ◌∙◌, ◌+◌, true, arith, subst, sym, ap}
+use Rattle.std.proofs.lemmas.Option.{slice_get_within}
 use Rattle.explore_laws.specs.Places.{place_reached}
+use Rattle.explore_search.specs.Rows.{CountsRows, KeepsRow}
 use Rattle.explore_search.specs.Searched.{AreReached, AreDone}
 use Rattle.explore_search.proofs.SearchLemmas.{closed_is_safe, closed_is_all, closed_is_counted, more_are_counted}
 use Rattle.explore_table.proofs.ListLemmas.{get_there}
 use Rattle.explore_search.proofs.NearLemmas.{closed_is_seen, none_shorter}
+use Rattle.explore_search.proofs.EdgeLemmas.{closed_leads, counts_few, counts_kept, counts_none, edges_kept, edges_none}
 use Rattle.explore_search.proofs.searching.search.Goals as goal
 
 pub returns-then-from-count-clause-answers : goal.returns-then-from-count-clause-answers
@@ -90,3 +93,44 @@ returns-then-found-most-clause-sees g c =
     let over = c.places-test.false in
     closed_is_seen c.places.invariant.reached c.places.invariant.done c.places.invariant.rising c.places.invariant.soon c.places.invariant.first
     (omega (arith, few, count, over))
+
+pub returns-then-from-count-clause-leads : goal.returns-then-from-count-clause-leads
+returns-then-from-count-clause-leads g c =
+    let all = c.if-from-count.true in
+    let count = c.len-count.ensures in
+    closed_leads c.args.edges (g.S.Space.place c.places.space) c.args.choices.now c.places.seen c.places.from c.places.invariant.count
+    c.places.invariant.within (omega (arith, all, count)) c.places.invariant.edges
+
+pub returns-then-found-most-clause-leads : goal.returns-then-found-most-clause-leads
+returns-then-found-most-clause-leads g c =
+    let few = c.if-found-most.true in
+    let count = c.len-found.ensures in
+    let over = c.places-test.false in
+    closed_leads c.args.edges (g.S.Space.place c.places.space) c.args.choices.now c.places.seen c.places.from c.places.invariant.count
+    c.places.invariant.within (omega (arith, few, count, over)) c.places.invariant.edges
+
+pub see_next-requires-clause-few : goal.see_next-requires-clause-few
+see_next-requires-clause-few g c = counts_few c.args.edges c.places.from c.places.seen.rows c.places.invariant.count
+
+pub places-preserved : goal.places-preserved
+places-preserved g c =
+    let place = g.S.Space.place c.see_next.new.space in
+    let keys = c.see_next.new.seen.keys in
+    let choices = c.args.choices.now in
+    let rows = c.see_next.new.seen.rows in
+    let count = subst (CountsRows c.args.edges c.places.from) (sym c.in_ok-see_next.ensures.rows) c.places.invariant.count in
+    let kept = subst (λ r. KeepsRow c.args.edges r rows c.keep_row.new.rows) c.deref-in-places-2.ensures.value c.in_ok-keep_row.ensures in
+    record {
+      reached = subst (λ first. AreReached (g.S.Space.is_key c.see_next.new.space) place first choices keys
+          c.see_next.new.seen.links.items) (sym c.in_ok-see_next.ensures.first) c.in_ok-see_next.ensures.reached;
+      done = subst (λ bad. AreDone place bad choices keys (c.places.from + 1)) (sym c.in_ok-see_next.ensures.bad)
+          c.in_ok-see_next.ensures.done;
+      rising = c.in_ok-see_next.ensures.rising;
+      soon = c.in_ok-see_next.ensures.soon;
+      first = c.in_ok-see_next.ensures.first ∙ c.places.invariant.first;
+      bad = c.in_ok-see_next.ensures.bad ∙ c.places.invariant.bad;
+      within = (let w = slice_get_within keys c.places.from _ c.in_ok-see_next.ensures.stays in omega (arith, w));
+      edges = edges_kept place choices keys rows c.keep_row.new.rows c.places.from c.deref-in-places.result.now c.see_next.new.row.items
+          c.args.edges count c.in_ok-see_next.ensures.stays c.in_ok-see_next.ensures.row c.in_ok-see_next.ensures.edges kept;
+      count = counts_kept c.args.edges c.places.from rows c.keep_row.new.rows c.see_next.new.row.items count kept;
+    }

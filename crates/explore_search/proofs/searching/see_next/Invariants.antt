@@ -1,8 +1,9 @@
-use Rattle.std.proofs.Common.{◌≡◌, ℕ, ◌+◌, ◌<◌, Some}
+use Rattle.std.proofs.Common.{◌≡◌, ℕ, ◌+◌, ◌<◌, Some, length}
 use Rattle.std.specs.List.{slice_get}
 use Rattle.machine.specs.declared.choice.Choice.{Choice}
 use Rattle.explore_laws.specs.Places.{place_after}
 use Rattle.explore_search.specs.Searched.{AreReached, AreDone, IsSeen, IsSoon, AreRising, AreSoon}
+use Rattle.explore_search.specs.Edges.{AreEdges, Lead}
 use Rattle.explore_search.specs.declared.seen.Link.{Link}
 use Rattle.explore_search.proofs.searching.see_next.Given as goal
 
@@ -23,4 +24,8 @@ invariant-choices g l = record {
       → IsSoon (g.S.Space.place l.space) l.seen.keys l.seen.links.items l.steps (place_after (g.S.Space.place l.space l.key) c);
   first : g.S.Space.first l.space ≡ g.S.Space.first l.fn.space;
   bad : g.S.Space.bad l.space ≡ g.S.Space.bad l.fn.space;
+  edges : AreEdges (g.S.Space.place l.space) l.choices l.seen.keys l.seen.rows;
+  rows : l.seen.rows ≡ l.fn.seen.rows;
+  count : length l.row.items ≡ l.choice-index;
+  lead : Lead (g.S.Space.place l.space) l.choices l.seen.keys (g.S.Space.place l.space l.key) l.row.items;
 }

@@ -13,7 +13,7 @@ use Rattle.explore_space.specs.Failing.{fails_there}
 use Rattle.explore_space.specs.Places.{IsKey, place_of_key}
 use Rattle.explore_space.proofs.EveryEnds.{all_fit, ends_are_all}
 use Rattle.explore_space.proofs.EveryLemmas.{safe_is_safe, bad_is_bad, moved}
-use Rattle.explore_space.proofs.ExitLemmas.{hanging_exits, held_exits, moved_exit}
+use Rattle.explore_space.proofs.ExitLemmas.{hanging_exits, held_exits, leads_where, moved_exit}
 use Rattle.explore_space.proofs.exploring.explore.Goals as goal
 
 pub ends_at_keys-requires-clause-fit : goal.ends_at_keys-requires-clause-fit
@@ -28,8 +28,16 @@ ends_at_keys-requires-clause-fit g c =
     c.in_ok-explorer.ensures.inputs c.in_ok-explorer.ensures.rule c.in-Safe.is c.in_ok-seen.ensures.reaches) in
     rw c.words.ensures.same (rw c.known_harts.ensures fit)
 
-pub stuck_turns-requires : goal.stuck_turns-requires
-stuck_turns-requires g c =
+pub stuck_turns-requires-clause-edges : goal.stuck_turns-requires-clause-edges
+stuck_turns-requires-clause-edges g c =
+    let space = c.search.new.space in
+    let n = length space.inputs.now in
+    let place = place_of_key space.image.now n space.harts.parts.items space.shareds.parts.items in
+    leads_where place c.args.exit c.edges_for.ensures c.in-Safe.is (c.deref.ensures.value ∙ sym c.deref-in-Safe.ensures.value)
+    c.in_ok-seen.ensures.leads
+
+pub stuck_turns-requires-clause-seen : goal.stuck_turns-requires-clause-seen
+stuck_turns-requires-clause-seen g c =
     let space = c.search.new.space in
     let n = length space.inputs.now in
     let keys = IsKey space.image.now n space.harts.parts.items space.shareds.parts.items in

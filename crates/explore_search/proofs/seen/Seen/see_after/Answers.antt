@@ -1,5 +1,6 @@
 use Rattle.std.proofs.Common.{◌∙◌, arith, sym}
 use Rattle.std.proofs.lemmas.Option.{slice_get_within}
+use Rattle.explore_search.proofs.EdgeLemmas.{at_added}
 use Rattle.explore_search.proofs.NearLemmas.{soon_new, soon_known, rising_after}
 use Rattle.explore_search.proofs.SearchLemmas.{see_new, see_known, see_it}
 use Rattle.explore_search.proofs.seen.Seen.see_after.Goals as goal
@@ -43,3 +44,13 @@ returns-else-number-len-clause-soon g c =
     c.args.link c.in_ok-number.number _ c.requires.reached.even c.in_ok-number.ensures.number
     (λ e. c.if-number-len.false (e ∙ sym (c.len.ensures ∙ c.args.self.now.links.ok.0))) c.requires.rising
     (slice_get_within c.args.self.now.keys c.args.link.from c.args.key.now c.requires.there) c.requires.step c.in_ok-next.ensures.key.1
+
+pub returns-in_ok-push-clause-number : goal.returns-in_ok-push-clause-number
+returns-in_ok-push-clause-number g c =
+    at_added (g.S.Space.place c.key_after.new.self) c.args.self.now.keys c.add.new.self c.in_ok-next.next.items
+    c.in_ok-number.number _ c.in_ok-number.ensures.number c.in_ok-next.ensures.key.1
+
+pub returns-else-number-len-clause-number : goal.returns-else-number-len-clause-number
+returns-else-number-len-clause-number g c =
+    at_added (g.S.Space.place c.key_after.new.self) c.args.self.now.keys c.add.new.self c.in_ok-next.next.items
+    c.in_ok-number.number _ c.in_ok-number.ensures.number c.in_ok-next.ensures.key.1
