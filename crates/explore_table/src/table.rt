@@ -5,27 +5,33 @@ ghost use Rattle.std.specs.List.{Contains};
 use crate::finding::find_linked;
 use crate::hash::bucket_of;
 use crate::linking::link_all;
-use crate::row::Row;
+use crate::rows::Rows;
 use std::alloc::{AllocError, Allocator};
 use std::marker::Model;
 
 /// Keys in the order in which they came, each kept once. A key is found by its bucket and then by
-/// its words, so no answer rests on where a key is put.
+/// its words, so no answer rests on where a key is put. In use are 4 bytes for each word of a key,
+/// 8 for each key and 4 for each bucket. There are fewer than 2^32 keys, and all together have fewer
+/// than 2^32 words; one more is answered as want of memory.
 #[derive(Drop)]
 pub struct Table<A: Allocator> {
-    rows: Vec<Row<A>, A>,
-    heads: Vec<usize, A>,
+    rows: Rows<A>,
+    // For each key one more than the number of the last key before it in its bucket, or 0 where
+    // there is none.
+    befores: Vec<u32, A>,
+    // For each bucket the same of its last key.
+    heads: Vec<u32, A>,
 }
 
 impl<A: Allocator> Model for Table<A> {
     ghost use Rattle.std.specs.Prelude.{ℕ, List};
-    ghost use Rattle.explore_table.specs.Links.{keys_of, IsLinked};
+    ghost use Rattle.explore_table.specs.Links.{IsLinked};
 
     ghost Value = { List (List ℕ) };
 
-    ghost view = { λ t. keys_of t.rows.items };
+    ghost view = { λ t. t.rows };
 
-    ghost invariant = { λ t. IsLinked t.rows.items t.heads.items };
+    ghost invariant = { λ t. IsLinked t.rows t.befores.items t.heads.items };
 }
 
 impl<A: Allocator> Table<A> {
@@ -39,7 +45,8 @@ impl<A: Allocator> Table<A> {
         let mut heads = Vec::with_capacity(alloc, buckets)?;
         heads.resize(buckets, 0)?;
         Ok(Table {
-            rows: Vec::new(alloc),
+            rows: Rows::new(alloc),
+            befores: Vec::new(alloc),
             heads,
         })
     }
@@ -58,7 +65,7 @@ impl<A: Allocator> Table<A> {
         ensures { slice_get self.now number ≡ Some result.now }
     {
         let _ = &self.heads;
-        &self.rows[number].words
+        self.rows.row(number)
     }
 
     /// The number of a key, if it is kept.
@@ -66,7 +73,7 @@ impl<A: Allocator> Table<A> {
         ensures found { IfSome result (λ number. slice_get self.now number ≡ Some key.now) }
         ensures absent { IfNone result (Contains self.now key.now → ⊥) }
     {
-        find_linked(&self.rows, &self.heads, key)
+        find_linked(&self.rows, &self.befores, &self.heads, key)
     }
 
     // Doubles the number of buckets where there are as many keys, so that few share one. A refusal
@@ -80,7 +87,7 @@ impl<A: Allocator> Table<A> {
         let buckets = self.heads.len().saturating_mul(2);
         self.heads.resize(buckets, 0)?;
         self.heads.fill(0);
-        link_all(&mut self.rows, &mut self.heads);
+        link_all(&self.rows, &mut self.befores, &mut self.heads);
         Ok(())
     }
 
@@ -97,11 +104,18 @@ impl<A: Allocator> Table<A> {
         }
         self.make_room()?;
         let number = self.rows.len();
+        if number >= 0xffff_ffff {
+            return Err(AllocError);
+        }
         let buckets = self.heads.len();
         let bucket = bucket_of(&key, buckets);
         let before = self.heads[bucket];
-        self.rows.push(Row { words: key, before })?;
-        self.heads[bucket] = number + 1;
+        self.befores.push(before)?;
+        if self.rows.push(&key).is_err() {
+            self.befores.pop();
+            return Err(AllocError);
+        }
+        self.heads[bucket] = (number + 1) as u32;
         Ok(number)
     }
 }
