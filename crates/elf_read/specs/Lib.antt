@@ -7,3 +7,4 @@ pub mod Name
 pub mod Section
 pub mod Symbol
 pub mod SymbolTable
+pub mod Label

@@ -2,6 +2,7 @@
 #![tactic(auto)]
 
 pub use file::{a_segments_bytes_are_the_files, load};
+pub use label::{is_mapping, nearest_label};
 pub use laws::numbers_are_the_standards;
 pub use symbol::{SymFault, Symbol};
 pub use symbol_table::symbols;
@@ -9,6 +10,7 @@ pub use symbol_table::symbols;
 pub mod elf;
 mod file;
 mod header;
+mod label;
 mod laws;
 mod name;
 mod number;

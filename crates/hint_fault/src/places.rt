@@ -1,40 +1,13 @@
 //! Places in a program: by the label before them, and by their segment.
 
-ghost use Rattle.std.specs.Prelude.{◌≡◌, None, option_map};
-ghost use Rattle.hint_fault.specs.Places.{is_nearer, label_before, segment_with};
+ghost use Rattle.std.specs.Prelude.{◌≡◌, option_map};
+ghost use Rattle.hint_fault.specs.Places.{segment_with};
 
-use elf_read::Symbol;
+use elf_read::{Symbol, nearest_label};
 use image::{Rights, Segment};
 use isa_disasm::Line;
 use isa_names::Word;
 use std::alloc::{AllocError, Allocator};
-
-// Whether a symbol is at or below an address, and above the nearest one so far.
-fn is_nearer<A: Allocator>(best: Option<&Symbol<A>>, symbol: &Symbol<A>, address: u32) -> bool
-    ensures { result ≡ is_nearer (option_map (λ s. s.now) best.entry) symbol.now address }
-{
-    if symbol.address > address {
-        return false;
-    }
-    match best {
-        None => true,
-        Some(best) => best.address < symbol.address,
-    }
-}
-
-/// The symbol with the greatest address that is at most a given one, the first of several; `None`
-/// if each is above.
-pub fn label_before<A: Allocator>(symbols: &[Symbol<A>], address: u32) -> Option<&Symbol<A>>
-    ensures { option_map (λ s. s.now) result ≡ label_before None symbols.now address }
-{
-    let mut best = None;
-    'symbols: for symbol in symbols {
-        if is_nearer(best, symbol, address) {
-            best = Some(symbol);
-        }
-    }
-    best
-}
 
 /// The segment that has an address.
 pub fn segment_at<A: Allocator>(segments: &[Segment<A>], address: u32) -> Option<&Segment<A>>
@@ -55,7 +28,7 @@ fn push_place<A: Allocator>(
     symbols: &[Symbol<A>],
     address: u32,
 ) -> Result<(), AllocError> {
-    let Some(symbol) = label_before(symbols, address) else {
+    let Some(symbol) = nearest_label(symbols, address) else {
         let shown = Word(address);
         return write!(text, "{shown}");
     };

@@ -2,7 +2,7 @@
 
 use crate::harts::{EndsTold, harts_advice};
 use crate::rules::{Judged, push_broken};
-use elf_read::{Symbol, symbols};
+use elf_read::{Symbol, is_mapping, symbols};
 use hart_step::HartState;
 use image::Image;
 use machine::{Inputs, Machine};
@@ -11,12 +11,6 @@ use object_library::Kind;
 use program_open::{ProgramForm, read_program};
 use sched_run::{Chosen, run_choices};
 use std::alloc::{AllocError, Allocator};
-
-// Whether a name is that of a mapping symbol, which marks where code or data begins and is no label
-// (RISC-V ELF psABI, "Mapping Symbol").
-fn is_mapping(name: &str) -> bool {
-    name.starts_with("$x") || name.starts_with("$d")
-}
 
 /// The symbols of a file but for mapping symbols; none if it has no valid table, or out of memory.
 pub fn symbols_or_none<A: Allocator + Copy>(alloc: A, file: &[u8]) -> Vec<Symbol<A>, A> {
