@@ -15,41 +15,41 @@ use Rattle.trace_steps.specs.declared.told.Told.{Told}
 use Rattle.trace_text.specs.Head.{then_of}
 use Rattle.trace_text.specs.declared.head.HartThen.{HartThen}
 use Rattle.cmd_trace.specs.Trace.{choice_entry, entries, harts_from}
-use Rattle.cmd_trace.specs.declared.plan.TraceForm.{TraceForm}
+use Rattle.cmd_trace.specs.Page.{PageValue}
 
-entries_nothing : (form : TraceForm) (harts k : ℕ) (w : World) → entries form harts k (tells w []) ≡ []
+entries_nothing : (page : PageValue) (k : ℕ) (w : World) → entries page k (tells w []) ≡ []
 unfolding entries tells
-entries_nothing form harts k w = refl
+entries_nothing page k w = refl
 
-entries_one : (form : TraceForm) (harts k : ℕ) (w : World) (c : Choice) (more : List Choice)
-    → entries form harts k (tells w (c ∷ more)) ≡ choice_entry form harts (told_choice w c) k ++ entries form harts (k + 1) (tells (step w c) more)
+entries_one : (page : PageValue) (k : ℕ) (w : World) (c : Choice) (more : List Choice)
+    → entries page k (tells w (c ∷ more)) ≡ choice_entry page (told_choice w c) k ++ entries page (k + 1) (tells (step w c) more)
 unfolding entries tells
-entries_one form harts k w c more = refl
+entries_one page k w c more = refl
 
 -- one more choice is traced
-pub entries_more : (form : TraceForm) (harts from i n : ℕ) (now new : World) (left more : List Choice) (c : Choice) (t : Told) → i < n
+pub entries_more : (page : PageValue) (from i n : ℕ) (now new : World) (left more : List Choice) (c : Choice) (t : Told) → i < n
     → left ≡ c ∷ more → t ≡ told_choice now c → new ≡ step now c
-    → entries form harts (from + i) (tells now (take (n - i) left))
-    ≡ choice_entry form harts t (from + i) ++ entries form harts (from + (i + 1)) (tells new (take (n - (i + 1)) more))
-entries_more form harts from i n now new left more c t below is tells_it stepping =
+    → entries page (from + i) (tells now (take (n - i) left))
+    ≡ choice_entry page t (from + i) ++ entries page (from + (i + 1)) (tells new (take (n - (i + 1)) more))
+entries_more page from i n now new left more c t below is tells_it stepping =
     let rest : n - i ≡ suc (n - (i + 1)) = omega (arith, below) in
     let place : from + i + 1 ≡ from + (i + 1) = omega arith in
-    ap₂ (λ (m : ℕ) (l : List Choice). entries form harts (from + i) (tells now (take m l))) rest is
-    ∙ entries_one form harts (from + i) now c (take (n - (i + 1)) more)
-    ∙ ap₂ (λ (u : Told) (k : ℕ). choice_entry form harts u (from + i) ++ entries form harts k (tells (step now c) (take (n - (i + 1)) more))) (sym tells_it) place
-    ∙ ap (λ (w : World). choice_entry form harts t (from + i) ++ entries form harts (from + (i + 1)) (tells w (take (n - (i + 1)) more))) (sym stepping)
+    ap₂ (λ (m : ℕ) (l : List Choice). entries page (from + i) (tells now (take m l))) rest is
+    ∙ entries_one page (from + i) now c (take (n - (i + 1)) more)
+    ∙ ap₂ (λ (u : Told) (k : ℕ). choice_entry page u (from + i) ++ entries page k (tells (step now c) (take (n - (i + 1)) more))) (sym tells_it) place
+    ∙ ap (λ (w : World). choice_entry page t (from + i) ++ entries page (from + (i + 1)) (tells w (take (n - (i + 1)) more))) (sym stepping)
 
 -- no choice is left
-pub entries_none : (form : TraceForm) (harts k m : ℕ) (w : World) (left : List Choice) → left ≡ [] → entries form harts k (tells w (take m left)) ≡ []
-entries_none form harts k m w left none =
-    ap (λ (l : List Choice). entries form harts k (tells w (take m l))) none
-    ∙ ap (λ (l : List Choice). entries form harts k (tells w l)) (take_all m [] (omega arith)) ∙ entries_nothing form harts k w
+pub entries_none : (page : PageValue) (k m : ℕ) (w : World) (left : List Choice) → left ≡ [] → entries page k (tells w (take m left)) ≡ []
+entries_none page k m w left none =
+    ap (λ (l : List Choice). entries page k (tells w (take m l))) none
+    ∙ ap (λ (l : List Choice). entries page k (tells w l)) (take_all m [] (omega arith)) ∙ entries_nothing page k w
 
 -- all choices that are to be traced were traced
-pub entries_end : (form : TraceForm) (harts k i n : ℕ) (w : World) (left : List Choice) → n ≤ i → entries form harts k (tells w (take (n - i) left)) ≡ []
-entries_end form harts k i n w left past =
+pub entries_end : (page : PageValue) (k i n : ℕ) (w : World) (left : List Choice) → n ≤ i → entries page k (tells w (take (n - i) left)) ≡ []
+entries_end page k i n w left past =
     let none : n - i ≡ 0 = omega (arith, past) in
-    ap (λ (m : ℕ). entries form harts k (tells w (take m left))) none ∙ entries_nothing form harts k w
+    ap (λ (m : ℕ). entries page k (tells w (take m left))) none ∙ entries_nothing page k w
 
 -- ---- harts, each with the word that it has reserved
 pub hart_more : (r : Marks) (i : ℕ) (harts : List HartValue) (all : List (HartValue × Option ℕ)) (old new : List HartThen) (t : HartThen) (h : HartValue)

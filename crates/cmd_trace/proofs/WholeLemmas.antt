@@ -9,7 +9,9 @@ use Rattle.machine.specs.declared.choice.Choice.{Choice}
 use Rattle.trace_text.specs.declared.head.Span.{Span}
 use Rattle.program_open.specs.Answers.{Begins}
 use Rattle.cmd_trace.specs.Output.{SoFar}
-use Rattle.cmd_trace.specs.Trace.{trace_head, traced_span, told_entries, trace_text}
+use Rattle.cmd_trace.specs.Page.{PageValue}
+use Rattle.cmd_trace.specs.declared.plan.TraceForm.{TraceForm}
+use Rattle.cmd_trace.specs.Trace.{page_of, trace_head, traced_span, told_entries, trace_text}
 use Rattle.cmd_trace.specs.declared.plan.TracePlan.{TracePlan}
 use Rattle.cmd_trace.proofs.OutputLemmas.{begun_with}
 
@@ -17,7 +19,7 @@ trace_of : (plan : TracePlan) (image : ImageValue) (symbols : List SymbolValue) 
     → let span = traced_span plan (length choices) in
     let before = run (started image inputs) (take (span.from - 1) choices) in
     trace_text plan image symbols inputs choices
-    ≡ trace_head plan.form image.entry inputs span symbols before ++ told_entries plan.form (length inputs) span before (drop (span.from - 1) choices)
+    ≡ trace_head plan.form image.entry inputs span symbols before ++ told_entries (page_of plan symbols inputs) span before (drop (span.from - 1) choices)
 unfolding trace_text
 trace_of plan image symbols inputs choices = refl
 
@@ -27,17 +29,22 @@ pub head_waits : (plan : TracePlan) (image : ImageValue) (symbols : List SymbolV
     → start_world ≡ started image inputs → w ≡ run start_world (take (span.from - 1) choices)
     → buffer ≡ trace_head plan.form image.entry inputs span symbols w
     → SoFar (trace_text plan image symbols inputs choices) start start buffer
-    (told_entries plan.form (length inputs) span w (drop (span.from - 1) choices))
+    (told_entries (page_of plan symbols inputs) span w (drop (span.from - 1) choices))
 head_waits plan image symbols inputs choices count span start_world w buffer start is counted begins reached head =
-    begun_with (trace_text plan image symbols inputs choices) buffer (told_entries plan.form (length inputs) span w (drop (span.from - 1) choices)) start
-    (sym (ap (λ (l : List ℕ). l ++ told_entries plan.form (length inputs) span w (drop (span.from - 1) choices)) head
-    ∙ ap (λ (v : World). trace_head plan.form image.entry inputs span symbols v ++ told_entries plan.form (length inputs) span v (drop (span.from - 1) choices))
+    begun_with (trace_text plan image symbols inputs choices) buffer (told_entries (page_of plan symbols inputs) span w (drop (span.from - 1) choices)) start
+    (sym (ap (λ (l : List ℕ). l ++ told_entries (page_of plan symbols inputs) span w (drop (span.from - 1) choices)) head
+    ∙ ap (λ (v : World). trace_head plan.form image.entry inputs span symbols v ++ told_entries (page_of plan symbols inputs) span v (drop (span.from - 1) choices))
     (reached ∙ ap (λ (v : World). run v (take (span.from - 1) choices)) begins)
     ∙ ap (λ (s : Span). let before = run (started image inputs) (take (s.from - 1) choices) in
-    trace_head plan.form image.entry inputs s symbols before ++ told_entries plan.form (length inputs) s before (drop (s.from - 1) choices))
+    trace_head plan.form image.entry inputs s symbols before ++ told_entries (page_of plan symbols inputs) s before (drop (s.from - 1) choices))
     (is ∙ ap (traced_span plan) counted)
     ∙ sym (trace_of plan image symbols inputs choices)))
 
 -- nothing was written
 pub begins_nothing : (all : List ℕ) (start : Option (List ℕ)) → Begins all start start
 begins_nothing all start = (0, Appends-nil start)
+
+-- a page with the same number of harts and the same symbols
+pub page_is : (form : TraceForm) (harts n : ℕ) (symbols seen : List SymbolValue) → n ≡ harts → seen ≡ symbols
+    → ◌≡◌ {A = PageValue} (record { form = form; harts = harts; symbols = symbols }) (record { form = form; harts = n; symbols = seen })
+page_is form harts n symbols seen e f = rw (e, f) refl

@@ -13,6 +13,7 @@ use Rattle.trace_text.specs.Table.{head_rows, table_row}
 use Rattle.trace_text.specs.Head.{head_line}
 use Rattle.trace_text.specs.Line.{line_of}
 use Rattle.trace_text.specs.declared.head.Span.{Span}
+use Rattle.cmd_trace.specs.Page.{PageValue}
 use Rattle.cmd_trace.specs.declared.plan.TraceForm.{TraceForm}
 use Rattle.cmd_trace.specs.declared.plan.TraceForm.TheVariants as form
 use Rattle.cmd_trace.specs.declared.plan.TracePlan.{TracePlan}
@@ -44,19 +45,27 @@ abbrev pub trace_head : TraceForm → ℕ → List ℕ → Span → List SymbolV
 trace_head form.Lines entry inputs span symbols w = head_line entry inputs span symbols (harts_from w.reserved 0 w.harts)
 trace_head form.Table entry inputs span symbols w = head_rows (length inputs)
 
--- the text of choice k, given the number of harts
-abbrev pub choice_entry : TraceForm → ℕ → Told → ℕ → List ℕ
-choice_entry form.Lines harts told k = line_of told k
-choice_entry form.Table harts told k = table_row told k harts
+-- the text of choice k in a form
+abbrev pub entry_in : TraceForm → PageValue → Told → ℕ → List ℕ
+entry_in form.Lines page told k = line_of told k
+entry_in form.Table page told k = table_row page.symbols told k page.harts
+
+-- the text of choice k
+abbrev pub choice_entry : PageValue → Told → ℕ → List ℕ
+choice_entry page told k = entry_in page.form page told k
 
 -- the texts of choices that are numbered from k on
-unfoldable pub entries : TraceForm → ℕ → ℕ → List Told → List ℕ
-entries form harts k [] = []
-entries form harts k (told ∷ more) = choice_entry form harts told k ++ entries form harts (k + 1) more
+unfoldable pub entries : PageValue → ℕ → List Told → List ℕ
+entries page k [] = []
+entries page k (told ∷ more) = choice_entry page told k ++ entries page (k + 1) more
 
 -- the texts of the traced choices, which are the first of some choices
-abbrev pub told_entries : TraceForm → ℕ → Span → World → List Choice → List ℕ
-told_entries form harts span w choices = entries form harts span.from (tells w (take (told_count span) choices))
+abbrev pub told_entries : PageValue → Span → World → List Choice → List ℕ
+told_entries page span w choices = entries page span.from (tells w (take (told_count span) choices))
+
+-- how the traced choices of a run are written
+abbrev pub page_of : TracePlan → List SymbolValue → List ℕ → PageValue
+page_of plan symbols inputs = record { form = plan.form; harts = length inputs; symbols = symbols }
 
 -- the trace of a run of an image
 unfoldable pub trace_text : TracePlan → ImageValue → List SymbolValue → List ℕ → List Choice → List ℕ
@@ -64,4 +73,4 @@ trace_text plan image symbols inputs choices =
     let span = traced_span plan (length choices) in
     let before = run (started image inputs) (take (span.from - 1) choices) in
     trace_head plan.form image.entry inputs span symbols before
-    ++ told_entries plan.form (length inputs) span before (drop (span.from - 1) choices)
+    ++ told_entries (page_of plan symbols inputs) span before (drop (span.from - 1) choices)

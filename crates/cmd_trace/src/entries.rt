@@ -9,7 +9,8 @@ ghost use Rattle.cmd_trace.specs.Output.{SoFar};
 ghost use Rattle.cmd_trace.specs.Trace.{told_entries};
 
 use crate::output::write_entry;
-use crate::plan::{TraceForm, told_count};
+use crate::page::Page;
+use crate::plan::told_count;
 use crate::teller::Teller;
 use byte_io::Sink;
 use program_open::CommandFault;
@@ -20,8 +21,7 @@ use trace_text::Span;
 /// teller.
 pub(crate) fn write_entries<A: Allocator + Copy, K: Sink>(
     alloc: A,
-    form: TraceForm,
-    harts: u32,
+    page: &Page<'_, A>,
     span: Span,
     teller: &mut Teller<'_, A>,
     buffer: &mut Vec<u8, A>,
@@ -32,12 +32,12 @@ pub(crate) fn write_entries<A: Allocator + Copy, K: Sink>(
     requires sink_counts { K.failures sink.old < 2 ^ 64 - 1 }
     ensures taken { IfOk result (λ _. (left : List Choice) (all : List ℕ) (start : Option (List ℕ))
         → Has teller.old.cursor left → SoFar all start (K.held sink.old) buffer.old.items
-        (told_entries form harts span (state teller.old.machine) left)
+        (told_entries page.now span (state teller.old.machine) left)
         → SoFar all start (K.held sink.new) buffer.new.items []) }
     ensures count { IfOk result (λ _. K.failures sink.new ≡ K.failures sink.old) }
     ensures begun { IfErr result (λ _. (left : List Choice) (all : List ℕ) (start : Option (List ℕ))
         → Has teller.old.cursor left → SoFar all start (K.held sink.old) buffer.old.items
-        (told_entries form harts span (state teller.old.machine) left)
+        (told_entries page.now span (state teller.old.machine) left)
         → Begins all start (K.held sink.new)) }
     ensures fault { IfErr result (λ fault. IfHalts fault (K.failures sink.old < K.failures sink.new)) }
 {
@@ -45,7 +45,7 @@ pub(crate) fn write_entries<A: Allocator + Copy, K: Sink>(
         let Some(told) = teller.next() else {
             return Ok(());
         };
-        match write_entry(alloc, form, harts, &told, span.from + i, buffer, sink) {
+        match write_entry(alloc, page, &told, span.from + i, buffer, sink) {
             Ok(()) => {}
             Err(fault) => return Err(fault),
         }

@@ -9,6 +9,7 @@ mod cursor;
 mod entries;
 mod opening;
 mod output;
+mod page;
 mod plan;
 mod teller;
 mod trace;

@@ -5,6 +5,7 @@ ghost use Rattle.program_open.specs.CommandFaults.{IfHalts};
 ghost use Rattle.cmd_trace.specs.Output.{SoFar};
 ghost use Rattle.cmd_trace.specs.Trace.{choice_entry};
 
+use crate::page::Page;
 use crate::plan::TraceForm;
 use byte_io::{Sink, write_all};
 use program_open::CommandFault;
@@ -19,16 +20,15 @@ const PIECE: usize = 0x1_0000;
 fn push_entry<A: Allocator + Copy>(
     alloc: A,
     buffer: &mut Vec<u8, A>,
-    form: TraceForm,
-    harts: u32,
+    page: &Page<'_, A>,
     told: &Told,
     k: u64,
 ) -> Result<(), AllocError>
-    ensures { OnOk result (buffer.new.items ≡ buffer.old.items ++ choice_entry form harts told.now k) }
+    ensures { OnOk result (buffer.new.items ≡ buffer.old.items ++ choice_entry page.now told.now k) }
 {
-    match form {
+    match page.form {
         TraceForm::Lines => push_line(alloc, buffer, told, k),
-        TraceForm::Table => push_row(alloc, buffer, told, k, harts),
+        TraceForm::Table => push_row(alloc, buffer, page.symbols, told, k, page.harts),
     }
 }
 
@@ -59,8 +59,7 @@ pub(crate) fn flush<A: Allocator, K: Sink>(
 /// Appends the text of choice `k` to the buffer, and writes the buffer once it is a piece.
 pub(crate) fn write_entry<A: Allocator + Copy, K: Sink>(
     alloc: A,
-    form: TraceForm,
-    harts: u32,
+    page: &Page<'_, A>,
     told: &Told,
     k: u64,
     buffer: &mut Vec<u8, A>,
@@ -68,15 +67,15 @@ pub(crate) fn write_entry<A: Allocator + Copy, K: Sink>(
 ) -> Result<(), CommandFault>
     requires { K.failures sink.old < 2 ^ 64 - 1 }
     ensures taken { IfOk result (λ _. (all : List ℕ) (start : Option (List ℕ)) (rest : List ℕ)
-        → SoFar all start (K.held sink.old) buffer.old.items (choice_entry form harts told.now k ++ rest)
+        → SoFar all start (K.held sink.old) buffer.old.items (choice_entry page.now told.now k ++ rest)
         → SoFar all start (K.held sink.new) buffer.new.items rest) }
     ensures count { IfOk result (λ _. K.failures sink.new ≡ K.failures sink.old) }
     ensures begun { IfErr result (λ _. (all : List ℕ) (start : Option (List ℕ)) (rest : List ℕ)
-        → SoFar all start (K.held sink.old) buffer.old.items (choice_entry form harts told.now k ++ rest)
+        → SoFar all start (K.held sink.old) buffer.old.items (choice_entry page.now told.now k ++ rest)
         → Begins all start (K.held sink.new)) }
     ensures fault { IfErr result (λ fault. IfHalts fault (K.failures sink.old < K.failures sink.new)) }
 {
-    match push_entry(alloc, buffer, form, harts, told, k) {
+    match push_entry(alloc, buffer, page, told, k) {
         Ok(()) => {}
         Err(AllocError) => return Err(CommandFault::Memory),
     }

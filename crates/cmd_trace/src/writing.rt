@@ -11,6 +11,7 @@ ghost use Rattle.cmd_trace.specs.Trace.{trace_head, trace_text};
 use crate::entries::write_entries;
 use crate::opening::{OpenProgram, OpenTrace};
 use crate::output::flush;
+use crate::page::Page;
 use crate::plan::{TraceForm, TracePlan, span_of};
 use crate::teller::Teller;
 use byte_io::Sink;
@@ -86,15 +87,12 @@ pub(crate) fn write_trace<A: Allocator + Copy, K: Sink>(
         Ok(()) => {}
         Err(AllocError) => return Err(CommandFault::Memory),
     }
-    match write_entries(
-        alloc,
-        plan.form,
-        run.inputs.harts(),
-        span,
-        &mut teller,
-        &mut buffer,
-        sink,
-    ) {
+    let page = Page {
+        form: plan.form,
+        harts: run.inputs.harts(),
+        symbols: &run.program.symbols,
+    };
+    match write_entries(alloc, &page, span, &mut teller, &mut buffer, sink) {
         Ok(()) => {}
         Err(fault) => return Err(fault),
     }

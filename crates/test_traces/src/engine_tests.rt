@@ -39,11 +39,11 @@ const THIRD: &str =
     "{\"choice\":3,\"hart\":0,\"refused\":false,\"pc\":65540,\"word\":null,\"text\":null,\"access\":null,\"register\":null,\"reserved\":null,\"next\":65540,\"end\":{\"state\":\"exited\",\"status\":0}}\n";
 
 // The same as a table.
-const TABLE: &str = "| Choice | Hart 0 |
-|---|---|
-| 1 | `addi a7, zero, 93` a7 = 0x0000005d |
-| 2 | `ecall` exits with 0x00000000 (refused) |
-| 3 | has stopped |
+const TABLE: &str = "| Choice | Hart 0 | At |
+|---|---|---|
+| 1 | `addi a7, zero, 93` a7 = 0x0000005d |  |
+| 2 | `ecall` exits with 0x00000000 (refused) |  |
+| 3 | has stopped |  |
 ";
 
 // A run that is traced: the harts' inputs, the program's words and the choices.

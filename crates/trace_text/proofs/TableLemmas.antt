@@ -13,8 +13,8 @@ names_more : (h n : ℕ) → h < n → names_from h (n - h) ≡ codes " Hart " +
 unfolding names_from
 names_more h n left = let e : n - h ≡ suc (n - (h + 1)) = omega arith in rw e refl
 
--- behind the last stands LF
-pub names_done : (h n : ℕ) → n ≤ h → names_from h (n - h) ≡ 10 ∷ []
+-- behind the last stands that of labels
+pub names_done : (h n : ℕ) → n ≤ h → names_from h (n - h) ≡ codes " At |\n"
 unfolding names_from
 names_done h n none = let e : n - h ≡ 0 = omega arith in rw e refl
 
@@ -35,8 +35,8 @@ rules_more : (i n : ℕ) → i < n → rules_of (n - i) ≡ codes "---|" ++ rule
 unfolding rules_of
 rules_more i n left = let e : n - i ≡ suc (n - (i + 1)) = omega arith in rw e refl
 
--- behind the last stands LF
-pub rules_done : (i n : ℕ) → n ≤ i → rules_of (n - i) ≡ 10 ∷ []
+-- behind the last stands that of labels
+pub rules_done : (i n : ℕ) → n ≤ i → rules_of (n - i) ≡ codes "---|\n"
 unfolding rules_of
 rules_done i n none = let e : n - i ≡ 0 = omega arith in rw e refl
 
@@ -59,8 +59,8 @@ columns_more told h n left =
     let e : n - h ≡ suc (n - (h + 1)) = omega arith in
     rw e (sym (bar_joins (if h == told.choice.hart then table_cell told else 32 ∷ []) (codes " |") (columns_from told (h + 1) (n - (h + 1)))))
 
--- behind the last stands LF
-pub columns_done : (told : Told) (h n : ℕ) → n ≤ h → columns_from told h (n - h) ≡ 10 ∷ []
+-- behind the last stands nothing
+pub columns_done : (told : Told) (h n : ℕ) → n ≤ h → columns_from told h (n - h) ≡ []
 unfolding columns_from
 columns_done told h n none = let e : n - h ≡ 0 = omega arith in rw e refl
 

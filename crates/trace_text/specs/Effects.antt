@@ -42,29 +42,34 @@ unfoldable pub register_set : Option Written → Option Effect
 register_set None = None
 register_set (Some w) = Some (effect.Sets w)
 
--- the bytes that were stored, where they are mapped
-abbrev pub bytes_set : ℕ → Option ℕ → Option ℕ → Option Effect
-bytes_set address None after = None
-bytes_set address (Some before) None = None
-bytes_set address (Some before) (Some after) = Some (effect.Stores address before after)
+-- the bytes that were stored, or their place alone where they are not mapped
+abbrev pub bytes_set : ℕ → Option ℕ → Option ℕ → Effect
+bytes_set address None after = effect.Accesses address
+bytes_set address (Some before) None = effect.Accesses address
+bytes_set address (Some before) (Some after) = effect.Stores address before after
 
--- those of a store-conditional: none where its register says that it did not store
-abbrev pub bytes_unless_failed : Option Written → Option Effect → Option Effect
-bytes_unless_failed None bytes = bytes
-bytes_unless_failed (Some w) bytes = if w.value == 0 then bytes else None
+-- those of a store-conditional: their place alone where its register says that it did not store
+abbrev pub bytes_unless_failed : Option Written → ℕ → Effect → Effect
+bytes_unless_failed None address bytes = bytes
+bytes_unless_failed (Some w) address bytes = if w.value == 0 then bytes else effect.Accesses address
 
 -- those of an instruction of this kind
-abbrev pub effect_bytes : AccessKind → Option Written → Option Effect → Option Effect
-effect_bytes Load written bytes = None
-effect_bytes Store written bytes = bytes
-effect_bytes LoadReserved written bytes = None
-effect_bytes StoreConditional written bytes = bytes_unless_failed written bytes
-effect_bytes Amo written bytes = bytes
+abbrev pub effect_bytes : AccessKind → Option Written → ℕ → Effect → Effect
+effect_bytes Load written address bytes = effect.Accesses address
+effect_bytes Store written address bytes = bytes
+effect_bytes LoadReserved written address bytes = effect.Accesses address
+effect_bytes StoreConditional written address bytes = bytes_unless_failed written address bytes
+effect_bytes Amo written address bytes = bytes
 
--- those of an instruction that accesses bytes
-unfoldable pub bytes_stored : Option ToldAccess → Option Written → Option Effect
-bytes_stored None written = None
-bytes_stored (Some a) written = effect_bytes a.kind written (bytes_set a.address a.before a.after)
+-- what an instruction accessed: the bytes that it stored, or their place alone
+unfoldable pub access_effect : Option ToldAccess → Option Written → Option Effect
+access_effect None written = None
+access_effect (Some a) written = Some (effect_bytes a.kind written a.address (bytes_set a.address a.before a.after))
+
+-- the place of an access
+unfoldable pub access_place : Option ToldAccess → Option Effect
+access_place None = None
+access_place (Some a) = Some (effect.Accesses a.address)
 
 -- that the hart stopped itself
 unfoldable pub exit_of : HartState → Option Effect
@@ -76,7 +81,7 @@ exit_of (Faulted cause) = None
 abbrev pub step_effects : Told → List Effect
 step_effects told =
     effect_list (outcome told.access told.written) ++ (effect_list (register_set told.written)
-    ++ (effect_list (bytes_stored told.access told.written) ++ effect_list (exit_of told.state)))
+    ++ (effect_list (access_effect told.access told.written) ++ effect_list (exit_of told.state)))
 
 -- where no word was fetched, the hart had stopped before, unless it may not fetch there
 abbrev pub without_word_by : Cause → Effect
@@ -96,17 +101,21 @@ without_word Running = effect.Rests
 without_word (Exited status) = effect.Rests
 without_word (Faulted cause) = without_word_by cause
 
+-- a fault, and the place of the access that has it
+abbrev pub fault_effects : Cause → Option ToldAccess → List Effect
+fault_effects cause access = effect.Faults cause ∷ effect_list (access_place access)
+
 -- what an instruction did, which was a fault or not
-abbrev pub with_word : HartState → List Effect → List Effect
-with_word Running effects = effects
-with_word (Exited status) effects = effects
-with_word (Faulted cause) effects = effect.Faults cause ∷ []
+abbrev pub with_word : HartState → Option ToldAccess → List Effect → List Effect
+with_word Running access effects = effects
+with_word (Exited status) access effects = effects
+with_word (Faulted cause) access effects = fault_effects cause access
 
 -- what a choice did, with the word that was fetched, if one was
-abbrev pub effects_met : Option ℕ → HartState → List Effect → List Effect
-effects_met None state effects = without_word state ∷ []
-effects_met (Some word) state effects = with_word state effects
+abbrev pub effects_met : Option ℕ → HartState → Option ToldAccess → List Effect → List Effect
+effects_met None state access effects = without_word state ∷ []
+effects_met (Some word) state access effects = with_word state access effects
 
 -- what a choice did
 unfoldable pub effects_of : Told → List Effect
-effects_of told = effects_met told.word told.state (step_effects told)
+effects_of told = effects_met told.word told.state told.access (step_effects told)

@@ -1,19 +1,23 @@
--- The rows of a table in Markdown: a column for the choice's number and one for each hart.
-use Rattle.std.specs.Prelude.{ℕ, zero, suc, ◌+◌, ◌==◌, Bool, true, false, List, [], ◌∷◌, ◌++◌, codes, decimal, flat_map, Option, Some, None, if◌then◌else◌}
+-- The rows of a table in Markdown: a column for the choice's number, one for each hart, and one for
+-- the label of the instruction.
+use Rattle.std.specs.Prelude.{ℕ, zero, suc, ◌+◌, ◌-◌, ◌==◌, nat_lt, Bool, true, false, List, [], ◌∷◌, ◌++◌, codes, decimal, flat_map, Option, Some, None, if◌then◌else◌}
 use Rattle.isa_table.specs.declared.instr.Instr.{Instr}
 use Rattle.isa_names.specs.Names.{abi}
 use Rattle.isa_names.specs.Digits.{word_text}
+use Rattle.elf_read.specs.Symbol.{SymbolValue}
+use Rattle.elf_read.specs.Label.{nearest_label}
 use Rattle.isa_disasm.specs.Lines.{line_text}
 use Rattle.trace_text.specs.Values.{cause_text}
 use Rattle.trace_steps.specs.declared.told.Told.{Told}
 use Rattle.trace_steps.specs.declared.told.Written.{Written}
 use Rattle.trace_text.specs.declared.effect.Effect.{Effect}
-use Rattle.trace_text.specs.declared.effect.Effect.TheVariants.{Succeeds, Fails, Sets, Stores, Exits, Faults, Rests}
+use Rattle.trace_text.specs.declared.effect.Effect.TheVariants.{Succeeds, Fails, Sets, Stores, Accesses, Exits, Faults, Rests}
 use Rattle.trace_text.specs.Effects.{effects_of}
 
--- a byte of a text in a cell: a bar has a backslash before it, or it would end the cell
+-- a byte of a text in a cell: a bar has a backslash before it, or it would end the cell; a question
+-- mark stands for a control character
 unfoldable pub cell_byte : ℕ → List ℕ
-cell_byte byte = if byte == 124 then 92 ∷ 124 ∷ [] else byte ∷ []
+cell_byte byte = if byte == 124 then 92 ∷ 124 ∷ [] else (if nat_lt byte 32 then 63 ∷ [] else byte ∷ [])
 
 -- a number as eight digits
 abbrev pub hex : ℕ → List ℕ
@@ -30,6 +34,7 @@ effect_text Fails = codes "fails"
 effect_text (Sets w) = abi w.register ++ (codes " = " ++ hex w.value)
 effect_text (Stores address before after) =
     codes "[" ++ (hex address ++ (codes "]: " ++ (hex before ++ (arrow ++ hex after))))
+effect_text (Accesses address) = codes "[" ++ (hex address ++ codes "]")
 effect_text (Exits status) = codes "exits with " ++ hex status
 effect_text (Faults cause) = codes "faults: " ++ cause_text cause
 effect_text Rests = codes "has stopped"
@@ -61,25 +66,39 @@ unfoldable pub table_cell : Told → List ℕ
 table_cell told =
     instr_text told.pc told.word told.instr ++ (effects_text (effects_of told) ++ table_mark told.choice.refuse)
 
--- the columns of so many harts from number h on, and LF: only the choice's hart has something in
--- its own
+-- how far an address is behind its label
+abbrev pub offset_text : ℕ → List ℕ
+offset_text distance = if distance == 0 then [] else 43 ∷ decimal distance
+
+-- an address as its label and how far it is behind that, after a blank; a blank alone where it has
+-- none
+unfoldable pub label_text : Option SymbolValue → ℕ → List ℕ
+label_text None address = 32 ∷ []
+label_text (Some label) address = 32 ∷ (flat_map cell_byte label.name ++ offset_text (address - label.address))
+
+-- the column of the instruction's label, and LF
+unfoldable pub label_column : List SymbolValue → ℕ → List ℕ
+label_column symbols pc = label_text (nearest_label None symbols pc) pc ++ codes " |\n"
+
+-- the columns of so many harts from number h on: only the choice's hart has something in its own
 unfoldable pub columns_from : Told → ℕ → ℕ → List ℕ
-columns_from told h zero = 10 ∷ []
+columns_from told h zero = []
 columns_from told h (suc count) =
     (if h == told.choice.hart then table_cell told else 32 ∷ []) ++ (codes " |" ++ columns_from told (h + 1) count)
 
 -- the row of choice k and of what it did, for so many harts
-unfoldable pub table_row : Told → ℕ → ℕ → List ℕ
-table_row told k harts = codes "| " ++ (decimal k ++ (codes " |" ++ columns_from told 0 harts))
+unfoldable pub table_row : List SymbolValue → Told → ℕ → ℕ → List ℕ
+table_row symbols told k harts =
+    codes "| " ++ (decimal k ++ (codes " |" ++ (columns_from told 0 harts ++ label_column symbols told.pc)))
 
--- the names of the columns of so many harts from number h on, and LF
+-- the names of the columns of so many harts from number h on, that of labels, and LF
 unfoldable pub names_from : ℕ → ℕ → List ℕ
-names_from h zero = 10 ∷ []
+names_from h zero = codes " At |\n"
 names_from h (suc count) = codes " Hart " ++ (decimal h ++ (codes " |" ++ names_from (h + 1) count))
 
--- the rules under the names of so many columns, and LF
+-- the rules under the names of so many columns, under that of labels, and LF
 unfoldable pub rules_of : ℕ → List ℕ
-rules_of zero = 10 ∷ []
+rules_of zero = codes "---|\n"
 rules_of (suc count) = codes "---|" ++ rules_of count
 
 -- the rows above those of the choices

@@ -2,7 +2,7 @@
 
 ghost use Rattle.std.specs.Prelude.{◌≡◌, ◌++◌, ◌∷◌, [], flat_map, OnOk};
 ghost use Rattle.isa_names.specs.Digits.{word_text};
-ghost use Rattle.trace_text.specs.declared.effect.Effect.TheVariants.{Sets, Stores};
+ghost use Rattle.trace_text.specs.declared.effect.Effect.TheVariants.{Accesses, Sets, Stores};
 ghost use Rattle.trace_text.specs.Effects.{effects_of};
 ghost use Rattle.trace_text.specs.Table.{cell_byte, table_cell, effect_text, effects_text, hex, instr_text, table_mark, more_effects};
 
@@ -36,6 +36,21 @@ fn push_set<A: Allocator>(
     out.extend_from_slice(abi_name(written.register).as_bytes())?;
     out.extend_from_slice(b" = ")?;
     push_hex(alloc, out, written.value)
+}
+
+// Appends where bytes were accessed.
+#[tactic(auto, unfolding(crate::specs::Table::effect_text))]
+fn push_place<A: Allocator + Copy>(
+    alloc: A,
+    out: &mut Vec<u8, A>,
+    address: u32,
+) -> Result<(), AllocError>
+    ensures { OnOk result (out.new.items ≡ out.old.items ++ effect_text (Accesses address)) }
+{
+    out.push(b'[')?;
+    push_hex(alloc, out, address)?;
+    out.push(b']')?;
+    Ok(())
 }
 
 // Appends that bytes were stored.
@@ -75,6 +90,7 @@ fn push_effect<A: Allocator + Copy>(
             before,
             after,
         } => push_store(alloc, out, address, before, after),
+        Effect::Accesses(address) => push_place(alloc, out, address),
         Effect::Exits(status) => {
             out.extend_from_slice(b"exits with ")?;
             push_hex(alloc, out, status)
@@ -128,12 +144,12 @@ fn push_byte<A: Allocator>(out: &mut Vec<u8, A>, byte: u8) -> Result<(), AllocEr
     if byte == b'|' {
         return out.extend_from_slice(b"\\|");
     }
-    out.push(byte)?;
+    out.push(if byte < 32 { b'?' } else { byte })?;
     Ok(())
 }
 
-// Appends a text in a cell.
-fn push_text<A: Allocator>(out: &mut Vec<u8, A>, text: &[u8]) -> Result<(), AllocError>
+/// Appends a text in a cell.
+pub(crate) fn push_text<A: Allocator>(out: &mut Vec<u8, A>, text: &[u8]) -> Result<(), AllocError>
     ensures { OnOk result (out.new.items ≡ out.old.items ++ flat_map cell_byte text.now) }
 {
     'bytes: for byte in text {

@@ -21,6 +21,8 @@ pub enum Effect {
         /// The number that they spell now.
         after: u32,
     },
+    /// Bytes from this address on were accessed, and not stored.
+    Accesses(u32),
     /// The hart stopped itself, with this status.
     Exits(u32),
     /// The instruction stopped the hart.

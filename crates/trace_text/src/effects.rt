@@ -1,7 +1,7 @@
 //! What a choice did, as the things that its row tells.
 
-ghost use Rattle.std.specs.Prelude.{◌≡◌, ◌++◌, IfOk, OnOk};
-ghost use Rattle.trace_text.specs.Effects.{bytes_set, bytes_stored, effects_of, exit_of, effect_list, outcome, register_set, sc_result, step_effects, without_word};
+ghost use Rattle.std.specs.Prelude.{◌≡◌, ◌++◌, ◌∷◌, IfOk, OnOk};
+ghost use Rattle.trace_text.specs.Effects.{access_effect, bytes_set, effects_of, exit_of, effect_list, fault_effects, outcome, access_place, register_set, sc_result, step_effects, without_word};
 
 use crate::effect::Effect;
 use hart_step::{AccessKind, Cause, HartState};
@@ -40,32 +40,44 @@ fn register_set(written: Option<Written>) -> Option<Effect>
     Some(Effect::Sets(written?))
 }
 
-// The bytes of an access, where they are mapped.
-fn bytes_set(access: ToldAccess) -> Option<Effect>
+// The bytes of an access that stored them; its place alone where they are not mapped.
+fn bytes_set(access: ToldAccess) -> Effect
     ensures { result ≡ bytes_set access.address access.before access.after }
 {
-    let before = access.before?;
-    let after = access.after?;
-    Some(Effect::Stores {
-        address: access.address,
-        before,
-        after,
-    })
+    match (access.before, access.after) {
+        (Some(before), Some(after)) => Effect::Stores {
+            address: access.address,
+            before,
+            after,
+        },
+        (None, _) | (Some(_), None) => Effect::Accesses(access.address),
+    }
 }
 
-// The bytes that were stored.
-#[tactic(auto, unfolding(crate::specs::Effects::bytes_stored))]
-fn bytes_stored(access: Option<ToldAccess>, written: Option<Written>) -> Option<Effect>
-    ensures { result ≡ bytes_stored access written }
+// What was accessed: the bytes that were stored, or the place alone.
+#[tactic(auto, unfolding(crate::specs::Effects::access_effect))]
+fn access_effect(access: Option<ToldAccess>, written: Option<Written>) -> Option<Effect>
+    ensures { result ≡ access_effect access written }
 {
     let access = access?;
-    match (access.kind, written) {
-        (AccessKind::Load | AccessKind::LoadReserved, _) => None,
-        (AccessKind::StoreConditional, Some(written)) if written.value != 0 => None,
+    Some(match (access.kind, written) {
+        (AccessKind::Load | AccessKind::LoadReserved, _) => Effect::Accesses(access.address),
+        (AccessKind::StoreConditional, Some(written)) if written.value != 0 => {
+            Effect::Accesses(access.address)
+        }
         (AccessKind::StoreConditional | AccessKind::Store | AccessKind::Amo, _) => {
             bytes_set(access)
         }
-    }
+    })
+}
+
+// The place of an access.
+#[tactic(auto, unfolding(crate::specs::Effects::access_place))]
+fn access_place(access: Option<ToldAccess>) -> Option<Effect>
+    ensures { result ≡ access_place access }
+{
+    let access = access?;
+    Some(Effect::Accesses(access.address))
 }
 
 // That the hart stopped itself.
@@ -106,8 +118,20 @@ fn add_step<A: Allocator>(effects: &mut Vec<Effect, A>, told: &Told) -> Result<(
 {
     add(effects, outcome(told.access, told.written))?;
     add(effects, register_set(told.written))?;
-    add(effects, bytes_stored(told.access, told.written))?;
+    add(effects, access_effect(told.access, told.written))?;
     add(effects, exit_of(told.state))
+}
+
+// Appends the fault of an instruction, and the place of its access.
+fn add_fault<A: Allocator>(
+    effects: &mut Vec<Effect, A>,
+    cause: Cause,
+    access: Option<ToldAccess>,
+) -> Result<(), AllocError>
+    ensures { OnOk result (effects.new.items ≡ effects.old.items ++ fault_effects cause access) }
+{
+    effects.push(Effect::Faults(cause))?;
+    add(effects, access_place(access))
 }
 
 /// What a choice did, in order.
@@ -118,7 +142,7 @@ pub(crate) fn effects_of<A: Allocator>(alloc: A, told: &Told) -> Result<Vec<Effe
     let mut effects = Vec::new(alloc);
     match (told.word, told.state) {
         (None, state) => effects.push(without_word(state))?,
-        (Some(_), HartState::Faulted(cause)) => effects.push(Effect::Faults(cause))?,
+        (Some(_), HartState::Faulted(cause)) => add_fault(&mut effects, cause, told.access)?,
         (Some(_), HartState::Running | HartState::Exited(_)) => add_step(&mut effects, told)?,
     }
     Ok(effects)

@@ -11,8 +11,8 @@ abbrev pub invariant-choices : goal.invariant-choices
 invariant-choices g l = record {
   counted : g.K.Sink.failures l.sink ≡ g.K.Sink.failures l.fn.sink;
   so_far : (left : List Choice) (all : List ℕ) (start : Option (List ℕ)) → Has l.fn.teller.cursor left
-      → SoFar all start (g.K.Sink.held l.fn.sink) l.fn.buffer.items (told_entries l.form l.harts l.span (state l.fn.teller.machine) left)
+      → SoFar all start (g.K.Sink.held l.fn.sink) l.fn.buffer.items (told_entries l.page l.span (state l.fn.teller.machine) left)
       → (more : List Choice) × Has l.teller.cursor more
       × SoFar all start (g.K.Sink.held l.sink) l.buffer.items
-      (entries l.form l.harts (l.span.from + l.i) (tells (state l.teller.machine) (take (told_count l.span - l.i) more)));
+      (entries l.page (l.span.from + l.i) (tells (state l.teller.machine) (take (told_count l.span - l.i) more)));
 }

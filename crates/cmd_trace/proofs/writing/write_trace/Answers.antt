@@ -2,9 +2,10 @@ use Rattle.std.proofs.Common.{ℕ, ◌++◌, length, ◌-◌, ◌∙◌, List, [
 use Rattle.machine.specs.State.{state}
 use Rattle.sched_text.specs.Reading.{choices_read}
 use Rattle.cmd_trace.specs.Output.{SoFar}
+use Rattle.cmd_trace.specs.Page.{PageValue}
 use Rattle.cmd_trace.specs.Trace.{trace_head, told_entries, trace_text}
 use Rattle.cmd_trace.proofs.OutputLemmas.{sent_all}
-use Rattle.cmd_trace.proofs.WholeLemmas.{head_waits}
+use Rattle.cmd_trace.proofs.WholeLemmas.{head_waits, page_is}
 use Rattle.cmd_trace.proofs.writing.write_trace.Goals as goal
 
 pub returns-in-Err-write_entries-clause-begun : goal.returns-in-Err-write_entries-clause-begun
@@ -17,8 +18,9 @@ returns-in-Err-write_entries-clause-begun g c choices read counted =
     c.span_of-span.result c.args.run.now.program.symbols.items (state c.skip.new.self.machine)) c.new-buffer.ensures.items) in
     let rest = drop (c.span_of-span.result.from - 1) choices in
     let all = trace_text c.args.plan c.args.run.now.program.image c.args.run.now.program.symbols.items c.args.run.now.inputs choices in
-    let waiting = subst (λ n. SoFar all (g.K.Sink.held c.args.sink.now) (g.K.Sink.held c.args.sink.now) c.push_head_of.new.buffer.items
-    (told_entries c.args.plan.form n c.span_of-span.result (state c.skip.new.self.machine) rest)) (sym c.harts.ensures.harts) waits in
+    let waiting = subst (λ (page : PageValue). SoFar all (g.K.Sink.held c.args.sink.now) (g.K.Sink.held c.args.sink.now) c.push_head_of.new.buffer.items
+    (told_entries page c.span_of-span.result (state c.skip.new.self.machine) rest))
+    (page_is c.args.plan.form (length c.args.run.now.inputs) _ c.args.run.now.program.symbols.items _ c.harts.ensures.harts c.deref-2.ensures.value) waits in
     c.in-Err-write_entries.ensures.begun rest all (g.K.Sink.held c.args.sink.now) skipped.1 waiting
 
 pub returns-in-Ok-flush-clause-told : goal.returns-in-Ok-flush-clause-told
@@ -31,8 +33,9 @@ returns-in-Ok-flush-clause-told g c choices read counted =
     c.span_of-span.result c.args.run.now.program.symbols.items (state c.skip.new.self.machine)) c.new-buffer.ensures.items) in
     let rest = drop (c.span_of-span.result.from - 1) choices in
     let all = trace_text c.args.plan c.args.run.now.program.image c.args.run.now.program.symbols.items c.args.run.now.inputs choices in
-    let waiting = subst (λ n. SoFar all (g.K.Sink.held c.args.sink.now) (g.K.Sink.held c.args.sink.now) c.push_head_of.new.buffer.items
-    (told_entries c.args.plan.form n c.span_of-span.result (state c.skip.new.self.machine) rest)) (sym c.harts.ensures.harts) waits in
+    let waiting = subst (λ (page : PageValue). SoFar all (g.K.Sink.held c.args.sink.now) (g.K.Sink.held c.args.sink.now) c.push_head_of.new.buffer.items
+    (told_entries page c.span_of-span.result (state c.skip.new.self.machine) rest))
+    (page_is c.args.plan.form (length c.args.run.now.inputs) _ c.args.run.now.program.symbols.items _ c.harts.ensures.harts c.deref-2.ensures.value) waits in
     let told = c.in-Ok-write_entries.ensures.taken rest all (g.K.Sink.held c.args.sink.now) skipped.1 waiting in
     sent_all all c.flush.new.buffer.items (g.K.Sink.held c.args.sink.now) (g.K.Sink.held c.flush.new.sink) c.in-Ok-flush.ensures.empty
     (c.in-Ok-flush.ensures.sent all (g.K.Sink.held c.args.sink.now) [] told)
@@ -47,7 +50,8 @@ returns-clause-begun g c choices read counted =
     c.span_of-span.result c.args.run.now.program.symbols.items (state c.skip.new.self.machine)) c.new-buffer.ensures.items) in
     let rest = drop (c.span_of-span.result.from - 1) choices in
     let all = trace_text c.args.plan c.args.run.now.program.image c.args.run.now.program.symbols.items c.args.run.now.inputs choices in
-    let waiting = subst (λ n. SoFar all (g.K.Sink.held c.args.sink.now) (g.K.Sink.held c.args.sink.now) c.push_head_of.new.buffer.items
-    (told_entries c.args.plan.form n c.span_of-span.result (state c.skip.new.self.machine) rest)) (sym c.harts.ensures.harts) waits in
+    let waiting = subst (λ (page : PageValue). SoFar all (g.K.Sink.held c.args.sink.now) (g.K.Sink.held c.args.sink.now) c.push_head_of.new.buffer.items
+    (told_entries page c.span_of-span.result (state c.skip.new.self.machine) rest))
+    (page_is c.args.plan.form (length c.args.run.now.inputs) _ c.args.run.now.program.symbols.items _ c.harts.ensures.harts c.deref-2.ensures.value) waits in
     let told = c.in-Ok-write_entries.ensures.taken rest all (g.K.Sink.held c.args.sink.now) skipped.1 waiting in
     c.in-Err-flush.ensures.begun all (g.K.Sink.held c.args.sink.now) [] told

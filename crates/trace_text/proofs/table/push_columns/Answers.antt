@@ -1,7 +1,7 @@
-use Rattle.std.proofs.Common.{rules, ◌≡◌, ◌++◌, ◌∷◌, [], codes, ◌<◌}
+use Rattle.std.proofs.Common.{rules, ◌≡◌, ◌++◌, ◌∷◌, [], codes, ◌<◌, ◌≤◌, List, ℕ, append-nil, ap, sym, ◌∙◌}
 use Rattle.std.specs.Prelude.{◌==◌, if◌then◌else◌}
 use Rattle.trace_text.specs.Table.{table_cell}
-use Rattle.trace_text.proofs.TableLemmas.{next_column}
+use Rattle.trace_text.proofs.TableLemmas.{next_column, columns_done}
 use Rattle.trace_text.proofs.table.push_columns.Goals as goal
 
 pub harts-preserved : goal.harts-preserved
@@ -13,3 +13,9 @@ harts-preserved g c =
     let left : h < c.args.harts = search rules in
     let is_longer : longer ≡ before ++ ((if h == told.choice.hart then table_cell told else 32 ∷ []) ++ codes " |") = search rules in
     next_column before longer _ told h c.args.harts left is_longer c.harts.invariant
+
+pub returns : goal.returns
+returns g c =
+    let out = c.harts.out.items in
+    let past : c.args.harts ≤ c.harts.hart = search rules in
+    sym (append-nil out) ∙ ap (λ (l : List ℕ). out ++ l) (sym (columns_done c.args.told.now c.harts.hart c.args.harts past)) ∙ c.harts.invariant
