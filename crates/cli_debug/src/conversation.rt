@@ -7,7 +7,9 @@ use cmd_debug::{DebugEngineFault, NamedRun, open_named, open_session};
 use debug_session::Debugger;
 use debug_text::{Answer, Command, DebugFault, obey, read_command};
 use elf_read::Symbol;
-use hint_debug::{GREETING, Prompt, line_advice, next_text, watched_word, word_before};
+use hint_debug::{
+    Before, GREETING, Prompt, line_advice, next_text, stops_text, watched_word, word_before,
+};
 use hint_fault::symbols_or_none;
 use image::Image;
 use program_open::{CommandFault, Input as InputFile, ProgramForm, read_program};
@@ -121,27 +123,29 @@ fn answer_line<R: AllocGlobal + Print>(
         Ok(command) => command,
         Err(fault) => return refuse_line(rt, names, line, fault),
     };
+    let Ok(before) = Before::of(rt.alloc(), debugger) else {
+        return Err(DebugEngineFault::Memory);
+    };
     match obey(rt.alloc(), debugger, command) {
         Ok(Answer::Quit) => Ok(Turn::Last),
         Ok(Answer::Text(text)) => {
             show(rt, &text)?;
             show_advice(rt, names, line)?;
+            if command == Command::Go {
+                show_stops(rt, debugger, names, &before)?;
+            }
             show_behind(rt, debugger, names, command, &text)?;
             Ok(Turn::Next)
         }
         Err(DebugFault::Memory) => Err(DebugEngineFault::Memory),
         Err(DebugFault::BadCommand) => {
             show(rt, "bad command\n")?;
-            let limit = match command {
-                Command::Regs(_) => Limit::Harts(debugger.machine().harts()),
-                _ => Limit::Words,
-            };
-            tell(rt, limit)?;
+            tell(rt, broken(debugger, command))?;
             Ok(Turn::Next)
         }
         Err(DebugFault::PastEnd) => {
             show(rt, "past end\n")?;
-            tell(rt, Limit::Choices(debugger.choices().len()))?;
+            tell(rt, exceeded(debugger, command))?;
             Ok(Turn::Next)
         }
         // A command has numbers in place of names.
@@ -175,6 +179,24 @@ enum Limit {
     Words,
     // Number of choices.
     Choices(usize),
+    // A hart's last choice.
+    LastOf(u64),
+}
+
+// The limit that a bad command has exceeded.
+fn broken(debugger: &Debugger<Global>, command: Command) -> Limit {
+    match command {
+        Command::Regs(_) | Command::Step(_) => Limit::Harts(debugger.machine().harts()),
+        _ => Limit::Words,
+    }
+}
+
+// The limit that a move past the end has exceeded.
+fn exceeded(debugger: &Debugger<Global>, command: Command) -> Limit {
+    match command {
+        Command::Step(hart) => Limit::LastOf(hart),
+        _ => Limit::Choices(debugger.choices().len()),
+    }
 }
 
 // Reports a limit.
@@ -189,6 +211,7 @@ fn tell(rt: &impl Print, limit: Limit) -> Result<(), DebugEngineFault> {
         Limit::Choices(length) => println!(rt;
             "the schedule has {length} choices, so positions go from 0 to {length}"
         ),
+        Limit::LastOf(hart) => println!(rt; "hart {hart} is not chosen from here on"),
     };
     match told {
         Ok(()) => Ok(()),
@@ -235,10 +258,25 @@ fn show_behind<R: AllocGlobal + Print>(
             }
             show_next(rt, debugger, names)
         }
-        Command::Where | Command::Goto(_) | Command::Forward(_) | Command::Back(_) => {
-            show_next(rt, debugger, names)
-        }
+        Command::Where
+        | Command::Goto(_)
+        | Command::Forward(_)
+        | Command::Back(_)
+        | Command::Step(_) => show_next(rt, debugger, names),
         _ => Ok(()),
+    }
+}
+
+// Shows which harts ran before and have stopped.
+fn show_stops<R: AllocGlobal + Print>(
+    rt: &R,
+    debugger: &Debugger<Global>,
+    names: &Names,
+    before: &Before<Global>,
+) -> Result<(), DebugEngineFault> {
+    match stops_text(rt.alloc(), debugger, &names.shown, before) {
+        Ok(text) => show(rt, &text),
+        Err(AllocError) => Err(DebugEngineFault::Memory),
     }
 }
 

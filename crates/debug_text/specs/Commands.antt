@@ -6,7 +6,7 @@ use Rattle.debug_text.specs.Words.{next_word, behind_word}
 use Rattle.debug_text.specs.Numbers.{decimal_of}
 use Rattle.debug_text.specs.Addresses.{NumberRead, or_bad, address_meant}
 use Rattle.debug_text.specs.declared.commands.Command.{Command}
-use Rattle.debug_text.specs.declared.commands.Command.TheVariants.{Nothing, Where, Goto, Forward, Back, Break, Watch, Go, Rgo, Steps, Regs, Mem, Quit}
+use Rattle.debug_text.specs.declared.commands.Command.TheVariants.{Nothing, Help, Where, Goto, Forward, Back, Step, Break, Watch, Go, Rgo, Steps, Regs, Mem, Quit}
 use Rattle.debug_text.specs.declared.fault.DebugFault.{DebugFault}
 use Rattle.debug_text.specs.declared.fault.DebugFault.TheVariants.{BadCommand}
 
@@ -22,7 +22,8 @@ bare_command name =
     else (if bytes_eq name (codes "back") then Ok (Back 1)
     else (if bytes_eq name (codes "go") then Ok Go
     else (if bytes_eq name (codes "rgo") then Ok Rgo
-    else (if bytes_eq name (codes "quit") then Ok Quit else Err BadCommand)))))
+    else (if bytes_eq name (codes "quit") then Ok Quit
+    else (if bytes_eq name (codes "help") then Ok Help else Err BadCommand))))))
 
 -- a command of one number, if it is valid
 abbrev pub with_one : (ℕ → Command) → NumberRead → CommandRead
@@ -37,7 +38,8 @@ single_command symbols name operand =
     else (if bytes_eq name (codes "back") then with_one Back (or_bad (decimal_of operand))
     else (if bytes_eq name (codes "break") then with_one Break (address_meant symbols operand)
     else (if bytes_eq name (codes "watch") then with_one Watch (address_meant symbols operand)
-    else (if bytes_eq name (codes "regs") then with_one Regs (or_bad (decimal_of operand)) else Err BadCommand)))))
+    else (if bytes_eq name (codes "regs") then with_one Regs (or_bad (decimal_of operand))
+    else (if bytes_eq name (codes "step") then with_one Step (or_bad (decimal_of operand)) else Err BadCommand))))))
 
 -- a command of two numbers, if both are valid; else the first fault
 abbrev pub with_both : (ℕ → ℕ → Command) → NumberRead → NumberRead → CommandRead

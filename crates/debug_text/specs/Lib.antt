@@ -4,4 +4,5 @@ pub mod Addresses
 pub mod Commands
 pub mod Lines
 pub mod Texts
+pub mod Help
 pub mod Reply

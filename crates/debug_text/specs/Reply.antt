@@ -1,5 +1,6 @@
 -- The answer of a command, and the session after it.
-use Rattle.std.specs.Prelude.{ℕ, ◌+◌, ◌-◌, ◌*◌, ◌==◌, ◌||◌, nat_le, nat_lt, max, Bool, true, false, List, [], length, slice_get, Option, Some, None, Result, Ok, Err, string_bytes, codes, if◌then◌else◌}
+use Rattle.std.specs.Prelude.{ℕ, ◌+◌, ◌-◌, ◌*◌, ◌==◌, ◌||◌, nat_le, nat_lt, max, Bool, true, false, List, [], length, drop, slice_get, Option, Some, None, Result, Ok, Err, string_bytes, codes, if◌then◌else◌}
+use Rattle.std.specs.List.{position_or_len}
 use Rattle.hart_reservations.specs.Marks.{word_of}
 use Rattle.hart_step.specs.Hart.{HartValue}
 use Rattle.debug_session.specs.Points.{with_address}
@@ -8,11 +9,12 @@ use Rattle.debug_session.specs.Steps.{shown_steps}
 use Rattle.debug_session.specs.declared.stop.Stop.{Stop}
 use Rattle.elf_read.specs.Symbol.{SymbolValue}
 use Rattle.debug_text.specs.Commands.{CommandRead, command_of}
+use Rattle.debug_text.specs.Help.{help_text}
 use Rattle.debug_text.specs.Texts.{position_text, break_text, watch_text, found_text, steps_text, hart_text, cells_text}
 use Rattle.debug_text.specs.declared.answer.Answer.{Answer}
 use Rattle.debug_text.specs.declared.answer.Answer.TheVariants as answer
 use Rattle.debug_text.specs.declared.commands.Command.{Command}
-use Rattle.debug_text.specs.declared.commands.Command.TheVariants.{Nothing, Where, Goto, Forward, Back, Break, Watch, Go, Rgo, Steps, Regs, Mem, Quit}
+use Rattle.debug_text.specs.declared.commands.Command.TheVariants.{Nothing, Help, Where, Goto, Forward, Back, Step, Break, Watch, Go, Rgo, Steps, Regs, Mem, Quit}
 use Rattle.debug_text.specs.declared.fault.DebugFault.{DebugFault}
 use Rattle.debug_text.specs.declared.fault.DebugFault.TheVariants.{BadCommand, PastEnd}
 
@@ -34,6 +36,16 @@ shows text after = Ok (record { text = text; after = after; ended = false })
 abbrev pub shows_move : Session → ℕ → Reply
 shows_move s k = shows (position_text k (length_of s)) (moved s k)
 
+-- the session has moved n choices forwards, if there are so many
+abbrev pub shows_forward : Session → ℕ → Reply
+shows_forward s n =
+    if nat_le n (length_of s - s.position) then shows_move s (s.position + n) else Err PastEnd
+
+-- the number of choices from the position on up to the next one of hart h, and that one; one more
+-- than are left if there is none
+abbrev pub choices_to : Session → ℕ → ℕ
+choices_to s h = position_or_len (λ c. c.hart == h) (drop s.position s.choices) + 1
+
 -- the session has moved to a stop; its reason is shown, or the text in its place
 abbrev pub shows_found : Session → List ℕ → Found Stop → Reply
 shows_found s none found = shows (found_text none found.1 found.0 (length_of s)) (moved s found.0)
@@ -46,11 +58,13 @@ shows_hart s h (Some hart) = shows (hart_text h hart) s
 -- the answer of a command in a session
 unfoldable pub reply : Session → Command → Reply
 reply s Nothing = shows [] s
+reply s Help = shows help_text s
 reply s Where = shows_move s s.position
 reply s (Goto k) = if nat_le k (length_of s) then shows_move s k else Err PastEnd
-reply s (Forward n) =
-    if nat_le n (length_of s - s.position) then shows_move s (s.position + n) else Err PastEnd
+reply s (Forward n) = shows_forward s n
 reply s (Back n) = if nat_le n s.position then shows_move s (s.position - n) else Err PastEnd
+reply s (Step h) =
+    if nat_lt h (length (world_at s s.position).harts) then shows_forward s (choices_to s h) else Err BadCommand
 reply s (Break a) = shows (break_text a) (record s { breaks = with_address s.breaks a })
 reply s (Watch a) =
     shows (watch_text (word_of a)) (record s { watches = with_address s.watches (word_of a) })

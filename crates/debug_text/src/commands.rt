@@ -13,6 +13,8 @@ use std::alloc::Allocator;
 pub enum Command {
     /// A blank line.
     Nothing,
+    /// `help`: lists the commands.
+    Help,
     /// `where`: shows the position.
     Where,
     /// `goto K`: moves to position K.
@@ -21,6 +23,8 @@ pub enum Command {
     Forward(u64),
     /// `back [N]`: moves N choices back, 1 by default.
     Back(u64),
+    /// `step H`: moves behind the next choice of a hart.
+    Step(u64),
     /// `break A`: adds a breakpoint at an address.
     Break(u32),
     /// `watch A`: watches the aligned word that contains an address.
@@ -78,6 +82,9 @@ fn bare_command(name: &[u8]) -> Result<Command, DebugFault>
     if is_word(name, "quit") {
         return Ok(Command::Quit);
     }
+    if is_word(name, "help") {
+        return Ok(Command::Help);
+    }
     Err(DebugFault::BadCommand)
 }
 
@@ -106,6 +113,9 @@ fn single_command<A: Allocator>(
     }
     if is_word(name, "regs") {
         return Ok(Command::Regs(count_in(operand)?));
+    }
+    if is_word(name, "step") {
+        return Ok(Command::Step(count_in(operand)?));
     }
     Err(DebugFault::BadCommand)
 }

@@ -1,12 +1,13 @@
 //! The debugger's commands: parses a line, and gives the text of its answer.
 #![tactic(auto)]
 
+pub use address::address_meant;
 pub use answer::Answer;
 pub use commands::Command;
 pub use fault::DebugFault;
 pub use laws::{lines_are_commands_of_words, numbers_are_no_names};
 pub use line::{command, next_word, read_command};
-pub use number::decimal_of;
+pub use number::{address_of, decimal_of};
 pub use replies::obey;
 pub use steps_text::{mark_text, push_step};
 
@@ -14,6 +15,7 @@ mod address;
 mod answer;
 mod commands;
 mod fault;
+mod help;
 mod laws;
 mod line;
 mod memory_text;

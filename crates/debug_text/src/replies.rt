@@ -1,12 +1,13 @@
 //! Does the commands.
 ghost use Rattle.std.specs.Prelude.{◌≡◌, ◌≢◌, ◌≤◌, Ok, Err, IfOk, IfErr, OnErr, codes, string_bytes};
 ghost use Rattle.debug_session.specs.Session.{session, length_of};
-ghost use Rattle.debug_text.specs.Reply.{reply, shows_move, reply_outcome};
+ghost use Rattle.debug_text.specs.Reply.{reply, choices_to, shows_move, reply_outcome};
 ghost use Rattle.debug_text.specs.declared.commands.Command.TheVariants as commands;
 
 use crate::answer::Answer;
 use crate::commands::Command;
 use crate::fault::DebugFault;
+use crate::help::help_text;
 use crate::memory_text::cells_text;
 use crate::registers_text::hart_text;
 use crate::steps_text::steps_text;
@@ -92,6 +93,42 @@ fn obey_back<A: Allocator + Copy>(
         return Err(DebugFault::PastEnd);
     }
     go_to(alloc, debugger, position - n as usize)
+}
+
+// Number of choices from the position on up to the next one of a hart, and that one; one more than
+// are left if there is none.
+fn choices_to<A: Allocator + Copy>(debugger: &Debugger<A>, hart: u64) -> u64
+    ensures { result ≡ choices_to (session debugger.now) hart }
+{
+    let (_, left) = debugger.choices().split_at(debugger.position());
+    let mut count = 1u64;
+    'choices: for choice in left {
+        if u64::from(choice.hart) == hart {
+            return count;
+        }
+        count += 1;
+    }
+    count
+}
+
+// `step H`.
+#[tactic(auto, unfolding(crate::specs::Reply::reply))]
+fn obey_step<A: Allocator + Copy>(
+    alloc: A,
+    debugger: &mut Debugger<A>,
+    hart: u64,
+) -> Result<Answer<A>, DebugFault>
+    ensures ok { IfOk result (λ answer. reply (session debugger.old) (commands.Step hart)
+        ≡ Ok (reply_outcome answer (session debugger.new))) }
+    ensures unchanged { OnErr result (session debugger.new ≡ session debugger.old) }
+    ensures fault { IfErr result (λ fault. fault ≢ DebugFault.Memory
+        → reply (session debugger.old) (commands.Step hart) ≡ Err fault) }
+{
+    if hart >= debugger.machine().harts() as u64 {
+        return Err(DebugFault::BadCommand);
+    }
+    let count = choices_to(debugger, hart);
+    obey_forward(alloc, debugger, count)
 }
 
 #[tactic(auto, unfolding(crate::specs::Reply::reply))]
@@ -264,6 +301,10 @@ pub fn obey<A: Allocator + Copy>(
 {
     match command {
         Command::Nothing => Ok(Answer::Text(String::new(alloc))),
+        Command::Help => match help_text(alloc) {
+            Ok(text) => Ok(Answer::Text(text)),
+            Err(_) => Err(DebugFault::Memory),
+        },
         Command::Where => {
             let position = debugger.position();
             match position_text(alloc, position, debugger.choices().len()) {
@@ -274,6 +315,7 @@ pub fn obey<A: Allocator + Copy>(
         Command::Goto(k) => obey_goto(alloc, debugger, k),
         Command::Forward(n) => obey_forward(alloc, debugger, n),
         Command::Back(n) => obey_back(alloc, debugger, n),
+        Command::Step(number) => obey_step(alloc, debugger, number),
         Command::Break(address) => obey_break(alloc, debugger, address),
         Command::Watch(address) => obey_watch(alloc, debugger, address),
         Command::Go => obey_go(alloc, debugger),

@@ -5,10 +5,12 @@ pub use greeting::GREETING;
 pub use lines::line_advice;
 pub use next::next_text;
 pub use prompt::Prompt;
+pub use stops::{Before, stops_text};
 pub use stored::{StoredWord, watched_word, word_before};
 
 mod greeting;
 mod lines;
 mod next;
 mod prompt;
+mod stops;
 mod stored;

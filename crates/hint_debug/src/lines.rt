@@ -10,13 +10,14 @@ use isa_names::Word;
 use std::alloc::{AllocError, Allocator};
 
 // The operands of each command.
-const TAKES: [(&[&str], &str); 8] = [
-    (&["where", "go", "rgo", "quit"], "stands alone"),
+const TAKES: [(&[&str], &str); 9] = [
+    (&["help", "where", "go", "rgo", "quit"], "stands alone"),
     (&["goto"], "takes a decimal number of choices, as goto 7"),
     (
         &["forward", "back"],
         "takes nothing, or a decimal number of choices, as forward 7",
     ),
+    (&["step"], "takes the number of a hart, as step 1"),
     (&["break"], "takes an address, as break 0x00010008"),
     (&["watch"], "takes an address, as watch 0x00011000"),
     (
@@ -35,7 +36,7 @@ const COMMAND_TAKES: Form = &[First, Words(" "), Second, Words("\n")];
 
 // Another word than a command.
 const THE_COMMANDS: Form = &[Words(
-    "the commands are where, goto, forward, back, break, watch, go, rgo, steps, regs, mem and quit, in small letters\n",
+    "the commands are help, where, goto, forward, back, step, break, watch, go, rgo, steps, regs, mem and quit, in small letters\n",
 )];
 
 // A name that no symbol has, with and without the nearest one.

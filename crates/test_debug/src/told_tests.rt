@@ -81,7 +81,7 @@ impl<'a> Call for Case<'a> {
 }
 
 #[rattlefmt::skip]
-const TOLD: [Case<'static>; 19] = [
+const TOLD: [Case<'static>; 20] = [
     Case { asked: Asked::Order(Mistake::Command, &["rvcons", "disasm", "a.elf"]),
         wanted: "disasm is called list here: see rvcons list --help\n" },
     Case { asked: Asked::Order(Mistake::Command, &["rvcons", "rn", "a.elf"]),
@@ -109,6 +109,7 @@ const TOLD: [Case<'static>; 19] = [
         wanted: "several symbols are named f, at different addresses: write the address with 0x\n" },
     Case { asked: Asked::Typed("watch 4wait"), wanted: "watch takes an address, as watch 0x00011000\n" },
     Case { asked: Asked::Typed("regs"), wanted: "regs takes the number of a hart, as regs 0\n" },
+    Case { asked: Asked::Typed("step"), wanted: "step takes the number of a hart, as step 1\n" },
     Case { asked: Asked::Part("addi a0, q9, 1", 9), wanted: "         ^" },
     Case { asked: Asked::Part("\tj far", 3), wanted: "\t  ^" },
     Case { asked: Asked::Part("é x", 3), wanted: "  ^" },
