@@ -3,7 +3,8 @@
 use crate::arguments::Argument;
 use crate::help::{
     BANKED, BUDGET, DRAW, DRAW_OF_SCHEDULE, FILE, HANGS, HEX, HISTORY, INPUTS, INPUTS_OF_SCHEDULE,
-    MUST_EXIT, OUTCOMES, REFUSALS, REFUSE, RULE, SC_REFUSALS, SUMMARY, WAYS_OUT, WORLDS, WRITTEN,
+    MUST_EXIT, OUTCOMES, REFUSALS, REFUSE, RULE, SC_REFUSALS, SUMMARY, UNTIL_FAILURE, WAYS_OUT,
+    WORLDS, WRITTEN,
 };
 
 /// Which options name the choices of a command's run.
@@ -137,6 +138,7 @@ pub(crate) const COMMANDS: [CommandRow; 14] = [
             Argument::NeededOption("steps", "how many steps for each seed"),
             Argument::Optional("rule", RULE),
             Argument::Flag("failures", "print the lines of bad seeds alone"),
+            Argument::Flag("until-failure", UNTIL_FAILURE),
             Argument::Flag("summary", SUMMARY),
             Argument::Flag("outcomes", OUTCOMES),
             Argument::Optional("schedule", DRAW),

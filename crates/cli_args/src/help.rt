@@ -70,6 +70,9 @@ pub(crate) const WAYS_OUT: &str =
 pub(crate) const HANGS: &str =
     "a run that hangs is a failure: given as many steps more, a hart still runs";
 
+/// Of `--until-failure`.
+pub(crate) const UNTIL_FAILURE: &str = "stop at the first bad seed, and print its line alone";
+
 /// Of `--summary`.
 pub(crate) const SUMMARY: &str =
     "print how many seeds end in which way, in place of a line for each";

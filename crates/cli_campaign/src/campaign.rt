@@ -11,9 +11,9 @@ use cli_report::{
     inputs_said, open_one, read_again, rule_said, say_why, wipe_line,
 };
 use cli_values::{read_draw, read_report, read_seed_numbers};
-use cmd_campaign::{Campaign, Exit, Expect, Finished, campaign_engine};
+use cmd_campaign::{Campaign, Exit, Expect, Finished, campaign_engine, until_failure_engine};
 use cmd_schedule::{SeedPlan, seed_engine};
-use program_open::ProgramForm;
+use program_open::{ProgramForm, write_text};
 use sched_draw::Order;
 use std::io;
 use std::rt::Files;
@@ -76,6 +76,12 @@ fn read_campaign<R: Print + Eprint>(rt: &R, order: &CampaignOrder) -> Result<Cam
     let Some(report) = read_report(order.failures, order.summary, order.outcomes) else {
         return Err(bad_line(rt, why_no_report(order)));
     };
+    if order.until_failure && order.summary {
+        return Err(bad_line(
+            rt,
+            "--until-failure prints one line, and --summary none: write one of the two",
+        ));
+    }
     let draw = match read_draw(order.draw, order.refusals) {
         Ok(draw) => draw,
         Err(fault) => return Err(bad_line(rt, fault.text())),
@@ -138,15 +144,25 @@ fn report_campaign<R: Files + AllocGlobal + Print + Eprint + Threads + Sync, P: 
         bad: what_is_bad(campaign.expect),
         is_shown: false,
     };
-    let answer = campaign_engine(
-        rt,
-        rt.alloc(),
-        inputs,
-        campaign,
-        program,
-        &mut sink,
-        &mut line,
-    );
+    let answer = if order.until_failure {
+        match until_failure_engine(rt, rt.alloc(), inputs, campaign, program, &mut line) {
+            Ok((text, finished)) => match write_text(&mut sink, text.as_bytes()) {
+                Ok(()) => Ok(finished),
+                Err(fault) => Err(fault),
+            },
+            Err(fault) => Err(fault),
+        }
+    } else {
+        campaign_engine(
+            rt,
+            rt.alloc(),
+            inputs,
+            campaign,
+            program,
+            &mut sink,
+            &mut line,
+        )
+    };
     if line.is_shown {
         wipe_line(rt, audience);
     }

@@ -8,7 +8,7 @@ use cli_report::{
     read_again, rule_said, say_why,
 };
 use cli_values::{WORLDS, read_worlds};
-use cmd_explore::{Explored, Question, explore_engine, read_refusals};
+use cmd_explore::{Explored, Finding, Question, explore_engine, read_refusals};
 use object_library::Kind;
 use program_open::{CommandFault, ProgramForm, write_text};
 use std::alloc::Global;
@@ -93,8 +93,11 @@ fn explain_list<R: Files + AllocGlobal + Eprint>(
     rule: Option<Kind>,
     found: &Explored<Global>,
 ) -> Option<()> {
-    let turns = found.turns?;
-    let does = if found.hangs { "hang" } else { "fail" };
+    let (does, turns) = match found.finding {
+        Finding::Holds => return None,
+        Finding::Fails(turns) => ("fail", turns),
+        Finding::Hangs(turns) => ("hang", turns),
+    };
     eprintln!(rt;
         "these choices {does}, in {turns} turns, each a choice and the local steps behind it; no list of fewer choices {does}s.\n\
          To look into it, write >failing.choices behind the command, and then\n    \
@@ -102,7 +105,7 @@ fn explain_list<R: Files + AllocGlobal + Eprint>(
         order.file, order.inputs
     )
     .ok()?;
-    if found.hangs {
+    if let Finding::Hangs(_) = found.finding {
         return eprintln!(rt;
             "From the world that they lead to no list of choices leads to one in which no hart runs."
         ).ok();

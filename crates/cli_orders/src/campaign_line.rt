@@ -3,10 +3,11 @@
 use clap::ArgMatches;
 use cli_args::{is_set, text_of};
 
-/// `campaign FILE --inputs L --first S --count C --steps N [--rule K] [--failures] [--summary]
-/// [--outcomes] [--schedule KIND] [--refusals never|one-in:N] [--must-exit]`: runs a program under
-/// a random schedule for each of C seeds from S on, and prints a line for each, with a rule also
-/// its verdict; or the lines of bad seeds alone, or how many seeds end in which way.
+/// `campaign FILE --inputs L --first S --count C --steps N [--rule K] [--failures]
+/// [--until-failure] [--summary] [--outcomes] [--schedule KIND] [--refusals never|one-in:N]
+/// [--must-exit]`: runs a program under a random schedule for each of C seeds from S on, and prints
+/// a line for each, with a rule also its verdict; or the lines of bad seeds alone, or of the first
+/// of them, or how many seeds end in which way.
 #[derive(Drop)]
 pub struct CampaignOrder<'a> {
     /// The program's path.
@@ -23,6 +24,8 @@ pub struct CampaignOrder<'a> {
     pub rule: Option<&'a str>,
     /// Whether the lines of bad seeds alone are printed.
     pub failures: bool,
+    /// Whether the first bad seed ends the campaign, and its line alone is printed.
+    pub until_failure: bool,
     /// Whether only the number of seeds with each outcome is printed.
     pub summary: bool,
     /// Whether outcomes also differ by the harts' results.
@@ -45,6 +48,7 @@ pub(crate) fn campaign_order<'a>(matches: &ArgMatches<'a>) -> Option<CampaignOrd
         steps: text_of(matches, "steps")?,
         rule: text_of(matches, "rule"),
         failures: is_set(matches, "failures"),
+        until_failure: is_set(matches, "until-failure"),
         summary: is_set(matches, "summary"),
         outcomes: is_set(matches, "outcomes"),
         draw: text_of(matches, "schedule"),

@@ -6,3 +6,4 @@ pub mod AnswerLemmas
 pub mod StatusLemmas
 pub mod KeptLemmas
 pub mod KeptLines
+pub mod UntilLemmas

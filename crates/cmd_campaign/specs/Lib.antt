@@ -3,3 +3,4 @@ pub mod Summary
 pub mod Status
 pub mod Answers
 pub mod Kept
+pub mod Until

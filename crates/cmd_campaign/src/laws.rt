@@ -1,6 +1,6 @@
 //! Laws of campaigns.
 
-ghost use Rattle.std.specs.Prelude.{◌≡◌, ◌^◌, ◌<◌, ℕ, List, [], ◌∷◌};
+ghost use Rattle.std.specs.Prelude.{◌≡◌, ◌^◌, ◌<◌, ℕ, List, [], ◌∷◌, None, Some};
 ghost use Rattle.std.specs.List.{All};
 ghost use Rattle.image.specs.Image.{ImageValue};
 ghost use Rattle.cmd_run.specs.Certified.{IsCertified};
@@ -14,7 +14,8 @@ ghost use Rattle.campaign_runs.specs.declared.campaign.Campaign.{Campaign};
 ghost use Rattle.campaign_runs.specs.declared.campaign.Report.TheVariants.{Failures};
 ghost use Rattle.cmd_campaign.specs.Answers.{campaign_answer};
 ghost use Rattle.cmd_campaign.specs.Kept.{AnswersKeptLines, AnswersNothing};
-ghost use Rattle.cmd_campaign.specs.Status.{campaign_status};
+ghost use Rattle.cmd_campaign.specs.Status.{campaign_status, first_failure};
+ghost use Rattle.cmd_campaign.specs.Until.{first_failing, ended_at, IsFirstFailing, NoneFailed};
 
 /// The counts of a summary's rows add up to the number of seeds.
 pub fn all_seeds_are_counted()
@@ -42,4 +43,15 @@ pub fn lines_of_an_object_say_kept()
     ensures { (campaign : Campaign) (inputs program : List ℕ) → All (λ x. x < 2 ^ 32) inputs
         → IsCertified Elf program inputs campaign.expect.rule
         → AnswersKeptLines campaign.report (campaign_answer campaign inputs program) }
+{}
+
+/// The first run that has failed has failed, and no run before it has; if there is none, no run has
+/// failed. Its seed is the first failure of a campaign.
+pub fn no_run_fails_before_the_first()
+    ensures first { (exit : Exit) (ends : List SeedEnding) (end : SeedEnding)
+        → first_failing exit ends ≡ Some end → IsFirstFailing exit ends end }
+    ensures none { (exit : Exit) (ends : List SeedEnding)
+        → first_failing exit ends ≡ None → NoneFailed exit ends }
+    ensures seed { (exit : Exit) (ends : List SeedEnding)
+        → (ended_at exit (first_failing exit ends)).1.first_failure ≡ first_failure exit ends }
 {}

@@ -5,12 +5,13 @@ pub use campaign_runs::{Campaign, Report};
 pub use engine::{Finished, campaign_engine};
 pub use laws::{
     all_seeds_are_counted, campaign_of_one_run_has_its_status, failures_of_an_object_are_none,
-    lines_of_an_object_say_kept,
+    lines_of_an_object_say_kept, no_run_fails_before_the_first,
 };
 pub use lines::push_lines;
 pub use outcome::{Exit, Expect};
 pub use record::{count_ends_of, record_block};
 pub use rows::summary_text;
+pub use until::until_failure_engine;
 
 mod engine;
 mod findings;
@@ -18,3 +19,4 @@ mod laws;
 mod lines;
 mod record;
 mod rows;
+mod until;

@@ -35,8 +35,11 @@ impl fmt::Display for SeedLine {
     }
 }
 
-// Appends the line of a run.
-fn push_end<A: Allocator>(text: &mut String<A>, end: &SeedEnd<A>) -> Result<(), AllocError>
+/// Appends the line of a run. The only error is out of memory.
+pub(crate) fn push_end<A: Allocator>(
+    text: &mut String<A>,
+    end: &SeedEnd<A>,
+) -> Result<(), AllocError>
     ensures { IfOk result (λ _.
         string_bytes text.new ≡ string_bytes text.old ++ end_entry (seed_ending end.now)) }
 {

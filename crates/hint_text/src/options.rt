@@ -105,6 +105,7 @@ pub(crate) const COMMANDS: [Row; 14] = [
             "--steps",
             "--rule",
             "--failures",
+            "--until-failure",
             "--summary",
             "--outcomes",
             "--schedule",

@@ -2,9 +2,9 @@
 //! fail.
 use crate::plain_runs::plain_ending;
 use crate::plans::{Order, Plan, Program, REPORTS, answered, campaign_of, program_of};
-use byte_io::{FullSink, MemorySource, Status, Unheard};
+use byte_io::{Failing, FullSink, MemorySource, Status, Unheard};
 use campaign_runs::Report;
-use cmd_campaign::{Finished, campaign_engine};
+use cmd_campaign::{Finished, campaign_engine, until_failure_engine};
 use image::ElfFault;
 use object_library::Kind;
 use outcome::Exit;
@@ -140,6 +140,43 @@ fn failures_are_the_bad_lines_of_the_campaign(rt: HostRuntime) {
     }
 }
 
+// The first line of a text, or nothing.
+fn first_line(text: &[u8]) -> &[u8] {
+    match text.split_inclusive(|byte: &u8| *byte == b'\n').next() {
+        Some(line) => line,
+        None => text,
+    }
+}
+
+// Whether the campaign of a plan up to its first failure gives the first line of the failures, and
+// ends as they do.
+fn stops_at_the_first(rt: &(impl Threads + Sync), alloc: Global, row: &Bad) -> Option<bool> {
+    let file = object_file(alloc, Kind::Swap).ok()?;
+    let program = program_of(&file, row.inputs);
+    let (ending, sink) = answered(rt, alloc, program, row.plan, Report::Failures)?;
+    let campaign = campaign_of(row.plan, Report::Lines)?;
+    let mut source = MemorySource::new(&file);
+    let (text, finished) = until_failure_engine(
+        rt,
+        alloc,
+        row.inputs,
+        campaign,
+        &mut source,
+        &mut Unheard,
+    ).ok()?;
+    Some(ending == Ok(finished) && text.as_bytes() == first_line(sink.bytes()))
+}
+
+#[test]
+fn first_failure_stops_the_campaign(rt: HostRuntime) {
+    for (number, row) in BAD.iter().enumerate() {
+        assert!(rt;
+            stops_at_the_first(&rt, rt.alloc(), row) == Some(true),
+            "{number}"
+        );
+    }
+}
+
 // Two harts of Swap that must exit, in 28 steps.
 #[rattlefmt::skip]
 const MUST: Plan = Plan {
@@ -241,6 +278,25 @@ fn are_refused(rt: &(impl Threads + Sync), alloc: Global, row: &Refused) -> Opti
 fn what_is_refused_is_told_and_nothing_written(rt: HostRuntime) {
     for (number, row) in REFUSED.iter().enumerate() {
         assert!(rt; are_refused(&rt, rt.alloc(), row) == Some(true), "{number}");
+    }
+}
+
+// Whether a program is refused so up to its first failure too.
+fn is_refused_until(rt: &(impl Threads + Sync), alloc: Global, row: &Refused) -> Option<bool> {
+    let file = file_of(alloc, row.file).ok()?;
+    let campaign = campaign_of(ten_runs(row.steps), Report::Lines)?;
+    let mut source = Failing::new(MemorySource::new(&file), row.passed);
+    let answer = until_failure_engine(rt, alloc, row.inputs, campaign, &mut source, &mut Unheard);
+    Some(answer.err() == Some(row.fault))
+}
+
+#[test]
+fn what_is_refused_is_told_until_a_failure(rt: HostRuntime) {
+    for (number, row) in REFUSED.iter().enumerate() {
+        assert!(rt;
+            is_refused_until(&rt, rt.alloc(), row) == Some(true),
+            "{number}"
+        );
     }
 }
 

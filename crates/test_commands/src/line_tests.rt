@@ -47,7 +47,7 @@ fn inputs_are_read(rt: HostRuntime) {
 
 // Lines, and what is read of each: its command and the texts of its arguments, by their names.
 #[rattlefmt::skip]
-const LINES: [(&str, &str); 69] = [
+const LINES: [(&str, &str); 70] = [
     ("rvcons asm a.s", "asm IN=a.s"),
     ("rvcons asm --out o a.s b.s", "asm out=o IN=a.s IN=b.s"),
     ("rvcons asm b.s a.s --out=o", "asm out=o IN=b.s IN=a.s"),
@@ -98,6 +98,8 @@ const LINES: [(&str, &str); 69] = [
         "campaign FILE=p inputs=7,9 first=1 count=2 steps=3 rule=k"),
     ("rvcons campaign p --inputs 7,9 --first 1 --count 2 --steps 3 --failures",
         "campaign FILE=p inputs=7,9 first=1 count=2 steps=3 failures=yes"),
+    ("rvcons campaign p --inputs 7,9 --first 1 --count 2 --steps 3 --until-failure",
+        "campaign FILE=p inputs=7,9 first=1 count=2 steps=3 until-failure=yes"),
     ("rvcons campaign p --inputs 7,9 --first 1 --count 2 --steps 3 --summary",
         "campaign FILE=p inputs=7,9 first=1 count=2 steps=3 summary=yes"),
     ("rvcons campaign p --inputs 7,9 --first 1 --count 2 --steps 3 --outcomes",

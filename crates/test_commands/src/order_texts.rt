@@ -144,6 +144,7 @@ fn campaign_text(alloc: Global, order: &CampaignOrder) -> Result<String, AllocEr
         ("steps", Some(order.steps)),
         ("rule", order.rule),
         ("failures", flag(order.failures)),
+        ("until-failure", flag(order.until_failure)),
         ("summary", flag(order.summary)),
         ("outcomes", flag(order.outcomes)),
         ("schedule", order.draw),
