@@ -1,0 +1,3 @@
+pub mod JudgedLemmas
+pub mod RunLemmas
+pub mod FirstLemmas

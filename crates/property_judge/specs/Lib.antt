@@ -1,0 +1,4 @@
+pub mod Property
+pub mod Broken
+pub mod Judged
+pub mod First
