@@ -28,9 +28,26 @@ enum MoveCall {
     Command(&'static str, &'static str),
 }
 
+// The answer of `help`.
+const HELP: &str = "\
+help         lists the commands\n\
+where        shows the position\n\
+goto K       goes to step K\n\
+forward [N]  goes N steps forward, or 1\n\
+back [N]     goes N steps back, or 1\n\
+step H       goes behind the next choice of hart H\n\
+break A      sets a breakpoint at the address A\n\
+watch A      watches the word that holds A for changes\n\
+go           goes to the next breakpoint or watch, or to the end\n\
+rgo          goes back to the last one, or to the start\n\
+steps A B    shows the choices from A to B - 1\n\
+regs H       shows the state and the registers of hart H\n\
+mem A N      shows N words of memory from the one that holds A on\n\
+quit         ends\n";
+
 // All of them, with a command of each kind and its answer.
 #[rattlefmt::skip]
-const CALLS: [(&str, MoveCall); 23] = [
+const CALLS: [(&str, MoveCall); 25] = [
     ("at", MoveCall::At),
     ("goto", MoveCall::Goto),
     ("forward", MoveCall::Forward),
@@ -44,10 +61,12 @@ const CALLS: [(&str, MoveCall); 23] = [
     ("far forward", MoveCall::FarForward),
     ("far back", MoveCall::FarBack),
     ("far go_back", MoveCall::FarGoBack),
+    ("help", MoveCall::Command("help", HELP)),
     ("where", MoveCall::Command("where", "step 3 of 6\n")),
     ("goto 5", MoveCall::Command("goto 5", "step 5 of 6\n")),
     ("forward", MoveCall::Command("forward", "step 4 of 6\n")),
     ("back", MoveCall::Command("back", "step 2 of 6\n")),
+    ("step 0", MoveCall::Command("step 0", "step 5 of 6\n")),
     ("break", MoveCall::Command("break 0x10008", "break 00010008\n")),
     ("watch", MoveCall::Command("watch 0x11005", "watch 00011004\n")),
     ("go", MoveCall::Command("go", "watch 00011004\nstep 4 of 6\n")),

@@ -1,0 +1,144 @@
+//! Calls whose answers were worked by hand.
+use byte_io::Status;
+use cmd_run::FileView;
+use cmd_trace::{TraceForm, TracePlan};
+use object_library::Kind;
+use outcome::{Exit, Expect};
+use page_calls::{Reply, Told, assemble_call, file_call, listing_call, run_call, trace_call};
+use program_open::ProgramForm;
+use std::alloc::Allocator;
+use test_images::{EXITS, EXITS_FACTS, EXITS_LISTING};
+
+/// A program that is run by one hart with the input 7.
+#[derive(Clone, Copy)]
+pub(crate) struct Run {
+    /// The form of the program.
+    pub(crate) form: ProgramForm,
+    /// The program.
+    pub(crate) program: &'static [u8],
+    /// The choice text.
+    pub(crate) choices: &'static str,
+    /// The rule, if there is one.
+    pub(crate) rule: Option<Kind>,
+}
+
+/// A call of the page.
+#[derive(Clone, Copy)]
+pub(crate) enum Asked {
+    /// The ELF file of a source.
+    File(&'static str),
+    /// The listing of a source.
+    Listing(&'static str),
+    /// What is shown of an ELF file.
+    Shown(FileView, &'static [u8]),
+    /// How a run ends.
+    Ends(Run),
+    /// What each choice of a run did.
+    Table(Run),
+}
+
+/// What a call answers.
+#[derive(Clone, Copy)]
+pub(crate) enum Wanted {
+    /// This text and status.
+    Prints(&'static str, Status),
+    /// This text of a fault, and its status.
+    Faults(&'static str, Status),
+}
+
+impl Wanted {
+    /// The text that stands in the output.
+    pub(crate) fn text(self) -> &'static [u8] {
+        match self {
+            Wanted::Prints(text, _) | Wanted::Faults(text, _) => text.as_bytes(),
+        }
+    }
+
+    /// The reply where there is room.
+    pub(crate) fn reply(self) -> Reply {
+        let length = self.text().len();
+        match self {
+            Wanted::Prints(_, status) => Reply::Answered(Told { length, status }),
+            Wanted::Faults(_, status) => Reply::Refused(Told { length, status }),
+        }
+    }
+}
+
+/// Makes a call.
+pub(crate) fn made<A: Allocator + Copy>(alloc: A, asked: Asked, out: &mut [u8]) -> Reply {
+    match asked {
+        Asked::File(source) => assemble_call(alloc, source.as_bytes(), out),
+        Asked::Listing(source) => listing_call(alloc, source.as_bytes(), out),
+        Asked::Shown(view, file) => file_call(alloc, view, file, out),
+        Asked::Ends(run) => {
+            let expect = Expect {
+                rule: run.rule,
+                exit: Exit::May,
+            };
+            let choices = run.choices.as_bytes();
+            run_call(alloc, run.form, &[7], expect, run.program, choices, out)
+        }
+        Asked::Table(run) => {
+            let plan = TracePlan {
+                form: TraceForm::Table,
+                from: 1,
+                to: None,
+            };
+            let choices = run.choices.as_bytes();
+            trace_call(alloc, run.form, plan, &[7], run.program, choices, out)
+        }
+    }
+}
+
+// addi a7, zero, 93, and ecall.
+const EXIT_WORDS: &[u8] = b"05d00893 00000073";
+
+// A run of the file that exits.
+#[rattlefmt::skip]
+const FILE_RUN: Run = Run { form: ProgramForm::Elf, program: &EXITS, choices: "0*2", rule: None };
+
+// A run of the words that exit.
+#[rattlefmt::skip]
+const WORDS_RUN: Run = Run { form: ProgramForm::Hex, program: EXIT_WORDS, choices: "0*2", rule: None };
+
+// The same, with a letter among the choices.
+#[rattlefmt::skip]
+const BAD_CHOICE: Run = Run { form: ProgramForm::Hex, program: EXIT_WORDS, choices: "0 x", rule: None };
+
+// The same under the rule of a swap, which it breaks: nobody proposed 0.
+#[rattlefmt::skip]
+const UNKEPT: Run = Run { form: ProgramForm::Hex, program: EXIT_WORDS, choices: "0*2", rule: Some(Kind::Swap) };
+
+// An ebreak.
+#[rattlefmt::skip]
+const BREAKS: Run = Run { form: ProgramForm::Hex, program: b"00100073", choices: "0", rule: None };
+
+// A word that is none.
+#[rattlefmt::skip]
+const BAD_WORD: Run = Run { form: ProgramForm::Hex, program: b"0010007g", choices: "0", rule: None };
+
+const EXITED: &str = "hart 0 exited a0 00000000 a1 00000007\n";
+
+const TABLE: &str = "| Choice | Hart 0 | At |
+|---|---|---|
+| 1 | `addi a7, zero, 93` a7 = 0x0000005d |  |
+| 2 | `ecall` exits with 0x00000000 |  |
+";
+
+/// The calls, each with its answer.
+#[rattlefmt::skip]
+pub(crate) const ROWS: [(Asked, Wanted); 13] = [
+    (Asked::Listing("li a7, 93\necall\n"), Wanted::Prints("addi a7, zero, 93  # 00010000 05d00893\necall  # 00010004 00000073\n", Status::Done)),
+    (Asked::Listing("ecall\nnop x1\n"), Wanted::Faults("asm fault 3 Operands at 0:2", Status::Refused)),
+    (Asked::File("nop x1"), Wanted::Faults("asm fault 3 Operands at 0:1", Status::Refused)),
+    (Asked::Shown(FileView::Facts, &EXITS), Wanted::Prints(EXITS_FACTS, Status::Done)),
+    (Asked::Shown(FileView::Listing, &EXITS), Wanted::Prints(EXITS_LISTING, Status::Done)),
+    (Asked::Shown(FileView::Facts, b"none"), Wanted::Faults("elf fault 1 Short", Status::Refused)),
+    (Asked::Ends(FILE_RUN), Wanted::Prints(EXITED, Status::Done)),
+    (Asked::Ends(WORDS_RUN), Wanted::Prints(EXITED, Status::Done)),
+    (Asked::Ends(UNKEPT), Wanted::Prints("hart 0 exited a0 00000000 a1 00000007\nverdict broken\n", Status::Broken)),
+    (Asked::Ends(BREAKS), Wanted::Prints("hart 0 faulted Break pc 00010000\n", Status::Faulted)),
+    (Asked::Ends(BAD_CHOICE), Wanted::Faults("choice fault BadChoice at 2", Status::Refused)),
+    (Asked::Ends(BAD_WORD), Wanted::Faults("hex fault BadWord at 0", Status::Refused)),
+    (Asked::Table(FILE_RUN), Wanted::Prints(TABLE, Status::Done)),
+];
