@@ -15,21 +15,21 @@ softer-without_mark c = (refl, λ marked. absurd (cc))
 softer-trans : (a b c : Choice) → IsSofter a b → IsSofter b c → IsSofter a c
 softer-trans a b c f g = (f.0 ∙ g.0, λ marked. g.1 (f.1 marked))
 
-pub less-none : (given : List Choice) → IsLess [] given
+pub less_none : (given : List Choice) → IsLess [] given
 unfolding IsLess
-less-none given = tt
+less_none given = tt
 
-one_more : (c d : Choice) (list given : List Choice) → IsSofter c d → IsLess list given → IsLess (c ∷ list) (d ∷ given)
+pub one_more : (c d : Choice) (list given : List Choice) → IsSofter c d → IsLess list given → IsLess (c ∷ list) (d ∷ given)
 unfolding IsLess
 one_more c d list given soft less = inl (soft, less)
 
-one_left : (d : Choice) (list given : List Choice) → IsLess list given → IsLess list (d ∷ given)
+pub one_left : (d : Choice) (list given : List Choice) → IsLess list given → IsLess list (d ∷ given)
 unfolding IsLess
 one_left d [] given less = tt
 one_left d (c ∷ list) given less = inr less
 
 pub less_same : (list : List Choice) → IsLess list list
-less_same [] = less-none []
+less_same [] = less_none []
 less_same (c ∷ list) = one_more c c list list (softer-same c) (less_same list)
 
 -- less of less is less
@@ -44,27 +44,27 @@ less_trans (x ∷ a) (y ∷ b) (z ∷ c) f (inr g) = inr (less_trans (x ∷ a) (
 
 -- the first choices of a list
 pub less_take : (n : ℕ) (list : List Choice) → IsLess (take n list) list
-less_take zero list = less-none list
-less_take (suc n) [] = less-none []
+less_take zero list = less_none list
+less_take (suc n) [] = less_none []
 less_take (suc n) (c ∷ list) = one_more c c (take n list) list (softer-same c) (less_take n list)
 
 less-drop : (n : ℕ) (list : List Choice) → IsLess (drop n list) list
 less-drop zero list = less_same list
-less-drop (suc n) [] = less-none []
+less-drop (suc n) [] = less_none []
 less-drop (suc n) (c ∷ list) = one_left c (drop n list) list (less-drop n list)
 
 -- a list without a part
 less-left_out : (from to : ℕ) (list : List Choice) → from ≤ to → IsLess (left_out from to list) list
 less-left_out zero to list order = less-drop to list
 less-left_out (suc from) zero list order = absurd (omega (arith, order))
-less-left_out (suc from) (suc to) [] order = less-none []
+less-left_out (suc from) (suc to) [] order = less_none []
 less-left_out (suc from) (suc to) (c ∷ list) order =
     one_more c c (left_out from to list) list (softer-same c) (less-left_out from to list (omega (arith, order)))
 
 -- the first choices without their marks, and the others
 less-marks : (n : ℕ) (list : List Choice) → IsLess (map unmarked_choice (take n list) ++ drop n list) list
 less-marks zero list = less_same list
-less-marks (suc n) [] = less-none []
+less-marks (suc n) [] = less_none []
 less-marks (suc n) (c ∷ list) =
     one_more (unmarked_choice c) c (map unmarked_choice (take n list) ++ drop n list) list (softer-without_mark c) (less-marks n list)
 
@@ -75,8 +75,8 @@ less-marks_taken zero to size list sum =
     let e : size ≡ to = omega (arith, sum) in
     subst (λ n. IsLess (map unmarked_choice (take size list) ++ drop n list) list) e (less-marks size list)
 less-marks_taken (suc from) zero size list sum = absurd (omega (arith, sum))
-less-marks_taken (suc from) (suc to) zero [] sum = less-none []
-less-marks_taken (suc from) (suc to) (suc size) [] sum = less-none []
+less-marks_taken (suc from) (suc to) zero [] sum = less_none []
+less-marks_taken (suc from) (suc to) (suc size) [] sum = less_none []
 less-marks_taken (suc from) (suc to) size (c ∷ list) sum =
     one_more c c (take from list ++ (map unmarked_choice (take size (drop from list)) ++ drop to list)) list (softer-same c)
     (less-marks_taken from to size list (omega (arith, sum)))

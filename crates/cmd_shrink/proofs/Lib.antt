@@ -7,3 +7,7 @@ pub mod ShrunkLemmas
 pub mod LessLemmas
 pub mod WeightLemmas
 pub mod NeededLemmas
+pub mod EachLemmas
+pub mod RunLemmas
+pub mod ExchangeLemmas
+pub mod SwitchLemmas

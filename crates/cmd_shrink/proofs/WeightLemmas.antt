@@ -8,7 +8,7 @@ some_weight : (mark : Bool) → 0 < weight_of mark
 some_weight true = omega arith
 some_weight false = omega arith
 
-weight-more : (c : Choice) (list : List Choice) → weight (c ∷ list) ≡ weight_of c.refuse + weight list
+pub weight-more : (c : Choice) (list : List Choice) → weight (c ∷ list) ≡ weight_of c.refuse + weight list
 unfolding weight
 weight-more c list = refl
 

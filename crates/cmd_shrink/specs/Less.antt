@@ -1,5 +1,5 @@
 -- A list of choices that is another with choices left out and marks removed.
-use Rattle.std.specs.Prelude.{◌≡◌, ◌⊎◌, ℕ, ◌+◌, Bool, true, false, List, [], ◌∷◌}
+use Rattle.std.specs.Prelude.{◌≡◌, ◌⊎◌, ℕ, ◌+◌, ◌==◌, Bool, true, false, List, [], ◌∷◌, filter}
 use Rattle.machine.specs.declared.choice.Choice.{Choice}
 
 -- a choice is of the same hart as another, and has a mark only if that one has
@@ -11,6 +11,15 @@ unfoldable pub IsLess : List Choice → List Choice → Type 0
 IsLess [] given = Unit {0}
 IsLess (c ∷ choices) [] = ⊥
 IsLess (c ∷ choices) (d ∷ given) = (IsSofter c d × IsLess choices given) ⊎ IsLess (c ∷ choices) given
+
+-- the choices of a hart
+abbrev pub of_hart : ℕ → List Choice → List Choice
+of_hart hart choices = filter (λ (c : Choice). c.hart == hart) choices
+
+-- each hart's choices in a list are some of its choices in the other, in the same order, maybe
+-- without their mark
+abbrev pub IsLessOfEach : List Choice → List Choice → Type 0
+IsLessOfEach list given = (hart : ℕ) → IsLess (of_hart hart list) (of_hart hart given)
 
 -- a choice counts 1, and its mark 1 more
 abbrev pub weight_of : Bool → ℕ

@@ -4,3 +4,4 @@ pub mod Shrink
 pub mod Less
 pub mod Edits
 pub mod Minimal
+pub mod Switches

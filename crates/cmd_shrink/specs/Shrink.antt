@@ -5,8 +5,9 @@ use Rattle.image.specs.Image.{ImageValue}
 use Rattle.machine.specs.declared.choice.Choice.{Choice}
 use Rattle.sched_text.specs.Printing.{runs_text}
 use Rattle.sched_text.specs.Reading.{choices_read}
-use Rattle.cmd_shrink.specs.Less.{IsLess}
+use Rattle.cmd_shrink.specs.Less.{IsLessOfEach}
 use Rattle.cmd_shrink.specs.Minimal.{IsMinimal}
+use Rattle.cmd_shrink.specs.Switches.{HasFewSwitches}
 use Rattle.program_open.specs.Opening.{Opened}
 use Rattle.program_open.specs.declared.command_fault.CommandFault.{CommandFault}
 use Rattle.program_open.specs.declared.command_fault.CommandFault.TheVariants as fault
@@ -14,16 +15,17 @@ use Rattle.outcome.specs.declared.expect.Expect.{Expect}
 use Rattle.cmd_shrink.specs.Failure.{failure_after, RunFailsSo}
 use Rattle.cmd_shrink.specs.declared.failure.Failure.{Failure}
 
--- a text is that of a list of choices which is the given one with choices left out and marks
--- removed, whose run fails as the given one's does, and in which each choice and each mark is
--- needed for that
+-- a text is that of a list of choices in which each hart has its given ones with choices left out
+-- and marks removed, whose run fails as the given one's does; each choice and each mark is needed
+-- for that, and no exchange of neighbouring runs, by which there are fewer switches, fails so
 pub record IsShrunk (expect : Expect) (image : ImageValue) (inputs : List ℕ) (given : List Choice) (text : List ℕ) : Type 0 where
   pub choices : List Choice
   pub how : Failure
   pub given_fails : failure_after expect image inputs given ≡ Some how
-  pub less : IsLess choices given
+  pub less : IsLessOfEach choices given
   pub fails : RunFailsSo how image inputs choices
   pub minimal : IsMinimal (RunFailsSo how image inputs) choices
+  pub few : HasFewSwitches (RunFailsSo how image inputs) choices
   pub printed : text ≡ runs_text choices
   pub read : choices_read (length inputs) text ≡ Ok choices
 

@@ -1,10 +1,12 @@
 //! The last pass, which proves the list minimal.
 ghost use Rattle.std.specs.Prelude.{◌≡◌, ◌<◌, Ok, None, IfOk, IfSome, length};
-ghost use Rattle.cmd_shrink.specs.Less.{IsLess};
+ghost use Rattle.cmd_shrink.specs.Less.{IsLessOfEach};
+ghost use Rattle.cmd_shrink.specs.Switches.{HasFewSwitches};
 ghost use Rattle.cmd_shrink.specs.Minimal.{IsMinimal, IsNeeded, Lessens};
 
 use crate::edits::{Edit, edited};
 use crate::failing::Failing;
+use crate::few_switches::exchange_runs;
 use crate::hearing::ChoicesLeft;
 use machine::Choice;
 use std::alloc::{AllocError, Allocator};
@@ -53,8 +55,8 @@ fn first_smaller<A: Allocator + Copy, F: Failing>(
     Ok(None)
 }
 
-/// Removes one choice or mark after another, until each one left is needed.
-#[tactic(auto, using(crate::proofs::LessLemmas::less_trans, crate::proofs::LessLemmas::less_same))]
+/// Exchanges runs and removes choices and marks, one after another, until each one left is needed
+/// and no exchange of neighbouring runs, by which there are fewer switches, fails.
 pub(crate) fn make_minimal<A: Allocator + Copy, F: Failing, L: ChoicesLeft>(
     alloc: A,
     test: &F,
@@ -62,14 +64,15 @@ pub(crate) fn make_minimal<A: Allocator + Copy, F: Failing, L: ChoicesLeft>(
     left: &mut L,
 ) -> Result<Vec<Choice, A>, AllocError>
     requires fails { F.fails test.now given.items }
-    ensures less { IfOk result (λ list. IsLess list.items given.items) }
+    ensures less { IfOk result (λ list. IsLessOfEach list.items given.items) }
     ensures fails { IfOk result (λ list. F.fails test.now list.items) }
     ensures minimal { IfOk result (λ list. IsMinimal (F.fails test.now) list.items) }
+    ensures few { IfOk result (λ list. HasFewSwitches (F.fails test.now) list.items) }
 {
-    let mut choices = given;
+    let mut choices = exchange_runs(alloc, test, given)?;
     'removals: while let Some(smaller) = first_smaller(alloc, test, &choices)? {
-        choices = smaller;
-        left.choices_left(choices.len());
+        left.choices_left(smaller.len());
+        choices = exchange_runs(alloc, test, smaller)?;
     }
     Ok(choices)
 }

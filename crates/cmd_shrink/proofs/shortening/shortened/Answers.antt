@@ -14,4 +14,4 @@ returns-clause-shrunk g c =
     is_shrunk c.args.expect c.args.image.now c.args.inputs.now c.args.given.now c.in_ok-choices.choices.items c.deref.result.now
     (string_bytes c.in_ok-text.text) c.in-Some.failure (omega (arith, most)) c.requires.within
     (sym c.in_ok-failure.ensures ∙ c.in-Some.is) c.in_ok-choices.ensures.less c.in_ok-choices.ensures.fails
-    c.in_ok-choices.ensures.minimal c.deref.ensures.value c.in_ok-text.ensures.text
+    c.in_ok-choices.ensures.minimal c.in_ok-choices.ensures.few c.deref.ensures.value c.in_ok-text.ensures.text
