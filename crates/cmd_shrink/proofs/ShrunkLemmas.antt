@@ -8,11 +8,11 @@ use Rattle.sched_text.specs.Printing.{runs_text}
 use Rattle.sched_text.specs.Reading.{choices_read}
 use Rattle.sched_text.proofs.Agreement.{choices_of-spelled}
 use Rattle.sched_text.proofs.PrintLemmas.{runs_spell}
-use Rattle.cmd_shrink.specs.Less.{IsLess, IsLessOfEach, of_hart}
+use Rattle.cmd_shrink.specs.Less.{IsLess, IsLessOfEach, choices_of_hart}
 use Rattle.cmd_shrink.specs.Minimal.{IsMinimal}
 use Rattle.cmd_shrink.specs.Switches.{HasFewSwitches}
 use Rattle.cmd_shrink.proofs.LessLemmas.{less_same, one_left}
-use Rattle.cmd_shrink.proofs.EachLemmas.{each_trans, each_less, of_hart-first}
+use Rattle.cmd_shrink.proofs.EachLemmas.{each_trans, each_less, choices_of_hart-first}
 use Rattle.outcome.specs.declared.expect.Expect.{Expect}
 use Rattle.cmd_shrink.specs.Failure.{failure_after, RunFailsSo}
 use Rattle.cmd_shrink.specs.declared.failure.Failure.{Failure}
@@ -33,11 +33,11 @@ within_less n (c ∷ list) (d ∷ given) (inr less) all =
 within_each : (n : ℕ) (list given : List Choice) → IsLessOfEach list given → All (λ c. c.hart < n) given → All (λ c. c.hart < n) list
 within_each n [] given less all = All-nil (λ (c : Choice). c.hart < n)
 within_each n (c ∷ list) given less all =
-    let own = subst (λ l. IsLess l (of_hart c.hart given)) (of_hart-first c list) (less c.hart) in
+    let own = subst (λ l. IsLess l (choices_of_hart c.hart given)) (choices_of_hart-first c list) (less c.hart) in
     let theirs = All-filter (λ (d : Choice). d.hart == c.hart) (λ d. d.hart < n) given all in
     let rest = each_trans list (c ∷ list) given (each_less list (c ∷ list) (one_left c list list (less_same list))) less in
     All-cons (λ (d : Choice). d.hart < n) c list
-    (within_less n (c ∷ of_hart c.hart list) (of_hart c.hart given) own theirs 0 c (omega arith))
+    (within_less n (c ∷ choices_of_hart c.hart list) (choices_of_hart c.hart given) own theirs 0 c (omega arith))
     (within_each n list given rest all)
 
 module _ (expect : Expect) (image : ImageValue) (inputs : List ℕ) (given choices printed : List Choice) (text : List ℕ)

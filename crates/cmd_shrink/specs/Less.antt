@@ -13,13 +13,13 @@ IsLess (c ∷ choices) [] = ⊥
 IsLess (c ∷ choices) (d ∷ given) = (IsSofter c d × IsLess choices given) ⊎ IsLess (c ∷ choices) given
 
 -- the choices of a hart
-abbrev pub of_hart : ℕ → List Choice → List Choice
-of_hart hart choices = filter (λ (c : Choice). c.hart == hart) choices
+abbrev pub choices_of_hart : ℕ → List Choice → List Choice
+choices_of_hart hart choices = filter (λ (c : Choice). c.hart == hart) choices
 
 -- each hart's choices in a list are some of its choices in the other, in the same order, maybe
 -- without their mark
 abbrev pub IsLessOfEach : List Choice → List Choice → Type 0
-IsLessOfEach list given = (hart : ℕ) → IsLess (of_hart hart list) (of_hart hart given)
+IsLessOfEach list given = (hart : ℕ) → IsLess (choices_of_hart hart list) (choices_of_hart hart given)
 
 -- a choice counts 1, and its mark 1 more
 abbrev pub weight_of : Bool → ℕ

@@ -55,8 +55,8 @@ fn first_smaller<A: Allocator + Copy, F: Failing>(
     Ok(None)
 }
 
-/// Exchanges runs and removes choices and marks, one after another, until each one left is needed
-/// and no exchange of neighbouring runs, by which there are fewer switches, fails.
+/// Moves runs and removes choices and marks, one after another, until each one left is needed and
+/// no exchange or move of runs, by which there are fewer switches, fails.
 pub(crate) fn make_minimal<A: Allocator + Copy, F: Failing, L: ChoicesLeft>(
     alloc: A,
     test: &F,

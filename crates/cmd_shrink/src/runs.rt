@@ -1,6 +1,6 @@
 //! Runs of choices of one hart, the switches between them, and exchanges of neighbouring runs.
 ghost use Rattle.std.specs.Prelude.{◌≡◌, ◌+◌, ◌≤◌, ◌<◌, ◌-◌, ℕ, IfOk, length, drop};
-ghost use Rattle.cmd_shrink.specs.Switches.{hart_at, IsRun, switches, exchanged};
+ghost use Rattle.cmd_shrink.specs.Switches.{hart_chosen_at, IsRun, switches, exchanged};
 
 use machine::Choice;
 use std::alloc::{AllocError, Allocator};
@@ -8,7 +8,7 @@ use std::alloc::{AllocError, Allocator};
 /// The index behind the run that begins at an index.
 pub(crate) fn run_end(choices: &[Choice], from: usize) -> usize
     requires there { from < length choices.now }
-    requires begins { (k : ℕ) → k + 1 ≡ from → hart_at k choices.now ≡ hart_at from choices.now → ⊥ }
+    requires begins { (k : ℕ) → k + 1 ≡ from → hart_chosen_at k choices.now ≡ hart_chosen_at from choices.now → ⊥ }
     ensures { IsRun from result choices.now }
 {
     let hart = choices[from].hart;
@@ -20,6 +20,25 @@ pub(crate) fn run_end(choices: &[Choice], from: usize) -> usize
         to += 1;
     }
     to
+}
+
+/// The index of the next choice, behind a run, of the run's hart; the length if there is none.
+pub(crate) fn next_of(choices: &[Choice], from: usize, to: usize) -> usize
+    requires run { IsRun from to choices.now }
+    ensures behind { to ≤ result }
+    ensures within { result ≤ length choices.now }
+    ensures others { (k : ℕ) → to ≤ k → k < result → hart_chosen_at k choices.now ≡ hart_chosen_at from choices.now → ⊥ }
+    ensures same { result < length choices.now → hart_chosen_at result choices.now ≡ hart_chosen_at from choices.now }
+{
+    let hart = choices[from].hart;
+    let mut next = to;
+    'others: while next < choices.len() {
+        if choices[next].hart == hart {
+            return next;
+        }
+        next += 1;
+    }
+    next
 }
 
 // 1 if a choice is of another hart than the one before it, or else 0.

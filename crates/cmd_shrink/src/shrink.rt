@@ -18,9 +18,10 @@ use program_open::{CommandFault, Input, ProgramForm, open_run};
 use std::alloc::{AllocError, Allocator};
 
 /// `shrink`: reads the program to its end and, if it is valid and the number of inputs is, the
-/// choice text to its end; returns the text of some of these choices, in their order and some
-/// without their mark, whose run still fails in the same way, but no longer without any one of its
-/// choices or marks. If each hart must exit, a run that hangs has failed.
+/// choice text to its end; returns the text of some of these choices, those of each hart in their
+/// order and some without their mark, whose run still fails in the same way, but no longer without
+/// any one of its choices or marks, nor with fewer switches of harts after an exchange or a move of
+/// runs. If each hart must exit, a run that hangs has failed.
 pub fn shrink_engine<A: Allocator + Copy, P: Source, C: Source, L: ChoicesLeft>(
     alloc: A,
     inputs: &[u32],

@@ -16,8 +16,8 @@ use std::alloc::{AllocError, Allocator};
 /// Given a failing list, a failing list of some of its choices, those of each hart in their order,
 /// some without their mark. It is minimal: without any one of its choices, or any one of its marks,
 /// it no longer fails. Nor does it after an exchange of two neighbouring runs of choices of one
-/// hart, if there are fewer switches after it. First everything after the failure is cut, then
-/// halves of the list, quarters and so on.
+/// hart, or a move of a run to the next one of its hart, by which there are fewer switches. First
+/// everything after the failure is cut, then halves of the list, quarters and so on.
 pub fn shrink_choices<A: Allocator + Copy, F: Failing, L: ChoicesLeft>(
     alloc: A,
     test: &F,
