@@ -204,6 +204,10 @@ pub(crate) const COMMANDS: [CommandRow; 14] = [
                 "table",
                 "print a table in Markdown, with a column for each hart",
             ),
+            Argument::Flag(
+                "shared",
+                "print the rows of that table alone that access memory",
+            ),
         ],
         schedule: Schedule::FileOrInput,
     },

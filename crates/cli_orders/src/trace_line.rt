@@ -3,8 +3,8 @@
 use clap::ArgMatches;
 use cli_args::{ChoiceText, choice_text_of, is_set, text_of};
 
-/// `trace [--hex] FILE --inputs L (--choices C | --list T) [--from A] [--to B] [--table]`: prints what each
-/// choice of a run did.
+/// `trace [--hex] FILE --inputs L (--choices C | --list T) [--from A] [--to B] [--table] [--shared]`:
+/// prints what each choice of a run did.
 #[derive(Drop)]
 pub struct TraceOrder<'a> {
     /// Whether the file has words in hexadecimal.
@@ -21,6 +21,8 @@ pub struct TraceOrder<'a> {
     pub to: Option<&'a str>,
     /// Whether a table is printed instead of lines of JSON.
     pub table: bool,
+    /// Whether only the rows of that table are printed whose instruction accesses memory.
+    pub shared: bool,
 }
 
 /// The order in clap's matches.
@@ -33,5 +35,6 @@ pub(crate) fn trace_order<'a>(matches: &ArgMatches<'a>) -> Option<TraceOrder<'a>
         from: text_of(matches, "from"),
         to: text_of(matches, "to"),
         table: is_set(matches, "table"),
+        shared: is_set(matches, "shared"),
     })
 }

@@ -21,9 +21,10 @@ last_choice_of None = Some None
 last_choice_of (Some text) = option_map (λ place. Some place) (choice_number_of text.now)
 
 -- how the trace is written
-abbrev pub form_of : Bool → TraceForm
-form_of true = form.Table
-form_of false = form.Lines
+abbrev pub form_of : Bool → Bool → TraceForm
+form_of table true = form.Shared
+form_of true false = form.Table
+form_of false false = form.Lines
 
 -- the plan of these numbers
 abbrev pub plan_with : TraceForm → Option ℕ → Option (Option ℕ) → Option TracePlan
@@ -32,5 +33,5 @@ plan_with how (Some first) None = None
 plan_with how (Some first) (Some last) = Some (record { form = how; from = first; to = last })
 
 -- the plan of the order's texts
-abbrev pub trace_plan_of : Bool → Option (Bor (List ℕ)) → Option (Bor (List ℕ)) → Option TracePlan
-trace_plan_of table from to = plan_with (form_of table) (first_choice_of from) (last_choice_of to)
+abbrev pub trace_plan_of : Bool → Bool → Option (Bor (List ℕ)) → Option (Bor (List ℕ)) → Option TracePlan
+trace_plan_of table shared from to = plan_with (form_of table shared) (first_choice_of from) (last_choice_of to)

@@ -20,7 +20,7 @@ pub fn obey_trace<R: Files + AllocGlobal + Print + Eprint>(
 ) -> Result<Status, Status> {
     let form = form_said(order.hex);
     let inputs = inputs_said(rt, order.inputs)?;
-    let Some(plan) = read_trace_plan(order.table, order.from, order.to) else {
+    let Some(plan) = read_trace_plan(order.table, order.shared, order.from, order.to) else {
         return Err(bad_line(
             rt,
             "--from and --to take the places of choices, decimal numbers from 1 to 2^64 - 1, as --from 3 --to 37",

@@ -37,25 +37,30 @@ fn last_choice_of(to: Option<&str>) -> Option<Option<u64>>
 }
 
 // How the trace is written.
-fn form_of(table: bool) -> TraceForm
-    ensures { result ≡ form_of table }
+fn form_of(table: bool, shared: bool) -> TraceForm
+    ensures { result ≡ form_of table shared }
 {
-    if table {
-        TraceForm::Table
-    } else {
-        TraceForm::Lines
+    match (table, shared) {
+        (_, true) => TraceForm::Shared,
+        (true, false) => TraceForm::Table,
+        (false, false) => TraceForm::Lines,
     }
 }
 
-/// The plan of an order's options: a table or lines, from a choice to a choice. `None` exactly if
-/// one of both isn't a decimal number from 1 to 2^64 - 1.
-pub fn read_trace_plan(table: bool, from: Option<&str>, to: Option<&str>) -> Option<TracePlan>
-    ensures { result ≡ trace_plan_of table from.entry to.entry }
+/// The plan of an order's options: a table, its rows that access memory, or lines, from a choice to a
+/// choice. `None` exactly if one of both isn't a decimal number from 1 to 2^64 - 1.
+pub fn read_trace_plan(
+    table: bool,
+    shared: bool,
+    from: Option<&str>,
+    to: Option<&str>,
+) -> Option<TracePlan>
+    ensures { result ≡ trace_plan_of table shared from.entry to.entry }
 {
     let from = first_choice_of(from)?;
     let to = last_choice_of(to)?;
     Some(TracePlan {
-        form: form_of(table),
+        form: form_of(table, shared),
         from,
         to,
     })

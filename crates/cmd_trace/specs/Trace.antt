@@ -9,6 +9,7 @@ use Rattle.machine.specs.World.{World, run}
 use Rattle.machine.specs.declared.choice.Choice.{Choice}
 use Rattle.trace_steps.specs.Tells.{tells}
 use Rattle.trace_steps.specs.declared.told.Told.{Told}
+use Rattle.trace_steps.specs.declared.told.ToldAccess.{ToldAccess}
 use Rattle.trace_text.specs.Table.{head_rows, table_row}
 use Rattle.trace_text.specs.Head.{head_line}
 use Rattle.trace_text.specs.Line.{line_of}
@@ -44,11 +45,18 @@ harts_from r h (hart ∷ harts) = (hart, r h) ∷ harts_from r (h + 1) harts
 abbrev pub trace_head : TraceForm → ℕ → List ℕ → Span → List SymbolValue → World → List ℕ
 trace_head form.Lines entry inputs span symbols w = head_line entry inputs span symbols (harts_from w.reserved 0 w.harts)
 trace_head form.Table entry inputs span symbols w = head_rows (length inputs)
+trace_head form.Shared entry inputs span symbols w = head_rows (length inputs)
+
+-- a text, where an instruction accesses memory
+abbrev pub where_accessed : Option ToldAccess → List ℕ → List ℕ
+where_accessed None text = []
+where_accessed (Some access) text = text
 
 -- the text of choice k in a form
 abbrev pub entry_in : TraceForm → PageValue → Told → ℕ → List ℕ
 entry_in form.Lines page told k = line_of told k
 entry_in form.Table page told k = table_row page.symbols told k page.harts
+entry_in form.Shared page told k = where_accessed told.access (table_row page.symbols told k page.harts)
 
 -- the text of choice k
 abbrev pub choice_entry : PageValue → Told → ℕ → List ℕ

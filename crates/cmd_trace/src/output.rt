@@ -28,7 +28,10 @@ fn push_entry<A: Allocator + Copy>(
 {
     match page.form {
         TraceForm::Lines => push_line(alloc, buffer, told, k),
-        TraceForm::Table => push_row(alloc, buffer, page.symbols, told, k, page.harts),
+        TraceForm::Shared if told.access.is_none() => Ok(()),
+        TraceForm::Table | TraceForm::Shared => {
+            push_row(alloc, buffer, page.symbols, told, k, page.harts)
+        }
     }
 }
 

@@ -11,6 +11,8 @@ pub enum TraceForm {
     Lines,
     /// A table in Markdown, with a row for each choice and a column for each hart.
     Table,
+    /// The rows of that table alone whose instruction accesses memory.
+    Shared,
 }
 
 /// The choices of a run that are traced, and the form. Choices are numbered from 1, by their places

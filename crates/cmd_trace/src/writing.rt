@@ -45,7 +45,7 @@ fn push_head_of<A: Allocator + Copy>(
                 &harts,
             )
         }
-        TraceForm::Table => push_head_rows(buffer, inputs.harts()),
+        TraceForm::Table | TraceForm::Shared => push_head_rows(buffer, inputs.harts()),
     }
 }
 

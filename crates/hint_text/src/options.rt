@@ -166,6 +166,7 @@ pub(crate) const COMMANDS: [Row; 14] = [
             "--from",
             "--to",
             "--table",
+            "--shared",
         ],
         example: "rvcons trace prog.elf --inputs 7,9 --choices turns.choices --table",
     },

@@ -201,6 +201,7 @@ fn trace_text(alloc: Global, order: &TraceOrder) -> Result<String, AllocError> {
         ("from", order.from),
         ("to", order.to),
         ("table", flag(order.table)),
+        ("shared", flag(order.shared)),
     ];
     push_fields(&mut text, fields)?;
     Ok(text)

@@ -66,7 +66,11 @@ fn is_told(host: Global, form: TraceForm, lines: usize) -> Option<bool> {
 
 #[test]
 fn trace_tells_want_of_memory(rt: HostRuntime) {
-    for (form, lines) in [(TraceForm::Lines, 14), (TraceForm::Table, 15)] {
+    for (form, lines) in [
+        (TraceForm::Lines, 14),
+        (TraceForm::Table, 15),
+        (TraceForm::Shared, 11),
+    ] {
         assert!(rt;
             is_told(rt.alloc(), form, lines) == Some(true),
             "{lines} lines"
