@@ -4,3 +4,6 @@ pub mod StepLemmas
 pub mod TellLemmas
 pub mod RegisterLemmas
 pub mod ElsewhereLemmas
+pub mod EndLemmas
+pub mod FailureLemmas
+pub mod ExplainLemmas

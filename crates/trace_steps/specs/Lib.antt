@@ -6,3 +6,6 @@ pub mod Told
 pub mod Met
 pub mod Tells
 pub mod Covers
+pub mod Ends
+pub mod Failures
+pub mod Explains

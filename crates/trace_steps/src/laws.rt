@@ -1,10 +1,15 @@
 //! Laws of what is told of a run.
-ghost use Rattle.std.specs.Prelude.{◌≡◌, ℕ, ◌<◌, List, ◌++◌, Some, slice_get, take, length};
+ghost use Rattle.std.specs.Prelude.{◌≡◌, ℕ, ◌<◌, List, ◌++◌, map, Bool, not, ◌&&◌, Option, Some, is_some, slice_get, take, length};
 ghost use Rattle.std.specs.List.{All};
+ghost use Rattle.hart_reservations.specs.Marks.{names};
 ghost use Rattle.machine.specs.World.{World, step, run};
 ghost use Rattle.machine.specs.declared.choice.Choice.{Choice};
 ghost use Rattle.trace_steps.specs.Told.{hart_at, told_choice};
 ghost use Rattle.trace_steps.specs.Tells.{tells};
+ghost use Rattle.trace_steps.specs.Explains.{Followed, explains, followed_run};
+ghost use Rattle.trace_steps.specs.Failures.{sc_failure};
+ghost use Rattle.trace_steps.specs.declared.ending.Ending.{Ending};
+ghost use Rattle.trace_steps.specs.declared.explaining.Explained.{Explained};
 ghost use Rattle.trace_steps.specs.Covers.{IsNotWritten, IsElsewhere, IsOfAnother};
 
 /// What is told of choices after choices is what is told of the earlier ones, and then of the later
@@ -43,4 +48,21 @@ pub fn memory_changes_where_it_is_told()
 pub fn hart_that_is_not_told_stays()
     ensures { (w : World) (choices : List Choice) (k : ℕ) → All (IsOfAnother k) (tells w choices)
         → hart_at (run w choices) k ≡ hart_at w k }
+{}
+
+/// A store-conditional has a reason to fail exactly where its hart hasn't reserved its word, or it is
+/// refused: where the machine doesn't store.
+#[tactic(auto, using(crate::proofs::FailureLemmas::fails_for_a_reason))]
+pub fn store_conditional_fails_for_a_reason()
+    ensures { (held : Option ℕ) (address h : ℕ) (refuse : Bool) (last : Option Ending)
+        → is_some (sc_failure held address refuse h last) ≡ not (names held address && not refuse) }
+{}
+
+/// A run that is followed goes through the worlds of the run, and what is told of its choices is what
+/// they did.
+#[tactic(auto, using(crate::proofs::ExplainLemmas::follows_world, crate::proofs::ExplainLemmas::explains_tells))]
+pub fn followed_run_is_the_run()
+    ensures world { (f : Followed) (k : ℕ) (choices : List Choice) → (followed_run f k choices).world ≡ run f.world choices }
+    ensures told { (f : Followed) (k : ℕ) (choices : List Choice)
+        → map (λ (e : Explained). e.told) (explains f k choices) ≡ tells f.world choices }
 {}
