@@ -1,5 +1,7 @@
 -- The runs of seeds, one by one and as a list.
-use Rattle.std.proofs.Common.{◌≡◌, ℕ, zero, suc, ◌+◌, List, [], ◌∷◌, map, length, Ok, Err, IfOk, refl, arith, ap, ap₂, sym, ◌∙◌, subst}
+use Rattle.std.proofs.Common.{◌≡◌, ℕ, zero, suc, ◌+◌, List, [], ◌∷◌, ◌++◌, map, length, Ok, Err, IfOk, refl, arith, ap, ap₂, sym, ◌∙◌, subst}
+use Rattle.std.proofs.lemmas.List.{map-append}
+use Rattle.std.proofs.lemmas.List.FromFn.{map-range_with_len_more}
 use Rattle.std.specs.Prelude.{MatchResult}
 use Rattle.std.specs.List.{AllZip, Contains, range_with_len}
 use Rattle.std.specs.declared.result.Result.{Result}
@@ -47,6 +49,15 @@ pub endings-started : (campaign : Campaign) (image : ImageValue) (inputs seeds :
     → map (ending_from start campaign inputs) seeds ≡ endings_of campaign image inputs seeds
 unfolding endings_of
 endings-started campaign image inputs seeds start begun = ap (λ w. map (ending_from w campaign inputs) seeds) begun
+
+-- one run more
+pub one_run_more : {X Y : Type 0} (g : Y → X) (f : ℕ → X) (first place : ℕ) (ys : List Y) (y : Y)
+    → map g ys ≡ map f (range_with_len first place) → g y ≡ f (first + place)
+    → map g (ys ++ y ∷ []) ≡ map f (range_with_len first (place + 1))
+one_run_more g f first place ys y before this =
+    map-append g ys (y ∷ [])
+    ∙ ap₂ (λ xs x. xs ++ x ∷ []) before this
+    ∙ sym (map-range_with_len_more f first place (first + place) refl)
 
 -- places that are counted from 0, and numbers that are counted from a first one
 map-shifted : {X : Type 0} (f : ℕ → X) (a b n : ℕ) → map (λ place. f (a + place)) (range_with_len b n) ≡ map f (range_with_len (a + b) n)

@@ -3,3 +3,4 @@ pub mod Blocks
 pub mod Ending
 pub mod Runs
 pub mod Tally
+pub mod Jobs

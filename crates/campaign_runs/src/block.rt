@@ -1,4 +1,4 @@
-//! The runs of a block of seeds, on all processors.
+//! The runs of a block of seeds, on threads or on one alone.
 
 ghost use Rattle.std.specs.Prelude.{◌≡◌, ◌+◌, ◌<◌, ◌≤◌, ◌^◌, IfOk, length, map};
 ghost use Rattle.std.specs.List.{range_with_len};
@@ -6,6 +6,7 @@ ghost use Rattle.machine.specs.Machine.{world};
 ghost use Rattle.campaign_runs.specs.Runs.{seed_ending, ending_from, endings_of};
 
 use crate::campaign::Campaign;
+use crate::jobs::Jobs;
 use crate::seed_run::{SeedEnd, run_seed};
 use crate::seeds::Block;
 use image::Image;
@@ -16,10 +17,11 @@ use rayon::prelude::*;
 use std::alloc::{AllocError, Allocator};
 use std::thread::Threads;
 
-/// How the runs of a block of seeds end, in order. One machine is started for all of them. The only
-/// error is out of memory.
-pub fn run_block<A: Allocator + Copy + Send + Sync, B: Allocator + Sync>(
+/// How the runs of a block of seeds end, in order, on threads. One machine is started for all of
+/// them. The only error is out of memory.
+pub(crate) fn run_block<A: Allocator + Copy + Send + Sync, B: Allocator + Sync>(
     rt: &(impl Threads + Sync),
+    jobs: Jobs,
     alloc: A,
     image: &Image<B>,
     inputs: &Inputs,
@@ -31,14 +33,15 @@ pub fn run_block<A: Allocator + Copy + Send + Sync, B: Allocator + Sync>(
         ≡ endings_of campaign image.now inputs.now (range_with_len block.first block.count)) }
 {
     let start: Machine<FlatStore<A>, A> = Machine::start(alloc, image, inputs)?;
-    let ends = run_each(rt, alloc, &start, inputs, campaign, block)?;
+    let ends = run_each(rt, jobs, alloc, &start, inputs, campaign, block)?;
     Ok(ends)
 }
 
-// Runs seeds, each on a copy of a machine, in pieces of at least one seed: one run is worth a
-// thread.
+// Runs seeds, each on a copy of a machine. Each thread takes a piece, so no more begin than there
+// are jobs.
 fn run_each<S: FromImage<A> + Sync, A: Allocator + Copy + Send + Sync>(
     rt: &(impl Threads + Sync),
+    jobs: Jobs,
     alloc: A,
     start: &Machine<S, A>,
     inputs: &Inputs,
@@ -54,7 +57,7 @@ fn run_each<S: FromImage<A> + Sync, A: Allocator + Copy + Send + Sync>(
     let first = block.first;
     let ends: Result<Vec<SeedEnd<A>, A>, AllocError> = (0..block.count)
         .into_par_iter()
-        .with_min_len(1)
+        .with_min_len(jobs.least_piece(block.count))
         .map(
             |place: u64| -> Result<SeedEnd<A>, AllocError>
                 requires { (length (world S.memory start.now).harts ≡ length inputs.now) × (first + place < 2 ^ 64) }
@@ -64,4 +67,44 @@ fn run_each<S: FromImage<A> + Sync, A: Allocator + Copy + Send + Sync>(
         )
         .collect(rt, alloc)?;
     ends
+}
+
+/// The same on this processor alone.
+pub(crate) fn run_block_alone<A: Allocator + Copy, B: Allocator>(
+    alloc: A,
+    image: &Image<B>,
+    inputs: &Inputs,
+    campaign: Campaign,
+    block: Block,
+) -> Result<Vec<SeedEnd<A>, A>, AllocError>
+    requires fits { block.first + block.count ≤ 2 ^ 64 }
+    ensures { IfOk result (λ ends. map seed_ending ends.items
+        ≡ endings_of campaign image.now inputs.now (range_with_len block.first block.count)) }
+{
+    let start: Machine<FlatStore<A>, A> = Machine::start(alloc, image, inputs)?;
+    let ends = run_in_order(alloc, &start, inputs, campaign, block)?;
+    Ok(ends)
+}
+
+// Runs seeds one after another, each on a copy of a machine.
+#[tactic(auto, using(crate::proofs::RunLemmas::one_run_more))]
+fn run_in_order<S: FromImage<A>, A: Allocator + Copy>(
+    alloc: A,
+    start: &Machine<S, A>,
+    inputs: &Inputs,
+    campaign: Campaign,
+    block: Block,
+) -> Result<Vec<SeedEnd<A>, A>, AllocError>
+    requires there { length (world S.memory start.now).harts ≡ length inputs.now }
+    requires fits { block.first + block.count ≤ 2 ^ 64 }
+    ensures { IfOk result (λ ends. map seed_ending ends.items
+        ≡ map (ending_from (world S.memory start.now) campaign inputs.now)
+        (range_with_len block.first block.count)) }
+{
+    let mut ends = Vec::new(alloc);
+    'seeds: for place in 0..block.count {
+        let end = run_seed(alloc, start, inputs, campaign, block.first + place)?;
+        ends.push(end)?;
+    }
+    Ok(ends)
 }

@@ -2,10 +2,11 @@
 //! runs end.
 #![tactic(auto)]
 
-pub use block::run_block;
 pub use campaign::{Campaign, Report};
 pub use ending::{Ending, HartResult};
+pub use jobs::Jobs;
 pub use laws::{blocks_are_counted_together, each_ending_is_counted, same_endings_are_equal};
+pub use runner::{Alone, OnThreads, Runner};
 pub use seed_run::{SeedEnd, run_seed};
 pub use seeds::{BLOCK_STEPS, Block, LEAST_SEEDS, MOST_SEEDS, Seeds};
 pub use tally::{SeedCount, Tally};
@@ -13,7 +14,9 @@ pub use tally::{SeedCount, Tally};
 mod block;
 mod campaign;
 mod ending;
+mod jobs;
 mod laws;
+mod runner;
 mod seed_run;
 mod seeds;
 mod tally;

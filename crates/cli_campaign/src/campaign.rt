@@ -11,7 +11,9 @@ use cli_report::{
     inputs_said, open_one, read_again, rule_said, say_why, wipe_line,
 };
 use cli_values::{read_draw, read_report, read_seed_numbers};
-use cmd_campaign::{Campaign, Exit, Expect, Finished, campaign_engine, until_failure_engine};
+use cmd_campaign::{
+    Campaign, Exit, Expect, Finished, Jobs, OnThreads, campaign_engine, until_failure_engine,
+};
 use cmd_schedule::{SeedPlan, seed_engine};
 use program_open::{ProgramForm, write_text};
 use sched_draw::Order;
@@ -144,8 +146,12 @@ fn report_campaign<R: Files + AllocGlobal + Print + Eprint + Threads + Sync, P: 
         bad: what_is_bad(campaign.expect),
         is_shown: false,
     };
+    let runner = &OnThreads {
+        rt,
+        jobs: Jobs::ForProcessors,
+    };
     let answer = if order.until_failure {
-        match until_failure_engine(rt, rt.alloc(), inputs, campaign, program, &mut line) {
+        match until_failure_engine(runner, rt.alloc(), inputs, campaign, program, &mut line) {
             Ok((text, finished)) => match write_text(&mut sink, text.as_bytes()) {
                 Ok(()) => Ok(finished),
                 Err(fault) => Err(fault),
@@ -154,7 +160,7 @@ fn report_campaign<R: Files + AllocGlobal + Print + Eprint + Threads + Sync, P: 
         }
     } else {
         campaign_engine(
-            rt,
+            runner,
             rt.alloc(),
             inputs,
             campaign,

@@ -18,12 +18,11 @@ use crate::findings::{Findings, count_failures};
 use crate::record::record_block;
 use crate::rows::summary_text;
 use byte_io::{Progress, Sink, Source, Status, write_all};
-use campaign_runs::{Campaign, Seeds, Tally, run_block};
+use campaign_runs::{Campaign, Runner, Seeds, Tally};
 use image::Image;
 use machine::Inputs;
 use program_open::{CommandFault, ProgramForm, read_image};
 use std::alloc::{AllocError, Allocator};
-use std::thread::Threads;
 
 /// How a campaign ended.
 #[derive(Clone, Copy, PartialEq, Eq)]
@@ -44,8 +43,8 @@ fn see_count(campaign: Campaign)
 
 // Does the runs of all seeds, block by block, and records them. After a fault the sink may have a
 // beginning of their lines.
-fn run_blocks<A: Allocator + Copy + Send + Sync, K: Sink>(
-    rt: &(impl Threads + Sync),
+fn run_blocks<A: Allocator + Copy, W: Runner<A>, K: Sink>(
+    runner: &W,
     alloc: A,
     image: &Image<A>,
     inputs: &Inputs,
@@ -53,6 +52,7 @@ fn run_blocks<A: Allocator + Copy + Send + Sync, K: Sink>(
     sink: &mut K,
     progress: &mut impl Progress,
 ) -> Result<(Tally<A>, Finished), CommandFault>
+    requires ready { W.ready runner.now }
     requires fits { campaign.first + campaign.count ≤ 2 ^ 64 }
     requires sink_counts { K.failures sink.old < 2 ^ 64 - 1 }
     ensures written { IfOk result (λ _. Appends (K.held sink.old) (K.held sink.new)
@@ -75,7 +75,7 @@ fn run_blocks<A: Allocator + Copy + Send + Sync, K: Sink>(
     let mut done = 0u64;
     let mut bad = 0u64;
     'blocks: while let Some(block) = seeds.next_block(campaign.steps) {
-        let ends = match run_block(rt, alloc, image, inputs, campaign, block) {
+        let ends = match runner.run_block(alloc, image, inputs, campaign, block) {
             Ok(ends) => ends,
             Err(AllocError) => return Err(CommandFault::Memory),
         };
@@ -119,8 +119,8 @@ fn write_rows<A: Allocator + Copy, K: Sink>(
 
 // Does the runs of all seeds and writes their report. After a fault the sink may have a beginning
 // of it.
-fn write_report<A: Allocator + Copy + Send + Sync, K: Sink>(
-    rt: &(impl Threads + Sync),
+fn write_report<A: Allocator + Copy, W: Runner<A>, K: Sink>(
+    runner: &W,
     alloc: A,
     image: &Image<A>,
     inputs: &Inputs,
@@ -128,6 +128,7 @@ fn write_report<A: Allocator + Copy + Send + Sync, K: Sink>(
     sink: &mut K,
     progress: &mut impl Progress,
 ) -> Result<Finished, CommandFault>
+    requires ready { W.ready runner.now }
     requires fits { campaign.first + campaign.count ≤ 2 ^ 64 }
     requires sink_counts { K.failures sink.old < 2 ^ 64 - 1 }
     ensures written { IfOk result (λ _. Appends (K.held sink.old) (K.held sink.new)
@@ -142,7 +143,9 @@ fn write_report<A: Allocator + Copy + Send + Sync, K: Sink>(
     ensures fault { IfErr result (λ fault.
         IfHalts fault (K.failures sink.old < K.failures sink.new)) }
 {
-    let (tally, finished) = match run_blocks(rt, alloc, image, inputs, campaign, sink, progress) {
+    let (tally, finished) = match run_blocks(
+        runner, alloc, image, inputs, campaign, sink, progress,
+    ) {
         Ok(answer) => answer,
         Err(fault) => return Err(fault),
     };
@@ -153,8 +156,8 @@ fn write_report<A: Allocator + Copy + Send + Sync, K: Sink>(
 }
 
 // Writes the report of an image's campaign. Nothing is written if the inputs are invalid.
-fn write_campaign<A: Allocator + Copy + Send + Sync, K: Sink>(
-    rt: &(impl Threads + Sync),
+fn write_campaign<A: Allocator + Copy, W: Runner<A>, K: Sink>(
+    runner: &W,
     alloc: A,
     inputs: &[u32],
     campaign: Campaign,
@@ -162,6 +165,7 @@ fn write_campaign<A: Allocator + Copy + Send + Sync, K: Sink>(
     sink: &mut K,
     progress: &mut impl Progress,
 ) -> Result<Finished, CommandFault>
+    requires ready { W.ready runner.now }
     requires fits { campaign.first + campaign.count ≤ 2 ^ 64 }
     requires sink_counts { K.failures sink.old < 2 ^ 64 - 1 }
     ensures takes { IfOk result (λ _. IsStartable inputs.now) }
@@ -190,15 +194,15 @@ fn write_campaign<A: Allocator + Copy + Send + Sync, K: Sink>(
         Ok(inputs) => inputs,
         Err(fault) => return Err(CommandFault::from(fault)),
     };
-    write_report(rt, alloc, image, &inputs, campaign, sink, progress)
+    write_report(runner, alloc, image, &inputs, campaign, sink, progress)
 }
 
 /// `campaign`: reads an ELF file to its end, does a run for each seed, and writes their report:
 /// lines while the runs go on, a summary once all are done. Nothing is written if an input is
 /// invalid, nor of a summary if out of memory; after any other fault the sink may have a beginning
 /// of the report.
-pub fn campaign_engine<A: Allocator + Copy + Send + Sync, P: Source, K: Sink>(
-    rt: &(impl Threads + Sync),
+pub fn campaign_engine<A: Allocator + Copy, W: Runner<A>, P: Source, K: Sink>(
+    runner: &W,
     alloc: A,
     inputs: &[u32],
     campaign: Campaign,
@@ -206,6 +210,7 @@ pub fn campaign_engine<A: Allocator + Copy + Send + Sync, P: Source, K: Sink>(
     sink: &mut K,
     progress: &mut impl Progress,
 ) -> Result<Finished, CommandFault>
+    requires ready { W.ready runner.now }
     requires fits { campaign.first + campaign.count ≤ 2 ^ 64 }
     requires program_counts { P.failures program.old < 2 ^ 64 - 1 }
     requires sink_counts { K.failures sink.old < 2 ^ 64 - 1 }
@@ -246,5 +251,5 @@ pub fn campaign_engine<A: Allocator + Copy + Send + Sync, P: Source, K: Sink>(
         Ok(image) => image,
         Err(fault) => return Err(fault),
     };
-    write_campaign(rt, alloc, inputs, campaign, &image, sink, progress)
+    write_campaign(runner, alloc, inputs, campaign, &image, sink, progress)
 }

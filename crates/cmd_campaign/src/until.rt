@@ -8,13 +8,12 @@ ghost use Rattle.cmd_campaign.specs.Until.{first_failing, ended_at, until_answer
 use crate::engine::Finished;
 use crate::lines::push_end;
 use byte_io::{Progress, Source, Status};
-use campaign_runs::{Campaign, SeedEnd, Seeds, run_block};
+use campaign_runs::{Campaign, Runner, SeedEnd, Seeds};
 use image::Image;
 use machine::Inputs;
 use outcome::Expect;
 use program_open::{CommandFault, ProgramForm, read_image};
 use std::alloc::{AllocError, Allocator};
-use std::thread::Threads;
 
 // The first run that has failed, if there is one.
 fn first_failing<'a, A: Allocator>(expect: Expect, ends: &'a [SeedEnd<A>]) -> Option<&'a SeedEnd<A>>
@@ -50,14 +49,15 @@ fn stop_at<A: Allocator + Copy>(
 
 // Does the runs, block by block, until one in a block has failed: its seed is the least, however
 // the block's threads take turns.
-fn find_failure<A: Allocator + Copy + Send + Sync>(
-    rt: &(impl Threads + Sync),
+fn find_failure<A: Allocator + Copy, W: Runner<A>>(
+    runner: &W,
     alloc: A,
     image: &Image<A>,
     inputs: &Inputs,
     campaign: Campaign,
     progress: &mut impl Progress,
 ) -> Result<(String<A>, Finished), AllocError>
+    requires ready { W.ready runner.now }
     requires fits { campaign.first + campaign.count ≤ 2 ^ 64 }
     ensures { IfOk result (λ answer. (string_bytes answer.0, answer.1)
         ≡ ended_at campaign.expect.exit (first_failing campaign.expect.exit (all_endings campaign image.now inputs.now))) }
@@ -65,7 +65,7 @@ fn find_failure<A: Allocator + Copy + Send + Sync>(
     let mut seeds = Seeds::new(campaign.first, campaign.count);
     let mut done = 0u64;
     'blocks: while let Some(block) = seeds.next_block(campaign.steps) {
-        let ends = run_block(rt, alloc, image, inputs, campaign, block)?;
+        let ends = runner.run_block(alloc, image, inputs, campaign, block)?;
         if let Some(end) = first_failing(campaign.expect, &ends) {
             let answer = stop_at(alloc, campaign.expect, end)?;
             return Ok(answer);
@@ -84,14 +84,15 @@ fn find_failure<A: Allocator + Copy + Send + Sync>(
 /// one has failed. Returns the line of that run with its status, or no text with status 0 if no run
 /// fails.
 #[tactic(auto, unfolding(crate::specs::Until::until_answer))]
-pub fn until_failure_engine<A: Allocator + Copy + Send + Sync, P: Source>(
-    rt: &(impl Threads + Sync),
+pub fn until_failure_engine<A: Allocator + Copy, W: Runner<A>, P: Source>(
+    runner: &W,
     alloc: A,
     inputs: &[u32],
     campaign: Campaign,
     program: &mut P,
     progress: &mut impl Progress,
 ) -> Result<(String<A>, Finished), CommandFault>
+    requires ready { W.ready runner.now }
     requires fits { campaign.first + campaign.count ≤ 2 ^ 64 }
     requires program_counts { P.failures program.old < 2 ^ 64 - 1 }
     // The first run that has failed, and no other, is reported, and ends the campaign.
@@ -106,7 +107,7 @@ pub fn until_failure_engine<A: Allocator + Copy + Send + Sync, P: Source>(
 {
     let image = read_image(alloc, ProgramForm::Elf, program)?;
     let inputs = Inputs::new(inputs)?;
-    match find_failure(rt, alloc, &image, &inputs, campaign, progress) {
+    match find_failure(runner, alloc, &image, &inputs, campaign, progress) {
         Ok(answer) => Ok(answer),
         Err(AllocError) => Err(CommandFault::Memory),
     }

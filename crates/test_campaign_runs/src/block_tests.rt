@@ -4,7 +4,7 @@ ghost use Rattle.std.specs.Prelude.{◌≤◌};
 
 use crate::plain_runs::plain_ending;
 use crate::plans::{Order, Plan, answered, campaign_of, program_of};
-use campaign_runs::{Block, HartResult, Report, SeedEnd, Seeds, run_block};
+use campaign_runs::{Alone, Block, HartResult, Jobs, OnThreads, Report, Runner, SeedEnd, Seeds};
 use image::Image;
 use machine::Inputs;
 use object_library::Kind;
@@ -27,12 +27,14 @@ fn plan_of(first: u64, count: u64, steps: u32) -> Plan {
 }
 
 // How the runs of a plan end, as one block.
-fn ends_of<R: Threads + Sync>(
-    rt: &R,
+fn ends_of<W: Runner<Global>>(
+    runner: &W,
     alloc: Global,
     inputs: &[u32],
     plan: Plan,
-) -> Result<Vec<SeedEnd<Global>, Global>, AllocError> {
+) -> Result<Vec<SeedEnd<Global>, Global>, AllocError>
+    requires ready { W.ready runner.now }
+{
     let image = writable_program(alloc, &CONDITIONAL)?;
     let Ok(inputs) = Inputs::new(inputs) else {
         return Err(AllocError);
@@ -44,7 +46,7 @@ fn ends_of<R: Threads + Sync>(
         first: campaign.first,
         count: campaign.count,
     };
-    run_block(rt, alloc, &image, &inputs, campaign, block)
+    runner.run_block(alloc, &image, &inputs, campaign, block)
 }
 
 // The inputs of four harts.
@@ -74,20 +76,38 @@ fn count_plain(alloc: Global, image: &Image<Global>, ends: &[SeedEnd<Global>]) -
     plain
 }
 
-// How many runs of threads there are of the last seeds, and how many of them are those of plain
-// machines.
-fn count_runs<R: Threads + Sync>(rt: &R, alloc: Global) -> Result<(usize, u64), AllocError> {
-    let ends = ends_of(rt, alloc, &FOUR, plan_of(FIRST, 3000, 30))?;
+// How many runs there are of the last seeds, and how many of them are those of plain machines.
+fn count_runs<W: Runner<Global>>(runner: &W, alloc: Global) -> Result<(usize, u64), AllocError>
+    requires ready { W.ready runner.now }
+{
+    let ends = ends_of(runner, alloc, &FOUR, plan_of(FIRST, 3000, 30))?;
     let image = writable_program(alloc, &CONDITIONAL)?;
     Ok((ends.len(), count_plain(alloc, &image, ends.as_slice())))
 }
 
+// None is as one, and 64 are more than take part.
+const JOBS: [Jobs; 5] = [
+    Jobs::ForProcessors,
+    Jobs::AtMost(0),
+    Jobs::AtMost(1),
+    Jobs::AtMost(3),
+    Jobs::AtMost(64),
+];
+
 #[test]
-fn threads_run_what_plain_machines_run(rt: HostRuntime) -> Result<(), AllocError> {
-    let (runs, plain) = count_runs(&rt, rt.alloc())?;
-    assert!(rt; runs == 3000);
-    assert!(rt; plain == 3000, "run {plain}");
-    Ok(())
+fn threads_run_what_plain_machines_run(rt: HostRuntime) {
+    for jobs in &JOBS {
+        let runner = OnThreads {
+            rt: &rt,
+            jobs: *jobs,
+        };
+        assert!(rt; count_runs(&runner, rt.alloc()) == Ok((3000, 3000)));
+    }
+}
+
+#[test]
+fn one_thread_runs_what_plain_machines_run(rt: HostRuntime) {
+    assert!(rt; count_runs(&Alone, rt.alloc()) == Ok((3000, 3000)));
 }
 
 // What two harts hold at the start: their numbers and their inputs.
@@ -99,8 +119,10 @@ fn is_at_start(end: &SeedEnd<Global>) -> bool {
 }
 
 // Whether the runs of two seeds without a step are at the start.
-fn are_at_start<R: Threads + Sync>(rt: &R, alloc: Global) -> Result<bool, AllocError> {
-    let ends = ends_of(rt, alloc, &[7, 9], plan_of(5, 2, 0))?;
+fn are_at_start<W: Runner<Global>>(runner: &W, alloc: Global) -> Result<bool, AllocError>
+    requires ready { W.ready runner.now }
+{
+    let ends = ends_of(runner, alloc, &[7, 9], plan_of(5, 2, 0))?;
     match ends.as_slice() {
         [one, other] => Ok(is_at_start(one) && is_at_start(other)),
         _ => Ok(false),
@@ -109,7 +131,16 @@ fn are_at_start<R: Threads + Sync>(rt: &R, alloc: Global) -> Result<bool, AllocE
 
 #[test]
 fn no_step_leaves_the_start(rt: HostRuntime) {
-    assert!(rt; are_at_start(&rt, rt.alloc()) == Ok(true));
+    assert!(rt;
+        are_at_start(
+            &OnThreads {
+                rt: &rt,
+                jobs: Jobs::ForProcessors
+            },
+            rt.alloc()
+        ) == Ok(true)
+    );
+    assert!(rt; are_at_start(&Alone, rt.alloc()) == Ok(true));
 }
 
 // How many lines a campaign with some inputs writes; none where there is no memory for its file.
@@ -178,21 +209,24 @@ fn left_behind<'a>(
 
 // Whether the blocks of a campaign of so many seeds are the campaign as a whole; none where memory
 // is refused.
-fn are_blocks_whole<R: Threads + Sync>(rt: &R, alloc: Global, count: u64) -> Option<bool>
-    requires { count ≤ 5000 }
+fn are_blocks_whole<W: Runner<Global>>(runner: &W, alloc: Global, count: u64) -> Option<bool>
+    requires ready { W.ready runner.now }
+    requires few { count ≤ 5000 }
 {
     let image = writable_program(alloc, &CONDITIONAL).ok()?;
     let inputs = Inputs::new(&[7, 9]).ok()?;
     let plan = plan_of(5, count, 8);
     let campaign = campaign_of(plan, Report::Outcomes)?;
-    let whole = ends_of(rt, alloc, inputs.words(), plan).ok()?;
+    let whole = ends_of(runner, alloc, inputs.words(), plan).ok()?;
     let mut left = whole.as_slice();
     let mut seeds = Seeds::new(5, count);
     for _ in 0..10 {
         let Some(block) = seeds.next_block(8) else {
             break;
         };
-        let ends = run_block(rt, alloc, &image, &inputs, campaign, block).ok()?;
+        let ends = runner
+            .run_block(alloc, &image, &inputs, campaign, block)
+            .ok()?;
         left = left_behind(left, ends.as_slice())?;
     }
     Some(left.is_empty())
@@ -202,7 +236,14 @@ fn are_blocks_whole<R: Threads + Sync>(rt: &R, alloc: Global, count: u64) -> Opt
 fn blocks_are_the_whole(rt: HostRuntime) {
     for count in [0, 1, 63, 64, 65, 5000] {
         assert!(rt;
-            are_blocks_whole(&rt, rt.alloc(), count) == Some(true),
+            are_blocks_whole(
+                &OnThreads {
+                    rt: &rt,
+                    jobs: Jobs::ForProcessors
+                },
+                rt.alloc(),
+                count
+            ) == Some(true),
             "{count} seeds"
         );
     }

@@ -4,7 +4,7 @@ use crate::plain_runs::plain_ending;
 use crate::plans::{Order, Plan, Program, REPORTS, answered, campaign_of, program_of};
 use byte_io::{Failing, FullSink, MemorySource, Status, Unheard};
 use campaign_runs::Report;
-use cmd_campaign::{Finished, campaign_engine, until_failure_engine};
+use cmd_campaign::{Finished, Jobs, OnThreads, campaign_engine, until_failure_engine};
 use image::ElfFault;
 use object_library::Kind;
 use outcome::Exit;
@@ -157,13 +157,17 @@ fn stops_at_the_first(rt: &(impl Threads + Sync), alloc: Global, row: &Bad) -> O
     let campaign = campaign_of(row.plan, Report::Lines)?;
     let mut source = MemorySource::new(&file);
     let (text, finished) = until_failure_engine(
-        rt,
+        &OnThreads {
+            rt,
+            jobs: Jobs::ForProcessors,
+        },
         alloc,
         row.inputs,
         campaign,
         &mut source,
         &mut Unheard,
-    ).ok()?;
+    )
+    .ok()?;
     Some(ending == Ok(finished) && text.as_bytes() == first_line(sink.bytes()))
 }
 
@@ -286,7 +290,17 @@ fn is_refused_until(rt: &(impl Threads + Sync), alloc: Global, row: &Refused) ->
     let file = file_of(alloc, row.file).ok()?;
     let campaign = campaign_of(ten_runs(row.steps), Report::Lines)?;
     let mut source = Failing::new(MemorySource::new(&file), row.passed);
-    let answer = until_failure_engine(rt, alloc, row.inputs, campaign, &mut source, &mut Unheard);
+    let answer = until_failure_engine(
+        &OnThreads {
+            rt,
+            jobs: Jobs::ForProcessors,
+        },
+        alloc,
+        row.inputs,
+        campaign,
+        &mut source,
+        &mut Unheard,
+    );
     Some(answer.err() == Some(row.fault))
 }
 
@@ -310,7 +324,10 @@ fn ended_in_vain(
     let campaign = campaign_of(ten_runs(300), report)?;
     let mut source = MemorySource::new(&file);
     let ending = campaign_engine(
-        rt,
+        &OnThreads {
+            rt,
+            jobs: Jobs::ForProcessors,
+        },
         alloc,
         &[7, 9, 5],
         campaign,

@@ -3,7 +3,7 @@ ghost use Rattle.std.specs.Prelude.{◌+◌, ◌≤◌, ◌^◌, IfSome};
 
 use byte_io::{Failing, MemorySink, MemorySource, Unheard};
 use campaign_runs::{Campaign, Report};
-use cmd_campaign::{Finished, campaign_engine};
+use cmd_campaign::{Finished, Jobs, OnThreads, campaign_engine};
 use object_library::Kind;
 use outcome::{Exit, Expect};
 use program_open::CommandFault;
@@ -124,7 +124,10 @@ pub(crate) fn answered(
     let mut source = Failing::new(MemorySource::new(program.file), program.passed);
     let mut sink = MemorySink::new(alloc);
     let ending = campaign_engine(
-        rt,
+        &OnThreads {
+            rt,
+            jobs: Jobs::ForProcessors,
+        },
         alloc,
         program.inputs,
         campaign,

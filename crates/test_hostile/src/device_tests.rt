@@ -5,7 +5,7 @@ ghost use Rattle.std.specs.Prelude.{◌≡◌};
 
 use byte_io::{Failing, FullSink, MemorySink, MemorySource, Status, Unheard};
 use cmd_asm::{AssemblyFault, assembled_file, listing_engine, write_file};
-use cmd_campaign::{Campaign, Report, campaign_engine};
+use cmd_campaign::{Campaign, Jobs, OnThreads, Report, campaign_engine};
 use cmd_debug::{DebugEngineFault, debug_engine};
 use cmd_replay::replay_engine;
 use cmd_run::{Exit, Expect, FileView, file_engine, run_engine};
@@ -192,7 +192,10 @@ fn campaign<R: Threads + Sync>(rt: &R, alloc: Global, failure: Failure) -> Outco
     let mut program = Failing::new(MemorySource::new(&EXITS), failure.calls(Device::Program));
     let mut sink = Failing::new(MemorySink::new(alloc), failure.calls(Device::Output));
     let result = campaign_engine(
-        rt,
+        &OnThreads {
+            rt,
+            jobs: Jobs::ForProcessors,
+        },
         alloc,
         &[7],
         three_seeds(),
@@ -353,7 +356,10 @@ fn full_view(alloc: Global, view: FileView) -> Result<Status, CommandFault> {
 fn full_campaign<R: Threads + Sync>(rt: &R, alloc: Global) -> Result<Status, CommandFault> {
     let mut program = MemorySource::new(&EXITS);
     let finished = campaign_engine(
-        rt,
+        &OnThreads {
+            rt,
+            jobs: Jobs::ForProcessors,
+        },
         alloc,
         &[7],
         three_seeds(),
