@@ -1,10 +1,10 @@
 //! The command `replay`.
 
 use clap::ArgMatches;
-use cli_args::text_of;
+use cli_args::{is_set, text_of};
 
-/// `replay FILE --inputs L --history H [--rule K]`: runs a program under a history, and prints what
-/// the run with that history printed.
+/// `replay FILE --inputs L --history H [--rule K] [--must-exit]`: runs a program under a history, and
+/// prints what the run with that history printed.
 #[derive(Drop)]
 pub struct ReplayOrder<'a> {
     /// The program's path.
@@ -15,6 +15,8 @@ pub struct ReplayOrder<'a> {
     pub history: &'a str,
     /// The name of the object whose rule is judged.
     pub rule: Option<&'a str>,
+    /// Whether a hart that still runs at the end makes the run fail.
+    pub must_exit: bool,
 }
 
 /// The order in clap's matches.
@@ -24,5 +26,6 @@ pub(crate) fn replay_order<'a>(matches: &ArgMatches<'a>) -> Option<ReplayOrder<'
         inputs: text_of(matches, "inputs")?,
         history: text_of(matches, "history")?,
         rule: text_of(matches, "rule"),
+        must_exit: is_set(matches, "must-exit"),
     })
 }

@@ -12,9 +12,9 @@ pub enum Locks {
     Banks,
 }
 
-/// `threads FILE --inputs L --budget N [--refuse P] [--history OUT] [--rule K] [--banked]`: runs
-/// each hart in a thread of its own, writes the history of the run, and prints each hart's end and,
-/// with a rule, its verdict.
+/// `threads FILE --inputs L --budget N [--refuse P] [--history OUT] [--rule K] [--must-exit]
+/// [--banked]`: runs each hart in a thread of its own, writes the history of the run, and prints each
+/// hart's end and, with a rule, its verdict.
 #[derive(Drop)]
 pub struct ThreadsOrder<'a> {
     /// The program's path.
@@ -29,6 +29,8 @@ pub struct ThreadsOrder<'a> {
     pub history: Option<&'a str>,
     /// The name of the object whose rule is judged.
     pub rule: Option<&'a str>,
+    /// Whether a hart that still runs at the end makes the run fail.
+    pub must_exit: bool,
     /// What harts lock.
     pub locks: Locks,
 }
@@ -51,6 +53,7 @@ pub(crate) fn threads_order<'a>(matches: &ArgMatches<'a>) -> Option<ThreadsOrder
         refuse: text_of(matches, "refuse"),
         history: text_of(matches, "history"),
         rule: text_of(matches, "rule"),
+        must_exit: is_set(matches, "must-exit"),
         locks: locks_of(matches),
     })
 }

@@ -7,6 +7,7 @@ pub use threads::obey_threads;
 pub use trace::obey_trace;
 pub use trace_plan::read_trace_plan;
 
+mod exiting;
 mod history_hint;
 mod replay;
 mod shrink;

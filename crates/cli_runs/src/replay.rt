@@ -1,12 +1,15 @@
 //! Runs `replay`.
 
-use crate::history_hint::history_advice;
+use crate::exiting::exit_of;
+use crate::history_hint::{history_advice, is_explained};
 use byte_io::{Status, WriterSink};
 use cli_orders::ReplayOrder;
 use cli_report::{
-    Audience, RunChoices, RunFiles, inputs_said, open_both, read_again, rule_said, say_why, show,
+    Audience, EndsTold, Explained, RunChoices, RunFiles, inputs_said, open_both, read_again,
+    rule_said, say_why, show,
 };
 use cmd_replay::replay_engine;
+use outcome::Expect;
 use program_open::{ProgramForm, deliver};
 use std::io;
 use std::rt::Files;
@@ -19,12 +22,15 @@ pub fn obey_replay<R: Files + AllocGlobal + Print + Eprint>(
     order: &ReplayOrder,
 ) -> Result<Status, Status> {
     let inputs = inputs_said(rt, order.inputs)?;
-    let rule = rule_said(rt, order.rule)?;
+    let expect = Expect {
+        rule: rule_said(rt, order.rule)?,
+        exit: exit_of(order.must_exit),
+    };
     let (mut program, mut history) = open_both(rt, audience, order.file, order.history)?;
     let answer = replay_engine(
         rt.alloc(),
         inputs.as_slice(),
-        rule,
+        expect,
         &mut program,
         &mut history,
     );
@@ -36,8 +42,8 @@ pub fn obey_replay<R: Files + AllocGlobal + Print + Eprint>(
     };
     match deliver(&mut WriterSink::new(io::writer(rt)), answer) {
         Ok(status) => {
-            if status == Status::Faulted && audience.is_told() {
-                let _ = explain_faults(rt, order, inputs.as_slice());
+            if is_explained(status, audience) {
+                let _ = explain_ends(rt, order, inputs.as_slice(), expect);
             }
             Ok(status)
         }
@@ -45,15 +51,29 @@ pub fn obey_replay<R: Files + AllocGlobal + Print + Eprint>(
     }
 }
 
-// Explains the faults with which the replay ended, if its files can be read again.
-fn explain_faults<R: Files + AllocGlobal + Eprint>(
+// Explains how the replay ended, if its files can be read again.
+fn explain_ends<R: Files + AllocGlobal + Eprint>(
     rt: &R,
     order: &ReplayOrder,
     inputs: &[u32],
+    expect: Expect,
 ) -> Option<()> {
     let program = read_again(rt, order.file)?;
     let history = read_again(rt, order.history)?;
-    let text = history_advice(rt.alloc(), &program, inputs, &history)?;
+    let explained = Explained {
+        ends: ends_told(order.must_exit),
+        rule: expect.rule,
+    };
+    let text = history_advice(rt.alloc(), &program, inputs, &history, explained)?;
     show(rt, &text);
     Some(())
+}
+
+// Which ends of harts are explained.
+fn ends_told(must_exit: bool) -> EndsTold {
+    if must_exit {
+        EndsTold::FaultsAndRunning
+    } else {
+        EndsTold::Faults
+    }
 }

@@ -1,12 +1,13 @@
 //! Runs `shrink`.
 
+use crate::exiting::exit_of;
 use byte_io::{Status, WriterSink};
 use cli_orders::ShrinkOrder;
 use cli_report::{
     Audience, RunChoices, RunFiles, WIPE, inputs_said, open_run, rule_said, say_why, show,
 };
 use cmd_shrink::{ChoicesLeft, shrink_engine};
-use outcome::{Exit, Expect};
+use outcome::Expect;
 use program_open::{CommandFault, ProgramForm, deliver};
 use std::io;
 use std::rt::Files;
@@ -43,11 +44,7 @@ pub fn obey_shrink<R: Files + AllocGlobal + Print + Eprint>(
     order: &ShrinkOrder,
     choices: RunChoices<'_>,
 ) -> Result<Status, Status> {
-    let exit = if order.must_exit {
-        Exit::Must
-    } else {
-        Exit::May
-    };
+    let exit = exit_of(order.must_exit);
     let inputs = inputs_said(rt, order.inputs)?;
     let rule = rule_said(rt, order.rule)?;
     let expect = Expect { rule, exit };

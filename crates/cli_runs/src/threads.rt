@@ -2,16 +2,19 @@
 
 ghost use Rattle.std.specs.Prelude.{◌^◌, ◌-◌, ◌<◌};
 
-use crate::history_hint::history_advice;
+use crate::exiting::exit_of;
+use crate::history_hint::{history_advice, is_explained};
 use crate::telling_gate::TellingGate;
 use byte_io::{Source, Status, WriterSink};
 use cli_args::{LineFault, read_inputs, read_number};
 use cli_orders::{Locks, ThreadsOrder, read_plan};
 use cli_report::{
-    Audience, OutputFault, OutputFile, RunFiles, TEXT_MODE, cannot_write, is_same_file, open_one,
-    out_of_memory, read_again, read_rule, refuse, say, say_why, show, would_overwrite,
+    Audience, EndsTold, Explained, OutputFault, OutputFile, RunFiles, TEXT_MODE, cannot_write,
+    is_same_file, open_one, out_of_memory, read_again, read_rule, refuse, say, say_why, show,
+    would_overwrite,
 };
 use cmd_threads::{HistoryUse, ThreadsAnswer, ThreadsTask, banked_engine, threads_engine};
+use outcome::Expect;
 use program_open::{CommandFault, write_text};
 use std::alloc::Global;
 use std::collections::BTreeSet;
@@ -29,12 +32,15 @@ fn read_task(alloc: Global, order: &ThreadsOrder) -> Result<ThreadsTask<Global>,
         Some(text) => read_plan(alloc, text)?,
         None => BTreeSet::new(alloc),
     };
-    let rule = read_rule(order.rule)?;
+    let expect = Expect {
+        rule: read_rule(order.rule)?,
+        exit: exit_of(order.must_exit),
+    };
     Ok(ThreadsTask {
         inputs,
         budget,
         plan,
-        rule,
+        expect,
     })
 }
 
@@ -107,8 +113,8 @@ fn write_answer<R: Files + AllocGlobal + Print + Eprint>(
         answer.lines.as_bytes(),
     ) {
         Ok(()) => {
-            if answer.status == Status::Faulted && audience.is_told() {
-                let _ = explain_faults(rt, order, answer.history.as_bytes());
+            if is_explained(answer.status, audience) {
+                let _ = explain_ends(rt, order, answer.history.as_bytes());
             }
             Ok(answer.status)
         }
@@ -152,15 +158,28 @@ fn tell_fault<R: Files + AllocGlobal + Eprint>(
     say_why(rt, audience, RunFiles::of_program(order.file, harts), fault)
 }
 
-// Explains the faults with which the run ended, by its history, if its program can be read again.
-fn explain_faults<R: Files + AllocGlobal + Eprint>(
+// Explains how the run ended, by its history, if its program can be read again.
+fn explain_ends<R: Files + AllocGlobal + Eprint>(
     rt: &R,
     order: &ThreadsOrder,
     history: &[u8],
 ) -> Option<()> {
     let inputs = read_inputs(rt.alloc(), order.inputs).ok()?;
     let program = read_again(rt, order.file)?;
-    let text = history_advice(rt.alloc(), &program, inputs.as_slice(), history)?;
+    let explained = Explained {
+        ends: ends_told(order.must_exit),
+        rule: read_rule(order.rule).ok()?,
+    };
+    let text = history_advice(rt.alloc(), &program, inputs.as_slice(), history, explained)?;
     show(rt, &text);
     Some(())
+}
+
+// Which ends of harts are explained.
+fn ends_told(must_exit: bool) -> EndsTold {
+    if must_exit {
+        EndsTold::FaultsAndUsedUp
+    } else {
+        EndsTold::Faults
+    }
 }

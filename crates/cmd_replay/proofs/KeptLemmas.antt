@@ -8,12 +8,10 @@ use Rattle.image.specs.Image.{ImageValue}
 use Rattle.machine.specs.declared.choice.Choice.{Choice}
 use Rattle.history.specs.declared.entry.Entry.{Entry}
 use Rattle.history.specs.History.{choice, entry_choices, expanded}
-use Rattle.object_library.specs.declared.kind.Kind.{Kind}
+use Rattle.outcome.specs.declared.expect.Expect.{Expect}
 use Rattle.program_open.specs.Program.{program_of}
 use Rattle.program_open.specs.declared.program.ProgramForm.TheVariants as form
 use Rattle.cmd_run.specs.Certified.{AnswersKept, IsCertified}
-use Rattle.cmd_run.specs.Run.{may_run}
-use Rattle.outcome.specs.declared.expect.Exit.TheVariants.{May}
 use Rattle.cmd_run.proofs.CertifiedLemmas.{certified_shown}
 use Rattle.cmd_replay.specs.Replay.{replay_after, replay_opening, replay_answer}
 
@@ -32,13 +30,13 @@ within_history n (e ∷ entries) all =
     (within_history n entries (λ k d lt. all (suc k) d (omega arith)))
 
 -- a replay of a certified file keeps its rule, by what the devices had left
-pub known_kept : (inputs : List ℕ) (rule : Option Kind) (program text : Option (List ℕ)) (image : ImageValue) (entries : List Entry)
+pub known_kept : (inputs : List ℕ) (expect : Expect) (program text : Option (List ℕ)) (image : ImageValue) (entries : List Entry)
     → All (λ x. x < 2 ^ 32) inputs → All (λ e. e.hart < length inputs) entries → IfSome program (λ p. program_of form.Elf p ≡ Ok image)
     → IfSome program (λ p. IfSome text (λ h. replay_opening (length inputs) p h ≡ Ok (image, entries)))
-    → IfSome program (λ p. IfSome text (λ h. IsCertified form.Elf p inputs rule → AnswersKept May (replay_answer inputs rule p h)))
+    → IfSome program (λ p. IfSome text (λ h. IsCertified form.Elf p inputs expect.rule → AnswersKept expect.exit (replay_answer inputs expect p h)))
 unfolding replay_answer
-known_kept inputs rule None text image entries words there reads opens = tt
-known_kept inputs rule (Some p) None image entries words there reads opens = tt
-known_kept inputs rule (Some p) (Some h) image entries words there reads opens = λ certified.
-    subst (λ o. AnswersKept May (replay_after rule inputs o)) (sym opens)
-    (certified_shown form.Elf inputs (may_run rule) p image (expanded entries) words (within_history (length inputs) entries there) reads certified)
+known_kept inputs expect None text image entries words there reads opens = tt
+known_kept inputs expect (Some p) None image entries words there reads opens = tt
+known_kept inputs expect (Some p) (Some h) image entries words there reads opens = λ certified.
+    subst (λ o. AnswersKept expect.exit (replay_after expect inputs o)) (sym opens)
+    (certified_shown form.Elf inputs expect p image (expanded entries) words (within_history (length inputs) entries there) reads certified)

@@ -1,9 +1,9 @@
 -- The answer of a replay: the printed world after a history and the verdict, or the first fault.
-use Rattle.std.specs.Prelude.{ℕ, List, length, Option}
+use Rattle.std.specs.Prelude.{ℕ, List, length}
 use Rattle.std.specs.declared.result.Result.{Result}
 use Rattle.std.specs.declared.result.Result.TheVariants.{Ok, Err}
 use Rattle.image.specs.Image.{ImageValue}
-use Rattle.object_library.specs.declared.kind.Kind.{Kind}
+use Rattle.outcome.specs.declared.expect.Expect.{Expect}
 use Rattle.history.specs.declared.entry.Entry.{Entry}
 use Rattle.history.specs.declared.history_text.HistoryFault.{HistoryFault}
 use Rattle.history.specs.declared.history_text.HistoryFault.TheVariants as history
@@ -15,7 +15,7 @@ use Rattle.program_open.specs.Program.{program_of}
 use Rattle.program_open.specs.declared.program.ProgramForm.TheVariants as form
 use Rattle.program_open.specs.declared.command_fault.CommandFault.{CommandFault}
 use Rattle.program_open.specs.declared.command_fault.CommandFault.TheVariants as fault
-use Rattle.cmd_run.specs.Run.{may_run, shown, world_after}
+use Rattle.cmd_run.specs.Run.{shown, world_after}
 
 -- a fault of the history text
 abbrev pub fault_of_history : HistoryFault → CommandFault
@@ -38,11 +38,11 @@ replay_opening harts program text = after_program harts
     (λ image. with_history image (entries_of harts text)) (program_of form.Elf program)
 
 -- the answer for an opened replay
-abbrev pub replay_after : Option Kind → List ℕ → OpenedReplay → Answer
-replay_after rule inputs (Ok opened) =
-    Ok (shown (may_run rule) inputs (expanded opened.1) (world_after opened.0 inputs (expanded opened.1)))
-replay_after rule inputs (Err why) = Err why
+abbrev pub replay_after : Expect → List ℕ → OpenedReplay → Answer
+replay_after expect inputs (Ok opened) =
+    Ok (shown expect inputs (expanded opened.1) (world_after opened.0 inputs (expanded opened.1)))
+replay_after expect inputs (Err why) = Err why
 
--- the answer for a program and a history text, under a rule if there is one
-unfoldable pub replay_answer : List ℕ → Option Kind → List ℕ → List ℕ → Answer
-replay_answer inputs rule program text = replay_after rule inputs (replay_opening (length inputs) program text)
+-- the answer for a program and a history text, by what is expected of the run
+unfoldable pub replay_answer : List ℕ → Expect → List ℕ → List ℕ → Answer
+replay_answer inputs expect program text = replay_after expect inputs (replay_opening (length inputs) program text)

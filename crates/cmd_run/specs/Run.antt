@@ -6,22 +6,16 @@ use Rattle.machine.specs.World.{World, run}
 use Rattle.machine.specs.Start.{started}
 use Rattle.machine.specs.declared.choice.Choice.{Choice}
 use Rattle.hart_step.specs.Hart.{HartValue}
-use Rattle.object_library.specs.declared.kind.Kind.{Kind}
 use Rattle.object_library.specs.declared.verdict.Verdict.{Verdict}
 use Rattle.outcome.specs.Ends.{lines_of_ends, verdict_on}
 use Rattle.outcome.specs.Expect.{status_of}
 use Rattle.outcome.specs.Outcome.{outcome_of}
 use Rattle.outcome.specs.declared.expect.Exit.{Exit}
-use Rattle.outcome.specs.declared.expect.Exit.TheVariants.{May}
 use Rattle.outcome.specs.declared.expect.Expect.{Expect}
 use Rattle.program_open.specs.Answers.{Answer}
 use Rattle.program_open.specs.Opening.{Opened, opening}
 use Rattle.program_open.specs.declared.program.ProgramForm.{ProgramForm}
 use Rattle.byte_io.specs.declared.status.Status.{Status}
-
--- under a rule, if there is one; harts may still run at the end
-abbrev pub may_run : Option Kind → Expect
-may_run rule = record { rule = rule; exit = May }
 
 -- the printed harts with a verdict, and the status of their run
 abbrev pub shown_with : Exit → Option Verdict → List HartValue → List ℕ × Status

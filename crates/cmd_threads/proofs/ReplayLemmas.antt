@@ -13,14 +13,14 @@ use Rattle.history.specs.Printing.{history_text}
 use Rattle.history.specs.Reading.{entries_of}
 use Rattle.history.proofs.Agreement.{entries_of-spelled}
 use Rattle.history.proofs.PrintLemmas.{history_spells}
-use Rattle.object_library.specs.declared.kind.Kind.{Kind}
+use Rattle.outcome.specs.declared.expect.Expect.{Expect}
 use Rattle.byte_io.specs.declared.status.Status.{Status}
 use Rattle.program_open.specs.Answers.{Answer}
 use Rattle.program_open.specs.Opening.{after_program}
 use Rattle.program_open.specs.Program.{program_of}
 use Rattle.program_open.specs.declared.program.ProgramForm.TheVariants as form
 use Rattle.program_open.specs.declared.command_fault.CommandFault.TheVariants as fault
-use Rattle.cmd_run.specs.Run.{may_run, shown, world_after}
+use Rattle.cmd_run.specs.Run.{shown, world_after}
 use Rattle.cmd_replay.specs.Replay.{OpenedReplay, replay_after, replay_answer, replay_opening, with_history}
 
 -- what follows a program that loads and a number of harts that a machine has
@@ -44,14 +44,14 @@ read_back harts text entries few there small printed =
     ∙ entries_of-spelled harts (history_text entries) entries word (history_spells harts entries word there small)
 
 -- so `replay` answers what is printed after it
-pub replay_answers : (inputs : List ℕ) (rule : Option Kind) (program text : List ℕ) (image : ImageValue) (entries : List Entry) (answer : List ℕ × Status)
+pub replay_answers : (inputs : List ℕ) (expect : Expect) (program text : List ℕ) (image : ImageValue) (entries : List Entry) (answer : List ℕ × Status)
     → IsStartable inputs → All (λ e. e.hart < length inputs) entries → All (λ e. e.local < 2 ^ 32) entries
     → program_of form.Elf program ≡ Ok image → text ≡ history_text entries
-    → shown (may_run rule) inputs (expanded entries) (world_after image inputs (expanded entries)) ≡ answer
-    → replay_answer inputs rule program text ≡ Ok answer
+    → shown expect inputs (expanded entries) (world_after image inputs (expanded entries)) ≡ answer
+    → replay_answer inputs expect program text ≡ Ok answer
 unfolding replay_answer replay_opening
-replay_answers inputs rule program text image entries answer startable there small loads printed shows =
-    ap (replay_after rule inputs)
+replay_answers inputs expect program text image entries answer startable there small loads printed shows =
+    ap (replay_after expect inputs)
     (ap (after_program (length inputs) next) loads ∙ goes_on (length inputs) next image startable.0 startable.1
     ∙ ap (with_history image) (read_back (length inputs) text entries startable.1 there small printed))
     ∙ ap answered shows

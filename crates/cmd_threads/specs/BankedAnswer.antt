@@ -1,5 +1,5 @@
 -- The answer of a run on threads over banks: the choices of the logs' run, and what they print.
-use Rattle.std.specs.Prelude.{◌≡◌, ℕ, List, [], map, Option, Ok, string_bytes}
+use Rattle.std.specs.Prelude.{◌≡◌, ℕ, List, [], map, None, Ok, string_bytes}
 use Rattle.image.specs.Image.{ImageValue}
 use Rattle.hart_step.specs.Hart.{HartValue}
 use Rattle.machine.specs.declared.choice.Choice.{Choice}
@@ -17,12 +17,13 @@ use Rattle.history.specs.declared.entry.Entry.{Entry}
 use Rattle.history.specs.History.{expanded}
 use Rattle.history.specs.Printing.{history_text}
 use Rattle.history.specs.Plain.{plain_entry}
-use Rattle.object_library.specs.declared.kind.Kind.{Kind}
+use Rattle.outcome.specs.declared.expect.Exit.{Exit}
+use Rattle.outcome.specs.declared.expect.Expect.{Expect}
 use Rattle.program_open.specs.Program.{program_of}
 use Rattle.program_open.specs.declared.program.ProgramForm.TheVariants as form
 use Rattle.program_open.specs.declared.command_fault.CommandFault.{CommandFault}
 use Rattle.program_open.specs.declared.command_fault.CommandFault.TheVariants as fault
-use Rattle.cmd_run.specs.Run.{may_run, shown, world_after}
+use Rattle.cmd_run.specs.Run.{shown, world_after}
 use Rattle.cmd_threads.specs.Threads as one_lock
 use Rattle.cmd_threads.specs.declared.threads.ThreadsAnswer.{ThreadsAnswer}
 use Rattle.cmd_threads.specs.declared.history_use.HistoryUse.{HistoryUse}
@@ -47,22 +48,26 @@ abbrev pub text_for : HistoryUse → List Entry → List ℕ
 text_for Read entries = history_text entries
 text_for Unread entries = []
 
+-- without a rule
+abbrev pub unruled : Exit → Expect
+unruled exit = record { rule = None; exit = exit }
+
 -- an answer has the history of such choices if it is read, and what a replay of it prints
-pub record IsOfRun {A : Type 0} (image : ImageValue) (inputs : List ℕ) (budget : ℕ) (plan : List (ℕ × ℕ)) (rule : Option Kind) (history : HistoryUse) (answer : ThreadsAnswer A) : Type 0 where
+pub record IsOfRun {A : Type 0} (image : ImageValue) (inputs : List ℕ) (budget : ℕ) (plan : List (ℕ × ℕ)) (expect : Expect) (history : HistoryUse) (answer : ThreadsAnswer A) : Type 0 where
   pub choices : List Choice
   pub run : IsMergedRun image inputs budget plan choices
   pub entries : List Entry
   pub each : entries ≡ map plain_entry choices
   pub stand : expanded entries ≡ choices
   pub text : string_bytes answer.history ≡ text_for history entries
-  pub prints : shown (may_run rule) inputs (expanded entries) (world_after image inputs (expanded entries))
+  pub prints : shown expect inputs (expanded entries) (world_after image inputs (expanded entries))
       ≡ (string_bytes answer.lines, answer.status)
 
 -- an answer is that of a run of the file's program
-pub record IsBankedAnswer {A : Type 0} (inputs : List ℕ) (budget : ℕ) (plan : List (ℕ × ℕ)) (rule : Option Kind) (history : HistoryUse) (program : List ℕ) (answer : ThreadsAnswer A) : Type 0 where
+pub record IsBankedAnswer {A : Type 0} (inputs : List ℕ) (budget : ℕ) (plan : List (ℕ × ℕ)) (expect : Expect) (history : HistoryUse) (program : List ℕ) (answer : ThreadsAnswer A) : Type 0 where
   pub image : ImageValue
   pub reads : program_of form.Elf program ≡ Ok image
-  pub of_run : IsOfRun image inputs budget plan rule history answer
+  pub of_run : IsOfRun image inputs budget plan expect history answer
 
 -- a fault of the threads
 abbrev pub fault_of_banked_run : RunFault → CommandFault

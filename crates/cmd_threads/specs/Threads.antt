@@ -10,7 +10,7 @@ use Rattle.program_open.specs.declared.program.ProgramForm.TheVariants as form
 use Rattle.program_open.specs.declared.command_fault.CommandFault.{CommandFault}
 use Rattle.program_open.specs.declared.command_fault.CommandFault.TheVariants as fault
 use Rattle.cmd_run.specs.Certified.{EndsKept}
-use Rattle.outcome.specs.declared.expect.Exit.TheVariants.{May}
+use Rattle.outcome.specs.declared.expect.Exit.{Exit}
 use Rattle.thread_run.specs.Outcome.{IsOutcome}
 use Rattle.thread_run.specs.declared.fault.RunFault.{RunFault}
 use Rattle.thread_run.specs.declared.fault.RunFault.TheVariants as threads
@@ -24,9 +24,9 @@ pub record IsAnswer {A : Type 0} (inputs : List ℕ) (budget : ℕ) (plan : List
   pub outcome : IsOutcome image inputs budget plan (record { image = image; inputs = inputs; history = entries })
   pub text : string_bytes answer.history ≡ history_text entries
 
--- the lines end with `verdict kept`, and the status is 0
-abbrev pub HasKeptVerdict : {A : Type 0} → ThreadsAnswer A → Type 0
-HasKeptVerdict {A} answer = EndsKept May (string_bytes answer.lines) answer.status
+-- the lines end with `verdict kept`, and the status shows no broken rule
+abbrev pub HasKeptVerdict : {A : Type 0} → Exit → ThreadsAnswer A → Type 0
+HasKeptVerdict {A} exit answer = EndsKept exit (string_bytes answer.lines) answer.status
 
 -- a fault of the threads
 abbrev pub fault_of_run : RunFault → CommandFault

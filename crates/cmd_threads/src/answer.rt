@@ -5,17 +5,15 @@ ghost use Rattle.hart_step.specs.Hart.{hart_of};
 ghost use Rattle.history.specs.Plain.{plain_entry};
 ghost use Rattle.outcome.specs.Ends.{verdict_on};
 ghost use Rattle.cmd_run.specs.Run.{shown_with};
-ghost use Rattle.outcome.specs.declared.expect.Exit.TheVariants.{May};
 ghost use Rattle.cmd_threads.specs.BankedAnswer.{hart_of_log, text_for};
 
 use crate::ThreadsAnswer;
 use crate::history_use::HistoryUse;
 use bank_hart_log::HartLog;
-use cmd_run::{Exit, Expect, ends_text};
+use cmd_run::{Expect, ends_text};
 use hart_step::Hart;
 use history::choices_text;
 use machine::Choice;
-use object_library::Kind;
 use std::alloc::{AllocError, Allocator};
 
 /// The hart at the end of each log.
@@ -51,7 +49,7 @@ fn text_for<A: Allocator + Copy>(
 pub(crate) fn answer_of<A: Allocator + Copy>(
     alloc: A,
     inputs: &[u32],
-    rule: Option<Kind>,
+    expect: Expect,
     history: HistoryUse,
     choices: &[Choice],
     harts: &[Hart],
@@ -59,14 +57,11 @@ pub(crate) fn answer_of<A: Allocator + Copy>(
     ensures history { IfOk result (λ answer.
         string_bytes answer.history ≡ text_for history (map plain_entry choices.now)) }
     ensures lines { IfOk result (λ answer.
-        shown_with May (verdict_on rule inputs.now choices.now (map hart_of harts.now)) (map hart_of harts.now)
+        shown_with expect.exit
+        (verdict_on expect.rule inputs.now choices.now (map hart_of harts.now)) (map hart_of harts.now)
         ≡ (string_bytes answer.lines, answer.status)) }
 {
     let history = text_for(alloc, history, choices)?;
-    let expect = Expect {
-        rule,
-        exit: Exit::May,
-    };
     let (lines, status) = ends_text(alloc, expect, inputs, choices, harts)?;
     Ok(ThreadsAnswer {
         history,

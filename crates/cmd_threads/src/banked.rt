@@ -2,7 +2,7 @@
 //! logs, their ends and the verdict on them.
 
 ghost use Rattle.std.specs.Prelude.{◌≡◌, ◌≢◌, ◌^◌, ◌-◌, ◌<◌, length};
-ghost use Rattle.std.specs.Prelude.{Ok, Err, IfErr, IfOk, IfSome, None, string_bytes};
+ghost use Rattle.std.specs.Prelude.{Ok, Err, IfErr, IfOk, IfSome, string_bytes};
 ghost use Rattle.cmd_replay.specs.Replay.{replay_answer};
 ghost use Rattle.cmd_run.specs.Certified.{IsCertified};
 ghost use Rattle.machine.specs.Start.{IsStartable};
@@ -10,7 +10,7 @@ ghost use Rattle.program_open.specs.declared.program.ProgramForm.{ProgramForm};
 ghost use Rattle.bank_threads.specs.Banked.{IsBanked};
 ghost use Rattle.cmd_threads.specs.Threads.{HasKeptVerdict};
 ghost use Rattle.cmd_threads.specs.declared.history_use.HistoryUse.{HistoryUse};
-ghost use Rattle.cmd_threads.specs.BankedAnswer.{fault_of_banked_run, IfReadsBanked, IsBankedAnswer, IsOfRun, RefusesBanked};
+ghost use Rattle.cmd_threads.specs.BankedAnswer.{fault_of_banked_run, IfReadsBanked, IsBankedAnswer, IsOfRun, RefusesBanked, unruled};
 ghost use Rattle.program_open.specs.CommandFaults.{IsRefusal};
 
 use crate::answer::{answer_of, harts_of};
@@ -48,17 +48,18 @@ pub fn banked_engine<
 ) -> Result<ThreadsAnswer<A>, CommandFault>
     requires { P.failures program.old < 2 ^ 64 - 1 }
     ensures answer { IfOk result (λ answer. IfSome (P.left program.old) (λ p.
-        IsBankedAnswer task.inputs.items task.budget task.plan.keys task.rule history p answer)) }
+        IsBankedAnswer task.inputs.items task.budget task.plan.keys task.expect history p answer)) }
     ensures startable { IfOk result (λ _. IsStartable task.inputs.items) }
     // `replay` answers the same to that history, if it is read.
     ensures replays { IfOk result (λ answer. IfSome (P.left program.old) (λ p.
         history ≡ HistoryUse.Read
-        → replay_answer task.inputs.items task.rule p (string_bytes answer.history)
+        → replay_answer task.inputs.items task.expect p (string_bytes answer.history)
         ≡ Ok (string_bytes answer.lines, answer.status))) }
     // For a file that is an object, run by as many harts as it is for, the verdict by its kind's
     // rule is never `broken`.
     ensures certified { IfOk result (λ answer. IfSome (P.left program.old) (λ p.
-        IsCertified ProgramForm.Elf p task.inputs.items task.rule → HasKeptVerdict answer)) }
+        IsCertified ProgramForm.Elf p task.inputs.items task.expect.rule
+        → HasKeptVerdict task.expect.exit answer)) }
     // An input is invalid, and no thread was started.
     ensures refused { IfErr result (λ fault. IsRefusal fault → IfSome (P.left program.old) (λ p.
         RefusesBanked (length task.inputs.items) p fault)) }
@@ -98,11 +99,11 @@ fn answer_of_logs<A: Allocator + Copy>(
 ) -> Result<ThreadsAnswer<A>, AllocError>
     requires { IsBanked image.now task.now.inputs.items task.now.budget task.now.plan.keys logs.now banks.now }
     ensures { IfOk result (λ answer.
-        IsOfRun image.now task.now.inputs.items task.now.budget task.now.plan.keys task.now.rule history answer) }
+        IsOfRun image.now task.now.inputs.items task.now.budget task.now.plan.keys task.now.expect history answer) }
 {
     match history {
         HistoryUse::Read => merged_answer(alloc, image, task, history, logs, banks),
-        HistoryUse::Unread => match task.rule {
+        HistoryUse::Unread => match task.expect.rule {
             Some(_) => merged_answer(alloc, image, task, history, logs, banks),
             None => unmerged_answer(alloc, image, task, logs, banks),
         },
@@ -120,11 +121,11 @@ fn merged_answer<A: Allocator + Copy>(
 ) -> Result<ThreadsAnswer<A>, AllocError>
     requires { IsBanked image.now task.now.inputs.items task.now.budget task.now.plan.keys logs.now banks.now }
     ensures { IfOk result (λ answer.
-        IsOfRun image.now task.now.inputs.items task.now.budget task.now.plan.keys task.now.rule history answer) }
+        IsOfRun image.now task.now.inputs.items task.now.budget task.now.plan.keys task.now.expect history answer) }
 {
     let choices = merge_matched(alloc, logs, banks)?;
     let harts = harts_of(alloc, logs)?;
-    let answer = answer_of(alloc, &task.inputs, task.rule, history, &choices, &harts)?;
+    let answer = answer_of(alloc, &task.inputs, task.expect, history, &choices, &harts)?;
     Ok(answer)
 }
 
@@ -138,11 +139,11 @@ fn unmerged_answer<A: Allocator + Copy>(
 ) -> Result<ThreadsAnswer<A>, AllocError>
     requires { IsBanked image.now task.now.inputs.items task.now.budget task.now.plan.keys logs.now banks.now }
     ensures { IfOk result (λ answer.
-        IsOfRun image.now task.now.inputs.items task.now.budget task.now.plan.keys None HistoryUse.Unread answer) }
+        IsOfRun image.now task.now.inputs.items task.now.budget task.now.plan.keys (unruled task.now.expect.exit) HistoryUse.Unread answer) }
 {
     logs_are_one_run(logs, banks);
     let harts = harts_of(alloc, logs)?;
-    let answer = answer_of_ends(alloc, &task.inputs, &harts)?;
+    let answer = answer_of_ends(alloc, task.expect.exit, &task.inputs, &harts)?;
     Ok(answer)
 }
 

@@ -11,9 +11,9 @@ ghost use Rattle.cmd_threads.specs.Threads.{IfReads, IsAnswer, HasKeptVerdict, R
 
 use byte_io::{Source, Status};
 use cmd_replay::shown_after;
+use cmd_run::Expect;
 use history::print_history;
 use machine::Inputs;
-use object_library::Kind;
 use program_open::{CommandFault, ProgramForm, read_image};
 use std::alloc::{AllocError, Allocator};
 use std::sync::Wait;
@@ -30,8 +30,8 @@ pub struct ThreadsTask<A: Allocator> {
     pub budget: u32,
     /// Which store-conditionals are refused.
     pub plan: Plan<A>,
-    /// The kind whose rule is judged.
-    pub rule: Option<Kind>,
+    /// What is expected of the run.
+    pub expect: Expect,
 }
 
 /// The answer of a run on threads. The history is to be written before the lines are printed.
@@ -65,12 +65,13 @@ pub fn threads_engine<
     ensures startable { IfOk result (λ _. IsStartable task.inputs.items) }
     // `replay` answers the same to that history.
     ensures replays { IfOk result (λ answer. IfSome (P.left program.old) (λ p.
-        replay_answer task.inputs.items task.rule p (string_bytes answer.history)
+        replay_answer task.inputs.items task.expect p (string_bytes answer.history)
         ≡ Ok (string_bytes answer.lines, answer.status))) }
     // For a file that is an object, run by as many harts as it is for, the verdict by its kind's
     // rule is never `broken`.
     ensures certified { IfOk result (λ answer. IfSome (P.left program.old) (λ p.
-        IsCertified ProgramForm.Elf p task.inputs.items task.rule → HasKeptVerdict answer)) }
+        IsCertified ProgramForm.Elf p task.inputs.items task.expect.rule
+        → HasKeptVerdict task.expect.exit answer)) }
     // An input is invalid, and no thread was started.
     ensures refused { IfErr result (λ fault. IsRefusal fault
         → IfSome (P.left program.old) (λ p. RefusesThreads (length task.inputs.items) p fault)) }
@@ -89,7 +90,7 @@ pub fn threads_engine<
     let ThreadsTask {
         budget,
         plan,
-        rule,
+        expect,
         ..
     } = task;
     let book = match run_threads(rt, alloc, image, inputs, budget, plan, gate) {
@@ -102,7 +103,7 @@ pub fn threads_engine<
     match shown_after(
         alloc,
         book.inputs().words(),
-        rule,
+        expect,
         book.history(),
         book.machine().ends(),
     ) {

@@ -3,7 +3,8 @@
 use crate::places::{push_instruction, push_standing, rwx, segment_at};
 use crate::sentences::{
     ACROSS, AT_ZERO, BREAK, CALL, COMPRESSED, MISALIGNED, NO_INSTRUCTION, NO_STACK, NOT_EXECUTABLE,
-    NOT_READABLE, NOT_WRITABLE, NOWHERE_TO_FETCH, ODD_JUMP, PAST_LAST, STILL_RUNS, UNMAPPED, ZEROS,
+    NOT_READABLE, NOT_WRITABLE, NOWHERE_TO_FETCH, ODD_JUMP, PAST_LAST, STILL_RUNS, UNMAPPED,
+    USED_UP, ZEROS,
 };
 use elf_read::Symbol;
 use hart_step::{Access, Cause, Hart, HartState, access_by};
@@ -40,8 +41,10 @@ struct Met<'a> {
 pub enum EndsTold {
     /// Faults.
     Faults,
-    /// Faults, and that a hart still runs.
+    /// Faults, and that a hart still runs after the last choice.
     FaultsAndRunning,
+    /// Faults, and that a hart still runs with its budget used up.
+    FaultsAndUsedUp,
 }
 
 /// Explains how a machine's harts ended, as whole lines: the place of the hart, its instruction, and
@@ -60,7 +63,15 @@ pub fn harts_advice<A: Allocator + Copy>(
         if is_told(hart, told) && count < MOST_HARTS {
             count += 1;
             let word = machine.store().fetch(hart.pc);
-            push_end(&mut text, number, image.segments(), symbols, hart, word)?;
+            push_end(
+                &mut text,
+                number,
+                image.segments(),
+                symbols,
+                hart,
+                word,
+                told,
+            )?;
         }
     }
     Ok(text)
@@ -70,7 +81,7 @@ pub fn harts_advice<A: Allocator + Copy>(
 fn is_told(hart: &Hart, told: EndsTold) -> bool {
     match hart.state {
         HartState::Faulted(_) => true,
-        HartState::Running => told == EndsTold::FaultsAndRunning,
+        HartState::Running => told != EndsTold::Faults,
         HartState::Exited(_) => false,
     }
 }
@@ -83,12 +94,21 @@ fn push_end<A: Allocator>(
     symbols: &[Symbol<A>],
     hart: &Hart,
     word: Option<u32>,
+    told: EndsTold,
 ) -> Result<(), AllocError> {
     match hart.state {
         HartState::Faulted(cause) => {
             push_hart(text, number, segments, symbols, &met_by(hart, cause, word))
         }
-        _ => push_running(text, number, symbols, hart, word),
+        _ => push_running(text, number, symbols, hart, word, running_form(told)),
+    }
+}
+
+// What is said of a hart that still runs.
+fn running_form(told: EndsTold) -> Form {
+    match told {
+        EndsTold::FaultsAndUsedUp => USED_UP,
+        EndsTold::Faults | EndsTold::FaultsAndRunning => STILL_RUNS,
     }
 }
 
@@ -99,13 +119,14 @@ fn push_running<A: Allocator>(
     symbols: &[Symbol<A>],
     hart: &Hart,
     word: Option<u32>,
+    form: Form,
 ) -> Result<(), AllocError> {
     push_standing(text, symbols, number, hart.pc)?;
     if let Some(word) = word {
         push_instruction(text, hart.pc, word)?;
     }
     text.push_str("\n    ")?;
-    push_sentence(text, &Sentence::of(STILL_RUNS, ""))?;
+    push_sentence(text, &Sentence::of(form, ""))?;
     text.push('\n')
 }
 

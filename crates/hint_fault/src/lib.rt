@@ -5,7 +5,7 @@ pub use choices::item_at;
 pub use files::file_words;
 pub use harts::{EndsTold, harts_advice};
 pub use places::{push_instruction, push_standing, segment_at};
-pub use runs::{Explained, all_still_run, ends_advice, run_advice, symbols_or_none};
+pub use runs::{Ended, Explained, all_still_run, ended_advice, run_advice, symbols_or_none};
 
 mod choices;
 mod files;

@@ -5,12 +5,12 @@ use crate::rules::{Judged, push_broken};
 use elf_read::{Symbol, is_mapping, symbols};
 use hart_step::HartState;
 use image::Image;
-use machine::{Inputs, Machine};
+use machine::{Choice, Inputs, Machine};
 use mem_flat::FlatStore;
 use object_library::Kind;
 use program_open::{ProgramForm, read_program};
 use sched_run::{Chosen, run_choices};
-use std::alloc::{AllocError, Allocator};
+use std::alloc::Allocator;
 
 /// The symbols of a file but for mapping symbols; none if it has no valid table, or out of memory.
 pub fn symbols_or_none<A: Allocator + Copy>(alloc: A, file: &[u8]) -> Vec<Symbol<A>, A> {
@@ -21,18 +21,6 @@ pub fn symbols_or_none<A: Allocator + Copy>(alloc: A, file: &[u8]) -> Vec<Symbol
         }
         Err(_) => Vec::new(alloc),
     }
-}
-
-/// Explains how a program's machine ended. `None` if out of memory.
-pub fn ends_advice<A: Allocator + Copy>(
-    alloc: A,
-    image: &Image<A>,
-    program: &[u8],
-    machine: &Machine<FlatStore<A>, A>,
-    told: EndsTold,
-) -> Option<String<A>> {
-    let symbols = symbols_or_none(alloc, program);
-    harts_advice(alloc, image, &symbols, machine, told).ok()
 }
 
 /// What is explained of the end of a run.
@@ -73,22 +61,39 @@ fn run_again<A: Allocator + Copy>(
     }
 }
 
-// Adds which clause of a rule a run breaks, if it breaks one.
-fn push_rule<A: Allocator + Copy>(
+/// A run that has ended.
+#[derive(Drop)]
+pub struct Ended<'a, A: Allocator> {
+    /// The program.
+    pub image: &'a Image<A>,
+    /// The bytes of its file, which has its symbols.
+    pub program: &'a [u8],
+    /// An input for each hart.
+    pub inputs: &'a [u32],
+    /// A choice of each hart that was chosen, in any order.
+    pub choices: &'a [Choice],
+    /// The harts and their memory at the end.
+    pub machine: &'a Machine<FlatStore<A>, A>,
+}
+
+/// Explains how a run ended, and which clause of a rule it breaks. `None` if out of memory.
+pub fn ended_advice<A: Allocator + Copy>(
     alloc: A,
-    text: &mut String<A>,
-    ran: &Ran<A>,
-    inputs: &[u32],
-    kind: Kind,
-) -> Result<(), AllocError> {
-    let choices = ran.chosen.choices(alloc)?;
-    let judged = Judged {
-        kind,
-        inputs,
-        choices: &choices,
-        harts: ran.machine.ends(),
-    };
-    push_broken(text, &judged)
+    ended: &Ended<'_, A>,
+    explained: Explained,
+) -> Option<String<A>> {
+    let symbols = symbols_or_none(alloc, ended.program);
+    let mut text = harts_advice(alloc, ended.image, &symbols, ended.machine, explained.ends).ok()?;
+    if let Some(kind) = explained.rule {
+        let judged = Judged {
+            kind,
+            inputs: ended.inputs,
+            choices: ended.choices,
+            harts: ended.machine.ends(),
+        };
+        push_broken(&mut text, &judged).ok()?;
+    }
+    Some(text)
 }
 
 /// Explains how a program's run under a choice text ends, and which clause of a rule it breaks.
@@ -102,11 +107,15 @@ pub fn run_advice<A: Allocator + Copy>(
     explained: Explained,
 ) -> Option<String<A>> {
     let ran = run_again(alloc, form, program, inputs, choices)?;
-    let mut text = ends_advice(alloc, &ran.image, program, &ran.machine, explained.ends)?;
-    if let Some(kind) = explained.rule {
-        push_rule(alloc, &mut text, &ran, inputs, kind).ok()?;
-    }
-    Some(text)
+    let choices = ran.chosen.choices(alloc).ok()?;
+    let ended = Ended {
+        image: &ran.image,
+        program,
+        inputs,
+        choices: &choices,
+        machine: &ran.machine,
+    };
+    ended_advice(alloc, &ended, explained)
 }
 
 /// Whether all harts still run at the end of a program's run under a choice text. `None` if there is

@@ -85,5 +85,10 @@ pub(crate) const STILL_RUNS: Form = &[Words(
     "it still runs after the last choice: more steps may end it, and shrink --must-exit decides whether it hangs",
 )];
 
+/// A hart that runs after the last step of its budget.
+pub(crate) const USED_UP: Form = &[Words(
+    "its budget is used up, and it still runs: a larger --budget may end it",
+)];
+
 /// An EBREAK.
 pub(crate) const BREAK: Form = &[Words("the program's own check just before this failed")];

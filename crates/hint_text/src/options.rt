@@ -82,13 +82,14 @@ pub(crate) const COMMANDS: [Row; 14] = [
             "--refuse",
             "--history",
             "--rule",
+            "--must-exit",
             "--banked",
         ],
         example: "rvcons threads prog.elf --inputs 7,9 --budget 1000 --history out.history",
     },
     Row {
         name: "replay",
-        options: &["--inputs", "--history", "--rule"],
+        options: &["--inputs", "--history", "--rule", "--must-exit"],
         example: "rvcons replay prog.elf --inputs 7,9 --history out.history",
     },
     Row {
@@ -116,7 +117,13 @@ pub(crate) const COMMANDS: [Row; 14] = [
     },
     Row {
         name: "explore",
-        options: &["--inputs", "--rule", "--refusals", "--worlds"],
+        options: &[
+            "--inputs",
+            "--rule",
+            "--refusals",
+            "--worlds",
+            "--must-exit",
+        ],
         example: "rvcons explore prog.elf --inputs 7,9",
     },
     Row {

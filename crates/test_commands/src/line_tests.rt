@@ -47,7 +47,7 @@ fn inputs_are_read(rt: HostRuntime) {
 
 // Lines, and what is read of each: its command and the texts of its arguments, by their names.
 #[rattlefmt::skip]
-const LINES: [(&str, &str); 70] = [
+const LINES: [(&str, &str); 72] = [
     ("rvcons asm a.s", "asm IN=a.s"),
     ("rvcons asm --out o a.s b.s", "asm out=o IN=a.s IN=b.s"),
     ("rvcons asm b.s a.s --out=o", "asm out=o IN=b.s IN=a.s"),
@@ -86,11 +86,15 @@ const LINES: [(&str, &str); 70] = [
         "threads FILE=p inputs=7,9 budget=5 rule=k"),
     ("rvcons threads p --inputs 7,9 --budget 5 --banked",
         "threads FILE=p inputs=7,9 budget=5 banked=yes"),
-    ("rvcons threads p --banked --rule k --history h --refuse 0:7 --budget 5 --inputs 7,9",
-        "threads FILE=p inputs=7,9 budget=5 refuse=0:7 history=h rule=k banked=yes"),
+    ("rvcons threads p --inputs 7,9 --budget 5 --must-exit",
+        "threads FILE=p inputs=7,9 budget=5 must-exit=yes"),
+    ("rvcons threads p --banked --must-exit --rule k --history h --refuse 0:7 --budget 5 --inputs 7,9",
+        "threads FILE=p inputs=7,9 budget=5 refuse=0:7 history=h rule=k must-exit=yes banked=yes"),
     ("rvcons replay p --inputs 7,9 --history h", "replay FILE=p inputs=7,9 history=h"),
     ("rvcons replay p --inputs 7,9 --history h --rule k",
         "replay FILE=p inputs=7,9 history=h rule=k"),
+    ("rvcons replay p --must-exit --inputs 7,9 --history h",
+        "replay FILE=p inputs=7,9 history=h must-exit=yes"),
     ("rvcons lib swap", "lib K=swap"),
     ("rvcons campaign p --inputs 7,9 --first 1 --count 2 --steps 3",
         "campaign FILE=p inputs=7,9 first=1 count=2 steps=3"),

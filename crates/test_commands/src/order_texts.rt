@@ -116,6 +116,7 @@ fn threads_text(alloc: Global, order: &ThreadsOrder) -> Result<String, AllocErro
         ("refuse", order.refuse),
         ("history", order.history),
         ("rule", order.rule),
+        ("must-exit", flag(order.must_exit)),
         ("banked", flag(order.locks == Locks::Banks)),
     ];
     text_with(alloc, "threads", fields)
@@ -127,6 +128,7 @@ fn replay_text(alloc: Global, order: &ReplayOrder) -> Result<String, AllocError>
         ("inputs", Some(order.inputs)),
         ("history", Some(order.history)),
         ("rule", order.rule),
+        ("must-exit", flag(order.must_exit)),
     ];
     text_with(alloc, "replay", fields)
 }

@@ -168,7 +168,7 @@ fn replay(alloc: Global, failure: Failure) -> Outcome {
     let mut program = Failing::new(MemorySource::new(&EXITS), failure.calls(Device::Program));
     let mut history = Failing::new(MemorySource::new(&blanks), failure.calls(Device::Schedule));
     let mut sink = Failing::new(MemorySink::new(alloc), failure.calls(Device::Output));
-    let answer = replay_engine(alloc, &[7, 9], None, &mut program, &mut history);
+    let answer = replay_engine(alloc, &[7, 9], UNJUDGED, &mut program, &mut history);
     let result = deliver(&mut sink, answer);
     checked(told(result), sink.device().bytes(), ENDS.as_bytes())
 }

@@ -179,7 +179,7 @@ fn is_replayed<A: Allocator + Copy>(alloc: A, host: Global) -> Result<bool, Allo
     let mut program = MemorySource::new(&EXITS);
     let mut history = MemorySource::new(b"0+1");
     let mut sink = MemorySink::new(host);
-    let answer = replay_engine(alloc, &[7, 9], None, &mut program, &mut history);
+    let answer = replay_engine(alloc, &[7, 9], UNJUDGED, &mut program, &mut history);
     let ending = deliver(&mut sink, answer);
     answer_of(end_of_run(ending), sink.bytes(), ENDS)
 }

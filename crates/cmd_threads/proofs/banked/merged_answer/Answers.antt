@@ -20,8 +20,8 @@ returns g c =
     let choices = c.in_ok-choices.choices.items in
     let harts = map hart_of c.deref-3.result.now in
     let merged = c.in_ok-choices.ensures in
-    of_run c.args.image.now task.inputs.items task.budget task.plan.keys c.args.logs.now c.args.banks.now c.requires choices task.rule c.args.history harts c.in_ok-answer.answer
+    of_run c.args.image.now task.inputs.items task.budget task.plan.keys c.args.logs.now c.args.banks.now c.requires choices task.expect c.args.history harts c.in_ok-answer.answer
     c.requires.matched merged.merged merged.ends
     (c.in_ok-answer.ensures.history ∙ ap (λ cs. text_for c.args.history (map plain_entry cs)) c.deref-2.ensures.value)
     (ap (λ hs. map hart_of hs) c.deref-3.ensures.value ∙ c.in_ok-harts.ensures)
-    (seen_lines task.rule task.inputs.items c.deref.result.now choices c.deref-2.result.now harts _ c.deref.ensures.value c.deref-2.ensures.value c.in_ok-answer.ensures.lines)
+    (seen_lines task.expect task.inputs.items c.deref.result.now choices c.deref-2.result.now harts _ c.deref.ensures.value c.deref-2.ensures.value c.in_ok-answer.ensures.lines)

@@ -1,5 +1,6 @@
-use Rattle.std.proofs.Common.{None, map, ap, ◌∙◌}
+use Rattle.std.proofs.Common.{map, ap, ◌∙◌}
 use Rattle.hart_step.specs.Hart.{hart_of}
+use Rattle.cmd_threads.specs.BankedAnswer.{unruled}
 use Rattle.cmd_threads.specs.declared.history_use.HistoryUse.TheVariants.{Unread}
 use Rattle.cmd_threads.proofs.RunLemmas.{are_of_one, stamps_rise}
 use Rattle.cmd_threads.proofs.AnswerLemmas.{of_run}
@@ -17,7 +18,7 @@ pub returns : goal.returns
 returns g c =
     let task = c.args.task.now in
     let run = c.logs_are_one_run.ensures in
-    of_run c.args.image.now task.inputs.items task.budget task.plan.keys c.args.logs.now c.args.banks.now c.requires run.choices None Unread (map hart_of c.deref-2.result.now) c.in_ok-answer.answer
+    of_run c.args.image.now task.inputs.items task.budget task.plan.keys c.args.logs.now c.args.banks.now c.requires run.choices (unruled task.expect.exit) Unread (map hart_of c.deref-2.result.now) c.in_ok-answer.answer
     c.requires.matched run.merged run.ends c.in_ok-answer.ensures.history
     (ap (λ hs. map hart_of hs) c.deref-2.ensures.value ∙ c.in_ok-harts.ensures)
     c.in_ok-answer.ensures.lines
