@@ -3,8 +3,8 @@
 use crate::arguments::Argument;
 use crate::help::{
     BANKED, BUDGET, DRAW, DRAW_OF_SCHEDULE, FILE, HANGS, HEX, HISTORY, INPUTS, INPUTS_OF_SCHEDULE,
-    MUST_EXIT, OUTCOMES, REFUSALS, REFUSE, RULE, SC_REFUSALS, SUMMARY, UNTIL_FAILURE, WAYS_OUT,
-    WORLDS, WRITTEN,
+    JOBS, MUST_EXIT, OUTCOMES, REFUSALS, REFUSE, RULE, SC_REFUSALS, SUMMARY, UNTIL_FAILURE,
+    WAYS_OUT, WORLDS, WRITTEN,
 };
 
 /// Which options name the choices of a command's run.
@@ -146,6 +146,7 @@ pub(crate) const COMMANDS: [CommandRow; 14] = [
             Argument::Optional("schedule", DRAW),
             Argument::Optional("refusals", REFUSALS),
             Argument::Flag("must-exit", MUST_EXIT),
+            Argument::Optional("jobs", JOBS),
         ],
         schedule: Schedule::None,
     },

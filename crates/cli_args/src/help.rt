@@ -80,6 +80,10 @@ pub(crate) const SUMMARY: &str =
 /// Of `--outcomes`.
 pub(crate) const OUTCOMES: &str = "with --summary: tell ends apart by each hart's a0 and a1 too";
 
+/// Of `--jobs`.
+pub(crate) const JOBS: &str =
+    "how many threads do the runs, 1 to 64; as suits the processors is usual";
+
 /// Of `--schedule` of `schedule`.
 pub(crate) const DRAW_OF_SCHEDULE: &str =
     "how a seed draws them: even, bursts:MEAN, each of one hart, or priorities:DEPTH, in a run of FILE";

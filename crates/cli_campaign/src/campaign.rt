@@ -10,7 +10,7 @@ use cli_report::{
     Audience, EndsTold, Explained, RunFiles, WIPE, bad_line, ends_running, explain_ends,
     inputs_said, open_one, read_again, rule_said, say_why, wipe_line,
 };
-use cli_values::{read_draw, read_report, read_seed_numbers};
+use cli_values::{JOBS, read_draw, read_jobs, read_report, read_seed_numbers};
 use cmd_campaign::{
     Campaign, Exit, Expect, Finished, Jobs, OnThreads, campaign_engine, until_failure_engine,
 };
@@ -115,6 +115,9 @@ pub fn obey_campaign<R: Files + AllocGlobal + Print + Eprint + Threads + Sync>(
 ) -> Result<Status, Status> {
     let inputs = inputs_said(rt, order.inputs)?;
     let campaign = read_campaign(rt, order)?;
+    let Some(jobs) = read_jobs(order.jobs) else {
+        return Err(bad_line(rt, JOBS));
+    };
     let mut program = open_one(rt, audience, order.file)?;
     Ok(report_campaign(
         rt,
@@ -122,6 +125,7 @@ pub fn obey_campaign<R: Files + AllocGlobal + Print + Eprint + Threads + Sync>(
         order,
         inputs.as_slice(),
         campaign,
+        jobs,
         &mut program,
     ))
 }
@@ -133,6 +137,7 @@ fn report_campaign<R: Files + AllocGlobal + Print + Eprint + Threads + Sync, P: 
     order: &CampaignOrder,
     inputs: &[u32],
     campaign: Campaign,
+    jobs: Jobs,
     program: &mut P,
 ) -> Status
     requires fits { campaign.first + campaign.count ≤ 2 ^ 64 }
@@ -146,10 +151,7 @@ fn report_campaign<R: Files + AllocGlobal + Print + Eprint + Threads + Sync, P: 
         bad: what_is_bad(campaign.expect),
         is_shown: false,
     };
-    let runner = &OnThreads {
-        rt,
-        jobs: Jobs::ForProcessors,
-    };
+    let runner = &OnThreads { rt, jobs };
     let answer = if order.until_failure {
         match until_failure_engine(runner, rt.alloc(), inputs, campaign, program, &mut line) {
             Ok((text, finished)) => match write_text(&mut sink, text.as_bytes()) {

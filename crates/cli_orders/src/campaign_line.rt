@@ -5,9 +5,9 @@ use cli_args::{is_set, text_of};
 
 /// `campaign FILE --inputs L --first S --count C --steps N [--rule K] [--failures]
 /// [--until-failure] [--summary] [--outcomes] [--schedule KIND] [--refusals never|one-in:N]
-/// [--must-exit]`: runs a program under a random schedule for each of C seeds from S on, and prints
-/// a line for each, with a rule also its verdict; or the lines of bad seeds alone, or of the first
-/// of them, or how many seeds end in which way.
+/// [--must-exit] [--jobs J]`: runs a program under a random schedule for each of C seeds from S on,
+/// and prints a line for each, with a rule also its verdict; or the lines of bad seeds alone, or of
+/// the first of them, or how many seeds end in which way.
 #[derive(Drop)]
 pub struct CampaignOrder<'a> {
     /// The program's path.
@@ -36,6 +36,8 @@ pub struct CampaignOrder<'a> {
     pub refusals: Option<&'a str>,
     /// Whether a run that leaves a hart running has failed.
     pub must_exit: bool,
+    /// How many threads may do runs at a time.
+    pub jobs: Option<&'a str>,
 }
 
 /// The order in clap's matches.
@@ -54,5 +56,6 @@ pub(crate) fn campaign_order<'a>(matches: &ArgMatches<'a>) -> Option<CampaignOrd
         draw: text_of(matches, "schedule"),
         refusals: text_of(matches, "refusals"),
         must_exit: is_set(matches, "must-exit"),
+        jobs: text_of(matches, "jobs"),
     })
 }

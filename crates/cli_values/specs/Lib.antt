@@ -3,3 +3,4 @@ pub mod Schedules
 pub mod CampaignPlans
 pub mod Reports
 pub mod Explorations
+pub mod JobCounts

@@ -4,9 +4,11 @@
 pub use campaign::{SeedNumbers, read_report, read_seed_numbers};
 pub use draw::{DRAWS, DrawFault, OrderFault, REFUSALS, read_draw, read_order, read_refusals};
 pub use explore::{WORLDS, read_worlds};
+pub use jobs::{JOBS, read_jobs};
 pub use schedule::{read_schedule, read_seed_plan};
 
 mod campaign;
 mod draw;
 mod explore;
+mod jobs;
 mod schedule;

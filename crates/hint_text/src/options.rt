@@ -112,6 +112,7 @@ pub(crate) const COMMANDS: [Row; 14] = [
             "--schedule",
             "--refusals",
             "--must-exit",
+            "--jobs",
         ],
         example: "rvcons campaign prog.elf --inputs 7,9 --first 1 --count 1000 --steps 300",
     },

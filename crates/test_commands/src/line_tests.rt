@@ -114,6 +114,8 @@ const LINES: [(&str, &str); 73] = [
         "campaign FILE=p inputs=7,9 first=1 count=2 steps=3 refusals=r"),
     ("rvcons campaign p --inputs 7,9 --first 1 --count 2 --steps 3 --must-exit",
         "campaign FILE=p inputs=7,9 first=1 count=2 steps=3 must-exit=yes"),
+    ("rvcons campaign p --inputs 7,9 --first 1 --count 2 --steps 3 --jobs 4",
+        "campaign FILE=p inputs=7,9 first=1 count=2 steps=3 jobs=4"),
     ("rvcons campaign --steps 3 --count 2 --first 1 --inputs 7 --refusals r --schedule d p",
         "campaign FILE=p inputs=7 first=1 count=2 steps=3 schedule=d refusals=r"),
     ("rvcons explore p --inputs 7,9", "explore FILE=p inputs=7,9"),

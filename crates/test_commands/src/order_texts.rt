@@ -152,6 +152,7 @@ fn campaign_text(alloc: Global, order: &CampaignOrder) -> Result<String, AllocEr
         ("schedule", order.draw),
         ("refusals", order.refusals),
         ("must-exit", flag(order.must_exit)),
+        ("jobs", order.jobs),
     ];
     text_with(alloc, "campaign", fields)
 }
