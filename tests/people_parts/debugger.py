@@ -4,7 +4,7 @@ import subprocess
 from people_parts.terminal import ENDLESS, PROGRAM, Terminal, at_terminal, check, through_pipe, write
 
 GREETING = (
-    "commands: help, where, goto K, forward [N], back [N], step H, break A, watch A, go, rgo, steps A B, regs H, mem A N, quit\n"
+    "commands: help, where, goto K, forward [N], back [N], step H, break A, watch A, rwatch A, awatch A, delete A, go, rgo, steps A B, regs H, mem A N, quit\n"
     "K, N and H are decimal; an address A is written with 0x, as 0x00010008\n")
 
 # Two harts count a word up, in turns. What is typed, and what is shown before the next prompt.
@@ -44,13 +44,21 @@ COUNTING = [
     ("break _start+0x10", "7 of 12> ", "break 00010010\n"),
     ("watch conter", "7 of 12> ", "no symbol\nconter is no symbol of the program: is counter meant?\n"),
     ("Where", "7 of 12> ",
-     "bad command\nthe commands are help, where, goto, forward, back, step, break, watch, go, rgo, steps, regs, mem and quit, in small letters\n"),
+     "bad command\nthe commands are help, where, goto, forward, back, step, break, watch, rwatch, awatch, delete, go, rgo, steps, regs, mem and quit, in small letters\n"),
     ("steps", "7 of 12> ", "bad command\nsteps takes two decimal numbers of choices, as steps 0 7\n"),
     ("steps 0 1", "7 of 12> ", "0 h0 00010000 auipc s0, 0x1\n"),
     ("help now", "7 of 12> ", "bad command\nhelp stands alone\n"),
     ("step 2", "7 of 12> ", "bad command\nthere are 2 harts, numbered from 0 to 1\n"),
     ("step", "7 of 12> ", "bad command\nstep takes the number of a hart, as step 1\n"),
     ("step 1", "8 of 12> ", "step 8 of 12\nnext: hart 0 at 00010010, _start+16: addi a7, zero, 93\n"),
+    ("goto 10", "10 of 12> ", "step 10 of 12\nnext: hart 0 at 00010014, _start+20: ecall\n"),
+    ("delete 0x00010012", "10 of 12> ", "delete 00010012\n"),
+    ("delete", "10 of 12> ", "bad command\ndelete takes an address, as delete 0x00010008\n"),
+    ("delete 0x00011000", "10 of 12> ", "delete 00011000\n"),
+    ("awatch counter", "10 of 12> ", "awatch 00011000\n"),
+    ("rgo", "8 of 12> ",
+     "break h1 00010010\nawatch 00011000\nstep 8 of 12\nhart 1 changed 00011000 from 00000006 to 00000007\nnext: hart 0 at 00010010, _start+16: addi a7, zero, 93\n"),
+    ("rwatch", "8 of 12> ", "bad command\nrwatch takes an address, as watch 0x00011000\n"),
     ("goto 10", "10 of 12> ", "step 10 of 12\nnext: hart 0 at 00010014, _start+20: ecall\n"),
     ("go", "12 of 12> ",
      "end\nstep 12 of 12\nhart 0 has exited with 00000000\nhart 1 has exited with 00000001\nnext: no choice is left\n"),

@@ -8,6 +8,7 @@ use Rattle.elf_read.specs.Symbol.{SymbolValue}
 use Rattle.elf_read.specs.SymbolTable.{Symbols, symbols_of}
 use Rattle.image.specs.Image.{ImageValue}
 use Rattle.machine.specs.declared.choice.Choice.{Choice}
+use Rattle.debug_session.specs.Points.{no_words}
 use Rattle.debug_session.specs.Session.{Session}
 use Rattle.program_open.specs.Opening.{Opened, opening}
 use Rattle.program_open.specs.CommandFaults.{status_of_fault}
@@ -26,7 +27,7 @@ Opening = Result Session CommandFault
 -- a session at the start, without breakpoints and watches
 abbrev pub first_session : ImageValue → List ℕ → List Choice → Session
 first_session image inputs choices =
-    record { image = image; inputs = inputs; choices = choices; position = 0; breaks = []; watches = [] }
+    record { image = image; inputs = inputs; choices = choices; position = 0; breaks = []; watches = no_words }
 
 -- the session for an opened run
 abbrev pub session_after : List ℕ → Opened → Opening

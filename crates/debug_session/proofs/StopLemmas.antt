@@ -1,21 +1,23 @@
 -- The stops after a step.
-use Rattle.std.proofs.Common.{◌≡◌, ◌≢◌, ℕ, ◌-◌, ◌%◌, ◌<◌, ◌≤◌, Bool, true, false, ◌&&◌, ◌||◌, cond, eqb, ltb, List, [], ◌∷◌, Option, Some, None, ◌⊎◌, inl, inr, ◌∙◌, sym, ap, ap₂, refl, arith, rules}
+use Rattle.std.proofs.Common.{◌≡◌, ◌≢◌, ℕ, ◌-◌, ◌%◌, Bool, true, false, not, ◌&&◌, ◌||◌, cond, eqb, ltb, List, [], ◌∷◌, Option, Some, None, ◌⊎◌, inl, inr, ◌∙◌, sym, ap, ap₂, refl, arith}
 use Rattle.std.proofs.lemmas.Bool.{cases_Bool}
 use Rattle.std.proofs.lemmas.Bool.Decides.{nat_tests}
 use Rattle.std.proofs.lemmas.List.Elements.{All-head, All-tail}
 use Rattle.std.specs.List.{All, list_any, find, slice_get}
-use Rattle.std.specs.Option.{is_some, IfSome}
 use Rattle.std.specs.Ordering.{nat_cmp, is_eq}
 use Rattle.hart_reservations.specs.Marks.{word_of}
 use Rattle.hart_step.specs.Hart.{HartValue}
 use Rattle.hart_step.specs.declared.data_access.Access.{Access}
 use Rattle.machine.specs.World.{World, step}
 use Rattle.machine.specs.declared.choice.Choice.{Choice}
-use Rattle.debug_session.specs.Words.{viewed_word, word_if}
+use Rattle.debug_session.specs.Words.{word_if}
 use Rattle.debug_session.specs.Accessed.{accessed}
-use Rattle.debug_session.specs.Stops.{has, differs, break_of, watch_of, either_stop, stop_after, stop_at, watched}
+use Rattle.debug_session.specs.Points.{WatchedWords}
+use Rattle.debug_session.specs.Touched.{if_place, if_runs, touched}
+use Rattle.debug_session.specs.Stops.{has, differs, break_of, hit_for, stop_for, stop_after, stop_at, watched}
+use Rattle.debug_session.specs.declared.stop.AtBreak.{AtBreak}
 use Rattle.debug_session.specs.declared.stop.Stop.{Stop}
-use Rattle.debug_session.specs.declared.stop.Stop.TheVariants.{Break, Watch}
+use Rattle.debug_session.specs.declared.stop.WatchHit.{WatchHit}
 use Rattle.debug_session.proofs.ElsewhereLemmas.{IsOther, same_elsewhere}
 
 -- ---- sets of addresses
@@ -76,7 +78,7 @@ find_watched p (Some b) ws all leaves = find_at p (word_of b.address) ws all lea
 -- ---- a step's stop
 -- a hart is at a breakpoint
 pub stands : (bs : List ℕ) (h : ℕ) (o : Option HartValue) (hart : HartValue) → o ≡ Some hart
-    → list_any (λ k. is_eq (nat_cmp hart.pc k)) bs ≡ true → Some (Break h hart.pc) ≡ break_of bs h o
+    → list_any (λ k. is_eq (nat_cmp hart.pc k)) bs ≡ true → ◌≡◌ {A = Option AtBreak} (Some (record { hart = h; address = hart.pc })) (break_of bs h o)
 stands bs h o hart there on =
     let e : has bs hart.pc ≡ true = sym (contains-has bs hart.pc) ∙ on in
     rw (there, e) refl
@@ -88,57 +90,43 @@ stands_not bs h o hart there off =
     let e : has bs hart.pc ≡ false = sym (contains-has bs hart.pc) ∙ off in
     rw (there, e) refl
 
--- a breakpoint that the hart is at comes first
-pub break_here : (bs ws : List ℕ) (v w : World) (c : Choice) (o : Option Stop) (stop : Stop) → w ≡ step v c → o ≡ break_of bs c.hart (slice_get w.harts c.hart) → o ≡ Some stop
-    → Some stop ≡ stop_at bs ws v c
-unfolding stop_after
-break_here bs ws v w c o stop after is some =
-    ap (λ (p : Option Stop). either_stop p (watch_of (find (differs v w) ws))) (sym some ∙ is)
-    ∙ ap (λ (u : World). stop_after bs ws v u c.hart) after
+either_way : (x y a : ℕ) → cond (eqb x y) None (Some a) ≡ cond (not (eqb y x)) (Some a) None
+either_way x y a = elim (cases_Bool (eqb x y)) [
+  | inl same ↦ (let e : eqb y x ≡ true = grind (arith, nat_tests, same) in rw (same, e) refl)
+  | inr other ↦ (let e : eqb y x ≡ false = grind (arith, nat_tests, other) in rw (other, e) refl)
+]
 
--- if there is none, a watched word that was accessed decides
-watch_left : (bs ws : List ℕ) (v w : World) (c : Choice) → w ≡ step v c
-    → All (λ a. a % 4 ≡ 0) ws → None ≡ break_of bs c.hart (slice_get w.harts c.hart)
-    → stop_after bs ws v w c.hart ≡ watch_of (found_in (differs v w) (watched ws (accessed v (slice_get v.harts c.hart))))
-unfolding stop_after
-watch_left bs ws v w c is all off =
-    ap (λ (p : Option Stop). either_stop p (watch_of (find (differs v w) ws))) (sym off)
-    ∙ ap watch_of (find_watched (differs v w) (accessed v (slice_get v.harts c.hart)) ws all
+-- of the words that are watched for changes only the one that is accessed can differ
+changed_is : (ws : List ℕ) (v w : World) (c : Choice) (o changed : Option ℕ) → w ≡ step v c → All (λ a. a % 4 ≡ 0) ws
+    → o ≡ watched ws (accessed v (slice_get v.harts c.hart))
+    → changed ≡ cond (eqb (word_if w.memory o) (word_if v.memory o)) None o
+    → changed ≡ find (differs v w) ws
+changed_is ws v w c o changed is all seen e =
+    e ∙ by o ∙ ap (λ (p : Option ℕ). found_in (differs v w) p) seen
+    ∙ sym (find_watched (differs v w) (accessed v (slice_get v.harts c.hart)) ws all
     (λ a aligned other. ap (λ (u : World). differs v u a) is ∙ same_elsewhere v c a aligned other))
+  where
+    by : (o : Option ℕ) → cond (eqb (word_if w.memory o) (word_if v.memory o)) None o ≡ found_in (differs v w) o
+    by None = refl
+    by (Some a) = either_way (word_if w.memory (Some a)) (word_if v.memory (Some a)) a
 
-same-differs : (v w : World) (a : ℕ) → viewed_word w.memory a ≡ viewed_word v.memory a → differs v w a ≡ false
-same-differs v w a e =
-    let on : eqb (viewed_word v.memory a) (viewed_word v.memory a) ≡ true = search rules in
-    rw e (rw on refl)
-
-other-differs : (v w : World) (a : ℕ) → viewed_word w.memory a ≢ viewed_word v.memory a → differs v w a ≡ true
-other-differs v w a e =
-    let off : eqb (viewed_word v.memory a) (viewed_word w.memory a) ≡ false = grind (arith, nat_tests, e) in
-    rw off refl
-
-same-found : (v w : World) (o : Option ℕ) → word_if w.memory o ≡ word_if v.memory o → found_in (differs v w) o ≡ None
-same-found v w None e = refl
-same-found v w (Some a) e = rw (same-differs v w a e) refl
-
--- the word that was accessed is as before
-pub no_stop : (bs ws : List ℕ) (v w : World) (c : Choice) (o : Option ℕ) → w ≡ step v c
-    → All (λ a. a % 4 ≡ 0) ws → None ≡ break_of bs c.hart (slice_get w.harts c.hart)
-    → o ≡ watched ws (accessed v (slice_get v.harts c.hart)) → word_if w.memory o ≡ word_if v.memory o → None ≡ stop_at bs ws v c
-no_stop bs ws v w c o is all off seen same =
-    sym (watch_left bs ws v w c is all off ∙ ap (λ (p : Option ℕ). watch_of (found_in (differs v w) p)) (sym seen)
-    ∙ ap watch_of (same-found v w o same))
-    ∙ ap (λ (u : World). stop_after bs ws v u c.hart) is
-
--- it differs
-pub watch_here : (bs ws : List ℕ) (v w : World) (c : Choice) (o : Option ℕ) (a : ℕ) → w ≡ step v c
-    → All (λ a. a % 4 ≡ 0) ws → None ≡ break_of bs c.hart (slice_get w.harts c.hart)
-    → o ≡ watched ws (accessed v (slice_get v.harts c.hart)) → o ≡ Some a → word_if w.memory o ≢ word_if v.memory o
-    → Some (Watch a) ≡ stop_at bs ws v c
-watch_here bs ws v w c o a is all off seen some other =
-    sym (watch_left bs ws v w c is all off ∙ ap (λ (p : Option ℕ). watch_of (found_in (differs v w) p)) (sym seen)
-    ∙ ap (λ (p : Option ℕ). watch_of (found_in (differs v w) p)) some
-    ∙ ap (λ (b : Bool). watch_of (cond b (Some a) None)) (other-differs v w a (rw some at other)))
-    ∙ ap (λ (u : World). stop_after bs ws v u c.hart) is
+-- the stop after a step, from what is seen before and after it
+pub stop_is : (bs : List ℕ) (ws : WatchedWords) (v w : World) (c : Choice) (access placed made : Option Access) (word changed : Option ℕ) (before : ℕ)
+    (at : Option AtBreak) (hit : Option WatchHit) (stop : Option Stop) → w ≡ step v c → All (λ a. a % 4 ≡ 0) ws.changes
+    → access ≡ accessed v (slice_get v.harts c.hart) → placed ≡ if_place v c access → word ≡ watched ws.changes access
+    → before ≡ word_if v.memory word → changed ≡ cond (eqb (word_if w.memory word) before) None word
+    → made ≡ if_runs (slice_get w.harts c.hart) placed → hit ≡ hit_for ws changed made
+    → at ≡ break_of bs c.hart (slice_get w.harts c.hart) → stop ≡ stop_for at hit → stop ≡ stop_at bs ws v c
+unfolding stop_after
+stop_is bs ws v w c access placed made word changed before at hit stop is all a p o b e m h t s =
+    let left : changed ≡ find (differs v w) ws.changes =
+    changed_is ws.changes v w c word changed is all (o ∙ ap (λ (x : Option Access). watched ws.changes x) a)
+    (e ∙ ap (λ (n : ℕ). cond (eqb (word_if w.memory word) n) None word) b) in
+    let there : made ≡ if_runs (slice_get w.harts c.hart) (touched v c) =
+    m ∙ ap (λ (x : Option Access). if_runs (slice_get w.harts c.hart) x) (p ∙ ap (λ (x : Option Access). if_place v c x) a) in
+    s ∙ ap₂ (λ (x : Option AtBreak) (y : Option WatchHit). stop_for x y) t
+    (h ∙ ap₂ (λ (x : Option ℕ) (y : Option Access). hit_for ws x y) left there)
+    ∙ ap (λ (u : World). stop_after bs ws v u c.hart (if_runs (slice_get u.harts c.hart) (touched v c))) is
 
 -- the watched word of an access
 pub watched_there : (ws : List ℕ) (o : Option Access) (a : Access) → o ≡ Some a → list_any (λ k. is_eq (nat_cmp (a.address - a.address % 4) k)) ws ≡ true → Some (a.address - a.address % 4) ≡ watched ws o

@@ -3,6 +3,7 @@ pub mod Kept
 pub mod Words
 pub mod Points
 pub mod Accessed
+pub mod Touched
 pub mod Stops
 pub mod Wishes
 pub mod Session

@@ -4,6 +4,7 @@ use Rattle.image.specs.Image.{ImageValue}
 use Rattle.machine.specs.World.{World}
 use Rattle.machine.specs.declared.choice.Choice.{Choice}
 use Rattle.machine.specs.State.{reached}
+use Rattle.debug_session.specs.Points.{WatchedWords, watched_words}
 use Rattle.debug_session.specs.Stops.{stop_at}
 use Rattle.debug_session.specs.Wishes.{Wish, reason_on}
 use Rattle.debug_session.specs.declared.stop.Stop.{Stop}
@@ -16,7 +17,7 @@ pub record Session : Type 0 where
   pub choices : List Choice
   pub position : ℕ
   pub breaks : List ℕ
-  pub watches : List ℕ
+  pub watches : WatchedWords
 
 -- the session of a debugger
 abbrev pub session : {Z : Type 0} → Debugger Z → Session
@@ -26,7 +27,7 @@ session d = record {
   choices = d.track.choices.items;
   position = d.position;
   breaks = d.points.breaks.keys;
-  watches = d.points.watches.keys;
+  watches = watched_words d.points.watches;
 }
 
 -- the world after k choices

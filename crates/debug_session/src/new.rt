@@ -1,6 +1,7 @@
 //! The start of a debugger.
 ghost use Rattle.std.specs.Prelude.{◌≡◌, ◌<◌, [], All, length, IfOk};
 ghost use Rattle.debug_session.specs.Session.{session};
+ghost use Rattle.debug_session.specs.Points.{no_words};
 
 use crate::checkpoints::checkpoints_of;
 use crate::debugger::Debugger;
@@ -29,7 +30,7 @@ impl<A: Allocator + Copy> Debugger<A> {
           choices = choices.items;
           position = 0;
           breaks = [];
-          watches = [];
+          watches = no_words;
         }) }
         ensures unmoved { IfOk result (λ d. d.cost ≡ 0) }
     {
@@ -51,7 +52,7 @@ impl<A: Allocator + Copy> Debugger<A> {
           choices = choices.items;
           position = 0;
           breaks = [];
-          watches = [];
+          watches = no_words;
         }) }
         ensures unmoved { IfOk result (λ d. d.cost ≡ 0) }
     {

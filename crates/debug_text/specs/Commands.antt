@@ -5,8 +5,9 @@ use Rattle.elf_read.specs.Symbol.{SymbolValue}
 use Rattle.debug_text.specs.Words.{next_word, behind_word}
 use Rattle.debug_text.specs.Numbers.{decimal_of}
 use Rattle.debug_text.specs.Addresses.{NumberRead, or_bad, address_meant}
+use Rattle.debug_session.specs.declared.stop.WatchKind.TheVariants.{Change, Read, Access}
 use Rattle.debug_text.specs.declared.commands.Command.{Command}
-use Rattle.debug_text.specs.declared.commands.Command.TheVariants.{Nothing, Help, Where, Goto, Forward, Back, Step, Break, Watch, Go, Rgo, Steps, Regs, Mem, Quit}
+use Rattle.debug_text.specs.declared.commands.Command.TheVariants.{Nothing, Help, Where, Goto, Forward, Back, Step, Break, Watch, Delete, Go, Rgo, Steps, Regs, Mem, Quit}
 use Rattle.debug_text.specs.declared.fault.DebugFault.{DebugFault}
 use Rattle.debug_text.specs.declared.fault.DebugFault.TheVariants.{BadCommand}
 
@@ -37,9 +38,12 @@ single_command symbols name operand =
     else (if bytes_eq name (codes "forward") then with_one Forward (or_bad (decimal_of operand))
     else (if bytes_eq name (codes "back") then with_one Back (or_bad (decimal_of operand))
     else (if bytes_eq name (codes "break") then with_one Break (address_meant symbols operand)
-    else (if bytes_eq name (codes "watch") then with_one Watch (address_meant symbols operand)
+    else (if bytes_eq name (codes "watch") then with_one (Watch Change) (address_meant symbols operand)
     else (if bytes_eq name (codes "regs") then with_one Regs (or_bad (decimal_of operand))
-    else (if bytes_eq name (codes "step") then with_one Step (or_bad (decimal_of operand)) else Err BadCommand))))))
+    else (if bytes_eq name (codes "step") then with_one Step (or_bad (decimal_of operand))
+    else (if bytes_eq name (codes "rwatch") then with_one (Watch Read) (address_meant symbols operand)
+    else (if bytes_eq name (codes "awatch") then with_one (Watch Access) (address_meant symbols operand)
+    else (if bytes_eq name (codes "delete") then with_one Delete (address_meant symbols operand) else Err BadCommand)))))))))
 
 -- a command of two numbers, if both are valid; else the first fault
 abbrev pub with_both : (ℕ → ℕ → Command) → NumberRead → NumberRead → CommandRead

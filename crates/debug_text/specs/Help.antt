@@ -12,9 +12,12 @@ help_text =
     ++ (codes "step H       goes behind the next choice of hart H\n"
     ++ (codes "break A      sets a breakpoint at the address A\n"
     ++ (codes "watch A      watches the word that holds A for changes\n"
+    ++ (codes "rwatch A     watches it for reads\n"
+    ++ (codes "awatch A     watches it for reads and writes\n"
+    ++ (codes "delete A     removes the breakpoint and the watches at the address A\n"
     ++ (codes "go           goes to the next breakpoint or watch, or to the end\n"
     ++ (codes "rgo          goes back to the last one, or to the start\n"
     ++ (codes "steps A B    shows the choices from A to B - 1\n"
     ++ (codes "regs H       shows the state and the registers of hart H\n"
     ++ (codes "mem A N      shows N words of memory from the one that holds A on\n"
-    ++ (codes "quit         ends\n")))))))))))))
+    ++ (codes "quit         ends\n"))))))))))))))))

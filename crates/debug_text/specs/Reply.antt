@@ -3,18 +3,18 @@ use Rattle.std.specs.Prelude.{ℕ, ◌+◌, ◌-◌, ◌*◌, ◌==◌, ◌||◌
 use Rattle.std.specs.List.{position_or_len}
 use Rattle.hart_reservations.specs.Marks.{word_of}
 use Rattle.hart_step.specs.Hart.{HartValue}
-use Rattle.debug_session.specs.Points.{with_address}
+use Rattle.debug_session.specs.Points.{with_address, without_address, with_watched, without_watched}
 use Rattle.debug_session.specs.Session.{Session, length_of, moved, world_at, Found, next_found, earlier_found}
 use Rattle.debug_session.specs.Steps.{shown_steps}
 use Rattle.debug_session.specs.declared.stop.Stop.{Stop}
 use Rattle.elf_read.specs.Symbol.{SymbolValue}
 use Rattle.debug_text.specs.Commands.{CommandRead, command_of}
 use Rattle.debug_text.specs.Help.{help_text}
-use Rattle.debug_text.specs.Texts.{position_text, break_text, watch_text, found_text, steps_text, hart_text, cells_text}
+use Rattle.debug_text.specs.Texts.{position_text, break_text, watch_text, delete_text, found_text, steps_text, hart_text, cells_text}
 use Rattle.debug_text.specs.declared.answer.Answer.{Answer}
 use Rattle.debug_text.specs.declared.answer.Answer.TheVariants as answer
 use Rattle.debug_text.specs.declared.commands.Command.{Command}
-use Rattle.debug_text.specs.declared.commands.Command.TheVariants.{Nothing, Help, Where, Goto, Forward, Back, Step, Break, Watch, Go, Rgo, Steps, Regs, Mem, Quit}
+use Rattle.debug_text.specs.declared.commands.Command.TheVariants.{Nothing, Help, Where, Goto, Forward, Back, Step, Break, Watch, Delete, Go, Rgo, Steps, Regs, Mem, Quit}
 use Rattle.debug_text.specs.declared.fault.DebugFault.{DebugFault}
 use Rattle.debug_text.specs.declared.fault.DebugFault.TheVariants.{BadCommand, PastEnd}
 
@@ -66,8 +66,12 @@ reply s (Back n) = if nat_le n s.position then shows_move s (s.position - n) els
 reply s (Step h) =
     if nat_lt h (length (world_at s s.position).harts) then shows_forward s (choices_to s h) else Err BadCommand
 reply s (Break a) = shows (break_text a) (record s { breaks = with_address s.breaks a })
-reply s (Watch a) =
-    shows (watch_text (word_of a)) (record s { watches = with_address s.watches (word_of a) })
+reply s (Watch kind a) =
+    shows (watch_text kind (word_of a)) (record s { watches = with_watched kind s.watches (word_of a) })
+reply s (Delete a) = shows (delete_text a) (record s {
+  breaks = without_address s.breaks a;
+  watches = without_watched s.watches (word_of a);
+})
 reply s Go = shows_found s (codes "end") (next_found s)
 reply s Rgo = shows_found s (codes "start") (earlier_found s)
 reply s (Steps a b) =

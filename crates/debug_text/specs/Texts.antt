@@ -11,8 +11,12 @@ use Rattle.isa_names.specs.Names.{abi}
 use Rattle.isa_disasm.specs.Lines.{line_text}
 use Rattle.outcome.specs.Ends.{end_line}
 use Rattle.debug_session.specs.Words.{viewed_word}
+use Rattle.debug_session.specs.declared.stop.AtBreak.{AtBreak}
+use Rattle.debug_session.specs.declared.stop.WatchHit.{WatchHit}
 use Rattle.debug_session.specs.declared.stop.Stop.{Stop}
-use Rattle.debug_session.specs.declared.stop.Stop.TheVariants.{Break, Watch}
+use Rattle.debug_session.specs.declared.stop.Stop.TheVariants.{Break, Watch, Both}
+use Rattle.debug_session.specs.declared.stop.WatchKind.{WatchKind}
+use Rattle.debug_session.specs.declared.stop.WatchKind.TheVariants.{Change, Read, Access}
 use Rattle.debug_session.specs.declared.step_view.Event.{Event}
 use Rattle.debug_session.specs.declared.step_view.Event.TheVariants.{Stopped, NoFetch, Word}
 use Rattle.debug_session.specs.declared.step_view.StepView.{StepView}
@@ -25,17 +29,36 @@ position_text k n = codes "step " ++ (decimal k ++ (codes " of " ++ (decimal n +
 abbrev pub break_text : ℕ → List ℕ
 break_text a = codes "break " ++ (word_text a ++ codes "\n")
 
--- `watch 00011000` and the line's end
-abbrev pub watch_text : ℕ → List ℕ
-watch_text a = codes "watch " ++ (word_text a ++ codes "\n")
+-- the command that watches in this way
+abbrev pub kind_text : WatchKind → List ℕ
+kind_text Change = codes "watch"
+kind_text Read = codes "rwatch"
+kind_text Access = codes "awatch"
 
--- the reason for a stop, or the text in its place, without the line's end
+-- `watch 00011000` and the line's end
+abbrev pub watch_text : WatchKind → ℕ → List ℕ
+watch_text kind a = kind_text kind ++ (codes " " ++ (word_text a ++ codes "\n"))
+
+-- the line of an address at which nothing is to stop any more
+abbrev pub delete_text : ℕ → List ℕ
+delete_text a = codes "delete " ++ (word_text a ++ codes "\n")
+
+-- `break h0 0001002c`
+abbrev pub at_text : AtBreak → List ℕ
+at_text at = codes "break h" ++ (decimal at.hart ++ (codes " " ++ word_text at.address))
+
+-- `watch 00011000`
+abbrev pub hit_text : WatchHit → List ℕ
+hit_text hit = kind_text hit.kind ++ (codes " " ++ word_text hit.address)
+
+-- the reason for a stop, or the text in its place, without the line's end; both are two lines
 abbrev pub stop_text : List ℕ → Option Stop → List ℕ
 stop_text none None = none
-stop_text none (Some (Break h a)) = codes "break h" ++ (decimal h ++ (codes " " ++ word_text a))
-stop_text none (Some (Watch a)) = codes "watch " ++ word_text a
+stop_text none (Some (Break at)) = at_text at
+stop_text none (Some (Watch hit)) = hit_text hit
+stop_text none (Some (Both at hit)) = at_text at ++ (codes "\n" ++ hit_text hit)
 
--- the reason for a stop and its position: two lines
+-- the reason for a stop and its position
 abbrev pub found_text : List ℕ → Option Stop → ℕ → ℕ → List ℕ
 found_text none stop k n = stop_text none stop ++ (codes "\n" ++ position_text k n)
 

@@ -1,10 +1,13 @@
 //! The debugger's commands.
 ghost use Rattle.std.specs.Prelude.{◌≡◌};
 ghost use Rattle.std.specs.Str.{bytes_eq};
-ghost use Rattle.debug_text.specs.Commands.{bare_command, single_command, double_command, command_by};
+ghost use Rattle.debug_text.specs.Addresses.{address_meant};
+ghost use Rattle.debug_text.specs.Commands.{with_one, bare_command, single_command, double_command, command_by};
+ghost use Rattle.debug_text.specs.declared.commands.Command.TheVariants.{Watch};
 
 use crate::address::{address_meant, count_in};
 use crate::fault::DebugFault;
+use debug_session::WatchKind;
 use elf_read::Symbol;
 use std::alloc::Allocator;
 
@@ -27,8 +30,15 @@ pub enum Command {
     Step(u64),
     /// `break A`: adds a breakpoint at an address.
     Break(u32),
-    /// `watch A`: watches the aligned word that contains an address.
-    Watch(u32),
+    /// `watch A`, `rwatch A`, `awatch A`: watches the aligned word that contains an address.
+    Watch {
+        /// What is watched of it.
+        kind: WatchKind,
+        /// The address.
+        address: u32,
+    },
+    /// `delete A`: removes the breakpoint at an address, and the watches of its aligned word.
+    Delete(u32),
     /// `go`: moves forward to the next stop, or to the end.
     Go,
     /// `rgo`: moves back to the previous stop, or to the start.
@@ -88,6 +98,18 @@ fn bare_command(name: &[u8]) -> Result<Command, DebugFault>
     Err(DebugFault::BadCommand)
 }
 
+// The command that watches an address in a way.
+fn watch<A: Allocator>(
+    symbols: &[Symbol<A>],
+    kind: WatchKind,
+    operand: &[u8],
+) -> Result<Command, DebugFault>
+    ensures { result ≡ with_one (Watch kind) (address_meant symbols.now operand.now) }
+{
+    let address = address_meant(symbols, operand)?;
+    Ok(Command::Watch { kind, address })
+}
+
 // The command of a word with one operand.
 fn single_command<A: Allocator>(
     symbols: &[Symbol<A>],
@@ -109,13 +131,22 @@ fn single_command<A: Allocator>(
         return Ok(Command::Break(address_meant(symbols, operand)?));
     }
     if is_word(name, "watch") {
-        return Ok(Command::Watch(address_meant(symbols, operand)?));
+        return watch(symbols, WatchKind::Change, operand);
     }
     if is_word(name, "regs") {
         return Ok(Command::Regs(count_in(operand)?));
     }
     if is_word(name, "step") {
         return Ok(Command::Step(count_in(operand)?));
+    }
+    if is_word(name, "rwatch") {
+        return watch(symbols, WatchKind::Read, operand);
+    }
+    if is_word(name, "awatch") {
+        return watch(symbols, WatchKind::Access, operand);
+    }
+    if is_word(name, "delete") {
+        return Ok(Command::Delete(address_meant(symbols, operand)?));
     }
     Err(DebugFault::BadCommand)
 }

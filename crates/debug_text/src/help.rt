@@ -14,6 +14,9 @@ back [N]     goes N steps back, or 1\n\
 step H       goes behind the next choice of hart H\n\
 break A      sets a breakpoint at the address A\n\
 watch A      watches the word that holds A for changes\n\
+rwatch A     watches it for reads\n\
+awatch A     watches it for reads and writes\n\
+delete A     removes the breakpoint and the watches at the address A\n\
 go           goes to the next breakpoint or watch, or to the end\n\
 rgo          goes back to the last one, or to the start\n\
 steps A B    shows the choices from A to B - 1\n\

@@ -11,8 +11,8 @@ use crate::help::help_text;
 use crate::memory_text::cells_text;
 use crate::registers_text::hart_text;
 use crate::steps_text::steps_text;
-use crate::texts::{break_text, found_text, position_text, watch_text};
-use debug_session::{Debugger, MoveFault};
+use crate::texts::{break_text, delete_text, found_text, position_text, watch_text};
+use debug_session::{Debugger, MoveFault, WatchKind};
 use std::alloc::Allocator;
 
 // The greatest number of words that `mem` shows.
@@ -155,20 +155,39 @@ fn obey_break<A: Allocator + Copy>(
 fn obey_watch<A: Allocator + Copy>(
     alloc: A,
     debugger: &mut Debugger<A>,
+    kind: WatchKind,
     address: u32,
 ) -> Result<Answer<A>, DebugFault>
-    ensures ok { IfOk result (λ answer. reply (session debugger.old) (commands.Watch address)
+    ensures ok { IfOk result (λ answer. reply (session debugger.old) (commands.Watch kind address)
         ≡ Ok (reply_outcome answer (session debugger.new))) }
     ensures unchanged { OnErr result (session debugger.new ≡ session debugger.old) }
     ensures fault { IfErr result (λ fault. fault ≡ DebugFault.Memory) }
 {
-    let Ok(text) = watch_text(alloc, address - address % 4) else {
+    let Ok(text) = watch_text(alloc, kind, address - address % 4) else {
         return Err(DebugFault::Memory);
     };
-    match debugger.add_watch(address) {
+    match debugger.add_watch(kind, address) {
         Ok(()) => Ok(Answer::Text(text)),
         Err(_) => Err(DebugFault::Memory),
     }
+}
+
+#[tactic(auto, unfolding(crate::specs::Reply::reply))]
+fn obey_delete<A: Allocator + Copy>(
+    alloc: A,
+    debugger: &mut Debugger<A>,
+    address: u32,
+) -> Result<Answer<A>, DebugFault>
+    ensures ok { IfOk result (λ answer. reply (session debugger.old) (commands.Delete address)
+        ≡ Ok (reply_outcome answer (session debugger.new))) }
+    ensures unchanged { OnErr result (session debugger.new ≡ session debugger.old) }
+    ensures fault { IfErr result (λ fault. fault ≡ DebugFault.Memory) }
+{
+    let Ok(text) = delete_text(alloc, address) else {
+        return Err(DebugFault::Memory);
+    };
+    debugger.remove_points(address);
+    Ok(Answer::Text(text))
 }
 
 // `go`. The text is made between the search and the move, which cannot fail.
@@ -317,7 +336,8 @@ pub fn obey<A: Allocator + Copy>(
         Command::Back(n) => obey_back(alloc, debugger, n),
         Command::Step(number) => obey_step(alloc, debugger, number),
         Command::Break(address) => obey_break(alloc, debugger, address),
-        Command::Watch(address) => obey_watch(alloc, debugger, address),
+        Command::Watch { kind, address } => obey_watch(alloc, debugger, kind, address),
+        Command::Delete(address) => obey_delete(alloc, debugger, address),
         Command::Go => obey_go(alloc, debugger),
         Command::Rgo => obey_rgo(alloc, debugger),
         Command::Steps { from, to } => obey_steps(alloc, debugger, from, to),

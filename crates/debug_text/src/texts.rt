@@ -1,11 +1,22 @@
 //! The lines of positions and stops.
 ghost use Rattle.std.specs.Prelude.{◌≡◌, Some, IfOk, string_bytes};
-ghost use Rattle.debug_text.specs.Texts.{position_text, break_text, watch_text, stop_text, found_text};
+ghost use Rattle.debug_text.specs.Texts.{position_text, break_text, kind_text, watch_text, delete_text, stop_text, found_text};
 
-use debug_session::Stop;
+use debug_session::{AtBreak, Stop, WatchHit, WatchKind};
 use isa_names::Word;
 use std::alloc::{AllocError, Allocator};
 use std::fmt;
+
+// The command that watches in a way.
+fn kind_text(kind: WatchKind) -> &'static str
+    ensures { result.now ≡ kind_text kind }
+{
+    match kind {
+        WatchKind::Change => "watch",
+        WatchKind::Read => "rwatch",
+        WatchKind::Access => "awatch",
+    }
+}
 
 /// The reason for a stop, or the text in its place, shown without LF.
 #[derive(Clone, Copy)]
@@ -20,13 +31,17 @@ impl<'a> fmt::Display for StopText<'a> {
     fn fmt<W: fmt::Write>(&self, f: &mut fmt::Formatter<W>) -> fmt::Result {
         match self.stop {
             None => f.write_str(self.none),
-            Some(Stop::Break { hart, address }) => {
+            Some(Stop::Break(AtBreak { hart, address })) => {
                 let address = Word(address);
                 write!(f, "break h{hart} {address}")
             }
-            Some(Stop::Watch { address }) => {
-                let address = Word(address);
-                write!(f, "watch {address}")
+            Some(Stop::Watch(WatchHit { kind, address })) => {
+                let (kind, address) = (kind_text(kind), Word(address));
+                write!(f, "{kind} {address}")
+            }
+            Some(Stop::Both(AtBreak { hart, address }, hit)) => {
+                let (pc, kind, address) = (Word(address), kind_text(hit.kind), Word(hit.address));
+                write!(f, "break h{hart} {pc}\n{kind} {address}")
             }
         }
     }
@@ -48,11 +63,23 @@ pub fn break_text<A: Allocator>(alloc: A, address: u32) -> Result<String<A>, All
 }
 
 /// The line of a watched word.
-pub fn watch_text<A: Allocator>(alloc: A, address: u32) -> Result<String<A>, AllocError>
-    ensures { IfOk result (λ text. string_bytes text ≡ watch_text address) }
+pub fn watch_text<A: Allocator>(
+    alloc: A,
+    kind: WatchKind,
+    address: u32,
+) -> Result<String<A>, AllocError>
+    ensures { IfOk result (λ text. string_bytes text ≡ watch_text kind address) }
+{
+    let (kind, address) = (kind_text(kind), Word(address));
+    format!(in alloc; "{kind} {address}\n")
+}
+
+/// The line of an address at which nothing is to stop any more.
+pub fn delete_text<A: Allocator>(alloc: A, address: u32) -> Result<String<A>, AllocError>
+    ensures { IfOk result (λ text. string_bytes text ≡ delete_text address) }
 {
     let address = Word(address);
-    format!(in alloc; "watch {address}\n")
+    format!(in alloc; "delete {address}\n")
 }
 
 /// The reason for a stop, or the text in its place, and the line of position k of n.

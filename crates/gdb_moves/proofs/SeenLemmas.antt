@@ -7,8 +7,9 @@ use Rattle.hart_step.specs.declared.hart.Cause.{Cause}
 use Rattle.machine.specs.World.{World, step}
 use Rattle.machine.specs.declared.choice.Choice.{Choice}
 use Rattle.gdb_moves.specs.Points.{Marked}
-use Rattle.gdb_moves.specs.Touches.{touched, word_shown}
-use Rattle.gdb_moves.specs.Sights.{hart_runs, next_pc, fault_of, stands_of, touches_in, seen_at}
+use Rattle.debug_session.specs.Touched.{touched, hart_runs}
+use Rattle.gdb_moves.specs.Touches.{word_shown}
+use Rattle.gdb_moves.specs.Sights.{next_pc, fault_of, stands_of, touches_in, seen_at}
 use Rattle.gdb_moves.specs.declared.seen.Seen.{Seen}
 use Rattle.gdb_moves.specs.declared.stop.StopReason.{StopReason}
 

@@ -1,16 +1,13 @@
 -- Breakpoints and watches.
 use Rattle.std.specs.Prelude.{ℕ, Bool, true, false, not, ◌&&◌, ◌==◌, if◌then◌else◌, List, [], ◌∷◌, ◌++◌, filter}
 use Rattle.std.specs.List.{list_any}
-use Rattle.std.specs.Ordering.{nat_cmp}
-use Rattle.std.specs.BTreeMap.{is_at}
-use Rattle.std.specs.Set.{remove_key}
-use Rattle.debug_session.specs.Points.{with_address}
+use Rattle.debug_session.specs.Points.{with_address, without_address}
+use Rattle.debug_session.specs.declared.stop.WatchKind.{WatchKind}
+use Rattle.debug_session.specs.declared.stop.WatchKind.TheVariants.{Change, Read, Access}
 use Rattle.gdb_requests.specs.declared.request.Point.{Point}
 use Rattle.gdb_requests.specs.declared.request.PointKind.{PointKind}
 use Rattle.gdb_requests.specs.declared.request.PointKind.TheVariants as kinds
 use Rattle.gdb_moves.specs.declared.watch.Watch.{Watch}
-use Rattle.gdb_moves.specs.declared.watch.WatchKind.{WatchKind}
-use Rattle.gdb_moves.specs.declared.watch.WatchKind.TheVariants.{Change, Read, Access}
 use Rattle.gdb_moves.specs.declared.points.Points.{Points}
 
 -- the addresses of software and of hardware breakpoints, sorted, and the watches in order
@@ -49,10 +46,6 @@ with_watch ws w = if has_watch ws w then ws else ws ++ w ∷ []
 -- all watches but one
 abbrev pub without_watch : List Watch → Watch → List Watch
 without_watch ws w = filter (λ v. not (same_watch v w)) ws
-
--- all addresses but one
-abbrev pub without_address : List ℕ → ℕ → List ℕ
-without_address addresses a = remove_key (is_at (nat_cmp a)) addresses
 
 -- a watch over n bytes
 abbrev pub watch : WatchKind → ℕ → ℕ → Watch

@@ -8,23 +8,13 @@ use Rattle.hart_step.specs.declared.hart.HartState.TheVariants.{Running, Exited,
 use Rattle.machine.specs.World.{World, step}
 use Rattle.machine.specs.declared.choice.Choice.{Choice}
 use Rattle.debug_session.specs.Stops.{has}
+use Rattle.debug_session.specs.Touched.{touched, hart_runs}
 use Rattle.gdb_moves.specs.Points.{Marked}
-use Rattle.gdb_moves.specs.Touches.{touched, word_shown, watch_hit}
+use Rattle.gdb_moves.specs.Touches.{word_shown, watch_hit}
 use Rattle.gdb_moves.specs.declared.seen.Seen.{Seen}
 use Rattle.gdb_moves.specs.declared.stop.StopReason.{StopReason}
 use Rattle.gdb_moves.specs.declared.watch.Watch.{Watch}
 use Rattle.gdb_moves.specs.declared.stop.StopReason.TheVariants.{Software, Hardware}
-
--- whether a hart in a state runs
-abbrev pub state_runs : HartState → Bool
-state_runs Running = true
-state_runs (Exited status) = false
-state_runs (Faulted cause) = false
-
--- whether there is a hart and it runs
-abbrev pub hart_runs : Option HartValue → Bool
-hart_runs None = false
-hart_runs (Some h) = state_runs h.state
 
 -- the address of the next instruction of a hart in a state
 abbrev pub next_in : HartState → ℕ → Option ℕ

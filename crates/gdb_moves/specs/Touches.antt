@@ -1,52 +1,18 @@
--- What a step does with memory, and the watches that it hits.
-use Rattle.std.specs.Prelude.{ℕ, ◌+◌, Bool, true, false, not, ◌&&◌, ◌||◌, ◌==◌, nat_le, nat_lt, if◌then◌else◌, Option, Some, None, List, [], ◌∷◌, slice_get, slice_index}
+-- The bytes that a step accesses, and the watches that it hits.
+use Rattle.std.specs.Prelude.{ℕ, ◌+◌, Bool, not, ◌&&◌, ◌||◌, ◌==◌, nat_le, nat_lt, if◌then◌else◌, Option, Some, None, List, [], ◌∷◌, slice_index}
 use Rattle.std.specs.Option.{option_or}
 use Rattle.mem_store.specs.Memory.{Memory}
 use Rattle.mem_store.specs.Access.{peeked}
-use Rattle.hart_reservations.specs.Marks.{names, word_of}
+use Rattle.hart_reservations.specs.Marks.{word_of}
 use Rattle.hart_step.specs.declared.data_access.Access.{Access}
-use Rattle.hart_step.specs.declared.data_access.AccessKind.{AccessKind}
-use Rattle.hart_step.specs.declared.data_access.AccessKind.TheVariants.{Load, Store, LoadReserved, StoreConditional, Amo}
-use Rattle.machine.specs.World.{World}
-use Rattle.machine.specs.declared.choice.Choice.{Choice}
-use Rattle.debug_session.specs.Accessed.{accessed}
+use Rattle.debug_session.specs.Touched.{reads}
 use Rattle.debug_session.specs.Words.{byte_or_zero}
+use Rattle.debug_session.specs.declared.stop.WatchKind.{WatchKind}
+use Rattle.debug_session.specs.declared.stop.WatchKind.TheVariants as kinds
 use Rattle.gdb_moves.specs.declared.span.Span.{Span}
 use Rattle.gdb_moves.specs.declared.stop.StopReason.{StopReason}
 use Rattle.gdb_moves.specs.declared.stop.StopReason.TheVariants as stops
 use Rattle.gdb_moves.specs.declared.watch.Watch.{Watch}
-use Rattle.gdb_moves.specs.declared.watch.WatchKind.{WatchKind}
-use Rattle.gdb_moves.specs.declared.watch.WatchKind.TheVariants as kinds
-
--- whether an access reads
-abbrev pub reads : AccessKind → Bool
-reads Load = true
-reads LoadReserved = true
-reads Amo = true
-reads Store = false
-reads StoreConditional = false
-
--- whether a store-conditional of choice c to an address succeeds in a world, if it does not fault
-abbrev pub sc_stores : World → Choice → ℕ → Bool
-sc_stores w c a = not c.refuse && names (w.reserved c.hart) a
-
--- whether an access of this kind by choice c in a world takes place, if it does not fault: a
--- store-conditional does only if it succeeds
-abbrev pub takes_place : AccessKind → World → Choice → ℕ → Bool
-takes_place Load w c a = true
-takes_place LoadReserved w c a = true
-takes_place Amo w c a = true
-takes_place Store w c a = true
-takes_place StoreConditional w c a = sc_stores w c a
-
--- an access if it takes place
-abbrev pub if_place : World → Choice → Option Access → Option Access
-if_place w c None = None
-if_place w c (Some a) = if takes_place a.kind w c a.address then Some a else None
-
--- the access of choice c in the world before it, if its step has one that takes place
-abbrev pub touched : World → Choice → Option Access
-touched w c = if_place w c (accessed w (slice_get w.harts c.hart))
 
 -- the byte at an address as a debugger shows it, 0 if it is not mapped
 abbrev pub shown_byte : Memory → ℕ → ℕ

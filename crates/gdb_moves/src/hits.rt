@@ -4,8 +4,8 @@ ghost use Rattle.gdb_moves.specs.Touches.{hit_of, first_hit, watch_hit};
 
 use crate::span::{changes, common, is_empty};
 use crate::stop::StopReason;
-use crate::touching::reads;
-use crate::watch::{Watch, WatchKind};
+use crate::watch::Watch;
+use debug_session::{WatchKind, reads};
 use hart_step::Access;
 
 // The hit of a watch by an access, if it is one, given the bytes of the access's word before and

@@ -14,7 +14,7 @@ pub use search::Search;
 pub use seen::Seen;
 pub use stop::{AddressRange, StopReason, ThreadStop, Whose};
 pub use thread_steps::{step, step_after, step_alone};
-pub use watch::{Watch, WatchKind};
+pub use watch::Watch;
 
 mod alone_steps;
 mod goal;

@@ -1,9 +1,10 @@
 //! Breakpoints and watches.
 ghost use Rattle.std.specs.Prelude.{◌≡◌, [], OnOk, OnErr};
-ghost use Rattle.debug_session.specs.Points.{with_address};
-ghost use Rattle.gdb_moves.specs.Points.{marked, without_address, has_watch, with_watch, without_watch, marked_with, marked_without};
+ghost use Rattle.debug_session.specs.Points.{with_address, without_address};
+ghost use Rattle.gdb_moves.specs.Points.{marked, has_watch, with_watch, without_watch, marked_with, marked_without};
 
-use crate::watch::{Watch, WatchKind, is_same};
+use crate::watch::{Watch, is_same};
+use debug_session::WatchKind;
 use gdb_requests::{Point, PointKind};
 use std::alloc::{AllocError, Allocator};
 use std::collections::BTreeSet;

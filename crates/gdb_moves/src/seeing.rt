@@ -5,28 +5,18 @@ ghost use Rattle.machine.specs.World.{step};
 ghost use Rattle.debug_session.specs.Paged.{paged_world};
 ghost use Rattle.debug_session.specs.Stops.{has};
 ghost use Rattle.gdb_moves.specs.Points.{marked};
-ghost use Rattle.gdb_moves.specs.Sights.{hart_runs, next_pc, fault_of, stands_of, touches_in, seen_at};
+ghost use Rattle.gdb_moves.specs.Sights.{next_pc, fault_of, stands_of, touches_in, seen_at};
 
 use crate::hits::watch_hit;
 use crate::points::Points;
 use crate::seen::Seen;
 use crate::stop::StopReason;
-use crate::touching::{touched, word_shown};
-use debug_session::PagedMachine;
+use crate::touching::word_shown;
+use debug_session::{PagedMachine, runs, touched};
 use hart_step::{Access, Cause, Hart, HartState};
 use machine::Choice;
 use std::alloc::{AllocError, Allocator};
 use std::collections::BTreeSet;
-
-// Whether a hart runs.
-fn runs(hart: &Hart) -> bool
-    ensures { result ≡ hart_runs (Some (hart_of hart.now)) }
-{
-    match hart.state {
-        HartState::Running => true,
-        HartState::Exited(_) | HartState::Faulted(_) => false,
-    }
-}
 
 // The address of a hart's next instruction, if it runs.
 fn next_of(hart: &Hart) -> Option<u32>

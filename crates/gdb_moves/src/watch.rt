@@ -2,16 +2,7 @@
 ghost use Rattle.std.specs.Prelude.{◌≡◌};
 ghost use Rattle.gdb_moves.specs.Points.{is_same_kind, same_watch};
 
-/// What a watch stops at.
-#[derive(Clone, Copy)]
-pub enum WatchKind {
-    /// A step that changes a byte.
-    Change,
-    /// A step that reads a byte.
-    Read,
-    /// A step that reads or writes a byte.
-    Access,
-}
+use debug_session::WatchKind;
 
 /// A watch over bytes of memory.
 #[derive(Clone, Copy)]

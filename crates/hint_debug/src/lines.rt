@@ -10,7 +10,7 @@ use isa_names::Word;
 use std::alloc::{AllocError, Allocator};
 
 // The operands of each command.
-const TAKES: [(&[&str], &str); 9] = [
+const TAKES: [(&[&str], &str); 10] = [
     (&["help", "where", "go", "rgo", "quit"], "stands alone"),
     (&["goto"], "takes a decimal number of choices, as goto 7"),
     (
@@ -19,7 +19,11 @@ const TAKES: [(&[&str], &str); 9] = [
     ),
     (&["step"], "takes the number of a hart, as step 1"),
     (&["break"], "takes an address, as break 0x00010008"),
-    (&["watch"], "takes an address, as watch 0x00011000"),
+    (
+        &["watch", "rwatch", "awatch"],
+        "takes an address, as watch 0x00011000",
+    ),
+    (&["delete"], "takes an address, as delete 0x00010008"),
     (
         &["steps"],
         "takes two decimal numbers of choices, as steps 0 7",
@@ -36,7 +40,7 @@ const COMMAND_TAKES: Form = &[First, Words(" "), Second, Words("\n")];
 
 // Another word than a command.
 const THE_COMMANDS: Form = &[Words(
-    "the commands are help, where, goto, forward, back, step, break, watch, go, rgo, steps, regs, mem and quit, in small letters\n",
+    "the commands are help, where, goto, forward, back, step, break, watch, rwatch, awatch, delete, go, rgo, steps, regs, mem and quit, in small letters\n",
 )];
 
 // A name that no symbol has, with and without the nearest one.
@@ -72,9 +76,10 @@ fn looks_hexadecimal(operand: &str) -> bool {
 
 fn address_of(command: Command) -> Option<u32> {
     match command {
-        Command::Break(address) | Command::Watch(address) | Command::Mem { address, .. } => {
-            Some(address)
-        }
+        Command::Break(address)
+        | Command::Watch { address, .. }
+        | Command::Delete(address)
+        | Command::Mem { address, .. } => Some(address),
         _ => None,
     }
 }

@@ -9,7 +9,7 @@ use isa_names::Word;
 use std::alloc::Allocator;
 use std::fmt;
 
-/// A step that has changed a watched word, shown as a line without LF.
+/// A step that has changed or accessed a watched word, shown as a line without LF.
 #[derive(Clone, Copy)]
 pub struct StoredWord {
     /// The hart that took the step.
@@ -26,18 +26,27 @@ impl fmt::Display for StoredWord {
     fn fmt<W: fmt::Write>(&self, f: &mut fmt::Formatter<W>) -> fmt::Result {
         let (hart, address) = (self.hart, Word(self.address));
         let (before, after) = (Word(self.before), Word(self.after));
-        write!(f, "hart {hart} changed {address} from {before} to {after}")
+        if self.before == self.after {
+            write!(f, "hart {hart} accessed {address}, which stays {after}")
+        } else {
+            write!(f, "hart {hart} changed {address} from {before} to {after}")
+        }
     }
 }
 
-/// The address in an answer whose first line is `watch` and eight hexadecimal digits.
+/// The address in an answer with a line of a command that watches and eight hexadecimal digits.
 pub fn watched_word(answer: &str) -> Option<u32> {
-    let line = answer.lines().next()?;
-    let digits = line.strip_prefix("watch ")?;
-    u32::from_str_radix(digits, 16).ok()
+    'lines: for line in answer.lines() {
+        if let Some((command, digits)) = line.split_once(' ') {
+            if matches!(command, "watch" | "rwatch" | "awatch") {
+                return u32::from_str_radix(digits, 16).ok();
+            }
+        }
+    }
+    None
 }
 
-/// The change of a word by the step before a debugger's position; `None` at the start. The position
+/// What became of a word by the step before a debugger's position; `None` at the start. The position
 /// stays; if out of memory, it may be one less.
 pub fn word_before<A: Allocator + Copy>(
     alloc: A,

@@ -186,7 +186,7 @@ s7 00000000\ns8 00000000\ns9 00000000\ns10 00000000\ns11 00000000\nt3 00000000\n
 ];
 
 #[rattlefmt::skip]
-static STEPS: [Session; 2] = [
+static STEPS: [Session; 3] = [
     Session { name: "steps_of_a_hart", program: COUNT, inputs: &[7, 9, 4], choices: "1 1 0 1! 0 1",
         lines: &[
             ("step 0", "step 3 of 6\n"),
@@ -209,10 +209,88 @@ static STEPS: [Session; 2] = [
             ("step 0 1", "bad command\n"),
             ("where", "step 4 of 6\n"),
         ] },
+    Session { name: "points_are_deleted", program: COUNT, inputs: &[7], choices: TEN,
+        lines: &[
+            ("delete 0x00010004", "delete 00010004\n"),
+            ("break 0x00010004", "break 00010004\n"),
+            ("break 0x00010006", "break 00010006\n"),
+            ("delete 0x00010006", "delete 00010006\n"),
+            ("go", "break h0 00010004\nstep 1 of 10\n"),
+            ("delete 65540", "delete 00010004\n"),
+            ("go", "end\nstep 10 of 10\n"),
+            ("break 0x00010000", "break 00010000\n"),
+            ("watch 0x00010004", "watch 00010004\n"),
+            ("delete 0x00010007", "delete 00010007\n"),
+            ("rgo", "break h0 00010000\nstep 8 of 10\n"),
+            ("delete", "bad command\n"),
+            ("delete x", "bad command\n"),
+            ("delete 4294967296", "bad command\n"),
+            ("delete 0x00010000 1", "bad command\n"),
+        ] },
     Session { name: "help_stands_alone", program: COUNT, inputs: &[7], choices: TEN,
         lines: &[
             ("help 1", "bad command\n"),
             ("Help", "bad command\n"),
+        ] },
+];
+
+// A word that is loaded and reserved, a store-conditional to it, and back to the load.
+const RESERVE: &str = "00011437 100422AF 1804232F FF9FF06F";
+
+// A load from an address that is not mapped.
+const UNMAPPED: &str = "00002283";
+
+#[rattlefmt::skip]
+static WATCHES: [Session; 3] = [
+    Session { name: "accesses_are_watched", program: SWAP, inputs: &[7, 9], choices: ONE_THEN_ZERO,
+        lines: &[
+            ("rwatch 0x00011002", "rwatch 00011000\n"),
+            ("go", "rwatch 00011000\nstep 6 of 26\n"),
+            ("go", "rwatch 00011000\nstep 17 of 26\n"),
+            ("go", "end\nstep 26 of 26\n"),
+            ("watch 0x00011000", "watch 00011000\n"),
+            ("rgo", "rwatch 00011000\nstep 17 of 26\n"),
+            ("rgo", "watch 00011000\nstep 6 of 26\n"),
+            ("rgo", "start\nstep 0 of 26\n"),
+            ("delete 0x00011001", "delete 00011001\n"),
+            ("awatch 0x00011008", "awatch 00011008\n"),
+            ("go", "awatch 00011008\nstep 4 of 26\n"),
+            ("break 0x0001002c", "break 0001002c\n"),
+            ("go", "break h1 0001002c\nstep 7 of 26\n"),
+            ("go", "break h0 0001002c\nawatch 00011008\nstep 22 of 26\n"),
+            ("rgo", "break h1 0001002c\nstep 7 of 26\n"),
+            ("rgo", "awatch 00011008\nstep 4 of 26\n"),
+            ("rwatch 0x00011008", "rwatch 00011008\n"),
+            ("goto 26", "step 26 of 26\n"),
+            ("rgo", "break h0 0001002c\nrwatch 00011008\nstep 22 of 26\n"),
+            ("delete 0x0001002c", "delete 0001002c\n"),
+            ("delete 0x0001100b", "delete 0001100b\n"),
+            ("rgo", "start\nstep 0 of 26\n"),
+            ("rwatch", "bad command\n"),
+            ("awatch x", "bad command\n"),
+            ("awatch 0 1", "bad command\n"),
+        ] },
+    Session { name: "store_conditionals_are_watched_if_they_store", program: RESERVE, inputs: &[7],
+        choices: "0 0 0! 0 0 0 0",
+        lines: &[
+            ("watch 0x00011000", "watch 00011000\n"),
+            ("awatch 0x00011000", "awatch 00011000\n"),
+            ("go", "awatch 00011000\nstep 2 of 7\n"),
+            ("go", "awatch 00011000\nstep 5 of 7\n"),
+            ("go", "awatch 00011000\nstep 6 of 7\n"),
+            ("go", "end\nstep 7 of 7\n"),
+            ("delete 0x00011000", "delete 00011000\n"),
+            ("rwatch 0x00011000", "rwatch 00011000\n"),
+            ("rgo", "rwatch 00011000\nstep 5 of 7\n"),
+            ("rgo", "rwatch 00011000\nstep 2 of 7\n"),
+            ("rgo", "start\nstep 0 of 7\n"),
+        ] },
+    Session { name: "load_that_faults_is_no_access", program: UNMAPPED, inputs: &[7], choices: "0 0",
+        lines: &[
+            ("awatch 0", "awatch 00000000\n"),
+            ("rwatch 0", "rwatch 00000000\n"),
+            ("go", "end\nstep 2 of 2\n"),
+            ("rgo", "start\nstep 0 of 2\n"),
         ] },
 ];
 
@@ -286,6 +364,13 @@ fn sessions_are_answered_line_by_line(rt: HostRuntime) {
 #[test]
 fn steps_of_a_hart_are_answered_line_by_line(rt: HostRuntime) {
     if let Some((name, line)) = first_wrong(rt.alloc(), &STEPS) {
+        assert!(rt; false, "{name}: {line}");
+    }
+}
+
+#[test]
+fn watches_are_answered_line_by_line(rt: HostRuntime) {
+    if let Some((name, line)) = first_wrong(rt.alloc(), &WATCHES) {
         assert!(rt; false, "{name}: {line}");
     }
 }

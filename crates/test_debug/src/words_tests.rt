@@ -55,6 +55,8 @@ fn lines_at_the_debugger_are_read(rt: HostRuntime) -> Result<(), AllocError> {
     let told = line_advice(rt.alloc(), &[], &[], "watch 0x00011000")?;
     assert!(rt; told.as_str() == "");
     assert!(rt; watched_word("watch 00011000\nstep 8 of 34\n") == Some(0x0001_1000));
+    let both = "break h0 00010010\nrwatch 00011004\nstep 9 of 34\n";
+    assert!(rt; watched_word(both) == Some(0x0001_1004));
     assert!(rt; watched_word("end\nstep 34 of 34\n").is_none());
     Ok(())
 }

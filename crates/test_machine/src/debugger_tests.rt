@@ -1,7 +1,7 @@
 //! Tests what no clause says: how far moves go and what they cost, and what is told of a long
 //! start.
 use byte_io::{Progress, Unheard};
-use debug_session::{Debugger, MoveFault, byte_at};
+use debug_session::{Debugger, MoveFault, WatchKind, byte_at};
 use machine::{Choice, Inputs};
 use std::alloc::Global;
 use test_images::{STORES_INPUT, writable_program};
@@ -39,7 +39,7 @@ fn begin<P: Progress>(alloc: Global, count: u32, progress: &mut P) -> Option<Deb
 fn placed(alloc: Global) -> Option<Debugger<Global>> {
     let mut debugger = begin(alloc, 1000, &mut Unheard)?;
     debugger.add_break(0x10004).ok()?;
-    debugger.add_watch(0x11005).ok()?;
+    debugger.add_watch(WatchKind::Change, 0x11005).ok()?;
     debugger.goto(alloc, 600).ok()?;
     Some(debugger)
 }

@@ -1,6 +1,6 @@
 //! Calls of a debugger, each at one place: how it is made, its moves, its breakpoints and its
 //! commands.
-use debug_session::{Debugger, MoveFault, Stop};
+use debug_session::{Debugger, MoveFault, Stop, WatchHit, WatchKind};
 use debug_text::{Answer, DebugFault, command};
 use elf_read::Symbol;
 use machine::{Choice, Inputs};
@@ -143,7 +143,7 @@ fn placed<A: Allocator + Copy>(alloc: A, place: Place) -> Result<Debugger<A>, Al
     let choices = turns(alloc, place.choices)?;
     let mut debugger = begin(alloc, choices)?;
     debugger.add_break(0x0001_0004)?;
-    debugger.add_watch(0x0001_1005)?;
+    debugger.add_watch(WatchKind::Change, 0x0001_1005)?;
     match debugger.goto(alloc, place.position) {
         Ok(()) => Ok(debugger),
         Err(_) => Err(AllocError),
@@ -193,7 +193,7 @@ fn make<A: Allocator + Copy>(
         MoveCall::Forward => goes_forward(alloc, debugger, 2, 5),
         MoveCall::Back => goes_back(alloc, debugger, 2, 1),
         MoveCall::AddBreak => is_added(debugger.add_break(0x0001_0008)),
-        MoveCall::AddWatch => is_added(debugger.add_watch(0x0001_1000)),
+        MoveCall::AddWatch => is_added(debugger.add_watch(WatchKind::Change, 0x0001_1000)),
         MoveCall::GoOn => is_at_watch(debugger.go_on(alloc)),
         MoveCall::GoBack | MoveCall::FarGoBack => is_at_watch(debugger.go_back(alloc)),
         MoveCall::Steps => has_steps(alloc, debugger),
@@ -250,9 +250,10 @@ fn is_added(added: Result<(), AllocError>) -> Result<bool, MoveFault> {
 }
 
 fn is_at_watch(found: Result<Option<Stop>, AllocError>) -> Result<bool, MoveFault> {
-    let watch = Stop::Watch {
+    let watch = Stop::Watch(WatchHit {
+        kind: WatchKind::Change,
         address: 0x0001_1004,
-    };
+    });
     match found {
         Ok(stop) => Ok(stop == Some(watch)),
         Err(AllocError) => Err(MoveFault::Memory),

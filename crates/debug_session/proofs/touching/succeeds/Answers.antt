@@ -1,6 +1,6 @@
 use Rattle.std.proofs.Common.{ap, ◌∙◌}
 use Rattle.hart_reservations.specs.Marks.{Marks, names}
-use Rattle.gdb_moves.proofs.touching.succeeds.Goals as goal
+use Rattle.debug_session.proofs.touching.succeeds.Goals as goal
 
 pub returns : goal.returns
 returns g c =
