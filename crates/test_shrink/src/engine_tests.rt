@@ -43,7 +43,7 @@ const AGREED: Expect = Expect {
 };
 
 #[rattlefmt::skip]
-const ROWS: [Row; 15] = [
+const ROWS: [Row; 17] = [
     // Hart 0 needs 14 steps to its EBREAK, hart 1 nine to its AMO, all of them between hart 0's
     // load and its store.
     Row { source: LOST, inputs: &[2, 2], expect: NO_FAULT, given: "0*3 1*12 0*14 1*3", passed: ALL,
@@ -51,6 +51,13 @@ const ROWS: [Row; 15] = [
     // What stands behind the failure goes, and so do marks of steps that are no store-conditionals.
     Row { source: LOST, inputs: &[2, 2], expect: NO_FAULT,
         given: "0! 0*2 1!*5 1*7 0*14 1 0! 1!*3 0!*40", passed: ALL, answer: Ok("0*3 1*9 0*11\n") },
+    // The same steps with ten switches. All of hart 1's go together behind hart 0's load, its third
+    // step, and before its store; with fewer than two switches no update is lost.
+    Row { source: LOST, inputs: &[2, 2], expect: NO_FAULT,
+        given: "0 1*2 0*2 1*3 0*2 1 0 1 0*2 1*2 0*6", passed: ALL, answer: Ok("0*3 1*9 0*11\n") },
+    // Hart 1's fourth step, its store, stays before hart 0's fourth, its load.
+    Row { source: TWO_FAULTS, inputs: &[0, 0], expect: NO_FAULT, given: "1*2 0*2 1*2 0*4",
+        passed: ALL, answer: Ok("1*4 0*6\n") },
     // Hart 0 alone would stop after as many steps, but at its EBREAK: hart 1's store is needed for
     // the fault that the given run has.
     Row { source: TWO_FAULTS, inputs: &[0, 0], expect: NO_FAULT, given: "1*6 0*8", passed: ALL,

@@ -1,8 +1,9 @@
 //! Lists shrunk over a plain test, through the bound.
 ghost use Rattle.std.specs.Prelude.{◌≤◌, length};
 
-use cmd_shrink::{ChoicesLeft, Failing, shrink_choices};
+use cmd_shrink::{ChoicesLeft, Failing, Unheard, shrink_choices};
 use machine::Choice;
+use sched_text::print_runs;
 use std::alloc::{AllocError, Global};
 
 // A list fails that has so many choices or more.
@@ -60,4 +61,30 @@ fn are_three_left(alloc: Global) -> Option<bool> {
 #[test]
 fn so_many_choices_are_left_without_marks(rt: HostRuntime) {
     assert!(rt; are_three_left(rt.alloc()) == Some(true));
+}
+
+// Each of four harts twice.
+#[rattlefmt::skip]
+const BY_TURNS: [Choice; 8] = [
+    Choice { hart: 0, refuse: false },
+    Choice { hart: 1, refuse: false },
+    Choice { hart: 2, refuse: false },
+    Choice { hart: 3, refuse: false },
+    Choice { hart: 0, refuse: false },
+    Choice { hart: 1, refuse: false },
+    Choice { hart: 2, refuse: false },
+    Choice { hart: 3, refuse: false },
+];
+
+// Whether all choices are left where as many are needed, and each hart's stand together; nothing
+// for want of memory.
+fn do_harts_stand_together(alloc: Global) -> Option<bool> {
+    let list = shrink_choices(alloc, &AtLeast { least: 8 }, &BY_TURNS, &mut Unheard).ok()?;
+    let text = print_runs(alloc, &list).ok()?;
+    Some(text.as_bytes() == b"0*2 1*2 2*2 3*2\n".as_slice())
+}
+
+#[test]
+fn needed_choices_of_a_hart_stand_together(rt: HostRuntime) {
+    assert!(rt; do_harts_stand_together(rt.alloc()) == Some(true));
 }
