@@ -7,49 +7,51 @@ use Rattle.std.proofs.lemmas.Option.{slice_get-map, slice_get_read, get_or_from_
 use Rattle.hart_reservations.specs.Marks.{Marks}
 use Rattle.hart_step.specs.Hart.{HartValue, hart_of}
 use Rattle.hart_step.specs.declared.hart.Hart.{Hart}
-use Rattle.machine.specs.World.{World, step}
 use Rattle.machine.specs.declared.choice.Choice.{Choice}
-use Rattle.trace_steps.specs.Told.{told_choice}
-use Rattle.trace_steps.specs.Tells.{tells}
-use Rattle.trace_steps.specs.declared.told.Told.{Told}
+use Rattle.trace_steps.specs.Explains.{Followed, explained, explains, follow}
+use Rattle.trace_steps.specs.declared.explaining.Explained.{Explained}
 use Rattle.trace_text.specs.Head.{then_of}
 use Rattle.trace_text.specs.declared.head.HartThen.{HartThen}
 use Rattle.cmd_trace.specs.Trace.{choice_entry, entries, harts_from}
 use Rattle.cmd_trace.specs.Page.{PageValue}
 
-entries_nothing : (page : PageValue) (k : ℕ) (w : World) → entries page k (tells w []) ≡ []
-unfolding entries tells
-entries_nothing page k w = refl
+entries_nothing : (page : PageValue) (k : ℕ) (f : Followed) → entries page k (explains f k []) ≡ []
+unfolding entries explains
+entries_nothing page k f = refl
 
-entries_one : (page : PageValue) (k : ℕ) (w : World) (c : Choice) (more : List Choice)
-    → entries page k (tells w (c ∷ more)) ≡ choice_entry page (told_choice w c) k ++ entries page (k + 1) (tells (step w c) more)
-unfolding entries tells
-entries_one page k w c more = refl
+entries_one : (page : PageValue) (k : ℕ) (f : Followed) (c : Choice) (more : List Choice)
+    → entries page k (explains f k (c ∷ more))
+    ≡ choice_entry page (explained f c) k ++ entries page (k + 1) (explains (follow f k c) (k + 1) more)
+unfolding entries explains
+entries_one page k f c more = refl
 
 -- one more choice is traced
-pub entries_more : (page : PageValue) (from i n : ℕ) (now new : World) (left more : List Choice) (c : Choice) (t : Told) → i < n
-    → left ≡ c ∷ more → t ≡ told_choice now c → new ≡ step now c
-    → entries page (from + i) (tells now (take (n - i) left))
-    ≡ choice_entry page t (from + i) ++ entries page (from + (i + 1)) (tells new (take (n - (i + 1)) more))
+pub entries_more : (page : PageValue) (from i n : ℕ) (now new : Followed) (left more : List Choice) (c : Choice) (t : Explained) → i < n
+    → left ≡ c ∷ more → t ≡ explained now c → new ≡ follow now (from + i) c
+    → entries page (from + i) (explains now (from + i) (take (n - i) left))
+    ≡ choice_entry page t (from + i) ++ entries page (from + (i + 1)) (explains new (from + (i + 1)) (take (n - (i + 1)) more))
 entries_more page from i n now new left more c t below is tells_it stepping =
     let rest : n - i ≡ suc (n - (i + 1)) = omega (arith, below) in
     let place : from + i + 1 ≡ from + (i + 1) = omega arith in
-    ap₂ (λ (m : ℕ) (l : List Choice). entries page (from + i) (tells now (take m l))) rest is
+    ap₂ (λ (m : ℕ) (l : List Choice). entries page (from + i) (explains now (from + i) (take m l))) rest is
     ∙ entries_one page (from + i) now c (take (n - (i + 1)) more)
-    ∙ ap₂ (λ (u : Told) (k : ℕ). choice_entry page u (from + i) ++ entries page k (tells (step now c) (take (n - (i + 1)) more))) (sym tells_it) place
-    ∙ ap (λ (w : World). choice_entry page t (from + i) ++ entries page (from + (i + 1)) (tells w (take (n - (i + 1)) more))) (sym stepping)
+    ∙ ap₂ (λ (u : Explained) (k : ℕ). choice_entry page u (from + i) ++ entries page k (explains (follow now (from + i) c) k (take (n - (i + 1)) more)))
+    (sym tells_it) place
+    ∙ ap (λ (f : Followed). choice_entry page t (from + i) ++ entries page (from + (i + 1)) (explains f (from + (i + 1)) (take (n - (i + 1)) more)))
+    (sym stepping)
 
 -- no choice is left
-pub entries_none : (page : PageValue) (k m : ℕ) (w : World) (left : List Choice) → left ≡ [] → entries page k (tells w (take m left)) ≡ []
-entries_none page k m w left none =
-    ap (λ (l : List Choice). entries page k (tells w (take m l))) none
-    ∙ ap (λ (l : List Choice). entries page k (tells w l)) (take_all m [] (omega arith)) ∙ entries_nothing page k w
+pub entries_none : (page : PageValue) (k m : ℕ) (f : Followed) (left : List Choice) → left ≡ []
+    → entries page k (explains f k (take m left)) ≡ []
+entries_none page k m f left none =
+    ap (λ (l : List Choice). entries page k (explains f k (take m l))) none
+    ∙ ap (λ (l : List Choice). entries page k (explains f k l)) (take_all m [] (omega arith)) ∙ entries_nothing page k f
 
 -- all choices that are to be traced were traced
-pub entries_end : (page : PageValue) (k i n : ℕ) (w : World) (left : List Choice) → n ≤ i → entries page k (tells w (take (n - i) left)) ≡ []
-entries_end page k i n w left past =
+pub entries_end : (page : PageValue) (k i n : ℕ) (f : Followed) (left : List Choice) → n ≤ i → entries page k (explains f k (take (n - i) left)) ≡ []
+entries_end page k i n f left past =
     let none : n - i ≡ 0 = omega (arith, past) in
-    ap (λ (m : ℕ). entries page k (tells w (take m left))) none ∙ entries_nothing page k w
+    ap (λ (m : ℕ). entries page k (explains f k (take m left))) none ∙ entries_nothing page k f
 
 -- ---- harts, each with the word that it has reserved
 pub hart_more : (r : Marks) (i : ℕ) (harts : List HartValue) (all : List (HartValue × Option ℕ)) (old new : List HartThen) (t : HartThen) (h : HartValue)

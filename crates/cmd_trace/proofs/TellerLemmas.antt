@@ -2,14 +2,16 @@
 use Rattle.std.proofs.Common.{◌≡◌, ℕ, zero, suc, ◌+◌, ◌-◌, ◌≤◌, List, [], ◌∷◌, ◌++◌, length, take, drop, Some, None, refl, ap, sym, subst, ◌∙◌, arith}
 use Rattle.std.proofs.lemmas.List.{take_all, drop_all, length-drop}
 use Rattle.image.specs.Image.{ImageValue}
-use Rattle.machine.specs.World.{World, step, run}
+use Rattle.machine.specs.World.{World}
 use Rattle.machine.specs.Start.{started}
 use Rattle.machine.specs.declared.choice.Choice.{Choice}
 use Rattle.machine.proofs.RunLaws.{length-started}
-use Rattle.machine.proofs.WorldLemmas.{run_append, run_none}
-use Rattle.trace_steps.specs.declared.told.Told.{Told}
+use Rattle.trace_steps.specs.Explains.{Followed, follow, followed_run}
+use Rattle.trace_steps.specs.declared.explaining.Explained.{Explained}
+use Rattle.trace_steps.proofs.ExplainLemmas.{follows_append, follows_none, follows_one}
 use Rattle.cmd_trace.specs.Cursor.{Has}
 use Rattle.cmd_trace.specs.Teller.{TellsNext, Skips}
+use Rattle.cmd_trace.specs.Trace.{followed_start}
 use Rattle.cmd_trace.specs.declared.cursor.Cursor.{Cursor}
 
 -- ---- lists that are cut where the first of the rest is known
@@ -23,33 +25,36 @@ pub past : (left : List Choice) (i : ℕ) → drop i left ≡ [] → length left
 past left i e = let f : length left - i ≡ 0 = sym (length-drop i left) ∙ ap length e in omega (arith, f)
 
 -- ---- one choice after another
-run_one : (w : World) (c : Choice) → run w (c ∷ []) ≡ step w c
-unfolding run
-run_one w c = refl
+length-cut : (left : List Choice) (i : ℕ) (c : Choice) (more : List Choice) → drop i left ≡ c ∷ more → length (take i left) ≡ i
+length-cut [] i c more e = absurd (let f : ◌≡◌ {A = List Choice} [] (c ∷ more) = sym (drop_all i [] (omega arith)) ∙ e in cc)
+length-cut (x ∷ left) zero c more e = refl
+length-cut (x ∷ left) (suc i) c more e = ap suc (length-cut left i c more e)
 
-pub run_more_by : (w now new : World) (i : ℕ) (left : List Choice) (c : Choice) (more : List Choice) → drop i left ≡ c ∷ more
-    → now ≡ run w (take i left) → new ≡ step now c → new ≡ run w (take (i + 1) left)
-run_more_by w now new i left c more is so_far stepping =
+pub follows_more_by : (f now new : Followed) (k i : ℕ) (left : List Choice) (c : Choice) (more : List Choice) → drop i left ≡ c ∷ more
+    → now ≡ followed_run f k (take i left) → new ≡ follow now (k + i) c → new ≡ followed_run f k (take (i + 1) left)
+follows_more_by f now new k i left c more is so_far stepping =
     let next : i + 1 ≡ suc i = omega arith in
-    stepping ∙ ap (λ v. step v c) so_far ∙ sym (run_append w (take i left) (c ∷ []) ∙ run_one (run w (take i left)) c)
-    ∙ ap (run w) (sym (cut left i c more is).0) ∙ ap (λ n. run w (take n left)) (sym next)
+    stepping ∙ ap (λ g. follow g (k + i) c) so_far
+    ∙ ap (λ n. follow (followed_run f k (take i left)) (k + n) c) (sym (length-cut left i c more is))
+    ∙ sym (follows_append f k (take i left) (c ∷ []) ∙ follows_one (followed_run f k (take i left)) (k + length (take i left)) c)
+    ∙ ap (followed_run f k) (sym (cut left i c more is).0) ∙ ap (λ n. followed_run f k (take n left)) (sym next)
 
-pub none_skipped : (w : World) (cursor : Cursor) (left : List Choice) → Has cursor left → Skips 0 w w cursor left
-none_skipped w cursor left has = (sym (run_none w), has)
+pub none_skipped : (f : Followed) (k : ℕ) (cursor : Cursor) (left : List Choice) → Has cursor left → Skips 0 f f k cursor left
+none_skipped f k cursor left has = (sym (follows_none f k), has)
 
-pub skipped_more : (i : ℕ) (w now new : World) (cursor after : Cursor) (left : List Choice) (t : Told) → Skips i w now cursor left
-    → TellsNext now new after (drop i left) (Some t) → Skips (i + 1) w new after left
-skipped_more i w now new cursor after left t s (c, more, is, told, stepping, has) =
+pub skipped_more : (i k : ℕ) (f now new : Followed) (cursor after : Cursor) (left : List Choice) (t : Explained) → Skips i f now k cursor left
+    → TellsNext now new (k + i) after (drop i left) (Some t) → Skips (i + 1) f new k after left
+skipped_more i k f now new cursor after left t s (c, more, is, told, stepping, has) =
     let next : i + 1 ≡ suc i = omega arith in (
-      run_more_by w now new i left c more is s.0 stepping,
+      follows_more_by f now new k i left c more is s.0 stepping,
       subst (λ l. Has after l) (sym (ap (λ n. drop n left) next ∙ (cut left i c more is).1)) has,
     )
 
-pub skipped_all : (i count : ℕ) (w now new : World) (cursor after : Cursor) (left : List Choice) → i ≤ count → Skips i w now cursor left
-    → TellsNext now new after (drop i left) None → Skips count w new after left
-skipped_all i count w now new cursor after left below s (none, same, has) =
+pub skipped_all : (i count k : ℕ) (f now new : Followed) (cursor after : Cursor) (left : List Choice) → i ≤ count → Skips i f now k cursor left
+    → TellsNext now new (k + i) after (drop i left) None → Skips count f new k after left
+skipped_all i count k f now new cursor after left below s (none, same, has) =
     let short : length left ≤ i = past left i none in (
-      same ∙ s.0 ∙ ap (run w) (take_all i left short ∙ sym (take_all count left (omega (arith, short, below)))),
+      same ∙ s.0 ∙ ap (followed_run f k) (take_all i left short ∙ sym (take_all count left (omega (arith, short, below)))),
       subst (λ l. Has after l) (none ∙ sym (drop_all count left (omega (arith, short, below)))) has,
     )
 

@@ -3,40 +3,39 @@ use Rattle.std.proofs.Common.{◌≡◌, ℕ, ◌-◌, List, ◌++◌, length, t
 use Rattle.std.proofs.KnownBytes.{Appends-nil}
 use Rattle.image.specs.Image.{ImageValue}
 use Rattle.elf_read.specs.Symbol.{SymbolValue}
-use Rattle.machine.specs.World.{World, run}
-use Rattle.machine.specs.Start.{started}
 use Rattle.machine.specs.declared.choice.Choice.{Choice}
+use Rattle.trace_steps.specs.Explains.{Followed, followed_run}
 use Rattle.trace_text.specs.declared.head.Span.{Span}
 use Rattle.program_open.specs.Answers.{Begins}
 use Rattle.cmd_trace.specs.Output.{SoFar}
 use Rattle.cmd_trace.specs.Page.{PageValue}
 use Rattle.cmd_trace.specs.declared.plan.TraceForm.{TraceForm}
-use Rattle.cmd_trace.specs.Trace.{page_of, trace_head, traced_span, told_entries, trace_text}
+use Rattle.cmd_trace.specs.Trace.{followed_start, page_of, trace_head, traced_span, told_entries, trace_text}
 use Rattle.cmd_trace.specs.declared.plan.TracePlan.{TracePlan}
 use Rattle.cmd_trace.proofs.OutputLemmas.{begun_with}
 
 trace_of : (plan : TracePlan) (image : ImageValue) (symbols : List SymbolValue) (inputs : List ℕ) (choices : List Choice)
     → let span = traced_span plan (length choices) in
-    let before = run (started image inputs) (take (span.from - 1) choices) in
+    let before = followed_run (followed_start image inputs) 1 (take (span.from - 1) choices) in
     trace_text plan image symbols inputs choices
-    ≡ trace_head plan.form image.entry inputs span symbols before ++ told_entries (page_of plan symbols inputs) span before (drop (span.from - 1) choices)
+    ≡ trace_head plan.form image.entry inputs span symbols before.world ++ told_entries (page_of plan symbols inputs) span before (drop (span.from - 1) choices)
 unfolding trace_text
 trace_of plan image symbols inputs choices = refl
 
 -- the head is in the buffer, and the choices are to come
 pub head_waits : (plan : TracePlan) (image : ImageValue) (symbols : List SymbolValue) (inputs : List ℕ) (choices : List Choice) (count : ℕ)
-    (span : Span) (start_world w : World) (buffer : List ℕ) (start : Option (List ℕ)) → span ≡ traced_span plan count → count ≡ length choices
-    → start_world ≡ started image inputs → w ≡ run start_world (take (span.from - 1) choices)
-    → buffer ≡ trace_head plan.form image.entry inputs span symbols w
+    (span : Span) (begin f : Followed) (buffer : List ℕ) (start : Option (List ℕ)) → span ≡ traced_span plan count → count ≡ length choices
+    → begin ≡ followed_start image inputs → f ≡ followed_run begin 1 (take (span.from - 1) choices)
+    → buffer ≡ trace_head plan.form image.entry inputs span symbols f.world
     → SoFar (trace_text plan image symbols inputs choices) start start buffer
-    (told_entries (page_of plan symbols inputs) span w (drop (span.from - 1) choices))
-head_waits plan image symbols inputs choices count span start_world w buffer start is counted begins reached head =
-    begun_with (trace_text plan image symbols inputs choices) buffer (told_entries (page_of plan symbols inputs) span w (drop (span.from - 1) choices)) start
-    (sym (ap (λ (l : List ℕ). l ++ told_entries (page_of plan symbols inputs) span w (drop (span.from - 1) choices)) head
-    ∙ ap (λ (v : World). trace_head plan.form image.entry inputs span symbols v ++ told_entries (page_of plan symbols inputs) span v (drop (span.from - 1) choices))
-    (reached ∙ ap (λ (v : World). run v (take (span.from - 1) choices)) begins)
-    ∙ ap (λ (s : Span). let before = run (started image inputs) (take (s.from - 1) choices) in
-    trace_head plan.form image.entry inputs s symbols before ++ told_entries (page_of plan symbols inputs) s before (drop (s.from - 1) choices))
+    (told_entries (page_of plan symbols inputs) span f (drop (span.from - 1) choices))
+head_waits plan image symbols inputs choices count span begin f buffer start is counted begins reached head =
+    begun_with (trace_text plan image symbols inputs choices) buffer (told_entries (page_of plan symbols inputs) span f (drop (span.from - 1) choices)) start
+    (sym (ap (λ (l : List ℕ). l ++ told_entries (page_of plan symbols inputs) span f (drop (span.from - 1) choices)) head
+    ∙ ap (λ (v : Followed). trace_head plan.form image.entry inputs span symbols v.world ++ told_entries (page_of plan symbols inputs) span v (drop (span.from - 1) choices))
+    (reached ∙ ap (λ (v : Followed). followed_run v 1 (take (span.from - 1) choices)) begins)
+    ∙ ap (λ (s : Span). let before = followed_run (followed_start image inputs) 1 (take (s.from - 1) choices) in
+    trace_head plan.form image.entry inputs s symbols before.world ++ told_entries (page_of plan symbols inputs) s before (drop (s.from - 1) choices))
     (is ∙ ap (traced_span plan) counted)
     ∙ sym (trace_of plan image symbols inputs choices)))
 

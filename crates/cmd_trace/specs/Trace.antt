@@ -5,10 +5,10 @@ use Rattle.elf_read.specs.Symbol.{SymbolValue}
 use Rattle.hart_reservations.specs.Marks.{Marks}
 use Rattle.hart_step.specs.Hart.{HartValue}
 use Rattle.machine.specs.Start.{started}
-use Rattle.machine.specs.World.{World, run}
+use Rattle.machine.specs.World.{World}
 use Rattle.machine.specs.declared.choice.Choice.{Choice}
-use Rattle.trace_steps.specs.Tells.{tells}
-use Rattle.trace_steps.specs.declared.told.Told.{Told}
+use Rattle.trace_steps.specs.Explains.{Followed, explains, followed, followed_run}
+use Rattle.trace_steps.specs.declared.explaining.Explained.{Explained}
 use Rattle.trace_steps.specs.declared.told.ToldAccess.{ToldAccess}
 use Rattle.trace_text.specs.Table.{head_rows, table_row}
 use Rattle.trace_text.specs.Head.{head_line}
@@ -53,32 +53,36 @@ where_accessed None text = []
 where_accessed (Some access) text = text
 
 -- the text of choice k in a form
-abbrev pub entry_in : TraceForm → PageValue → Told → ℕ → List ℕ
-entry_in form.Lines page told k = line_of told k
-entry_in form.Table page told k = table_row page.symbols told k page.harts
-entry_in form.Shared page told k = where_accessed told.access (table_row page.symbols told k page.harts)
+abbrev pub entry_in : TraceForm → PageValue → Explained → ℕ → List ℕ
+entry_in form.Lines page e k = line_of e.told k
+entry_in form.Table page e k = table_row page.symbols e k page.harts
+entry_in form.Shared page e k = where_accessed e.told.access (table_row page.symbols e k page.harts)
 
 -- the text of choice k
-abbrev pub choice_entry : PageValue → Told → ℕ → List ℕ
-choice_entry page told k = entry_in page.form page told k
+abbrev pub choice_entry : PageValue → Explained → ℕ → List ℕ
+choice_entry page e k = entry_in page.form page e k
 
 -- the texts of choices that are numbered from k on
-unfoldable pub entries : PageValue → ℕ → List Told → List ℕ
+unfoldable pub entries : PageValue → ℕ → List Explained → List ℕ
 entries page k [] = []
-entries page k (told ∷ more) = choice_entry page told k ++ entries page (k + 1) more
+entries page k (e ∷ more) = choice_entry page e k ++ entries page (k + 1) more
 
 -- the texts of the traced choices, which are the first of some choices
-abbrev pub told_entries : PageValue → Span → World → List Choice → List ℕ
-told_entries page span w choices = entries page span.from (tells w (take (told_count span) choices))
+abbrev pub told_entries : PageValue → Span → Followed → List Choice → List ℕ
+told_entries page span f choices = entries page span.from (explains f span.from (take (told_count span) choices))
 
 -- how the traced choices of a run are written
 abbrev pub page_of : TracePlan → List SymbolValue → List ℕ → PageValue
 page_of plan symbols inputs = record { form = plan.form; harts = length inputs; symbols = symbols }
 
+-- the start of a run: no reservation has ended
+abbrev pub followed_start : ImageValue → List ℕ → Followed
+followed_start image inputs = followed (started image inputs) (λ h. None)
+
 -- the trace of a run of an image
 unfoldable pub trace_text : TracePlan → ImageValue → List SymbolValue → List ℕ → List Choice → List ℕ
 trace_text plan image symbols inputs choices =
     let span = traced_span plan (length choices) in
-    let before = run (started image inputs) (take (span.from - 1) choices) in
-    trace_head plan.form image.entry inputs span symbols before
+    let before = followed_run (followed_start image inputs) 1 (take (span.from - 1) choices) in
+    trace_head plan.form image.entry inputs span symbols before.world
     ++ told_entries (page_of plan symbols inputs) span before (drop (span.from - 1) choices)

@@ -10,7 +10,7 @@ use crate::plan::TraceForm;
 use byte_io::{Sink, write_all};
 use program_open::CommandFault;
 use std::alloc::{AllocError, Allocator};
-use trace_steps::Told;
+use trace_steps::Explained;
 use trace_text::{push_line, push_row};
 
 /// The least number of buffered bytes before a write.
@@ -21,16 +21,16 @@ fn push_entry<A: Allocator + Copy>(
     alloc: A,
     buffer: &mut Vec<u8, A>,
     page: &Page<'_, A>,
-    told: &Told,
+    explained: &Explained,
     k: u64,
 ) -> Result<(), AllocError>
-    ensures { OnOk result (buffer.new.items ≡ buffer.old.items ++ choice_entry page.now told.now k) }
+    ensures { OnOk result (buffer.new.items ≡ buffer.old.items ++ choice_entry page.now explained.now k) }
 {
     match page.form {
-        TraceForm::Lines => push_line(alloc, buffer, told, k),
-        TraceForm::Shared if told.access.is_none() => Ok(()),
+        TraceForm::Lines => push_line(alloc, buffer, &explained.told, k),
+        TraceForm::Shared if explained.told.access.is_none() => Ok(()),
         TraceForm::Table | TraceForm::Shared => {
-            push_row(alloc, buffer, page.symbols, told, k, page.harts)
+            push_row(alloc, buffer, page.symbols, explained, k, page.harts)
         }
     }
 }
@@ -63,22 +63,22 @@ pub(crate) fn flush<A: Allocator, K: Sink>(
 pub(crate) fn write_entry<A: Allocator + Copy, K: Sink>(
     alloc: A,
     page: &Page<'_, A>,
-    told: &Told,
+    explained: &Explained,
     k: u64,
     buffer: &mut Vec<u8, A>,
     sink: &mut K,
 ) -> Result<(), CommandFault>
     requires { K.failures sink.old < 2 ^ 64 - 1 }
     ensures taken { IfOk result (λ _. (all : List ℕ) (start : Option (List ℕ)) (rest : List ℕ)
-        → SoFar all start (K.held sink.old) buffer.old.items (choice_entry page.now told.now k ++ rest)
+        → SoFar all start (K.held sink.old) buffer.old.items (choice_entry page.now explained.now k ++ rest)
         → SoFar all start (K.held sink.new) buffer.new.items rest) }
     ensures count { IfOk result (λ _. K.failures sink.new ≡ K.failures sink.old) }
     ensures begun { IfErr result (λ _. (all : List ℕ) (start : Option (List ℕ)) (rest : List ℕ)
-        → SoFar all start (K.held sink.old) buffer.old.items (choice_entry page.now told.now k ++ rest)
+        → SoFar all start (K.held sink.old) buffer.old.items (choice_entry page.now explained.now k ++ rest)
         → Begins all start (K.held sink.new)) }
     ensures fault { IfErr result (λ fault. IfHalts fault (K.failures sink.old < K.failures sink.new)) }
 {
-    match push_entry(alloc, buffer, page, told, k) {
+    match push_entry(alloc, buffer, page, explained, k) {
         Ok(()) => {}
         Err(AllocError) => return Err(CommandFault::Memory),
     }

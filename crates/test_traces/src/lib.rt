@@ -4,6 +4,8 @@
 #[cfg(test)]
 mod engine_tests;
 #[cfg(test)]
+mod failure_tests;
+#[cfg(test)]
 mod refused_tests;
 #[cfg(test)]
 mod worked;

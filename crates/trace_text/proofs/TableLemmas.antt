@@ -1,12 +1,12 @@
 use Rattle.std.proofs.Common.{◌≡◌, ℕ, ◌+◌, ◌-◌, ◌<◌, ◌≤◌, suc, List, [], ◌∷◌, ◌++◌, codes, decimal, refl, ap, sym, ◌∙◌, rules, arith}
 use Rattle.std.specs.Prelude.{◌==◌, if◌then◌else◌}
 use Rattle.std.proofs.lemmas.Grind.{common_steps}
-use Rattle.trace_steps.specs.declared.told.Told.{Told}
+use Rattle.trace_steps.specs.declared.explaining.Explained.{Explained}
 use Rattle.trace_text.specs.Table.{table_cell, columns_from, names_from, rules_of}
 
 -- what stands in the column of a hart, and its bar
-abbrev column : Told → ℕ → List ℕ
-column told h = (if h == told.choice.hart then table_cell told else 32 ∷ []) ++ codes " |"
+abbrev column : Explained → ℕ → List ℕ
+column e h = (if h == e.told.choice.hart then table_cell e else 32 ∷ []) ++ codes " |"
 
 -- while harts are left, the next one's name stands first
 names_more : (h n : ℕ) → h < n → names_from h (n - h) ≡ codes " Hart " ++ (decimal h ++ (codes " |" ++ names_from (h + 1) (n - (h + 1))))
@@ -53,23 +53,23 @@ bar_joins : (cell bar rest : List ℕ) → (cell ++ bar) ++ rest ≡ cell ++ (ba
 bar_joins cell bar rest = search (rules, common_steps)
 
 -- while harts are left, the next one's column stands first
-columns_more : (told : Told) (h n : ℕ) → h < n → columns_from told h (n - h) ≡ column told h ++ columns_from told (h + 1) (n - (h + 1))
+columns_more : (e : Explained) (h n : ℕ) → h < n → columns_from e h (n - h) ≡ column e h ++ columns_from e (h + 1) (n - (h + 1))
 unfolding columns_from
-columns_more told h n left =
-    let e : n - h ≡ suc (n - (h + 1)) = omega arith in
-    rw e (sym (bar_joins (if h == told.choice.hart then table_cell told else 32 ∷ []) (codes " |") (columns_from told (h + 1) (n - (h + 1)))))
+columns_more e h n left =
+    let rest : n - h ≡ suc (n - (h + 1)) = omega arith in
+    rw rest (sym (bar_joins (if h == e.told.choice.hart then table_cell e else 32 ∷ []) (codes " |") (columns_from e (h + 1) (n - (h + 1)))))
 
 -- behind the last stands nothing
-pub columns_done : (told : Told) (h n : ℕ) → n ≤ h → columns_from told h (n - h) ≡ []
+pub columns_done : (e : Explained) (h n : ℕ) → n ≤ h → columns_from e h (n - h) ≡ []
 unfolding columns_from
-columns_done told h n none = let e : n - h ≡ 0 = omega arith in rw e refl
+columns_done e h n none = let none_left : n - h ≡ 0 = omega arith in rw none_left refl
 
 -- one column more
-pub next_column : (before longer all : List ℕ) (told : Told) (h n : ℕ) → h < n
-    → longer ≡ before ++ ((if h == told.choice.hart then table_cell told else 32 ∷ []) ++ codes " |")
-    → before ++ columns_from told h (n - h) ≡ all
-    → longer ++ columns_from told (h + 1) (n - (h + 1)) ≡ all
-next_column before longer all told h n left is_longer so_far =
-    let rest = columns_from told (h + 1) (n - (h + 1)) in
-    ap (λ l. l ++ rest) is_longer ∙ bar_joins before (column told h) rest
-    ∙ ap (λ l. before ++ l) (sym (columns_more told h n left)) ∙ so_far
+pub next_column : (before longer all : List ℕ) (e : Explained) (h n : ℕ) → h < n
+    → longer ≡ before ++ ((if h == e.told.choice.hart then table_cell e else 32 ∷ []) ++ codes " |")
+    → before ++ columns_from e h (n - h) ≡ all
+    → longer ++ columns_from e (h + 1) (n - (h + 1)) ≡ all
+next_column before longer all e h n left is_longer so_far =
+    let rest = columns_from e (h + 1) (n - (h + 1)) in
+    ap (λ l. l ++ rest) is_longer ∙ bar_joins before (column e h) rest
+    ∙ ap (λ l. before ++ l) (sym (columns_more e h n left)) ∙ so_far

@@ -1,11 +1,13 @@
 -- What a choice did, as the things that its row tells.
-use Rattle.std.specs.Prelude.{ℕ, ◌==◌, List, [], ◌∷◌, ◌++◌, Option, Some, None, if◌then◌else◌}
+use Rattle.std.specs.Prelude.{ℕ, List, [], ◌∷◌, ◌++◌, Option, Some, None}
 use Rattle.hart_step.specs.declared.hart.Cause.{Cause}
 use Rattle.hart_step.specs.declared.hart.Cause.TheVariants.{FetchAccess, Illegal, LoadMisaligned, LoadAccess, StoreMisaligned, StoreAccess, JumpMisaligned, BadCall, Break}
 use Rattle.hart_step.specs.declared.hart.HartState.{HartState}
 use Rattle.hart_step.specs.declared.hart.HartState.TheVariants.{Running, Exited, Faulted}
 use Rattle.hart_step.specs.declared.data_access.AccessKind.{AccessKind}
 use Rattle.hart_step.specs.declared.data_access.AccessKind.TheVariants.{Load, Store, LoadReserved, StoreConditional, Amo}
+use Rattle.trace_steps.specs.declared.explaining.Explained.{Explained}
+use Rattle.trace_steps.specs.declared.failure.Failure.{Failure}
 use Rattle.trace_steps.specs.declared.told.Told.{Told}
 use Rattle.trace_steps.specs.declared.told.ToldAccess.{ToldAccess}
 use Rattle.trace_steps.specs.declared.told.Written.{Written}
@@ -17,25 +19,23 @@ abbrev pub effect_list : Option Effect → List Effect
 effect_list None = []
 effect_list (Some e) = e ∷ []
 
--- a store-conditional writes 0 into its register where it stored, and another number where it did
--- not (Unprivileged ISA, "Load-Reserved/Store-Conditional Instructions")
-abbrev pub sc_result : ℕ → Effect
-sc_result value = if value == 0 then effect.Succeeds else effect.Fails
+-- a store-conditional succeeds where nothing makes it fail
+abbrev pub sc_result : Option Failure → Effect
+sc_result None = effect.Succeeds
+sc_result (Some why) = effect.Fails why
 
--- of a store-conditional whether it succeeded, by what it wrote into its register
-abbrev pub outcome_by : AccessKind → ℕ → Option Effect
-outcome_by Load value = None
-outcome_by Store value = None
-outcome_by LoadReserved value = None
-outcome_by StoreConditional value = Some (sc_result value)
-outcome_by Amo value = None
+-- of a store-conditional whether it succeeded, and why it failed
+abbrev pub outcome_by : AccessKind → Option Failure → Option Effect
+outcome_by Load failure = None
+outcome_by Store failure = None
+outcome_by LoadReserved failure = None
+outcome_by StoreConditional failure = Some (sc_result failure)
+outcome_by Amo failure = None
 
--- the same, where there is an access and a register was written: nothing is told of one whose
--- register is x0
-unfoldable pub outcome : Option ToldAccess → Option Written → Option Effect
-outcome None written = None
-outcome (Some a) None = None
-outcome (Some a) (Some w) = outcome_by a.kind w.value
+-- the same, where there is an access
+unfoldable pub outcome : Option ToldAccess → Option Failure → Option Effect
+outcome None failure = None
+outcome (Some a) failure = outcome_by a.kind failure
 
 -- the register that was written
 unfoldable pub register_set : Option Written → Option Effect
@@ -48,23 +48,23 @@ bytes_set address None after = effect.Accesses address
 bytes_set address (Some before) None = effect.Accesses address
 bytes_set address (Some before) (Some after) = effect.Stores address before after
 
--- those of a store-conditional: their place alone where its register says that it did not store
-abbrev pub bytes_unless_failed : Option Written → ℕ → Effect → Effect
+-- those of a store-conditional: their place alone where it did not store
+abbrev pub bytes_unless_failed : Option Failure → ℕ → Effect → Effect
 bytes_unless_failed None address bytes = bytes
-bytes_unless_failed (Some w) address bytes = if w.value == 0 then bytes else effect.Accesses address
+bytes_unless_failed (Some why) address bytes = effect.Accesses address
 
 -- those of an instruction of this kind
-abbrev pub effect_bytes : AccessKind → Option Written → ℕ → Effect → Effect
-effect_bytes Load written address bytes = effect.Accesses address
-effect_bytes Store written address bytes = bytes
-effect_bytes LoadReserved written address bytes = effect.Accesses address
-effect_bytes StoreConditional written address bytes = bytes_unless_failed written address bytes
-effect_bytes Amo written address bytes = bytes
+abbrev pub effect_bytes : AccessKind → Option Failure → ℕ → Effect → Effect
+effect_bytes Load failure address bytes = effect.Accesses address
+effect_bytes Store failure address bytes = bytes
+effect_bytes LoadReserved failure address bytes = effect.Accesses address
+effect_bytes StoreConditional failure address bytes = bytes_unless_failed failure address bytes
+effect_bytes Amo failure address bytes = bytes
 
 -- what an instruction accessed: the bytes that it stored, or their place alone
-unfoldable pub access_effect : Option ToldAccess → Option Written → Option Effect
-access_effect None written = None
-access_effect (Some a) written = Some (effect_bytes a.kind written a.address (bytes_set a.address a.before a.after))
+unfoldable pub access_effect : Option ToldAccess → Option Failure → Option Effect
+access_effect None failure = None
+access_effect (Some a) failure = Some (effect_bytes a.kind failure a.address (bytes_set a.address a.before a.after))
 
 -- the place of an access
 unfoldable pub access_place : Option ToldAccess → Option Effect
@@ -78,10 +78,10 @@ exit_of (Exited status) = Some (effect.Exits status)
 exit_of (Faulted cause) = None
 
 -- what an instruction did that was no fault
-abbrev pub step_effects : Told → List Effect
-step_effects told =
-    effect_list (outcome told.access told.written) ++ (effect_list (register_set told.written)
-    ++ (effect_list (access_effect told.access told.written) ++ effect_list (exit_of told.state)))
+abbrev pub step_effects : Told → Option Failure → List Effect
+step_effects told failure =
+    effect_list (outcome told.access failure) ++ (effect_list (register_set told.written)
+    ++ (effect_list (access_effect told.access failure) ++ effect_list (exit_of told.state)))
 
 -- where no word was fetched, the hart had stopped before, unless it may not fetch there
 abbrev pub without_word_by : Cause → Effect
@@ -117,5 +117,5 @@ effects_met None state access effects = without_word state ∷ []
 effects_met (Some word) state access effects = with_word state access effects
 
 -- what a choice did
-unfoldable pub effects_of : Told → List Effect
-effects_of told = effects_met told.word told.state told.access (step_effects told)
+unfoldable pub effects_of : Explained → List Effect
+effects_of e = effects_met e.told.word e.told.state e.told.access (step_effects e.told e.failure)

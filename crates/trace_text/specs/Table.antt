@@ -8,7 +8,9 @@ use Rattle.elf_read.specs.Symbol.{SymbolValue}
 use Rattle.elf_read.specs.Label.{nearest_label}
 use Rattle.isa_disasm.specs.Lines.{line_text}
 use Rattle.trace_text.specs.Values.{cause_text}
-use Rattle.trace_steps.specs.declared.told.Told.{Told}
+use Rattle.trace_steps.specs.declared.explaining.Explained.{Explained}
+use Rattle.trace_steps.specs.declared.failure.Failure.{Failure}
+use Rattle.trace_steps.specs.declared.failure.Failure.TheVariants.{NotReserved, Ended, OtherWord, Refused}
 use Rattle.trace_steps.specs.declared.told.Written.{Written}
 use Rattle.trace_text.specs.declared.effect.Effect.{Effect}
 use Rattle.trace_text.specs.declared.effect.Effect.TheVariants.{Succeeds, Fails, Sets, Stores, Accesses, Exits, Faults, Rests}
@@ -27,10 +29,26 @@ hex n = codes "0x" ++ word_text n
 abbrev pub arrow : List ℕ
 arrow = 32 ∷ 226 ∷ 134 ∷ 146 ∷ 32 ∷ []
 
+-- a hart
+unfoldable pub ender_text : ℕ → List ℕ
+ender_text h = codes "hart " ++ decimal h
+
+-- in which choice
+unfoldable pub place_text : ℕ → List ℕ
+place_text k = codes " at choice " ++ decimal k
+
+-- why a store-conditional failed
+unfoldable pub failure_text : Failure → List ℕ
+failure_text NotReserved = codes "no reservation"
+failure_text (Ended step) =
+    codes "ended by " ++ (ender_text step.hart ++ place_text step.choice)
+failure_text (OtherWord word) = codes "reserved " ++ hex word
+failure_text Refused = codes "refused"
+
 -- a thing that a choice did
 unfoldable pub effect_text : Effect → List ℕ
 effect_text Succeeds = codes "succeeds"
-effect_text Fails = codes "fails"
+effect_text (Fails why) = codes "fails: " ++ failure_text why
 effect_text (Sets w) = abi w.register ++ (codes " = " ++ hex w.value)
 effect_text (Stores address before after) =
     codes "[" ++ (hex address ++ (codes "]: " ++ (hex before ++ (arrow ++ hex after))))
@@ -62,9 +80,9 @@ table_mark true = codes " (refused)"
 table_mark false = []
 
 -- what stands in the column of the choice's hart
-unfoldable pub table_cell : Told → List ℕ
-table_cell told =
-    instr_text told.pc told.word told.instr ++ (effects_text (effects_of told) ++ table_mark told.choice.refuse)
+unfoldable pub table_cell : Explained → List ℕ
+table_cell e =
+    instr_text e.told.pc e.told.word e.told.instr ++ (effects_text (effects_of e) ++ table_mark e.told.choice.refuse)
 
 -- how far an address is behind its label
 abbrev pub offset_text : ℕ → List ℕ
@@ -81,15 +99,15 @@ unfoldable pub label_column : List SymbolValue → ℕ → List ℕ
 label_column symbols pc = label_text (nearest_label None symbols pc) pc ++ codes " |\n"
 
 -- the columns of so many harts from number h on: only the choice's hart has something in its own
-unfoldable pub columns_from : Told → ℕ → ℕ → List ℕ
-columns_from told h zero = []
-columns_from told h (suc count) =
-    (if h == told.choice.hart then table_cell told else 32 ∷ []) ++ (codes " |" ++ columns_from told (h + 1) count)
+unfoldable pub columns_from : Explained → ℕ → ℕ → List ℕ
+columns_from e h zero = []
+columns_from e h (suc count) =
+    (if h == e.told.choice.hart then table_cell e else 32 ∷ []) ++ (codes " |" ++ columns_from e (h + 1) count)
 
 -- the row of choice k and of what it did, for so many harts
-unfoldable pub table_row : List SymbolValue → Told → ℕ → ℕ → List ℕ
-table_row symbols told k harts =
-    codes "| " ++ (decimal k ++ (codes " |" ++ (columns_from told 0 harts ++ label_column symbols told.pc)))
+unfoldable pub table_row : List SymbolValue → Explained → ℕ → ℕ → List ℕ
+table_row symbols e k harts =
+    codes "| " ++ (decimal k ++ (codes " |" ++ (columns_from e 0 harts ++ label_column symbols e.told.pc)))
 
 -- the names of the columns of so many harts from number h on, that of labels, and LF
 unfoldable pub names_from : ℕ → ℕ → List ℕ

@@ -3,17 +3,19 @@
 ghost use Rattle.std.specs.Prelude.{◌≡◌, ◌++◌, ◌∷◌, [], flat_map, OnOk};
 ghost use Rattle.isa_names.specs.Digits.{word_text};
 ghost use Rattle.trace_text.specs.declared.effect.Effect.TheVariants.{Accesses, Sets, Stores};
+ghost use Rattle.trace_steps.specs.declared.failure.Failure.TheVariants.{Ended};
 ghost use Rattle.trace_text.specs.Effects.{effects_of};
-ghost use Rattle.trace_text.specs.Table.{cell_byte, table_cell, effect_text, effects_text, hex, instr_text, table_mark, more_effects};
+ghost use Rattle.trace_text.specs.Table.{cell_byte, table_cell, effect_text, effects_text, failure_text, ender_text, hex, instr_text, place_text, table_mark, more_effects};
 
 use crate::effect::Effect;
 use crate::effects::effects_of;
 use crate::names::cause_name;
+use crate::scalar::push_number;
 use isa_disasm::line_of;
 use isa_names::{Word, abi_name};
 use isa_table::Instr;
 use std::alloc::{AllocError, Allocator};
-use trace_steps::{Told, Written};
+use trace_steps::{Ending, Explained, Failure, Written};
 
 // Appends a number as eight digits.
 fn push_hex<A: Allocator>(alloc: A, out: &mut Vec<u8, A>, number: u32) -> Result<(), AllocError>
@@ -72,6 +74,54 @@ fn push_store<A: Allocator + Copy>(
     push_hex(alloc, out, after)
 }
 
+// Appends a hart.
+#[tactic(auto, unfolding(crate::specs::Table::ender_text))]
+fn push_hart<A: Allocator>(out: &mut Vec<u8, A>, hart: u32) -> Result<(), AllocError>
+    ensures { OnOk result (out.new.items ≡ out.old.items ++ ender_text hart) }
+{
+    out.extend_from_slice(b"hart ")?;
+    push_number(out, u64::from(hart))
+}
+
+// Appends in which choice.
+#[tactic(auto, unfolding(crate::specs::Table::place_text))]
+fn push_at_choice<A: Allocator>(out: &mut Vec<u8, A>, choice: u64) -> Result<(), AllocError>
+    ensures { OnOk result (out.new.items ≡ out.old.items ++ place_text choice) }
+{
+    out.extend_from_slice(b" at choice ")?;
+    push_number(out, choice)
+}
+
+// Appends which step ended a reservation.
+#[tactic(auto, unfolding(crate::specs::Table::failure_text))]
+fn push_ending<A: Allocator>(out: &mut Vec<u8, A>, step: Ending) -> Result<(), AllocError>
+    ensures { OnOk result (out.new.items ≡ out.old.items ++ failure_text (Ended step)) }
+{
+    out.extend_from_slice(b"ended by ")?;
+    push_hart(out, step.hart)?;
+    push_at_choice(out, step.choice)
+}
+
+// Appends why a store-conditional failed.
+#[tactic(auto, unfolding(crate::specs::Table::failure_text))]
+fn push_failure<A: Allocator + Copy>(
+    alloc: A,
+    out: &mut Vec<u8, A>,
+    why: Failure,
+) -> Result<(), AllocError>
+    ensures { OnOk result (out.new.items ≡ out.old.items ++ failure_text why) }
+{
+    match why {
+        Failure::NotReserved => out.extend_from_slice(b"no reservation"),
+        Failure::Ended(step) => push_ending(out, step),
+        Failure::OtherWord(word) => {
+            out.extend_from_slice(b"reserved ")?;
+            push_hex(alloc, out, word)
+        }
+        Failure::Refused => out.extend_from_slice(b"refused"),
+    }
+}
+
 // Appends a thing that a choice did.
 #[tactic(auto, unfolding(crate::specs::Table::effect_text))]
 fn push_effect<A: Allocator + Copy>(
@@ -83,7 +133,10 @@ fn push_effect<A: Allocator + Copy>(
 {
     match effect {
         Effect::Succeeds => out.extend_from_slice(b"succeeds"),
-        Effect::Fails => out.extend_from_slice(b"fails"),
+        Effect::Fails(why) => {
+            out.extend_from_slice(b"fails: ")?;
+            push_failure(alloc, out, why)
+        }
         Effect::Sets(written) => push_set(alloc, out, written),
         Effect::Stores {
             address,
@@ -195,11 +248,12 @@ fn push_mark<A: Allocator>(out: &mut Vec<u8, A>, refuse: bool) -> Result<(), All
 pub(crate) fn push_cell<A: Allocator + Copy>(
     alloc: A,
     out: &mut Vec<u8, A>,
-    told: &Told,
+    explained: &Explained,
 ) -> Result<(), AllocError>
-    ensures { OnOk result (out.new.items ≡ out.old.items ++ table_cell told.now) }
+    ensures { OnOk result (out.new.items ≡ out.old.items ++ table_cell explained.now) }
 {
-    let effects = effects_of(alloc, told)?;
+    let effects = effects_of(alloc, explained)?;
+    let told = &explained.told;
     push_instr(alloc, out, told.pc, told.word, told.instr)?;
     push_effects(alloc, out, &effects)?;
     push_mark(out, told.choice.refuse)

@@ -1,15 +1,15 @@
 //! A thing that a choice did.
 
 use hart_step::Cause;
-use trace_steps::Written;
+use trace_steps::{Failure, Written};
 
 /// A thing that a choice did, which its row tells.
 #[derive(Clone, Copy, PartialEq, Eq)]
 pub enum Effect {
     /// The store-conditional stored.
     Succeeds,
-    /// The store-conditional did not store.
-    Fails,
+    /// The store-conditional did not store, for this reason.
+    Fails(Failure),
     /// A register was written.
     Sets(Written),
     /// Bytes were stored.

@@ -6,28 +6,26 @@ ghost use Rattle.trace_text.specs.Effects.{access_effect, bytes_set, effects_of,
 use crate::effect::Effect;
 use hart_step::{AccessKind, Cause, HartState};
 use std::alloc::{AllocError, Allocator};
-use trace_steps::{Told, ToldAccess, Written};
+use trace_steps::{Explained, Failure, Told, ToldAccess, Written};
 
-// Whether a store-conditional stored, by what it wrote into its register.
-fn result_of(value: u32) -> Effect
-    ensures { result ≡ sc_result value }
+// Whether a store-conditional stored, and why it did not.
+fn result_of(failure: Option<Failure>) -> Effect
+    ensures { result ≡ sc_result failure }
 {
-    if value == 0 {
-        Effect::Succeeds
-    } else {
-        Effect::Fails
+    match failure {
+        None => Effect::Succeeds,
+        Some(why) => Effect::Fails(why),
     }
 }
 
-// Of a store-conditional whether it succeeded.
+// Of a store-conditional whether it succeeded, and why it failed.
 #[tactic(auto, unfolding(crate::specs::Effects::outcome))]
-fn outcome(access: Option<ToldAccess>, written: Option<Written>) -> Option<Effect>
-    ensures { result ≡ outcome access written }
+fn outcome(access: Option<ToldAccess>, failure: Option<Failure>) -> Option<Effect>
+    ensures { result ≡ outcome access failure }
 {
     let access = access?;
-    let written = written?;
     match access.kind {
-        AccessKind::StoreConditional => Some(result_of(written.value)),
+        AccessKind::StoreConditional => Some(result_of(failure)),
         AccessKind::Load | AccessKind::Store | AccessKind::LoadReserved | AccessKind::Amo => None,
     }
 }
@@ -56,15 +54,13 @@ fn bytes_set(access: ToldAccess) -> Effect
 
 // What was accessed: the bytes that were stored, or the place alone.
 #[tactic(auto, unfolding(crate::specs::Effects::access_effect))]
-fn access_effect(access: Option<ToldAccess>, written: Option<Written>) -> Option<Effect>
-    ensures { result ≡ access_effect access written }
+fn access_effect(access: Option<ToldAccess>, failure: Option<Failure>) -> Option<Effect>
+    ensures { result ≡ access_effect access failure }
 {
     let access = access?;
-    Some(match (access.kind, written) {
+    Some(match (access.kind, failure) {
         (AccessKind::Load | AccessKind::LoadReserved, _) => Effect::Accesses(access.address),
-        (AccessKind::StoreConditional, Some(written)) if written.value != 0 => {
-            Effect::Accesses(access.address)
-        }
+        (AccessKind::StoreConditional, Some(_)) => Effect::Accesses(access.address),
         (AccessKind::StoreConditional | AccessKind::Store | AccessKind::Amo, _) => {
             bytes_set(access)
         }
@@ -113,12 +109,16 @@ fn add<A: Allocator>(effects: &mut Vec<Effect, A>, effect: Option<Effect>) -> Re
 }
 
 // Appends what an instruction did that was no fault.
-fn add_step<A: Allocator>(effects: &mut Vec<Effect, A>, told: &Told) -> Result<(), AllocError>
-    ensures { OnOk result (effects.new.items ≡ effects.old.items ++ step_effects told.now) }
+fn add_step<A: Allocator>(
+    effects: &mut Vec<Effect, A>,
+    told: &Told,
+    failure: Option<Failure>,
+) -> Result<(), AllocError>
+    ensures { OnOk result (effects.new.items ≡ effects.old.items ++ step_effects told.now failure) }
 {
-    add(effects, outcome(told.access, told.written))?;
+    add(effects, outcome(told.access, failure))?;
     add(effects, register_set(told.written))?;
-    add(effects, access_effect(told.access, told.written))?;
+    add(effects, access_effect(told.access, failure))?;
     add(effects, exit_of(told.state))
 }
 
@@ -136,14 +136,20 @@ fn add_fault<A: Allocator>(
 
 /// What a choice did, in order.
 #[tactic(auto, unfolding(crate::specs::Effects::effects_of))]
-pub(crate) fn effects_of<A: Allocator>(alloc: A, told: &Told) -> Result<Vec<Effect, A>, AllocError>
-    ensures { IfOk result (λ effects. effects.items ≡ effects_of told.now) }
+pub(crate) fn effects_of<A: Allocator>(
+    alloc: A,
+    explained: &Explained,
+) -> Result<Vec<Effect, A>, AllocError>
+    ensures { IfOk result (λ effects. effects.items ≡ effects_of explained.now) }
 {
     let mut effects = Vec::new(alloc);
+    let told = &explained.told;
     match (told.word, told.state) {
         (None, state) => effects.push(without_word(state))?,
         (Some(_), HartState::Faulted(cause)) => add_fault(&mut effects, cause, told.access)?,
-        (Some(_), HartState::Running | HartState::Exited(_)) => add_step(&mut effects, told)?,
+        (Some(_), HartState::Running | HartState::Exited(_)) => {
+            add_step(&mut effects, told, explained.failure)?
+        }
     }
     Ok(effects)
 }

@@ -7,7 +7,7 @@ use crate::cell::{push_cell, push_text};
 use crate::scalar::push_number;
 use elf_read::{Symbol, nearest_label};
 use std::alloc::{AllocError, Allocator};
-use trace_steps::Told;
+use trace_steps::Explained;
 
 // Appends the names of the columns of so many harts, and that of labels.
 #[tactic(auto, using(crate::proofs::TableLemmas::names_done))]
@@ -48,14 +48,14 @@ pub fn push_head_rows<A: Allocator>(out: &mut Vec<u8, A>, harts: u32) -> Result<
 fn push_column<A: Allocator + Copy>(
     alloc: A,
     out: &mut Vec<u8, A>,
-    told: &Told,
+    explained: &Explained,
     hart: u32,
 ) -> Result<(), AllocError>
     ensures { OnOk result (out.new.items ≡ out.old.items
-        ++ ((if hart == told.now.choice.hart then table_cell told.now else 32 ∷ []) ++ codes " |")) }
+        ++ ((if hart == explained.now.told.choice.hart then table_cell explained.now else 32 ∷ []) ++ codes " |")) }
 {
-    if hart == told.choice.hart {
-        push_cell(alloc, out, told)?;
+    if hart == explained.told.choice.hart {
+        push_cell(alloc, out, explained)?;
     } else {
         out.push(b' ')?;
     }
@@ -67,13 +67,13 @@ fn push_column<A: Allocator + Copy>(
 fn push_columns<A: Allocator + Copy>(
     alloc: A,
     out: &mut Vec<u8, A>,
-    told: &Told,
+    explained: &Explained,
     harts: u32,
 ) -> Result<(), AllocError>
-    ensures { OnOk result (out.new.items ≡ out.old.items ++ columns_from told.now 0 harts) }
+    ensures { OnOk result (out.new.items ≡ out.old.items ++ columns_from explained.now 0 harts) }
 {
     'harts: for hart in 0..harts {
-        push_column(alloc, out, told, hart)?;
+        push_column(alloc, out, explained, hart)?;
     }
     Ok(())
 }
@@ -127,15 +127,15 @@ pub fn push_row<A: Allocator + Copy, B: Allocator>(
     alloc: A,
     out: &mut Vec<u8, A>,
     symbols: &[Symbol<B>],
-    told: &Told,
+    explained: &Explained,
     k: u64,
     harts: u32,
 ) -> Result<(), AllocError>
-    ensures { OnOk result (out.new.items ≡ out.old.items ++ table_row symbols.now told.now k harts) }
+    ensures { OnOk result (out.new.items ≡ out.old.items ++ table_row symbols.now explained.now k harts) }
 {
     out.extend_from_slice(b"| ")?;
     push_number(out, k)?;
     out.extend_from_slice(b" |")?;
-    push_columns(alloc, out, told, harts)?;
-    push_label_column(out, symbols, told.pc)
+    push_columns(alloc, out, explained, harts)?;
+    push_label_column(out, symbols, explained.told.pc)
 }

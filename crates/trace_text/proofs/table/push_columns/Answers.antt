@@ -6,16 +6,16 @@ use Rattle.trace_text.proofs.table.push_columns.Goals as goal
 
 pub harts-preserved : goal.harts-preserved
 harts-preserved g c =
-    let told = c.args.told.now in
+    let e = c.args.explained.now in
     let h = c.harts.hart in
     let before = c.harts.out.items in
     let longer = c.push_column.new.out.items in
     let left : h < c.args.harts = search rules in
-    let is_longer : longer ≡ before ++ ((if h == told.choice.hart then table_cell told else 32 ∷ []) ++ codes " |") = search rules in
-    next_column before longer _ told h c.args.harts left is_longer c.harts.invariant
+    let is_longer : longer ≡ before ++ ((if h == e.told.choice.hart then table_cell e else 32 ∷ []) ++ codes " |") = search rules in
+    next_column before longer _ e h c.args.harts left is_longer c.harts.invariant
 
 pub returns : goal.returns
 returns g c =
     let out = c.harts.out.items in
     let past : c.args.harts ≤ c.harts.hart = search rules in
-    sym (append-nil out) ∙ ap (λ (l : List ℕ). out ++ l) (sym (columns_done c.args.told.now c.harts.hart c.args.harts past)) ∙ c.harts.invariant
+    sym (append-nil out) ∙ ap (λ (l : List ℕ). out ++ l) (sym (columns_done c.args.explained.now c.harts.hart c.args.harts past)) ∙ c.harts.invariant

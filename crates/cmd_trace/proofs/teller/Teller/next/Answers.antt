@@ -6,4 +6,4 @@ returns-in_default g c left has = let t = c.in_default.ensures.takes left has in
 
 pub returns : goal.returns
 returns g c left has =
-    let t = c.in-Some.ensures.takes left has in (c.in-Some.choice, t.0, t.1, c.in-Ok.ensures.told, c.in-Ok.ensures.stepped, t.2)
+    let t = c.in-Some.ensures.takes left has in (c.in-Some.choice, t.0, t.1, c.in-Ok.ensures.explained, c.in-Ok.ensures.followed, t.2)
