@@ -5,3 +5,4 @@ pub mod Start
 pub mod Chosen
 pub mod Wanting
 pub mod Example
+pub mod Running

@@ -10,6 +10,7 @@ pub use laws::{
 };
 pub use machine::Machine;
 pub use run::Stopped;
+pub use running::runs;
 
 mod choice;
 mod example;
@@ -17,4 +18,5 @@ mod inputs;
 mod laws;
 mod machine;
 mod run;
+mod running;
 mod start;

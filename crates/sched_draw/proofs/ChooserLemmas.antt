@@ -1,17 +1,32 @@
 -- Choices that are made one by one: the run over them, and their list.
-use Rattle.std.proofs.Common.{◌≡◌, ℕ, ◌<◌, ◌≤◌, false, true, ◌||◌, List, [], ◌∷◌, ◌++◌, get_or, append-nil, append_assoc, refl, ap, sym, ◌∙◌}
+use Rattle.std.proofs.Common.{◌≡◌, ℕ, ◌<◌, ◌≤◌, ◌==◌, Bool, false, true, ◌||◌, List, [], ◌∷◌, ◌++◌, get_or, append-nil, append_assoc, eqb-true, refl, ap, sym, ◌∙◌}
 use Rattle.std.specs.List.{All}
+use Rattle.std.proofs.lemmas.List.Elements.{All-head, All-tail}
 use Rattle.hart_step.specs.Hart.{HartValue}
+use Rattle.machine.specs.Running.{runs}
 use Rattle.machine.specs.World.{World, step, run}
 use Rattle.machine.specs.Chosen.{is_chosen}
 use Rattle.machine.specs.declared.choice.Choice.{Choice}
+use Rattle.machine.proofs.StoppedLemmas.{run-stopped}
 use Rattle.machine.proofs.WorldLemmas.{run_append, run_none}
 use Rattle.sched_run.specs.Harts.{Harts, with_hart}
-use Rattle.sched_run.proofs.ChosenLemmas.{any-append, choice_chosen}
-use Rattle.sched_draw.specs.Priorities.{runs}
+use Rattle.sched_run.proofs.ChosenLemmas.{any-append, choice_chosen, or-none}
 use Rattle.sched_draw.specs.Schedules.{RanOver}
 use Rattle.sched_draw.specs.Partway.{Partway}
-use Rattle.sched_draw.proofs.StoppedLemmas.{run-stopped, all_named}
+
+-- where each was chosen, no other hart is chosen
+all_named : (harts : Harts) (choices : List Choice) (k : ℕ) → All (λ c. harts c.hart ≡ true) choices
+    → harts k ≡ (harts k || is_chosen choices k)
+all_named harts [] k named = sym (or-none (harts k))
+all_named harts (c ∷ choices) k named =
+    by (c.hart == k) refl (all_named harts choices k (All-tail (λ (c : Choice). harts c.hart ≡ true) c choices named))
+  where
+    by : (b : Bool) → (c.hart == k) ≡ b → harts k ≡ (harts k || is_chosen choices k) → harts k ≡ (harts k || (b || is_chosen choices k))
+    by true same later =
+        let here : harts k ≡ true =
+        ap harts (sym (eqb-true c.hart k same)) ∙ All-head (λ (c : Choice). harts c.hart ≡ true) c choices named in
+        here ∙ ap (λ b. b || (true || is_chosen choices k)) (sym here)
+    by false other later = later
 
 -- no choice was taken
 pub begun : (all left : List Choice) (world : World) (chosen : Harts) → left ≡ all → chosen ≡ (λ _. false) → Partway all left world world chosen

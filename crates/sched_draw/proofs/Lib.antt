@@ -4,5 +4,4 @@ pub mod BurstLemmas
 pub mod PriorityLemmas
 pub mod TurnLemmas
 pub mod ChoiceLemmas
-pub mod StoppedLemmas
 pub mod ChooserLemmas

@@ -9,13 +9,14 @@ use Rattle.std.specs.List.{All, Contains, slice_get}
 use Rattle.rand_pcg.specs.Lcg.{Lcg}
 use Rattle.rand_pcg.specs.Pcg.{pcg32}
 use Rattle.hart_step.specs.Hart.{HartValue}
+use Rattle.machine.specs.Running.{goes, runs}
 use Rattle.machine.specs.World.{World, step, run}
 use Rattle.machine.specs.declared.choice.Choice.{Choice}
 use Rattle.machine.proofs.RunLaws.{run_length}
 use Rattle.sched_draw.specs.Seeds.{generator_of}
 use Rattle.sched_draw.specs.Refusing.{is_refused}
 use Rattle.sched_draw.specs.declared.refusals.Refusals.{Refusals}
-use Rattle.sched_draw.specs.Priorities.{PriorityDrawing, with_priority_hart, with_harts, with_point, with_points, priority_drawing, goes, runs, first_running, next_priority_choice, fallen, is_point, order_after, after_priority_choice, priority_choices_drawn, priority_choices, NeverWaits}
+use Rattle.sched_draw.specs.Priorities.{PriorityDrawing, with_priority_hart, with_harts, with_point, with_points, priority_drawing, first_running, next_priority_choice, fallen, is_point, order_after, after_priority_choice, priority_choices_drawn, priority_choices, NeverWaits}
 
 -- ---- drawing
 pub hart_placed : (d : PriorityDrawing) (hart word n : ℕ) (g : Lcg) (order : List ℕ) → (word, g) ≡ pcg32 d.generator → n ≡ length d.order

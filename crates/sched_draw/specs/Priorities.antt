@@ -2,13 +2,12 @@
 -- at change points it falls to the end. After Burckhardt, Kothari, Musuvathi and Nagarakatte, "A
 -- Randomized Scheduler with Probabilistic Guarantees of Finding Bugs", ASPLOS 2010. A choice is a
 -- function of the seed, its step and the harts' states so far, so the schedule belongs to a run.
-use Rattle.std.specs.Prelude.{◌≡◌, ℕ, zero, suc, ◌+◌, ◌-◌, ◌%◌, ◌==◌, not, Bool, true, false, List, [], ◌∷◌, ◌++◌, Option, Some, None, length, filter, insert, slice_get, if◌then◌else◌}
+use Rattle.std.specs.Prelude.{◌≡◌, ℕ, zero, suc, ◌+◌, ◌-◌, ◌%◌, ◌==◌, not, Bool, true, List, [], ◌∷◌, ◌++◌, length, filter, insert, if◌then◌else◌}
 use Rattle.std.specs.List.{list_any}
 use Rattle.rand_pcg.specs.Lcg.{Lcg}
 use Rattle.rand_pcg.specs.Pcg.{pcg32}
 use Rattle.hart_step.specs.Hart.{HartValue}
-use Rattle.hart_step.specs.declared.hart.HartState.{HartState}
-use Rattle.hart_step.specs.declared.hart.HartState.TheVariants.{Running, Exited, Faulted}
+use Rattle.machine.specs.Running.{runs}
 use Rattle.machine.specs.World.{World, step}
 use Rattle.machine.specs.declared.choice.Choice.{Choice}
 use Rattle.sched_draw.specs.Seeds.{generator_of}
@@ -51,20 +50,6 @@ with_points steps (suc points) d = with_point steps (with_points steps points d)
 unfoldable pub priority_drawing : ℕ → ℕ → ℕ → ℕ → PriorityDrawing
 priority_drawing harts depth steps seed =
     with_points steps (depth - 1) (with_harts harts (record { order = []; points = []; generator = generator_of seed }))
-
--- whether a hart has not stopped
-abbrev pub is_running : HartState → Bool
-is_running Running = true
-is_running (Exited status) = false
-is_running (Faulted cause) = false
-
-abbrev pub goes : Option HartValue → Bool
-goes None = false
-goes (Some hart) = is_running hart.state
-
--- whether a hart exists and runs
-abbrev pub runs : List HartValue → ℕ → Bool
-runs harts number = goes (slice_get harts number)
 
 -- the first hart of an order that runs; hart 0 if none does
 abbrev pub first_running : List HartValue → List ℕ → ℕ

@@ -3,10 +3,11 @@
 ghost use Rattle.std.specs.Prelude.{◌≡◌, ◌≢◌, ◌-◌, ◌*◌, ◌/◌, ◌%◌, ◌==◌, ◌<◌, ◌≤◌, ℕ, true, false, List, length};
 ghost use Rattle.std.specs.List.{All, Contains};
 ghost use Rattle.hart_step.specs.Hart.{HartValue};
+ghost use Rattle.machine.specs.Running.{runs};
 ghost use Rattle.machine.specs.World.{World, run};
 ghost use Rattle.machine.specs.declared.choice.Choice.{Choice};
 ghost use Rattle.sched_draw.specs.Bursts as bursts;
-ghost use Rattle.sched_draw.specs.Priorities.{PriorityDrawing, priority_drawing, is_point, runs, next_priority_choice, after_priority_choice, priority_choices, NeverWaits};
+ghost use Rattle.sched_draw.specs.Priorities.{PriorityDrawing, priority_drawing, is_point, next_priority_choice, after_priority_choice, priority_choices, NeverWaits};
 ghost use Rattle.sched_draw.specs.Refusing.{even_choices, is_refused, IsOneIn};
 ghost use Rattle.sched_draw.specs.Schedules.{drawn_choices};
 ghost use Rattle.sched_draw.specs.Seeds.{seeded_choices};

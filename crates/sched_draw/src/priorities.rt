@@ -2,9 +2,10 @@
 
 ghost use Rattle.std.specs.Prelude.{◌≡◌, ◌-◌, ◌<◌, IfOk, map};
 ghost use Rattle.hart_step.specs.Hart.{hart_of};
-ghost use Rattle.sched_draw.specs.Priorities.{runs, first_running, with_priority_hart, with_harts, with_point, with_points};
+ghost use Rattle.sched_draw.specs.Priorities.{first_running, with_priority_hart, with_harts, with_point, with_points};
 ghost use Rattle.sched_draw.specs.Priorities.{priority_drawing, fallen, order_after, next_priority_choice, after_priority_choice};
 ghost use Rattle.std.specs.List.{All};
+ghost use Rattle.machine.specs.Running.{runs};
 ghost use Rattle.machine.specs.World.{World};
 ghost use Rattle.sched_draw.specs.Priorities.{priority_choices_drawn, priority_choices};
 ghost use Rattle.sched_draw.specs.Drawn.{drawing};
@@ -14,8 +15,8 @@ use crate::chooser::Chooser;
 use crate::even::seeded_generator;
 use crate::order::Depth;
 use crate::refusals::Refusals;
-use hart_step::{Hart, HartState};
-use machine::Choice;
+use hart_step::Hart;
+use machine::{Choice, runs};
 use rand_core::utils::NextWord;
 use rand_pcg::Lcg64Xsh32;
 use std::alloc::{AllocError, Allocator};
@@ -29,16 +30,6 @@ pub(crate) struct Priorities<A: Allocator> {
     // The steps at which the chosen hart falls to the lowest priority.
     points: Vec<u64, A>,
     generator: Lcg64Xsh32,
-}
-
-/// Whether a hart exists and runs.
-pub(crate) fn runs(harts: &[Hart], number: u32) -> bool
-    ensures { result ≡ runs (map hart_of harts.now) number }
-{
-    match harts.get(number as usize) {
-        Some(hart) => matches!(hart.state, HartState::Running),
-        None => false,
-    }
 }
 
 // The first hart of an order that runs; hart 0 if none does.

@@ -3,11 +3,11 @@
 ghost use Rattle.std.specs.Prelude.{◌≡◌, ℕ, ◌-◌, ◌<◌, ◌≤◌, true, false, List, IfOk, length, map};
 ghost use Rattle.hart_step.specs.Hart.{hart_of};
 ghost use Rattle.sched_run.specs.Chosen.{harts_of};
+ghost use Rattle.machine.specs.Running.{runs};
 ghost use Rattle.machine.specs.Machine.{world};
 ghost use Rattle.machine.specs.World.{World};
 ghost use Rattle.machine.specs.declared.choice.Choice.{Choice};
 ghost use Rattle.hart_reservations.specs.Limit.{most_harts};
-ghost use Rattle.sched_draw.specs.Priorities.{runs};
 ghost use Rattle.sched_draw.specs.Partway.{Partway};
 ghost use Rattle.sched_draw.specs.Schedules.{choices_of, drawn_choices, is_of_harts, RanOver};
 
@@ -15,11 +15,11 @@ use crate::bursts::Bursts;
 use crate::chooser::{Chooser, Same};
 use crate::even::{Even, Usual};
 use crate::order::Order;
-use crate::priorities::{ByPriorities, runs};
+use crate::priorities::ByPriorities;
 use crate::schedule::{Draw, Schedule};
 use crate::turns::{Alone, Turns};
 use hart_step::Hart;
-use machine::Machine;
+use machine::{Machine, runs};
 use mem_store::Store;
 use sched_run::Chosen;
 use std::alloc::{AllocError, Allocator};

@@ -4,6 +4,8 @@ use Rattle.std.proofs.lemmas.Bool.Decides.{nat_tests}
 use Rattle.std.specs.Prelude.{replicate}
 use Rattle.machine.specs.Chosen.{is_chosen}
 use Rattle.machine.specs.declared.choice.Choice.{Choice}
+use Rattle.sched_text.specs.declared.run.Run.{Run}
+use Rattle.sched_text.specs.Runs.{equal_choices}
 use Rattle.sched_run.specs.Harts.{Harts, with_hart, marked_at}
 
 pub any-append : (a b : List Choice) (k : ℕ) → is_chosen (a ++ b) k ≡ (is_chosen a k || is_chosen b k)
@@ -106,3 +108,23 @@ pub choice_chosen : (done : List Choice) (c : Choice) (harts : Harts) (k : ℕ) 
 choice_chosen done c harts k told =
     ap (λ b. cond b true (harts k)) (turned c.hart k) ∙ ap (λ x. cond (c.hart == k) true x) told ∙ either (c.hart == k) (is_chosen done k)
     ∙ ap (λ x. is_chosen done k || x) (sym (or-none (c.hart == k))) ∙ sym (any-append done (c ∷ []) k)
+
+-- one more run of equal choices
+chosen_again : (c : Choice) (n k : ℕ) → ((c.hart == k) || is_chosen (replicate n c) k) ≡ (c.hart == k)
+chosen_again c zero k = or-none (c.hart == k)
+chosen_again c (suc n) k = by (c.hart == k) (chosen_again c n k)
+  where
+    by : (b : Bool) → (b || is_chosen (replicate n c) k) ≡ b → (b || (b || is_chosen (replicate n c) k)) ≡ b
+    by true e = refl
+    by false e = e
+
+pub run_chosen : (done : List Choice) (r : Run) → 0 < r.count → (harts : Harts) (k : ℕ) → harts k ≡ is_chosen done k
+    → with_hart harts r.choice.hart k ≡ is_chosen (done ++ equal_choices r) k
+run_chosen done r some harts k told =
+    choice_chosen done r.choice harts k told ∙ any-append done (r.choice ∷ []) k
+    ∙ ap (λ x. is_chosen done k || x) (or-none (r.choice.hart == k) ∙ sym (by r.count some))
+    ∙ sym (any-append done (equal_choices r) k)
+  where
+    by : (n : ℕ) → 0 < n → is_chosen (replicate n r.choice) k ≡ (r.choice.hart == k)
+    by zero none = absurd (omega (arith, none))
+    by (suc n) _ = chosen_again r.choice n k

@@ -1,12 +1,9 @@
--- What is left of a choice text, one choice less and one item less, and the items that are one
--- digit or two.
-use Rattle.std.proofs.Common.{◌≡◌, ℕ, suc, ◌+◌, ◌*◌, ◌<◌, ◌^◌, ◌==◌, true, false, List, [], ◌∷◌, length, drop, get_or, Some, None, Ok, Err, refl, arith, ap, sym, ◌∙◌, ne_eqb}
-use Rattle.std.specs.Prelude.{replicate}
+-- What is left of a choice text, one item less, and the items that are one digit or two.
+use Rattle.std.proofs.Common.{◌≡◌, ℕ, ◌+◌, ◌*◌, ◌<◌, ◌^◌, ◌==◌, true, false, List, [], ◌∷◌, length, drop, get_or, Some, None, Ok, Err, refl, arith, ap, sym, ◌∙◌, ne_eqb}
 use Rattle.std.specs.declared.result.Result.{Result}
 use Rattle.std.specs.List.{slice_split, onto_first}
 use Rattle.std.proofs.lemmas.List.{drop_more}
 use Rattle.std.proofs.lemmas.List.Splits.{slice_split-cons_yes, slice_split-cons_no}
-use Rattle.machine.specs.declared.choice.Choice.{Choice}
 use Rattle.text_items.specs.Items.{is_blank, items_of_parts, items_from, text_between, IsFirstItem}
 use Rattle.sched_text.specs.declared.run.Run.{Run}
 use Rattle.sched_text.specs.declared.choice_text.ChoiceFault.{ChoiceFault}
@@ -17,43 +14,9 @@ use Rattle.std.proofs.lemmas.Str.{digit_value_digit}
 use Rattle.sched_text.specs.Grammar.{NamesRun}
 use Rattle.sched_text.proofs.ItemLemmas.{digit_run, run_named}
 use Rattle.sched_run.specs.declared.reading.Reading.{Reading}
-use Rattle.sched_run.specs.Left.{plain, LeftChoices, none_left, behind_choices, item_then, left_of_items, left_after, left_of}
-
--- ---- one choice less
-once_less : (c : Choice) (n m : ℕ) (left : LeftChoices) → m + 1 ≡ n
-    → behind_choices (replicate n c) left ≡ behind_choices (c ∷ []) (behind_choices (replicate m c) left)
-once_less c n m left e =
-    let is : n ≡ suc m = omega (arith, e) in
-    ap (λ k. behind_choices (replicate k c) left) is
-
--- the choice of the item before, once more
-pub taken_again : (harts : ℕ) (text : List ℕ) (old new : Reading) → new.choice ≡ old.choice → new.from ≡ old.from → new.more + 1 ≡ old.more
-    → left_of harts text old ≡ behind_choices (old.choice ∷ []) (left_of harts text new)
-taken_again harts text old new choice from more =
-    once_less old.choice old.more new.more (left_after harts text old.from) more
-    ∙ ap (λ c. behind_choices (old.choice ∷ []) (behind_choices (replicate new.more c) (left_after harts text old.from))) (sym choice)
-    ∙ ap (λ k. behind_choices (old.choice ∷ []) (behind_choices (replicate new.more new.choice) (left_after harts text k))) (sym from)
+use Rattle.sched_run.specs.Left.{plain, none_left, item_then, left_of_items, left_after, left_of}
 
 -- ---- one item less
--- an item is read, whose choices are then left
-pub item_left : (harts : ℕ) (text : List ℕ) (old new : Reading) (named : Run) → old.more ≡ 0
-    → left_after harts text old.from ≡ item_then (Ok named) (left_after harts text new.from)
-    → new.choice ≡ named.choice → new.more ≡ named.count → left_of harts text old ≡ left_of harts text new
-item_left harts text old new named none first choice count =
-    ap (λ n. behind_choices (replicate n old.choice) (left_after harts text old.from)) none
-    ∙ first
-    ∙ ap (λ c. behind_choices (replicate named.count c) (left_after harts text new.from)) (sym choice)
-    ∙ ap (λ n. behind_choices (replicate n new.choice) (left_after harts text new.from)) (sym count)
-
--- an item of one choice is read, and its choice
-pub digit_left : (harts hart : ℕ) (text : List ℕ) (old new : Reading) → old.more ≡ 0 → new.more ≡ 0
-    → left_after harts text old.from ≡ item_then (Ok (choice_run (plain hart) 1)) (left_after harts text new.from)
-    → left_of harts text old ≡ behind_choices (plain hart ∷ []) (left_of harts text new)
-digit_left harts hart text old new none still first =
-    ap (λ n. behind_choices (replicate n old.choice) (left_after harts text old.from)) none
-    ∙ first
-    ∙ ap (λ n. behind_choices (plain hart ∷ []) (behind_choices (replicate n new.choice) (left_after harts text new.from))) (sym still)
-
 -- the first item from an offset on is read, and those after it
 pub first_read : (harts from begin end behind : ℕ) (text : List ℕ) (r : Result Run ChoiceFault) → IsFirstItem from text begin end
     → run_of harts begin (text_between begin end text) ≡ r → items_from end text ≡ items_from behind text
@@ -64,16 +27,12 @@ first_read harts from begin end behind text r first read same =
     ∙ ap (λ items. item_then r (left_of_items harts items)) same
 
 -- nothing is left, or a bad item
-pub nothing_left : (harts : ℕ) (text : List ℕ) (r : Reading) → r.more ≡ 0 → items_from r.from text ≡ [] → left_of harts text r ≡ none_left None
-nothing_left harts text r none end =
-    ap (λ n. behind_choices (replicate n r.choice) (left_after harts text r.from)) none
-    ∙ ap (left_of_items harts) end
+pub nothing_left : (harts : ℕ) (text : List ℕ) (r : Reading) → items_from r.from text ≡ [] → left_of harts text r ≡ none_left None
+nothing_left harts text r end = ap (left_of_items harts) end
 
-pub fault_left : (harts begin end : ℕ) (text : List ℕ) (r : Reading) (fault : ChoiceFault) → r.more ≡ 0 → IsFirstItem r.from text begin end
+pub fault_left : (harts begin end : ℕ) (text : List ℕ) (r : Reading) (fault : ChoiceFault) → IsFirstItem r.from text begin end
     → run_of harts begin (text_between begin end text) ≡ Err fault → left_of harts text r ≡ none_left (Some fault)
-fault_left harts begin end text r fault none first bad =
-    ap (λ n. behind_choices (replicate n r.choice) (left_after harts text r.from)) none
-    ∙ first_read harts r.from begin end end text (Err fault) first bad refl
+fault_left harts begin end text r fault first bad = first_read harts r.from begin end end text (Err fault) first bad refl
 
 -- ---- the bytes
 -- a blank belongs to no item

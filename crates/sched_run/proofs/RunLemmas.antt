@@ -1,5 +1,6 @@
--- A choice text of which some choices were taken.
-use Rattle.std.proofs.Common.{◌≡◌, ℕ, false, List, [], ◌∷◌, ◌++◌, Option, Some, None, Ok, Err, refl, ap, sym, ◌∙◌, append_assoc, append-nil}
+-- A choice text of which some runs of choices were taken.
+use Rattle.std.proofs.Common.{◌≡◌, ℕ, zero, suc, ◌+◌, ◌<◌, arith, false, List, [], ◌∷◌, ◌++◌, Option, Some, None, Ok, Err, refl, ap, sym, ◌∙◌, append_assoc, append-nil}
+use Rattle.std.specs.Prelude.{replicate}
 use Rattle.std.specs.declared.result.Result.{Result}
 use Rattle.machine.specs.World.{World, step, run}
 use Rattle.machine.specs.Chosen.{is_chosen}
@@ -14,7 +15,7 @@ use Rattle.sched_text.specs.Reading.{run_of, expanded_after, choices_read}
 use Rattle.sched_run.specs.Harts.{Harts, with_hart}
 use Rattle.sched_run.specs.Leads.{LeadsTo}
 use Rattle.sched_run.specs.Left.{LeftChoices, none_left, behind_choices, item_then, left_of_items, left_after}
-use Rattle.sched_run.proofs.ChosenLemmas.{choice_chosen}
+use Rattle.sched_run.proofs.ChosenLemmas.{run_chosen}
 
 -- ---- what is left of a whole text is what is read of it
 abbrev by_fault : List Choice → Option ChoiceFault → Result (List Choice) ChoiceFault
@@ -49,7 +50,7 @@ items_read harts (item ∷ items) = by (run_of harts item.at item.text) (items_r
 text_read : (harts : ℕ) (text : List ℕ) (left : LeftChoices) → left_after harts text 0 ≡ left → choices_read harts text ≡ result_of left
 text_read harts text left e = items_read harts (items_from 0 text) ∙ ap result_of e
 
--- ---- choice by choice
+-- ---- run by run
 -- the choices that were taken, which a text begins with and whose run has led to this world, and
 -- those that are left
 pub record SoFar (harts : ℕ) (text : List ℕ) (left : LeftChoices) (old now : World) (chosen : Harts) : Type 0 where
@@ -58,13 +59,10 @@ pub record SoFar (harts : ℕ) (text : List ℕ) (left : LeftChoices) (old now :
   pub led : now ≡ run old done
   pub told : (k : ℕ) → chosen k ≡ is_chosen done k
 
-after_one_more : (done : List Choice) (c : Choice) (left : LeftChoices)
-    → behind_choices done (behind_choices (c ∷ []) left) ≡ behind_choices (done ++ c ∷ []) left
-after_one_more done c left = ap (λ choices. record { choices = choices; fault = left.fault }) (sym (append_assoc done (c ∷ []) left.choices))
-
-run_one : (w : World) (c : Choice) → run w (c ∷ []) ≡ step w c
-unfolding run
-run_one w c = refl
+behind_more : (done more : List Choice) (left : LeftChoices)
+    → behind_choices done (behind_choices more left) ≡ behind_choices (done ++ more) left
+behind_more done more left =
+    ap (λ choices. record { choices = choices; fault = left.fault }) (sym (append_assoc done more left.choices))
 
 -- no choice was taken
 pub begun : (harts : ℕ) (text : List ℕ) (left : LeftChoices) (w : World) (chosen : Harts)
@@ -76,16 +74,28 @@ begun harts text left w chosen whole none = record {
   told = λ k. ap (λ (harts : Harts). harts k) none;
 }
 
--- one choice more was taken
-pub one_more : (harts : ℕ) (text : List ℕ) (left now_left : LeftChoices) (old before after : World) (chosen more : Harts) (c : Choice)
-    → left ≡ behind_choices (c ∷ []) now_left → after ≡ step before c → more ≡ with_hart chosen c.hart
+-- a run of equal choices more was taken
+pub run_taken : (harts : ℕ) (text : List ℕ) (left now_left : LeftChoices) (old before after : World)
+    (chosen more : Harts) (r : Run) → 0 < r.count
+    → left ≡ behind_choices (equal_choices r) now_left → after ≡ run before (equal_choices r)
+    → more ≡ with_hart chosen r.choice.hart
     → SoFar harts text left old before chosen → SoFar harts text now_left old after more
-one_more harts text left now_left old before after chosen more c next stepped is s = record {
-  done = s.done ++ c ∷ [];
-  read = s.read ∙ ap (behind_choices s.done) next ∙ after_one_more s.done c now_left;
-  led = stepped ∙ ap (λ w. step w c) s.led ∙ sym (run_one (run old s.done) c) ∙ sym (run_append old s.done (c ∷ []));
-  told = λ k. ap (λ (harts : Harts). harts k) is ∙ choice_chosen s.done c chosen k (s.told k);
+run_taken harts text left now_left old before after chosen more r some next ran is s = record {
+  done = s.done ++ equal_choices r;
+  read = s.read ∙ ap (behind_choices s.done) next ∙ behind_more s.done (equal_choices r) now_left;
+  led = ran ∙ ap (λ w. run w (equal_choices r)) s.led ∙ sym (run_append old s.done (equal_choices r));
+  told = λ k. ap (λ (harts : Harts). harts k) is ∙ run_chosen s.done r some chosen k (s.told k);
 }
+
+-- ---- a run of equal choices, of which some are left
+-- a step is taken
+pub one_less : (w next whole : World) (c : Choice) (n m : ℕ) → 0 < n → m + 1 ≡ n → next ≡ step w c → run w (replicate n c) ≡ whole
+    → run next (replicate m c) ≡ whole
+unfolding run
+one_less w next whole c zero m some less stepped so_far = absurd (omega (arith, some))
+one_less w next whole c (suc n) m some less stepped so_far =
+    let same : m ≡ n = omega (arith, less) in
+    ap (λ v. run v (replicate m c)) stepped ∙ ap (λ k. run (step w c) (replicate k c)) same ∙ so_far
 
 -- none is left
 pub all_run : (harts : ℕ) (text : List ℕ) (left : LeftChoices) (old now : World) (chosen : Harts) → left ≡ none_left None

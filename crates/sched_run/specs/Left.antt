@@ -1,5 +1,5 @@
 -- The choices of a text that are still to be read.
-use Rattle.std.specs.Prelude.{ℕ, ◌+◌, ◌-◌, ◌*◌, ◌^◌, false, List, [], ◌∷◌, ◌++◌, length, replicate, Option, Some, None}
+use Rattle.std.specs.Prelude.{ℕ, false, List, [], ◌∷◌, ◌++◌, Option, Some, None}
 use Rattle.std.specs.declared.result.Result.{Result}
 use Rattle.std.specs.declared.result.Result.TheVariants.{Ok, Err}
 use Rattle.machine.specs.declared.choice.Choice.{Choice}
@@ -41,10 +41,6 @@ left_of_items harts (item ∷ items) = item_then (run_of harts item.at item.text
 abbrev pub left_after : ℕ → List ℕ → ℕ → LeftChoices
 left_after harts text from = left_of_items harts (items_from from text)
 
--- the choices that are left: those of the previous item, then those of the items after it
+-- the choices that are left
 abbrev pub left_of : ℕ → List ℕ → Reading → LeftChoices
-left_of harts text r = behind_choices (replicate r.more r.choice) (left_after harts text r.from)
-
--- an upper bound on the number of choices that are left
-abbrev pub most_left : List ℕ → Reading → ℕ
-most_left text r = (length text - r.from) * 2 ^ 32 + r.more
+left_of harts text r = left_after harts text r.from

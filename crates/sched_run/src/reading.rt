@@ -1,12 +1,13 @@
-//! Reads the choices of a text, one after another. The list that the text spells is never held, so
-//! a text of a few bytes that spells thousands of millions of choices takes no memory.
-ghost use Rattle.std.specs.Prelude.{◌≡◌, ◌+◌, ◌<◌, ◌≤◌, ◌^◌, ℕ, [], ◌∷◌, true, false, Ok, List, IfNone, IfSome, length};
+//! Reads the runs of equal choices of a text, one after another. The list that the text spells is
+//! never held, so a text of a few bytes that spells thousands of millions of choices takes no
+//! memory.
+ghost use Rattle.std.specs.Prelude.{◌≡◌, ◌+◌, ◌<◌, ◌≤◌, ℕ, Ok, List, IfNone, IfSome, length};
 ghost use Rattle.text_items.specs.Items.{items_from};
-ghost use Rattle.sched_text.specs.Runs.{choice_run};
-ghost use Rattle.sched_run.specs.Left.{plain, none_left, behind_choices, item_then, left_after, left_of, most_left};
+ghost use Rattle.sched_text.specs.Runs.{choice_run, equal_choices};
+ghost use Rattle.sched_run.specs.Left.{plain, none_left, behind_choices, item_then, left_after, left_of};
 
 use machine::Choice;
-use sched_text::{ChoiceFault, read_run};
+use sched_text::{ChoiceFault, Run, read_run};
 use text_items::{is_blank, next_item};
 
 /// The state of reading a choice text.
@@ -14,11 +15,7 @@ use text_items::{is_blank, next_item};
 pub struct Reading {
     // Offset at which the next item is searched.
     from: usize,
-    // The choice of the previous item.
-    choice: Choice,
-    // Number of its choices that are still to be returned.
-    more: u32,
-    /// Why there was no next choice; `None` at the end of the text.
+    /// Why there was no next run; `None` at the end of the text.
     pub fault: Option<ChoiceFault>,
 }
 
@@ -27,121 +24,93 @@ impl Reading {
     pub fn begin() -> Self
         ensures at_front { (harts : ℕ) (text : List ℕ) → left_of harts text result ≡ left_after harts text 0 }
         ensures within { result.from ≡ 0 }
-        ensures nothing { result.more ≡ 0 }
     {
         Reading {
             from: 0,
-            choice: Choice {
-                hart: 0,
-                refuse: false,
-            },
-            more: 0,
             fault: None,
         }
     }
 
-    /// The next choice that the text spells, if there is one.
+    /// The next run of equal choices that the text spells, if there is one.
     #[inline]
-    pub fn next(&mut self, text: &[u8], harts: u32) -> Option<Choice>
+    pub fn next(&mut self, text: &[u8], harts: u32) -> Option<Run>
         requires within { self.old.from ≤ length text.now }
-        requires there { 0 < self.old.more → self.old.choice.hart < harts }
         ensures within { self.new.from ≤ length text.now }
-        ensures there { 0 < self.new.more → self.new.choice.hart < harts }
-        ensures some { IfSome result (λ choice. left_of harts text.now self.old
-            ≡ behind_choices (choice ∷ []) (left_of harts text.now self.new)) }
-        ensures of_hart { IfSome result (λ choice. choice.hart < harts) }
-        ensures nearer { IfSome result (λ _. most_left text.now self.new < most_left text.now self.old) }
+        ensures some { IfSome result (λ run. left_of harts text.now self.old
+            ≡ behind_choices (equal_choices run) (left_of harts text.now self.new)) }
+        ensures counted { IfSome result (λ run. 0 < run.count) }
+        ensures of_hart { IfSome result (λ run. run.choice.hart < harts) }
+        ensures behind { IfSome result (λ _. self.old.from < self.new.from) }
         ensures none { IfNone result (left_of harts text.now self.old ≡ none_left self.new.fault) }
     {
-        if self.more > 0 {
-            return Some(self.again());
-        }
-        // Most items of most texts are one digit: no loop, no slices. None of their choices is left
-        // over, so only the offset is written.
+        // Most items of most texts are one digit: no loop, no slices.
         if let Some(hart) = digit_at(text, self.from, harts) {
             self.from += 2;
-            return Some(Choice {
-                hart,
-                refuse: false,
-            });
+            return Some(once(hart));
         }
-        if self.read_item(text, harts) {
-            Some(self.again())
-        } else {
-            None
-        }
+        self.read_item(text, harts)
     }
 
-    // The choice of the previous item once more.
-    #[inline]
-    fn again(&mut self) -> Choice
-        requires { 0 < self.old.more }
-        ensures taken { (harts : ℕ) (text : List ℕ) → left_of harts text self.old
-            ≡ behind_choices (result ∷ []) (left_of harts text self.new) }
-        ensures choice { result ≡ self.old.choice }
-        ensures same_choice { self.new.choice ≡ self.old.choice }
-        ensures same_place { self.new.from ≡ self.old.from }
-        ensures once_less { self.new.more + 1 ≡ self.old.more }
-    {
-        self.more -= 1;
-        self.choice
-    }
-
-    // Reads the next item, of any shape. Returns whether there is one that names a run.
+    // The run of the next item, of any shape.
     #[inline(never)]
     #[cold]
-    fn read_item(&mut self, text: &[u8], harts: u32) -> bool
-        requires none_left { self.old.more ≡ 0 }
+    fn read_item(&mut self, text: &[u8], harts: u32) -> Option<Run>
         requires within { self.old.from ≤ length text.now }
         ensures within { self.new.from ≤ length text.now }
-        ensures read { result ≡ true → left_of harts text.now self.old ≡ left_of harts text.now self.new }
-        ensures some { result ≡ true → 0 < self.new.more }
-        ensures fits { self.new.more < 2 ^ 32 }
-        ensures there { 0 < self.new.more → self.new.choice.hart < harts }
-        ensures behind { result ≡ true → self.old.from < self.new.from }
-        ensures ended { result ≡ false → left_of harts text.now self.old ≡ none_left self.new.fault }
+        ensures some { IfSome result (λ run. left_of harts text.now self.old
+            ≡ behind_choices (equal_choices run) (left_of harts text.now self.new)) }
+        ensures counted { IfSome result (λ run. 0 < run.count) }
+        ensures of_hart { IfSome result (λ run. run.choice.hart < harts) }
+        ensures behind { IfSome result (λ _. self.old.from < self.new.from) }
+        ensures none { IfNone result (left_of harts text.now self.old ≡ none_left self.new.fault) }
     {
         // Harts from 10 on.
         if let Some(hart) = two_digits_at(text, self.from, harts) {
             self.from += 3;
-            self.choice = Choice {
-                hart,
-                refuse: false,
-            };
-            self.more = 1;
-            return true;
+            return Some(once(hart));
         }
         self.read_any_item(text, harts)
     }
 
     // As `read_item`, by the reader of all items.
-    fn read_any_item(&mut self, text: &[u8], harts: u32) -> bool
-        requires none_left { self.old.more ≡ 0 }
+    fn read_any_item(&mut self, text: &[u8], harts: u32) -> Option<Run>
         requires within { self.old.from ≤ length text.now }
         ensures within { self.new.from ≤ length text.now }
-        ensures read { result ≡ true → left_of harts text.now self.old ≡ left_of harts text.now self.new }
-        ensures some { result ≡ true → 0 < self.new.more }
-        ensures fits { self.new.more < 2 ^ 32 }
-        ensures there { 0 < self.new.more → self.new.choice.hart < harts }
-        ensures behind { result ≡ true → self.old.from < self.new.from }
-        ensures ended { result ≡ false → left_of harts text.now self.old ≡ none_left self.new.fault }
+        ensures some { IfSome result (λ run. left_of harts text.now self.old
+            ≡ behind_choices (equal_choices run) (left_of harts text.now self.new)) }
+        ensures counted { IfSome result (λ run. 0 < run.count) }
+        ensures of_hart { IfSome result (λ run. run.choice.hart < harts) }
+        ensures behind { IfSome result (λ _. self.old.from < self.new.from) }
+        ensures none { IfNone result (left_of harts text.now self.old ≡ none_left self.new.fault) }
     {
         let Some((begin, end)) = next_item(text, self.from) else {
             self.fault = None;
-            return false;
+            return None;
         };
         match read_run(&text[begin..end], begin, harts) {
             Ok(named) => {
                 self.from = behind_blank(text, end);
-                self.choice = named.choice;
-                self.more = named.count;
-                true
+                Some(named)
             }
             Err(fault) => {
                 self.fault = Some(fault);
-                false
+                None
             }
         }
+    }
+}
+
+// One choice of a hart.
+#[inline]
+fn once(hart: u32) -> Run
+    ensures { result ≡ choice_run (plain hart) 1 }
+{
+    Run {
+        choice: Choice {
+            hart,
+            refuse: false,
+        },
+        count: 1,
     }
 }
 

@@ -1,17 +1,18 @@
 //! Runs a choice text on a machine.
 ghost use Rattle.std.specs.Prelude.{◌≡◌, ◌<◌, ◌≤◌, Err, IfOk, IfErr, length};
 ghost use Rattle.hart_reservations.specs.Limit.{most_harts};
-ghost use Rattle.machine.specs.World.{step};
+ghost use Rattle.machine.specs.World.{step, run};
 ghost use Rattle.machine.specs.State.{state};
 ghost use Rattle.sched_text.specs.Reading.{choices_read};
+ghost use Rattle.sched_text.specs.Runs.{equal_choices};
 ghost use Rattle.sched_run.specs.Chosen.{harts_of};
 ghost use Rattle.sched_run.specs.Leads.{LeadsTo, LeadsBefore};
 
 use crate::chosen::Chosen;
 use crate::reading::Reading;
-use machine::{Choice, Machine};
+use machine::{Choice, Machine, runs};
 use mem_flat::FlatStore;
-use sched_text::ChoiceFault;
+use sched_text::{ChoiceFault, Run};
 use std::alloc::Allocator;
 
 /// Runs the choices that a text spells on a machine, and returns which harts were chosen. Allocates
@@ -31,14 +32,32 @@ pub fn run_choices<A: Allocator>(
 {
     let mut chosen = Chosen::new();
     let mut reading = Reading::begin();
-    // The only call of `take_step`, so that the compiler inlines the step.
-    'choices: while let Some(choice) = reading.next(text, harts) {
-        chosen.add(choice.hart as usize);
-        take_step(machine, choice);
+    'runs: while let Some(equal) = reading.next(text, harts) {
+        chosen.add(equal.choice.hart as usize);
+        take_run(machine, equal);
     }
     match reading.fault {
         Some(fault) => Err(fault),
         None => Ok(chosen),
+    }
+}
+
+// The steps of equal choices. Once the hart has stopped, no more of them change anything, so a count
+// of millions costs no more than the steps that the hart takes.
+#[inline]
+fn take_run<A: Allocator>(machine: &mut Machine<FlatStore<A>, A>, equal: Run)
+    requires { equal.choice.hart < length (state machine.old).harts }
+    ensures taken { state machine.new ≡ run (state machine.old) (equal_choices equal) }
+    ensures harts { length (state machine.new).harts ≡ length (state machine.old).harts }
+{
+    let mut left = equal.count;
+    // The only call of `take_step`, so that the compiler inlines the step.
+    'steps: while left > 0 {
+        take_step(machine, equal.choice);
+        left -= 1;
+        if left > 0 && !runs(machine.ends(), equal.choice.hart) {
+            return;
+        }
     }
 }
 

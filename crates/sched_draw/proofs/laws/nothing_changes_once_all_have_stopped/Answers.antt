@@ -1,4 +1,4 @@
-use Rattle.sched_draw.proofs.StoppedLemmas.{run-stopped}
+use Rattle.machine.proofs.StoppedLemmas.{run-stopped}
 use Rattle.sched_draw.proofs.laws.nothing_changes_once_all_have_stopped.Goals as goal
 
 pub returns : goal.returns

@@ -1,7 +1,7 @@
 use Rattle.std.proofs.Common.{◌≡◌, ℕ, ◌<◌, ◌≤◌, true, false, map}
 use Rattle.hart_step.specs.Hart.{hart_of}
+use Rattle.machine.specs.Running.{runs}
 use Rattle.sched_run.specs.Chosen.{harts_of}
-use Rattle.sched_draw.specs.Priorities.{runs}
 use Rattle.sched_draw.proofs.running.is_over.Given as goal
 
 -- the harts so far can do no more
