@@ -1,18 +1,22 @@
--- A reply that tells why a file doesn't load.
-use Rattle.std.proofs.Common.{◌≡◌, ◌≢◌, ℕ, List, Err, subst, refl, ap, sym, inr}
-use Rattle.cmd_run.specs.declared.file.FileView.{FileView}
+-- A reply that tells what a command prints, or why it is refused.
+use Rattle.std.proofs.Common.{◌≡◌, ◌≢◌, ℕ, List, Option, Some, IfSome, length, subst}
+use Rattle.std.proofs.Common.{refl, sym, ◌∙◌, inl, inr}
+use Rattle.byte_io.specs.declared.status.Status.{Status}
+use Rattle.byte_io.specs.declared.status.Status.TheVariants.{Done}
+use Rattle.cmd_shrink.specs.Shrink.{Shrinks, refusal}
+use Rattle.outcome.specs.declared.expect.Expect.{Expect}
 use Rattle.page_calls.specs.declared.reply.Reply.{Reply}
 use Rattle.page_calls.specs.declared.reply.Reply.TheVariants.{Answered, Refused, NoRoom, NoMemory}
-use Rattle.page_calls.specs.Replies.{TellsFault}
-use Rattle.page_calls.specs.Shown.{TellsFile, IsInvalid}
+use Rattle.page_calls.specs.Replies.{TellsFault, TellsText}
+use Rattle.page_calls.specs.Shown.{TellsOne, TellsShrunk}
 use Rattle.program_open.specs.CommandFaults.{IsRefusal, status_of_fault}
-use Rattle.program_open.specs.Program.{program_of}
+use Rattle.program_open.specs.Opening.{opening}
 use Rattle.program_open.specs.declared.command_fault.CommandFault.{CommandFault}
 use Rattle.program_open.specs.declared.command_fault.CommandFault.TheVariants as fault
 use Rattle.program_open.specs.declared.program.ProgramForm.TheVariants as form
 
 -- a fault of what was read isn't want of memory
-not_memory : (why : CommandFault) → IsRefusal why → why ≢ fault.Memory
+pub not_memory : (why : CommandFault) → IsRefusal why → why ≢ fault.Memory
 not_memory why refusal same = subst IsRefusal same refusal
 
 -- whether a reply says anything
@@ -25,15 +29,57 @@ tells_something NoMemory = ⊥
 something : (reply : Reply) → tells_something reply → reply ≢ NoMemory
 something reply one same = subst tells_something same one
 
--- what tells a fault of what was read tells that of loading the file
-pub refused_shown : (view : FileView) (bytes out : List ℕ) (why : CommandFault) (reply : Reply)
-    → (IsRefusal why → TellsFault (status_of_fault why) out reply) → (reply ≢ NoMemory → IsRefusal why)
-    → (why ≢ fault.Memory → program_of form.Elf bytes ≡ Err why) → TellsFile view bytes out reply
-refused_shown view bytes out why (Answered told) tells other loads = absurd (tells (other (something (Answered told) tt)))
-refused_shown view bytes out why (Refused told) tells other loads =
-    let is : IsRefusal why = other (something (Refused told) tt) in
-    ((tells is).0, record { why = why; refuses = loads (not_memory why is); status_is = sym ((tells is).1) })
-refused_shown view bytes out why NoRoom tells other loads =
-    let is : IsRefusal why = other (something NoRoom tt) in
-    inr (status_of_fault why, record { why = why; refuses = loads (not_memory why is); status_is = refl })
-refused_shown view bytes out why NoMemory tells other loads = tt
+module _ (Prints : List ℕ → Type 0) (Refuses : CommandFault → Type 0) where
+  -- the text that the command prints is told
+  pub text_told : (text out : List ℕ) (status : Status) (reply : Reply) → Prints text → status ≡ Done
+      → TellsText text status out reply → TellsOne Prints Refuses out reply
+  text_told text out status (Answered told) prints done tells =
+      (tells.0, subst Prints (sym (tells.1)) prints, tells.2 ∙ done)
+  text_told text out status (Refused told) prints done tells = absurd tells
+  text_told text out status NoRoom prints done tells =
+      inl (record { text = text; prints = prints; longer = tells })
+  text_told text out status NoMemory prints done tells = tt
+
+  -- the fault for which it is refused is told
+  pub refusal_told : (out : List ℕ) (why : CommandFault) (reply : Reply)
+      → (IsRefusal why → TellsFault (status_of_fault why) out reply)
+      → (reply ≢ NoMemory → IsRefusal why) → (IsRefusal why → Refuses why)
+      → TellsOne Prints Refuses out reply
+  refusal_told out why (Answered told) tells other refuses =
+      absurd (tells (other (something (Answered told) tt)))
+  refusal_told out why (Refused told) tells other refuses =
+      let is : IsRefusal why = other (something (Refused told) tt) in
+      ((tells is).0, record { why = why; refuses = refuses is; status_is = sym ((tells is).1) })
+  refusal_told out why NoRoom tells other refuses =
+      let is : IsRefusal why = other (something NoRoom tt) in
+      inr (status_of_fault why, record { why = why; refuses = refuses is; status_is = refl })
+  refusal_told out why NoMemory tells other refuses = tt
+
+module _ (expect : Expect) (inputs program choices : List ℕ) where
+  -- a text that shrinks these choices
+  abbrev IsText : List ℕ → Type 0
+  IsText = Shrinks expect inputs (opening form.Elf (length inputs) program choices)
+
+  -- why there is none, if the file has these bytes and the choice text those
+  abbrev IsRefused : List ℕ → List ℕ → CommandFault → Type 0
+  IsRefused file text why =
+      refusal expect inputs (opening form.Elf (length inputs) file text) ≡ Some why
+
+  -- a list that was shrunk is told
+  pub shrunk_told : (text out : List ℕ) (status : Status) (reply : Reply) → IsText text
+      → status ≡ Done → TellsText text status out reply
+      → TellsShrunk expect inputs program choices out reply
+  shrunk_told = text_told IsText (IsRefused program choices)
+
+  -- the fault for which there is none is told
+  pub unshrunk_told : (file text : Option (List ℕ)) (out : List ℕ) (why : CommandFault)
+      (reply : Reply) → file ≡ Some program → text ≡ Some choices
+      → (IsRefusal why → TellsFault (status_of_fault why) out reply)
+      → (reply ≢ NoMemory → IsRefusal why)
+      → (IsRefusal why → IfSome file (λ p. IfSome text (λ c. IsRefused p c why)))
+      → TellsShrunk expect inputs program choices out reply
+  unshrunk_told file text out why reply read heard tells other refuses =
+      refusal_told IsText (IsRefused program choices) out why reply tells other
+      (λ is. subst (λ (held : Option (List ℕ)). IfSome held (λ c. IsRefused program c why)) heard
+      (subst (λ (held : Option (List ℕ)). IfSome held (λ p. IfSome text (λ c. IsRefused p c why)))
+      read (refuses is)))

@@ -1,5 +1,5 @@
 //! Whole outputs; outputs that are just long enough, and a byte too short.
-use crate::worked::{Asked, ROWS, Wanted, made};
+use crate::worked::{Asked, CHOICES, ROWS, Wanted, made};
 use page_calls::{Reply, Told};
 use program_open::ProgramForm;
 use std::alloc::{Allocator, Global};
@@ -27,25 +27,31 @@ fn has_no_room(alloc: Global, asked: Asked, room: usize) -> bool {
     made(alloc, asked, &mut out) == Reply::NoRoom && out.iter().all(|byte| *byte == BEFORE)
 }
 
+// Whether a call gives its answer where there is room, and else leaves the output as it was.
+fn is_right(alloc: Global, asked: Asked, wanted: Wanted) -> bool {
+    let length = wanted.text().len();
+    is_answered(alloc, asked, wanted, length)
+        && is_answered(alloc, asked, wanted, length.saturating_add(9))
+        && has_no_room(alloc, asked, length.saturating_sub(1))
+        && has_no_room(alloc, asked, 0)
+}
+
+// The number of the first row with another answer.
+fn first_wrong(alloc: Global, rows: &[(Asked, Wanted)]) -> Option<usize> {
+    for (row, (asked, wanted)) in rows.iter().enumerate() {
+        if !is_right(alloc, *asked, *wanted) {
+            return Some(row);
+        }
+    }
+    None
+}
+
 #[test]
 fn calls_answer(rt: HostRuntime) {
-    for (row, (asked, wanted)) in ROWS.iter().enumerate() {
-        let length = wanted.text().len();
-        assert!(rt;
-            is_answered(rt.alloc(), *asked, *wanted, length),
-            "row {row}"
-        );
-        assert!(rt;
-            is_answered(rt.alloc(), *asked, *wanted, length.saturating_add(9)),
-            "row {row} with more room"
-        );
-        assert!(rt;
-            has_no_room(rt.alloc(), *asked, length.saturating_sub(1)),
-            "row {row} with a byte too few"
-        );
-        assert!(rt;
-            has_no_room(rt.alloc(), *asked, 0),
-            "row {row} with no room"
-        );
-    }
+    assert_eq!(rt; first_wrong(rt.alloc(), &ROWS), None);
+}
+
+#[test]
+fn calls_on_choices_answer(rt: HostRuntime) {
+    assert_eq!(rt; first_wrong(rt.alloc(), &CHOICES), None);
 }

@@ -1,5 +1,5 @@
 //! Each request of a call refused in turn, once and for good.
-use crate::worked::{Asked, ROWS, Wanted, made};
+use crate::worked::{Asked, CHOICES, ROWS, Wanted, made};
 use page_calls::Reply;
 use std::alloc::{AllocError, Allocator, Global};
 use test_refusing::{Call, tried};
@@ -24,13 +24,26 @@ impl Call for Row {
     }
 }
 
-#[test]
-fn calls_tell_want_of_memory(rt: HostRuntime) {
-    for (number, (asked, wanted)) in ROWS.iter().enumerate() {
+// The number of the first row that doesn't tell that memory was refused.
+fn first_untold(alloc: Global, rows: &[(Asked, Wanted)]) -> Option<usize> {
+    for (number, (asked, wanted)) in rows.iter().enumerate() {
         let row = Row {
             asked: *asked,
             wanted: *wanted,
         };
-        assert_eq!(rt; tried(rt.alloc(), &row), Ok(()), "row {number}");
+        if tried(alloc, &row).is_err() {
+            return Some(number);
+        }
     }
+    None
+}
+
+#[test]
+fn calls_tell_want_of_memory(rt: HostRuntime) {
+    assert_eq!(rt; first_untold(rt.alloc(), &ROWS), None);
+}
+
+#[test]
+fn calls_on_choices_tell_want_of_memory(rt: HostRuntime) {
+    assert_eq!(rt; first_untold(rt.alloc(), &CHOICES), None);
 }

@@ -1,11 +1,19 @@
 //! Calls whose answers were worked by hand.
+ghost use Rattle.std.specs.Prelude.{◌+◌, ◌≤◌, ◌^◌};
+
 use byte_io::Status;
+use cmd_campaign::{Campaign, Report};
 use cmd_run::FileView;
+use cmd_schedule::SeedPlan;
 use cmd_trace::{TraceForm, TracePlan};
 use object_library::Kind;
 use outcome::{Exit, Expect};
-use page_calls::{Reply, Told, assemble_call, file_call, listing_call, run_call, trace_call};
+use page_calls::{
+    Reply, Told, assemble_call, campaign_call, debug_call, file_call, listing_call, run_call,
+    schedule_call, shrink_call, trace_call,
+};
 use program_open::ProgramForm;
+use sched_draw::{Draw, Order, Refusals};
 use std::alloc::Allocator;
 use test_images::{EXITS, EXITS_FACTS, EXITS_LISTING};
 
@@ -22,6 +30,16 @@ pub(crate) struct Run {
     pub(crate) rule: Option<Kind>,
 }
 
+impl Run {
+    // What is expected of it.
+    fn expect(self) -> Expect {
+        Expect {
+            rule: self.rule,
+            exit: Exit::May,
+        }
+    }
+}
+
 /// A call of the page.
 #[derive(Clone, Copy)]
 pub(crate) enum Asked {
@@ -35,6 +53,14 @@ pub(crate) enum Asked {
     Ends(Run),
     /// What each choice of a run did.
     Table(Run),
+    /// So many choices that a seed draws for a file, none of which is refused.
+    Drawn(&'static [u8], u64),
+    /// The choices of a run that its failure needs.
+    Shrunk(Run),
+    /// What a campaign of three seeds of two steps each reports of a file.
+    Campaign(Report, &'static [u8]),
+    /// A session with these commands.
+    Session(Run, &'static str),
 }
 
 /// What a call answers.
@@ -71,12 +97,16 @@ pub(crate) fn made<A: Allocator + Copy>(alloc: A, asked: Asked, out: &mut [u8]) 
         Asked::Listing(source) => listing_call(alloc, source.as_bytes(), out),
         Asked::Shown(view, file) => file_call(alloc, view, file, out),
         Asked::Ends(run) => {
-            let expect = Expect {
-                rule: run.rule,
-                exit: Exit::May,
-            };
             let choices = run.choices.as_bytes();
-            run_call(alloc, run.form, &[7], expect, run.program, choices, out)
+            run_call(
+                alloc,
+                run.form,
+                &[7],
+                run.expect(),
+                run.program,
+                choices,
+                out,
+            )
         }
         Asked::Table(run) => {
             let plan = TracePlan {
@@ -87,6 +117,44 @@ pub(crate) fn made<A: Allocator + Copy>(alloc: A, asked: Asked, out: &mut [u8]) 
             let choices = run.choices.as_bytes();
             trace_call(alloc, run.form, plan, &[7], run.program, choices, out)
         }
+        Asked::Drawn(file, steps) => schedule_call(alloc, drawn(steps), &[7], file, out),
+        Asked::Shrunk(run) => {
+            let choices = run.choices.as_bytes();
+            shrink_call(alloc, run.expect(), &[7], run.program, choices, out)
+        }
+        Asked::Campaign(report, file) => {
+            campaign_call(alloc, three_seeds(report), &[7], file, out)
+        }
+        Asked::Session(run, commands) => {
+            let (choices, commands) = (run.choices.as_bytes(), commands.as_bytes());
+            debug_call(alloc, &[7], run.program, choices, commands, out)
+        }
+    }
+}
+
+// Seeds 5 to 7, of two steps each.
+fn three_seeds(report: Report) -> Campaign
+    ensures { result.first + result.count ≤ 2 ^ 64 }
+{
+    Campaign {
+        first: 5,
+        count: 3,
+        steps: 2,
+        draw: drawn(2).draw,
+        expect: FILE_RUN.expect(),
+        report,
+    }
+}
+
+// So many even choices of seed 1, none of which is refused.
+fn drawn(steps: u64) -> SeedPlan {
+    SeedPlan {
+        draw: Draw {
+            order: Order::Even,
+            refusals: Refusals::Never,
+        },
+        steps,
+        seed: 1,
     }
 }
 
@@ -117,6 +185,14 @@ const BREAKS: Run = Run { form: ProgramForm::Hex, program: b"00100073", choices:
 #[rattlefmt::skip]
 const BAD_WORD: Run = Run { form: ProgramForm::Hex, program: b"0010007g", choices: "0", rule: None };
 
+// The file's run under that rule, with choices that do nothing behind.
+#[rattlefmt::skip]
+const UNKEPT_FILE: Run = Run { form: ProgramForm::Elf, program: &EXITS, choices: "0*5", rule: Some(Kind::Swap) };
+
+// A file that is none.
+#[rattlefmt::skip]
+const NO_FILE: Run = Run { form: ProgramForm::Elf, program: b"none", choices: "0", rule: None };
+
 const EXITED: &str = "hart 0 exited a0 00000000 a1 00000007\n";
 
 const TABLE: &str = "| Choice | Hart 0 | At |
@@ -141,4 +217,20 @@ pub(crate) const ROWS: [(Asked, Wanted); 13] = [
     (Asked::Ends(BAD_CHOICE), Wanted::Faults("choice fault BadChoice at 2", Status::Refused)),
     (Asked::Ends(BAD_WORD), Wanted::Faults("hex fault BadWord at 0", Status::Refused)),
     (Asked::Table(FILE_RUN), Wanted::Prints(TABLE, Status::Done)),
+];
+
+/// The calls on choices, each with its answer.
+#[rattlefmt::skip]
+pub(crate) const CHOICES: [(Asked, Wanted); 11] = [
+    (Asked::Campaign(Report::Lines, &EXITS), Wanted::Prints("seed 5 exited 1 faulted 0 running 0\nseed 6 exited 1 faulted 0 running 0\nseed 7 exited 1 faulted 0 running 0\n", Status::Done)),
+    (Asked::Campaign(Report::Summary, &EXITS), Wanted::Prints("seeds 3 first 5 exited 1 faulted 0 running 0\n", Status::Done)),
+    (Asked::Campaign(Report::Lines, b"none"), Wanted::Faults("elf fault 1 Short", Status::Refused)),
+    (Asked::Drawn(&EXITS, 3), Wanted::Prints("0 0 0\n", Status::Done)),
+    (Asked::Drawn(b"none", 3), Wanted::Faults("elf fault 1 Short", Status::Refused)),
+    (Asked::Shrunk(UNKEPT_FILE), Wanted::Prints("0*2\n", Status::Done)),
+    (Asked::Shrunk(FILE_RUN), Wanted::Faults("shrink fault NothingFails", Status::Refused)),
+    (Asked::Shrunk(NO_FILE), Wanted::Faults("elf fault 1 Short", Status::Refused)),
+    (Asked::Session(FILE_RUN, "where\nstep 0\nregs 9\nforward 2"), Wanted::Prints("step 0 of 2\nstep 1 of 2\nbad command\npast end\n", Status::Done)),
+    (Asked::Session(FILE_RUN, "go\nquit\nwhere\n"), Wanted::Prints("end\nstep 2 of 2\n", Status::Done)),
+    (Asked::Session(NO_FILE, "where\n"), Wanted::Faults("elf fault 1 Short", Status::Refused)),
 ];
