@@ -1,0 +1,43 @@
+-- What the numbers of a call ask for.
+use Rattle.std.specs.Prelude.{ℕ, ◌==◌, if◌then◌else◌, Option, Some, None}
+use Rattle.cmd_run.specs.declared.file.FileView.{FileView}
+use Rattle.cmd_run.specs.declared.file.FileView.TheVariants as view
+use Rattle.cmd_trace.specs.declared.plan.TraceForm.TheVariants.{Lines}
+use Rattle.cmd_trace.specs.declared.plan.TracePlan.{TracePlan}
+use Rattle.object_library.specs.declared.kind.Kind.{Kind}
+use Rattle.object_library.specs.declared.kind.Kind.TheVariants as kind
+use Rattle.outcome.specs.declared.expect.Exit.{Exit}
+use Rattle.outcome.specs.declared.expect.Exit.TheVariants as exit
+use Rattle.outcome.specs.declared.expect.Expect.{Expect}
+
+-- a rule by its number: 0 is none, and the kinds follow in the order of their names in help
+abbrev pub rule_numbered : ℕ → Option (Option Kind)
+rule_numbered n =
+    if n == 0 then Some None
+    else if n == 1 then Some (Some kind.Swap)
+    else if n == 2 then Some (Some kind.Add)
+    else if n == 3 then Some (Some kind.LrSc)
+    else if n == 4 then Some (Some kind.AdoptCommit)
+    else if n == 5 then Some (Some kind.Rounds)
+    else None
+
+-- whether a hart may still run at the end: 0 it may, 1 it must have exited
+abbrev pub exit_numbered : ℕ → Option Exit
+exit_numbered n = if n == 0 then Some exit.May else if n == 1 then Some exit.Must else None
+
+abbrev pub expect_by : Option (Option Kind) → Option Exit → Option Expect
+expect_by (Some rule) (Some exit) = Some record { rule = rule; exit = exit }
+expect_by (Some rule) None = None
+expect_by None exit = None
+
+-- what is expected of a run
+abbrev pub expect_numbered : ℕ → ℕ → Option Expect
+expect_numbered rule exit = expect_by (rule_numbered rule) (exit_numbered exit)
+
+-- what is shown of a file: 0 its listing, 1 its facts
+abbrev pub view_numbered : ℕ → Option FileView
+view_numbered n = if n == 0 then Some view.Listing else if n == 1 then Some view.Facts else None
+
+-- the lines of the choices from one to another
+abbrev pub lines_of : ℕ → ℕ → TracePlan
+lines_of from to = record { form = Lines; from = from; to = Some to }
