@@ -15,9 +15,9 @@ pub struct Answer {
     pub length: u64,
     /// The status that the command ends with.
     pub status: u32,
-    /// What stands in the output: 0 what the command prints, 1 the text of a fault; 2 nothing, since
-    /// it has too little room; 3 nothing, since memory was refused; 4 nothing, since the numbers of
-    /// the call ask for nothing.
+    /// What stands in the output: 0 what the command prints, 1 the text of a fault; 2 nothing,
+    /// since it has too little room; 3 nothing, since memory was refused; 4 nothing, since the
+    /// numbers of the call ask for nothing.
     pub kind: u32,
 }
 
