@@ -1,52 +1,54 @@
-// The worker: it compiles the module once, and answers a message at a time. A program is assembled
-// anew only where its source has changed.
+// The worker: it compiles the module once, and answers a message at a time.
 
 const encode = (text) => new TextEncoder().encode(text);
 
-/** What a request's source assembles to; the last one's is kept. */
-class Assembler {
+/** The page's commands by the module's calls. A program is assembled anew only where its source has changed. */
+class Commands {
   constructor(machine) {
-    Object.assign(this, { machine, source: null, answer: null });
+    Object.assign(this, { machine, source: null, assembled: null });
   }
 
   assemble(source) {
     if (source !== this.source) {
-      this.answer = this.machine.assemble(encode(source));
+      this.assembled = this.machine.assemble(encode(source));
       this.source = source;
     }
-    return this.answer;
+    return this.assembled;
+  }
+
+  /** What a command answers, and whether that is of the source or of a run of its program. */
+  answer(asked) {
+    if (asked.command === 'list') return { of: 'source', ...this.machine.listing(encode(asked.source)) };
+    const assembled = this.assemble(asked.source);
+    if (asked.command === 'file' || assembled.kind !== 'answered') return { of: 'source', ...assembled };
+    return { of: 'run', ...this.ofProgram(assembled.bytes, asked) };
+  }
+
+  ofProgram(program, { command, ...asked }) {
+    const given = { ...asked, program, inputs: Uint32Array.from(asked.inputs), choices: encode(asked.choices) };
+    if (command === 'info') return this.machine.file('facts', program);
+    return command === 'run' ? this.machine.run(given) : this.machine.trace(given);
   }
 }
 
-const COMMANDS = {
-  file: (machine, program) => ({ kind: 'answered', status: 0, bytes: program }),
-  info: (machine, program) => machine.file('facts', program),
-  run: (machine, program, asked) => machine.run({ ...asked, program, inputs: Uint32Array.from(asked.inputs), choices: encode(asked.choices) }),
-  trace: (machine, program, asked) => machine.trace({ ...asked, program, inputs: Uint32Array.from(asked.inputs), choices: encode(asked.choices) }),
-};
+// A promise of the commands, once the module is there.
+let commands = null;
 
-function answerTo(machine, assembler, asked) {
-  if (asked.command === 'list') return { of: 'source', ...machine.listing(encode(asked.source)) };
-  const assembled = assembler.assemble(asked.source);
-  if (assembled.kind !== 'answered') return { of: 'source', ...assembled };
-  return { of: 'run', ...COMMANDS[asked.command](machine, assembled.bytes, asked) };
+async function answerTo({ module, ...asked }) {
+  if (module) {
+    commands = WebAssembly.compile(module).then((compiled) => new Commands(new Machine(compiled)));
+    await commands;
+    return null;
+  }
+  const given = await commands;
+  const began = performance.now();
+  return { ...given.answer(asked), milliseconds: performance.now() - began };
 }
 
-let ready = null;
-
-onmessage = async ({ data }) => {
+onmessage = async ({ data: { number, ...asked } }) => {
   try {
-    if (data.module) {
-      ready = WebAssembly.compile(data.module).then((module) => new Machine(module));
-      ready.assembler = ready.then((machine) => new Assembler(machine));
-      await ready;
-      postMessage({ number: data.number, answer: null });
-      return;
-    }
-    const began = performance.now();
-    const answer = answerTo(await ready, await ready.assembler, data);
-    postMessage({ number: data.number, answer: { ...answer, milliseconds: performance.now() - began } });
+    postMessage({ number, answer: await answerTo(asked) });
   } catch (error) {
-    postMessage({ number: data.number, error: error.message });
+    postMessage({ number, error: error.message });
   }
 };
