@@ -4,7 +4,7 @@ import subprocess
 from people_parts.terminal import ENDLESS, PROGRAM, Terminal, at_terminal, check, through_pipe, write
 
 GREETING = (
-    "commands: help, where, goto K, forward [N], back [N], step H, break A, watch A, rwatch A, awatch A, delete A, go, rgo, steps A B, regs H, mem A N, quit\n"
+    "commands: help, where, goto K, forward [N], back [N], step H, break A, watch A, rwatch A, awatch A, delete A, go, rgo, steps A B, list [H], regs H, mem A N, quit\n"
     "K, N and H are decimal; an address A is written with 0x, as 0x00010008\n")
 
 # Two harts count a word up, in turns. What is typed, and what is shown before the next prompt.
@@ -44,7 +44,7 @@ COUNTING = [
     ("break _start+0x10", "7 of 12> ", "break 00010010\n"),
     ("watch conter", "7 of 12> ", "no symbol\nconter is no symbol of the program: is counter meant?\n"),
     ("Where", "7 of 12> ",
-     "bad command\nthe commands are help, where, goto, forward, back, step, break, watch, rwatch, awatch, delete, go, rgo, steps, regs, mem and quit, in small letters\n"),
+     "bad command\nthe commands are help, where, goto, forward, back, step, break, watch, rwatch, awatch, delete, go, rgo, steps, list, regs, mem and quit, in small letters\n"),
     ("steps", "7 of 12> ", "bad command\nsteps takes two decimal numbers of choices, as steps 0 7\n"),
     ("steps 0 1", "7 of 12> ", "0 h0 00010000 auipc s0, 0x1\n"),
     ("help now", "7 of 12> ", "bad command\nhelp stands alone\n"),
@@ -52,6 +52,13 @@ COUNTING = [
     ("step", "7 of 12> ", "bad command\nstep takes the number of a hart, as step 1\n"),
     ("step 1", "8 of 12> ", "step 8 of 12\nnext: hart 0 at 00010010, _start+16: addi a7, zero, 93\n"),
     ("goto 10", "10 of 12> ", "step 10 of 12\nnext: hart 0 at 00010014, _start+20: ecall\n"),
+    ("list", "10 of 12> ",
+     "hart 0 running pc 00010014\n"
+     "   00010000 <_start> auipc s0, 0x1\n   00010004 <_start+4> addi s0, s0, 0\n"
+     "   00010008 <_start+8> addi t0, zero, 1\n   0001000c <_start+12> amoadd.w zero, t0, (s0)\n"
+     "   00010010 <_start+16> addi a7, zero, 93\n=> 00010014 <_start+20> ecall\n"),
+    ("list 2", "10 of 12> ", "bad command\nthere are 2 harts, numbered from 0 to 1\n"),
+    ("list one", "10 of 12> ", "bad command\nlist takes nothing, or the number of a hart, as list 1\n"),
     ("delete 0x00010012", "10 of 12> ", "delete 00010012\n"),
     ("delete", "10 of 12> ", "bad command\ndelete takes an address, as delete 0x00010008\n"),
     ("delete 0x00011000", "10 of 12> ", "delete 00011000\n"),
@@ -63,6 +70,7 @@ COUNTING = [
     ("go", "12 of 12> ",
      "end\nstep 12 of 12\nhart 0 has exited with 00000000\nhart 1 has exited with 00000001\nnext: no choice is left\n"),
     ("step 0", "12 of 12> ", "past end\nhart 0 is not chosen from here on\n"),
+    ("list", "12 of 12> ", "past end\nno choice is left: name a hart, as list 0\n"),
     ("goto 12", "12 of 12> ", "step 12 of 12\nnext: no choice is left\n"),
     ("quit", None, ""),
 ]

@@ -126,7 +126,7 @@ fn answer_line<R: AllocGlobal + Print>(
     let Ok(before) = Before::of(rt.alloc(), debugger) else {
         return Err(DebugEngineFault::Memory);
     };
-    match obey(rt.alloc(), debugger, command) {
+    match obey(rt.alloc(), debugger, &names.named, command) {
         Ok(Answer::Quit) => Ok(Turn::Last),
         Ok(Answer::Text(text)) => {
             show(rt, &text)?;
@@ -181,12 +181,16 @@ enum Limit {
     Choices(usize),
     // A hart's last choice.
     LastOf(u64),
+    // No choice is left.
+    NoChoice,
 }
 
 // The limit that a bad command has exceeded.
 fn broken(debugger: &Debugger<Global>, command: Command) -> Limit {
     match command {
-        Command::Regs(_) | Command::Step(_) => Limit::Harts(debugger.machine().harts()),
+        Command::Listing(_) | Command::Regs(_) | Command::Step(_) => {
+            Limit::Harts(debugger.machine().harts())
+        }
         _ => Limit::Words,
     }
 }
@@ -195,6 +199,7 @@ fn broken(debugger: &Debugger<Global>, command: Command) -> Limit {
 fn exceeded(debugger: &Debugger<Global>, command: Command) -> Limit {
     match command {
         Command::Step(hart) => Limit::LastOf(hart),
+        Command::Listing(_) => Limit::NoChoice,
         _ => Limit::Choices(debugger.choices().len()),
     }
 }
@@ -212,6 +217,7 @@ fn tell(rt: &impl Print, limit: Limit) -> Result<(), DebugEngineFault> {
             "the schedule has {length} choices, so positions go from 0 to {length}"
         ),
         Limit::LastOf(hart) => println!(rt; "hart {hart} is not chosen from here on"),
+        Limit::NoChoice => println!(rt; "no choice is left: name a hart, as list 0"),
     };
     match told {
         Ok(()) => Ok(()),

@@ -2,7 +2,9 @@
 use Rattle.std.proofs.Common.{◌≡◌, ℕ, zero, suc, ◌+◌, ◌-◌, ◌%◌, ◌^◌, ◌<◌, ◌≤◌, List, [], ◌∷◌, ◌++◌, ◌∙◌, sym, ap, refl, arith}
 use Rattle.std.proofs.lemmas.List.{append_assoc, append-nil}
 use Rattle.mem_store.specs.Memory.{Memory}
+use Rattle.elf_read.specs.Symbol.{SymbolValue}
 use Rattle.debug_text.specs.Texts.{register_entry, registers_from, cell_entry, cells_text}
+use Rattle.debug_text.specs.Code.{code_line, code_from}
 
 -- one register more
 pub registers_more : (x : ℕ → ℕ) (r n : ℕ) → r < n → registers_from x r (n - r) ≡ register_entry x r ++ registers_from x (r + 1) (n - (r + 1))
@@ -23,6 +25,17 @@ cells_more m a r n h = let e : n - r ≡ suc (n - (r + 1)) = omega arith in rw e
 pub cells_end : (m : Memory) (a r n : ℕ) → n ≤ r → cells_text m a (n - r) ≡ []
 unfolding cells_text
 cells_end m a r n h = let e : n - r ≡ 0 = omega arith in rw e refl
+
+-- one line of code more
+pub code_more : (symbols : List SymbolValue) (m : Memory) (pc a r n : ℕ) → r < n
+    → code_from symbols m pc a (n - r) ≡ code_line symbols m pc a ++ code_from symbols m pc ((a + 4) % 2 ^ 32) (n - (r + 1))
+unfolding code_from
+code_more symbols m pc a r n h = let e : n - r ≡ suc (n - (r + 1)) = omega arith in rw e refl
+
+-- no line of code is left
+pub code_end : (symbols : List SymbolValue) (m : Memory) (pc a r n : ℕ) → n ≤ r → code_from symbols m pc a (n - r) ≡ []
+unfolding code_from
+code_end symbols m pc a r n h = let e : n - r ≡ 0 = omega arith in rw e refl
 
 -- a line more in a text, and what is left after it
 pub lines_more : (text new entry rest left all : List ℕ) → new ≡ text ++ entry → rest ≡ entry ++ left → text ++ rest ≡ all → new ++ left ≡ all

@@ -1,5 +1,5 @@
 -- The commands of lines.
-use Rattle.std.specs.Prelude.{ℕ, List, [], ◌∷◌, Result, Ok, Err, codes, if◌then◌else◌}
+use Rattle.std.specs.Prelude.{ℕ, List, [], ◌∷◌, Option, Some, None, Result, Ok, Err, codes, if◌then◌else◌}
 use Rattle.std.specs.Str.{bytes_eq}
 use Rattle.elf_read.specs.Symbol.{SymbolValue}
 use Rattle.debug_text.specs.Words.{next_word, behind_word}
@@ -7,7 +7,7 @@ use Rattle.debug_text.specs.Numbers.{decimal_of}
 use Rattle.debug_text.specs.Addresses.{NumberRead, or_bad, address_meant}
 use Rattle.debug_session.specs.declared.stop.WatchKind.TheVariants.{Change, Read, Access}
 use Rattle.debug_text.specs.declared.commands.Command.{Command}
-use Rattle.debug_text.specs.declared.commands.Command.TheVariants.{Nothing, Help, Where, Goto, Forward, Back, Step, Break, Watch, Delete, Go, Rgo, Steps, Regs, Mem, Quit}
+use Rattle.debug_text.specs.declared.commands.Command.TheVariants.{Nothing, Help, Where, Goto, Forward, Back, Step, Break, Watch, Delete, Go, Rgo, Steps, Listing, Regs, Mem, Quit}
 use Rattle.debug_text.specs.declared.fault.DebugFault.{DebugFault}
 use Rattle.debug_text.specs.declared.fault.DebugFault.TheVariants.{BadCommand}
 
@@ -24,7 +24,8 @@ bare_command name =
     else (if bytes_eq name (codes "go") then Ok Go
     else (if bytes_eq name (codes "rgo") then Ok Rgo
     else (if bytes_eq name (codes "quit") then Ok Quit
-    else (if bytes_eq name (codes "help") then Ok Help else Err BadCommand))))))
+    else (if bytes_eq name (codes "help") then Ok Help
+    else (if bytes_eq name (codes "list") then Ok (Listing None) else Err BadCommand)))))))
 
 -- a command of one number, if it is valid
 abbrev pub with_one : (ℕ → Command) → NumberRead → CommandRead
@@ -43,7 +44,8 @@ single_command symbols name operand =
     else (if bytes_eq name (codes "step") then with_one Step (or_bad (decimal_of operand))
     else (if bytes_eq name (codes "rwatch") then with_one (Watch Read) (address_meant symbols operand)
     else (if bytes_eq name (codes "awatch") then with_one (Watch Access) (address_meant symbols operand)
-    else (if bytes_eq name (codes "delete") then with_one Delete (address_meant symbols operand) else Err BadCommand)))))))))
+    else (if bytes_eq name (codes "delete") then with_one Delete (address_meant symbols operand)
+    else (if bytes_eq name (codes "list") then with_one (λ h. Listing (Some h)) (or_bad (decimal_of operand)) else Err BadCommand))))))))))
 
 -- a command of two numbers, if both are valid; else the first fault
 abbrev pub with_both : (ℕ → ℕ → Command) → NumberRead → NumberRead → CommandRead

@@ -18,6 +18,7 @@ help_text =
     ++ (codes "go           goes to the next breakpoint or watch, or to the end\n"
     ++ (codes "rgo          goes back to the last one, or to the start\n"
     ++ (codes "steps A B    shows the choices from A to B - 1\n"
+    ++ (codes "list [H]     shows the instructions around the next one of hart H, or of the next choice\n"
     ++ (codes "regs H       shows the state and the registers of hart H\n"
     ++ (codes "mem A N      shows N words of memory from the one that holds A on\n"
-    ++ (codes "quit         ends\n"))))))))))))))))
+    ++ (codes "quit         ends\n")))))))))))))))))

@@ -4,5 +4,6 @@ pub mod Addresses
 pub mod Commands
 pub mod Lines
 pub mod Texts
+pub mod Code
 pub mod Help
 pub mod Reply

@@ -50,6 +50,9 @@ pub enum Command {
         /// The choice after the last.
         to: u64,
     },
+    /// `list [H]`: shows a hart's end and the instructions around its `pc`, by default those of the
+    /// next choice's hart.
+    Listing(Option<u64>),
     /// `regs H`: shows a hart's end and its registers.
     Regs(u64),
     /// `mem A N`: shows N words from the aligned word on that contains an address.
@@ -94,6 +97,9 @@ fn bare_command(name: &[u8]) -> Result<Command, DebugFault>
     }
     if is_word(name, "help") {
         return Ok(Command::Help);
+    }
+    if is_word(name, "list") {
+        return Ok(Command::Listing(None));
     }
     Err(DebugFault::BadCommand)
 }
@@ -147,6 +153,9 @@ fn single_command<A: Allocator>(
     }
     if is_word(name, "delete") {
         return Ok(Command::Delete(address_meant(symbols, operand)?));
+    }
+    if is_word(name, "list") {
+        return Ok(Command::Listing(Some(count_in(operand)?)));
     }
     Err(DebugFault::BadCommand)
 }

@@ -20,6 +20,7 @@ delete A     removes the breakpoint and the watches at the address A\n\
 go           goes to the next breakpoint or watch, or to the end\n\
 rgo          goes back to the last one, or to the start\n\
 steps A B    shows the choices from A to B - 1\n\
+list [H]     shows the instructions around the next one of hart H, or of the next choice\n\
 regs H       shows the state and the registers of hart H\n\
 mem A N      shows N words of memory from the one that holds A on\n\
 quit         ends\n";

@@ -13,6 +13,7 @@ pub use steps_text::{mark_text, push_step};
 
 mod address;
 mod answer;
+mod code_text;
 mod commands;
 mod fault;
 mod help;

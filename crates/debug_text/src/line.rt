@@ -71,5 +71,5 @@ pub fn command<A: Allocator + Copy>(
         → reply_to symbols.now (session debugger.old) line.now ≡ Err fault) }
 {
     let command = read_command(symbols, line.as_bytes())?;
-    obey(alloc, debugger, command)
+    obey(alloc, debugger, symbols, command)
 }

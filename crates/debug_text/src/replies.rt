@@ -1,10 +1,10 @@
 //! Does the commands.
 ghost use Rattle.std.specs.Prelude.{◌≡◌, ◌≢◌, ◌≤◌, Ok, Err, IfOk, IfErr, OnErr, codes, string_bytes};
-ghost use Rattle.debug_session.specs.Session.{session, length_of};
-ghost use Rattle.debug_text.specs.Reply.{reply, choices_to, shows_move, reply_outcome};
-ghost use Rattle.debug_text.specs.declared.commands.Command.TheVariants as commands;
+ghost use Rattle.debug_session.specs.Session.{session, length_of, next_found, earlier_found};
+ghost use Rattle.debug_text.specs.Reply.{reply, reply_outcome, choices_to, hart_here, shows_move, shows_goto, shows_forward, shows_back, shows_step, shows_break, shows_watch, shows_delete, shows_found, shows_steps, shows_listing, shows_code, shows_hart, shows_cells};
 
 use crate::answer::Answer;
+use crate::code_text::code_text;
 use crate::commands::Command;
 use crate::fault::DebugFault;
 use crate::help::help_text;
@@ -13,6 +13,7 @@ use crate::registers_text::hart_text;
 use crate::steps_text::steps_text;
 use crate::texts::{break_text, delete_text, found_text, position_text, watch_text};
 use debug_session::{Debugger, MoveFault, WatchKind};
+use elf_read::Symbol;
 use std::alloc::Allocator;
 
 // The greatest number of words that `mem` shows.
@@ -39,17 +40,16 @@ fn go_to<A: Allocator + Copy>(
     }
 }
 
-#[tactic(auto, unfolding(crate::specs::Reply::reply))]
 fn obey_goto<A: Allocator + Copy>(
     alloc: A,
     debugger: &mut Debugger<A>,
     k: u64,
 ) -> Result<Answer<A>, DebugFault>
-    ensures ok { IfOk result (λ answer. reply (session debugger.old) (commands.Goto k)
+    ensures ok { IfOk result (λ answer. shows_goto (session debugger.old) k
         ≡ Ok (reply_outcome answer (session debugger.new))) }
     ensures unchanged { OnErr result (session debugger.new ≡ session debugger.old) }
     ensures fault { IfErr result (λ fault. fault ≢ DebugFault.Memory
-        → reply (session debugger.old) (commands.Goto k) ≡ Err fault) }
+        → shows_goto (session debugger.old) k ≡ Err fault) }
 {
     if k > debugger.choices().len() as u64 {
         return Err(DebugFault::PastEnd);
@@ -57,17 +57,16 @@ fn obey_goto<A: Allocator + Copy>(
     go_to(alloc, debugger, k as usize)
 }
 
-#[tactic(auto, unfolding(crate::specs::Reply::reply))]
 fn obey_forward<A: Allocator + Copy>(
     alloc: A,
     debugger: &mut Debugger<A>,
     n: u64,
 ) -> Result<Answer<A>, DebugFault>
-    ensures ok { IfOk result (λ answer. reply (session debugger.old) (commands.Forward n)
+    ensures ok { IfOk result (λ answer. shows_forward (session debugger.old) n
         ≡ Ok (reply_outcome answer (session debugger.new))) }
     ensures unchanged { OnErr result (session debugger.new ≡ session debugger.old) }
     ensures fault { IfErr result (λ fault. fault ≢ DebugFault.Memory
-        → reply (session debugger.old) (commands.Forward n) ≡ Err fault) }
+        → shows_forward (session debugger.old) n ≡ Err fault) }
 {
     let position = debugger.position();
     if n > (debugger.choices().len() - position) as u64 {
@@ -76,17 +75,16 @@ fn obey_forward<A: Allocator + Copy>(
     go_to(alloc, debugger, position + n as usize)
 }
 
-#[tactic(auto, unfolding(crate::specs::Reply::reply))]
 fn obey_back<A: Allocator + Copy>(
     alloc: A,
     debugger: &mut Debugger<A>,
     n: u64,
 ) -> Result<Answer<A>, DebugFault>
-    ensures ok { IfOk result (λ answer. reply (session debugger.old) (commands.Back n)
+    ensures ok { IfOk result (λ answer. shows_back (session debugger.old) n
         ≡ Ok (reply_outcome answer (session debugger.new))) }
     ensures unchanged { OnErr result (session debugger.new ≡ session debugger.old) }
     ensures fault { IfErr result (λ fault. fault ≢ DebugFault.Memory
-        → reply (session debugger.old) (commands.Back n) ≡ Err fault) }
+        → shows_back (session debugger.old) n ≡ Err fault) }
 {
     let position = debugger.position();
     if n > position as u64 {
@@ -112,17 +110,16 @@ fn choices_to<A: Allocator + Copy>(debugger: &Debugger<A>, hart: u64) -> u64
 }
 
 // `step H`.
-#[tactic(auto, unfolding(crate::specs::Reply::reply))]
 fn obey_step<A: Allocator + Copy>(
     alloc: A,
     debugger: &mut Debugger<A>,
     hart: u64,
 ) -> Result<Answer<A>, DebugFault>
-    ensures ok { IfOk result (λ answer. reply (session debugger.old) (commands.Step hart)
+    ensures ok { IfOk result (λ answer. shows_step (session debugger.old) hart
         ≡ Ok (reply_outcome answer (session debugger.new))) }
     ensures unchanged { OnErr result (session debugger.new ≡ session debugger.old) }
     ensures fault { IfErr result (λ fault. fault ≢ DebugFault.Memory
-        → reply (session debugger.old) (commands.Step hart) ≡ Err fault) }
+        → shows_step (session debugger.old) hart ≡ Err fault) }
 {
     if hart >= debugger.machine().harts() as u64 {
         return Err(DebugFault::BadCommand);
@@ -131,13 +128,12 @@ fn obey_step<A: Allocator + Copy>(
     obey_forward(alloc, debugger, count)
 }
 
-#[tactic(auto, unfolding(crate::specs::Reply::reply))]
 fn obey_break<A: Allocator + Copy>(
     alloc: A,
     debugger: &mut Debugger<A>,
     address: u32,
 ) -> Result<Answer<A>, DebugFault>
-    ensures ok { IfOk result (λ answer. reply (session debugger.old) (commands.Break address)
+    ensures ok { IfOk result (λ answer. shows_break (session debugger.old) address
         ≡ Ok (reply_outcome answer (session debugger.new))) }
     ensures unchanged { OnErr result (session debugger.new ≡ session debugger.old) }
     ensures fault { IfErr result (λ fault. fault ≡ DebugFault.Memory) }
@@ -151,14 +147,13 @@ fn obey_break<A: Allocator + Copy>(
     }
 }
 
-#[tactic(auto, unfolding(crate::specs::Reply::reply))]
 fn obey_watch<A: Allocator + Copy>(
     alloc: A,
     debugger: &mut Debugger<A>,
     kind: WatchKind,
     address: u32,
 ) -> Result<Answer<A>, DebugFault>
-    ensures ok { IfOk result (λ answer. reply (session debugger.old) (commands.Watch kind address)
+    ensures ok { IfOk result (λ answer. shows_watch (session debugger.old) kind address
         ≡ Ok (reply_outcome answer (session debugger.new))) }
     ensures unchanged { OnErr result (session debugger.new ≡ session debugger.old) }
     ensures fault { IfErr result (λ fault. fault ≡ DebugFault.Memory) }
@@ -172,13 +167,12 @@ fn obey_watch<A: Allocator + Copy>(
     }
 }
 
-#[tactic(auto, unfolding(crate::specs::Reply::reply))]
 fn obey_delete<A: Allocator + Copy>(
     alloc: A,
     debugger: &mut Debugger<A>,
     address: u32,
 ) -> Result<Answer<A>, DebugFault>
-    ensures ok { IfOk result (λ answer. reply (session debugger.old) (commands.Delete address)
+    ensures ok { IfOk result (λ answer. shows_delete (session debugger.old) address
         ≡ Ok (reply_outcome answer (session debugger.new))) }
     ensures unchanged { OnErr result (session debugger.new ≡ session debugger.old) }
     ensures fault { IfErr result (λ fault. fault ≡ DebugFault.Memory) }
@@ -191,12 +185,12 @@ fn obey_delete<A: Allocator + Copy>(
 }
 
 // `go`. The text is made between the search and the move, which cannot fail.
-#[tactic(auto, unfolding(crate::specs::Reply::reply))]
 fn obey_go<A: Allocator + Copy>(
     alloc: A,
     debugger: &mut Debugger<A>,
 ) -> Result<Answer<A>, DebugFault>
-    ensures ok { IfOk result (λ answer. reply (session debugger.old) commands.Go
+    ensures ok { IfOk result (λ answer.
+        shows_found (session debugger.old) (codes "end") (next_found (session debugger.old))
         ≡ Ok (reply_outcome answer (session debugger.new))) }
     ensures unchanged { OnErr result (session debugger.new ≡ session debugger.old) }
     ensures fault { IfErr result (λ fault. fault ≡ DebugFault.Memory) }
@@ -213,12 +207,12 @@ fn obey_go<A: Allocator + Copy>(
 }
 
 // `rgo`, like `go`.
-#[tactic(auto, unfolding(crate::specs::Reply::reply))]
 fn obey_rgo<A: Allocator + Copy>(
     alloc: A,
     debugger: &mut Debugger<A>,
 ) -> Result<Answer<A>, DebugFault>
-    ensures ok { IfOk result (λ answer. reply (session debugger.old) commands.Rgo
+    ensures ok { IfOk result (λ answer. shows_found (session debugger.old) (codes "start")
+        (earlier_found (session debugger.old))
         ≡ Ok (reply_outcome answer (session debugger.new))) }
     ensures unchanged { OnErr result (session debugger.new ≡ session debugger.old) }
     ensures fault { IfErr result (λ fault. fault ≡ DebugFault.Memory) }
@@ -235,17 +229,16 @@ fn obey_rgo<A: Allocator + Copy>(
 }
 
 // `steps A B`.
-#[tactic(auto, unfolding(crate::specs::Reply::reply))]
 fn obey_steps<A: Allocator + Copy>(
     alloc: A,
     debugger: &Debugger<A>,
     from: u64,
     to: u64,
 ) -> Result<Answer<A>, DebugFault>
-    ensures ok { IfOk result (λ answer. reply (session debugger.now) (commands.Steps from to)
+    ensures ok { IfOk result (λ answer. shows_steps (session debugger.now) from to
         ≡ Ok (reply_outcome answer (session debugger.now))) }
     ensures fault { IfErr result (λ fault. fault ≢ DebugFault.Memory
-        → reply (session debugger.now) (commands.Steps from to) ≡ Err fault) }
+        → shows_steps (session debugger.now) from to ≡ Err fault) }
 {
     let length = debugger.choices().len() as u64;
     if from > length || to > length {
@@ -260,17 +253,62 @@ fn obey_steps<A: Allocator + Copy>(
     }
 }
 
+// `list`, or `list H`.
+fn obey_listing<A: Allocator + Copy>(
+    alloc: A,
+    debugger: &Debugger<A>,
+    symbols: &[Symbol<A>],
+    hart: Option<u64>,
+) -> Result<Answer<A>, DebugFault>
+    ensures ok { IfOk result (λ answer. shows_listing symbols.now (session debugger.now) hart
+        ≡ Ok (reply_outcome answer (session debugger.now))) }
+    ensures fault { IfErr result (λ fault. fault ≢ DebugFault.Memory
+        → shows_listing symbols.now (session debugger.now) hart ≡ Err fault) }
+{
+    if let Some(number) = hart {
+        return list_hart(alloc, debugger, symbols, number);
+    }
+    match debugger.choices().get(debugger.position()) {
+        Some(choice) => list_hart(alloc, debugger, symbols, u64::from(choice.hart)),
+        None => Err(DebugFault::PastEnd),
+    }
+}
+
+// The instructions around the `pc` of a hart.
+fn list_hart<A: Allocator + Copy>(
+    alloc: A,
+    debugger: &Debugger<A>,
+    symbols: &[Symbol<A>],
+    number: u64,
+) -> Result<Answer<A>, DebugFault>
+    ensures ok { IfOk result (λ answer.
+        shows_code symbols.now (session debugger.now) number (hart_here (session debugger.now) number)
+        ≡ Ok (reply_outcome answer (session debugger.now))) }
+    ensures fault { IfErr result (λ fault. fault ≢ DebugFault.Memory
+        → shows_code symbols.now (session debugger.now) number
+        (hart_here (session debugger.now) number) ≡ Err fault) }
+{
+    let machine = debugger.machine();
+    if number >= machine.harts() as u64 {
+        return Err(DebugFault::BadCommand);
+    }
+    let hart = machine.hart(number as usize);
+    match code_text(alloc, symbols, machine.store(), number as usize, hart) {
+        Ok(text) => Ok(Answer::Text(text)),
+        Err(_) => Err(DebugFault::Memory),
+    }
+}
+
 // `regs H`.
-#[tactic(auto, unfolding(crate::specs::Reply::reply))]
 fn obey_regs<A: Allocator + Copy>(
     alloc: A,
     debugger: &Debugger<A>,
     number: u64,
 ) -> Result<Answer<A>, DebugFault>
-    ensures ok { IfOk result (λ answer. reply (session debugger.now) (commands.Regs number)
+    ensures ok { IfOk result (λ answer. shows_hart (session debugger.now) number (hart_here (session debugger.now) number)
         ≡ Ok (reply_outcome answer (session debugger.now))) }
     ensures fault { IfErr result (λ fault. fault ≢ DebugFault.Memory
-        → reply (session debugger.now) (commands.Regs number) ≡ Err fault) }
+        → shows_hart (session debugger.now) number (hart_here (session debugger.now) number) ≡ Err fault) }
 {
     let machine = debugger.machine();
     if number >= machine.harts() as u64 {
@@ -283,17 +321,16 @@ fn obey_regs<A: Allocator + Copy>(
 }
 
 // `mem A N`.
-#[tactic(auto, unfolding(crate::specs::Reply::reply))]
 fn obey_mem<A: Allocator + Copy>(
     alloc: A,
     debugger: &Debugger<A>,
     address: u32,
     count: u64,
 ) -> Result<Answer<A>, DebugFault>
-    ensures ok { IfOk result (λ answer. reply (session debugger.now) (commands.Mem address count)
+    ensures ok { IfOk result (λ answer. shows_cells (session debugger.now) address count
         ≡ Ok (reply_outcome answer (session debugger.now))) }
     ensures fault { IfErr result (λ fault. fault ≢ DebugFault.Memory
-        → reply (session debugger.now) (commands.Mem address count) ≡ Err fault) }
+        → shows_cells (session debugger.now) address count ≡ Err fault) }
 {
     if count == 0 || count > MOST_WORDS {
         return Err(DebugFault::BadCommand);
@@ -305,18 +342,20 @@ fn obey_mem<A: Allocator + Copy>(
     }
 }
 
-/// Does a command, and returns its text. After a fault nothing has changed.
+/// Does a command, and returns its text, with the labels of these symbols. After a fault nothing
+/// has changed.
 #[tactic(auto, unfolding(crate::specs::Reply::reply))]
 pub fn obey<A: Allocator + Copy>(
     alloc: A,
     debugger: &mut Debugger<A>,
+    symbols: &[Symbol<A>],
     command: Command,
 ) -> Result<Answer<A>, DebugFault>
-    ensures ok { IfOk result (λ answer. reply (session debugger.old) command
+    ensures ok { IfOk result (λ answer. reply symbols.now (session debugger.old) command
         ≡ Ok (reply_outcome answer (session debugger.new))) }
     ensures unchanged { OnErr result (session debugger.new ≡ session debugger.old) }
     ensures fault { IfErr result (λ fault. fault ≢ DebugFault.Memory
-        → reply (session debugger.old) command ≡ Err fault) }
+        → reply symbols.now (session debugger.old) command ≡ Err fault) }
 {
     match command {
         Command::Nothing => Ok(Answer::Text(String::new(alloc))),
@@ -341,6 +380,7 @@ pub fn obey<A: Allocator + Copy>(
         Command::Go => obey_go(alloc, debugger),
         Command::Rgo => obey_rgo(alloc, debugger),
         Command::Steps { from, to } => obey_steps(alloc, debugger, from, to),
+        Command::Listing(hart) => obey_listing(alloc, debugger, symbols, hart),
         Command::Regs(number) => obey_regs(alloc, debugger, number),
         Command::Mem { address, count } => obey_mem(alloc, debugger, address, count),
         Command::Quit => Ok(Answer::Quit),

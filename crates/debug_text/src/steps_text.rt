@@ -10,9 +10,9 @@ use std::fmt;
 
 // What a hart meets at an address.
 #[derive(Clone, Copy)]
-struct EventText {
-    event: Event,
-    pc: u32,
+pub(crate) struct EventText {
+    pub(crate) event: Event,
+    pub(crate) pc: u32,
 }
 
 impl fmt::Display for EventText {

@@ -10,7 +10,7 @@ use isa_names::Word;
 use std::alloc::{AllocError, Allocator};
 
 // The operands of each command.
-const TAKES: [(&[&str], &str); 10] = [
+const TAKES: [(&[&str], &str); 11] = [
     (&["help", "where", "go", "rgo", "quit"], "stands alone"),
     (&["goto"], "takes a decimal number of choices, as goto 7"),
     (
@@ -28,6 +28,10 @@ const TAKES: [(&[&str], &str); 10] = [
         &["steps"],
         "takes two decimal numbers of choices, as steps 0 7",
     ),
+    (
+        &["list"],
+        "takes nothing, or the number of a hart, as list 1",
+    ),
     (&["regs"], "takes the number of a hart, as regs 0"),
     (
         &["mem"],
@@ -40,7 +44,7 @@ const COMMAND_TAKES: Form = &[First, Words(" "), Second, Words("\n")];
 
 // Another word than a command.
 const THE_COMMANDS: Form = &[Words(
-    "the commands are help, where, goto, forward, back, step, break, watch, rwatch, awatch, delete, go, rgo, steps, regs, mem and quit, in small letters\n",
+    "the commands are help, where, goto, forward, back, step, break, watch, rwatch, awatch, delete, go, rgo, steps, list, regs, mem and quit, in small letters\n",
 )];
 
 // A name that no symbol has, with and without the nearest one.

@@ -234,6 +234,52 @@ static STEPS: [Session; 3] = [
         ] },
 ];
 
+#[rattlefmt::skip]
+static LISTS: [Session; 3] = [
+    Session { name: "the_next_hart_is_listed", program: SWAP, inputs: &[7, 9], choices: ONE_THEN_ZERO,
+        lines: &[
+            ("goto 4", "step 4 of 26\n"),
+            ("list", "hart 1 running pc 00010010\n   00010000 lui s0, 0x11\n   00010004 slli t0, a0, 2\n   00010008 add t0, t0, s0\n   \
+0001000c sw a1, 4(t0)\n=> 00010010 addi t1, zero, 1\n   00010014 amoswap.w t2, t1, (s0)\n   00010018 beq t2, zero, 0x0001002c\n   \
+0001001c xori t0, a0, 1\n   00010020 slli t0, t0, 2\n   00010024 add t0, t0, s0\n"),
+            ("list 1", "hart 1 running pc 00010010\n   00010000 lui s0, 0x11\n   00010004 slli t0, a0, 2\n   00010008 add t0, t0, s0\n   \
+0001000c sw a1, 4(t0)\n=> 00010010 addi t1, zero, 1\n   00010014 amoswap.w t2, t1, (s0)\n   00010018 beq t2, zero, 0x0001002c\n   \
+0001001c xori t0, a0, 1\n   00010020 slli t0, t0, 2\n   00010024 add t0, t0, s0\n"),
+            ("list 0", "hart 0 running pc 00010000\n=> 00010000 lui s0, 0x11\n   00010004 slli t0, a0, 2\n   00010008 add t0, t0, s0\n   \
+0001000c sw a1, 4(t0)\n   00010010 addi t1, zero, 1\n   00010014 amoswap.w t2, t1, (s0)\n"),
+            ("where", "step 4 of 26\n"),
+            ("goto 26", "step 26 of 26\n"),
+            ("list 1", "hart 1 exited a0 00000009 a1 00000001\n   00010024 add t0, t0, s0\n   00010028 lw a1, 4(t0)\n   \
+0001002c addi a0, a1, 0\n   00010030 addi a1, zero, 1\n   00010034 addi a7, zero, 93\n=> 00010038 ecall\n   \
+0001003c .word 0x00000000\n   00010040 .word 0x00000000\n   00010044 .word 0x00000000\n   00010048 .word 0x00000000\n   0001004c .word 0x00000000\n"),
+            ("list", "past end\n"),
+        ] },
+    Session { name: "lists_of_lines", program: COUNT, inputs: &[7, 9], choices: "0 0 0 1",
+        lines: &[
+            ("list", "hart 0 running pc 00010000\n=> 00010000 addi t0, t0, 1\n   00010004 jal zero, 0x00010000\n   \
+00010008 .word 0x00000000\n   0001000c .word 0x00000000\n   00010010 .word 0x00000000\n   00010014 .word 0x00000000\n"),
+            ("goto 3", "step 3 of 4\n"),
+            ("list", "hart 1 running pc 00010000\n=> 00010000 addi t0, t0, 1\n   00010004 jal zero, 0x00010000\n   \
+00010008 .word 0x00000000\n   0001000c .word 0x00000000\n   00010010 .word 0x00000000\n   00010014 .word 0x00000000\n"),
+            ("list 00", "hart 0 running pc 00010004\n   00010000 addi t0, t0, 1\n=> 00010004 jal zero, 0x00010000\n   \
+00010008 .word 0x00000000\n   0001000c .word 0x00000000\n   00010010 .word 0x00000000\n   00010014 .word 0x00000000\n   00010018 .word 0x00000000\n"),
+            ("list 2", "bad command\n"),
+            ("list 99999999999999999999", "bad command\n"),
+            ("list h0", "bad command\n"),
+            ("list 0 1", "bad command\n"),
+            ("List", "bad command\n"),
+        ] },
+    Session { name: "a_place_without_code_is_told", program: "FFDFF06F", inputs: &[7], choices: "0 0 0",
+        lines: &[
+            ("goto 1", "step 1 of 3\n"),
+            ("list", "hart 0 running pc 0000fffc\n=> 0000fffc no fetch\n   00010000 jal zero, 0x0000fffc\n   \
+00010004 .word 0x00000000\n   00010008 .word 0x00000000\n   0001000c .word 0x00000000\n   00010010 .word 0x00000000\n"),
+            ("goto 2", "step 2 of 3\n"),
+            ("list", "hart 0 faulted FetchAccess pc 0000fffc\n=> 0000fffc no fetch\n   00010000 jal zero, 0x0000fffc\n   \
+00010004 .word 0x00000000\n   00010008 .word 0x00000000\n   0001000c .word 0x00000000\n   00010010 .word 0x00000000\n"),
+        ] },
+];
+
 // A word that is loaded and reserved, a store-conditional to it, and back to the load.
 const RESERVE: &str = "00011437 100422AF 1804232F FF9FF06F";
 
@@ -364,6 +410,13 @@ fn sessions_are_answered_line_by_line(rt: HostRuntime) {
 #[test]
 fn steps_of_a_hart_are_answered_line_by_line(rt: HostRuntime) {
     if let Some((name, line)) = first_wrong(rt.alloc(), &STEPS) {
+        assert!(rt; false, "{name}: {line}");
+    }
+}
+
+#[test]
+fn instructions_around_a_hart_are_listed(rt: HostRuntime) {
+    if let Some((name, line)) = first_wrong(rt.alloc(), &LISTS) {
         assert!(rt; false, "{name}: {line}");
     }
 }

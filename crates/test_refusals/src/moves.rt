@@ -44,13 +44,25 @@ delete A     removes the breakpoint and the watches at the address A\n\
 go           goes to the next breakpoint or watch, or to the end\n\
 rgo          goes back to the last one, or to the start\n\
 steps A B    shows the choices from A to B - 1\n\
+list [H]     shows the instructions around the next one of hart H, or of the next choice\n\
 regs H       shows the state and the registers of hart H\n\
 mem A N      shows N words of memory from the one that holds A on\n\
 quit         ends\n";
 
+// The answer of `list` behind three choices, of which the second hart has taken one.
+const LISTED: &str = "\
+hart 1 running pc 00010004\n   \
+00010000 lui t0, 0x11\n\
+=> 00010004 sb a1, 6(t0)\n   \
+00010008 jal zero, 0x00010008\n   \
+0001000c .word 0x00000000\n   \
+00010010 .word 0x00000000\n   \
+00010014 .word 0x00000000\n   \
+00010018 .word 0x00000000\n";
+
 // All of them, with a command of each kind and its answer.
 #[rattlefmt::skip]
-const CALLS: [(&str, MoveCall); 28] = [
+const CALLS: [(&str, MoveCall); 29] = [
     ("at", MoveCall::At),
     ("goto", MoveCall::Goto),
     ("forward", MoveCall::Forward),
@@ -78,6 +90,7 @@ const CALLS: [(&str, MoveCall); 28] = [
     ("go", MoveCall::Command("go", "watch 00011004\nstep 4 of 6\n")),
     ("rgo", MoveCall::Command("rgo", "watch 00011004\nstep 2 of 6\n")),
     ("steps 1 2", MoveCall::Command("steps 1 2", "1 h0 00010004 sb a1, 6(t0)\n")),
+    ("list", MoveCall::Command("list", LISTED)),
     ("mem", MoveCall::Command("mem 0x11004 1", "00011004 00070000\n")),
 ];
 
