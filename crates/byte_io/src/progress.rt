@@ -8,6 +8,10 @@ pub trait Progress {
 
     /// `_done` of `_all` choices of a run are done. In the last call all are.
     fn choices_done(&mut self, _done: u64, _all: u64) {}
+
+    /// `_done` worlds are looked at, of the `_found` that are known so far; `_depth` turns lead to
+    /// the last of them, and no fewer.
+    fn worlds_done(&mut self, _done: u64, _found: u64, _depth: u64) {}
 }
 
 /// Ignores all reports.
