@@ -1,5 +1,5 @@
 -- The runs of seeds, one by one and as a list.
-use Rattle.std.proofs.Common.{◌≡◌, ℕ, zero, suc, ◌+◌, List, [], ◌∷◌, ◌++◌, map, length, Ok, Err, IfOk, refl, arith, ap, ap₂, sym, ◌∙◌, subst}
+use Rattle.std.proofs.Common.{◌≡◌, ℕ, zero, suc, ◌+◌, Bool, List, [], ◌∷◌, ◌++◌, map, length, Ok, Err, IfOk, refl, arith, ap, ap₂, sym, ◌∙◌, subst}
 use Rattle.std.proofs.lemmas.List.{map-append}
 use Rattle.std.proofs.lemmas.List.FromFn.{map-range_with_len_more}
 use Rattle.std.specs.Prelude.{MatchResult}
@@ -14,7 +14,6 @@ use Rattle.machine.specs.Start.{started}
 use Rattle.machine.specs.Chosen.{is_chosen}
 use Rattle.machine.specs.declared.choice.Choice.{Choice}
 use Rattle.machine.proofs.RunLaws.{length-started}
-use Rattle.sched_run.specs.Harts.{Harts}
 use Rattle.sched_draw.specs.Schedules.{drawn_choices, RanOver}
 use Rattle.outcome.specs.Expect.{judged}
 use Rattle.outcome.specs.declared.run_outcome.Outcome.{Outcome}
@@ -28,7 +27,7 @@ pub harts-started : (w : World) (image : ImageValue) (inputs : List ℕ) → w �
 harts-started w image inputs begun = ap (λ (v : World). length v.harts) begun ∙ length-started image inputs
 
 -- the ending of a copy's run
-pub ending-copied : (campaign : Campaign) (inputs : List ℕ) (seed : ℕ) (start v w : World) (chosen : Harts) (outcome : Outcome)
+pub ending-copied : (campaign : Campaign) (inputs : List ℕ) (seed : ℕ) (start v w : World) (chosen : ℕ → Bool) (outcome : Outcome)
     (harts left : List HartValue) (ending : EndingValue)
     → v ≡ start → RanOver (drawn_choices campaign.draw v (length inputs) campaign.steps seed) v w chosen → harts ≡ w.harts → left ≡ w.harts
     → ((choices : List Choice) → ((k : ℕ) → chosen k ≡ is_chosen choices k) → outcome ≡ judged campaign.expect.rule inputs choices harts)

@@ -2,9 +2,9 @@
 
 use crate::arguments::Argument;
 use crate::help::{
-    BANKED, BUDGET, DRAW, DRAW_OF_SCHEDULE, FILE, HANGS, HEX, HISTORY, INPUTS, INPUTS_OF_SCHEDULE,
-    JOBS, MUST_EXIT, OUTCOMES, REFUSALS, REFUSE, RULE, SC_REFUSALS, SUMMARY, UNTIL_FAILURE,
-    WAYS_OUT, WORLDS, WRITTEN,
+    BANKED, BOUNDS, BUDGET, DRAW, DRAW_OF_SCHEDULE, FILE, HANGS, HEX, HISTORY, INPUTS,
+    INPUTS_OF_SCHEDULE, JOBS, MUST_EXIT, OUTCOMES, REFUSALS, REFUSE, RULE, SC_REFUSALS, SUMMARY,
+    UNTIL_FAILURE, WAYS_OUT, WORLDS, WRITTEN,
 };
 
 /// Which options name the choices of a command's run.
@@ -161,6 +161,7 @@ pub(crate) const COMMANDS: [CommandRow; 14] = [
             Argument::Optional("refusals", SC_REFUSALS),
             Argument::Optional("worlds", WORLDS),
             Argument::Flag("must-exit", WAYS_OUT),
+            Argument::Flag("bounds", BOUNDS),
         ],
         schedule: Schedule::None,
     },

@@ -66,6 +66,10 @@ pub(crate) const MUST_EXIT: &str = "a hart that still runs at the end is a failu
 pub(crate) const WAYS_OUT: &str =
     "a list after which no list lets all harts stop is a failure, with status 3";
 
+/// Of `--bounds` of `explore`.
+pub(crate) const BOUNDS: &str =
+    "also print after how many own steps each hart has stopped, in every schedule";
+
 /// Of `--must-exit` of a shrinking.
 pub(crate) const HANGS: &str =
     "a run that hangs is a failure: given as many steps more, a hart still runs";

@@ -1,19 +1,71 @@
 //! Runs `explore`.
 
 use crate::exiting::exit_of;
-use byte_io::{Status, WriterSink};
+use byte_io::{Progress, Status, WriterSink};
 use cli_orders::ExploreOrder;
 use cli_report::{
-    Audience, EndsTold, Explained, RunFiles, bad_line, explain_ends, inputs_said, open_one,
-    read_again, rule_said, say_why,
+    Audience, EndsTold, Explained, RunFiles, WIPE, bad_line, explain_ends, inputs_said, open_one,
+    read_again, rule_said, say_why, wipe_line,
 };
 use cli_values::{WORLDS, read_worlds};
-use cmd_explore::{Explored, Finding, Question, explore_engine, read_refusals};
+use cmd_campaign::Expect;
+use cmd_explore::{Explored, Finding, OwnBounds, Question, explore_engine, read_refusals};
 use object_library::Kind;
 use program_open::{CommandFault, ProgramForm, write_text};
 use std::alloc::Global;
 use std::io;
-use std::rt::Files;
+use std::rt::{Clock, Files};
+use std::time::Instant;
+
+// Whether bounds are asked for, with or without `--bounds`.
+fn bounds_of(bounds: bool) -> OwnBounds {
+    if bounds {
+        OwnBounds::Asked
+    } else {
+        OwnBounds::NotAsked
+    }
+}
+
+// How many worlds are looked at before a person is told again.
+const WORLDS_AT_ONCE: u64 = 1 << 16;
+
+// Shows a person how far an exploration is.
+#[derive(Drop)]
+struct Line<'a, R> {
+    rt: &'a R,
+    audience: Audience,
+    // When the exploration began, if the clock tells.
+    began: Option<Instant>,
+    // Whether anything was shown.
+    is_shown: bool,
+}
+
+impl<'a, R: Clock> Line<'a, R> {
+    // The seconds since the exploration began, at least one.
+    fn seconds(&self) -> u64 {
+        let elapsed = match self.began {
+            Some(began) => began.elapsed(self.rt).ok(),
+            None => None,
+        };
+        match elapsed {
+            Some(elapsed) => elapsed.as_secs().max(1),
+            None => 1,
+        }
+    }
+}
+
+impl<'a, R: Eprint + Clock> Progress for Line<'a, R> {
+    fn worlds_done(&mut self, done: u64, found: u64, depth: u64) {
+        if done % WORLDS_AT_ONCE == 0 && self.audience.sees_progress() {
+            self.is_shown = true;
+            let rate = done / self.seconds();
+            // If standard error is closed, nobody sees it.
+            let _ = eprint!(self.rt;
+                "{WIPE}{done} worlds done, of {found} found so far; {depth} turns deep; {rate} a second"
+            );
+        }
+    }
+}
 
 // What an order asks, or the status of an invalid line.
 fn read_question<R: Print + Eprint>(rt: &R, order: &ExploreOrder) -> Result<Question, Status> {
@@ -24,9 +76,10 @@ fn read_question<R: Print + Eprint>(rt: &R, order: &ExploreOrder) -> Result<Ques
     let Some(worlds) = read_worlds(order.worlds) else {
         return Err(bad_line(rt, WORLDS));
     };
+    let exit = exit_of(order.must_exit);
     Ok(Question {
-        rule,
-        exit: exit_of(order.must_exit),
+        expect: Expect { rule, exit },
+        bounds: bounds_of(order.bounds),
         refusals,
         most: worlds as usize,
     })
@@ -34,7 +87,7 @@ fn read_question<R: Print + Eprint>(rt: &R, order: &ExploreOrder) -> Result<Ques
 
 /// Decides whether some schedule of a program fails, and prints a list of choices that does. A
 /// person sees more of that list.
-pub fn obey_explore<R: Files + AllocGlobal + Print + Eprint>(
+pub fn obey_explore<R: Files + AllocGlobal + Print + Eprint + Clock>(
     rt: &R,
     audience: Audience,
     order: &ExploreOrder,
@@ -42,13 +95,29 @@ pub fn obey_explore<R: Files + AllocGlobal + Print + Eprint>(
     let question = read_question(rt, order)?;
     let inputs = inputs_said(rt, order.inputs)?;
     let mut program = open_one(rt, audience, order.file)?;
-    match explore_engine(rt.alloc(), inputs.as_slice(), question, &mut program) {
+    let mut line = Line {
+        rt,
+        audience,
+        began: Instant::now(rt).ok(),
+        is_shown: false,
+    };
+    let answer = explore_engine(
+        rt.alloc(),
+        inputs.as_slice(),
+        question,
+        &mut program,
+        &mut line,
+    );
+    if line.is_shown {
+        wipe_line(rt, audience);
+    }
+    match answer {
         Ok(found) => tell(
             rt,
             audience,
             order,
             inputs.as_slice(),
-            question.rule,
+            question.expect.rule,
             &found,
         ),
         Err(fault) => Err(tell_fault(rt, audience, order, inputs.len(), fault)),

@@ -3,8 +3,8 @@
 use clap::ArgMatches;
 use cli_args::{is_set, text_of};
 
-/// `explore FILE --inputs L [--rule K] [--refusals never] [--worlds N] [--must-exit]`: decides
-/// whether some schedule fails.
+/// `explore FILE --inputs L [--rule K] [--refusals never] [--worlds N] [--must-exit] [--bounds]`:
+/// decides whether some schedule fails.
 #[derive(Drop)]
 pub struct ExploreOrder<'a> {
     /// The program's path.
@@ -19,6 +19,8 @@ pub struct ExploreOrder<'a> {
     pub worlds: Option<&'a str>,
     /// Whether each world must have a way out.
     pub must_exit: bool,
+    /// Whether the bounds on harts' own steps are printed.
+    pub bounds: bool,
 }
 
 /// The order in clap's matches.
@@ -30,5 +32,6 @@ pub(crate) fn explore_order<'a>(matches: &ArgMatches<'a>) -> Option<ExploreOrder
         refusals: text_of(matches, "refusals"),
         worlds: text_of(matches, "worlds"),
         must_exit: is_set(matches, "must-exit"),
+        bounds: is_set(matches, "bounds"),
     })
 }

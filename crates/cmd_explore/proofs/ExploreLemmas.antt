@@ -15,9 +15,9 @@ use Rattle.explore_space.specs.declared.exploring.Answer.TheVariants.{Fails, Han
 use Rattle.explore_space.specs.declared.exploring.Failing.{Failing}
 use Rattle.explore_space.specs.declared.meant.ScRefusals.{ScRefusals}
 use Rattle.explore_space.specs.declared.meant.ScRefusals.TheVariants.{Also, Never}
-use Rattle.cmd_explore.specs.declared.question.Question.{Question}
-use Rattle.cmd_explore.specs.declared.question.Explored.{Explored}
-use Rattle.cmd_explore.specs.declared.question.Finding.TheVariants as finding
+use Rattle.explore_space.specs.declared.question.Question.{Question}
+use Rattle.cmd_explore.specs.declared.finding.Explored.{Explored}
+use Rattle.cmd_explore.specs.declared.finding.Finding.TheVariants as finding
 use Rattle.cmd_explore.specs.Explore.{failing_status, IsExplored}
 
 -- ---- the harts of meant choices
@@ -66,9 +66,9 @@ hanging_meant Must refusals image inputs hanging hangs = hangs.meant_ones
 
 module _ {Z : Type 0} (question : Question) (image : ImageValue) (inputs : List ℕ) (found : Explored Z) where
   pub tells_failing : length inputs < 2 ^ 32 → (failing : Failing Z)
-      → HoldsOfEvery {Z = Z} question.rule question.refusals image inputs (Fails failing)
-      → TellsExits {Z = Z} question.exit question.refusals image inputs (Fails failing)
-      → string_bytes found.text ≡ runs_text failing.choices.items → found.status ≡ failing_status question.rule
+      → HoldsOfEvery {Z = Z} question.expect.rule question.refusals image inputs (Fails failing)
+      → TellsExits {Z = Z} question.expect.exit question.refusals image inputs (Fails failing)
+      → string_bytes found.text ≡ runs_text failing.choices.items → found.status ≡ failing_status question.expect.rule
       → found.finding ≡ finding.Fails failing.turns → IsExplored question image inputs found
   tells_failing few failing fails exits text status finding_is = record {
     answer = Fails failing;
@@ -76,6 +76,7 @@ module _ {Z : Type 0} (question : Question) (image : ImageValue) (inputs : List 
     counts = tt;
     ends = tt;
     exits = exits;
+    bounds = tt;
     told = (
       text,
       read_again question.refusals (length inputs) failing.choices.items (string_bytes found.text) few fails.meant_ones text,
@@ -85,8 +86,8 @@ module _ {Z : Type 0} (question : Question) (image : ImageValue) (inputs : List 
   }
 
   pub tells_hanging : length inputs < 2 ^ 32 → (hanging : Failing Z)
-      → HoldsOfEvery {Z = Z} question.rule question.refusals image inputs (Hangs hanging)
-      → TellsExits {Z = Z} question.exit question.refusals image inputs (Hangs hanging)
+      → HoldsOfEvery {Z = Z} question.expect.rule question.refusals image inputs (Hangs hanging)
+      → TellsExits {Z = Z} question.expect.exit question.refusals image inputs (Hangs hanging)
       → string_bytes found.text ≡ runs_text hanging.choices.items → found.status ≡ status.Faulted
       → found.finding ≡ finding.Hangs hanging.turns → IsExplored question image inputs found
   tells_hanging few hanging holds exits text status finding_is = record {
@@ -95,10 +96,11 @@ module _ {Z : Type 0} (question : Question) (image : ImageValue) (inputs : List 
     counts = tt;
     ends = tt;
     exits = exits;
+    bounds = tt;
     told = (
       text,
       read_again question.refusals (length inputs) hanging.choices.items (string_bytes found.text) few
-          (hanging_meant question.exit question.refusals image inputs hanging exits) text,
+          (hanging_meant question.expect.exit question.refusals image inputs hanging exits) text,
       status,
       finding_is,
     );

@@ -13,14 +13,17 @@ use Rattle.program_open.specs.declared.command_fault.CommandFault.{CommandFault}
 use Rattle.program_open.specs.declared.command_fault.CommandFault.TheVariants as fault
 use Rattle.outcome.specs.declared.expect.Exit.{Exit}
 use Rattle.outcome.specs.declared.expect.Exit.TheVariants.{May, Must}
+use Rattle.explore_bounds.specs.declared.bound.Bound.{Bound}
+use Rattle.explore_space.specs.Bounds.{TellsBounds}
 use Rattle.explore_space.specs.Ends.{EndValue, ends_in}
 use Rattle.explore_space.specs.Every.{CountsPlaces, HoldsOfEvery, TellsEnds, TellsExits}
 use Rattle.explore_space.specs.declared.exploring.Answer.{Answer}
 use Rattle.explore_space.specs.declared.exploring.Answer.TheVariants.{Holds, Fails, Hangs, Undecided}
+use Rattle.cmd_explore.specs.BoundLines.{bound_lines}
 use Rattle.cmd_explore.specs.EndLines.{IsEndsText}
-use Rattle.cmd_explore.specs.declared.question.Question.{Question}
-use Rattle.cmd_explore.specs.declared.question.Finding.TheVariants as finding
-use Rattle.cmd_explore.specs.declared.question.Explored.{Explored}
+use Rattle.explore_space.specs.declared.question.Question.{Question}
+use Rattle.cmd_explore.specs.declared.finding.Finding.TheVariants as finding
+use Rattle.cmd_explore.specs.declared.finding.Explored.{Explored}
 
 -- the first line of a program that fails in no schedule, nor hangs in one if each hart must exit
 abbrev pub worlds_line : Exit → ℕ → List ℕ
@@ -28,10 +31,11 @@ worlds_line May worlds = codes "every schedule: " ++ (decimal worlds ++ codes " 
 worlds_line Must worlds =
     codes "every schedule: " ++ (decimal worlds ++ codes " worlds, each with a way out\n")
 
--- the number of worlds of a program that fails in no schedule, and behind it the lines of its ends
-abbrev pub TellsHeld : Exit → ℕ → List EndValue → List ℕ → Type 0
-TellsHeld exit worlds ends text =
-    (lines : List ℕ) × IsEndsText ends lines × (text ≡ worlds_line exit worlds ++ lines)
+-- the number of worlds of a program that fails in no schedule, and behind it the lines of its ends,
+-- and those of its harts' bounds
+abbrev pub TellsHeld : Exit → ℕ → List EndValue → List Bound → List ℕ → Type 0
+TellsHeld exit worlds ends bounds text =
+    (lines : List ℕ) × IsEndsText ends lines × (text ≡ (worlds_line exit worlds ++ lines) ++ bound_lines 0 bounds)
 
 -- the status of a failing run: under a rule it is broken, without one a hart has faulted
 abbrev pub failing_status : Option Kind → Status
@@ -42,7 +46,7 @@ failing_status (Some kind) = status.Broken
 -- of turns: by the lines, or by a choice text that reads as the list
 abbrev pub TellsEvery : {Z : Type 0} → Option Kind → Exit → ℕ → Answer Z → Explored Z → Type 0
 TellsEvery rule exit harts (Holds held) found =
-    TellsHeld exit held.places (ends_in held.ends) (string_bytes found.text)
+    TellsHeld exit held.places (ends_in held.ends) held.bounds.items (string_bytes found.text)
     × (found.status ≡ status.Done) × (found.finding ≡ finding.Holds)
 TellsEvery rule exit harts (Fails failing) found =
     (string_bytes found.text ≡ runs_text failing.choices.items)
@@ -57,11 +61,12 @@ TellsEvery rule exit harts Undecided found = ⊥
 -- what is found tells an answer that holds of every schedule of an image
 pub record IsExplored {Z : Type 0} (question : Question) (image : ImageValue) (inputs : List ℕ) (found : Explored Z) : Type 0 where
   pub answer : Answer Z
-  pub holds : HoldsOfEvery question.rule question.refusals image inputs answer
+  pub holds : HoldsOfEvery question.expect.rule question.refusals image inputs answer
   pub counts : CountsPlaces question.refusals image inputs question.most answer
-  pub ends : TellsEnds question.rule question.refusals image inputs answer
-  pub exits : TellsExits question.exit question.refusals image inputs answer
-  pub told : TellsEvery question.rule question.exit (length inputs) answer found
+  pub ends : TellsEnds question.expect.rule question.refusals image inputs answer
+  pub exits : TellsExits question.expect.exit question.refusals image inputs answer
+  pub bounds : TellsBounds question.bounds question.refusals image inputs answer
+  pub told : TellsEvery question.expect.rule question.expect.exit (length inputs) answer found
 
 -- the same of an image that may have been opened
 abbrev pub ExploresOpened : {Z : Type 0} → Question → List ℕ → Result ImageValue CommandFault → Explored Z → Type 0

@@ -1,3 +1,4 @@
 pub mod EndLines
+pub mod BoundLines
 pub mod Explore
 pub mod Refusals

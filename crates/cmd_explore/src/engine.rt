@@ -6,10 +6,10 @@ ghost use Rattle.program_open.specs.CommandFaults.{IfNames, IsRefusal};
 ghost use Rattle.program_open.specs.Opening.{program_opening};
 ghost use Rattle.cmd_explore.specs.Explore.{failing_status, ExploresOpened, HasTooMany, IsExplored, RefusesOpened};
 
+use crate::finding::{Explored, Finding};
 use crate::holding::holding_text;
-use crate::question::{Explored, Finding, Question};
-use byte_io::{Source, Status};
-use explore_space::{Answer, explore};
+use byte_io::{Progress, Source, Status};
+use explore_space::{Answer, Question, explore};
 use image::Image;
 use machine::Inputs;
 use object_library::Kind;
@@ -33,21 +33,22 @@ fn explored<A: Allocator + Copy>(
     image: &Image<A>,
     inputs: &Inputs,
     question: Question,
+    progress: &mut impl Progress,
 ) -> Result<Option<Explored<A>>, AllocError>
     requires { IsStartable inputs.now }
     ensures told { IfOk result (λ answer. IfSome answer (λ found. IsExplored question image.now inputs.now found)) }
     ensures too_many { result ≡ Ok None → HasTooMany question image.now inputs.now }
 {
-    let (rule, exit, refusals) = (question.rule, question.exit, question.refusals);
-    match explore(alloc, image, inputs, rule, exit, refusals, question.most)? {
+    let expect = question.expect;
+    match explore(alloc, image, inputs, question, progress)? {
         Answer::Holds(held) => Ok(Some(Explored {
-            text: holding_text(alloc, exit, &held)?,
+            text: holding_text(alloc, expect.exit, &held)?,
             status: Status::Done,
             finding: Finding::Holds,
         })),
         Answer::Fails(failing) => Ok(Some(Explored {
             text: print_runs(alloc, &failing.choices)?,
-            status: failing_status(rule),
+            status: failing_status(expect.rule),
             finding: Finding::Fails(failing.turns),
         })),
         Answer::Hangs(hanging) => Ok(Some(Explored {
@@ -67,6 +68,7 @@ pub fn explore_engine<A: Allocator + Copy, P: Source>(
     inputs: &[u32],
     question: Question,
     program: &mut P,
+    progress: &mut impl Progress,
 ) -> Result<Explored<A>, CommandFault>
     requires { P.failures program.old < 2 ^ 64 - 1 }
     ensures done { IfOk result (λ found. IfSome (P.left program.old) (λ p.
@@ -80,7 +82,7 @@ pub fn explore_engine<A: Allocator + Copy, P: Source>(
         (P.failures program.old < P.failures program.new) ⊥ ⊥ ⊥) }
 {
     let run = open_program(alloc, ProgramForm::Elf, inputs, program)?;
-    match explored(alloc, &run.image, &run.inputs, question) {
+    match explored(alloc, &run.image, &run.inputs, question, progress) {
         Ok(Some(found)) => Ok(found),
         Ok(None) => Err(CommandFault::Undecided(question.most)),
         Err(AllocError) => Err(CommandFault::Memory),

@@ -3,6 +3,7 @@ ghost use Rattle.std.specs.Prelude.{◌≡◌, IfOk, string_bytes};
 ghost use Rattle.explore_space.specs.Ends.{ends_in};
 ghost use Rattle.cmd_explore.specs.Explore.{TellsHeld, worlds_line};
 
+use crate::bound_lines::push_bounds;
 use crate::end_lines::ends_text;
 use explore_space::Held;
 use outcome::Exit;
@@ -21,16 +22,17 @@ fn worlds_line<A: Allocator>(alloc: A, exit: Exit, worlds: usize) -> Result<Stri
 }
 
 /// The number of worlds of a program that fails in no schedule, and behind it the lines of its
-/// ends. Fails when out of memory.
+/// ends, and of its harts' bounds where they are known. Fails when out of memory.
 pub(crate) fn holding_text<A: Allocator + Copy>(
     alloc: A,
     exit: Exit,
     held: &Held<A>,
 ) -> Result<String<A>, AllocError>
-    ensures { IfOk result (λ text. TellsHeld exit held.now.places (ends_in held.now.ends) (string_bytes text)) }
+    ensures { IfOk result (λ text. TellsHeld exit held.now.places (ends_in held.now.ends) held.now.bounds.items (string_bytes text)) }
 {
     let mut text = worlds_line(alloc, exit, held.places)?;
     let ends = ends_text(alloc, &held.ends)?;
     text.push_str(&ends)?;
+    push_bounds(&mut text, &held.bounds)?;
     Ok(text)
 }

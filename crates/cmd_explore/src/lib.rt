@@ -2,11 +2,13 @@
 #![tactic(auto)]
 
 pub use engine::explore_engine;
-pub use question::{Explored, Finding, Question};
+pub use explore_space::{OwnBounds, Question};
+pub use finding::{Explored, Finding};
 pub use refusals::read_refusals;
 
+mod bound_lines;
 mod end_lines;
 mod engine;
+mod finding;
 mod holding;
-mod question;
 mod refusals;

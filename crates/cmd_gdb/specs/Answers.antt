@@ -1,7 +1,6 @@
 -- What is answered to a packet, and the state after it: GDB's manual, "Remote Serial Protocol",
 -- "Packets".
 use Rattle.std.specs.Prelude.{◌≡◌, ℕ, List, Option, Some, None, Result, Ok, Err}
-use Rattle.gdb_moves.specs.declared.stop.ThreadStop.{ThreadStop}
 use Rattle.gdb_monitor.specs.Monitoring.{Monitoring, monitored}
 use Rattle.gdb_monitor.specs.declared.monitored.Motion.{Motion}
 use Rattle.gdb_monitor.specs.declared.monitored.Motion.TheVariants.{Moved, Stayed}
@@ -13,7 +12,7 @@ use Rattle.gdb_requests.specs.declared.fault.RequestFault.{RequestFault}
 use Rattle.gdb_requests.specs.declared.fault.RequestFault.TheVariants as fault
 use Rattle.gdb_requests.specs.declared.request.Plain.{Plain}
 use Rattle.gdb_session.specs.Answers.{after_answer, answer_text, last_stop_text, next_after}
-use Rattle.gdb_session.specs.Moves.{move_asked, Moves}
+use Rattle.gdb_session.specs.Moves.{move_asked, MovesTo}
 use Rattle.gdb_session.specs.Resumes.{resume_asked}
 use Rattle.gdb_session.specs.Talk.{TalkValue}
 use Rattle.gdb_session.specs.declared.answer.Next.{Next}
@@ -27,8 +26,7 @@ AnswersOnly t wanted text come u = (text ≡ wanted) × (come ≡ next.Answered)
 -- a move is done, and answered by the stop where it ends
 abbrev pub AnswersMove : TalkValue → Move → List ℕ → Next → TalkValue → Type 0
 AnswersMove t move text come u =
-    ((stop : Option ThreadStop) × Moves t move stop u) × (text ≡ last_stop_text u.stop)
-    × (come ≡ next.Answered)
+    MovesTo t move u × (text ≡ last_stop_text u.stop) × (come ≡ next.Answered)
 
 -- a request without a list is answered by the move that it asks for, else by what it reads or sets
 abbrev pub AnswersPlain : TalkValue → Plain → Option Move → List ℕ → Next → TalkValue → Type 0

@@ -9,6 +9,7 @@ ghost use Rattle.explore_search.specs.Marked.{SearchSees};
 use crate::edges::{Edges, keep_row};
 use crate::seen::{Link, Seen};
 use crate::space::Space;
+use byte_io::Progress;
 use explore_table::{Rows, Table};
 use machine::Choice;
 use std::alloc::{AllocError, Allocator};
@@ -57,12 +58,17 @@ fn see_next<A: Allocator, S: Space<A>>(
         row.new.items) }
 {
     row.clear();
-    let steps = seen.links[from].steps + 1;
+    if from > 0xffff_ffff {
+        return Err(AllocError);
+    }
+    let Some(steps) = seen.links[from].steps.checked_add(1) else {
+        return Err(AllocError);
+    };
     'choices: for choice in choices {
         let link = Link {
-            from,
-            choice: *choice,
+            from: from as u32,
             steps,
+            choice: *choice,
         };
         let to = seen.see_after(space, choices, key, link)?;
         if to > 0xffff_ffff {
@@ -95,11 +101,11 @@ fn see_first<A: Allocator + Copy, S: Space<A>>(
     let mut links = Vec::new(alloc);
     links.push(Link {
         from: 0,
+        steps: 0,
         choice: Choice {
             hart: 0,
             refuse: false,
         },
-        steps: 0,
     })?;
     Ok(Seen {
         keys,
@@ -109,13 +115,15 @@ fn see_first<A: Allocator + Copy, S: Space<A>>(
 }
 
 /// Looks at every place that a list of the choices leads to, nearest first, each once, and at
-/// `most` of them at most. 2^32 places or more are answered as want of memory.
+/// `most` of them at most, and reports after each how many these are. 2^32 places or more are
+/// answered as want of memory.
 pub fn search<A: Allocator + Copy, S: Space<A>>(
     alloc: A,
     space: &mut S,
     choices: &[Choice],
     most: usize,
     edges: Edges,
+    progress: &mut impl Progress,
 ) -> Result<Found<A>, AllocError>
     ensures answers { IfOk result (λ found. SearchAnswers choices.now (S.first space.old) (S.bad space.old) found) }
     ensures counts { IfOk result (λ found. SearchCounts choices.now (S.first space.old) most found) }
@@ -139,8 +147,10 @@ pub fn search<A: Allocator + Copy, S: Space<A>>(
         if is_bad {
             return Ok(Found::Bad(seen.path_to(alloc, space, choices, from)?));
         }
+        let depth = u64::from(seen.links[from].steps);
         see_next(space, choices, &mut seen, &key, from, &mut row)?;
         keep_row(&mut seen.rows, edges, &row)?;
+        progress.worlds_done(from as u64 + 1, seen.keys.len() as u64, depth);
     }
     let found = seen.keys.len();
     if found <= most {

@@ -11,15 +11,16 @@ use explore_table::{Rows, Table};
 use machine::Choice;
 use std::alloc::{AllocError, Allocator};
 
-/// How a key was found: by a choice from an earlier one.
+/// How a key was found: by a choice from an earlier one. There is one for each place, so it has 16
+/// bytes.
 #[derive(Clone, Copy)]
 pub struct Link {
     /// The earlier key's number.
-    pub from: usize,
+    pub from: u32,
+    /// How many choices lead here.
+    pub steps: u32,
     /// The choice.
     pub choice: Choice,
-    /// How many choices lead here.
-    pub steps: usize,
 }
 
 /// The keys of the places that were seen, and how each was found.
@@ -101,7 +102,7 @@ impl<A: Allocator> Seen<A> {
         'back: while at > 0 {
             let link = self.links[at];
             path.push(link.choice)?;
-            at = link.from;
+            at = link.from as usize;
         }
         path.reverse();
         Ok(path)

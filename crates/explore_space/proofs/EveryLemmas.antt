@@ -41,7 +41,7 @@ of_hart Also n (suc (suc i)) c low is = absurd (omega (arith, low))
 of_hart Never n zero c low is = ap (λ (x : Choice). x.hart) (sym is)
 of_hart Never n (suc i) c low is = absurd (omega (arith, low))
 
-in_range : (refusals : ScRefusals) (n : ℕ) (c : Choice) → Contains (meant_choices refusals n) c → c.hart < n
+pub in_range : (refusals : ScRefusals) (n : ℕ) (c : Choice) → Contains (meant_choices refusals n) c → c.hart < n
 unfolding meant_choices
 in_range refusals zero c there = absurd (let low = there.1 in omega (arith, low))
 in_range refusals (suc n) c there = elim (Contains-append_cases (meant_choices refusals n) (hart_choices refusals n) c there) [

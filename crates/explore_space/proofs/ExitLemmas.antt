@@ -22,6 +22,7 @@ use Rattle.explore_laws.specs.WaysOut.{HasWayOut, HaveWaysOut}
 use Rattle.explore_search.specs.Edges.{HaveEdges, SearchLeads}
 use Rattle.explore_search.specs.Marked.{LeadsToStuck}
 use Rattle.explore_search.specs.declared.edges.Edges.{Edges}
+use Rattle.explore_search.specs.declared.edges.Edges.TheVariants.{Kept}
 use Rattle.explore_search.specs.declared.searching.Found.{Found}
 use Rattle.explore_search.specs.declared.searching.Found.TheVariants.{Safe}
 use Rattle.explore_search.specs.declared.seen.Seen.{Seen}
@@ -32,6 +33,8 @@ use Rattle.explore_space.specs.declared.exploring.Answer.TheVariants.{Holds, Han
 use Rattle.explore_space.specs.declared.exploring.Failing.{Failing}
 use Rattle.explore_space.specs.declared.exploring.Held.{Held}
 use Rattle.explore_space.specs.declared.meant.ScRefusals.{ScRefusals}
+use Rattle.explore_space.specs.declared.own_bounds.OwnBounds.{OwnBounds}
+use Rattle.explore_space.specs.declared.own_bounds.OwnBounds.TheVariants.{Asked, NotAsked}
 use Rattle.explore_space.proofs.EveryLemmas.{plain_meant, turns_meant}
 use Rattle.explore_space.proofs.StopLemmas.{same_harts}
 
@@ -138,12 +141,25 @@ pub moved_exit : {Z : Type 0} (exit : Exit) {ms ns : List Choice} {p q : Place} 
 moved_exit {Z} exit {ms} {ns} {p} {q} found m e a =
     subst (λ x. AnswersExit exit ns x found) e (subst (λ xs. AnswersExit exit xs p found) m a)
 
--- the edges of a search are kept where ways out are asked for
-pub leads_where : {Z : Type 0} (place : List ℕ → Place) (exit : Exit) {edges : Edges} {found : Found Z} {seen : Seen Z}
-    {choices meant : List Choice} → edges ≡ edges_for exit → found ≡ Safe seen → choices ≡ meant
-    → SearchLeads edges place choices found → exit ≡ Must → HaveEdges place meant seen.keys seen.rows
-leads_where {Z} place May {edges} {found} {seen} {choices} {meant} edges_are is same leads must = absurd (let no : May ≡ Must = must in cc)
-leads_where {Z} place Must {edges} {found} {seen} {choices} {meant} edges_are is same leads must =
+-- ---- the edges of a search
+kept_leads : {Z : Type 0} (place : List ℕ → Place) {edges : Edges} {found : Found Z} {seen : Seen Z} {choices meant : List Choice}
+    → edges ≡ Kept → found ≡ Safe seen → choices ≡ meant → SearchLeads edges place choices found
+    → HaveEdges place meant seen.keys seen.rows
+kept_leads {Z} place {edges} {found} {seen} {choices} {meant} kept is same leads =
     subst (λ ms. HaveEdges place ms seen.keys seen.rows) same
-    (subst (λ f. SearchLeads (edges_for Must) place choices f) is
-    (subst (λ e. SearchLeads e place choices found) edges_are leads))
+    (subst (λ f. SearchLeads Kept place choices f) is (subst (λ e. SearchLeads e place choices found) kept leads))
+
+-- they are kept where ways out are asked for
+pub leads_where : {Z : Type 0} (place : List ℕ → Place) (exit : Exit) (bounds : OwnBounds) {edges : Edges} {found : Found Z} {seen : Seen Z}
+    {choices meant : List Choice} → edges ≡ edges_for exit bounds → found ≡ Safe seen → choices ≡ meant
+    → SearchLeads edges place choices found → exit ≡ Must → HaveEdges place meant seen.keys seen.rows
+leads_where place May bounds edges_are is same leads must = absurd (let no : May ≡ Must = must in cc)
+leads_where place Must bounds edges_are is same leads must = kept_leads place edges_are is same leads
+
+-- and where bounds are
+pub leads_asked : {Z : Type 0} (place : List ℕ → Place) (exit : Exit) (bounds : OwnBounds) {edges : Edges} {found : Found Z} {seen : Seen Z}
+    {choices meant : List Choice} → edges ≡ edges_for exit bounds → found ≡ Safe seen → choices ≡ meant
+    → SearchLeads edges place choices found → bounds ≡ Asked → HaveEdges place meant seen.keys seen.rows
+leads_asked place exit NotAsked edges_are is same leads asked = absurd (let no : NotAsked ≡ Asked = asked in cc)
+leads_asked place May Asked edges_are is same leads asked = kept_leads place edges_are is same leads
+leads_asked place Must Asked edges_are is same leads asked = kept_leads place edges_are is same leads

@@ -12,3 +12,5 @@ pub mod EndLemmas
 pub mod StopLemmas
 pub mod EveryEnds
 pub mod ExitLemmas
+pub mod OwnLemmas
+pub mod OwnBoundLemmas

@@ -3,3 +3,4 @@ pub mod Failing
 pub mod Stuck
 pub mod Ends
 pub mod Every
+pub mod Bounds

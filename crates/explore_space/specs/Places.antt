@@ -97,3 +97,11 @@ IsKeyOf image n harts shareds key p = IsKey image n harts shareds key × (place_
 abbrev pub KeysStay : {Z : Type 0} → ImageValue → ℕ → List Hart → List (Shared Z) → List Hart → List (Shared Z) → Type 0
 KeysStay image n harts shareds more_harts more_shareds = (k : List ℕ) → IsKey image n harts shareds k
     → IsKeyOf image n more_harts more_shareds k (place_of_key image n harts shareds k)
+
+-- hart h of a world is this one, and the words and reservations there are these
+pub record ShowsHart {Z : Type 0} (image : ImageValue) (w : World) (h : ℕ) (v : HartValue) (shared : Shared Z) : Type 0 where
+  pub there : slice_get w.harts h ≡ Some v
+  pub aligned : IsAligned v
+  pub keeps : Keeps (image_memory image) w.memory
+  pub words : (x : ℕ) → x % 4 ≡ 0 → words_shown image shared.cells.items x ≡ bytes_at w.memory.bytes x
+  pub marks : mark_at shared.marks ≡ w.reserved

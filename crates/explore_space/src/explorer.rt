@@ -4,15 +4,16 @@ ghost use Rattle.image.specs.Image.{ImageValue};
 ghost use Rattle.mem_store.specs.Image.{image_memory, segments_memory};
 ghost use Rattle.hart_local.specs.CodeMemory.{code_in};
 ghost use Rattle.machine.specs.Start.{started};
+ghost use Rattle.explore_laws.specs.OwnSteps.{steps_in_turn};
 ghost use Rattle.explore_laws.specs.Places.{Place, place_begun};
-ghost use Rattle.explore_space.specs.Places.{IsKey, place_of_key};
+ghost use Rattle.explore_space.specs.Places.{IsKey, place_of_key, world_of_key};
 ghost use Rattle.explore_space.specs.Failing.{ends_there, fails_there};
 
 use crate::failing::{fails_at, has_ended_at};
 use crate::first::first_parts;
 use crate::kept::Kept;
 use crate::shared::Shared;
-use crate::stepping::{settled_key, stepped_key};
+use crate::stepping::{settled_key, stepped_key, steps_from};
 use explore_search::Space;
 use hart_local::Code;
 use hart_step::Hart;
@@ -63,6 +64,30 @@ impl<'a, A: Allocator + Copy> Explorer<'a, A> {
         ensures { result.now ≡ self.now.harts.parts.items }
     {
         &self.harts.parts
+    }
+
+    /// How many harts a world has.
+    pub fn harts(&self) -> u32
+        ensures { result ≡ length self.now.inputs.now }
+    {
+        self.inputs.harts()
+    }
+
+    /// How many steps a turn's hart takes in it from a key's place. The only error is out of memory.
+    pub fn steps_in(&self, key: &[u32], turn: Choice) -> Result<u32, AllocError>
+        requires { IsKey self.now.image.now (length self.now.inputs.now) self.now.harts.parts.items
+            self.now.shareds.parts.items key.now }
+        ensures { IfOk result (λ steps. steps ≡ steps_in_turn (world_of_key self.now.image.now (length self.now.inputs.now)
+            self.now.harts.parts.items self.now.shareds.parts.items key.now) turn.hart turn) }
+    {
+        let count = self.inputs.harts() as usize;
+        let number = turn.hart as usize;
+        if number >= count {
+            return Ok(0);
+        }
+        let hart = &self.harts.parts[key[number] as usize];
+        let shared = &self.shareds.parts[key[count] as usize];
+        steps_from(self.alloc, self.image, &self.code, hart, shared, turn)
     }
 }
 

@@ -6,6 +6,7 @@ ghost use Rattle.explore_laws.specs.Settling.{turns_choices};
 ghost use Rattle.outcome.specs.declared.expect.Exit.TheVariants.{Must};
 ghost use Rattle.explore_search.specs.Edges.{HaveEdges};
 ghost use Rattle.explore_search.specs.Marked.{AreAllSeen};
+ghost use Rattle.explore_space.specs.Bounds.{TellsBounds};
 ghost use Rattle.explore_space.specs.Places.{IsKey, place_of_key};
 ghost use Rattle.explore_space.specs.Every.{HoldsOfEvery, CountsPlaces, TellsEnds, TellsExits};
 ghost use Rattle.explore_space.specs.Stuck.{AnswersExit, edges_for};
@@ -13,12 +14,15 @@ ghost use Rattle.explore_space.specs.Stuck.{AnswersExit, edges_for};
 use crate::ending::ends_at_keys;
 use crate::expanding::choices_of_turns;
 use crate::explorer::Explorer;
-use crate::meant::{ScRefusals, meant_choices};
+use crate::meant::meant_choices;
+use crate::own_bounds::{OwnBounds, asked_bounds};
+use crate::question::Question;
 use crate::run_end::Ends;
+use byte_io::Progress;
+use explore_bounds::Bound;
 use explore_search::{Edges, Found, Seen, nearest_stuck, search};
 use image::Image;
 use machine::{Choice, Inputs};
-use object_library::Kind;
 use outcome::Exit;
 use std::alloc::{AllocError, Allocator};
 
@@ -39,6 +43,9 @@ pub struct Held<A: Allocator> {
     pub places: usize,
     /// How the runs of lists of choices end, of those after which no hart runs.
     pub ends: Ends<A>,
+    /// The bound on each hart's own steps, in the order of their numbers, if these are asked for;
+    /// else nothing.
+    pub bounds: Vec<Bound, A>,
 }
 
 /// What is said of every schedule.
@@ -54,13 +61,13 @@ pub enum Answer<A: Allocator> {
     Undecided,
 }
 
-// Whether edges are kept: where ways out are asked for.
-fn edges_for(exit: Exit) -> Edges
-    ensures { result ≡ edges_for exit }
+// Whether edges are kept: where ways out or bounds are asked for.
+fn edges_for(exit: Exit, bounds: OwnBounds) -> Edges
+    ensures { result ≡ edges_for exit bounds }
 {
-    match exit {
-        Exit::May => Edges::NotKept,
-        Exit::Must => Edges::Kept,
+    match (exit, bounds) {
+        (Exit::May, OwnBounds::NotAsked) => Edges::NotKept,
+        (Exit::May, OwnBounds::Asked) | (Exit::Must, _) => Edges::Kept,
     }
 }
 
@@ -106,37 +113,46 @@ fn choices_and_turns<A: Allocator + Copy>(
 
 /// Whether a list of the harts' choices, of any length, leads a program with these inputs to a
 /// failure: a broken rule, or without a rule a hart that has faulted. None does; or one does, which
-/// is given; or turns reach more than `most` places. Where each hart must exit and none fails, it is
-/// also answered whether a list leads to a world that has no way out, and one that does is given.
-/// The only error is out of memory.
+/// is given; or turns reach more places than may be looked at. Where each hart must exit and none
+/// fails, it is also answered whether a list leads to a world that has no way out, and one that does
+/// is given. Where bounds are asked for and none fails or hangs, the exact bound on each hart's own
+/// steps is given, or that it has none. The only error is out of memory.
 pub fn explore<A: Allocator + Copy>(
     alloc: A,
     image: &Image<A>,
     inputs: &Inputs,
-    rule: Option<Kind>,
-    exit: Exit,
-    refusals: ScRefusals,
-    most: usize,
+    question: Question,
+    progress: &mut impl Progress,
 ) -> Result<Answer<A>, AllocError>
-    ensures holds { IfOk result (λ answer. HoldsOfEvery rule refusals image.now inputs.now answer) }
-    ensures places { IfOk result (λ answer. CountsPlaces refusals image.now inputs.now most answer) }
-    ensures ends { IfOk result (λ answer. TellsEnds rule refusals image.now inputs.now answer) }
-    ensures exits { IfOk result (λ answer. TellsExits exit refusals image.now inputs.now answer) }
+    ensures holds { IfOk result (λ answer. HoldsOfEvery question.expect.rule question.refusals image.now inputs.now answer) }
+    ensures places { IfOk result (λ answer. CountsPlaces question.refusals image.now inputs.now question.most answer) }
+    ensures ends { IfOk result (λ answer. TellsEnds question.expect.rule question.refusals image.now inputs.now answer) }
+    ensures exits { IfOk result (λ answer. TellsExits question.expect.exit question.refusals image.now inputs.now answer) }
+    ensures bounds { IfOk result (λ answer. TellsBounds question.bounds question.refusals image.now inputs.now answer) }
 {
-    let meant = meant_choices(alloc, refusals, inputs.harts())?;
-    let mut explorer = Explorer::new(alloc, image, inputs, rule)?;
-    match search(alloc, &mut explorer, &meant, most, edges_for(exit))? {
+    let expect = question.expect;
+    let meant = meant_choices(alloc, question.refusals, inputs.harts())?;
+    let mut explorer = Explorer::new(alloc, image, inputs, expect.rule)?;
+    let edges = edges_for(expect.exit, question.bounds);
+    match search(alloc, &mut explorer, &meant, question.most, edges, progress)? {
         Found::Safe(seen) => {
             let places = seen.keys.len();
             let ends = ends_at_keys(
                 alloc,
                 explorer.known_harts(),
                 inputs.words(),
-                rule,
+                expect.rule,
                 &seen.keys,
             )?;
-            match stuck_turns(alloc, &explorer, &meant, &seen, exit)? {
-                None => Ok(Answer::Holds(Held { places, ends })),
+            match stuck_turns(alloc, &explorer, &meant, &seen, expect.exit)? {
+                None => {
+                    let bounds = asked_bounds(alloc, &explorer, &meant, &seen, question.bounds)?;
+                    Ok(Answer::Holds(Held {
+                        places,
+                        ends,
+                        bounds,
+                    }))
+                }
                 Some(turns) => Ok(Answer::Hangs(choices_and_turns(alloc, image, inputs, &turns)?)),
             }
         }

@@ -1,9 +1,12 @@
 //! Every schedule of a program: its worlds under keys, and whether one of them is a failure.
 #![tactic(auto)]
 
+pub use explore_bounds::Bound;
 pub use explorer::Explorer;
 pub use exploring::{Answer, Failing, Held, explore};
 pub use meant::ScRefusals;
+pub use own_bounds::OwnBounds;
+pub use question::Question;
 pub use run_end::{Ends, Returned, RunEnd};
 pub use shared::Shared;
 
@@ -16,7 +19,10 @@ mod first;
 mod hash;
 mod kept;
 mod meant;
+mod own_bounds;
+mod own_steps;
 mod parts;
+mod question;
 mod run_end;
 mod settling;
 mod shared;

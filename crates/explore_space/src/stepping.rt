@@ -1,10 +1,13 @@
 //! Keys after a choice.
 ghost use Rattle.std.specs.Prelude.{◌≡◌, ◌<◌, IfOk, length};
 ghost use Rattle.mem_store.specs.Image.{image_memory, segments_memory};
+ghost use Rattle.hart_step.specs.Hart.{hart_of};
 ghost use Rattle.hart_local.specs.CodeMemory.{code_in};
+ghost use Rattle.machine.specs.World.{World};
+ghost use Rattle.explore_laws.specs.OwnSteps.{steps_in_turn};
 ghost use Rattle.explore_laws.specs.Places.{place_settled, place_stepped};
 ghost use Rattle.explore_search.specs.Searched.{GoesOn};
-ghost use Rattle.explore_space.specs.Places.{IsKey, IsKeyOf, KeysStay, KeptOnce, PartsStep, place_of_key};
+ghost use Rattle.explore_space.specs.Places.{IsKey, IsKeyOf, KeysStay, KeptOnce, PartsStep, ShowsHart, place_of_key};
 
 use crate::kept::{Kept, keep_hart, keep_shared};
 use crate::settling::settle;
@@ -12,7 +15,7 @@ use crate::shared::Shared;
 use explore_sites::step_site;
 use hart_local::Code;
 use hart_reservations::MAX_HARTS;
-use hart_step::Hart;
+use hart_step::{Hart, HartState};
 use image::Image;
 use machine::Choice;
 use std::alloc::{AllocError, Allocator};
@@ -132,4 +135,37 @@ pub fn settled_key<A: Allocator + Copy>(
     }
     next[number] = id as u32;
     Ok(next)
+}
+
+/// How many steps a turn's hart takes in it where it is this one, and shares this: its step, and
+/// the local steps behind it; none if it has stopped. The only error is out of memory.
+pub fn steps_from<A: Allocator + Copy>(
+    alloc: A,
+    image: &Image<A>,
+    code: &Code<A>,
+    hart: &Hart,
+    shared: &Shared<A>,
+    turn: Choice,
+) -> Result<u32, AllocError>
+    requires its_code { segments_memory code.now ≡ code_in (image_memory image.now) }
+    requires there { turn.hart < 32 }
+    ensures { IfOk result (λ steps. (w : World) → ShowsHart image.now w turn.hart (hart_of hart.now) shared.now
+        → steps ≡ steps_in_turn w turn.hart turn) }
+{
+    match hart.state {
+        HartState::Running => {}
+        HartState::Exited(_) | HartState::Faulted(_) => return Ok(0),
+    }
+    let mut after = *hart;
+    let mut marks = marks_of(shared);
+    let mut cells = Vec::from_slice(alloc, &shared.cells)?;
+    step_site(
+        image,
+        &mut after,
+        turn.hart as usize,
+        &mut marks,
+        &mut cells,
+        turn.refuse,
+    )?;
+    Ok(1 + settle(&mut after, code))
 }

@@ -206,3 +206,7 @@ Moves t move stop u =
     × (u ≡ stopped_at t u.session.position
     (alone_after t.alone move t.session.position u.session.position stop)
     (stop_told t move (world_at t.session u.session.position) stop))
+
+-- so it does with some stop, or with none
+abbrev pub MovesTo : TalkValue → Move → TalkValue → Type 0
+MovesTo t move u = (stop : Option ThreadStop) × Moves t move stop u

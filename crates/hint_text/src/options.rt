@@ -124,6 +124,7 @@ pub(crate) const COMMANDS: [Row; 14] = [
             "--refusals",
             "--worlds",
             "--must-exit",
+            "--bounds",
         ],
         example: "rvcons explore prog.elf --inputs 7,9",
     },

@@ -12,7 +12,7 @@ use cli_runs::{obey_replay, obey_threads};
 use object_library::KIND_NAMES;
 use std::io::{Input, IsTerminal};
 use std::process::ExitCode;
-use std::rt::{Env, Files};
+use std::rt::{Clock, Env, Files};
 use std::sync::Wait;
 use std::thread::Threads;
 
@@ -37,7 +37,7 @@ fn main(rt: HostRuntime) -> ExitCode {
 // Runs the command of the command line. The error is the status of what was refused, which is
 // reported. `seen_by` is the audience of standard error unless the line says otherwise, `talk` that
 // of the debugger.
-fn obey<R: Files + AllocGlobal + Print + Eprint + Env + Threads + Wait + Sync + Input>(
+fn obey<R: Files + AllocGlobal + Print + Eprint + Env + Threads + Wait + Sync + Input + Clock>(
     rt: &R,
     seen_by: Audience,
     talk: Audience,

@@ -47,7 +47,7 @@ fn inputs_are_read(rt: HostRuntime) {
 
 // Lines, and what is read of each: its command and the texts of its arguments, by their names.
 #[rattlefmt::skip]
-const LINES: [(&str, &str); 74] = [
+const LINES: [(&str, &str); 76] = [
     ("rvcons asm a.s", "asm IN=a.s"),
     ("rvcons asm --out o a.s b.s", "asm out=o IN=a.s IN=b.s"),
     ("rvcons asm b.s a.s --out=o", "asm out=o IN=b.s IN=a.s"),
@@ -122,8 +122,10 @@ const LINES: [(&str, &str); 74] = [
     ("rvcons explore p --inputs 7,9 --rule k", "explore FILE=p inputs=7,9 rule=k"),
     ("rvcons explore p --inputs 7,9 --refusals r", "explore FILE=p inputs=7,9 refusals=r"),
     ("rvcons explore p --inputs 7,9 --worlds 5", "explore FILE=p inputs=7,9 worlds=5"),
-    ("rvcons explore --worlds 5 --refusals r --rule k --inputs 7 p",
-        "explore FILE=p inputs=7 rule=k refusals=r worlds=5"),
+    ("rvcons explore p --inputs 7,9 --must-exit", "explore FILE=p inputs=7,9 must-exit=yes"),
+    ("rvcons explore p --inputs 7,9 --bounds", "explore FILE=p inputs=7,9 bounds=yes"),
+    ("rvcons explore --bounds --worlds 5 --refusals r --rule k --must-exit --inputs 7 p",
+        "explore FILE=p inputs=7 rule=k refusals=r worlds=5 must-exit=yes bounds=yes"),
     ("rvcons schedule --harts 2 --steps 3", "schedule harts=2 steps=3"),
     ("rvcons schedule --harts 2 --steps 3 --seed 5", "schedule harts=2 steps=3 seed=5"),
     ("rvcons schedule --harts 2 --steps 3 --turns", "schedule harts=2 steps=3 turns=yes"),

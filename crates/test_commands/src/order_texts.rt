@@ -164,6 +164,8 @@ fn explore_text(alloc: Global, order: &ExploreOrder) -> Result<String, AllocErro
         ("rule", order.rule),
         ("refusals", order.refusals),
         ("worlds", order.worlds),
+        ("must-exit", flag(order.must_exit)),
+        ("bounds", flag(order.bounds)),
     ];
     text_with(alloc, "explore", fields)
 }

@@ -1,8 +1,9 @@
 //! How runs of the library's objects end in every schedule, as their rules and their code say.
-use explore_space::{Answer, RunEnd, ScRefusals, explore};
+use byte_io::Unheard;
+use explore_space::{Answer, OwnBounds, Question, RunEnd, ScRefusals, explore};
 use machine::Inputs;
 use object_library::{Kind, Verdict, make_image};
-use outcome::Exit;
+use outcome::{Exit, Expect};
 use std::alloc::Global;
 
 // What each hart has in `a0` and `a1` at an end.
@@ -43,16 +44,17 @@ fn is_end(end: &RunEnd<Global>, words: Words) -> bool {
 fn has_ends(alloc: Global, row: &Row) -> Option<bool> {
     let image = make_image(alloc, row.kind).ok()?;
     let inputs = Inputs::new(row.inputs).ok()?;
-    let rule = Some(row.kind);
-    match explore(
-        alloc,
-        &image,
-        &inputs,
-        rule,
-        Exit::May,
-        ScRefusals::Also,
-        100_000,
-    ) {
+    let expect = Expect {
+        rule: Some(row.kind),
+        exit: Exit::May,
+    };
+    let question = Question {
+        expect,
+        bounds: OwnBounds::NotAsked,
+        refusals: ScRefusals::Also,
+        most: 100_000,
+    };
+    match explore(alloc, &image, &inputs, question, &mut Unheard) {
         Ok(Answer::Holds(held)) => {
             let ends = held.ends.as_slice();
             Some(

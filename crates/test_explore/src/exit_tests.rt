@@ -1,8 +1,9 @@
 //! Worked programs with and without worlds that have no way out, and the number of turns in which
 //! one is first reached.
-use explore_space::{Answer, ScRefusals, explore};
+use byte_io::Unheard;
+use explore_space::{Answer, OwnBounds, Question, ScRefusals, explore};
 use machine::Inputs;
-use outcome::Exit;
+use outcome::{Exit, Expect};
 use std::alloc::Global;
 use test_images::{Program, program_image};
 
@@ -55,17 +56,28 @@ const ROWS: [Row; 5] = [
     Row { program: Program::Writable(&TRAPS), inputs: &[0, 0, 0], first: Some(4) },
 ];
 
-// Whether a search finds what the row says, and nothing of it if a hart may run on.
-fn is_found(alloc: Global, row: &Row) -> Option<bool> {
+// What a search finds of a row.
+fn answer_of(alloc: Global, row: &Row, exit: Exit) -> Option<Answer<Global>> {
     let image = program_image(alloc, row.program).ok()?;
     let inputs = Inputs::new(row.inputs).ok()?;
-    let refusals = ScRefusals::Also;
-    let may = explore(alloc, &image, &inputs, None, Exit::May, refusals, 10_000);
-    let holds = matches!(may, Ok(Answer::Holds(_)));
-    match explore(alloc, &image, &inputs, None, Exit::Must, refusals, 10_000) {
-        Ok(Answer::Holds(_)) => Some(holds && row.first.is_none()),
-        Ok(Answer::Hangs(hanging)) => Some(holds && row.first == Some(hanging.turns)),
-        Ok(Answer::Fails(_) | Answer::Undecided) | Err(_) => None,
+    let expect = Expect { rule: None, exit };
+    let question = Question {
+        expect,
+        bounds: OwnBounds::NotAsked,
+        refusals: ScRefusals::Also,
+        most: 10_000,
+    };
+    explore(alloc, &image, &inputs, question, &mut Unheard).ok()
+}
+
+// Whether a search finds what the row says, and nothing of it if a hart may run on.
+fn is_found(alloc: Global, row: &Row) -> Option<bool> {
+    let may = answer_of(alloc, row, Exit::May)?;
+    let holds = matches!(may, Answer::Holds(_));
+    match answer_of(alloc, row, Exit::Must)? {
+        Answer::Holds(_) => Some(holds && row.first.is_none()),
+        Answer::Hangs(hanging) => Some(holds && row.first == Some(hanging.turns)),
+        Answer::Fails(_) | Answer::Undecided => None,
     }
 }
 

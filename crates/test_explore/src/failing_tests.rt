@@ -1,10 +1,11 @@
 //! Worked programs that fail in some schedule, and the number of turns in which they first do.
-use explore_space::{Answer, ScRefusals, explore};
+use byte_io::Unheard;
+use explore_space::{Answer, OwnBounds, Question, ScRefusals, explore};
 use hart_step::HartState;
 use machine::{Choice, Inputs, Machine};
 use mem_flat::FlatStore;
 use object_library::{Kind, make_image};
-use outcome::Exit;
+use outcome::{Exit, Expect};
 use std::alloc::Global;
 use test_images::{Program, program_image};
 
@@ -80,15 +81,17 @@ fn faults(alloc: Global, row: &Row, choices: &[Choice]) -> Option<bool> {
 fn is_found(alloc: Global, row: &Row) -> Option<bool> {
     let image = program_image(alloc, row.program).ok()?;
     let inputs = Inputs::new(row.inputs).ok()?;
-    match explore(
-        alloc,
-        &image,
-        &inputs,
-        None,
-        Exit::May,
-        ScRefusals::Also,
-        10_000,
-    ) {
+    let expect = Expect {
+        rule: None,
+        exit: Exit::May,
+    };
+    let question = Question {
+        expect,
+        bounds: OwnBounds::NotAsked,
+        refusals: ScRefusals::Also,
+        most: 10_000,
+    };
+    match explore(alloc, &image, &inputs, question, &mut Unheard) {
         Ok(Answer::Holds(_)) => Some(row.first.is_none()),
         Ok(Answer::Fails(failing)) => {
             Some(row.first == Some(failing.turns) && faults(alloc, row, &failing.choices)?)
@@ -122,16 +125,17 @@ fn broken_rule_is_found(rt: HostRuntime) {
 fn breaks_consensus(alloc: Global, inputs: &[u32]) -> Option<bool> {
     let image = make_image(alloc, Kind::AdoptCommit).ok()?;
     let inputs = Inputs::new(inputs).ok()?;
-    let rule = Some(Kind::Swap);
-    match explore(
-        alloc,
-        &image,
-        &inputs,
-        rule,
-        Exit::May,
-        ScRefusals::Never,
-        100_000,
-    ) {
+    let expect = Expect {
+        rule: Some(Kind::Swap),
+        exit: Exit::May,
+    };
+    let question = Question {
+        expect,
+        bounds: OwnBounds::NotAsked,
+        refusals: ScRefusals::Never,
+        most: 100_000,
+    };
+    match explore(alloc, &image, &inputs, question, &mut Unheard) {
         Ok(Answer::Fails(_)) => Some(true),
         Ok(Answer::Holds(_)) => Some(false),
         Ok(Answer::Hangs(_) | Answer::Undecided) | Err(_) => None,

@@ -8,9 +8,9 @@ pub returns-in_ok-print_runs-in-Fails-clause-told : goal.returns-in_ok-print_run
 returns-in_ok-print_runs-in-Fails-clause-told g c =
     let few = c.requires.1 in
     tells_failing c.args.question c.args.image.now c.args.inputs.now _ (omega (arith, few)) c.in-Fails.failing
-    (subst (λ a. HoldsOfEvery c.args.question.rule c.args.question.refusals c.args.image.now c.args.inputs.now a) c.in-Fails.is
+    (subst (λ a. HoldsOfEvery c.args.question.expect.rule c.args.question.refusals c.args.image.now c.args.inputs.now a) c.in-Fails.is
     c.in_ok-held.ensures.holds)
-    (subst (λ a. TellsExits c.args.question.exit c.args.question.refusals c.args.image.now c.args.inputs.now a) c.in-Fails.is
+    (subst (λ a. TellsExits c.args.question.expect.exit c.args.question.refusals c.args.image.now c.args.inputs.now a) c.in-Fails.is
     c.in_ok-held.ensures.exits)
     (c.in_ok-print_runs-in-Fails.ensures.text ∙ ap runs_text c.deref.ensures.value) c.failing_status.ensures refl
 
@@ -18,8 +18,8 @@ pub returns-in_ok-print_runs-in-Hangs-clause-told : goal.returns-in_ok-print_run
 returns-in_ok-print_runs-in-Hangs-clause-told g c =
     let few = c.requires.1 in
     tells_hanging c.args.question c.args.image.now c.args.inputs.now _ (omega (arith, few)) c.in-Hangs.hanging
-    (subst (λ a. HoldsOfEvery c.args.question.rule c.args.question.refusals c.args.image.now c.args.inputs.now a) c.in-Hangs.is
+    (subst (λ a. HoldsOfEvery c.args.question.expect.rule c.args.question.refusals c.args.image.now c.args.inputs.now a) c.in-Hangs.is
     c.in_ok-held.ensures.holds)
-    (subst (λ a. TellsExits c.args.question.exit c.args.question.refusals c.args.image.now c.args.inputs.now a) c.in-Hangs.is
+    (subst (λ a. TellsExits c.args.question.expect.exit c.args.question.refusals c.args.image.now c.args.inputs.now a) c.in-Hangs.is
     c.in_ok-held.ensures.exits)
     (c.in_ok-print_runs-in-Hangs.ensures.text ∙ ap runs_text c.deref-in-Hangs.ensures.value) refl refl

@@ -12,3 +12,6 @@ pub returns-clause-steps : goal.returns-clause-steps
 returns-clause-steps g c =
     (walked_is_rested (segments_memory c.args.code.now) at_once c.local_steps.result _ _ c.local_steps.ensures.walked
     c.local_steps.ensures.limit c.local_steps.ensures.stops).1
+
+pub returns-clause-few : goal.returns-clause-few
+returns-clause-few g c = c.local_steps.ensures.limit

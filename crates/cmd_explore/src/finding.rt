@@ -1,24 +1,7 @@
-//! What is asked of every schedule, and what is answered.
+//! What is found of every schedule.
 
 use byte_io::Status;
-use explore_space::ScRefusals;
-use object_library::Kind;
-use outcome::Exit;
 use std::alloc::Allocator;
-
-/// What is asked of every schedule of a program.
-#[derive(Clone, Copy)]
-pub struct Question {
-    /// The rule that each run has to keep. Without one no hart may fault.
-    pub rule: Option<Kind>,
-    /// Whether each world must have a way out: a list of choices from it to a world in which no hart
-    /// runs.
-    pub exit: Exit,
-    /// Whether store-conditionals are refused too that could succeed.
-    pub refusals: ScRefusals,
-    /// The most worlds that are looked at.
-    pub most: usize,
-}
 
 /// What is found of all schedules.
 #[derive(Clone, Copy)]
@@ -37,7 +20,7 @@ pub enum Finding {
 #[derive(Drop)]
 pub struct Explored<A: Allocator> {
     /// Where no schedule fails or hangs a line with the number of worlds, and behind it the lines of
-    /// how runs end; else a choice text that does.
+    /// how runs end, and of harts' bounds where they are asked for; else a choice text that does.
     pub text: String<A>,
     /// `Done` where no schedule fails or hangs; `Faulted` where one hangs; where one fails, `Broken`
     /// under a rule, and `Faulted` without one.
