@@ -178,7 +178,10 @@ pub(crate) const COMMANDS: [CommandRow; 14] = [
             Argument::Optional("schedule", DRAW_OF_SCHEDULE),
             Argument::Optional("refusals", REFUSALS),
             Argument::Optional("inputs", INPUTS_OF_SCHEDULE),
-            Argument::Allowed("FILE", "with priorities:DEPTH: the program, an ELF file"),
+            Argument::Allowed(
+                "FILE",
+                "with priorities:DEPTH or mixed: the program, an ELF file",
+            ),
         ],
         schedule: Schedule::None,
     },

@@ -46,7 +46,7 @@ pub(crate) const RULE: &str = "also judge the rule of an object, named as lib ha
 
 /// Of `--schedule` of a campaign.
 pub(crate) const DRAW: &str =
-    "how a seed draws its choices: even, bursts:MEAN, each of one hart, or priorities:DEPTH";
+    "how a seed draws its choices: even, bursts:MEAN, each of one hart, priorities:DEPTH, or mixed";
 
 /// Of `--refusals`.
 pub(crate) const REFUSALS: &str =
@@ -90,11 +90,11 @@ pub(crate) const JOBS: &str =
 
 /// Of `--schedule` of `schedule`.
 pub(crate) const DRAW_OF_SCHEDULE: &str =
-    "how a seed draws them: even, bursts:MEAN, each of one hart, or priorities:DEPTH, in a run of FILE";
+    "how a seed draws them: even, bursts:MEAN, each of one hart, or in a run of FILE: priorities:DEPTH, or mixed";
 
 /// Of `--inputs` of `schedule`.
 pub(crate) const INPUTS_OF_SCHEDULE: &str =
-    "with priorities:DEPTH: one decimal input below 2^32 for each hart, as 7,9";
+    "with priorities:DEPTH or mixed: one decimal input below 2^32 for each hart, as 7,9";
 
 /// Of `--budget`.
 pub(crate) const BUDGET: &str = "how many steps each hart may take, below 2^32";

@@ -21,7 +21,7 @@ const SEED: &str =
 
 const TURNS: &str = "--turns takes a number of choices, in decimal and below 2^32, as --turns 300";
 
-const OF_ELF: &str = "--schedule priorities:DEPTH takes an ELF file";
+const OF_ELF: &str = "--schedule priorities:DEPTH and mixed take an ELF file";
 
 /// The run that takes the choices.
 #[derive(Clone, Copy)]
@@ -84,8 +84,8 @@ fn run_text<R: Files + AllocGlobal + Eprint>(
     }
 }
 
-/// The text of the choices that a seed draws, or the report of what is invalid. By priorities they
-/// are those of a run of the program, which is read for them.
+/// The text of the choices that a seed draws, or the report of what is invalid. By priorities
+/// and mixed they are those of a run of the program, which is read for them.
 pub(crate) fn seed_text<R: Files + AllocGlobal + Eprint>(
     rt: &R,
     audience: Audience,

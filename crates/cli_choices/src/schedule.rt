@@ -21,7 +21,7 @@ const NUMBERS: &str =
                        as --harts 2 --steps 40 --seed 5";
 
 const OF_A_RUN: &str =
-    "--schedule priorities:DEPTH takes --seed, and --inputs and a program, whose run the choices are of, \
+    "--schedule priorities:DEPTH and mixed take --seed, and --inputs and a program, whose run the choices are of, \
                         as --seed 5 --schedule priorities:3 --inputs 7,9 swap.elf";
 
 const MEAN: &str =
@@ -105,12 +105,12 @@ struct RunOrder<'a> {
 fn is_of_a_run(draw: Option<&str>) -> bool {
     matches!(
         read_order(draw),
-        Ok(Order::Priorities(_)) | Err(OrderFault::BadDepth)
+        Ok(Order::Priorities(_) | Order::Mixed) | Err(OrderFault::BadDepth)
     )
 }
 
-// The run whose choices an order asks for. There is one only by priorities, with a seed alone,
-// inputs and a program.
+// The run whose choices an order asks for. There is one only by priorities or mixed, with a seed
+// alone, inputs and a program.
 fn run_of<'a, R: Eprint>(
     rt: &R,
     order: &ScheduleOrder<'a>,
@@ -120,7 +120,7 @@ fn run_of<'a, R: Eprint>(
             (None, None) => Ok(None),
             _ => Err(bad_line(
                 rt,
-                "--inputs and a program go with --schedule priorities:DEPTH",
+                "--inputs and a program go with --schedule priorities:DEPTH or mixed",
             )),
         };
     }

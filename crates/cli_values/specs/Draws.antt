@@ -9,7 +9,7 @@ use Rattle.cli_args.specs.Inputs.{input_of}
 use Rattle.sched_draw.specs.Limits.{most_depth, most_mean, most_one_in}
 use Rattle.sched_draw.specs.Refusing.{IsOneIn}
 use Rattle.sched_draw.specs.declared.order.Order.{Order}
-use Rattle.sched_draw.specs.declared.order.Order.TheVariants.{Even, Bursts, Priorities}
+use Rattle.sched_draw.specs.declared.order.Order.TheVariants.{Even, Bursts, Priorities, Mixed}
 use Rattle.sched_draw.specs.declared.refusals.Refusals.{Refusals}
 use Rattle.sched_draw.specs.declared.refusals.Refusals.TheVariants.{Never}
 use Rattle.cli_values.specs.declared.draw.DrawFault.{DrawFault}
@@ -35,10 +35,12 @@ abbrev pub OrderSaid : List ℕ → Result Order OrderFault → Type 0
 OrderSaid text (Ok Even) = bytes_eq text (codes "even") ≡ true
 OrderSaid text (Ok (Bursts mean)) = mean_in text ≡ Some mean.choices
 OrderSaid text (Ok (Priorities depth)) = depth_in text ≡ Some depth.number
+OrderSaid text (Ok Mixed) = bytes_eq text (codes "mixed") ≡ true
 OrderSaid text (Err BadMean) = (n : ℕ) × (mean_in text ≡ Some n) × ((n ≡ 0) ⊎ (most_mean < n))
 OrderSaid text (Err BadDepth) = (n : ℕ) × (depth_in text ≡ Some n) × ((n ≡ 0) ⊎ (most_depth < n))
 OrderSaid text (Err Unknown) =
-    (bytes_eq text (codes "even") ≡ false) × (mean_in text ≡ None) × (depth_in text ≡ None)
+    (bytes_eq text (codes "even") ≡ false) × (bytes_eq text (codes "mixed") ≡ false)
+    × (mean_in text ≡ None) × (depth_in text ≡ None)
 
 -- the same, and `Even` if there is no text
 abbrev pub MeansOrder : Option (Bor (List ℕ)) → Result Order OrderFault → Type 0

@@ -9,7 +9,7 @@ use text_items::split_at_byte;
 
 /// The forms of `--schedule`, for its fault.
 pub const DRAWS: &str =
-    "--schedule takes even, bursts:MEAN with a decimal number from 1 to 2147483648, or priorities:DEPTH with one from 1 to 1000, \
+    "--schedule takes even, mixed, bursts:MEAN with a decimal number from 1 to 2147483648, or priorities:DEPTH with one from 1 to 1000, \
                      as bursts:100";
 
 /// The forms of `--refusals`, for its fault.
@@ -60,7 +60,8 @@ fn number_behind(text: &str, word: &str) -> Option<u32>
     }
 }
 
-/// The order of a text: `even` (the default), or `bursts:` or `priorities:` and a decimal number.
+/// The order of a text: `even` (the default), `mixed`, or `bursts:` or `priorities:` and a decimal
+/// number.
 pub fn read_order(text: Option<&str>) -> Result<Order, OrderFault>
     ensures { MeansOrder text.entry result }
 {
@@ -76,6 +77,9 @@ fn order_said(text: &str) -> Result<Order, OrderFault>
 {
     if text.as_bytes() == "even".as_bytes() {
         return Ok(Order::Even);
+    }
+    if text.as_bytes() == "mixed".as_bytes() {
+        return Ok(Order::Mixed);
     }
     if let Some(mean) = number_behind(text, "bursts") {
         return match Mean::new(mean) {

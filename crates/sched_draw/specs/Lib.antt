@@ -4,6 +4,7 @@ pub mod Seeds
 pub mod Refusing
 pub mod Bursts
 pub mod Priorities
+pub mod Mixed
 pub mod Drawn
 pub mod NoSteps
 pub mod Schedules

@@ -12,3 +12,10 @@ most_mean = 2_147_483_648
 -- the greatest depth of priorities
 abbrev pub most_depth : ℕ
 most_depth = 1_000
+
+-- the mean length of bursts and the depth of priorities in mixed schedules
+abbrev pub mixed_mean : ℕ
+mixed_mean = 10
+
+abbrev pub mixed_depth : ℕ
+mixed_depth = 20

@@ -5,11 +5,12 @@ use Rattle.machine.specs.World.{World, run}
 use Rattle.machine.specs.declared.choice.Choice.{Choice}
 use Rattle.sched_run.specs.Harts.{Harts}
 use Rattle.sched_draw.specs.Bursts.{burst_choices}
+use Rattle.sched_draw.specs.Mixed.{mixed_choices}
 use Rattle.sched_draw.specs.Priorities.{priority_choices}
 use Rattle.sched_draw.specs.Refusing.{even_choices}
 use Rattle.sched_draw.specs.Turns.{alone, turns}
 use Rattle.sched_draw.specs.declared.order.Order.{Order}
-use Rattle.sched_draw.specs.declared.order.Order.TheVariants.{Even, Bursts, Priorities}
+use Rattle.sched_draw.specs.declared.order.Order.TheVariants.{Even, Bursts, Priorities, Mixed}
 use Rattle.sched_draw.specs.declared.refusals.Refusals.{Refusals}
 use Rattle.sched_draw.specs.declared.schedule.Draw.{Draw}
 use Rattle.sched_draw.specs.declared.schedule.Schedule.{Schedule}
@@ -23,6 +24,7 @@ ordered_choices (Bursts mean) refusals world harts steps seed =
     burst_choices refusals harts mean.choices steps seed
 ordered_choices (Priorities depth) refusals world harts steps seed =
     priority_choices world harts depth.number refusals steps seed
+ordered_choices Mixed refusals world harts steps seed = mixed_choices world harts refusals steps seed
 
 -- the same, given how the seed draws
 unfoldable pub drawn_choices : Draw → World → ℕ → ℕ → ℕ → List Choice
@@ -35,13 +37,21 @@ choices_of Turns world harts steps = turns harts steps
 choices_of (Only hart) world harts steps = alone hart steps
 choices_of (Seeded seed draw) world harts steps = drawn_choices draw world harts steps seed
 
--- whether an order depends on the harts' states in a run
+-- whether the choices of an order can depend on the harts' states in a run
 abbrev pub follows : Order → Bool
 follows Even = false
 follows (Bursts mean) = false
 follows (Priorities depth) = true
+follows Mixed = true
 
--- whether the choices of a schedule depend on the run
+-- whether an order is mixed, so that the seed decides how it draws
+abbrev pub is_mixed : Order → Bool
+is_mixed Even = false
+is_mixed (Bursts mean) = false
+is_mixed (Priorities depth) = false
+is_mixed Mixed = true
+
+-- whether the choices of a schedule can depend on the run
 abbrev pub follows_run : Schedule → Bool
 follows_run Turns = false
 follows_run (Only hart) = false

@@ -23,6 +23,7 @@ mod even;
 mod laws;
 mod limits;
 mod listing;
+mod mixed;
 mod order;
 mod priorities;
 mod refusals;

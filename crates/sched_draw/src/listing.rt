@@ -3,13 +3,15 @@
 ghost use Rattle.std.specs.Prelude.{◌≡◌, ◌<◌, true, false, IfOk, length};
 ghost use Rattle.machine.specs.Machine.{world};
 ghost use Rattle.machine.specs.World.{World};
-ghost use Rattle.sched_draw.specs.Schedules.{choices_of, drawn_choices, follows, follows_run, is_of_harts};
+ghost use Rattle.sched_draw.specs.Schedules.{choices_of, drawn_choices, follows, follows_run, is_mixed, is_of_harts, ordered_choices};
 
 use crate::bursts::Bursts;
 use crate::chooser::{Chooser, Drawer};
 use crate::even::Even;
+use crate::mixed::order_of_seed;
 use crate::order::Order;
 use crate::priorities::ByPriorities;
+use crate::refusals::Refusals;
 use crate::schedule::{Draw, Schedule};
 use crate::turns::{Alone, Turns};
 use machine::{Choice, Machine};
@@ -18,6 +20,7 @@ use std::alloc::{AllocError, Allocator};
 
 /// The first `steps` choices of a schedule that is the same in each run. The only error is out of
 /// memory.
+#[tactic(auto, unfolding(crate::specs::Schedules::drawn_choices))]
 pub fn list_schedule<A: Allocator>(
     alloc: A,
     schedule: Schedule,
@@ -31,31 +34,32 @@ pub fn list_schedule<A: Allocator>(
     match schedule {
         Schedule::Turns => list_drawn(alloc, Turns::new(harts), steps),
         Schedule::Only(hart) => list_drawn(alloc, Alone::new(hart, harts), steps),
-        Schedule::Seeded { seed, draw } => list_of_seed(alloc, draw, harts, steps, seed),
+        Schedule::Seeded { seed, draw } => {
+            list_in_order(alloc, draw.order, draw.refusals, harts, steps, seed)
+        }
     }
 }
 
 // As `list_schedule`, for choices that a seed draws.
-#[tactic(auto, unfolding(crate::specs::Schedules::drawn_choices))]
-fn list_of_seed<A: Allocator>(
+fn list_in_order<A: Allocator>(
     alloc: A,
-    draw: Draw,
+    order: Order,
+    refusals: Refusals,
     harts: u32,
     steps: u64,
     seed: u64,
 ) -> Result<Vec<Choice, A>, AllocError>
     requires some { 0 < harts }
-    requires same { follows draw.order ≡ false }
-    ensures { IfOk result (λ choices. (w : World) → choices.items ≡ drawn_choices draw w harts steps seed) }
+    requires same { follows order ≡ false }
+    ensures { IfOk result (λ choices. (w : World) → choices.items ≡ ordered_choices order refusals w harts steps seed) }
 {
-    let refusals = draw.refusals;
-    match draw.order {
+    match order {
         Order::Even => list_drawn(alloc, Even::new(harts, refusals, seed), steps),
         Order::Bursts(mean) => {
             list_drawn(alloc, Bursts::new(harts, mean, refusals, seed), steps)
         }
         // These depend on the run.
-        Order::Priorities(_) => unreachable!(),
+        Order::Priorities(_) | Order::Mixed => unreachable!(),
     }
 }
 
@@ -77,7 +81,6 @@ fn list_drawn<D: Drawer, A: Allocator>(
 
 /// The choices of a schedule in a machine's run. If they depend on the run, the machine has done
 /// it. The only error is out of memory.
-#[tactic(auto, unfolding(crate::specs::Schedules::drawn_choices))]
 pub fn list_run<S: Store, A: Allocator + Copy>(
     alloc: A,
     machine: &mut Machine<S, A>,
@@ -90,18 +93,57 @@ pub fn list_run<S: Store, A: Allocator + Copy>(
     ensures { IfOk result (λ choices.
         choices.items ≡ choices_of schedule (world S.memory machine.old) harts steps) }
 {
-    let Schedule::Seeded {
-        seed,
-        draw: Draw {
-            order: Order::Priorities(depth),
-            refusals,
-        },
-    } = schedule
-    else {
-        return list_schedule(alloc, schedule, harts, steps);
-    };
-    let chooser = ByPriorities::new(alloc, harts, depth, refusals, steps, seed)?;
-    list_by(alloc, machine, chooser, steps)
+    match schedule {
+        Schedule::Seeded { seed, draw } => list_drawn_run(alloc, machine, draw, harts, steps, seed),
+        Schedule::Turns | Schedule::Only(_) => list_schedule(alloc, schedule, harts, steps),
+    }
+}
+
+// As `list_run`, for choices that a seed draws.
+#[tactic(auto, unfolding(crate::specs::Schedules::drawn_choices))]
+fn list_drawn_run<S: Store, A: Allocator + Copy>(
+    alloc: A,
+    machine: &mut Machine<S, A>,
+    draw: Draw,
+    harts: u32,
+    steps: u64,
+    seed: u64,
+) -> Result<Vec<Choice, A>, AllocError>
+    requires some { 0 < harts }
+    requires there { length (world S.memory machine.old).harts ≡ harts }
+    ensures { IfOk result (λ choices.
+        choices.items ≡ drawn_choices draw (world S.memory machine.old) harts steps seed) }
+{
+    let order = order_of_seed(draw.order, seed);
+    list_ordered_run(alloc, machine, order, draw.refusals, harts, steps, seed)
+}
+
+// As `list_drawn_run`, for an order that isn't mixed.
+fn list_ordered_run<S: Store, A: Allocator + Copy>(
+    alloc: A,
+    machine: &mut Machine<S, A>,
+    order: Order,
+    refusals: Refusals,
+    harts: u32,
+    steps: u64,
+    seed: u64,
+) -> Result<Vec<Choice, A>, AllocError>
+    requires one { is_mixed order ≡ false }
+    requires some { 0 < harts }
+    requires there { length (world S.memory machine.old).harts ≡ harts }
+    ensures { IfOk result (λ choices.
+        choices.items ≡ ordered_choices order refusals (world S.memory machine.old) harts steps seed) }
+{
+    match order {
+        Order::Even | Order::Bursts(_) => {
+            list_in_order(alloc, order, refusals, harts, steps, seed)
+        }
+        Order::Priorities(depth) => {
+            let chooser = ByPriorities::new(alloc, harts, depth, refusals, steps, seed)?;
+            list_by(alloc, machine, chooser, steps)
+        }
+        Order::Mixed => unreachable!(),
+    }
 }
 
 // The choices of a machine's run, each made when its step comes.

@@ -1,7 +1,7 @@
 //! The order in which a drawn schedule chooses harts.
 
 ghost use Rattle.std.specs.Prelude.{◌≡◌, ◌<◌, ◌≤◌, ◌⊎◌, MatchOption};
-ghost use Rattle.sched_draw.specs.Limits.{most_depth, most_mean};
+ghost use Rattle.sched_draw.specs.Limits.{mixed_depth, mixed_mean, most_depth, most_mean};
 
 /// The greatest mean length of bursts: the longest burst then has 2^32 - 1 choices.
 pub const MOST_MEAN: u32 = 2_147_483_648;
@@ -25,6 +25,13 @@ impl Mean {
             return None;
         }
         Some(Mean { choices })
+    }
+
+    /// That of mixed schedules.
+    pub(crate) fn of_mixed() -> Mean
+        ensures { result.choices ≡ mixed_mean }
+    {
+        Mean { choices: 10 }
     }
 
     /// The mean as a number of choices.
@@ -55,6 +62,13 @@ impl Depth {
         Some(Depth { number })
     }
 
+    /// That of mixed schedules.
+    pub(crate) fn of_mixed() -> Depth
+        ensures { result.number ≡ mixed_depth }
+    {
+        Depth { number: 20 }
+    }
+
     /// The depth as a number.
     pub fn number(self) -> u32
         ensures is { result ≡ self.number }
@@ -75,18 +89,21 @@ pub enum Order {
     /// By priorities, of this depth. Such choices depend on which harts have stopped, so they are
     /// those of a run.
     Priorities(Depth),
+    /// By the seed's remainder by 3: 0 draws evenly, 1 in bursts of 10 choices in the mean, and 2 by
+    /// priorities of depth 20.
+    Mixed,
 }
 
 impl Order {
     ghost use Rattle.sched_draw.specs.Schedules.{follows};
 
-    /// Whether the choices depend on the harts' states in a run.
+    /// Whether the choices can depend on the harts' states in a run.
     pub fn follows(self) -> bool
         ensures { result ≡ follows self }
     {
         match self {
             Order::Even | Order::Bursts(_) => false,
-            Order::Priorities(_) => true,
+            Order::Priorities(_) | Order::Mixed => true,
         }
     }
 }

@@ -59,7 +59,13 @@ fn seed_ends_alike(alloc: Global, order: Order) -> bool {
 // A hart alone stops while the other one doesn't.
 const UNDRAWN: [Schedule; 3] = [Schedule::Turns, Schedule::Only(0), Schedule::Only(1)];
 
-const DRAWN: [Order; 4] = [Order::Usual, Order::Never, Order::Bursts, Order::Priorities];
+const DRAWN: [Order; 5] = [
+    Order::Usual,
+    Order::Never,
+    Order::Bursts,
+    Order::Priorities,
+    Order::Mixed,
+];
 
 #[test]
 fn undrawn_schedules_end_early(rt: HostRuntime) {

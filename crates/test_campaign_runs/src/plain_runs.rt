@@ -11,7 +11,7 @@ use outcome::Outcome;
 use sched_draw::{Schedule, list_schedule};
 use std::alloc::{AllocError, Global};
 
-// The list of a seed's choices; none by priorities, since these depend on the run.
+// The list of a seed's choices; none by priorities or mixed, since these depend on the run.
 fn choices_of(
     alloc: Global,
     order: Order,

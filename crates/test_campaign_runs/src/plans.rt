@@ -26,6 +26,8 @@ pub(crate) enum Order {
     /// By priorities with no change point, so that a hart runs to its end before the next one, and
     /// none refuses.
     Priorities,
+    /// Mixed, and none refuses.
+    Mixed,
 }
 
 /// How seeds draw by an order.
@@ -41,6 +43,7 @@ pub(crate) fn draw_of(order: Order) -> Option<Draw> {
             let depth = Depth::new(1)?;
             Some(never(HartOrder::Priorities(depth)))
         }
+        Order::Mixed => Some(never(HartOrder::Mixed)),
     }
 }
 

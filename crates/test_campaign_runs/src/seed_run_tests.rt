@@ -47,11 +47,12 @@ impl Call for OneSeed {
 }
 
 #[rattlefmt::skip]
-const SEEDS: [OneSeed; 4] = [
+const SEEDS: [OneSeed; 5] = [
     OneSeed { order: Order::Usual },
     OneSeed { order: Order::Never },
     OneSeed { order: Order::Bursts },
     OneSeed { order: Order::Priorities },
+    OneSeed { order: Order::Mixed },
 ];
 
 #[test]

@@ -1,16 +1,13 @@
-use Rattle.std.proofs.Common.{IfOk, ap₂, subst, ◌∙◌}
+use Rattle.std.proofs.Common.{IfOk, subst, sym}
 use Rattle.machine.specs.Machine.{world}
 use Rattle.sched_run.specs.Chosen.{harts_of}
-use Rattle.sched_draw.specs.Schedules.{RanOver}
-use Rattle.sched_draw.specs.Seeds.{usual_choices_drawn}
-use Rattle.sched_draw.proofs.ChoiceLemmas.{usual_draw}
+use Rattle.sched_draw.specs.Schedules.{drawn_choices, RanOver}
 use Rattle.sched_draw.proofs.running.run_drawn.Goals as goal
 
-pub returns-then-is_usual : goal.returns-then-is_usual
-returns-then-is_usual g c =
-    subst (λ choices. IfOk c.run_by.result (λ chosen. RanOver choices (world g.S.Store.memory c.args.machine.now)
-    (world g.S.Store.memory c.run_by.new.machine) (harts_of chosen)))
-    (ap₂ (λ n generator. usual_choices_drawn n c.args.steps generator) c.new.ensures.harts c.new.ensures.begun
-    ∙ usual_draw c.args.draw (world g.S.Store.memory c.args.machine.now) c.args.harts c.args.steps c.args.seed c.in-Even.is
-    (c.is_usual.ensures.0 c.if-is_usual.true))
-    c.run_by.ensures
+pub returns : goal.returns
+unfolding drawn_choices
+returns g c =
+    let w = world g.S.Store.memory c.args.machine.now in
+    subst (λ choices. IfOk c.run_in_order.result (λ chosen. RanOver choices w
+    (world g.S.Store.memory c.run_in_order.new.machine) (harts_of chosen)))
+    (sym (c.order_of_seed-order.ensures.same c.args.draw.refusals w c.args.harts c.args.steps)) c.run_in_order.ensures
