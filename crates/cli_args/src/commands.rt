@@ -56,7 +56,10 @@ pub(crate) const COMMANDS: [CommandRow; 14] = [
         name: "info",
         does: "Shows the entry, the segments, the symbols and the library's object of an ELF file",
         example: "Example: rvcons info swap.elf",
-        arguments: &[Argument::Needed("FILE", "an ELF file")],
+        arguments: &[
+            Argument::Flag("by-address", "show the symbols by rising address"),
+            Argument::Needed("FILE", "an ELF file"),
+        ],
         schedule: Schedule::None,
     },
     CommandRow {

@@ -1,26 +1,49 @@
 //! Runs `list` and `info`.
 
 use byte_io::{ReaderSource, Status, WriterSink};
-use cli_orders::FileOrder;
+use cli_orders::{InfoOrder, ListOrder};
 use cli_report::{Audience, RunFiles, cannot_open, say_why};
 use cmd_run::{FileView, file_engine};
 use program_open::{ProgramForm, deliver};
 use std::rt::Files;
 use std::{fs, io};
 
-/// Shows a view of an ELF file.
-pub fn obey_file<R: Files + AllocGlobal + Print + Eprint>(
+/// Lists the executable segments of an ELF file.
+pub fn obey_list<R: Files + AllocGlobal + Print + Eprint>(
+    rt: &R,
+    audience: Audience,
+    order: &ListOrder,
+) -> Status {
+    show(rt, audience, FileView::Listing, order.file)
+}
+
+/// Shows the facts of an ELF file.
+pub fn obey_info<R: Files + AllocGlobal + Print + Eprint>(
+    rt: &R,
+    audience: Audience,
+    order: &InfoOrder,
+) -> Status {
+    let view = if order.by_address {
+        FileView::FactsByAddress
+    } else {
+        FileView::Facts
+    };
+    show(rt, audience, view, order.file)
+}
+
+// Shows a view of the ELF file at a path.
+fn show<R: Files + AllocGlobal + Print + Eprint>(
     rt: &R,
     audience: Audience,
     view: FileView,
-    order: &FileOrder,
+    path: &str,
 ) -> Status {
-    let file = match fs::open(rt, order.file) {
+    let file = match fs::open(rt, path) {
         Ok(file) => file,
-        Err(error) => return cannot_open(rt, audience, order.file, &error),
+        Err(error) => return cannot_open(rt, audience, path, &error),
     };
     let answer = file_engine(rt.alloc(), view, &mut ReaderSource::new(file));
-    let files = RunFiles::of_program(order.file, 0);
+    let files = RunFiles::of_program(path, 0);
     match deliver(&mut WriterSink::new(io::writer(rt)), answer) {
         Ok(status) => status,
         Err(fault) => say_why(rt, audience, files, fault),

@@ -2,8 +2,7 @@
 #![tactic(auto)]
 
 pub use asm::obey_asm;
-pub use cmd_run::FileView;
-pub use file::obey_file;
+pub use file::{obey_info, obey_list};
 pub use library::obey_lib;
 
 mod asm;

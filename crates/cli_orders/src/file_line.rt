@@ -1,19 +1,35 @@
 //! The commands of one file: `list` and `info`.
 
 use clap::ArgMatches;
-use cli_args::text_of;
+use cli_args::{is_set, text_of};
 
-/// `list FILE` or `info FILE`: lists the executable segments of an ELF file, or shows its entry,
-/// segments and symbols.
+/// `list FILE`: lists the executable segments of an ELF file.
 #[derive(Drop)]
-pub struct FileOrder<'a> {
+pub struct ListOrder<'a> {
     /// The file's path.
     pub file: &'a str,
 }
 
-/// The order in clap's matches.
-pub(crate) fn file_order<'a>(matches: &ArgMatches<'a>) -> Option<FileOrder<'a>> {
-    Some(FileOrder {
+/// `info FILE`: shows the entry, segments and symbols of an ELF file.
+#[derive(Drop)]
+pub struct InfoOrder<'a> {
+    /// Whether the symbols are shown by rising address.
+    pub by_address: bool,
+    /// The file's path.
+    pub file: &'a str,
+}
+
+/// The order of `list` in clap's matches.
+pub(crate) fn list_order<'a>(matches: &ArgMatches<'a>) -> Option<ListOrder<'a>> {
+    Some(ListOrder {
+        file: text_of(matches, "FILE")?,
+    })
+}
+
+/// The order of `info` in clap's matches.
+pub(crate) fn info_order<'a>(matches: &ArgMatches<'a>) -> Option<InfoOrder<'a>> {
+    Some(InfoOrder {
+        by_address: is_set(matches, "by-address"),
         file: text_of(matches, "FILE")?,
     })
 }

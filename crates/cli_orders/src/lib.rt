@@ -5,7 +5,7 @@ pub use asm_line::AsmOrder;
 pub use campaign_line::CampaignOrder;
 pub use debug_line::DebugOrder;
 pub use explore_line::ExploreOrder;
-pub use file_line::FileOrder;
+pub use file_line::{InfoOrder, ListOrder};
 pub use lib_line::LibOrder;
 pub use line::{Order, read_line};
 pub use plan::read_plan;

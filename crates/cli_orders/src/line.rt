@@ -4,7 +4,7 @@ use crate::asm_line::{AsmOrder, asm_order};
 use crate::campaign_line::{CampaignOrder, campaign_order};
 use crate::debug_line::{DebugOrder, debug_order};
 use crate::explore_line::{ExploreOrder, explore_order};
-use crate::file_line::{FileOrder, file_order};
+use crate::file_line::{InfoOrder, ListOrder, info_order, list_order};
 use crate::lib_line::{LibOrder, lib_order};
 use crate::replay_line::{ReplayOrder, replay_order};
 use crate::schedule_line::{ScheduleOrder, schedule_order};
@@ -21,9 +21,9 @@ pub enum Order<'a> {
     /// `asm`
     Asm(AsmOrder<'a>),
     /// `list`
-    List(FileOrder<'a>),
+    List(ListOrder<'a>),
     /// `info`
-    Info(FileOrder<'a>),
+    Info(InfoOrder<'a>),
     /// `run`
     Run(RunOrder<'a>),
     /// `debug`
@@ -51,8 +51,8 @@ pub enum Order<'a> {
 // The order of a command whose arguments are all texts, by its name and its matches.
 fn plain_order<'a>(name: &str, found: &ArgMatches<'a>) -> Option<Order<'a>> {
     match name {
-        "list" => Some(Order::List(file_order(found)?)),
-        "info" => Some(Order::Info(file_order(found)?)),
+        "list" => Some(Order::List(list_order(found)?)),
+        "info" => Some(Order::Info(info_order(found)?)),
         "run" => Some(Order::Run(run_order(found)?)),
         "debug" => Some(Order::Debug(debug_order(found)?)),
         "gdb" => Some(Order::Gdb(debug_order(found)?)),

@@ -1,17 +1,22 @@
 -- What is shown of a file: its entry, its segments, its symbols, and which object it is.
-use Rattle.std.specs.Prelude.{◌≡◌, ℕ, ◌==◌, List, [], ◌∷◌, ◌++◌, Ok, Err, codes, if◌then◌else◌, Option, Some, None}
+use Rattle.std.specs.Prelude.{◌≡◌, ℕ, ◌==◌, List, [], ◌∷◌, ◌++◌, IsPermutation, Vec, Result, Ok, Err, codes, if◌then◌else◌, Option, Some, None}
 use Rattle.std.specs.Fmt.{decimal}
 use Rattle.std.specs.List.{flat_map}
+use Rattle.std.specs.List.Sorted.{IsNonDecreasingBy, IsStableByKey}
+use Rattle.std.specs.Ordering.{nat_cmp}
 use Rattle.std.specs.Int.RustNames.{bit_and}
 use Rattle.image.specs.Image.{ImageValue}
 use Rattle.image.specs.Segment.{SegmentValue}
 use Rattle.elf_read.specs.Symbol.{SymbolValue}
 use Rattle.elf_read.specs.SymbolTable.{Symbols}
+use Rattle.elf_read.specs.declared.symbol.SymFault.{SymFault}
 use Rattle.elf_read.specs.declared.symbol.SymFault.TheVariants as symbols
 use Rattle.isa_names.specs.Digits.{word_text}
 use Rattle.object_library.specs.declared.kind.Kind.{Kind}
 use Rattle.object_library.specs.Images.{image_of, IsSame}
 use Rattle.object_library.specs.Names.{object_name}
+use Rattle.cmd_run.specs.declared.info.SymbolOrder.{SymbolOrder}
+use Rattle.cmd_run.specs.declared.info.SymbolOrder.TheVariants as order
 
 -- a letter for a right, or a dash if it is missing
 abbrev pub right_text : ℕ → ℕ → List ℕ → List ℕ
@@ -46,6 +51,28 @@ symbols_text (Err symbols.NoTable) = codes "symbols none" ++ 10 ∷ []
 symbols_text (Err symbols.BadTable) = codes "symbols bad" ++ 10 ∷ []
 symbols_text (Err symbols.Memory) = []
 
+-- the same symbols by rising address, those of one address in the order in which they were
+pub record IsByAddress (symbols sorted : List SymbolValue) : Type 0 where
+  pub same : IsPermutation symbols sorted
+  pub rising : IsNonDecreasingBy (λ (s : SymbolValue). s.address) sorted
+  pub stable : IsStableByKey (λ (s : SymbolValue). s.address) nat_cmp symbols sorted
+
+-- the symbols in an order
+abbrev pub IsArranged : SymbolOrder → List SymbolValue → List SymbolValue → Type 0
+IsArranged order.OfFile symbols shown = shown ≡ symbols
+IsArranged order.ByAddress symbols shown = IsByAddress symbols shown
+
+-- the symbols of a file in an order, or why it has none
+abbrev pub AreShown : SymbolOrder → Symbols → Symbols → Type 0
+AreShown order (Err why) shown = shown ≡ Err why
+AreShown order (Ok symbols) (Err why) = ⊥
+AreShown order (Ok symbols) (Ok shown) = IsArranged order symbols shown
+
+-- what was found of a file's symbols
+abbrev pub symbols_found : {Z : Type 0} → Result (Vec SymbolValue Z) SymFault → Symbols
+symbols_found (Ok symbols) = Ok symbols.items
+symbols_found (Err why) = Err why
+
 -- an image is the object of a kind, or of none
 abbrev pub NamesLibrary : ImageValue → Option Kind → Type 0
 NamesLibrary image (Some kind) = IsSame image (image_of kind)
@@ -62,8 +89,10 @@ info_of image symbols library =
     codes "entry " ++ (word_text image.entry ++ 10 ∷ (flat_map segment_entry image.segments
     ++ (symbols_text symbols ++ (codes "library " ++ (library_name library ++ 10 ∷ [])))))
 
--- a text is the facts of an image with these symbols
-pub record ShowsFacts (image : ImageValue) (symbols : Symbols) (text : List ℕ) : Type 0 where
+-- a text is the facts of an image with these symbols in an order
+pub record ShowsFacts (order : SymbolOrder) (image : ImageValue) (symbols : Symbols) (text : List ℕ) : Type 0 where
   pub library : Option Kind
   pub named : NamesLibrary image library
-  pub text_is : text ≡ info_of image symbols library
+  pub shown : Symbols
+  pub arranged : AreShown order symbols shown
+  pub text_is : text ≡ info_of image shown library

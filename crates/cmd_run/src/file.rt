@@ -5,7 +5,7 @@ ghost use Rattle.cmd_run.specs.File.{ShowsFile};
 ghost use Rattle.program_open.specs.Program.{program_of};
 ghost use Rattle.program_open.specs.CommandFaults.{IfNames, IsRefusal};
 
-use crate::info::info_text;
+use crate::info::{SymbolOrder, info_text};
 use byte_io::{ReadFault, Source, Status, read_all};
 use isa_disasm::list_image;
 use program_open::{CommandFault, Input, ProgramForm, read_program};
@@ -16,8 +16,10 @@ use std::alloc::Allocator;
 pub enum FileView {
     /// The lines of its executable segments.
     Listing,
-    /// Its entry, its segments and its symbols.
+    /// Its entry, its segments and its symbols, in the file's order.
     Facts,
+    /// The same, but its symbols by rising address.
+    FactsByAddress,
 }
 
 /// What is shown of an ELF file, or why it is invalid.
@@ -33,7 +35,8 @@ pub fn file_text<A: Allocator + Copy>(
     let image = read_program(alloc, ProgramForm::Elf, bytes)?;
     let text = match view {
         FileView::Listing => list_image(alloc, &image),
-        FileView::Facts => info_text(alloc, &image, bytes),
+        FileView::Facts => info_text(alloc, &image, bytes, SymbolOrder::OfFile),
+        FileView::FactsByAddress => info_text(alloc, &image, bytes, SymbolOrder::ByAddress),
     };
     match text {
         Ok(text) => Ok(text),

@@ -1,9 +1,9 @@
 //! What `info` shows of a file.
 
-ghost use Rattle.std.specs.Prelude.{◌≡◌, ◌++◌, IfOk, string_bytes, Result};
+ghost use Rattle.std.specs.Prelude.{◌≡◌, ◌≢◌, ◌++◌, Err, IfOk, string_bytes, Result};
 ghost use Rattle.std.specs.List.{flat_map};
 ghost use Rattle.elf_read.specs.SymbolTable.{symbols_of};
-ghost use Rattle.cmd_run.specs.Info.{info_of, library_name, rights_text, segment_entry, segment_line, symbol_entry, symbol_line, symbols_text, NamesLibrary, ShowsFacts};
+ghost use Rattle.cmd_run.specs.Info.{info_of, library_name, rights_text, segment_entry, segment_line, symbol_entry, symbol_line, symbols_found, symbols_text, AreShown, IsByAddress, NamesLibrary, ShowsFacts};
 
 use elf_read::{SymFault, Symbol, symbols};
 use image::{Image, Rights, Segment};
@@ -11,6 +11,15 @@ use isa_names::Word;
 use object_library::{Kind, certify};
 use std::alloc::{AllocError, Allocator};
 use std::fmt;
+
+/// In which order symbols are shown.
+#[derive(Clone, Copy, PartialEq, Eq)]
+pub enum SymbolOrder {
+    /// That of the file.
+    OfFile,
+    /// By rising address; those of one address in the file's order.
+    ByAddress,
+}
 
 // Rights, shown as `rwx` with a dash for each missing one.
 #[derive(Clone, Copy)]
@@ -133,16 +142,44 @@ fn push_symbols<A: Allocator>(text: &mut String<A>, symbols: &[Symbol<A>]) -> Re
     Ok(())
 }
 
-// Appends the symbols of a file, or why it has none.
-fn push_symbols_of<A: Allocator + Copy>(
-    alloc: A,
-    text: &mut String<A>,
-    bytes: &[u8],
-) -> Result<(), AllocError>
-    ensures { IfOk result (λ _.
-        string_bytes text.new ≡ string_bytes text.old ++ symbols_text (symbols_of bytes.now)) }
+// The symbols by rising address; those of one address stay in their order.
+fn by_address<A: Allocator>(symbols: Vec<Symbol<A>, A>) -> Result<Vec<Symbol<A>, A>, AllocError>
+    ensures { IfOk result (λ sorted. IsByAddress symbols.items sorted.items) }
 {
-    match symbols(alloc, bytes) {
+    let mut sorted = symbols;
+    sorted.sort_by_key(|symbol| symbol.address)?;
+    Ok(sorted)
+}
+
+// The symbols of a file in an order, or why it has none.
+fn shown_symbols<A: Allocator + Copy>(
+    alloc: A,
+    bytes: &[u8],
+    order: SymbolOrder,
+) -> Result<Vec<Symbol<A>, A>, SymFault>
+    ensures { result ≢ Err SymFault.Memory
+        → AreShown order (symbols_of bytes.now) (symbols_found result) }
+{
+    let found = symbols(alloc, bytes)?;
+    match order {
+        SymbolOrder::OfFile => Ok(found),
+        SymbolOrder::ByAddress => match by_address(found) {
+            Ok(sorted) => Ok(sorted),
+            Err(AllocError) => Err(SymFault::Memory),
+        },
+    }
+}
+
+// Appends symbols, or why a file has none. Fails when out of memory, or if the symbols did.
+fn push_found<A: Allocator>(
+    text: &mut String<A>,
+    found: Result<Vec<Symbol<A>, A>, SymFault>,
+) -> Result<(), AllocError>
+    ensures added { IfOk result (λ _.
+        string_bytes text.new ≡ string_bytes text.old ++ symbols_text (symbols_found found)) }
+    ensures known { IfOk result (λ _. found ≢ Err SymFault.Memory) }
+{
+    match found {
         Ok(symbols) if symbols.is_empty() => writeln!(text, "symbols none")?,
         Ok(symbols) => push_symbols(text, &symbols)?,
         Err(SymFault::NoTable) => writeln!(text, "symbols none")?,
@@ -185,38 +222,41 @@ fn library_name(library: Option<Kind>) -> &'static str
     }
 }
 
-// The facts of an image, given the kind of object that it is.
+// The facts of an image with these symbols, given the kind of object that it is.
 #[tactic(auto, unfolding(crate::specs::Info::info_of))]
 fn facts_text<A: Allocator + Copy>(
     alloc: A,
     image: &Image<A>,
-    bytes: &[u8],
+    found: Result<Vec<Symbol<A>, A>, SymFault>,
     library: Option<Kind>,
 ) -> Result<String<A>, AllocError>
-    ensures { IfOk result (λ text.
-        string_bytes text ≡ info_of image.now (symbols_of bytes.now) library) }
+    ensures text { IfOk result (λ text.
+        string_bytes text ≡ info_of image.now (symbols_found found) library) }
+    ensures known { IfOk result (λ _. found ≢ Err SymFault.Memory) }
 {
     let mut text = String::new(alloc);
     let entry = Word(image.entry());
     writeln!(text, "entry {entry}")?;
     push_segments(&mut text, image.segments())?;
-    push_symbols_of(alloc, &mut text, bytes)?;
+    push_found(&mut text, found)?;
     let name = library_name(library);
     writeln!(text, "library {name}")?;
     Ok(text)
 }
 
 /// The facts of a file's image: its entry, its segments in the file's order with their sizes in
-/// bytes and their rights, the file's symbols, and the kind of object that it is.
+/// bytes and their rights, the file's symbols in an order, and the kind of object that it is.
 pub fn info_text<A: Allocator + Copy>(
     alloc: A,
     image: &Image<A>,
     bytes: &[u8],
+    order: SymbolOrder,
 ) -> Result<String<A>, AllocError>
     ensures { IfOk result (λ text.
-        ShowsFacts image.now (symbols_of bytes.now) (string_bytes text)) }
+        ShowsFacts order image.now (symbols_of bytes.now) (string_bytes text)) }
 {
     let library = library_of(image);
-    let text = facts_text(alloc, image, bytes, library)?;
+    let found = shown_symbols(alloc, bytes, order);
+    let text = facts_text(alloc, image, found, library)?;
     Ok(text)
 }

@@ -23,7 +23,7 @@ pub(crate) const COMMANDS: [Row; 14] = [
     },
     Row {
         name: "info",
-        options: &[],
+        options: &["--by-address"],
         example: "rvcons info prog.elf",
     },
     Row {

@@ -5,7 +5,7 @@ use crate::chosen::{debug_chosen, gdb_chosen, run_chosen, shrink_chosen, trace_c
 use byte_io::Status;
 use cli_campaign::{obey_campaign, obey_explore};
 use cli_choices::obey_schedule;
-use cli_files::{FileView, obey_asm, obey_file, obey_lib};
+use cli_files::{obey_asm, obey_info, obey_lib, obey_list};
 use cli_orders::{Order, read_line};
 use cli_report::{Audience, explain_line, out_of_memory, read_arguments, refuse};
 use cli_runs::{obey_replay, obey_threads};
@@ -56,8 +56,8 @@ fn obey<R: Files + AllocGlobal + Print + Eprint + Env + Threads + Wait + Sync + 
         Ok(Order::Debug(order)) => debug_chosen(rt, audience, talk, &order),
         Ok(Order::Gdb(order)) => gdb_chosen(rt, audience, &order),
         Ok(Order::Lib(order)) => Ok(obey_lib(rt, &order)),
-        Ok(Order::List(order)) => Ok(obey_file(rt, audience, FileView::Listing, &order)),
-        Ok(Order::Info(order)) => Ok(obey_file(rt, audience, FileView::Facts, &order)),
+        Ok(Order::List(order)) => Ok(obey_list(rt, audience, &order)),
+        Ok(Order::Info(order)) => Ok(obey_info(rt, audience, &order)),
         Ok(Order::Run(order)) => run_chosen(rt, audience, &order),
         Ok(Order::Threads(order)) => obey_threads(rt, audience, &order),
         Ok(Order::Replay(order)) => obey_replay(rt, audience, &order),

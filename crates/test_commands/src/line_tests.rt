@@ -47,7 +47,7 @@ fn inputs_are_read(rt: HostRuntime) {
 
 // Lines, and what is read of each: its command and the texts of its arguments, by their names.
 #[rattlefmt::skip]
-const LINES: [(&str, &str); 76] = [
+const LINES: [(&str, &str); 77] = [
     ("rvcons asm a.s", "asm IN=a.s"),
     ("rvcons asm --out o a.s b.s", "asm out=o IN=a.s IN=b.s"),
     ("rvcons asm b.s a.s --out=o", "asm out=o IN=b.s IN=a.s"),
@@ -56,6 +56,7 @@ const LINES: [(&str, &str); 76] = [
     ("rvcons list --explain always p", "list FILE=p"),
     ("rvcons list p --explain=never", "list FILE=p"),
     ("rvcons info p", "info FILE=p"),
+    ("rvcons info --by-address p", "info by-address=yes FILE=p"),
     ("rvcons run p --inputs 7,9 --choices c", "run FILE=p inputs=7,9 choices=c"),
     ("rvcons run --choices c --inputs 7,9 p", "run FILE=p inputs=7,9 choices=c"),
     ("rvcons run --choices=c p --inputs=7,9", "run FILE=p inputs=7,9 choices=c"),
@@ -316,11 +317,13 @@ enum Refusal {
 }
 
 // Lines that give no order, and how they are rejected.
-const REFUSED: [(&str, Refusal); 49] = [
+const REFUSED: [(&str, Refusal); 51] = [
     ("rvcons foo", Refusal::Fault),
     ("rvcons asm", Refusal::Fault),
     ("rvcons list", Refusal::Fault),
     ("rvcons info", Refusal::Fault),
+    ("rvcons info --by-address", Refusal::Fault),
+    ("rvcons list --by-address p", Refusal::Fault),
     ("rvcons run --inputs 7 --choices c", Refusal::Fault),
     ("rvcons run p --choices c", Refusal::Fault),
     ("rvcons run p --inputs 7", Refusal::Fault),

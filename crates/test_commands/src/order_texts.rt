@@ -2,8 +2,8 @@
 //! names.
 use cli_args::{ChoiceText, RunOrder, SeedText};
 use cli_orders::{
-    AsmOrder, CampaignOrder, DebugOrder, ExploreOrder, FileOrder, LibOrder, Locks, Order,
-    ReplayOrder, ScheduleOrder, ShrinkOrder, ThreadsOrder, TraceOrder,
+    AsmOrder, CampaignOrder, DebugOrder, ExploreOrder, InfoOrder, LibOrder, ListOrder, Locks,
+    Order, ReplayOrder, ScheduleOrder, ShrinkOrder, ThreadsOrder, TraceOrder,
 };
 use std::alloc::{AllocError, Global};
 
@@ -60,8 +60,8 @@ fn push_seed(text: &mut String, said: SeedText<'_>) -> Result<(), AllocError> {
 pub(crate) fn order_text(alloc: Global, order: &Order) -> Result<String, AllocError> {
     match order {
         Order::Asm(order) => asm_text(alloc, order),
-        Order::List(order) => file_text(alloc, "list", order),
-        Order::Info(order) => file_text(alloc, "info", order),
+        Order::List(order) => list_text(alloc, order),
+        Order::Info(order) => info_text(alloc, order),
         Order::Run(order) => run_text(alloc, order),
         Order::Debug(order) => debug_text(alloc, "debug", order),
         Order::Gdb(order) => debug_text(alloc, "gdb", order),
@@ -84,8 +84,16 @@ fn asm_text(alloc: Global, order: &AsmOrder) -> Result<String, AllocError> {
     Ok(text)
 }
 
-fn file_text(alloc: Global, command: &str, order: &FileOrder) -> Result<String, AllocError> {
-    text_with(alloc, command, &[("FILE", Some(order.file))])
+fn list_text(alloc: Global, order: &ListOrder) -> Result<String, AllocError> {
+    text_with(alloc, "list", &[("FILE", Some(order.file))])
+}
+
+fn info_text(alloc: Global, order: &InfoOrder) -> Result<String, AllocError> {
+    let fields = &[
+        ("by-address", flag(order.by_address)),
+        ("FILE", Some(order.file)),
+    ];
+    text_with(alloc, "info", fields)
 }
 
 fn run_text(alloc: Global, order: &RunOrder) -> Result<String, AllocError> {

@@ -23,6 +23,7 @@ enum EngineCall {
     RunHex,
     List,
     Info,
+    InfoByAddress,
     Replay,
     Debug,
     Gdb,
@@ -38,11 +39,12 @@ enum EngineCall {
 }
 
 // All of them.
-const CALLS: [(&str, EngineCall); 16] = [
+const CALLS: [(&str, EngineCall); 17] = [
     ("run", EngineCall::Run),
     ("run in hexadecimal", EngineCall::RunHex),
     ("list", EngineCall::List),
     ("info", EngineCall::Info),
+    ("info --by-address", EngineCall::InfoByAddress),
     ("replay", EngineCall::Replay),
     ("debug", EngineCall::Debug),
     ("gdb", EngineCall::Gdb),
@@ -62,8 +64,9 @@ impl Call for EngineCall {
         match self {
             EngineCall::Run => is_run(alloc, host, &ELF),
             EngineCall::RunHex => is_run(alloc, host, &HEX),
-            EngineCall::List => is_shown(alloc, host, FileView::Listing, EXITS_LISTING),
-            EngineCall::Info => is_shown(alloc, host, FileView::Facts, EXITS_FACTS),
+            EngineCall::List => is_shown(alloc, host, FileView::Listing, &EXITS, EXITS_LISTING),
+            EngineCall::Info => is_shown(alloc, host, FileView::Facts, &EXITS, EXITS_FACTS),
+            EngineCall::InfoByAddress => is_sorted(alloc, host),
             EngineCall::Replay => is_replayed(alloc, host),
             EngineCall::Debug => is_debugged(alloc, host),
             EngineCall::Gdb => is_served(alloc, host),
@@ -166,13 +169,27 @@ fn is_shown<A: Allocator + Copy>(
     alloc: A,
     host: Global,
     view: FileView,
+    bytes: &[u8],
     text: &str,
 ) -> Result<bool, AllocError> {
-    let mut file = MemorySource::new(&EXITS);
+    let mut file = MemorySource::new(bytes);
     let mut sink = MemorySink::new(host);
     let answer = file_engine(alloc, view, &mut file);
     let ending = deliver(&mut sink, answer);
     answer_of(end_of_run(ending), sink.bytes(), text)
+}
+
+// A program whose second symbol stands before its first, and its facts by address.
+const THERE: &[u8] = b".globl _start\n_start: nop\nthere: ecall\n";
+
+const THERE_FACTS: &str = "entry 00010000\nsegment 00010000 8 r-x\n\
+symbol 00010000 _start\nsymbol 00010004 there\nlibrary none\n";
+
+fn is_sorted<A: Allocator + Copy>(alloc: A, host: Global) -> Result<bool, AllocError> {
+    match assembled_file(host, &mut [MemorySource::new(THERE)]) {
+        Ok(file) => is_shown(alloc, host, FileView::FactsByAddress, &file, THERE_FACTS),
+        Err(_) => Ok(false),
+    }
 }
 
 fn is_replayed<A: Allocator + Copy>(alloc: A, host: Global) -> Result<bool, AllocError> {
