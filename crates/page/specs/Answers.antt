@@ -26,3 +26,7 @@ Says holds answer = (reply : Reply) × IsReply reply answer × holds reply
 abbrev pub SaysOf : {Q : Type 0} → Option Q → (Q → Reply → Type 0) → Answer → Type 0
 SaysOf (Some asked) holds answer = Says (holds asked) answer
 SaysOf None holds answer = HasNumbers 0 (code_of status.BadLine) 4 answer
+
+-- the same where the numbers ask for what fits them
+abbrev pub SaysWhat : {Q : Type 0} → (Option Q → Type 0) → (Q → Reply → Type 0) → Answer → Type 0
+SaysWhat {Q} Asks holds answer = (asked : Option Q) × Asks asked × SaysOf asked holds answer

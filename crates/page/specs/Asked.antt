@@ -1,5 +1,7 @@
 -- What the numbers of a call ask for.
 use Rattle.std.specs.Prelude.{ℕ, ◌==◌, if◌then◌else◌, Option, Some, None}
+use Rattle.campaign_runs.specs.declared.campaign.Report.{Report}
+use Rattle.campaign_runs.specs.declared.campaign.Report.TheVariants as report
 use Rattle.cmd_run.specs.declared.file.FileView.{FileView}
 use Rattle.cmd_run.specs.declared.file.FileView.TheVariants as view
 use Rattle.cmd_trace.specs.declared.plan.TraceForm.TheVariants.{Lines}
@@ -41,3 +43,13 @@ view_numbered n = if n == 0 then Some view.Listing else if n == 1 then Some view
 -- the lines of the choices from one to another
 abbrev pub lines_of : ℕ → ℕ → TracePlan
 lines_of from to = record { form = Lines; from = from; to = Some to }
+
+-- what is reported of a campaign: 0 all runs, 1 the failed ones, 2 outcomes, 3 outcomes with the
+-- harts' results
+abbrev pub report_numbered : ℕ → Option Report
+report_numbered n =
+    if n == 0 then Some report.Lines
+    else if n == 1 then Some report.Failures
+    else if n == 2 then Some report.Summary
+    else if n == 3 then Some report.Outcomes
+    else None

@@ -1,8 +1,9 @@
 //! What the numbers of a call ask for.
 
 ghost use Rattle.std.specs.Prelude.{◌≡◌};
-ghost use Rattle.page.specs.Asked.{exit_numbered, expect_numbered, lines_of, rule_numbered, view_numbered};
+ghost use Rattle.page.specs.Asked.{exit_numbered, expect_numbered, lines_of, report_numbered, rule_numbered, view_numbered};
 
+use cmd_campaign::Report;
 use cmd_run::FileView;
 use cmd_trace::{TraceForm, TracePlan};
 use object_library::Kind;
@@ -61,5 +62,18 @@ pub(crate) fn plan_of(from: u64, to: u64) -> TracePlan
         form: TraceForm::Lines,
         from,
         to: Some(to),
+    }
+}
+
+/// What is reported of a campaign.
+pub(crate) fn report_of(report: u32) -> Option<Report>
+    ensures { result ≡ report_numbered report }
+{
+    match report {
+        0 => Some(Report::Lines),
+        1 => Some(Report::Failures),
+        2 => Some(Report::Summary),
+        3 => Some(Report::Outcomes),
+        _ => None,
     }
 }

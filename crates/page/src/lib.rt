@@ -2,7 +2,10 @@
 #![tactic(auto)]
 
 pub use answer::Answer;
+pub use seeds::{AskedCampaign, AskedChoices, AskedDraw};
 
 mod answer;
 mod asked;
 mod exports;
+mod seed_exports;
+mod seeds;

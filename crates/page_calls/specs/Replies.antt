@@ -1,5 +1,5 @@
 -- What a reply and the output behind it tell of a command's answer.
-use Rattle.std.specs.Prelude.{◌≡◌, ℕ, ◌<◌, ◌≤◌, List, drop, length, take}
+use Rattle.std.specs.Prelude.{◌≡◌, ℕ, ◌<◌, ◌≤◌, List, [], drop, length, take}
 use Rattle.std.specs.declared.result.Result.{Result}
 use Rattle.std.specs.declared.result.Result.TheVariants.{Ok, Err}
 use Rattle.byte_io.specs.declared.status.Status.{Status}
@@ -39,3 +39,8 @@ TellsAnswer status_of (Err why) out reply = TellsFault (status_of why) out reply
 abbrev pub ends_well : {F : Type 0} → Result (List ℕ) F → Result (List ℕ × Status) F
 ends_well (Ok bytes) = Ok (bytes, Done)
 ends_well (Err why) = Err why
+
+-- a command that prints nothing where it ends well
+abbrev pub prints_nothing : {T F : Type 0} → Result T F → Result (List ℕ × Status) F
+prints_nothing (Ok value) = Ok ([], Done)
+prints_nothing (Err why) = Err why

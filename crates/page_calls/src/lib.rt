@@ -8,6 +8,7 @@ pub use schedules::{schedule_call, shrink_call};
 pub use sessions::debug_call;
 pub use showing::file_call;
 pub use sources::{assemble_call, listing_call};
+pub use words::explain_call;
 
 mod campaigns;
 mod reply;
@@ -16,3 +17,4 @@ mod schedules;
 mod sessions;
 mod showing;
 mod sources;
+mod words;

@@ -10,9 +10,9 @@ use byte_io::{MemorySink, MemorySource, Status};
 use cmd_asm::{AssemblyFault, assembled_file, listing_engine};
 use std::alloc::Allocator;
 
-// The reply for sources with this fault. A source in memory can be read, and a sink in memory
-// refuses a byte only where memory is refused.
-fn refused_by<A: Allocator>(alloc: A, fault: AssemblyFault, out: &mut [u8]) -> Reply
+/// The reply for sources with this fault. A source in memory can be read, and a sink in memory
+/// refuses a byte only where memory is refused.
+pub(crate) fn refused_by<A: Allocator>(alloc: A, fault: AssemblyFault, out: &mut [u8]) -> Reply
     ensures told { IsSourceFault fault → TellsFault (assembly_status fault) out.new result }
     ensures other { result ≢ Reply.NoMemory → IsSourceFault fault }
     ensures kept { KeepsRest out.old out.new result }

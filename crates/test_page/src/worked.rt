@@ -9,8 +9,8 @@ use cmd_trace::{TraceForm, TracePlan};
 use object_library::Kind;
 use outcome::{Exit, Expect};
 use page_calls::{
-    Reply, Told, assemble_call, campaign_call, debug_call, file_call, listing_call, run_call,
-    schedule_call, shrink_call, trace_call,
+    Reply, Told, assemble_call, campaign_call, debug_call, explain_call, file_call, listing_call,
+    run_call, schedule_call, shrink_call, trace_call,
 };
 use program_open::ProgramForm;
 use sched_draw::{Draw, Order, Refusals};
@@ -47,6 +47,8 @@ pub(crate) enum Asked {
     File(&'static str),
     /// The listing of a source.
     Listing(&'static str),
+    /// What is wrong with a source.
+    Explained(&'static str),
     /// What is shown of an ELF file.
     Shown(FileView, &'static [u8]),
     /// How a run ends.
@@ -95,6 +97,7 @@ pub(crate) fn made<A: Allocator + Copy>(alloc: A, asked: Asked, out: &mut [u8]) 
     match asked {
         Asked::File(source) => assemble_call(alloc, source.as_bytes(), out),
         Asked::Listing(source) => listing_call(alloc, source.as_bytes(), out),
+        Asked::Explained(source) => explain_call(alloc, source.as_bytes(), out),
         Asked::Shown(view, file) => file_call(alloc, view, file, out),
         Asked::Ends(run) => {
             let choices = run.choices.as_bytes();
@@ -203,10 +206,11 @@ const TABLE: &str = "| Choice | Hart 0 | At |
 
 /// The calls, each with its answer.
 #[rattlefmt::skip]
-pub(crate) const ROWS: [(Asked, Wanted); 13] = [
+pub(crate) const ROWS: [(Asked, Wanted); 14] = [
     (Asked::Listing("li a7, 93\necall\n"), Wanted::Prints("addi a7, zero, 93  # 00010000 05d00893\necall  # 00010004 00000073\n", Status::Done)),
     (Asked::Listing("ecall\nnop x1\n"), Wanted::Faults("asm fault 3 Operands at 0:2", Status::Refused)),
     (Asked::File("nop x1"), Wanted::Faults("asm fault 3 Operands at 0:1", Status::Refused)),
+    (Asked::Explained("ecall\nnop x1\n"), Wanted::Faults("source:2: nop takes nothing, and 1 operands are given\n    nop x1\n    ^^^\n", Status::Refused)),
     (Asked::Shown(FileView::Facts, &EXITS), Wanted::Prints(EXITS_FACTS, Status::Done)),
     (Asked::Shown(FileView::Listing, &EXITS), Wanted::Prints(EXITS_LISTING, Status::Done)),
     (Asked::Shown(FileView::Facts, b"none"), Wanted::Faults("elf fault 1 Short", Status::Refused)),
