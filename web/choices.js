@@ -27,6 +27,9 @@ function withoutLast(text) {
   return count > 0 ? before + last[1] + itemText(last[2], last[3], count) : before;
 }
 
+/** How many choices a text has. */
+const countOfChoices = (text) => (text.match(/\S+/g) ?? []).reduce((sum, item) => sum + Number(item.split('*')[1] ?? 1), 0);
+
 // So many items stand on a line.
 const ON_A_LINE = 20;
 

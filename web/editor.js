@@ -83,11 +83,13 @@ const lineAt = (text, place) => text.slice(0, place).split('\n').length;
 /** The first line of a source, from 1, behind the comments at its head. */
 const lineOfCode = (text) => text.split('\n').findIndex((line) => !/^\s*(#|$)/.test(line)) + 1;
 
+/** Where a line begins. */
+const beginOfLine = (text, number) => text.split('\n').slice(0, number - 1).reduce((sum, it) => sum + it.length + 1, 0);
+
 /** Where a line begins and ends, without the blanks around its text. */
 function placesOfLine(text, number) {
-  const lines = text.split('\n');
-  const line = lines[number - 1] ?? '';
-  const begin = lines.slice(0, number - 1).reduce((sum, it) => sum + it.length + 1, 0);
+  const line = text.split('\n')[number - 1] ?? '';
+  const begin = beginOfLine(text, number);
   return [begin + line.length - line.trimStart().length, begin + line.trimEnd().length];
 }
 

@@ -3,28 +3,31 @@
 /** Why a call gave no answer: it was stopped, or the browser can't run the module. */
 class NoAnswer extends Error {}
 
-/** The worker with the module. What is asked of it waits in turn; `stop` ends it with all that waits, and the next call begins another. */
+/** The worker with the module, of which `module` is a promise. What is asked of it waits in turn; `stop` ends it with all that waits, and the next call begins another. */
 class Engine {
   constructor(module, script) {
-    Object.assign(this, { module, script, worker: null, number: 0, waiting: new Map() });
+    Object.assign(this, { module, script, worker: null, stops: 0, number: 0, waiting: new Map() });
   }
 
   get isBusy() {
     return this.waiting.size > 0;
   }
 
-  begin() {
+  begin(module) {
     const place = URL.createObjectURL(new Blob([this.script], { type: 'text/javascript' }));
     this.worker = new Worker(place);
     URL.revokeObjectURL(place);
     this.worker.onmessage = ({ data }) => this.hear(data);
     this.worker.onerror = (event) => this.end(new NoAnswer(event.message || 'the worker has ended'));
-    return this.send({ module: this.module });
+    this.worker.postMessage({ module, number: 0 });
   }
 
   /** What a command answers: `kind`, `status`, `bytes`, `of` which step it is, and the milliseconds that it took. */
   async ask(asked) {
-    if (!this.worker) await this.begin();
+    const { stops } = this;
+    const module = await this.module;
+    if (stops !== this.stops) throw new NoAnswer('stopped');
+    if (!this.worker) this.begin(module);
     return this.send(asked);
   }
 
@@ -51,6 +54,7 @@ class Engine {
   end(why) {
     this.worker?.terminate();
     this.worker = null;
+    this.stops += 1;
     const waits = [...this.waiting.values()];
     this.waiting.clear();
     waits.forEach(({ failed }) => failed(why));

@@ -25,6 +25,17 @@ function sourceFault(text) {
   return name === undefined ? null : { line: Number(line), meaning: ASSEMBLER_FAULTS[name] ?? name };
 }
 
+/** The words for people on a source's fault, and which part of its line they are about, in JavaScript's places; null where there are none. */
+function wordsOn(text) {
+  const [head = '', shown = '', marks = ''] = text.split('\n');
+  const [, said] = /^source:\d+: (.+)$/.exec(head) ?? [];
+  const [, room, signs] = /^ {4}([ \t]*)(\^+)$/.exec(marks) ?? [];
+  if (said === undefined || signs === undefined) return null;
+  const letters = [...shown.slice(4)];
+  const lengthOf = (count) => letters.slice(0, count).join('').length;
+  return { said: said.replace(/\bsource:(\d+)/g, 'line $1'), from: lengthOf(room.length), to: lengthOf(room.length + signs.length) };
+}
+
 /** The byte of a choice text that a fault is at, with what it means; null for another text. */
 function choiceFault(text) {
   const [, name, at] = /^choice fault (\w+) at (\d+)$/.exec(text) ?? [];

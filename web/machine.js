@@ -12,6 +12,20 @@ const OUTPUT_SHARE = 1 / 4;
 // The numbers of rules and of views (crates/page/specs/Asked.antt).
 const RULE_NUMBERS = { none: 0, swap: 1, add: 2, lrsc: 3, adopt: 4, rounds: 5 };
 const VIEW_NUMBERS = { listing: 0, facts: 1 };
+// The numbers of orders and of reports (crates/page/src/seeds.rt).
+const ORDER_NUMBERS = { even: 0, bursts: 1, priorities: 2 };
+const REPORT_NUMBERS = { lines: 0, failures: 1, summary: 2, outcomes: 3 };
+
+/** A struct's fields one after another: those of 8 bytes, which are BigInts, and then those of 4. */
+function packed(wide, words) {
+  const view = new DataView(new ArrayBuffer(8 * wide.length + 8 * Math.ceil(words.length / 2)));
+  wide.forEach((it, index) => view.setBigUint64(8 * index, BigInt(it), true));
+  words.forEach((it, index) => view.setUint32(8 * wide.length + 4 * index, it, true));
+  return new Uint8Array(view.buffer);
+}
+
+/** How a seed draws: its order, with a number where that has one, and one refusal in so many, or none for 0. */
+const drawWords = ({ order, number, oneIn }) => [ORDER_NUMBERS[order], number, oneIn];
 
 const alignedUp = (number) => Math.ceil(number / UNIT) * UNIT;
 const alignedDown = (number) => Math.floor(number / UNIT) * UNIT;
@@ -51,17 +65,18 @@ class Machine {
     Object.assign(this, { module, room, heap });
   }
 
-  /** Calls an export with numbers (BigInts where they have 64 bits) and slices; what it answers, with the bytes of its text. */
+  /** Calls an export with numbers (BigInts where they have 64 bits, and the bytes of a struct) and slices; what it answers, with the bytes of its text. */
   call(name, numbers, slices) {
     const { exports } = new WebAssembly.Instance(this.module, {});
     const free = new Room(exports);
     const room = this.room ?? alignedDown(free.buffer.byteLength * OUTPUT_SHARE);
     const answer = free.take(ANSWER.size);
+    const asked = numbers.map((it) => (it instanceof Uint8Array ? free.put(it)[0] : it));
     const given = slices.flatMap((it) => free.put(it));
     const out = free.take(room);
     const heap = this.heap === null ? free.left : alignedDown(this.heap);
     const region = free.take(heap);
-    exports[name](BigInt(region), BigInt(heap), ...numbers, ...given, BigInt(out), BigInt(room), BigInt(answer));
+    exports[name](BigInt(region), BigInt(heap), ...asked, ...given, BigInt(out), BigInt(room), BigInt(answer));
     const told = new DataView(free.buffer, answer, ANSWER.size);
     return {
       kind: ANSWER_KINDS[told.getUint32(ANSWER.kind, true)],
@@ -80,6 +95,11 @@ class Machine {
     return this.call('page_listing', [], [source]);
   }
 
+  /** What is wrong with a source, in words, and where; nothing where it has no fault. */
+  explain(source) {
+    return this.call('page_explain', [], [source]);
+  }
+
   /** `list` (view `listing`) or `info` (`facts`) of an ELF file. */
   file(view, program) {
     return this.call('page_file', [VIEW_NUMBERS[view]], [program]);
@@ -94,6 +114,27 @@ class Machine {
   trace({ from = 1, to, inputs, program, choices }) {
     return this.call('page_trace', [BigInt(from), BigInt(to)], [inputs, program, choices]);
   }
+
+  /** `shrink` of an ELF file's choices, under the rule and the exit of `run`. */
+  shrink({ rule = 'none', mustExit = false, inputs, program, choices }) {
+    return this.call('page_shrink', [RULE_NUMBERS[rule], mustExit ? 1 : 0], [inputs, program, choices]);
+  }
+
+  /** `debug` of an ELF file: the answers to the lines of `commands`. */
+  debug({ inputs, program, choices, commands }) {
+    return this.call('page_debug', [], [inputs, program, choices, commands]);
+  }
+
+  /** `schedule` of an ELF file: the choices that a seed draws in a run of so many steps. */
+  schedule({ seed, steps, draw, inputs, program }) {
+    return this.call('page_schedule', [packed([steps, seed], drawWords(draw))], [inputs, program]);
+  }
+
+  /** `campaign` of an ELF file: the runs of `count` seeds from `first` on. */
+  campaign({ first, count, steps, draw, rule = 'none', mustExit = false, report, inputs, program }) {
+    const words = [...drawWords(draw), RULE_NUMBERS[rule], mustExit ? 1 : 0, REPORT_NUMBERS[report]];
+    return this.call('page_campaign', [packed([first, count, steps], words)], [inputs, program]);
+  }
 }
 
-if (typeof module !== 'undefined') module.exports = { Machine, ANSWER_KINDS };
+if (typeof module !== 'undefined') module.exports = { Machine, ANSWER_KINDS, packed };

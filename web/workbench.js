@@ -2,6 +2,10 @@
 
 // The picture has room for so many choices.
 const MOST_TRACED = 20_000;
+// The greatest number of each order of a draw and the usual one, and of refusals (crates/sched_draw/src/order.rt).
+const MOST_NUMBERS = { even: 0n, bursts: 2147483648n, priorities: 1000n };
+const USUAL_NUMBERS = { bursts: 30, priorities: 3 };
+const MOST_ONE_IN = 65536n;
 // A name for what was typed and not opened.
 const OWN_NAME = 'program';
 const decode = (bytes) => new TextDecoder().decode(bytes);
@@ -28,16 +32,28 @@ class TracePicture extends Page {
     document.title = title;
   }
 
+  /** Calls a function after each move. */
+  hearMoves(hear) {
+    this.hearMove = hear;
+  }
+
+  moveTo(place) {
+    super.moveTo(place);
+    this.hearMove?.();
+  }
+
   /** The picture's keys are heard where it has the focus. */
   hearKey(event) {
-    if (find('story').contains(event.target)) super.hearKey(event);
+    if (find('story').contains(event.target) && !find('debugger').contains(event.target)) super.hearKey(event);
   }
 }
 
 class Workbench {
-  constructor(engine, examples) {
-    Object.assign(this, { engine, examples, name: OWN_NAME, turn: 0 });
+  constructor(makeEngine, examples) {
+    Object.assign(this, { engine: makeEngine(), examples, name: OWN_NAME, turn: 0 });
     this.picture = new TracePicture();
+    this.campaign = new CampaignPanel(this, makeEngine);
+    this.debugger = new DebugPanel(this.engine, this.picture);
     this.source = new Editor(find('source-editor'), find('source-fault'));
     this.choices = new Editor(find('choices-editor'), find('choices-fault'));
     this.hearCommands();
@@ -81,6 +97,25 @@ class Workbench {
     return inputs;
   }
 
+  /** How a seed draws; null, and a fault beside the fields, where they don't say it. */
+  draw() {
+    const order = find('order').value;
+    const most = MOST_NUMBERS[order];
+    const number = order === 'even' ? 0n : wholeOf(find('order-number').value, most + 1n);
+    const oneIn = wholeOf(find('one-in').value, MOST_ONE_IN + 1n);
+    const isNumber = order === 'even' || (number !== null && number > 0n);
+    find('draw-fault').hidden = isNumber && oneIn !== null;
+    find('draw-fault').textContent = isNumber ? `A refusal is one in 1 to ${MOST_ONE_IN} choices, or none with 0.` : `The ${order === 'bursts' ? 'mean of bursts' : 'depth of priorities'} is 1 to ${most}.`;
+    return isNumber && oneIn !== null ? { order, number: Number(number), oneIn: Number(oneIn) } : null;
+  }
+
+  showOrder() {
+    const order = find('order').value;
+    find('order-number').hidden = order === 'even';
+    if (order !== 'even') find('order-number').value = USUAL_NUMBERS[order];
+    find('draw-fault').hidden = true;
+  }
+
   /** A button for each hart's next step. */
   showHarts() {
     const harts = this.inputs()?.length ?? 0;
@@ -102,13 +137,17 @@ class Workbench {
     press('do-list', () => this.print('list'));
     press('do-info', () => this.print('info'));
     press('do-file', () => this.saveFile());
+    press('do-shrink', () => this.shrink());
     press('stop', () => this.engine.stop());
     document.addEventListener('keydown', (event) => {
       if (event.key === 'Enter' && (event.ctrlKey || event.metaKey)) {
         event.preventDefault();
         if (event.shiftKey) this.trace(true);
         else this.run();
-      } else if (event.key === 'Escape' && this.engine.isBusy) this.engine.stop();
+      } else if (event.key === 'Escape') {
+        if (this.engine.isBusy) this.engine.stop();
+        this.campaign.stop();
+      }
     });
   }
 
@@ -137,7 +176,7 @@ class Workbench {
   }
 
   /** Shows why there is no answer, where there is none. */
-  isAnswered(command, { kind, of, status, bytes, milliseconds }) {
+  isAnswered(command, { kind, of, status, bytes, words, milliseconds }) {
     const reasons = {
       'no room': 'the answer is longer than the room for it',
       'no memory': 'out of memory',
@@ -148,14 +187,18 @@ class Workbench {
     if (kind === 'answered') return true;
     const text = decode(bytes);
     find('answer').textContent = text;
-    if (kind === 'refused') this.markFault(of, text);
+    if (kind === 'refused') this.markFault(of, text, words ? wordsOn(decode(words)) : null);
     return false;
   }
 
-  markFault(of, text) {
+  /** Marks a fault's place: of a source the part that the words are about, or else the line. */
+  markFault(of, text, words) {
     const inSource = of === 'source' ? sourceFault(text) : null;
     const inChoices = of === 'run' ? choiceFault(text) : null;
-    if (inSource) {
+    if (inSource && words) {
+      const begin = beginOfLine(this.source.text, inSource.line);
+      this.source.mark(begin + words.from, begin + words.to, `Line ${inSource.line}: ${words.said}.`);
+    } else if (inSource) {
       this.source.mark(...placesOfLine(this.source.text, inSource.line), `Line ${inSource.line}: ${inSource.meaning}.`);
     } else if (inChoices) {
       const at = placeOfByte(this.choices.text, inChoices.at);
@@ -176,10 +219,41 @@ class Workbench {
     return this.print('run');
   }
 
+  /** Leaves out the choices that the failure doesn't need; whether it did. */
+  async shrink() {
+    const before = countOfChoices(this.choices.text);
+    const answer = await this.ask('shrink');
+    if (!answer) return false;
+    this.setChoices(decode(answer.bytes).trim(), false);
+    find('answer').textContent = `${countOfChoices(this.choices.text)} of ${counted(before, 'choice')} are left`;
+    return true;
+  }
+
+  /** Fills the choices with those that a seed draws in so many steps; whether it did. */
+  async drawSeed(seed, steps) {
+    const draw = this.draw();
+    const answer = draw && (await this.ask('schedule', { seed, steps, draw }));
+    if (!answer) return false;
+    this.setChoices(decode(answer.bytes).trim(), false);
+    find('answer').textContent = `The choices of seed ${seed}: ${countOfChoices(this.choices.text)} of them`;
+    return true;
+  }
+
+  /** Shows a seed's run in the picture; shrunk first, where that is asked for. */
+  async showSeed(seed, steps, isShrunk) {
+    find('seed').value = String(seed);
+    if (!(await this.drawSeed(seed, steps)) || (isShrunk && !(await this.shrink()))) return;
+    const { textContent: said } = find('answer');
+    if (await this.trace(true)) find('answer').textContent = `Seed ${seed}: ${isShrunk ? said : find('answer').textContent}`;
+  }
+
   /** Traces the choices and shows the picture, from its beginning or after the last choice. */
   async trace(isFromStart) {
+    const { source, choices: text } = this.held();
+    const inputs = this.inputs();
     const answer = await this.ask('trace', { to: MOST_TRACED });
-    if (!answer) return;
+    if (!answer) return false;
+    this.debugger.begin({ source, choices: text, inputs });
     this.picture.open(decode(answer.bytes), this.name);
     const { choices } = this.picture.story;
     const isCut = choices.length === MOST_TRACED;
@@ -188,6 +262,7 @@ class Workbench {
       find('story').scrollIntoView({ block: 'nearest' });
       find('picture').focus({ preventScroll: true });
     } else this.picture.go(choices.length);
+    return true;
   }
 
   async saveFile() {
@@ -209,6 +284,13 @@ class Workbench {
     const harts = () => this.inputs()?.length ?? 0;
     find('turns').addEventListener('click', () => this.setChoices(harts() > 0 ? byTurns(harts(), steps()) : '', false));
     find('one-by-one').addEventListener('click', () => this.setChoices(steps() > 0 ? oneByOne(harts(), steps()) : '', false));
+    find('of-seed').addEventListener('click', () => {
+      const seed = wholeOf(find('seed').value, SEED_LIMIT);
+      if (seed === null) this.tell('A seed is a decimal number below 2^64.');
+      else this.drawSeed(seed, steps());
+    });
+    find('order').addEventListener('change', () => this.showOrder());
+    for (const name of ['order-number', 'one-in']) find(name).addEventListener('input', () => this.draw());
     find('empty').addEventListener('click', () => this.setChoices('', false));
     window.matchMedia('(prefers-color-scheme: dark)').addEventListener('change', () => this.showHarts());
   }
@@ -269,7 +351,10 @@ class Workbench {
     }
     this.notify('');
     if (/\.choices$/.test(file.name)) this.setChoices(text, false);
-    else if (/\.(trace|json|jsonl|ndjson)$/.test(file.name)) this.picture.open(text, file.name);
+    else if (/\.(trace|json|jsonl|ndjson)$/.test(file.name)) {
+      this.debugger.begin(null);
+      this.picture.open(text, file.name);
+    }
     else {
       this.source.text = text;
       this.name = file.name.replace(/\.[^.]*$/, '') || OWN_NAME;
@@ -315,11 +400,16 @@ async function openPage() {
   const { commit, digest } = JSON.parse(find('about').textContent);
   find('build').textContent = `Commit ${commit}; the module’s SHA-256 is ${digest}.`;
   const bytes = Uint8Array.from(atob(find('module').textContent), (it) => it.charCodeAt(0));
-  const bench = new Workbench(new Engine(bytes, find('worker').textContent), JSON.parse(find('examples').textContent));
+  const module = WebAssembly.compile(bytes).catch((error) => {
+    throw new NoAnswer(error.message);
+  });
+  // Each command says that there is no module.
+  module.catch(() => {});
+  const bench = new Workbench(() => new Engine(module, find('worker').textContent), JSON.parse(find('examples').textContent));
   if (!(await bench.openLink())) bench.showExample(bench.examples[0].title);
   if (!has64BitMemory()) {
     bench.notify(NO_MEMORY_64, true);
-    for (const button of document.querySelectorAll('#result button, #harts-next button, #undo')) button.disabled = true;
+    for (const button of document.querySelectorAll('#result button, #campaign button, #harts-next button, #undo, #of-seed, #do-shrink')) button.disabled = true;
   }
 }
 

@@ -1,4 +1,4 @@
-// The worker: it compiles the module once, and answers a message at a time.
+// The worker: the page gives it the module first, compiled; then it answers a message at a time.
 
 const encode = (text) => new TextEncoder().encode(text);
 
@@ -18,36 +18,50 @@ class Commands {
 
   /** What a command answers, and whether that is of the source or of a run of its program. */
   answer(asked) {
-    if (asked.command === 'list') return { of: 'source', ...this.machine.listing(encode(asked.source)) };
-    const assembled = this.assemble(asked.source);
-    if (asked.command === 'file' || assembled.kind !== 'answered') return { of: 'source', ...assembled };
+    const { command, source } = asked;
+    if (command === 'list') return this.ofSource(source, this.machine.listing(encode(source)));
+    const assembled = this.assemble(source);
+    if (command === 'file' || assembled.kind !== 'answered') return this.ofSource(source, assembled);
     return { of: 'run', ...this.ofProgram(assembled.bytes, asked) };
   }
 
-  ofProgram(program, { command, ...asked }) {
+  /** An answer on a source; where it is refused, with the words for people. */
+  ofSource(source, answer) {
+    const words = answer.kind === 'refused' ? this.machine.explain(encode(source)).bytes : null;
+    return { of: 'source', ...answer, words };
+  }
+
+  ofProgram(program, { command, commands = '', ...asked }) {
+    const { machine } = this;
     const given = { ...asked, program, inputs: Uint32Array.from(asked.inputs), choices: encode(asked.choices) };
-    if (command === 'info') return this.machine.file('facts', program);
-    return command === 'run' ? this.machine.run(given) : this.machine.trace(given);
+    const deeds = {
+      info: () => machine.file('facts', program),
+      run: () => machine.run(given),
+      trace: () => machine.trace(given),
+      shrink: () => machine.shrink(given),
+      schedule: () => machine.schedule(given),
+      campaign: () => machine.campaign(given),
+      debug: () => machine.debug({ ...given, commands: encode(commands) }),
+    };
+    return deeds[command]();
   }
 }
 
-// A promise of the commands, once the module is there.
+// There once the module has come.
 let commands = null;
 
-async function answerTo({ module, ...asked }) {
+function answerTo({ module, ...asked }) {
   if (module) {
-    commands = WebAssembly.compile(module).then((compiled) => new Commands(new Machine(compiled)));
-    await commands;
+    commands = new Commands(new Machine(module));
     return null;
   }
-  const given = await commands;
   const began = performance.now();
-  return { ...given.answer(asked), milliseconds: performance.now() - began };
+  return { ...commands.answer(asked), milliseconds: performance.now() - began };
 }
 
-onmessage = async ({ data: { number, ...asked } }) => {
+onmessage = ({ data: { number, ...asked } }) => {
   try {
-    postMessage({ number, answer: await answerTo(asked) });
+    postMessage({ number, answer: answerTo(asked) });
   } catch (error) {
     postMessage({ number, error: error.message });
   }

@@ -7,7 +7,6 @@ use Rattle.page.specs.declared.seeds.AskedCampaign.{AskedCampaign}
 use Rattle.page.specs.declared.seeds.AskedChoices.{AskedChoices}
 use Rattle.page.specs.declared.seeds.AskedDraw.{AskedDraw}
 use Rattle.sched_draw.specs.Limits.{most_depth, most_mean, most_one_in}
-use Rattle.sched_draw.specs.Refusing.{IsOneIn}
 use Rattle.sched_draw.specs.declared.order.Order.{Order}
 use Rattle.sched_draw.specs.declared.order.Order.TheVariants.{Even, Bursts, Priorities}
 use Rattle.sched_draw.specs.declared.refusals.Refusals.{Refusals}
