@@ -16,7 +16,8 @@ pub use objects::{read_object, read_rule};
 pub use output_file::{OutputFault, OutputFile, PROGRAM_MODE, TEXT_MODE};
 pub use progress_line::{WIPE, wipe_line};
 pub use report::{
-    bad_line, cannot_open, cannot_read, cannot_write, out_of_memory, refuse, say, would_overwrite,
+    bad_line, cannot_open, cannot_read, cannot_write, out_of_memory, refuse, refuse_line, say,
+    would_overwrite,
 };
 pub use run_choices::RunChoices;
 pub use said::{form_said, inputs_said, rule_said};

@@ -9,7 +9,12 @@ use byte_io::Status;
 use cli_args::LineFault;
 use object_library::KIND_NAMES;
 use program_open::CommandFault;
+use std::alloc::AllocError;
 use std::io;
+
+// Where clap tells to write `--` before a word that begins with `-`. For a value of an option, as
+// in `--inputs -1`, that is wrong.
+const TIP: &str = "\n  tip: to pass '";
 
 /// Reports that memory is exhausted.
 pub fn out_of_memory(rt: &impl Eprint) -> Status
@@ -97,6 +102,37 @@ pub fn refuse(rt: &(impl Print + Eprint), fault: &LineFault) -> Status {
         LineFault::BadObject => bad_object(rt),
         LineFault::Memory => out_of_memory(rt),
     }
+}
+
+/// Reports why a command line gives no order, as `refuse` does, but without clap's tip to write
+/// `--`.
+pub fn refuse_line(rt: &(impl AllocGlobal + Print + Eprint), fault: &LineFault) -> Status {
+    match fault {
+        LineFault::Told(error) if error.use_stderr() => {
+            show_mistake(rt, error);
+            Status::BadLine
+        }
+        _ => refuse(rt, fault),
+    }
+}
+
+// Shows clap's text on a mistake, but for the tip.
+fn show_mistake(rt: &(impl AllocGlobal + Eprint), error: &clap::Error) {
+    // If standard error is closed, only the status shows it.
+    let _ = match format!(in rt.alloc(); "{error}") {
+        Ok(text) => match told_around(&text) {
+            Some((before, behind)) => eprint!(rt; "{before}\n{behind}"),
+            None => eprint!(rt; "{text}"),
+        },
+        Err(AllocError) => eprint!(rt; "{error}"),
+    };
+}
+
+// What stands before the tip, without the line's end, and in the lines behind it.
+fn told_around(text: &str) -> Option<(&str, &str)> {
+    let (before, tip) = text.split_once(TIP)?;
+    let (_, behind) = tip.split_once("\n")?;
+    Some((before.trim_end(), behind))
 }
 
 /// Reports that the command line is invalid.

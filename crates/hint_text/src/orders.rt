@@ -53,6 +53,14 @@ const MEANT_AS: Form = &[
     Words("\n"),
 ];
 
+// A number with a sign.
+const SIGNED: Form = &[
+    First,
+    Words(" is no option, and numbers have no sign: as "),
+    Second,
+    Words("\n"),
+];
+
 // An example.
 const AS: Form = &[Words("as "), First, Words("\n")];
 
@@ -218,14 +226,25 @@ fn meaning_of(name: &str) -> Option<&'static str> {
     told_of(&OTHER_OPTIONS, name)
 }
 
+// Whether a word is a number with a sign in front.
+fn is_signed(word: &str) -> bool {
+    match word.as_bytes() {
+        [b'-', digit, ..] => digit.is_ascii_digit(),
+        _ => false,
+    }
+}
+
 // The hint on the name of an option that a command doesn't have.
 fn name_sentence<'a, A: Allocator + Copy>(
     alloc: A,
     row: &'static Row,
-    name: &str,
-) -> Result<Sentence<'static>, AllocError> {
+    name: &'a str,
+) -> Result<Sentence<'a>, AllocError> {
     if let Some(what) = meaning_of(name) {
         return Ok(Sentence::of(TOLD, what));
+    }
+    if is_signed(name) {
+        return Ok(Sentence::of_two(SIGNED, name, row.example));
     }
     Ok(match nearest(alloc, row.options, name, EDITS)? {
         Some(near) => Sentence::of_two(MEANT_AS, near, row.example),

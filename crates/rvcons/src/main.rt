@@ -7,7 +7,7 @@ use cli_campaign::{obey_campaign, obey_explore};
 use cli_choices::obey_schedule;
 use cli_files::{obey_asm, obey_info, obey_lib, obey_list};
 use cli_orders::{Order, read_line};
-use cli_report::{Audience, explain_line, out_of_memory, read_arguments, refuse};
+use cli_report::{Audience, explain_line, out_of_memory, read_arguments, refuse_line};
 use cli_runs::{obey_replay, obey_threads};
 use object_library::KIND_NAMES;
 use std::io::{Input, IsTerminal};
@@ -67,7 +67,7 @@ fn obey<R: Files + AllocGlobal + Print + Eprint + Env + Threads + Wait + Sync + 
         Ok(Order::Shrink(order)) => shrink_chosen(rt, audience, &order),
         Ok(Order::Trace(order)) => trace_chosen(rt, audience, &order),
         Err(fault) => {
-            let status = refuse(rt, &fault);
+            let status = refuse_line(rt, &fault);
             explain_line(rt, audience, words.as_slice(), &fault);
             Err(status)
         }

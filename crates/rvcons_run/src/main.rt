@@ -6,7 +6,7 @@ use byte_io::Status;
 use cli_args::{ChoiceText, RunOrder, read_run};
 use cli_report::{
     Audience, RunChoices, bad_line, explain_line, out_of_memory, read_arguments, read_input_to_end,
-    refuse,
+    refuse_line,
 };
 use cli_run::obey_run;
 use object_library::KIND_NAMES;
@@ -46,7 +46,7 @@ fn obey<R: Files + AllocGlobal + Print + Eprint + Env + Input>(
             "this is the program of run alone: the other commands are those of the whole program",
         )),
         Err(fault) => {
-            let status = refuse(rt, &fault);
+            let status = refuse_line(rt, &fault);
             explain_line(rt, audience, words.as_slice(), &fault);
             Err(status)
         }
