@@ -4,8 +4,8 @@ import subprocess
 from people_parts.terminal import ENDLESS, PROGRAM, Terminal, at_terminal, check, through_pipe, write
 
 GREETING = (
-    "commands: help, where, goto K, forward [N], back [N], step H, break A, watch A, rwatch A, awatch A, delete A, go, rgo, steps A B, list [H], regs H, mem A N, quit\n"
-    "K, N and H are decimal; an address A is written with 0x, as 0x00010008\n")
+    "commands: help, where, goto K, forward [N], back [N], step H, break A, watch A, rwatch A, awatch A, delete A, go, rgo, steps A B, list [H], regs H [R..], mem A N, quit\n"
+    "K, N and H are decimal; an address A is written with 0x, as 0x00010008; R is a register, as a0\n")
 
 # Two harts count a word up, in turns. What is typed, and what is shown before the next prompt.
 COUNTER = """.globl _start
@@ -38,6 +38,14 @@ COUNTING = [
      "break 00011000\nno hart executes 00011000: it is in no segment that may be executed; rvcons info shows them\n"),
     ("goto 99", "7 of 12> ", "past end\nthe schedule has 12 choices, so positions go from 0 to 12\n"),
     ("regs 2", "7 of 12> ", "bad command\nthere are 2 harts, numbered from 0 to 1\n"),
+    ("regs 2 a0", "7 of 12> ", "bad command\nthere are 2 harts, numbered from 0 to 1\n"),
+    ("regs 0 s0 x5 pc", "7 of 12> ", "s0 00011000\nt0 00000001\npc 00010010\n"),
+    ("regs 0 s0 pv", "7 of 12> ",
+     "bad command\npv is no register: is pc meant? there are x0 to x31, or zero, ra, sp, gp, tp, t0 to t6, s0 to s11, a0 to a7, and pc\n"),
+    ("regs 0 eflags", "7 of 12> ",
+     "bad command\neflags is no register: write x0 to x31, or zero, ra, sp, gp, tp, t0 to t6, s0 to s11, a0 to a7, pc\n"),
+    ("regs", "7 of 12> ",
+     "bad command\nregs takes the number of a hart, and the names of up to 33 registers, as regs 0 or regs 0 a0 pc\n"),
     ("mem 0x00011000 65", "7 of 12> ", "bad command\nmem shows 1 to 64 words\n"),
     ("watch 0x", "7 of 12> ", "bad command\nwatch takes an address, as watch 0x00011000\n"),
     ("watch counter", "7 of 12> ", "watch 00011000\n"),

@@ -188,9 +188,8 @@ enum Limit {
 // The limit that a bad command has exceeded.
 fn broken(debugger: &Debugger<Global>, command: Command) -> Limit {
     match command {
-        Command::Listing(_) | Command::Regs(_) | Command::Step(_) => {
-            Limit::Harts(debugger.machine().harts())
-        }
+        Command::Listing(_) | Command::Regs(_) | Command::Registers { .. } | Command::Step(_) =>
+            Limit::Harts(debugger.machine().harts()),
         _ => Limit::Words,
     }
 }

@@ -1,14 +1,15 @@
 -- A line's command is that of its words.
-use Rattle.std.proofs.Common.{◌≡◌, ◌≢◌, ℕ, Bool, true, false, List, [], ◌∷◌, ◌++◌, ap, sym, subst, refl, ◌∙◌, eqb-true, ne_eqb, one-add}
-use Rattle.std.specs.Prelude.{take, drop, length}
-use Rattle.std.specs.List.{All, position_or_len}
+use Rattle.std.proofs.Common.{◌≡◌, ◌≢◌, ℕ, Bool, true, false, List, [], ◌∷◌, ◌++◌, ◌+◌, ◌-◌, ◌<◌, ap, sym, subst, refl, ◌∙◌, arith, eqb-true, ne_eqb, one-add}
+use Rattle.std.specs.Prelude.{take, drop, length, if◌then◌else◌}
+use Rattle.std.specs.List.{All, position_or_len, prefix_len}
 use Rattle.std.proofs.lemmas.Bool.{eqb-false}
 use Rattle.std.proofs.lemmas.List.Elements.{All-nil, All-cons, All-head, All-tail}
+use Rattle.std.proofs.lemmas.List.{take-append-drop, length-append, length-drop}
 use Rattle.std.proofs.Math.Seq.{take-append_seam, drop-append_seam}
 use Rattle.elf_read.specs.Symbol.{SymbolValue}
-use Rattle.debug_text.specs.Words.{is_space, from_word, next_word, behind_word}
-use Rattle.debug_text.specs.Commands.{command_by, if_no_more, command_of}
-use Rattle.debug_text.specs.Lines.{ends_word, HasWords, command_of_words}
+use Rattle.debug_text.specs.Words.{is_space, from_word, next_word, behind_word, ends_word, words_with, line_words}
+use Rattle.debug_text.specs.Commands.{line_command, command_of}
+use Rattle.debug_text.specs.Lines.{HasWords, command_of_words}
 
 abbrev IsWordByte : ℕ → Type 0
 IsWordByte c = c ≢ 32
@@ -68,10 +69,31 @@ are_words _ _ (HasWords.space line words has) = are_words line words has
 are_words _ _ (HasWords.word b bytes rest words all end has) =
     All-cons IsWord (b ∷ bytes) words tt (are_words rest words has)
 
+-- a word in front of words
+words_run : (b : ℕ) (bytes rest : List ℕ) → All IsWordByte (b ∷ bytes) → ends_word rest ≡ true
+    → line_words ((b ∷ bytes) ++ rest) ≡ (b ∷ bytes) ∷ line_words rest
+unfolding line_words
+words_run b [] rest all end = rw (ne_eqb b 32 (All-head IsWordByte b [] all)) (rw end refl)
+words_run b (c ∷ bytes) rest all end =
+    let more : All IsWordByte (c ∷ bytes) = All-tail IsWordByte b (c ∷ bytes) all in
+    let next : line_words ((c ∷ bytes) ++ rest) ≡ (c ∷ bytes) ∷ line_words rest = words_run c bytes rest more end in
+    ap (λ t. if t then line_words ((c ∷ bytes) ++ rest) else words_with b (ends_word ((c ∷ bytes) ++ rest)) (line_words ((c ∷ bytes) ++ rest)))
+    (ne_eqb b 32 (All-head IsWordByte b (c ∷ bytes) all))
+    ∙ ap (λ t. words_with b t (line_words ((c ∷ bytes) ++ rest))) (ne_eqb c 32 (All-head IsWordByte c bytes more))
+    ∙ ap (λ words. words_with b false words) next
+
+-- a line that has words has these
+words_are : (line : List ℕ) (words : List (List ℕ)) → HasWords line words → line_words line ≡ words
+unfolding line_words
+words_are _ _ HasWords.nothing = refl
+words_are _ _ (HasWords.space line words has) = words_are line words has
+words_are _ _ (HasWords.word b bytes rest words all end has) =
+    words_run b bytes rest all end ∙ ap (λ more. (b ∷ bytes) ∷ more) (words_are rest words has)
+
 -- the command of the first words
 of_first : (symbols : List SymbolValue) (words : List (List ℕ)) → All IsWord words
-    → if_no_more (first_of (others_of (others_of (others_of words))))
-    (command_by symbols (first_of words) (first_of (others_of words)) (first_of (others_of (others_of words))))
+    → line_command symbols (first_of words) (first_of (others_of words)) (first_of (others_of (others_of words)))
+    (first_of (others_of (others_of (others_of words)))) (others_of (others_of words))
     ≡ command_of_words symbols words
 of_first symbols [] all = refl
 of_first symbols ([] ∷ words) all = absurd (All-head IsWord [] words all)
@@ -101,11 +123,12 @@ command_is symbols line words has =
     let two : FollowsWords behind others = next_words behind others one.1 in
     let three : FollowsWords behind_2 others_2 = next_words behind_2 others_2 two.1 in
     let four = next_words (behind_word behind_2) (others_of others_2) three.1 in
-    ap (λ w. if_no_more w (command_by symbols (next_word line) (next_word behind) (next_word behind_2))) four.0
-    ∙ ap (λ c. if_no_more (first_of (others_of others_2)) c)
-    (ap (λ w. command_by symbols w (next_word behind) (next_word behind_2)) one.0
-    ∙ ap (λ w. command_by symbols (first_of words) w (next_word behind_2)) two.0
-    ∙ ap (λ w. command_by symbols (first_of words) (first_of others) w) three.0)
+    let names : line_words behind_2 ≡ others_2 = words_are behind_2 others_2 two.1 in
+    ap (λ w. line_command symbols w (next_word behind) (next_word behind_2) (next_word (behind_word behind_2)) (line_words behind_2)) one.0
+    ∙ ap (λ w. line_command symbols (first_of words) w (next_word behind_2) (next_word (behind_word behind_2)) (line_words behind_2)) two.0
+    ∙ ap (λ w. line_command symbols (first_of words) (first_of others) w (next_word (behind_word behind_2)) (line_words behind_2)) three.0
+    ∙ ap (λ w. line_command symbols (first_of words) (first_of others) (first_of others_2) w (line_words behind_2)) four.0
+    ∙ ap (λ w. line_command symbols (first_of words) (first_of others) (first_of others_2) (first_of (others_of others_2)) w) names
     ∙ of_first symbols words (are_words line words has)
 
 one_byte : (b : ℕ) → b ≢ 32 → All IsWordByte (b ∷ [])
@@ -134,3 +157,31 @@ has_words (b ∷ line) = by (is_space b) refl (has_words line)
     by true e (words, has) =
         (words, subst (λ c. HasWords (c ∷ line) words) (sym (eqb-true b 32 e)) (HasWords.space line words has))
     by false e (words, has) = begins b line words (eqb-false b 32 e) has
+
+-- the words of a line: the next one, if there is one, and those behind it
+abbrev pub next_and : List ℕ → List (List ℕ) → List (List ℕ)
+next_and [] words = []
+next_and (b ∷ word) words = (b ∷ word) ∷ words
+
+next_of_words : (words : List (List ℕ)) → All IsWord words → words ≡ next_and (first_of words) (others_of words)
+next_of_words [] all = refl
+next_of_words ([] ∷ words) all = absurd (All-head IsWord [] words all)
+next_of_words ((b ∷ word) ∷ words) all = refl
+
+pub words_next : (line : List ℕ) → line_words line ≡ next_and (next_word line) (line_words (behind_word line))
+words_next line =
+    let (words, has) = has_words line in
+    let follow : FollowsWords line words = next_words line words has in
+    words_are line words has
+    ∙ next_of_words words (are_words line words has)
+    ∙ ap (λ w. next_and w (others_of words)) (sym follow.0)
+    ∙ ap (λ ws. next_and (next_word line) ws) (sym (words_are (behind_word line) (others_of words) follow.1))
+
+-- behind a word is less of a line
+pub shorter : (line : List ℕ) → 0 < length (next_word line) → length (behind_word line) < length line
+shorter line some =
+    let front : List ℕ = from_word line in
+    let k : ℕ = position_or_len is_space front in
+    let parts : length (take k front) + length (drop k front) ≡ length front = sym (length-append (take k front) (drop k front)) ∙ ap (λ l. length l) (take-append-drop k front) in
+    let less : length front ≡ length line - prefix_len is_space line = length-drop (prefix_len is_space line) line in
+    omega arith

@@ -1,13 +1,15 @@
 -- The commands of lines.
-use Rattle.std.specs.Prelude.{ℕ, List, [], ◌∷◌, Option, Some, None, Result, Ok, Err, codes, if◌then◌else◌}
+use Rattle.std.specs.Prelude.{ℕ, Bool, List, [], ◌∷◌, Option, Some, None, Result, Ok, Err, codes, if◌then◌else◌}
 use Rattle.std.specs.Str.{bytes_eq}
 use Rattle.elf_read.specs.Symbol.{SymbolValue}
-use Rattle.debug_text.specs.Words.{next_word, behind_word}
+use Rattle.debug_text.specs.Words.{next_word, behind_word, line_words}
 use Rattle.debug_text.specs.Numbers.{decimal_of}
 use Rattle.debug_text.specs.Addresses.{NumberRead, or_bad, address_meant}
+use Rattle.debug_text.specs.RegisterNames.{no_registers, registers_named}
 use Rattle.debug_session.specs.declared.stop.WatchKind.TheVariants.{Change, Read, Access}
 use Rattle.debug_text.specs.declared.commands.Command.{Command}
-use Rattle.debug_text.specs.declared.commands.Command.TheVariants.{Nothing, Help, Where, Goto, Forward, Back, Step, Break, Watch, Delete, Go, Rgo, Steps, Listing, Regs, Mem, Quit}
+use Rattle.debug_text.specs.declared.register_names.RegisterList.{RegisterList}
+use Rattle.debug_text.specs.declared.commands.Command.TheVariants.{Nothing, Help, Where, Goto, Forward, Back, Step, Break, Watch, Delete, Go, Rgo, Steps, Listing, Regs, Registers, Mem, Quit}
 use Rattle.debug_text.specs.declared.fault.DebugFault.{DebugFault}
 use Rattle.debug_text.specs.declared.fault.DebugFault.TheVariants.{BadCommand}
 
@@ -66,14 +68,35 @@ command_by symbols (b ∷ name) [] second = bare_command (b ∷ name)
 command_by symbols (b ∷ name) (c ∷ first) [] = single_command symbols (b ∷ name) (c ∷ first)
 command_by symbols (b ∷ name) (c ∷ first) (d ∷ second) = double_command symbols (b ∷ name) (c ∷ first) (d ∷ second)
 
--- no command has more than two operands
+-- the command of a hart's number and a list of registers, if both are valid
+abbrev pub with_registers : NumberRead → Option RegisterList → CommandRead
+with_registers (Err why) list = Err why
+with_registers (Ok hart) None = Err BadCommand
+with_registers (Ok hart) (Some list) = Ok (Registers hart list)
+
+-- the command that shows registers with these names
+abbrev pub registers_command : List ℕ → List (List ℕ) → CommandRead
+registers_command hart names = with_registers (or_bad (decimal_of hart)) (registers_named no_registers names)
+
+-- no other command has more than two operands
 abbrev pub if_no_more : List ℕ → CommandRead → CommandRead
 if_no_more [] command = command
 if_no_more (b ∷ more) command = Err BadCommand
+
+-- `regs` with a second operand, or another command
+abbrev pub if_regs : List ℕ → Bool → CommandRead → CommandRead → CommandRead
+if_regs [] is_regs registers command = command
+if_regs (b ∷ second) is_regs registers command = if is_regs then registers else command
+
+-- the command of a first word, two operands, the word behind them, and the names behind the first
+abbrev pub line_command : List SymbolValue → List ℕ → List ℕ → List ℕ → List ℕ → List (List ℕ) → CommandRead
+line_command symbols name first second more names =
+    if_regs second (bytes_eq name (codes "regs")) (registers_command first names)
+    (if_no_more more (command_by symbols name first second))
 
 -- the command of a line, whose addresses may be these symbols, or why it is none
 unfoldable pub command_of : List SymbolValue → List ℕ → CommandRead
 command_of symbols line =
     let rest = behind_word line in
-    let rest_2 = behind_word rest in
-    if_no_more (next_word (behind_word rest_2)) (command_by symbols (next_word line) (next_word rest) (next_word rest_2))
+    let names = behind_word rest in
+    line_command symbols (next_word line) (next_word rest) (next_word names) (next_word (behind_word names)) (line_words names)

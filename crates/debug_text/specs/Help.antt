@@ -20,5 +20,6 @@ help_text =
     ++ (codes "steps A B    shows the choices from A to B - 1\n"
     ++ (codes "list [H]     shows the instructions around the next one of hart H, or of the next choice\n"
     ++ (codes "regs H       shows the state and the registers of hart H\n"
+    ++ (codes "regs H R..   shows these registers of hart H alone, as regs 0 a0 pc\n"
     ++ (codes "mem A N      shows N words of memory from the one that holds A on\n"
-    ++ (codes "quit         ends\n")))))))))))))))))
+    ++ (codes "quit         ends\n"))))))))))))))))))

@@ -1,6 +1,7 @@
 pub mod Words
 pub mod Numbers
 pub mod Addresses
+pub mod RegisterNames
 pub mod Commands
 pub mod Lines
 pub mod Texts

@@ -13,11 +13,12 @@ use Rattle.elf_read.specs.Symbol.{SymbolValue}
 use Rattle.debug_text.specs.Code.{code_text}
 use Rattle.debug_text.specs.Commands.{CommandRead, command_of}
 use Rattle.debug_text.specs.Help.{help_text}
-use Rattle.debug_text.specs.Texts.{position_text, break_text, watch_text, delete_text, found_text, steps_text, hart_text, cells_text}
+use Rattle.debug_text.specs.Texts.{position_text, break_text, watch_text, delete_text, found_text, steps_text, hart_text, register_lines, cells_text}
 use Rattle.debug_text.specs.declared.answer.Answer.{Answer}
 use Rattle.debug_text.specs.declared.answer.Answer.TheVariants as answer
 use Rattle.debug_text.specs.declared.commands.Command.{Command}
-use Rattle.debug_text.specs.declared.commands.Command.TheVariants.{Nothing, Help, Where, Goto, Forward, Back, Step, Break, Watch, Delete, Go, Rgo, Steps, Listing, Regs, Mem, Quit}
+use Rattle.debug_text.specs.declared.commands.Command.TheVariants.{Nothing, Help, Where, Goto, Forward, Back, Step, Break, Watch, Delete, Go, Rgo, Steps, Listing, Regs, Registers, Mem, Quit}
+use Rattle.debug_text.specs.declared.register_names.RegisterList.{RegisterList}
 use Rattle.debug_text.specs.declared.fault.DebugFault.{DebugFault}
 use Rattle.debug_text.specs.declared.fault.DebugFault.TheVariants.{BadCommand, PastEnd}
 
@@ -96,6 +97,11 @@ abbrev pub shows_hart : Session → ℕ → Option HartValue → Reply
 shows_hart s h None = Err BadCommand
 shows_hart s h (Some hart) = shows (hart_text h hart) s
 
+-- these registers of a hart, if it exists
+abbrev pub shows_registers : Session → RegisterList → Option HartValue → Reply
+shows_registers s list None = Err BadCommand
+shows_registers s list (Some hart) = shows (register_lines hart list) s
+
 -- 1 to 64 words from the aligned one on that contains an address
 abbrev pub shows_cells : Session → ℕ → ℕ → Reply
 shows_cells s a n =
@@ -138,6 +144,7 @@ reply symbols s Rgo = shows_found s (codes "start") (earlier_found s)
 reply symbols s (Steps a b) = shows_steps s a b
 reply symbols s (Listing h) = shows_listing symbols s h
 reply symbols s (Regs h) = shows_hart s h (hart_here s h)
+reply symbols s (Registers h list) = shows_registers s list (hart_here s h)
 reply symbols s (Mem a n) = shows_cells s a n
 reply symbols s Quit = Ok (record { text = []; after = s; ended = true })
 

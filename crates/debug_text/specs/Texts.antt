@@ -20,6 +20,9 @@ use Rattle.debug_session.specs.declared.stop.WatchKind.TheVariants.{Change, Read
 use Rattle.debug_session.specs.declared.step_view.Event.{Event}
 use Rattle.debug_session.specs.declared.step_view.Event.TheVariants.{Stopped, NoFetch, Word}
 use Rattle.debug_session.specs.declared.step_view.StepView.{StepView}
+use Rattle.debug_text.specs.declared.register_names.Register.{Register}
+use Rattle.debug_text.specs.declared.register_names.Register.TheVariants.{General, Pc}
+use Rattle.debug_text.specs.declared.register_names.RegisterList.{RegisterList}
 
 -- `step 7 of 26` and the line's end
 abbrev pub position_text : ℕ → ℕ → List ℕ
@@ -95,6 +98,16 @@ register_entry x r = abi r ++ (codes " " ++ (word_text (x r) ++ 10 ∷ []))
 unfoldable pub registers_from : (ℕ → ℕ) → ℕ → ℕ → List ℕ
 registers_from x r zero = []
 registers_from x r (suc n) = register_entry x r ++ registers_from x (r + 1) n
+
+-- the line of a register that is named, if one is
+abbrev pub named_entry : HartValue → Option Register → List ℕ
+named_entry hart None = []
+named_entry hart (Some (General register)) = register_entry hart.registers register
+named_entry hart (Some Pc) = codes "pc " ++ (word_text hart.pc ++ 10 ∷ [])
+
+-- the lines of the registers of a list
+abbrev pub register_lines : HartValue → RegisterList → List ℕ
+register_lines hart list = flat_map (named_entry hart) list.registers
 
 -- a hart's end, and its registers
 unfoldable pub hart_text : ℕ → HartValue → List ℕ

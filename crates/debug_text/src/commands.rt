@@ -2,11 +2,13 @@
 ghost use Rattle.std.specs.Prelude.{◌≡◌};
 ghost use Rattle.std.specs.Str.{bytes_eq};
 ghost use Rattle.debug_text.specs.Addresses.{address_meant};
-ghost use Rattle.debug_text.specs.Commands.{with_one, bare_command, single_command, double_command, command_by};
+ghost use Rattle.debug_text.specs.Words.{line_words};
+ghost use Rattle.debug_text.specs.Commands.{with_one, bare_command, single_command, double_command, command_by, registers_command};
 ghost use Rattle.debug_text.specs.declared.commands.Command.TheVariants.{Watch};
 
 use crate::address::{address_meant, count_in};
 use crate::fault::DebugFault;
+use crate::register_names::{RegisterList, registers_in};
 use debug_session::WatchKind;
 use elf_read::Symbol;
 use std::alloc::Allocator;
@@ -55,6 +57,13 @@ pub enum Command {
     Listing(Option<u64>),
     /// `regs H`: shows a hart's end and its registers.
     Regs(u64),
+    /// `regs H NAME..`: shows these registers of a hart.
+    Registers {
+        /// The hart.
+        hart: u64,
+        /// The registers.
+        list: RegisterList,
+    },
     /// `mem A N`: shows N words from the aligned word on that contains an address.
     Mem {
         /// The address.
@@ -66,8 +75,8 @@ pub enum Command {
     Quit,
 }
 
-// Whether a word is a given one.
-fn is_word(name: &[u8], word: &str) -> bool
+/// Whether a word is a given one.
+pub(crate) fn is_word(name: &[u8], word: &str) -> bool
     ensures { result ≡ bytes_eq name.now word.now }
 {
     name == word.as_bytes()
@@ -180,6 +189,17 @@ fn double_command<A: Allocator>(
         return Ok(Command::Mem { address, count });
     }
     Err(DebugFault::BadCommand)
+}
+
+/// `regs` with a hart's number and names of registers.
+pub(crate) fn registers_command(hart: &[u8], names: &[u8]) -> Result<Command, DebugFault>
+    ensures { result ≡ registers_command hart.now (line_words names.now) }
+{
+    let hart = count_in(hart)?;
+    match registers_in(names) {
+        Some(list) => Ok(Command::Registers { hart, list }),
+        None => Err(DebugFault::BadCommand),
+    }
 }
 
 /// The command of a word with at most two operands; an empty operand counts as missing.

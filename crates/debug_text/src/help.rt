@@ -22,6 +22,7 @@ rgo          goes back to the last one, or to the start\n\
 steps A B    shows the choices from A to B - 1\n\
 list [H]     shows the instructions around the next one of hart H, or of the next choice\n\
 regs H       shows the state and the registers of hart H\n\
+regs H R..   shows these registers of hart H alone, as regs 0 a0 pc\n\
 mem A N      shows N words of memory from the one that holds A on\n\
 quit         ends\n";
 

@@ -8,6 +8,7 @@ pub use fault::DebugFault;
 pub use laws::{lines_are_commands_of_words, numbers_are_no_names};
 pub use line::{command, next_word, read_command};
 pub use number::{address_of, decimal_of};
+pub use register_names::{Register, RegisterList, register_named};
 pub use replies::obey;
 pub use steps_text::{mark_text, push_step};
 
@@ -21,6 +22,7 @@ mod laws;
 mod line;
 mod memory_text;
 mod number;
+mod register_names;
 mod registers_text;
 mod replies;
 mod steps_text;

@@ -7,7 +7,7 @@ ghost use Rattle.debug_text.specs.Commands.{command_of};
 ghost use Rattle.debug_text.specs.Reply.{reply_to, reply_outcome};
 
 use crate::answer::Answer;
-use crate::commands::{Command, command_by};
+use crate::commands::{Command, command_by, is_word, registers_command};
 use crate::fault::DebugFault;
 use crate::replies::obey;
 use debug_session::Debugger;
@@ -46,9 +46,12 @@ pub fn read_command<A: Allocator>(symbols: &[Symbol<A>], line: &[u8]) -> Result<
     ensures { result ≡ command_of symbols.now line.now }
 {
     let (name, rest) = next_word(line);
-    let (first, rest) = next_word(rest);
-    let (second, rest) = next_word(rest);
+    let (first, names) = next_word(rest);
+    let (second, rest) = next_word(names);
     let (more, _) = next_word(rest);
+    if !second.is_empty() && is_word(name, "regs") {
+        return registers_command(first, names);
+    }
     if !more.is_empty() {
         return Err(DebugFault::BadCommand);
     }

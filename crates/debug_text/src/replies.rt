@@ -1,7 +1,7 @@
 //! Does the commands.
 ghost use Rattle.std.specs.Prelude.{◌≡◌, ◌≢◌, ◌≤◌, Ok, Err, IfOk, IfErr, OnErr, codes, string_bytes};
 ghost use Rattle.debug_session.specs.Session.{session, length_of, next_found, earlier_found};
-ghost use Rattle.debug_text.specs.Reply.{reply, reply_outcome, choices_to, hart_here, shows_move, shows_goto, shows_forward, shows_back, shows_step, shows_break, shows_watch, shows_delete, shows_found, shows_steps, shows_listing, shows_code, shows_hart, shows_cells};
+ghost use Rattle.debug_text.specs.Reply.{reply, reply_outcome, choices_to, hart_here, shows_move, shows_goto, shows_forward, shows_back, shows_step, shows_break, shows_watch, shows_delete, shows_found, shows_steps, shows_listing, shows_code, shows_hart, shows_registers, shows_cells};
 
 use crate::answer::Answer;
 use crate::code_text::code_text;
@@ -9,7 +9,8 @@ use crate::commands::Command;
 use crate::fault::DebugFault;
 use crate::help::help_text;
 use crate::memory_text::cells_text;
-use crate::registers_text::hart_text;
+use crate::register_names::RegisterList;
+use crate::registers_text::{hart_text, register_lines};
 use crate::steps_text::steps_text;
 use crate::texts::{break_text, delete_text, found_text, position_text, watch_text};
 use debug_session::{Debugger, MoveFault, WatchKind};
@@ -320,6 +321,30 @@ fn obey_regs<A: Allocator + Copy>(
     }
 }
 
+// `regs H NAME..`.
+fn obey_registers<A: Allocator + Copy>(
+    alloc: A,
+    debugger: &Debugger<A>,
+    number: u64,
+    list: &RegisterList,
+) -> Result<Answer<A>, DebugFault>
+    ensures ok { IfOk result (λ answer.
+        shows_registers (session debugger.now) list.now (hart_here (session debugger.now) number)
+        ≡ Ok (reply_outcome answer (session debugger.now))) }
+    ensures fault { IfErr result (λ fault. fault ≢ DebugFault.Memory
+        → shows_registers (session debugger.now) list.now
+        (hart_here (session debugger.now) number) ≡ Err fault) }
+{
+    let machine = debugger.machine();
+    if number >= machine.harts() as u64 {
+        return Err(DebugFault::BadCommand);
+    }
+    match register_lines(alloc, machine.hart(number as usize), list) {
+        Ok(text) => Ok(Answer::Text(text)),
+        Err(_) => Err(DebugFault::Memory),
+    }
+}
+
 // `mem A N`.
 fn obey_mem<A: Allocator + Copy>(
     alloc: A,
@@ -382,6 +407,7 @@ pub fn obey<A: Allocator + Copy>(
         Command::Steps { from, to } => obey_steps(alloc, debugger, from, to),
         Command::Listing(hart) => obey_listing(alloc, debugger, symbols, hart),
         Command::Regs(number) => obey_regs(alloc, debugger, number),
+        Command::Registers { hart, list } => obey_registers(alloc, debugger, hart, &list),
         Command::Mem { address, count } => obey_mem(alloc, debugger, address, count),
         Command::Quit => Ok(Answer::Quit),
     }

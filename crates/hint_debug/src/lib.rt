@@ -12,5 +12,6 @@ mod greeting;
 mod lines;
 mod next;
 mod prompt;
+mod registers;
 mod stops;
 mod stored;

@@ -1,5 +1,6 @@
 //! The hints on a typed line.
 
+use crate::registers::{no_register, unnamed_register};
 use debug_text::{Command, DebugFault, read_command};
 use elf_read::Symbol;
 use hint_fault::segment_at;
@@ -32,7 +33,10 @@ const TAKES: [(&[&str], &str); 11] = [
         &["list"],
         "takes nothing, or the number of a hart, as list 1",
     ),
-    (&["regs"], "takes the number of a hart, as regs 0"),
+    (
+        &["regs"],
+        "takes the number of a hart, and the names of up to 33 registers, as regs 0 or regs 0 a0 pc",
+    ),
     (
         &["mem"],
         "takes an address and a number of words, 1 to 64, as mem 0x00011000 4",
@@ -67,8 +71,8 @@ const SEVERAL_SYMBOLS: Form = &[
 // A symbol with a smaller edit distance may be the intended one.
 const EDITS: usize = 3;
 
-// A word of a line by its number, from 0.
-fn word_of(line: &str, number: usize) -> Option<&str> {
+/// A word of a line by its number, from 0.
+pub(crate) fn word_of(line: &str, number: usize) -> Option<&str> {
     line.split(' ').filter(|word| !word.is_empty()).nth(number)
 }
 
@@ -135,8 +139,8 @@ fn push_unreached<A: Allocator>(
 }
 
 /// The hints on a line, as whole lines: that an address was read as decimal though it looks
-/// hexadecimal, that no hart can reach a breakpoint, which name is no symbol, or, if it is no
-/// command, what the commands are; empty for other lines.
+/// hexadecimal, that no hart can reach a breakpoint, which name is no symbol or no register, or, if
+/// it is no command, what the commands are; empty for other lines.
 pub fn line_advice<A: Allocator + Copy>(
     alloc: A,
     segments: &[Segment<A>],
@@ -178,7 +182,10 @@ fn refused<'a, A: Allocator + Copy>(
         DebugFault::NoSymbol => unnamed(alloc, symbols, name_in(line)),
         DebugFault::SeveralSymbols => Ok(Sentence::of(SEVERAL_SYMBOLS, name_in(line))),
         DebugFault::BadCommand | DebugFault::PastEnd | DebugFault::Memory => {
-            Ok(unread(word_of(line, 0).unwrap_or("")))
+            match unnamed_register(line) {
+                Some(name) => no_register(alloc, name),
+                None => Ok(unread(word_of(line, 0).unwrap_or(""))),
+            }
         }
     }
 }

@@ -166,6 +166,7 @@ static SESSIONS: [Session; 11] = [
             ("break 4294967295", "break ffffffff\n"),
             ("regs 1", "bad command\n"),
             ("regs 99999999999999999999", "bad command\n"),
+            ("regs 99999999999999999999 a0", "bad command\n"),
             ("mem 0x10000 0", "bad command\n"),
             ("mem 0x10000 65", "bad command\n"),
             ("mem 0x10000 99999999999999999999", "bad command\n"),
@@ -182,6 +183,32 @@ static SESSIONS: [Session; 11] = [
 t0 00000002\nt1 00000000\nt2 00000000\ns0 00000000\ns1 00000000\na0 00000000\na1 00000007\na2 00000002\na3 00000000\n\
 a4 00000000\na5 00000000\na6 00000000\na7 00000000\ns2 00000000\ns3 00000000\ns4 00000000\ns5 00000000\ns6 00000000\n\
 s7 00000000\ns8 00000000\ns9 00000000\ns10 00000000\ns11 00000000\nt3 00000000\nt4 00000000\nt5 00000000\nt6 00000000\n"),
+        ] },
+];
+
+#[rattlefmt::skip]
+static NAMED_REGISTERS: [Session; 1] = [
+    Session { name: "registers_by_their_names", program: COUNT, inputs: &[7, 9], choices: "0 0 0 1",
+        lines: &[
+            ("goto 4", "step 4 of 4\n"),
+            ("regs 0 a1", "a1 00000007\n"),
+            ("  regs  0  pc   t0 a1  ", "pc 00010004\nt0 00000002\na1 00000007\n"),
+            ("regs 1 x10 fp s0 a0 x0", "a0 00000001\ns0 00000000\ns0 00000000\na0 00000001\nzero 00000000\n"),
+            ("regs 01 t6 x31", "t6 00000000\nt6 00000000\n"),
+            ("regs 2 a0", "bad command\n"),
+            ("regs a0", "bad command\n"),
+            ("regs a0 0", "bad command\n"),
+            ("regs 0 a8", "bad command\n"),
+            ("regs 0 a0 x32", "bad command\n"),
+            ("regs 0 x", "bad command\n"),
+            ("regs 0 PC", "bad command\n"),
+            ("regs 0 pcx", "bad command\n"),
+            ("regs 0 a0,a1", "bad command\n"),
+            ("regs 0 x99999999999999999999", "bad command\n"),
+            ("list 0 a0", "bad command\n"),
+            ("regs 0 x9 x9 x9 x9 x9 x9 x9 x9 x9 x9 x9 x9 x9 x9 x9 x9 x9 x9 x9 x9 x9 x9 x9 x9 x9 x9 x9 x9 x9 x9 x9 x9 x9", "s1 00000000\ns1 00000000\ns1 00000000\ns1 00000000\ns1 00000000\ns1 00000000\ns1 00000000\ns1 00000000\ns1 00000000\ns1 00000000\ns1 00000000\ns1 00000000\ns1 00000000\ns1 00000000\ns1 00000000\ns1 00000000\ns1 00000000\ns1 00000000\ns1 00000000\ns1 00000000\ns1 00000000\ns1 00000000\ns1 00000000\ns1 00000000\ns1 00000000\ns1 00000000\ns1 00000000\ns1 00000000\ns1 00000000\ns1 00000000\ns1 00000000\ns1 00000000\ns1 00000000\n"),
+            ("regs 0 x9 x9 x9 x9 x9 x9 x9 x9 x9 x9 x9 x9 x9 x9 x9 x9 x9 x9 x9 x9 x9 x9 x9 x9 x9 x9 x9 x9 x9 x9 x9 x9 x9 x9", "bad command\n"),
+            ("where", "step 4 of 4\n"),
         ] },
 ];
 
@@ -403,6 +430,13 @@ fn first_wrong(alloc: Global, sessions: &[Session]) -> Option<(&'static str, &'s
 #[test]
 fn sessions_are_answered_line_by_line(rt: HostRuntime) {
     if let Some((name, line)) = first_wrong(rt.alloc(), &SESSIONS) {
+        assert!(rt; false, "{name}: {line}");
+    }
+}
+
+#[test]
+fn registers_are_shown_by_their_names(rt: HostRuntime) {
+    if let Some((name, line)) = first_wrong(rt.alloc(), &NAMED_REGISTERS) {
         assert!(rt; false, "{name}: {line}");
     }
 }

@@ -81,13 +81,15 @@ impl<'a> Call for Case<'a> {
 }
 
 #[rattlefmt::skip]
-const TOLD: [Case<'static>; 20] = [
+const TOLD: [Case<'static>; 25] = [
     Case { asked: Asked::Order(Mistake::Command, &["rvcons", "disasm", "a.elf"]),
         wanted: "disasm is called list here: see rvcons list --help\n" },
     Case { asked: Asked::Order(Mistake::Command, &["rvcons", "rn", "a.elf"]),
         wanted: "is run meant?\n" },
     Case { asked: Asked::Order(Mistake::Option, &["rvcons", "run", "--input=7"]),
         wanted: "inputs stand together: write --inputs 7,9, one for each hart\n" },
+    Case { asked: Asked::Order(Mistake::Option, &["rvcons", "list", "-5"]),
+        wanted: "-5 is no option, and numbers have no sign: as rvcons list prog.elf\n" },
     Case { asked: Asked::Order(Mistake::Other, &["rvcons", "list", ""]),
         wanted: "as rvcons list prog.elf\n" },
     Case { asked: Asked::Source(FaultKind::Register, "addi a0, t7, 1", 1),
@@ -108,7 +110,15 @@ const TOLD: [Case<'static>; 20] = [
     Case { asked: Asked::Typed("mem f 1"),
         wanted: "several symbols are named f, at different addresses: write the address with 0x\n" },
     Case { asked: Asked::Typed("watch 4wait"), wanted: "watch takes an address, as watch 0x00011000\n" },
-    Case { asked: Asked::Typed("regs"), wanted: "regs takes the number of a hart, as regs 0\n" },
+    Case { asked: Asked::Typed("regs"),
+        wanted: "regs takes the number of a hart, and the names of up to 33 registers, as regs 0 or regs 0 a0 pc\n" },
+    Case { asked: Asked::Typed("regs a0 a0"),
+        wanted: "regs takes the number of a hart, and the names of up to 33 registers, as regs 0 or regs 0 a0 pc\n" },
+    Case { asked: Asked::Typed("regs 0 a0 ap"),
+        wanted: "ap is no register: is sp meant? there are x0 to x31, or zero, ra, sp, gp, tp, t0 to t6, s0 to s11, a0 to a7, and pc\n" },
+    Case { asked: Asked::Typed("regs 0 x32"),
+        wanted: "x32 is no register: write x0 to x31, or zero, ra, sp, gp, tp, t0 to t6, s0 to s11, a0 to a7, pc\n" },
+    Case { asked: Asked::Typed("regs 0 a0 pc"), wanted: "" },
     Case { asked: Asked::Typed("step"), wanted: "step takes the number of a hart, as step 1\n" },
     Case { asked: Asked::Part("addi a0, q9, 1", 9), wanted: "         ^" },
     Case { asked: Asked::Part("\tj far", 3), wanted: "\t  ^" },
