@@ -165,8 +165,8 @@ fn push_read<A: Allocator>(
     if let (Some(operand), Some(address)) = (word_of(line, 1), address_of(command)) {
         push_decimal(text, operand, address)?;
     }
-    match command {
-        Command::Break(address) => push_unreached(text, segments, address),
+    match &command {
+        Command::Break(address) => push_unreached(text, segments, *address),
         _ => Ok(()),
     }
 }
