@@ -33,7 +33,7 @@ use Rattle.explore_space.proofs.WorldLemmas.{get_within, map_same, taken, memory
 pub longer_length : {X : Type 0} (xs ys : List X) → GoesOn xs ys → length xs ≤ length ys
 longer_length xs ys goes = let e = ap length goes.1 ∙ length-append xs goes.0 in omega (arith, e)
 
-longer_get : {X : Type 0} (xs ys : List X) → GoesOn xs ys → (k : ℕ) → k < length xs → slice_get ys k ≡ slice_get xs k
+pub longer_get : {X : Type 0} (xs ys : List X) → GoesOn xs ys → (k : ℕ) → k < length xs → slice_get ys k ≡ slice_get xs k
 longer_get xs ys goes k h = ap (λ zs. slice_get zs k) goes.1 ∙ get_within xs goes.0 k h
 
 -- ---- keys stay

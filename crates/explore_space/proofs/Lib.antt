@@ -1,6 +1,7 @@
 pub mod WorldLemmas
 pub mod KeyLemmas
 pub mod SettledKeys
+pub mod MemoLemmas
 pub mod FirstLemmas
 pub mod DifferLemmas
 pub mod SameLemmas

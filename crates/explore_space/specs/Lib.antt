@@ -1,4 +1,5 @@
 pub mod Places
+pub mod Memo
 pub mod Failing
 pub mod Stuck
 pub mod Ends

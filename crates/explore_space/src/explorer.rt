@@ -8,10 +8,12 @@ ghost use Rattle.explore_laws.specs.OwnSteps.{steps_in_turn};
 ghost use Rattle.explore_laws.specs.Places.{Place, place_begun};
 ghost use Rattle.explore_space.specs.Places.{IsKey, place_of_key, world_of_key};
 ghost use Rattle.explore_space.specs.Failing.{ends_there, fails_there};
+ghost use Rattle.explore_space.specs.Memo.{AreRests, AreSteps};
 
 use crate::failing::{fails_at, has_ended_at};
 use crate::first::first_parts;
 use crate::kept::Kept;
+use crate::memo::Memo;
 use crate::shared::Shared;
 use crate::stepping::{settled_key, stepped_key, steps_from};
 use explore_search::Space;
@@ -32,6 +34,10 @@ pub struct Explorer<'a, A: Allocator> {
     rule: Option<Kind>,
     harts: Kept<Hart, A>,
     shareds: Kept<Shared<A>, A>,
+    steps: Memo<A>,
+    rests: Memo<A>,
+    ghost steps_are: { AreSteps image.now harts.parts.items shareds.parts.items steps.keys steps.answers },
+    ghost rests_are: { AreRests image.now harts.parts.items rests.keys rests.answers },
     ghost its_code: { segments_memory code ≡ code_in (image_memory image.now) },
 }
 
@@ -56,6 +62,8 @@ impl<'a, A: Allocator + Copy> Explorer<'a, A> {
             rule,
             harts: Kept::new(alloc)?,
             shareds: Kept::new(alloc)?,
+            steps: Memo::new(alloc)?,
+            rests: Memo::new(alloc)?,
         })
     }
 
@@ -103,6 +111,8 @@ impl<'a, A: Allocator + Copy> Space<A> for Explorer<'a, A> {
     ghost ended = { λ e p. ends_there p };
 
     fn first_key(&mut self) -> Result<Vec<u32, A>, AllocError> {
+        self.steps = Memo::new(self.alloc)?;
+        self.rests = Memo::new(self.alloc)?;
         first_parts(
             self.alloc,
             self.image,
@@ -120,6 +130,7 @@ impl<'a, A: Allocator + Copy> Space<A> for Explorer<'a, A> {
             count,
             &mut self.harts,
             &mut self.shareds,
+            &mut self.steps,
             key,
             choice,
         )?;
@@ -129,6 +140,7 @@ impl<'a, A: Allocator + Copy> Space<A> for Explorer<'a, A> {
             count,
             &mut self.harts,
             &self.shareds.parts,
+            &mut self.rests,
             next,
             choice.hart as usize,
         )

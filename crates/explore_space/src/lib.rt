@@ -19,6 +19,7 @@ mod first;
 mod hash;
 mod kept;
 mod meant;
+mod memo;
 mod own_bounds;
 mod own_steps;
 mod parts;

@@ -1,15 +1,18 @@
 //! Keys after a choice.
-ghost use Rattle.std.specs.Prelude.{◌≡◌, ◌<◌, IfOk, length};
+ghost use Rattle.std.specs.Prelude.{◌≡◌, if◌then◌else◌, ◌<◌, IfOk, length};
 ghost use Rattle.mem_store.specs.Image.{image_memory, segments_memory};
 ghost use Rattle.hart_step.specs.Hart.{hart_of};
 ghost use Rattle.hart_local.specs.CodeMemory.{code_in};
 ghost use Rattle.machine.specs.World.{World};
 ghost use Rattle.explore_laws.specs.OwnSteps.{steps_in_turn};
 ghost use Rattle.explore_laws.specs.Places.{place_settled, place_stepped};
+ghost use Rattle.explore_laws.specs.Settling.{at_once, rested};
 ghost use Rattle.explore_search.specs.Searched.{GoesOn};
-ghost use Rattle.explore_space.specs.Places.{IsKey, IsKeyOf, KeysStay, KeptOnce, PartsStep, ShowsHart, place_of_key};
+ghost use Rattle.explore_space.specs.Memo.{AreRests, AreSteps};
+ghost use Rattle.explore_space.specs.Places.{HartsDiffer, IsKey, IsKeyOf, KeysStay, KeptOnce, PartsStep, ShowsHart, hart_numbered, place_of_key};
 
 use crate::kept::{Kept, keep_hart, keep_shared};
+use crate::memo::Memo;
 use crate::settling::settle;
 use crate::shared::Shared;
 use explore_sites::step_site;
@@ -68,6 +71,90 @@ fn step_parts<A: Allocator + Copy>(
     Ok((hart_id, shared_id))
 }
 
+// Whether a choice refuses, as a word.
+fn refusal_word(choice: Choice) -> u32
+    ensures { result ≡ (if choice.refuse then 1 else 0) }
+{
+    if choice.refuse { 1 } else { 0 }
+}
+
+// The same, which is taken if it isn't kept.
+fn known_step<A: Allocator + Copy>(
+    alloc: A,
+    image: &Image<A>,
+    harts: &mut Kept<Hart, A>,
+    shareds: &mut Kept<Shared<A>, A>,
+    steps: &mut Memo<A>,
+    hart: u32,
+    shared: u32,
+    choice: Choice,
+) -> Result<(u32, u32), AllocError>
+    requires hart { hart < length harts.old.parts.items }
+    requires shared { shared < length shareds.old.parts.items }
+    requires kept { AreSteps image.now harts.old.parts.items shareds.old.parts.items steps.old.keys steps.old.answers }
+    ensures hart { IfOk result (λ ids. ids.0 < length harts.new.parts.items) }
+    ensures shared { IfOk result (λ ids. ids.1 < length shareds.new.parts.items) }
+    ensures steps { IfOk result (λ ids. PartsStep image.now choice harts.old.parts.items shareds.old.parts.items hart shared
+        harts.new.parts.items shareds.new.parts.items ids.0 ids.1) }
+    ensures harts_go { GoesOn harts.old.parts.items harts.new.parts.items }
+    ensures shareds_go { GoesOn shareds.old.parts.items shareds.new.parts.items }
+    ensures once { KeptOnce image.now harts.old.parts.items shareds.old.parts.items
+        → KeptOnce image.now harts.new.parts.items shareds.new.parts.items }
+    ensures kept { AreSteps image.now harts.new.parts.items shareds.new.parts.items steps.new.keys steps.new.answers }
+{
+    let words = [hart, shared, choice.hart, refusal_word(choice)];
+    if let Some([new_hart, new_shared]) = steps.find(&words) {
+        return Ok((*new_hart, *new_shared));
+    }
+    let (hart_id, shared_id) = step_parts(
+        alloc,
+        image,
+        harts,
+        shareds,
+        hart as usize,
+        shared as usize,
+        choice,
+    )?;
+    if hart_id > 0xffff_ffff || shared_id > 0xffff_ffff {
+        return Err(AllocError);
+    }
+    let (new_hart, new_shared) = (hart_id as u32, shared_id as u32);
+    steps.keep(&words, &[new_hart, new_shared])?;
+    Ok((new_hart, new_shared))
+}
+
+// The number of what a hart's local steps make of it, which are taken if it isn't kept.
+fn known_rest<A: Allocator + Copy>(
+    image: &Image<A>,
+    code: &Code<A>,
+    harts: &mut Kept<Hart, A>,
+    rests: &mut Memo<A>,
+    id: u32,
+) -> Result<u32, AllocError>
+    requires its_code { segments_memory code.now ≡ code_in (image_memory image.now) }
+    requires there { id < length harts.old.parts.items }
+    requires kept { AreRests image.now harts.old.parts.items rests.old.keys rests.old.answers }
+    ensures there { IfOk result (λ after. after < length harts.new.parts.items) }
+    ensures rests { IfOk result (λ after. hart_numbered harts.new.parts.items after
+        ≡ rested (code_in (image_memory image.now)) at_once (hart_numbered harts.old.parts.items id)) }
+    ensures harts_go { GoesOn harts.old.parts.items harts.new.parts.items }
+    ensures once { HartsDiffer harts.old.parts.items → HartsDiffer harts.new.parts.items }
+    ensures kept { AreRests image.now harts.new.parts.items rests.new.keys rests.new.answers }
+{
+    let _ = image;
+    if let Some([after]) = rests.find(&[id]) {
+        return Ok(*after);
+    }
+    let mut hart = harts.parts[id as usize];
+    settle(&mut hart, code);
+    let after = keep_hart(harts, hart)?;
+    if after > 0xffff_ffff {
+        return Err(AllocError);
+    }
+    rests.keep(&[id], &[after as u32])?;
+    Ok(after as u32)
+}
+
 /// The key of the place that is one choice of a hart further. A choice of no hart is refused here.
 pub fn stepped_key<A: Allocator + Copy>(
     alloc: A,
@@ -75,34 +162,30 @@ pub fn stepped_key<A: Allocator + Copy>(
     count: usize,
     harts: &mut Kept<Hart, A>,
     shareds: &mut Kept<Shared<A>, A>,
+    steps: &mut Memo<A>,
     key: &[u32],
     choice: Choice,
 ) -> Result<Vec<u32, A>, AllocError>
-    requires { IsKey image.now count harts.old.parts.items shareds.old.parts.items key.now }
+    requires is { IsKey image.now count harts.old.parts.items shareds.old.parts.items key.now }
+    requires kept { AreSteps image.now harts.old.parts.items shareds.old.parts.items steps.old.keys steps.old.answers }
     ensures there { IfOk result (λ _. choice.hart < count) }
     ensures key { IfOk result (λ next. IsKeyOf image.now count harts.new.parts.items shareds.new.parts.items next.items
         (place_stepped (place_of_key image.now count harts.old.parts.items shareds.old.parts.items key.now) choice)) }
     ensures kept { KeysStay image.now count harts.old.parts.items shareds.old.parts.items harts.new.parts.items shareds.new.parts.items }
+    ensures harts_go { GoesOn harts.old.parts.items harts.new.parts.items }
+    ensures known { AreSteps image.now harts.new.parts.items shareds.new.parts.items steps.new.keys steps.new.answers }
 {
     let number = choice.hart as usize;
     if number >= count {
         return Err(AllocError);
     }
-    let (hart_id, shared_id) = step_parts(
-        alloc,
-        image,
-        harts,
-        shareds,
-        key[number] as usize,
-        key[count] as usize,
-        choice,
+    let (hart, shared) = (key[number], key[count]);
+    let (new_hart, new_shared) = known_step(
+        alloc, image, harts, shareds, steps, hart, shared, choice,
     )?;
-    if hart_id > 0xffff_ffff || shared_id > 0xffff_ffff {
-        return Err(AllocError);
-    }
     let mut next = Vec::from_slice(alloc, key)?;
-    next[number] = hart_id as u32;
-    next[count] = shared_id as u32;
+    next[number] = new_hart;
+    next[count] = new_shared;
     next[count + 1 + number] = 1;
     Ok(next)
 }
@@ -114,26 +197,24 @@ pub fn settled_key<A: Allocator + Copy>(
     count: usize,
     harts: &mut Kept<Hart, A>,
     shareds: &[Shared<A>],
+    rests: &mut Memo<A>,
     key: Vec<u32, A>,
     number: usize,
 ) -> Result<Vec<u32, A>, AllocError>
     requires its_code { segments_memory code.now ≡ code_in (image_memory image.now) }
     requires there { number < count }
     requires is { IsKey image.now count harts.old.parts.items shareds.now key.items }
+    requires kept { AreRests image.now harts.old.parts.items rests.old.keys rests.old.answers }
     ensures key { IfOk result (λ next. IsKeyOf image.now count harts.new.parts.items shareds.now next.items
         (place_settled (place_of_key image.now count harts.old.parts.items shareds.now key.items) number)) }
     ensures kept { KeysStay image.now count harts.old.parts.items shareds.now harts.new.parts.items shareds.now }
+    ensures harts_go { GoesOn harts.old.parts.items harts.new.parts.items }
+    ensures known { AreRests image.now harts.new.parts.items rests.new.keys rests.new.answers }
 {
-    let _ = image;
     let _ = shareds;
     let mut next = key;
-    let mut hart = harts.parts[next[number] as usize];
-    settle(&mut hart, code);
-    let id = keep_hart(harts, hart)?;
-    if id > 0xffff_ffff {
-        return Err(AllocError);
-    }
-    next[number] = id as u32;
+    let id = known_rest(image, code, harts, rests, next[number])?;
+    next[number] = id;
     Ok(next)
 }
 
