@@ -1,5 +1,6 @@
 -- Steps and rests stay where more parts are known, and one more is kept.
 use Rattle.std.proofs.Common.{◌≡◌, ℕ, suc, ◌+◌, ◌<◌, ◌≤◌, Bool, true, false, if◌then◌else◌, List, [], ◌∷◌, length, Some, refl, ap, sym, ◌∙◌, subst, arith, inl, inr, ◌⊎◌}
+use Rattle.std.proofs.lemmas.Option.{slice_get_within}
 use Rattle.std.specs.List.{slice_get, slice_index}
 use Rattle.image.specs.Image.{ImageValue}
 use Rattle.mem_store.specs.Image.{image_memory}
@@ -56,23 +57,40 @@ module _ {Z : Type 0} (image : ImageValue) (harts more_harts : List Hart) (share
 
   pub steps_stay : (words afters : List (List ℕ)) → AreSteps image harts shareds words afters
       → AreSteps image more_harts more_shareds words afters
-  steps_stay words afters are at hart shared c new_hart new_shared kept =
-      let told = are at hart shared c new_hart new_shared kept in (
-        there_stays hart shared told.0,
-        there_stays new_hart new_shared told.1,
-        step_stays c hart shared new_hart new_shared told.0 told.1 told.2,
-      )
+  steps_stay words afters are = record {
+    each = λ at hart shared c new_hart new_shared kept.
+        (let told = are.each at hart shared c new_hart new_shared kept in (
+          there_stays hart shared told.0,
+          there_stays new_hart new_shared told.1,
+          step_stays c hart shared new_hart new_shared told.0 told.1 told.2,
+        ));
+  }
 
 pub rests_stay : (image : ImageValue) (harts more_harts : List Hart) → GoesOn harts more_harts → (keys answers : List (List ℕ))
     → AreRests image harts keys answers → AreRests image more_harts keys answers
-rests_stay image harts more_harts harts_go keys answers are at id after kept =
-    let told = are at id after kept in
-    let longer = longer_length harts more_harts harts_go in (
-      (let h = told.0 in omega (arith, longer, h)),
-      (let h = told.1 in omega (arith, longer, h)),
-      ap hart_in (longer_get harts more_harts harts_go after told.1) ∙ told.2
-          ∙ ap (rested (code_in (image_memory image)) at_once) (sym (ap hart_in (longer_get harts more_harts harts_go id told.0))),
-    )
+rests_stay image harts more_harts harts_go keys answers are = record {
+  each = λ at id after kept.
+      (let told = are.each at id after kept in
+      let longer = longer_length harts more_harts harts_go in (
+        (let h = told.0 in omega (arith, longer, h)),
+        (let h = told.1 in omega (arith, longer, h)),
+        ap hart_in (longer_get harts more_harts harts_go after told.1) ∙ told.2
+            ∙ ap (rested (code_in (image_memory image)) at_once) (sym (ap hart_in (longer_get harts more_harts harts_go id told.0))),
+      ));
+}
+
+-- ---- nothing is kept
+pub no_steps : {Z : Type 0} (image : ImageValue) (harts : List Hart) (shareds : List (Shared Z)) (keys answers : List (List ℕ))
+    → length keys ≡ 0 → AreSteps image harts shareds keys answers
+no_steps image harts shareds keys answers none = record {
+  each = λ at hart shared c new_hart new_shared kept.
+      absurd (let there = slice_get_within keys at _ kept.0 in omega (arith, there, none));
+}
+
+pub no_rests : (image : ImageValue) (harts : List Hart) (keys answers : List (List ℕ)) → length keys ≡ 0 → AreRests image harts keys answers
+no_rests image harts keys answers none = record {
+  each = λ at id after kept. absurd (let there = slice_get_within keys at _ kept.0 in omega (arith, there, none));
+}
 
 -- ---- one step more
 abbrev word_of_bool : Bool → ℕ
@@ -100,18 +118,19 @@ pub steps_more : {Z : Type 0} (image : ImageValue) (harts : List Hart) (shareds 
     → AreThere harts shareds hart shared → AreThere harts shareds new_hart new_shared
     → PartsStep image c harts shareds hart shared harts shareds new_hart new_shared
     → AreSteps image harts shareds more_keys more_answers
-steps_more image harts shareds keys answers more_keys more_answers hart shared new_hart new_shared c are keeps there after steps
-    at other_hart other_shared d after_hart after_shared kept =
-    elim (keeps at (step_words other_hart other_shared d) (after_hart ∷ after_shared ∷ []) kept) [
-      | inl old ↦ are at other_hart other_shared d after_hart after_shared old
-      | inr new ↦
-          let same = same_step other_hart hart other_shared shared d c new.0 in
-          subst (λ x. Goes x other_shared d after_hart after_shared) (sym same.0)
-          (subst (λ x. Goes hart x d after_hart after_shared) (sym same.1)
-          (subst (λ x. Goes hart shared x after_hart after_shared) (sym same.2)
-          (subst (λ x. Goes hart shared c x after_shared) (sym (ap (λ (xs : List ℕ). slice_index xs 0) new.1))
-          (subst (λ x. Goes hart shared c new_hart x) (sym (ap (λ (xs : List ℕ). slice_index xs 1) new.1)) (there, after, steps)))))
-    ]
+steps_more image harts shareds keys answers more_keys more_answers hart shared new_hart new_shared c are keeps there after steps = record {
+  each = λ at other_hart other_shared d after_hart after_shared kept.
+      elim (keeps at (step_words other_hart other_shared d) (after_hart ∷ after_shared ∷ []) kept) [
+        | inl old ↦ are.each at other_hart other_shared d after_hart after_shared old
+        | inr new ↦
+            let same = same_step other_hart hart other_shared shared d c new.0 in
+            subst (λ x. Goes x other_shared d after_hart after_shared) (sym same.0)
+            (subst (λ x. Goes hart x d after_hart after_shared) (sym same.1)
+            (subst (λ x. Goes hart shared x after_hart after_shared) (sym same.2)
+            (subst (λ x. Goes hart shared c x after_shared) (sym (ap (λ (xs : List ℕ). slice_index xs 0) new.1))
+            (subst (λ x. Goes hart shared c new_hart x) (sym (ap (λ (xs : List ℕ). slice_index xs 1) new.1)) (there, after, steps)))))
+      ];
+}
   where
     Goes : ℕ → ℕ → Choice → ℕ → ℕ → Type 0
     Goes h s x a b = AreThere harts shareds h s × AreThere harts shareds a b × PartsStep image x harts shareds h s harts shareds a b
@@ -122,12 +141,14 @@ pub rests_more : (image : ImageValue) (harts : List Hart) (keys answers more_key
     → id < length harts → new_hart < length harts
     → hart_numbered harts new_hart ≡ rested (code_in (image_memory image)) at_once (hart_numbered harts id)
     → AreRests image harts more_keys more_answers
-rests_more image harts keys answers more_keys more_answers id new_hart are keeps there after rest at other after_other kept =
-    elim (keeps at (other ∷ []) (after_other ∷ []) kept) [
-      | inl old ↦ are at other after_other old
-      | inr new ↦ subst (λ x. Goes x after_other) (sym (ap (λ (xs : List ℕ). slice_index xs 0) new.0))
-          (subst (λ x. Goes id x) (sym (ap (λ (xs : List ℕ). slice_index xs 0) new.1)) (there, after, rest))
-    ]
+rests_more image harts keys answers more_keys more_answers id new_hart are keeps there after rest = record {
+  each = λ at other after_other kept.
+      elim (keeps at (other ∷ []) (after_other ∷ []) kept) [
+        | inl old ↦ are.each at other after_other old
+        | inr new ↦ subst (λ x. Goes x after_other) (sym (ap (λ (xs : List ℕ). slice_index xs 0) new.0))
+            (subst (λ x. Goes id x) (sym (ap (λ (xs : List ℕ). slice_index xs 0) new.1)) (there, after, rest))
+      ];
+}
   where
     Goes : ℕ → ℕ → Type 0
     Goes x y = (x < length harts) × (y < length harts)
@@ -152,7 +173,7 @@ pub kept_step : {Z : Type 0} (image : ImageValue) (harts : List Hart) (shareds :
     → AreThere harts shareds (slice_index answer 0) (slice_index answer 1)
     × PartsStep image c harts shareds hart shared harts shareds (slice_index answer 0) (slice_index answer 1)
 kept_step image harts shareds keys answers at hart shared bit c answer are bit_is kept some few =
-    let told = are at hart shared c (slice_index answer 0) (slice_index answer 1)
+    let told = are.each at hart shared c (slice_index answer 0) (slice_index answer 1)
     (kept.0 ∙ ap (λ (b : ℕ). Some (hart ∷ shared ∷ c.hart ∷ b ∷ [])) bit_is, kept.1 ∙ ap Some (two_words answer some few)) in
     (told.1, told.2)
 
@@ -161,7 +182,7 @@ pub kept_rest : (image : ImageValue) (harts : List Hart) (keys answers : List (L
     → (slice_index answer 0 < length harts)
     × (hart_numbered harts (slice_index answer 0) ≡ rested (code_in (image_memory image)) at_once (hart_numbered harts id))
 kept_rest image harts keys answers at id answer are kept some few =
-    let told = are at id (slice_index answer 0) (kept.0, kept.1 ∙ ap Some (one_word answer some few)) in
+    let told = are.each at id (slice_index answer 0) (kept.0, kept.1 ∙ ap Some (one_word answer some few)) in
     (told.1, told.2)
 
 -- ---- one more is kept where more parts are known

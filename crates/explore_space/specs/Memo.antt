@@ -27,14 +27,15 @@ abbrev pub AreThere : {Z : Type 0} → List Hart → List (Shared Z) → ℕ →
 AreThere harts shareds hart shared = (hart < length harts) × (shared < length shareds)
 
 -- what is kept of steps is so: under the words of a step the numbers of the parts behind it
-abbrev pub AreSteps : {Z : Type 0} → ImageValue → List Hart → List (Shared Z) → List (List ℕ) → List (List ℕ) → Type 0
-AreSteps image harts shareds keys answers = (at hart shared : ℕ) (c : Choice) (new_hart new_shared : ℕ)
-    → HasAnswer keys answers at (step_words hart shared c) (new_hart ∷ new_shared ∷ [])
-    → AreThere harts shareds hart shared × AreThere harts shareds new_hart new_shared
-    × PartsStep image c harts shareds hart shared harts shareds new_hart new_shared
+pub record AreSteps {Z : Type 0} (image : ImageValue) (harts : List Hart) (shareds : List (Shared Z))
+    (keys answers : List (List ℕ)) : Type 0 where
+  pub each : (at hart shared : ℕ) (c : Choice) (new_hart new_shared : ℕ)
+      → HasAnswer keys answers at (step_words hart shared c) (new_hart ∷ new_shared ∷ [])
+      → AreThere harts shareds hart shared × AreThere harts shareds new_hart new_shared
+      × PartsStep image c harts shareds hart shared harts shareds new_hart new_shared
 
 -- what is kept of rests is so: under a hart's number that of what its local steps make of it
-abbrev pub AreRests : ImageValue → List Hart → List (List ℕ) → List (List ℕ) → Type 0
-AreRests image harts keys answers = (at id after : ℕ) → HasAnswer keys answers at (id ∷ []) (after ∷ [])
-    → (id < length harts) × (after < length harts)
-    × (hart_numbered harts after ≡ rested (code_in (image_memory image)) at_once (hart_numbered harts id))
+pub record AreRests (image : ImageValue) (harts : List Hart) (keys answers : List (List ℕ)) : Type 0 where
+  pub each : (at id after : ℕ) → HasAnswer keys answers at (id ∷ []) (after ∷ [])
+      → (id < length harts) × (after < length harts)
+      × (hart_numbered harts after ≡ rested (code_in (image_memory image)) at_once (hart_numbered harts id))

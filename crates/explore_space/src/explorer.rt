@@ -43,6 +43,7 @@ pub struct Explorer<'a, A: Allocator> {
 
 impl<'a, A: Allocator + Copy> Explorer<'a, A> {
     /// Nothing is known yet. Fails when out of memory.
+    #[tactic(auto, using(crate::proofs::MemoLemmas::no_steps, crate::proofs::MemoLemmas::no_rests))]
     pub fn new(
         alloc: A,
         image: &'a Image<A>,
@@ -110,6 +111,7 @@ impl<'a, A: Allocator + Copy> Space<A> for Explorer<'a, A> {
 
     ghost ended = { λ e p. ends_there p };
 
+    #[tactic(auto, using(crate::proofs::MemoLemmas::no_steps, crate::proofs::MemoLemmas::no_rests))]
     fn first_key(&mut self) -> Result<Vec<u32, A>, AllocError> {
         self.steps = Memo::new(self.alloc)?;
         self.rests = Memo::new(self.alloc)?;
