@@ -82,12 +82,12 @@ fn looks_hexadecimal(operand: &str) -> bool {
         && (operand.len() >= 8 || (operand.starts_with("0") && operand.len() > 1))
 }
 
-fn address_of(command: Command) -> Option<u32> {
+fn address_of(command: &Command) -> Option<u32> {
     match command {
         Command::Break(address)
         | Command::Watch { address, .. }
         | Command::Delete(address)
-        | Command::Mem { address, .. } => Some(address),
+        | Command::Mem { address, .. } => Some(*address),
         _ => None,
     }
 }
@@ -162,7 +162,7 @@ fn push_read<A: Allocator>(
     line: &str,
     command: Command,
 ) -> Result<(), AllocError> {
-    if let (Some(operand), Some(address)) = (word_of(line, 1), address_of(command)) {
+    if let (Some(operand), Some(address)) = (word_of(line, 1), address_of(&command)) {
         push_decimal(text, operand, address)?;
     }
     match &command {
