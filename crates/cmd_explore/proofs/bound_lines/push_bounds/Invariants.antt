@@ -4,5 +4,5 @@ use Rattle.cmd_explore.proofs.bound_lines.push_bounds.Given as goal
 
 -- the text so far, and then the lines of the harts that are left
 abbrev pub invariant-loop-hart : goal.invariant-loop-hart
-invariant-loop-hart g l = string_bytes l.text ++ bound_lines l.hart-counter (drop l.hart-counter l.bounds)
+invariant-loop-hart g l = string_bytes l.text ++ bound_lines l.hart (drop l.hart l.bounds)
     ≡ string_bytes l.initial.text ++ bound_lines 0 l.bounds
