@@ -41,15 +41,15 @@ struct Line<'a, R> {
 }
 
 impl<'a, R: Clock> Line<'a, R> {
-    // The seconds since the exploration began, at least one.
+    // The whole seconds since the exploration began.
     fn seconds(&self) -> u64 {
         let elapsed = match self.began {
             Some(began) => began.elapsed(self.rt).ok(),
             None => None,
         };
         match elapsed {
-            Some(elapsed) => elapsed.as_secs().max(1),
-            None => 1,
+            Some(elapsed) => elapsed.as_secs(),
+            None => 0,
         }
     }
 }
@@ -58,7 +58,10 @@ impl<'a, R: Eprint + Clock> Progress for Line<'a, R> {
     fn worlds_done(&mut self, done: u64, found: u64, depth: u64) {
         if done % WORLDS_AT_ONCE == 0 && self.audience.sees_progress() {
             self.is_shown = true;
-            let rate = done / self.seconds();
+            let rate = match done.checked_div(self.seconds()) {
+                Some(rate) => rate,
+                None => done,
+            };
             // If standard error is closed, nobody sees it.
             let _ = eprint!(self.rt;
                 "{WIPE}{done} worlds done, of {found} found so far; {depth} turns deep; {rate} a second"
