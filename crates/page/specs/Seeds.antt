@@ -8,7 +8,7 @@ use Rattle.page.specs.declared.seeds.AskedChoices.{AskedChoices}
 use Rattle.page.specs.declared.seeds.AskedDraw.{AskedDraw}
 use Rattle.sched_draw.specs.Limits.{most_depth, most_mean, most_one_in}
 use Rattle.sched_draw.specs.declared.order.Order.{Order}
-use Rattle.sched_draw.specs.declared.order.Order.TheVariants.{Even, Bursts, Priorities}
+use Rattle.sched_draw.specs.declared.order.Order.TheVariants.{Even, Bursts, Priorities, Mixed}
 use Rattle.sched_draw.specs.declared.refusals.Refusals.{Refusals}
 use Rattle.sched_draw.specs.declared.refusals.Refusals.TheVariants.{Never, OneIn}
 use Rattle.sched_draw.specs.declared.schedule.Draw.{Draw}
@@ -23,8 +23,9 @@ abbrev pub AsksOrder : ℕ → ℕ → Option Order → Type 0
 AsksOrder order number (Some Even) = order ≡ 0
 AsksOrder order number (Some (Bursts mean)) = (order ≡ 1) × (mean.choices ≡ number)
 AsksOrder order number (Some (Priorities depth)) = (order ≡ 2) × (depth.number ≡ number)
+AsksOrder order number (Some Mixed) = order ≡ 3
 AsksOrder order number None =
-    ((order ≡ 1) × IsOutside most_mean number) ⊎ (((order ≡ 2) × IsOutside most_depth number) ⊎ (2 < order))
+    ((order ≡ 1) × IsOutside most_mean number) ⊎ (((order ≡ 2) × IsOutside most_depth number) ⊎ (3 < order))
 
 -- a refusal with a chance of one in so many, or never for 0; that there is none
 abbrev pub AsksRefusals : ℕ → Option Refusals → Type 0

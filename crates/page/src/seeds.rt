@@ -13,10 +13,9 @@ use sched_draw::{Chance, Depth, Draw, Mean, Order, Refusals};
 #[repr(C)]
 #[derive(Clone, Copy)]
 pub struct AskedDraw {
-    /// How it chooses the harts: 0 evenly, 1 in bursts, 2 by priorities.
+    /// How it chooses the harts: 0 evenly, 1 in bursts, 2 by priorities, 3 by these in turn.
     pub order: u32,
-    /// The mean length of bursts, or the depth of priorities. It isn't read where the order is
-    /// even.
+    /// The mean length of bursts, or the depth of priorities. Other orders don't read it.
     pub number: u32,
     /// A store-conditional is refused with a chance of one in this; 0 refuses none.
     pub one_in: u32,
@@ -69,6 +68,7 @@ fn order_of(order: u32, number: u32) -> Option<Order>
             let depth = Depth::new(number)?;
             Some(Order::Priorities(depth))
         }
+        3 => Some(Order::Mixed),
         _ => None,
     }
 }
