@@ -2,12 +2,12 @@
 
 use hart_step::Hart;
 
-/// Which choices are told, by their places in the list, counted from 1.
+/// Which choices are told, by their places in the list, counted from 0.
 #[derive(Clone, Copy, PartialEq, Eq)]
 pub struct Span {
     /// The first.
     pub from: u64,
-    /// The last; one less than the first where none is told.
+    /// One more than the last; the same as `from` where none is told.
     pub to: u64,
 }
 

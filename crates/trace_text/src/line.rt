@@ -115,7 +115,7 @@ fn push_told<A: Allocator>(
     push_rest(out, told)
 }
 
-/// Appends the line of choice `k`, counted from 1, and of what it did.
+/// Appends the line of choice `k` and of what it did.
 #[tactic(auto, unfolding(crate::specs::Line::line_of))]
 pub fn push_line<A: Allocator>(
     alloc: A,

@@ -120,8 +120,8 @@ fn push_label_column<A: Allocator, B: Allocator>(
     out.extend_from_slice(b" |\n")
 }
 
-/// Appends the row of choice `k`, counted from 1, and of what it did, for so many harts; its
-/// instruction's label is one of the symbols.
+/// Appends the row of choice `k` and of what it did, for so many harts; its instruction's label is
+/// one of the symbols.
 #[tactic(auto, unfolding(crate::specs::Table::table_row))]
 pub fn push_row<A: Allocator + Copy, B: Allocator>(
     alloc: A,
