@@ -3,7 +3,8 @@
 // The picture has room for so many choices.
 const MOST_TRACED = 20_000;
 // The greatest number of each order of a draw and the usual one, and of refusals (crates/sched_draw/src/order.rt).
-const MOST_NUMBERS = { even: 0n, bursts: 2147483648n, priorities: 1000n };
+// The others take none.
+const MOST_NUMBERS = { bursts: 2147483648n, priorities: 1000n };
 const USUAL_NUMBERS = { bursts: 30, priorities: 3 };
 const MOST_ONE_IN = 65536n;
 // A name for what was typed and not opened.
@@ -101,9 +102,9 @@ class Workbench {
   draw() {
     const order = find('order').value;
     const most = MOST_NUMBERS[order];
-    const number = order === 'even' ? 0n : wholeOf(find('order-number').value, most + 1n);
+    const number = most === undefined ? 0n : wholeOf(find('order-number').value, most + 1n);
     const oneIn = wholeOf(find('one-in').value, MOST_ONE_IN + 1n);
-    const isNumber = order === 'even' || (number !== null && number > 0n);
+    const isNumber = most === undefined || (number !== null && number > 0n);
     find('draw-fault').hidden = isNumber && oneIn !== null;
     find('draw-fault').textContent = isNumber ? `A refusal is one in 1 to ${MOST_ONE_IN} choices, or none with 0.` : `The ${order === 'bursts' ? 'mean of bursts' : 'depth of priorities'} is 1 to ${most}.`;
     return isNumber && oneIn !== null ? { order, number: Number(number), oneIn: Number(oneIn) } : null;
@@ -111,8 +112,9 @@ class Workbench {
 
   showOrder() {
     const order = find('order').value;
-    find('order-number').hidden = order === 'even';
-    if (order !== 'even') find('order-number').value = USUAL_NUMBERS[order];
+    const usual = USUAL_NUMBERS[order];
+    find('order-number').hidden = usual === undefined;
+    if (usual !== undefined) find('order-number').value = usual;
     find('draw-fault').hidden = true;
   }
 
