@@ -110,8 +110,8 @@ class Machine {
     return this.call('page_run', [RULE_NUMBERS[rule], mustExit ? 1 : 0], [inputs, program, choices]);
   }
 
-  /** `trace` of an ELF file, from one choice to another; they are counted from 1. */
-  trace({ from = 1, to, inputs, program, choices }) {
+  /** `trace` of an ELF file, from one choice up to, but not including, another; they are counted from 0. */
+  trace({ from = 0, to, inputs, program, choices }) {
     return this.call('page_trace', [BigInt(from), BigInt(to)], [inputs, program, choices]);
   }
 

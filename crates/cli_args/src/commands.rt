@@ -208,8 +208,8 @@ pub(crate) const COMMANDS: [CommandRow; 14] = [
             Argument::Flag("hex", HEX),
             Argument::Needed("FILE", FILE),
             Argument::NeededOption("inputs", INPUTS),
-            Argument::Optional("from", "the first choice that is told, counted from 1"),
-            Argument::Optional("to", "the last choice that is told"),
+            Argument::Optional("from", "the first choice that is told, counted from 0"),
+            Argument::Optional("to", "the choice before which the trace ends"),
             Argument::Flag(
                 "table",
                 "print a table in Markdown, with a column for each hart",

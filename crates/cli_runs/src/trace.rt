@@ -23,7 +23,7 @@ pub fn obey_trace<R: Files + AllocGlobal + Print + Eprint>(
     let Some(plan) = read_trace_plan(order.table, order.shared, order.from, order.to) else {
         return Err(bad_line(
             rt,
-            "--from and --to take the places of choices, decimal numbers from 1 to 2^64 - 1, as --from 3 --to 37",
+            "--from and --to take the numbers of choices, decimal numbers from 0 to 2^64 - 1, as --from 3 --to 37",
         ));
     };
     let (mut program, mut source) = open_run(rt, audience, order.file, choices)?;

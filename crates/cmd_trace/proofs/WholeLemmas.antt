@@ -1,5 +1,5 @@
 -- The whole text of a trace, by its parts.
-use Rattle.std.proofs.Common.{◌≡◌, ℕ, ◌-◌, List, ◌++◌, length, take, drop, Option, refl, ap, sym, ◌∙◌}
+use Rattle.std.proofs.Common.{◌≡◌, ℕ, List, ◌++◌, length, take, drop, Option, refl, ap, sym, ◌∙◌}
 use Rattle.std.proofs.KnownBytes.{Appends-nil}
 use Rattle.image.specs.Image.{ImageValue}
 use Rattle.elf_read.specs.Symbol.{SymbolValue}
@@ -16,26 +16,26 @@ use Rattle.cmd_trace.proofs.OutputLemmas.{begun_with}
 
 trace_of : (plan : TracePlan) (image : ImageValue) (symbols : List SymbolValue) (inputs : List ℕ) (choices : List Choice)
     → let span = traced_span plan (length choices) in
-    let before = followed_run (followed_start image inputs) 1 (take (span.from - 1) choices) in
+    let before = followed_run (followed_start image inputs) 0 (take span.from choices) in
     trace_text plan image symbols inputs choices
-    ≡ trace_head plan.form image.entry inputs span symbols before.world ++ told_entries (page_of plan symbols inputs) span before (drop (span.from - 1) choices)
+    ≡ trace_head plan.form image.entry inputs span symbols before.world ++ told_entries (page_of plan symbols inputs) span before (drop span.from choices)
 unfolding trace_text
 trace_of plan image symbols inputs choices = refl
 
 -- the head is in the buffer, and the choices are to come
 pub head_waits : (plan : TracePlan) (image : ImageValue) (symbols : List SymbolValue) (inputs : List ℕ) (choices : List Choice) (count : ℕ)
     (span : Span) (begin f : Followed) (buffer : List ℕ) (start : Option (List ℕ)) → span ≡ traced_span plan count → count ≡ length choices
-    → begin ≡ followed_start image inputs → f ≡ followed_run begin 1 (take (span.from - 1) choices)
+    → begin ≡ followed_start image inputs → f ≡ followed_run begin 0 (take span.from choices)
     → buffer ≡ trace_head plan.form image.entry inputs span symbols f.world
     → SoFar (trace_text plan image symbols inputs choices) start start buffer
-    (told_entries (page_of plan symbols inputs) span f (drop (span.from - 1) choices))
+    (told_entries (page_of plan symbols inputs) span f (drop span.from choices))
 head_waits plan image symbols inputs choices count span begin f buffer start is counted begins reached head =
-    begun_with (trace_text plan image symbols inputs choices) buffer (told_entries (page_of plan symbols inputs) span f (drop (span.from - 1) choices)) start
-    (sym (ap (λ (l : List ℕ). l ++ told_entries (page_of plan symbols inputs) span f (drop (span.from - 1) choices)) head
-    ∙ ap (λ (v : Followed). trace_head plan.form image.entry inputs span symbols v.world ++ told_entries (page_of plan symbols inputs) span v (drop (span.from - 1) choices))
-    (reached ∙ ap (λ (v : Followed). followed_run v 1 (take (span.from - 1) choices)) begins)
-    ∙ ap (λ (s : Span). let before = followed_run (followed_start image inputs) 1 (take (s.from - 1) choices) in
-    trace_head plan.form image.entry inputs s symbols before.world ++ told_entries (page_of plan symbols inputs) s before (drop (s.from - 1) choices))
+    begun_with (trace_text plan image symbols inputs choices) buffer (told_entries (page_of plan symbols inputs) span f (drop span.from choices)) start
+    (sym (ap (λ (l : List ℕ). l ++ told_entries (page_of plan symbols inputs) span f (drop span.from choices)) head
+    ∙ ap (λ (v : Followed). trace_head plan.form image.entry inputs span symbols v.world ++ told_entries (page_of plan symbols inputs) span v (drop span.from choices))
+    (reached ∙ ap (λ (v : Followed). followed_run v 0 (take span.from choices)) begins)
+    ∙ ap (λ (s : Span). let before = followed_run (followed_start image inputs) 0 (take s.from choices) in
+    trace_head plan.form image.entry inputs s symbols before.world ++ told_entries (page_of plan symbols inputs) s before (drop s.from choices))
     (is ∙ ap (traced_span plan) counted)
     ∙ sym (trace_of plan image symbols inputs choices)))
 

@@ -19,22 +19,18 @@ use Rattle.cmd_trace.specs.declared.plan.TraceForm.{TraceForm}
 use Rattle.cmd_trace.specs.declared.plan.TraceForm.TheVariants as form
 use Rattle.cmd_trace.specs.declared.plan.TracePlan.{TracePlan}
 
--- the number of the first traced choice: there is no choice 0
-abbrev pub first_traced : TracePlan → ℕ
-first_traced plan = max 1 plan.from
+-- the number of the choice before which a trace ends, given the number of choices
+abbrev pub traced_end : Option ℕ → ℕ → ℕ
+traced_end None count = count
+traced_end (Some to) count = min to count
 
--- the number of the last traced choice, given the number of choices
-abbrev pub last_traced : Option ℕ → ℕ → ℕ
-last_traced None count = count
-last_traced (Some to) count = min to count
-
--- the first and the last traced choice; the last is one less than the first if none is traced
+-- the first traced choice, and one more than the last; the same number twice if none is traced
 abbrev pub traced_span : TracePlan → ℕ → Span
-traced_span plan count = record { from = first_traced plan; to = max (first_traced plan - 1) (last_traced plan.to count) }
+traced_span plan count = record { from = plan.from; to = max plan.from (traced_end plan.to count) }
 
 -- number of traced choices
 abbrev pub told_count : Span → ℕ
-told_count span = span.to + 1 - span.from
+told_count span = span.to - span.from
 
 -- the harts from number h on, each with the word that it has reserved
 abbrev pub harts_from : Marks → ℕ → List HartValue → List (HartValue × Option ℕ)
@@ -83,6 +79,6 @@ followed_start image inputs = followed (started image inputs) (λ h. None)
 unfoldable pub trace_text : TracePlan → ImageValue → List SymbolValue → List ℕ → List Choice → List ℕ
 trace_text plan image symbols inputs choices =
     let span = traced_span plan (length choices) in
-    let before = followed_run (followed_start image inputs) 1 (take (span.from - 1) choices) in
+    let before = followed_run (followed_start image inputs) 0 (take span.from choices) in
     trace_head plan.form image.entry inputs span symbols before.world
-    ++ told_entries (page_of plan symbols inputs) span before (drop (span.from - 1) choices)
+    ++ told_entries (page_of plan symbols inputs) span before (drop span.from choices)

@@ -1,5 +1,5 @@
 //! Writes the traced choices.
-ghost use Rattle.std.specs.Prelude.{◌≡◌, ℕ, ◌-◌, ◌+◌, ◌^◌, ◌<◌, ◌≤◌, [], List, Option, IfOk, IfErr};
+ghost use Rattle.std.specs.Prelude.{◌≡◌, ℕ, ◌-◌, ◌^◌, ◌<◌, ◌≤◌, [], List, Option, IfOk, IfErr};
 ghost use Rattle.machine.specs.declared.choice.Choice.{Choice};
 ghost use Rattle.cmd_trace.specs.Cursor.{Has};
 ghost use Rattle.program_open.specs.Answers.{Begins};
@@ -27,8 +27,7 @@ pub(crate) fn write_entries<A: Allocator + Copy, K: Sink>(
     buffer: &mut Vec<u8, A>,
     sink: &mut K,
 ) -> Result<(), CommandFault>
-    requires some { 1 ≤ span.from }
-    requires order { span.from ≤ span.to + 1 }
+    requires order { span.from ≤ span.to }
     requires sink_counts { K.failures sink.old < 2 ^ 64 - 1 }
     ensures taken { IfOk result (λ _. (left : List Choice) (all : List ℕ) (start : Option (List ℕ))
         → Has teller.old.cursor left → SoFar all start (K.held sink.old) buffer.old.items

@@ -51,15 +51,15 @@ impl<'a, A: Allocator> Teller<'a, A> {
         Some(explained)
     }
 
-    /// Does the next `count` choices, which are numbered from 1, or all that are left if they are
+    /// Does the next `count` choices, which are numbered from 0, or all that are left if they are
     /// fewer.
     pub fn skip(&mut self, count: u64)
         ensures { (left : List Choice) → Has self.old.cursor left
             → Skips count (place self.old.machine self.old.endings)
-            (place self.new.machine self.new.endings) 1 self.new.cursor left }
+            (place self.new.machine self.new.endings) 0 self.new.cursor left }
     {
         'choices: for done in 0..count {
-            let Some(_told) = self.next(done + 1) else {
+            let Some(_told) = self.next(done) else {
                 return;
             };
         }

@@ -73,7 +73,7 @@ pub(crate) fn write_trace<A: Allocator + Copy, K: Sink>(
         Err(AllocError) => return Err(CommandFault::Memory),
     };
     let span = span_of(plan, count);
-    teller.skip(span.from - 1);
+    teller.skip(span.from);
     let mut buffer = Vec::new(alloc);
     match push_head_of(
         alloc,

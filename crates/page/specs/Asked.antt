@@ -40,7 +40,7 @@ expect_numbered rule exit = expect_by (rule_numbered rule) (exit_numbered exit)
 abbrev pub view_numbered : ℕ → Option FileView
 view_numbered n = if n == 0 then Some view.Listing else if n == 1 then Some view.Facts else None
 
--- the lines of the choices from one to another
+-- the lines of the choices from one up to, but not including, another
 abbrev pub lines_of : ℕ → ℕ → TracePlan
 lines_of from to = record { form = Lines; from = from; to = Some to }
 

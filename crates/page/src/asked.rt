@@ -54,7 +54,7 @@ pub(crate) fn view_of(view: u32) -> Option<FileView>
     }
 }
 
-/// The lines of the choices from one to another.
+/// The lines of the choices from one up to, but not including, another.
 pub(crate) fn plan_of(from: u64, to: u64) -> TracePlan
     ensures { result ≡ lines_of from to }
 {

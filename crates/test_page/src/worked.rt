@@ -114,7 +114,7 @@ pub(crate) fn made<A: Allocator + Copy>(alloc: A, asked: Asked, out: &mut [u8]) 
         Asked::Table(run) => {
             let plan = TracePlan {
                 form: TraceForm::Table,
-                from: 1,
+                from: 0,
                 to: None,
             };
             let choices = run.choices.as_bytes();

@@ -9,7 +9,7 @@ use std::alloc::Global;
 // All choices, as lines.
 const ALL: TracePlan = TracePlan {
     form: TraceForm::Lines,
-    from: 1,
+    from: 0,
     to: None,
 };
 
@@ -30,20 +30,20 @@ const AT_END: &str =
 
 // What its first three choices do.
 const FIRST: &str =
-    "{\"choice\":1,\"hart\":0,\"refused\":false,\"pc\":65536,\"word\":97519763,\"text\":\"addi a7, zero, 93\",\"access\":null,\"register\":{\"name\":\"a7\",\"value\":93},\"reserved\":null,\"next\":65540,\"end\":{\"state\":\"running\"}}\n";
+    "{\"choice\":0,\"hart\":0,\"refused\":false,\"pc\":65536,\"word\":97519763,\"text\":\"addi a7, zero, 93\",\"access\":null,\"register\":{\"name\":\"a7\",\"value\":93},\"reserved\":null,\"next\":65540,\"end\":{\"state\":\"running\"}}\n";
 
 const SECOND: &str =
-    "{\"choice\":2,\"hart\":0,\"refused\":true,\"pc\":65540,\"word\":115,\"text\":\"ecall\",\"access\":null,\"register\":null,\"reserved\":null,\"next\":65540,\"end\":{\"state\":\"exited\",\"status\":0}}\n";
+    "{\"choice\":1,\"hart\":0,\"refused\":true,\"pc\":65540,\"word\":115,\"text\":\"ecall\",\"access\":null,\"register\":null,\"reserved\":null,\"next\":65540,\"end\":{\"state\":\"exited\",\"status\":0}}\n";
 
 const THIRD: &str =
-    "{\"choice\":3,\"hart\":0,\"refused\":false,\"pc\":65540,\"word\":null,\"text\":null,\"access\":null,\"register\":null,\"reserved\":null,\"next\":65540,\"end\":{\"state\":\"exited\",\"status\":0}}\n";
+    "{\"choice\":2,\"hart\":0,\"refused\":false,\"pc\":65540,\"word\":null,\"text\":null,\"access\":null,\"register\":null,\"reserved\":null,\"next\":65540,\"end\":{\"state\":\"exited\",\"status\":0}}\n";
 
 // The same as a table.
 const TABLE: &str = "| Choice | Hart 0 | At |
 |---|---|---|
-| 1 | `addi a7, zero, 93` a7 = 0x0000005d |  |
-| 2 | `ecall` exits with 0x00000000 (refused) |  |
-| 3 | has stopped |  |
+| 0 | `addi a7, zero, 93` a7 = 0x0000005d |  |
+| 1 | `ecall` exits with 0x00000000 (refused) |  |
+| 2 | has stopped |  |
 ";
 
 // A run that is traced: the harts' inputs, the program's words and the choices.
@@ -99,7 +99,8 @@ fn is_written(alloc: Global, plan: TracePlan, parts: &[&str]) -> bool {
     answer == Ok(Status::Done) && is_made_of(sink.bytes(), parts)
 }
 
-// A plan of lines: its first choice, its last one, and the parts of what is written.
+// A plan of lines: its first choice, the choice before which it ends, and the parts of what is
+// written.
 struct Told {
     name: &'static str,
     from: u64,
@@ -108,22 +109,26 @@ struct Told {
 }
 
 #[rattlefmt::skip]
-const TOLD: [Told; 9] = [
-    Told { name: "all", from: 1, to: None,
-        parts: &[HEAD, "1,\"to\":3", AT_START, FIRST, SECOND, THIRD] },
-    Told { name: "from 0", from: 0, to: None,
-        parts: &[HEAD, "1,\"to\":3", AT_START, FIRST, SECOND, THIRD] },
-    Told { name: "from 2", from: 2, to: None,
-        parts: &[HEAD, "2,\"to\":3", AFTER_1, SECOND, THIRD] },
-    Told { name: "to 2", from: 1, to: Some(2),
-        parts: &[HEAD, "1,\"to\":2", AT_START, FIRST, SECOND] },
-    Told { name: "2 alone", from: 2, to: Some(2), parts: &[HEAD, "2,\"to\":2", AFTER_1, SECOND] },
-    Told { name: "from the last", from: 3, to: Some(99),
-        parts: &[HEAD, "3,\"to\":3", AT_END, THIRD] },
-    Told { name: "behind the last", from: 4, to: None, parts: &[HEAD, "4,\"to\":3", AT_END] },
+const TOLD: [Told; 11] = [
+    Told { name: "all", from: 0, to: None,
+        parts: &[HEAD, "0,\"to\":3", AT_START, FIRST, SECOND, THIRD] },
+    Told { name: "all, by their number", from: 0, to: Some(3),
+        parts: &[HEAD, "0,\"to\":3", AT_START, FIRST, SECOND, THIRD] },
+    Told { name: "from 1", from: 1, to: None,
+        parts: &[HEAD, "1,\"to\":3", AFTER_1, SECOND, THIRD] },
+    Told { name: "to 2", from: 0, to: Some(2),
+        parts: &[HEAD, "0,\"to\":2", AT_START, FIRST, SECOND] },
+    Told { name: "1 alone", from: 1, to: Some(2), parts: &[HEAD, "1,\"to\":2", AFTER_1, SECOND] },
+    Told { name: "from the last", from: 2, to: Some(99),
+        parts: &[HEAD, "2,\"to\":3", AT_END, THIRD] },
+    Told { name: "behind the last", from: 3, to: None, parts: &[HEAD, "3,\"to\":3", AT_END] },
     Told { name: "far behind the last", from: 9, to: Some(99),
-        parts: &[HEAD, "9,\"to\":8", AT_END] },
-    Told { name: "none", from: 2, to: Some(1), parts: &[HEAD, "2,\"to\":1", AFTER_1] },
+        parts: &[HEAD, "9,\"to\":9", AT_END] },
+    Told { name: "from the last number", from: u64::MAX, to: Some(u64::MAX),
+        parts: &[HEAD, "18446744073709551615,\"to\":18446744073709551615", AT_END] },
+    Told { name: "none", from: 1, to: Some(0), parts: &[HEAD, "1,\"to\":1", AFTER_1] },
+    Told { name: "none from the first", from: 0, to: Some(0),
+        parts: &[HEAD, "0,\"to\":0", AT_START] },
 ];
 
 // Whether choices are told so.
@@ -147,7 +152,7 @@ fn choices_of_the_plan_are_told(rt: HostRuntime) {
 // All choices, as a table.
 const AS_TABLE: TracePlan = TracePlan {
     form: TraceForm::Table,
-    from: 1,
+    from: 0,
     to: None,
 };
 
@@ -170,7 +175,7 @@ const LONG: Run = Run {
 
 // The last line of its trace.
 const LAST: &str =
-    "{\"choice\":1002,\"hart\":0,\"refused\":true,\"pc\":65540,\"word\":null,\"text\":null,\"access\":null,\"register\":null,\"reserved\":null,\"next\":65540,\"end\":{\"state\":\"exited\",\"status\":0}}\n";
+    "{\"choice\":1001,\"hart\":0,\"refused\":true,\"pc\":65540,\"word\":null,\"text\":null,\"access\":null,\"register\":null,\"reserved\":null,\"next\":65540,\"end\":{\"state\":\"exited\",\"status\":0}}\n";
 
 // Whether a text is that trace: none of it is lost, nor written twice.
 fn is_whole(text: &[u8]) -> bool {

@@ -29,22 +29,22 @@ struct Row {
 
 #[rattlefmt::skip]
 const ROWS: [Row; 8] = [
-    Row { name: "stores", choices: "0*4", number: 4,
-        row: "| 4 | `sc.w t1, a1, (s0)` succeeds, t1 = 0x00000000, [0x00011000]: 0x00000005 → 0x00000007 |  | _start+12 |\n" },
-    Row { name: "refused", choices: "0*3 0!", number: 4,
-        row: "| 4 | `sc.w t1, a1, (s0)` fails: refused, t1 = 0x00000001, [0x00011000] (refused) |  | _start+12 |\n" },
-    Row { name: "its own store-conditional", choices: "0*5", number: 5,
-        row: "| 5 | `sc.w zero, a1, (s1)` fails: no reservation, [0x00011004] |  | _start+16 |\n" },
-    Row { name: "another hart's store-conditional", choices: "0*3 1*4 0", number: 8,
-        row: "| 8 | `sc.w t1, a1, (s0)` fails: ended by hart 1 at choice 7, t1 = 0x00000001, [0x00011000] |  | _start+12 |\n" },
-    Row { name: "the other way round", choices: "1*3 0*4 1", number: 8,
-        row: "| 8 |  | `sc.w t1, a1, (s0)` fails: ended by hart 0 at choice 7, t1 = 0x00000001, [0x00011000] | _start+12 |\n" },
-    Row { name: "ended and refused", choices: "0*3 1*4 0!", number: 8,
-        row: "| 8 | `sc.w t1, a1, (s0)` fails: ended by hart 1 at choice 7, t1 = 0x00000001, [0x00011000] (refused) |  | _start+12 |\n" },
-    Row { name: "both had reserved it", choices: "0*3 1*3 0 1", number: 8,
-        row: "| 8 |  | `sc.w t1, a1, (s0)` fails: ended by hart 0 at choice 7, t1 = 0x00000001, [0x00011000] | _start+12 |\n" },
-    Row { name: "again, without a load-reserved", choices: "0*3 1*4 0 0", number: 9,
-        row: "| 9 | `sc.w zero, a1, (s1)` fails: ended by hart 1 at choice 7, [0x00011004] |  | _start+16 |\n" },
+    Row { name: "stores", choices: "0*4", number: 3,
+        row: "| 3 | `sc.w t1, a1, (s0)` succeeds, t1 = 0x00000000, [0x00011000]: 0x00000005 → 0x00000007 |  | _start+12 |\n" },
+    Row { name: "refused", choices: "0*3 0!", number: 3,
+        row: "| 3 | `sc.w t1, a1, (s0)` fails: refused, t1 = 0x00000001, [0x00011000] (refused) |  | _start+12 |\n" },
+    Row { name: "its own store-conditional", choices: "0*5", number: 4,
+        row: "| 4 | `sc.w zero, a1, (s1)` fails: no reservation, [0x00011004] |  | _start+16 |\n" },
+    Row { name: "another hart's store-conditional", choices: "0*3 1*4 0", number: 7,
+        row: "| 7 | `sc.w t1, a1, (s0)` fails: ended by hart 1 at choice 6, t1 = 0x00000001, [0x00011000] |  | _start+12 |\n" },
+    Row { name: "the other way round", choices: "1*3 0*4 1", number: 7,
+        row: "| 7 |  | `sc.w t1, a1, (s0)` fails: ended by hart 0 at choice 6, t1 = 0x00000001, [0x00011000] | _start+12 |\n" },
+    Row { name: "ended and refused", choices: "0*3 1*4 0!", number: 7,
+        row: "| 7 | `sc.w t1, a1, (s0)` fails: ended by hart 1 at choice 6, t1 = 0x00000001, [0x00011000] (refused) |  | _start+12 |\n" },
+    Row { name: "both had reserved it", choices: "0*3 1*3 0 1", number: 7,
+        row: "| 7 |  | `sc.w t1, a1, (s0)` fails: ended by hart 0 at choice 6, t1 = 0x00000001, [0x00011000] | _start+12 |\n" },
+    Row { name: "again, without a load-reserved", choices: "0*3 1*4 0 0", number: 8,
+        row: "| 8 | `sc.w zero, a1, (s1)` fails: ended by hart 1 at choice 6, [0x00011004] |  | _start+16 |\n" },
 ];
 
 // A store-conditional into a word that isn't the reserved one.
@@ -63,8 +63,8 @@ other: .word 9
 const BESIDE_ROW: Row = Row {
     name: "of another word",
     choices: "0*4",
-    number: 4,
-    row: "| 4 | `sc.w t1, a1, (s1)` fails: reserved 0x00011000, t1 = 0x00000001, [0x00011004] |  | _start+12 |\n",
+    number: 3,
+    row: "| 3 | `sc.w t1, a1, (s1)` fails: reserved 0x00011000, t1 = 0x00000001, [0x00011004] |  | _start+12 |\n",
 };
 
 // Whether the table of the last choice of a run of this source is this row.

@@ -22,7 +22,7 @@ fn traced<A: Allocator + Copy>(
 ) -> (Result<Status, CommandFault>, MemorySink<Global>) {
     let plan = TracePlan {
         form: tracing.form,
-        from: 2,
+        from: 1,
         to: None,
     };
     let mut program = MemorySource::new(tracing.file);

@@ -1,4 +1,4 @@
-use Rattle.std.proofs.Common.{ℕ, ◌++◌, length, ◌-◌, ◌∙◌, List, [], drop, ap, subst, sym}
+use Rattle.std.proofs.Common.{ℕ, ◌++◌, length, ◌∙◌, List, [], drop, ap, subst, sym}
 use Rattle.machine.specs.State.{state}
 use Rattle.sched_text.specs.Reading.{choices_read}
 use Rattle.cmd_trace.specs.Output.{SoFar}
@@ -17,7 +17,7 @@ returns-in-Err-write_entries-clause-begun g c choices read counted =
     (place c.in-Ok.teller.machine c.in-Ok.teller.endings) (place c.skip.new.self.machine c.skip.new.self.endings) c.push_head_of.new.buffer.items (g.K.Sink.held c.args.sink.now) c.span_of-span.ensures.value counted
     c.in-Ok.ensures.start skipped.0 (c.in-Ok-push_head_of.ensures ∙ ap (λ (l : List ℕ). l ++ trace_head c.args.plan.form c.args.run.now.program.image.entry c.args.run.now.inputs
     c.span_of-span.result c.args.run.now.program.symbols.items (state c.skip.new.self.machine)) c.new-buffer.ensures.items) in
-    let rest = drop (c.span_of-span.result.from - 1) choices in
+    let rest = drop c.span_of-span.result.from choices in
     let all = trace_text c.args.plan c.args.run.now.program.image c.args.run.now.program.symbols.items c.args.run.now.inputs choices in
     let waiting = subst (λ (page : PageValue). SoFar all (g.K.Sink.held c.args.sink.now) (g.K.Sink.held c.args.sink.now) c.push_head_of.new.buffer.items
     (told_entries page c.span_of-span.result (place c.skip.new.self.machine c.skip.new.self.endings) rest))
@@ -32,7 +32,7 @@ returns-in-Ok-flush-clause-told g c choices read counted =
     (place c.in-Ok.teller.machine c.in-Ok.teller.endings) (place c.skip.new.self.machine c.skip.new.self.endings) c.push_head_of.new.buffer.items (g.K.Sink.held c.args.sink.now) c.span_of-span.ensures.value counted
     c.in-Ok.ensures.start skipped.0 (c.in-Ok-push_head_of.ensures ∙ ap (λ (l : List ℕ). l ++ trace_head c.args.plan.form c.args.run.now.program.image.entry c.args.run.now.inputs
     c.span_of-span.result c.args.run.now.program.symbols.items (state c.skip.new.self.machine)) c.new-buffer.ensures.items) in
-    let rest = drop (c.span_of-span.result.from - 1) choices in
+    let rest = drop c.span_of-span.result.from choices in
     let all = trace_text c.args.plan c.args.run.now.program.image c.args.run.now.program.symbols.items c.args.run.now.inputs choices in
     let waiting = subst (λ (page : PageValue). SoFar all (g.K.Sink.held c.args.sink.now) (g.K.Sink.held c.args.sink.now) c.push_head_of.new.buffer.items
     (told_entries page c.span_of-span.result (place c.skip.new.self.machine c.skip.new.self.endings) rest))
@@ -49,7 +49,7 @@ returns-clause-begun g c choices read counted =
     (place c.in-Ok.teller.machine c.in-Ok.teller.endings) (place c.skip.new.self.machine c.skip.new.self.endings) c.push_head_of.new.buffer.items (g.K.Sink.held c.args.sink.now) c.span_of-span.ensures.value counted
     c.in-Ok.ensures.start skipped.0 (c.in-Ok-push_head_of.ensures ∙ ap (λ (l : List ℕ). l ++ trace_head c.args.plan.form c.args.run.now.program.image.entry c.args.run.now.inputs
     c.span_of-span.result c.args.run.now.program.symbols.items (state c.skip.new.self.machine)) c.new-buffer.ensures.items) in
-    let rest = drop (c.span_of-span.result.from - 1) choices in
+    let rest = drop c.span_of-span.result.from choices in
     let all = trace_text c.args.plan c.args.run.now.program.image c.args.run.now.program.symbols.items c.args.run.now.inputs choices in
     let waiting = subst (λ (page : PageValue). SoFar all (g.K.Sink.held c.args.sink.now) (g.K.Sink.held c.args.sink.now) c.push_head_of.new.buffer.items
     (told_entries page c.span_of-span.result (place c.skip.new.self.machine c.skip.new.self.endings) rest))
