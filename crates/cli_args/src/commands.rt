@@ -2,9 +2,9 @@
 
 use crate::arguments::Argument;
 use crate::help::{
-    BANKED, BOUNDS, BUDGET, DRAW, DRAW_OF_SCHEDULE, FILE, HANGS, HEX, HISTORY, INPUTS,
-    INPUTS_OF_SCHEDULE, JOBS, MUST_EXIT, OUTCOMES, REFUSALS, REFUSE, RULE, SC_REFUSALS, SUMMARY,
-    UNTIL_FAILURE, WAYS_OUT, WORLDS, WRITTEN,
+    ALWAYS, BANKED, BOUNDS, BUDGET, DRAW, DRAW_OF_SCHEDULE, FILE, HANGS, HEX, HISTORY, INPUTS,
+    INPUTS_OF_SCHEDULE, JOBS, MUST_EXIT, NEVER_BOTH, OUTCOMES, REFUSALS, REFUSE, RULE, SC_REFUSALS,
+    SUMMARY, UNTIL_FAILURE, WAYS_OUT, WORLDS, WRITTEN,
 };
 
 /// Which options name the choices of a command's run.
@@ -72,6 +72,8 @@ pub(crate) const COMMANDS: [CommandRow; 14] = [
             Argument::NeededOption("inputs", INPUTS),
             Argument::Optional("rule", RULE),
             Argument::Flag("must-exit", MUST_EXIT),
+            Argument::Optional("never-both", NEVER_BOTH),
+            Argument::Optional("always", ALWAYS),
         ],
         schedule: Schedule::FileOrInput,
     },

@@ -62,6 +62,14 @@ pub(crate) const WORLDS: &str = "the most worlds that are looked at, below 2^32;
 /// Of `--must-exit` of a run or a campaign.
 pub(crate) const MUST_EXIT: &str = "a hart that still runs at the end is a failure, with status 3";
 
+/// Of `--never-both`.
+pub(crate) const NEVER_BOTH: &str =
+    "two addresses or symbols, as enter..leave: two harts between them at once are a failure, with status 4";
+
+/// Of `--always`.
+pub(crate) const ALWAYS: &str =
+    "a word, a comparison and a number, as 'counter <= 2': a choice after which that isn't so is a failure, with status 4";
+
 /// Of `--must-exit` of `explore`.
 pub(crate) const WAYS_OUT: &str =
     "a list after which no list lets all harts stop is a failure, with status 3";

@@ -4,8 +4,9 @@ use crate::arguments::{is_set, text_of};
 use crate::choice_text::{ChoiceText, choice_text_of};
 use clap::ArgMatches;
 
-/// `run [--hex] FILE --inputs L (--choices C | --list T) [--rule K] [--must-exit]`: runs a program under a
-/// schedule, and prints each hart's end and, with a rule, its verdict.
+/// `run [--hex] FILE --inputs L SCHEDULE [--rule K] [--must-exit] [--never-both R] [--always P]`:
+/// runs a program under a schedule, and prints each hart's end, with a rule its verdict, and for
+/// each property whether it was kept.
 #[derive(Drop)]
 pub struct RunOrder<'a> {
     /// Whether the file has words in hexadecimal.
@@ -20,6 +21,17 @@ pub struct RunOrder<'a> {
     pub rule: Option<&'a str>,
     /// Whether a run that leaves a hart running has failed.
     pub must_exit: bool,
+    /// The range of addresses in which no two harts may be at once.
+    pub never_both: Option<&'a str>,
+    /// What a word of memory must be after each choice.
+    pub always: Option<&'a str>,
+}
+
+impl<'a> RunOrder<'a> {
+    /// Whether properties are judged.
+    pub fn has_properties(&self) -> bool {
+        self.never_both.is_some() || self.always.is_some()
+    }
 }
 
 /// The order in clap's matches.
@@ -31,5 +43,7 @@ pub fn run_order<'a>(matches: &ArgMatches<'a>) -> Option<RunOrder<'a>> {
         choices: choice_text_of(matches)?,
         rule: text_of(matches, "rule"),
         must_exit: is_set(matches, "must-exit"),
+        never_both: text_of(matches, "never-both"),
+        always: text_of(matches, "always"),
     })
 }

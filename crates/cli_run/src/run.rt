@@ -7,6 +7,7 @@ use cli_report::{
     open_run, read_again, rule_said, say_why,
 };
 use cmd_run::{Exit, Expect, run_engine};
+use object_library::Kind;
 use program_open::deliver;
 use std::io;
 use std::rt::Files;
@@ -21,19 +22,14 @@ pub fn obey_run<R: Files + AllocGlobal + Print + Eprint>(
     choices: RunChoices<'_>,
 ) -> Result<Status, Status> {
     let inputs = inputs_said(rt, order.inputs)?;
-    let rule = rule_said(rt, order.rule)?;
-    let expect = Expect {
-        rule,
-        exit: exit_of(order),
-    };
+    let expect = expect_said(rt, order)?;
     let form = form_said(order.hex);
     let (mut program, mut source) = open_run(rt, audience, order.file, choices)?;
     let answer = run_engine(rt.alloc(), form, &inputs, expect, &mut program, &mut source);
     match deliver(&mut WriterSink::new(io::writer(rt)), answer) {
         Ok(status) => {
             if has_failed(status) && audience.is_told() {
-                let ends = ends_told(order);
-                let _ = explain_failure(rt, order, &inputs, choices, Explained { ends, rule });
+                let _ = explain_failure(rt, order, &inputs, choices, expect.rule);
             }
             Ok(status)
         }
@@ -49,6 +45,15 @@ pub fn obey_run<R: Files + AllocGlobal + Print + Eprint>(
     }
 }
 
+/// What an order expects of its run, or the status of a rule that is none, which is reported.
+pub fn expect_said(rt: &(impl Print + Eprint), order: &RunOrder) -> Result<Expect, Status> {
+    let rule = rule_said(rt, order.rule)?;
+    Ok(Expect {
+        rule,
+        exit: exit_of(order),
+    })
+}
+
 // What is expected of a hart that still runs at the end.
 fn exit_of(order: &RunOrder) -> Exit {
     if order.must_exit {
@@ -58,8 +63,8 @@ fn exit_of(order: &RunOrder) -> Exit {
     }
 }
 
-// Whether a run has failed that was done.
-fn has_failed(status: Status) -> bool {
+/// Whether a run has failed that was done.
+pub fn has_failed(status: Status) -> bool {
     matches!(status, Status::Faulted | Status::Broken)
 }
 
@@ -72,14 +77,15 @@ fn ends_told(order: &RunOrder) -> EndsTold {
     }
 }
 
-// Explains how the run ended, if its files can be read again.
-fn explain_failure<R: Files + AllocGlobal + Eprint>(
+/// Explains how a run ended, judged by its rule, if its files can be read again.
+pub fn explain_failure<R: Files + AllocGlobal + Eprint>(
     rt: &R,
     order: &RunOrder,
     inputs: &[u32],
     choices: RunChoices<'_>,
-    explained: Explained,
+    rule: Option<Kind>,
 ) -> Option<()> {
+    let ends = ends_told(order);
     let program = read_again(rt, order.file)?;
     let choices = choices.again(rt)?;
     explain_ends(
@@ -88,6 +94,6 @@ fn explain_failure<R: Files + AllocGlobal + Eprint>(
         &program,
         inputs,
         &choices,
-        explained,
+        Explained { ends, rule },
     )
 }

@@ -59,6 +59,12 @@ fn run<R: Files + AllocGlobal + Print + Eprint + Input>(
     audience: Audience,
     order: &RunOrder,
 ) -> Result<Status, Status> {
+    if order.has_properties() {
+        return Err(bad_line(
+            rt,
+            "this is the program of run alone: the whole program judges properties",
+        ));
+    }
     let held = match order.choices {
         ChoiceText::File(_) | ChoiceText::List(_) => Vec::new(rt.alloc()),
         ChoiceText::Input => read_input_to_end(rt)?,

@@ -1,9 +1,11 @@
-//! Tests of `property_judge` and `property_text`.
+//! Tests of `property_judge`, `property_text` and `cmd_properties`.
 #![tactic(auto)]
 
 #[cfg(test)]
 mod comparison_tests;
 #[cfg(test)]
 mod run_tests;
+#[cfg(test)]
+mod shown_tests;
 #[cfg(test)]
 mod text_tests;

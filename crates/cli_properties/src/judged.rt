@@ -1,0 +1,82 @@
+//! Runs `run` with properties.
+
+ghost use Rattle.std.specs.Prelude.{◌^◌, ◌-◌, ◌<◌, IfOk, length};
+ghost use Rattle.std.specs.List.{All};
+
+use crate::breaks::show_breaks;
+use crate::said::properties_said;
+use byte_io::{Source, Status, WriterSink};
+use cli_args::RunOrder;
+use cli_report::{Audience, RunChoices, RunFiles, form_said, inputs_said, open_run, say_why};
+use cli_run::{expect_said, explain_failure, has_failed};
+use cmd_debug::{NamedRun, open_named};
+use cmd_properties::judged_text;
+use program_open::{CommandFault, ProgramForm, deliver};
+use std::alloc::{AllocError, Global};
+use std::io;
+use std::rt::Files;
+
+/// Runs a program under choices, those of its order, and judges the order's properties. The
+/// program, and the file of the choices if there is one, are opened before either is read. The
+/// error is the status of what was refused, which is reported.
+pub fn obey_judged<R: Files + AllocGlobal + Print + Eprint>(
+    rt: &R,
+    audience: Audience,
+    order: &RunOrder,
+    choices: RunChoices<'_>,
+) -> Result<Status, Status> {
+    let inputs = inputs_said(rt, order.inputs)?;
+    let expect = expect_said(rt, order)?;
+    let form = form_said(order.hex);
+    let files = RunFiles {
+        program: order.file,
+        form,
+        choices,
+        harts: inputs.len(),
+    };
+    let (mut program, mut source) = open_run(rt, audience, order.file, choices)?;
+    let run = match open_form(rt.alloc(), form, &inputs, &mut program, &mut source) {
+        Ok(run) => run,
+        Err(fault) => return Err(say_why(rt, audience, files, fault)),
+    };
+    let mut judged = properties_said(rt, &run.symbols, order)?;
+    let answer = match judged_text(rt.alloc(), &run.opened, expect, &mut judged) {
+        Ok(answer) => Ok(answer),
+        Err(AllocError) => Err(CommandFault::Memory),
+    };
+    match deliver(&mut WriterSink::new(io::writer(rt)), answer) {
+        Ok(status) => {
+            if has_failed(status) && audience.is_told() {
+                let _ = explain_failure(rt, order, &inputs, choices, expect.rule);
+                show_breaks(rt, &run, &judged);
+            }
+            Ok(status)
+        }
+        Err(fault) => Err(say_why(rt, audience, files, fault)),
+    }
+}
+
+// Opens a run with its program's symbols, which words in hexadecimal don't have.
+fn open_form<P: Source, C: Source>(
+    alloc: Global,
+    form: ProgramForm,
+    inputs: &[u32],
+    program: &mut P,
+    choices: &mut C,
+) -> Result<NamedRun<Global>, CommandFault>
+    requires program_counts { P.failures program.old < 2 ^ 64 - 1 }
+    requires choices_count { C.failures choices.old < 2 ^ 64 - 1 }
+    ensures { IfOk result (λ run.
+        All (λ c. c.hart < length run.opened.inputs) run.opened.choices.items) }
+{
+    match form {
+        ProgramForm::Elf => open_named(alloc, inputs, program, choices),
+        ProgramForm::Hex => {
+            let opened = program_open::open_run(alloc, form, inputs, program, choices)?;
+            Ok(NamedRun {
+                opened,
+                symbols: Vec::new(alloc),
+            })
+        }
+    }
+}
