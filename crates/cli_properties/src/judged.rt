@@ -8,7 +8,7 @@ use crate::said::properties_said;
 use byte_io::{Source, Status, WriterSink};
 use cli_args::RunOrder;
 use cli_report::{Audience, RunChoices, RunFiles, form_said, inputs_said, open_run, say_why};
-use cli_run::{expect_said, explain_failure, has_failed};
+use cli_run::{expect_said, explain_failure, has_failed, obey_run};
 use cmd_debug::{NamedRun, open_named};
 use cmd_properties::judged_text;
 use program_open::{CommandFault, ProgramForm, deliver};
@@ -16,10 +16,24 @@ use std::alloc::{AllocError, Global};
 use std::io;
 use std::rt::Files;
 
-/// Runs a program under choices, those of its order, and judges the order's properties. The
-/// program, and the file of the choices if there is one, are opened before either is read. The
-/// error is the status of what was refused, which is reported.
-pub fn obey_judged<R: Files + AllocGlobal + Print + Eprint>(
+/// Runs a program under choices, those of its order, and judges the order's properties, if it has
+/// some. The program, and the file of the choices if there is one, are opened before either is
+/// read. The error is the status of what was refused, which is reported.
+pub fn obey_any_run<R: Files + AllocGlobal + Print + Eprint>(
+    rt: &R,
+    audience: Audience,
+    order: &RunOrder,
+    choices: RunChoices<'_>,
+) -> Result<Status, Status> {
+    if order.has_properties() {
+        obey_judged(rt, audience, order, choices)
+    } else {
+        obey_run(rt, audience, order, choices)
+    }
+}
+
+// Runs a program under choices, and judges the order's properties.
+fn obey_judged<R: Files + AllocGlobal + Print + Eprint>(
     rt: &R,
     audience: Audience,
     order: &RunOrder,

@@ -6,9 +6,8 @@ use cli_choices::{NamedRun, hold_choices};
 use cli_debug::obey_debug;
 use cli_gdb::obey_gdb;
 use cli_orders::{DebugOrder, ShrinkOrder, TraceOrder};
-use cli_properties::obey_judged;
+use cli_properties::obey_any_run;
 use cli_report::{Audience, RunChoices, bad_line, form_said};
-use cli_run::obey_run;
 use cli_runs::{obey_shrink, obey_trace};
 use std::io::Input;
 use std::rt::Files;
@@ -31,12 +30,7 @@ pub(crate) fn run_chosen<R: Files + AllocGlobal + Print + Eprint + Input>(
         inputs: order.inputs,
     };
     let held = hold_choices(rt, audience, named, order.choices)?;
-    let choices = RunChoices::of(order.choices, &held);
-    if order.has_properties() {
-        obey_judged(rt, audience, order, choices)
-    } else {
-        obey_run(rt, audience, order, choices)
-    }
+    obey_any_run(rt, audience, order, RunChoices::of(order.choices, &held))
 }
 
 /// Runs `shrink` under the choices that its line names.
