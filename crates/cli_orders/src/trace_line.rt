@@ -15,9 +15,9 @@ pub struct TraceOrder<'a> {
     pub inputs: &'a str,
     /// Where the choice text is.
     pub choices: ChoiceText<'a>,
-    /// The number of the first traced choice, counted from 1.
+    /// The number of the first traced choice, counted from 0.
     pub from: Option<&'a str>,
-    /// The number of the last traced choice.
+    /// The number of the choice before which the trace ends.
     pub to: Option<&'a str>,
     /// Whether a table is printed instead of lines of JSON.
     pub table: bool,

@@ -233,7 +233,7 @@ pub(crate) const OTHER_OPTIONS: [(&[&str], &str); 14] = [
     ),
     (
         &["--begin", "--end", "--range", "--from", "--to"],
-        "choices from A to B are told by rvcons trace --from A --to B",
+        "choices from A to B - 1, counted from 0, are told by rvcons trace --from A --to B",
     ),
     (
         &["--first", "--count"],
