@@ -14,7 +14,7 @@ const RULE_NUMBERS = { none: 0, swap: 1, add: 2, lrsc: 3, adopt: 4, rounds: 5 };
 const VIEW_NUMBERS = { listing: 0, facts: 1 };
 // The numbers of orders and of reports (crates/page/src/seeds.rt).
 const ORDER_NUMBERS = { even: 0, bursts: 1, priorities: 2, mixed: 3 };
-const REPORT_NUMBERS = { lines: 0, failures: 1, summary: 2, outcomes: 3 };
+const REPORT_NUMBERS = { lines: 0, failures: 1, summary: 2, outcomes: 3, causes: 4 };
 
 /** A struct's fields one after another: those of 8 bytes, which are BigInts, and then those of 4. */
 function packed(wide, words) {

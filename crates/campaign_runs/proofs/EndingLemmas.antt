@@ -1,11 +1,11 @@
 -- Endings that are the same are equal.
-use Rattle.std.proofs.Common.{◌≡◌, true, List, [], ◌∷◌, Option, Some, None, eq-eqb, refl, ap, sym, ◌∙◌, true≢false}
+use Rattle.std.proofs.Common.{◌≡◌, true, Option, Some, None, eq-eqb, refl, ap, sym, ◌∙◌, true≢false}
+use Rattle.std.proofs.lemmas.Slice.Eq.{bytes_eq-Decides}
 use Rattle.std.proofs.lemmas.Bool.{and_from, and_parts, eqb-true}
 use Rattle.outcome.specs.declared.run_outcome.Outcome.{Outcome}
 use Rattle.object_library.specs.declared.verdict.Verdict.{Verdict}
 use Rattle.object_library.specs.declared.verdict.Verdict.TheVariants.{Kept, Broken}
-use Rattle.campaign_runs.specs.Ending.{EndingValue, same_ending, same_outcome, same_results, same_verdict}
-use Rattle.campaign_runs.specs.declared.ending.HartResult.{HartResult}
+use Rattle.campaign_runs.specs.Ending.{EndingValue, same_ending, same_outcome, same_verdict}
 
 verdicts_equal : (a b : Option Verdict) → same_verdict a b ≡ true → a ≡ b
 verdicts_equal None None same = refl
@@ -39,30 +39,16 @@ outcome_itself a =
     and_from _ _ (and_from _ _ (and_from _ _ (eq-eqb a.exited a.exited refl) (eq-eqb a.faulted a.faulted refl))
     (eq-eqb a.running a.running refl)) (verdict_itself a.verdict)
 
-results_equal : (xs ys : List HartResult) → same_results xs ys ≡ true → xs ≡ ys
-results_equal [] [] same = refl
-results_equal [] (y ∷ ys) same = absurd (true≢false (sym same))
-results_equal (x ∷ xs) [] same = absurd (true≢false (sym same))
-results_equal (x ∷ xs) (y ∷ ys) same =
-    let rest = and_parts _ _ same in
-    let words = and_parts _ _ rest.0 in
-    λ i. record { a0 = eqb-true x.a0 y.a0 words.0 i; a1 = eqb-true x.a1 y.a1 words.1 i } ∷ results_equal xs ys rest.1 i
-
-results_itself : (xs : List HartResult) → same_results xs xs ≡ true
-results_itself [] = refl
-results_itself (x ∷ xs) =
-    and_from _ _ (and_from _ _ (eq-eqb x.a0 x.a0 refl) (eq-eqb x.a1 x.a1 refl)) (results_itself xs)
-
 pub endings_equal : (a b : EndingValue) → same_ending a b ≡ true → a ≡ b
 endings_equal a b same =
     let parts = and_parts _ _ same in
     λ i. record {
       outcome = outcomes_equal a.outcome b.outcome parts.0 i;
-      results = results_equal a.results b.results parts.1 i;
+      words = (bytes_eq-Decides a.words b.words).0 parts.1 i;
     }
 
 pub ending_itself : (a : EndingValue) → same_ending a a ≡ true
-ending_itself a = and_from _ _ (outcome_itself a.outcome) (results_itself a.results)
+ending_itself a = and_from _ _ (outcome_itself a.outcome) ((bytes_eq-Decides a.words a.words).1 refl)
 
 pub same_from_equal : (a b : EndingValue) → a ≡ b → same_ending a b ≡ true
 same_from_equal a b equal = ap (same_ending a) (sym equal) ∙ ending_itself a

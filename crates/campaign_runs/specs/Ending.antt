@@ -1,38 +1,65 @@
 -- How a run ended, in the detail that a report distinguishes.
-use Rattle.std.specs.Prelude.{ℕ, Bool, true, false, ◌==◌, ◌&&◌, List, [], ◌∷◌, map, Option, Some, None}
+use Rattle.std.specs.Prelude.{ℕ, ◌+◌, Bool, true, false, ◌==◌, ◌&&◌, List, [], ◌∷◌, ◌++◌, Option, Some, None, codes, string_bytes}
+use Rattle.std.specs.Fmt.{decimal}
+use Rattle.std.specs.List.{flat_map}
+use Rattle.std.specs.Str.{bytes_eq}
 use Rattle.hart_step.specs.Hart.{HartValue}
-use Rattle.outcome.specs.Ends.{a0_of, a1_of}
+use Rattle.hart_step.specs.declared.hart.HartState.{HartState}
+use Rattle.hart_step.specs.declared.hart.HartState.TheVariants.{Running, Exited, Faulted}
+use Rattle.isa_names.specs.Digits.{word_text}
+use Rattle.outcome.specs.Ends.{a0_of, a1_of, cause_name}
 use Rattle.outcome.specs.declared.run_outcome.Outcome.{Outcome}
 use Rattle.object_library.specs.declared.verdict.Verdict.{Verdict}
 use Rattle.object_library.specs.declared.verdict.Verdict.TheVariants.{Kept, Broken}
 use Rattle.campaign_runs.specs.declared.campaign.Report.{Report}
-use Rattle.campaign_runs.specs.declared.campaign.Report.TheVariants.{Lines, Failures, Summary, Outcomes}
+use Rattle.campaign_runs.specs.declared.campaign.Report.TheVariants.{Lines, Failures, Summary, Outcomes, Causes}
 use Rattle.campaign_runs.specs.declared.ending.Ending.{Ending}
-use Rattle.campaign_runs.specs.declared.ending.HartResult.{HartResult}
 
--- the outcome of a run, and each hart's a0 and a1, if the report distinguishes runs by them
+-- the outcome of a run, and what else a line of the report says of its harts
 pub record EndingValue : Type 0 where
   pub outcome : Outcome
-  pub results : List HartResult
+  pub words : List ℕ
 
 -- the code's ending as an `EndingValue`
 abbrev pub ending_of : {Z : Type 0} → Ending Z → EndingValue
-ending_of ending = record { outcome = ending.outcome; results = ending.results.items }
+ending_of ending = record { outcome = ending.outcome; words = string_bytes ending.words }
 
--- the registers of a hart's result
-abbrev pub hart_result : HartValue → HartResult
-hart_result hart = record { a0 = a0_of hart; a1 = a1_of hart }
+-- the registers of a hart that has exited: ` 0:a0=00000001 0:a1=00000000`
+abbrev pub result_words : ℕ → HartState → HartValue → List ℕ
+result_words number Running hart = []
+result_words number (Faulted cause) hart = []
+result_words number (Exited status) hart =
+    codes " " ++ (decimal number ++ (codes ":a0=" ++ (word_text (a0_of hart)
+    ++ (codes " " ++ (decimal number ++ (codes ":a1=" ++ word_text (a1_of hart)))))))
 
--- the results of harts, if the report distinguishes runs by them
-abbrev pub results_of : Report → List HartValue → List HartResult
-results_of Lines harts = []
-results_of Failures harts = []
-results_of Summary harts = []
-results_of Outcomes harts = map hart_result harts
+-- those of harts that are numbered from a number on
+abbrev pub results_from : ℕ → List HartValue → List ℕ
+results_from number [] = []
+results_from number (hart ∷ harts) =
+    result_words number hart.state hart ++ results_from (number + 1) harts
+
+-- the cause and the place of a hart's fault: ` Break at 00010038`
+abbrev pub fault_words : HartState → HartValue → List ℕ
+fault_words Running hart = []
+fault_words (Exited status) hart = []
+fault_words (Faulted cause) hart =
+    codes " " ++ (cause_name cause ++ (codes " at " ++ word_text hart.pc))
+
+-- those of harts, in their order and without their numbers
+abbrev pub faults_of : List HartValue → List ℕ
+faults_of harts = flat_map (λ hart. fault_words hart.state hart) harts
+
+-- what a line of a report says of harts
+abbrev pub ending_words : Report → List HartValue → List ℕ
+ending_words Lines harts = []
+ending_words Failures harts = []
+ending_words Summary harts = []
+ending_words Outcomes harts = results_from 0 harts
+ending_words Causes harts = faults_of harts
 
 -- the ending of a run with this outcome that left these harts
 abbrev pub ending_with : Report → Outcome → List HartValue → EndingValue
-ending_with report outcome harts = record { outcome = outcome; results = results_of report harts }
+ending_with report outcome harts = record { outcome = outcome; words = ending_words report harts }
 
 -- whether two verdicts are the same
 abbrev pub same_verdict : Option Verdict → Option Verdict → Bool
@@ -46,12 +73,6 @@ abbrev pub same_outcome : Outcome → Outcome → Bool
 same_outcome a b =
     (a.exited == b.exited) && (a.faulted == b.faulted) && (a.running == b.running) && same_verdict a.verdict b.verdict
 
--- whether two lists of results are the same
-abbrev pub same_results : List HartResult → List HartResult → Bool
-same_results [] [] = true
-same_results (x ∷ xs) (y ∷ ys) = (x.a0 == y.a0) && (x.a1 == y.a1) && same_results xs ys
-same_results xs ys = false
-
 -- whether two endings are the same
 abbrev pub same_ending : EndingValue → EndingValue → Bool
-same_ending a b = same_outcome a.outcome b.outcome && same_results a.results b.results
+same_ending a b = same_outcome a.outcome b.outcome && bytes_eq a.words b.words

@@ -12,8 +12,11 @@ pub enum Report {
     Failures,
     /// A line for each outcome, once all runs are done.
     Summary,
-    /// A line for each outcome, where runs also differ by each hart's `a0` and `a1`.
+    /// A line for each outcome, where runs also differ by the `a0` and `a1` of each hart that has
+    /// exited.
     Outcomes,
+    /// A line for each outcome, where runs also differ by the cause and the place of each fault.
+    Causes,
 }
 
 /// A campaign: a run for each of `count` seeds from `first` on.

@@ -1,12 +1,14 @@
 //! How a run ended, in the detail that a report distinguishes.
 
-ghost use Rattle.std.specs.Prelude.{◌≡◌, IfOk, map};
+ghost use Rattle.std.specs.Prelude.{◌≡◌, ◌++◌, IfOk, map, string_bytes};
 ghost use Rattle.hart_step.specs.Hart.{hart_of};
-ghost use Rattle.campaign_runs.specs.Ending.{hart_result, results_of};
+ghost use Rattle.campaign_runs.specs.Ending.{ending_words, fault_words, faults_of, result_words};
+ghost use Rattle.campaign_runs.specs.Ending.{results_from};
 
 use crate::campaign::Report;
-use hart_step::Hart;
-use outcome::Outcome;
+use hart_step::{Hart, HartState};
+use isa_names::Word;
+use outcome::{CauseName, Outcome};
 use std::alloc::{AllocError, Allocator};
 
 // The indices of a0 and a1 among the registers.
@@ -14,23 +16,14 @@ const A0: usize = 10;
 
 const A1: usize = 11;
 
-/// The registers that hold a hart's result.
-#[derive(Clone, Copy, Debug, PartialEq, Eq, Hash)]
-pub struct HartResult {
-    /// `a0`, which is x10.
-    pub a0: u32,
-    /// `a1`, which is x11.
-    pub a1: u32,
-}
-
 /// How a run ended, in the detail that a report distinguishes.
 #[derive(Drop)]
 #[derive_where(Debug, PartialEq, Eq, Hash)]
 pub struct Ending<A: Allocator> {
     /// Number of harts that ended in each way, and the verdict.
     pub outcome: Outcome,
-    /// The results of the harts in order; empty if the report doesn't distinguish runs by them.
-    pub results: Vec<HartResult, A>,
+    /// What else a line of the report says of the harts, each word behind a space.
+    pub words: String<A>,
 }
 
 impl<A: Allocator> Ending<A> {
@@ -49,35 +42,77 @@ impl<A: Allocator> Ending<A> {
     {
         Ok(Ending {
             outcome,
-            results: results(alloc, report, harts)?,
+            words: words(alloc, report, harts)?,
         })
     }
 }
 
-// The results of harts, if the report distinguishes runs by them.
-fn results<A: Allocator>(
-    alloc: A,
-    report: Report,
-    harts: &[Hart],
-) -> Result<Vec<HartResult, A>, AllocError>
-    ensures { IfOk result (λ results. results.items ≡ results_of report (map hart_of harts.now)) }
+// What a line of a report says of harts.
+fn words<A: Allocator>(alloc: A, report: Report, harts: &[Hart]) -> Result<String<A>, AllocError>
+    ensures { IfOk result (λ words.
+        string_bytes words ≡ ending_words report (map hart_of harts.now)) }
 {
+    let mut text = String::new(alloc);
     match report {
-        Report::Lines | Report::Failures | Report::Summary => Ok(Vec::new(alloc)),
-        Report::Outcomes => hart_results(alloc, harts),
+        Report::Lines | Report::Failures | Report::Summary => {}
+        Report::Outcomes => push_results(&mut text, harts)?,
+        Report::Causes => push_faults(&mut text, harts)?,
     }
+    Ok(text)
 }
 
-// The results of harts, in order.
-fn hart_results<A: Allocator>(alloc: A, harts: &[Hart]) -> Result<Vec<HartResult, A>, AllocError>
-    ensures { IfOk result (λ results. results.items ≡ map hart_result (map hart_of harts.now)) }
+// Appends a0 and a1 of a hart that has exited.
+fn push_result<A: Allocator>(
+    text: &mut String<A>,
+    number: usize,
+    hart: &Hart,
+) -> Result<(), AllocError>
+    ensures { IfOk result (λ _. string_bytes text.new
+        ≡ string_bytes text.old ++ result_words number (hart_of hart.now).state (hart_of hart.now)) }
 {
-    let mut results = Vec::new(alloc);
-    'harts: for hart in harts {
-        results.push(HartResult {
-            a0: hart.registers[A0],
-            a1: hart.registers[A1],
-        })?;
+    let a0 = Word(hart.registers[A0]);
+    let a1 = Word(hart.registers[A1]);
+    match hart.state {
+        HartState::Exited(_) => write!(text, " {number}:a0={a0} {number}:a1={a1}")?,
+        HartState::Running | HartState::Faulted(_) => {}
     }
-    Ok(results)
+    Ok(())
+}
+
+// Appends a0 and a1 of the harts that have exited.
+fn push_results<A: Allocator>(text: &mut String<A>, harts: &[Hart]) -> Result<(), AllocError>
+    ensures { IfOk result (λ _. string_bytes text.new
+        ≡ string_bytes text.old ++ results_from 0 (map hart_of harts.now)) }
+{
+    for (number, hart) in harts.iter().enumerate() {
+        push_result(text, number, hart)?;
+    }
+    Ok(())
+}
+
+// Appends the cause and the place of a hart's fault, if it has faulted.
+fn push_fault<A: Allocator>(text: &mut String<A>, hart: &Hart) -> Result<(), AllocError>
+    ensures { IfOk result (λ _. string_bytes text.new
+        ≡ string_bytes text.old ++ fault_words (hart_of hart.now).state (hart_of hart.now)) }
+{
+    let pc = Word(hart.pc);
+    match hart.state {
+        HartState::Faulted(cause) => {
+            let name = CauseName(cause);
+            write!(text, " {name} at {pc}")?;
+        }
+        HartState::Running | HartState::Exited(_) => {}
+    }
+    Ok(())
+}
+
+// Appends the causes and the places of harts' faults.
+fn push_faults<A: Allocator>(text: &mut String<A>, harts: &[Hart]) -> Result<(), AllocError>
+    ensures { IfOk result (λ _. string_bytes text.new
+        ≡ string_bytes text.old ++ faults_of (map hart_of harts.now)) }
+{
+    'harts: for hart in harts {
+        push_fault(text, hart)?;
+    }
+    Ok(())
 }

@@ -3,7 +3,7 @@
 #![tactic(auto)]
 
 pub use campaign::{Campaign, Report};
-pub use ending::{Ending, HartResult};
+pub use ending::Ending;
 pub use jobs::Jobs;
 pub use laws::{blocks_are_counted_together, each_ending_is_counted, same_endings_are_equal};
 pub use runner::{Alone, OnThreads, Runner};

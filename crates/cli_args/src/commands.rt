@@ -2,9 +2,9 @@
 
 use crate::arguments::Argument;
 use crate::help::{
-    ALWAYS, BANKED, BOUNDS, BUDGET, DRAW, DRAW_OF_SCHEDULE, FILE, HANGS, HEX, HISTORY, INPUTS,
-    INPUTS_OF_SCHEDULE, JOBS, MUST_EXIT, NEVER_BOTH, OUTCOMES, REFUSALS, REFUSE, RULE, SC_REFUSALS,
-    SUMMARY, UNTIL_FAILURE, WAYS_OUT, WORLDS, WRITTEN,
+    ALWAYS, BANKED, BOUNDS, BUDGET, BY_CAUSE, DRAW, DRAW_OF_SCHEDULE, FILE, HANGS, HEX, HISTORY,
+    INPUTS, INPUTS_OF_SCHEDULE, JOBS, MUST_EXIT, NEVER_BOTH, OUTCOMES, REFUSALS, REFUSE, RULE,
+    SC_REFUSALS, SUMMARY, UNTIL_FAILURE, WAYS_OUT, WORLDS, WRITTEN,
 };
 
 /// Which options name the choices of a command's run.
@@ -148,6 +148,7 @@ pub(crate) const COMMANDS: [CommandRow; 14] = [
             Argument::Flag("until-failure", UNTIL_FAILURE),
             Argument::Flag("summary", SUMMARY),
             Argument::Flag("outcomes", OUTCOMES),
+            Argument::Flag("by-cause", BY_CAUSE),
             Argument::Optional("schedule", DRAW),
             Argument::Optional("refusals", REFUSALS),
             Argument::Flag("must-exit", MUST_EXIT),

@@ -90,7 +90,12 @@ pub(crate) const SUMMARY: &str =
     "print how many seeds end in which way, in place of a line for each";
 
 /// Of `--outcomes`.
-pub(crate) const OUTCOMES: &str = "with --summary: tell ends apart by each hart's a0 and a1 too";
+pub(crate) const OUTCOMES: &str =
+    "with --summary: tell ends apart by the a0 and a1 of each hart that has exited, too";
+
+/// Of `--by-cause`.
+pub(crate) const BY_CAUSE: &str =
+    "with --summary: tell ends apart by the cause and the pc of each fault, too";
 
 /// Of `--jobs`.
 pub(crate) const JOBS: &str =

@@ -8,11 +8,12 @@ use byte_io::{MemorySource, Progress, Source, Status, WriterSink};
 use cli_orders::CampaignOrder;
 use cli_report::{
     Audience, EndsTold, Explained, RunFiles, WIPE, bad_line, ends_running, explain_ends,
-    inputs_said, open_one, read_again, rule_said, say_why, wipe_line,
+    explain_places, inputs_said, open_one, read_again, rule_said, say_why, wipe_line,
 };
 use cli_values::{JOBS, read_draw, read_jobs, read_report, read_seed_numbers};
 use cmd_campaign::{
-    Campaign, Exit, Expect, Finished, Jobs, OnThreads, campaign_engine, until_failure_engine,
+    Campaign, Exit, Expect, Finished, Jobs, OnThreads, Report, campaign_engine,
+    until_failure_engine,
 };
 use cmd_schedule::{SeedPlan, seed_engine};
 use program_open::{ProgramForm, write_text};
@@ -75,7 +76,12 @@ fn read_campaign<R: Print + Eprint>(rt: &R, order: &CampaignOrder) -> Result<Cam
              as --first 0 --count 1000 --steps 40",
         ));
     };
-    let Some(report) = read_report(order.failures, order.summary, order.outcomes) else {
+    let Some(report) = read_report(
+        order.failures,
+        order.summary,
+        order.outcomes,
+        order.by_cause,
+    ) else {
         return Err(bad_line(rt, why_no_report(order)));
     };
     if order.until_failure && order.summary {
@@ -102,6 +108,10 @@ fn read_campaign<R: Print + Eprint>(rt: &R, order: &CampaignOrder) -> Result<Cam
 fn why_no_report(order: &CampaignOrder) -> &'static str {
     if order.failures && order.summary {
         "--failures prints lines, and --summary none: write one of the two"
+    } else if order.outcomes && order.by_cause {
+        "--outcomes and --by-cause tell ends apart in two ways: write one of the two"
+    } else if order.by_cause {
+        "--by-cause goes with --summary alone"
     } else {
         "--outcomes goes with --summary alone"
     }
@@ -143,7 +153,13 @@ fn report_campaign<R: Files + AllocGlobal + Print + Eprint + Threads + Sync, P: 
     requires fits { campaign.first + campaign.count ≤ 2 ^ 64 }
     requires program_counts { P.failures program.old < 2 ^ 64 - 1 }
 {
-    let mut sink = Watching::new(rt, audience, WriterSink::new(io::writer(rt)));
+    let names_places = campaign.report == Report::Causes && audience.is_told();
+    let kept = if names_places {
+        Some(Vec::new(rt.alloc()))
+    } else {
+        None
+    };
+    let mut sink = Watching::new(rt, audience, WriterSink::new(io::writer(rt)), kept);
     let mut line = Line {
         rt,
         audience,
@@ -182,6 +198,7 @@ fn report_campaign<R: Files + AllocGlobal + Print + Eprint + Threads + Sync, P: 
             },
         ) => {
             if audience.is_told() {
+                let _ = name_places(rt, order, sink.passed());
                 let _ = match first_failure {
                     Some(seed) => explain_seed(rt, order, inputs, campaign, seed),
                     None => explain_steps(rt, order, inputs, campaign),
@@ -194,6 +211,17 @@ fn report_campaign<R: Files + AllocGlobal + Print + Eprint + Threads + Sync, P: 
             say_why(rt, audience, files, fault)
         }
     }
+}
+
+// Names the places of faults in a summary by cause, if it was kept.
+fn name_places<R: Files + AllocGlobal + Eprint>(
+    rt: &R,
+    order: &CampaignOrder,
+    summary: Option<&[u8]>,
+) -> Option<()> {
+    let summary = summary?;
+    let program = read_again(rt, order.file)?;
+    explain_places(rt, summary, &program)
 }
 
 // Shows a command for the run of a seed, up to the options that only some commands have.

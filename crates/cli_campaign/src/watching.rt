@@ -11,14 +11,47 @@ pub(crate) struct Watching<'a, R, K> {
     rt: &'a R,
     audience: Audience,
     sink: K,
+    // What was passed on, if it is kept.
+    passed: Option<Vec<u8>>,
 }
 
 impl<'a, R, K> Watching<'a, R, K> {
     /// Before the first write.
-    pub(crate) fn new(rt: &'a R, audience: Audience, sink: K) -> Watching<'a, R, K>
+    pub(crate) fn new(
+        rt: &'a R,
+        audience: Audience,
+        sink: K,
+        passed: Option<Vec<u8>>,
+    ) -> Watching<'a, R, K>
         ensures { result.sink ≡ sink }
     {
-        Watching { rt, audience, sink }
+        Watching {
+            rt,
+            audience,
+            sink,
+            passed,
+        }
+    }
+
+    /// What was passed on. `None` if it isn't kept, or out of memory for it.
+    pub(crate) fn passed(&self) -> Option<&[u8]> {
+        match &self.passed {
+            Some(passed) => Some(passed.as_slice()),
+            None => None,
+        }
+    }
+
+    // Keeps more bytes, if any are kept.
+    fn keep(&mut self, bytes: &[u8])
+        ensures { self.new.sink ≡ self.old.sink }
+    {
+        let kept = match &mut self.passed {
+            Some(passed) => passed.extend_from_slice(bytes).is_ok(),
+            None => true,
+        };
+        if !kept {
+            self.passed = None;
+        }
     }
 }
 
@@ -29,6 +62,8 @@ impl<'a, R: Eprint, K: Sink> Sink for Watching<'a, R, K> {
 
     fn write(&mut self, piece: &[u8]) -> Result<usize, DeviceFault> {
         wipe_line(self.rt, self.audience);
-        self.sink.write(piece)
+        let count = self.sink.write(piece)?;
+        self.keep(&piece[..count]);
+        Ok(count)
     }
 }

@@ -4,10 +4,10 @@ use clap::ArgMatches;
 use cli_args::{is_set, text_of};
 
 /// `campaign FILE --inputs L --first S --count C --steps N [--rule K] [--failures]
-/// [--until-failure] [--summary] [--outcomes] [--schedule KIND] [--refusals never|one-in:N]
-/// [--must-exit] [--jobs J]`: runs a program under a random schedule for each of C seeds from S on,
-/// and prints a line for each, with a rule also its verdict; or the lines of bad seeds alone, or of
-/// the first of them, or how many seeds end in which way.
+/// [--until-failure] [--summary] [--outcomes] [--by-cause] [--schedule KIND]
+/// [--refusals never|one-in:N] [--must-exit] [--jobs J]`: runs a program under a random schedule for
+/// each of C seeds from S on, and prints a line for each, with a rule also its verdict; or the lines
+/// of bad seeds alone, or of the first of them, or how many seeds end in which way.
 #[derive(Drop)]
 pub struct CampaignOrder<'a> {
     /// The program's path.
@@ -30,6 +30,8 @@ pub struct CampaignOrder<'a> {
     pub summary: bool,
     /// Whether outcomes also differ by the harts' results.
     pub outcomes: bool,
+    /// Whether outcomes also differ by the cause and the place of each fault.
+    pub by_cause: bool,
     /// How the choices of a seed are drawn.
     pub draw: Option<&'a str>,
     /// How often they refuse a store-conditional.
@@ -53,6 +55,7 @@ pub(crate) fn campaign_order<'a>(matches: &ArgMatches<'a>) -> Option<CampaignOrd
         until_failure: is_set(matches, "until-failure"),
         summary: is_set(matches, "summary"),
         outcomes: is_set(matches, "outcomes"),
+        by_cause: is_set(matches, "by-cause"),
         draw: text_of(matches, "schedule"),
         refusals: text_of(matches, "refusals"),
         must_exit: is_set(matches, "must-exit"),

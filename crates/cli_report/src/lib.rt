@@ -14,6 +14,7 @@ pub use files::{
 pub use hint_fault::{EndsTold, Explained};
 pub use objects::{read_object, read_rule};
 pub use output_file::{OutputFault, OutputFile, PROGRAM_MODE, TEXT_MODE};
+pub use places::explain_places;
 pub use progress_line::{WIPE, wipe_line};
 pub use report::{
     bad_line, cannot_open, cannot_read, cannot_write, out_of_memory, refuse, refuse_line, say,
@@ -29,6 +30,7 @@ mod explain;
 mod files;
 mod objects;
 mod output_file;
+mod places;
 mod progress_line;
 mod report;
 mod run_choices;

@@ -44,15 +44,16 @@ pub fn read_seed_numbers(first: &str, count: &str, steps: &str) -> Option<SeedNu
 }
 
 /// What is reported. `None` exactly if the options don't go together: failures and a summary, or
-/// outcomes without a summary.
-pub fn read_report(failures: bool, summary: bool, outcomes: bool) -> Option<Report>
-    ensures { result ≡ report_of failures summary outcomes }
+/// outcomes or causes without a summary or with one another.
+pub fn read_report(failures: bool, summary: bool, outcomes: bool, by_cause: bool) -> Option<Report>
+    ensures { result ≡ report_of failures summary outcomes by_cause }
 {
-    match (failures, summary, outcomes) {
-        (false, false, false) => Some(Report::Lines),
-        (true, false, false) => Some(Report::Failures),
-        (false, true, false) => Some(Report::Summary),
-        (false, true, true) => Some(Report::Outcomes),
+    match (failures, summary, outcomes, by_cause) {
+        (false, false, false, false) => Some(Report::Lines),
+        (true, false, false, false) => Some(Report::Failures),
+        (false, true, false, false) => Some(Report::Summary),
+        (false, true, true, false) => Some(Report::Outcomes),
+        (false, true, false, true) => Some(Report::Causes),
         _ => None,
     }
 }

@@ -17,7 +17,7 @@ use Rattle.campaign_runs.specs.Runs.{SeedEnding, all_endings, seed_ending, endin
 use Rattle.campaign_runs.specs.Tally.{TallyRow, seeds_in, tally_of, tally_onto}
 use Rattle.campaign_runs.specs.declared.campaign.Campaign.{Campaign}
 use Rattle.campaign_runs.specs.declared.campaign.Report.{Report}
-use Rattle.campaign_runs.specs.declared.campaign.Report.TheVariants.{Lines, Failures, Summary, Outcomes}
+use Rattle.campaign_runs.specs.declared.campaign.Report.TheVariants.{Lines, Failures, Summary, Outcomes, Causes}
 use Rattle.campaign_runs.specs.declared.seed_run.SeedEnd.{SeedEnd}
 use Rattle.campaign_runs.proofs.TallyLemmas.{tally_onto-append}
 use Rattle.cmd_campaign.specs.Lines.{report_entries, report_entry, has_failed}
@@ -58,6 +58,7 @@ counted_of-append Lines done block = refl
 counted_of-append Failures done block = refl
 counted_of-append Summary done block = refl
 counted_of-append Outcomes done block = refl
+counted_of-append Causes done block = refl
 
 first_failure-append : (exit : Exit) (done block : List SeedEnding)
     → first_failure exit (done ++ block) ≡ first_or (first_failure exit done) (first_failure exit block)
@@ -97,6 +98,7 @@ module _ (report : Report) (exit : Exit) where
       none_counted Failures = refl
       none_counted Summary = refl
       none_counted Outcomes = refl
+      none_counted Causes = refl
 
   -- one block later
   pub goes_on : (all runs block left : List SeedEnding) (old now new : Option (List ℕ)) (rows rows_now : List TallyRow) (broken broken_now : Bool)

@@ -13,13 +13,13 @@ use Rattle.campaign_runs.specs.Runs.{SeedEnding, all_endings, endings_of}
 use Rattle.campaign_runs.specs.Tally.{TallyRow, add_seed, first_one, one_more, tally_of, tally_onto}
 use Rattle.campaign_runs.specs.declared.campaign.Campaign.{Campaign}
 use Rattle.campaign_runs.specs.declared.campaign.Report.{Report}
-use Rattle.campaign_runs.specs.declared.campaign.Report.TheVariants.{Lines, Failures, Summary, Outcomes}
+use Rattle.campaign_runs.specs.declared.campaign.Report.TheVariants.{Lines, Failures, Summary, Outcomes, Causes}
 use Rattle.cmd_run.specs.Certified.{IsCertified}
 use Rattle.cmd_campaign.specs.Answers.{after_image, campaign_answer, reported}
 use Rattle.cmd_campaign.specs.Kept.{kept_line, kept_row, AllKept, AnswersKeptLines}
 use Rattle.cmd_campaign.specs.Lines.{end_entry, has_failed, report_entries, report_entry, seed_line, verdict_word}
 use Rattle.cmd_campaign.specs.Status.{campaign_status}
-use Rattle.cmd_campaign.specs.Summary.{report_text, result_words, row_entry, row_line, rows_text}
+use Rattle.cmd_campaign.specs.Summary.{report_text, row_entry, row_line, rows_text}
 use Rattle.cmd_campaign.proofs.KeptLemmas.{all_kept, answered}
 
 abbrev IsKept : SeedEnding → Type 0
@@ -59,7 +59,7 @@ RowsKept (row ∷ rows) = (row.ending.outcome.verdict ≡ Some Kept) × RowsKept
 
 row_kept : (row : TallyRow) → row.ending.outcome.verdict ≡ Some Kept → row_entry row ≡ kept_row row
 row_kept row is = ap (λ v. row_line row.count row.ending.outcome.exited row.ending.outcome.faulted row.ending.outcome.running
-    ++ (verdict_word v ++ (result_words 0 row.ending.results ++ 10 ∷ []))) is
+    ++ (verdict_word v ++ (row.ending.words ++ 10 ∷ []))) is
 
 rows_kept : (rows : List TallyRow) → RowsKept rows → rows_text rows ≡ flat_map kept_row rows
 rows_kept [] all = refl
@@ -89,12 +89,14 @@ report_kept Lines campaign ends all = (ends, lines_kept ends all)
 report_kept Failures campaign ends all = failures_kept campaign.expect.exit ends all
 report_kept Summary campaign ends all = tally_kept ends all
 report_kept Outcomes campaign ends all = tally_kept ends all
+report_kept Causes campaign ends all = tally_kept ends all
 
 refused_kept : (report : Report) (why : CommandFault) → AnswersKeptLines report (Err why)
 refused_kept Lines why = tt
 refused_kept Failures why = tt
 refused_kept Summary why = tt
 refused_kept Outcomes why = tt
+refused_kept Causes why = tt
 
 pub lines_say_kept : (campaign : Campaign) (inputs program : List ℕ) → All (λ x. x < 2 ^ 32) inputs
     → IsCertified form.Elf program inputs campaign.expect.rule → AnswersKeptLines campaign.report (campaign_answer campaign inputs program)

@@ -11,7 +11,7 @@ use Rattle.outcome.specs.declared.expect.Exit.{Exit}
 use Rattle.campaign_runs.specs.Runs.{SeedEnding}
 use Rattle.campaign_runs.specs.Tally.{TallyRow, tally_of}
 use Rattle.campaign_runs.specs.declared.campaign.Report.{Report}
-use Rattle.campaign_runs.specs.declared.campaign.Report.TheVariants.{Lines, Failures, Summary, Outcomes}
+use Rattle.campaign_runs.specs.declared.campaign.Report.TheVariants.{Lines, Failures, Summary, Outcomes, Causes}
 use Rattle.cmd_campaign.specs.Lines.{report_entries}
 use Rattle.cmd_campaign.specs.Summary.{counted_of, report_text, rows_text, IsSummary}
 
@@ -64,9 +64,11 @@ if_ok (Ok v) P h = h
 if_ok (Err e) P h = tt
 
 -- ---- reports
-pub is_summary : (report : Report) → (report ≡ Summary) ⊎ (report ≡ Outcomes) → IsSummary report
+pub is_summary : (report : Report)
+    → (report ≡ Summary) ⊎ ((report ≡ Outcomes) ⊎ (report ≡ Causes)) → IsSummary report
 is_summary report (inl is) = subst IsSummary (sym is) tt
-is_summary report (inr is) = subst IsSummary (sym is) tt
+is_summary report (inr (inl is)) = subst IsSummary (sym is) tt
+is_summary report (inr (inr is)) = subst IsSummary (sym is) tt
 
 module _ (exit : Exit) where
   none_in_summary : (ends : List SeedEnding) → report_entries Summary exit ends ≡ []
@@ -77,12 +79,17 @@ module _ (exit : Exit) where
   none_in_outcomes [] = refl
   none_in_outcomes (end ∷ ends) = none_in_outcomes ends
 
+  none_in_causes : (ends : List SeedEnding) → report_entries Causes exit ends ≡ []
+  none_in_causes [] = refl
+  none_in_causes (end ∷ ends) = none_in_causes ends
+
   -- of a summary there is nothing while the runs go on
   no_entries : (report : Report) (ends : List SeedEnding) → IsSummary report → report_entries report exit ends ≡ []
   no_entries Lines ends h = absurd h
   no_entries Failures ends h = absurd h
   no_entries Summary ends h = none_in_summary ends
   no_entries Outcomes ends h = none_in_outcomes ends
+  no_entries Causes ends h = none_in_causes ends
 
   -- so nothing is to be written of it then
   pub nothing_written : {V E : Type 0} (r : Result V E) (report : Report) (ends : List SeedEnding) (old : Option (List ℕ)) → IsSummary report
@@ -98,6 +105,7 @@ module _ (exit : Exit) where
   report_is Failures ends = append-nil (report_entries Failures exit ends)
   report_is Summary ends = ap (λ text. text ++ rows_text (tally_of ends)) (none_in_summary ends)
   report_is Outcomes ends = ap (λ text. text ++ rows_text (tally_of ends)) (none_in_outcomes ends)
+  report_is Causes ends = ap (λ text. text ++ rows_text (tally_of ends)) (none_in_causes ends)
 
   module _ (report : Report) (ends : List SeedEnding) (rows : List TallyRow) (counted : rows ≡ tally_of (counted_of report ends)) where
     both : report_entries report exit ends ++ rows_text rows ≡ report_text report exit ends

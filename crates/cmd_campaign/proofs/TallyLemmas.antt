@@ -10,7 +10,7 @@ use Rattle.campaign_runs.specs.Runs.{SeedEnding, all_endings, seed_ending, endin
 use Rattle.campaign_runs.specs.Tally.{TallyRow, add_seed, seeds_in, tally_of, tally_onto}
 use Rattle.campaign_runs.specs.declared.campaign.Campaign.{Campaign}
 use Rattle.campaign_runs.specs.declared.campaign.Report.{Report}
-use Rattle.campaign_runs.specs.declared.campaign.Report.TheVariants.{Lines, Failures, Summary, Outcomes}
+use Rattle.campaign_runs.specs.declared.campaign.Report.TheVariants.{Lines, Failures, Summary, Outcomes, Causes}
 use Rattle.campaign_runs.specs.declared.seed_run.SeedEnd.{SeedEnd}
 use Rattle.campaign_runs.proofs.TallyLemmas.{seeds_in-add, seeds_in-onto}
 use Rattle.cmd_campaign.specs.Summary.{counted_of}
@@ -35,6 +35,7 @@ few_counted Lines ends = omega arith
 few_counted Failures ends = omega arith
 few_counted Summary ends = omega arith
 few_counted Outcomes ends = omega arith
+few_counted Causes ends = omega arith
 
 -- the run at a place comes first of those from there on
 next_run : {X : Type 0} (runs : List X) (place : ℕ) (run : X) → place < length runs → run ≡ get_or runs place run

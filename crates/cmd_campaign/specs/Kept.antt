@@ -8,9 +8,9 @@ use Rattle.object_library.specs.declared.verdict.Verdict.TheVariants.{Kept}
 use Rattle.campaign_runs.specs.Runs.{SeedEnding}
 use Rattle.campaign_runs.specs.Tally.{TallyRow}
 use Rattle.campaign_runs.specs.declared.campaign.Report.{Report}
-use Rattle.campaign_runs.specs.declared.campaign.Report.TheVariants.{Lines, Failures, Summary, Outcomes}
+use Rattle.campaign_runs.specs.declared.campaign.Report.TheVariants.{Lines, Failures, Summary, Outcomes, Causes}
 use Rattle.cmd_campaign.specs.Lines.{seed_line}
-use Rattle.cmd_campaign.specs.Summary.{result_words, row_line}
+use Rattle.cmd_campaign.specs.Summary.{row_line}
 
 -- the verdict on each run is `kept`
 abbrev pub AllKept : List SeedEnding → Type 0
@@ -29,7 +29,7 @@ kept_line end =
 abbrev pub kept_row : TallyRow → List ℕ
 kept_row row =
     row_line row.count row.ending.outcome.exited row.ending.outcome.faulted row.ending.outcome.running
-    ++ (codes " kept" ++ (result_words 0 row.ending.results ++ 10 ∷ []))
+    ++ (codes " kept" ++ (row.ending.words ++ 10 ∷ []))
 
 -- if a campaign answers, each line of its report says `kept`
 abbrev pub AnswersKeptLines : Report → Answer → Type 0
@@ -37,4 +37,5 @@ AnswersKeptLines Lines (Ok answer) = (ends : List SeedEnding) × (answer.0 ≡ f
 AnswersKeptLines Failures (Ok answer) = (ends : List SeedEnding) × (answer.0 ≡ flat_map kept_line ends)
 AnswersKeptLines Summary (Ok answer) = (rows : List TallyRow) × (answer.0 ≡ flat_map kept_row rows)
 AnswersKeptLines Outcomes (Ok answer) = (rows : List TallyRow) × (answer.0 ≡ flat_map kept_row rows)
+AnswersKeptLines Causes (Ok answer) = (rows : List TallyRow) × (answer.0 ≡ flat_map kept_row rows)
 AnswersKeptLines report (Err why) = Unit {0}

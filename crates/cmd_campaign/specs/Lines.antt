@@ -8,7 +8,7 @@ use Rattle.outcome.specs.Expect.{fails}
 use Rattle.outcome.specs.declared.expect.Exit.{Exit}
 use Rattle.campaign_runs.specs.Runs.{SeedEnding}
 use Rattle.campaign_runs.specs.declared.campaign.Report.{Report}
-use Rattle.campaign_runs.specs.declared.campaign.Report.TheVariants.{Lines, Failures, Summary, Outcomes}
+use Rattle.campaign_runs.specs.declared.campaign.Report.TheVariants.{Lines, Failures, Summary, Outcomes, Causes}
 
 -- a seed's line, without verdict and LF: harts that have exited, have faulted, and run
 abbrev pub seed_line : ℕ → ℕ → ℕ → ℕ → List ℕ
@@ -37,6 +37,7 @@ report_entry Lines exit end = end_entry end
 report_entry Failures exit end = if has_failed exit end then end_entry end else []
 report_entry Summary exit end = []
 report_entry Outcomes exit end = []
+report_entry Causes exit end = []
 
 -- what a report has of runs while they go on, in order
 abbrev pub report_entries : Report → Exit → List SeedEnding → List ℕ

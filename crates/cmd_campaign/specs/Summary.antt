@@ -1,14 +1,12 @@
 -- The lines of outcomes, and the whole report of runs.
-use Rattle.std.specs.Prelude.{ℕ, ◌+◌, List, [], ◌∷◌, ◌++◌, codes}
+use Rattle.std.specs.Prelude.{ℕ, List, [], ◌∷◌, ◌++◌, codes}
 use Rattle.std.specs.Fmt.{decimal}
 use Rattle.std.specs.List.{flat_map}
-use Rattle.isa_names.specs.Digits.{word_text}
 use Rattle.outcome.specs.declared.expect.Exit.{Exit}
 use Rattle.campaign_runs.specs.Runs.{SeedEnding}
 use Rattle.campaign_runs.specs.Tally.{TallyRow, tally_of}
 use Rattle.campaign_runs.specs.declared.campaign.Report.{Report}
-use Rattle.campaign_runs.specs.declared.campaign.Report.TheVariants.{Lines, Failures, Summary, Outcomes}
-use Rattle.campaign_runs.specs.declared.ending.HartResult.{HartResult}
+use Rattle.campaign_runs.specs.declared.campaign.Report.TheVariants.{Lines, Failures, Summary, Outcomes, Causes}
 use Rattle.campaign_runs.specs.declared.tally.SeedCount.{SeedCount}
 use Rattle.cmd_campaign.specs.Lines.{report_entries, verdict_word}
 
@@ -20,19 +18,11 @@ row_line count exited faulted running =
     ++ (codes " exited " ++ (decimal exited ++ (codes " faulted " ++ (decimal faulted
     ++ (codes " running " ++ decimal running))))))))
 
--- the results of harts from a number on: ` 0:a0=00000001 0:a1=00000000` for each
-abbrev pub result_words : ℕ → List HartResult → List ℕ
-result_words number [] = []
-result_words number (result ∷ results) =
-    codes " " ++ (decimal number ++ (codes ":a0=" ++ (word_text result.a0
-    ++ (codes " " ++ (decimal number ++ (codes ":a1=" ++ (word_text result.a1
-    ++ result_words (number + 1) results)))))))
-
 -- an outcome's line with its end
 abbrev pub row_entry : TallyRow → List ℕ
 row_entry row =
     row_line row.count row.ending.outcome.exited row.ending.outcome.faulted row.ending.outcome.running
-    ++ (verdict_word row.ending.outcome.verdict ++ (result_words 0 row.ending.results ++ 10 ∷ []))
+    ++ (verdict_word row.ending.outcome.verdict ++ (row.ending.words ++ 10 ∷ []))
 
 -- the lines of outcomes
 abbrev pub rows_text : List TallyRow → List ℕ
@@ -44,6 +34,7 @@ counted_of Lines ends = []
 counted_of Failures ends = []
 counted_of Summary ends = ends
 counted_of Outcomes ends = ends
+counted_of Causes ends = ends
 
 -- the whole report of runs: their lines, those of the failed ones, or a line for each outcome in
 -- the order of their first seeds
@@ -52,6 +43,7 @@ report_text Lines exit ends = report_entries Lines exit ends
 report_text Failures exit ends = report_entries Failures exit ends
 report_text Summary exit ends = rows_text (tally_of ends)
 report_text Outcomes exit ends = rows_text (tally_of ends)
+report_text Causes exit ends = rows_text (tally_of ends)
 
 -- a report is written once all runs are done
 abbrev pub IsSummary : Report → Type 0
@@ -59,3 +51,4 @@ IsSummary Lines = ⊥
 IsSummary Failures = ⊥
 IsSummary Summary = Unit {0}
 IsSummary Outcomes = Unit {0}
+IsSummary Causes = Unit {0}

@@ -74,7 +74,7 @@ fn push_entry<A: Allocator>(
                 push_end(text, end)?;
             }
         }
-        Report::Summary | Report::Outcomes => {}
+        Report::Summary | Report::Outcomes | Report::Causes => {}
     }
     Ok(())
 }

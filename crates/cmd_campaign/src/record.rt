@@ -22,7 +22,7 @@ fn copied<A: Allocator + Copy>(alloc: A, ending: &Ending<A>) -> Result<Ending<A>
 {
     Ok(Ending {
         outcome: ending.outcome,
-        results: Vec::from_slice(alloc, &ending.results)?,
+        words: String::from_str(alloc, ending.words.as_str())?,
     })
 }
 
@@ -111,6 +111,6 @@ pub fn record_block<A: Allocator + Copy, K: Sink>(
 {
     match campaign.report {
         Report::Lines | Report::Failures => write_lines(alloc, campaign, ends, sink),
-        Report::Summary | Report::Outcomes => count_block(alloc, tally, ends),
+        Report::Summary | Report::Outcomes | Report::Causes => { count_block(alloc, tally, ends) }
     }
 }

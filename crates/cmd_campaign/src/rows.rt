@@ -3,10 +3,9 @@
 ghost use Rattle.std.specs.Prelude.{◌≡◌, ◌++◌, IfOk, string_bytes};
 ghost use Rattle.campaign_runs.specs.Ending.{ending_of};
 ghost use Rattle.campaign_runs.specs.Tally.{tally_rows};
-ghost use Rattle.cmd_campaign.specs.Summary.{result_words, row_entry, row_line, rows_text};
+ghost use Rattle.cmd_campaign.specs.Summary.{row_entry, row_line, rows_text};
 
-use campaign_runs::{Ending, HartResult, SeedCount, Tally};
-use isa_names::Word;
+use campaign_runs::{Ending, SeedCount, Tally};
 use std::alloc::{AllocError, Allocator};
 use std::fmt;
 
@@ -38,22 +37,6 @@ impl fmt::Display for RowLine {
     }
 }
 
-// Appends the results of harts.
-fn push_results<A: Allocator>(
-    text: &mut String<A>,
-    results: &[HartResult],
-) -> Result<(), AllocError>
-    ensures { IfOk result (λ _.
-        string_bytes text.new ≡ string_bytes text.old ++ result_words 0 results.now) }
-{
-    for (number, result) in results.iter().enumerate() {
-        let a0 = Word(result.a0);
-        let a1 = Word(result.a1);
-        write!(text, " {number}:a0={a0} {number}:a1={a1}")?;
-    }
-    Ok(())
-}
-
 // Appends the line of an outcome.
 fn push_row<A: Allocator>(
     text: &mut String<A>,
@@ -74,8 +57,8 @@ fn push_row<A: Allocator>(
         None => write!(text, "{line}")?,
         Some(verdict) => write!(text, "{line} {verdict}")?,
     }
-    push_results(text, &ending.results)?;
-    writeln!(text)?;
+    text.push_str(ending.words.as_str())?;
+    text.push('\n')?;
     Ok(())
 }
 

@@ -109,6 +109,7 @@ pub(crate) const COMMANDS: [Row; 14] = [
             "--until-failure",
             "--summary",
             "--outcomes",
+            "--by-cause",
             "--schedule",
             "--refusals",
             "--must-exit",

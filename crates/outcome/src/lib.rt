@@ -2,7 +2,7 @@
 #![tactic(auto)]
 
 pub use expect::{Exit, Expect, status_by};
-pub use lines::{EndLine, lines_text, verdict_on};
+pub use lines::{CauseName, EndLine, lines_text, verdict_on};
 pub use run_outcome::{End, Outcome, count_ends, some_run};
 
 mod expect;

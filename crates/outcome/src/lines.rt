@@ -16,9 +16,9 @@ const A0: usize = 10;
 
 const A1: usize = 11;
 
-// A cause, shown by its name.
+/// A cause, shown by its name.
 #[derive(Clone, Copy)]
-struct CauseName(Cause);
+pub struct CauseName(pub Cause);
 
 impl fmt::Display for CauseName {
     ghost output = { λ c. Some (cause_name c.0) };

@@ -45,11 +45,12 @@ abbrev pub lines_of : ℕ → ℕ → TracePlan
 lines_of from to = record { form = Lines; from = from; to = Some to }
 
 -- what is reported of a campaign: 0 all runs, 1 the failed ones, 2 outcomes, 3 outcomes with the
--- harts' results
+-- results of harts that have exited, 4 outcomes with the causes and the places of faults
 abbrev pub report_numbered : ℕ → Option Report
 report_numbered n =
     if n == 0 then Some report.Lines
     else if n == 1 then Some report.Failures
     else if n == 2 then Some report.Summary
     else if n == 3 then Some report.Outcomes
+    else if n == 4 then Some report.Causes
     else None

@@ -74,6 +74,7 @@ pub(crate) fn report_of(report: u32) -> Option<Report>
         1 => Some(Report::Failures),
         2 => Some(Report::Summary),
         3 => Some(Report::Outcomes),
+        4 => Some(Report::Causes),
         _ => None,
     }
 }

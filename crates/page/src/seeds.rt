@@ -50,7 +50,8 @@ pub struct AskedCampaign {
     /// With 1 each hart must exit.
     pub exit: u32,
     /// What is reported: 0 a line for each run, 1 those that have failed, 2 a line for each
-    /// outcome, 3 the same where runs also differ by each hart's `a0` and `a1`.
+    /// outcome, 3 the same where runs also differ by the `a0` and `a1` of each hart that has exited,
+    /// 4 where they also differ by the cause and the place of each fault.
     pub report: u32,
 }
 

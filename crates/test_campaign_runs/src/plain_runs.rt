@@ -2,7 +2,7 @@
 ghost use Rattle.std.specs.Prelude.{◌<◌};
 
 use crate::plans::{Order, draw_of};
-use campaign_runs::{Ending, HartResult};
+use campaign_runs::Ending;
 use hart_step::{Hart, HartState};
 use image::Image;
 use machine::{Choice, Inputs, Machine};
@@ -61,16 +61,17 @@ fn outcome_of(harts: &[Hart]) -> Outcome {
     }
 }
 
-// What each hart left.
-fn results_of(alloc: Global, harts: &[Hart]) -> Result<Vec<HartResult, Global>, AllocError> {
-    let mut results = Vec::new(alloc);
-    for hart in harts {
-        results.push(HartResult {
-            a0: hart.registers[10],
-            a1: hart.registers[11],
-        })?;
+// What each hart that has exited left, as a report of outcomes says it.
+fn words_of(alloc: Global, harts: &[Hart]) -> Result<String<Global>, AllocError> {
+    let mut words = String::new(alloc);
+    for (number, hart) in harts.iter().enumerate() {
+        let a0 = hart.registers[10];
+        let a1 = hart.registers[11];
+        if let HartState::Exited(_) = hart.state {
+            write!(words, " {number}:a0={a0:08x} {number}:a1={a1:08x}")?;
+        }
     }
-    Ok(results)
+    Ok(words)
 }
 
 /// How a plain machine's run over the list of a seed's choices ended; none where memory is refused,
@@ -91,9 +92,9 @@ pub(crate) fn plain_ending(
     if !are_stepped(&mut machine, choices.as_slice()) {
         return None;
     }
-    let results = results_of(alloc, machine.ends()).ok()?;
+    let words = words_of(alloc, machine.ends()).ok()?;
     Some(Ending {
         outcome: outcome_of(machine.ends()),
-        results,
+        words,
     })
 }

@@ -88,11 +88,12 @@ pub(crate) fn campaign_of(plan: Plan, report: Report) -> Option<Campaign>
 }
 
 /// Each of the reports.
-pub(crate) const REPORTS: [Report; 4] = [
+pub(crate) const REPORTS: [Report; 5] = [
     Report::Lines,
     Report::Failures,
     Report::Summary,
     Report::Outcomes,
+    Report::Causes,
 ];
 
 /// A file, how many reads of it pass, and the inputs of its harts.

@@ -4,7 +4,7 @@
 ghost use Rattle.std.specs.Prelude.{◌≡◌, IfOk, length};
 
 use byte_io::MemorySink;
-use campaign_runs::{Campaign, Ending, HartResult, Report, SeedCount, SeedEnd, Tally};
+use campaign_runs::{Campaign, Ending, Report, SeedCount, SeedEnd, Tally};
 use cmd_campaign::{count_ends_of, push_lines, record_block, summary_text};
 use hart_step::{Cause, Hart, HartState};
 use object_library::{Kind, Verdict};
@@ -39,10 +39,11 @@ fn campaign_with(expect: Expect, report: Report) -> Campaign {
     }
 }
 
-// A hart that ended so, with a number in a0.
+// A hart that ended so, with a number in a0 and 1 in a1.
 fn hart(state: HartState, a0: u32) -> Hart {
     let mut registers = [0; 32];
     registers[10] = a0;
+    registers[11] = 1;
     Hart {
         registers,
         pc: 0x0001_0000,
@@ -50,28 +51,29 @@ fn hart(state: HartState, a0: u32) -> Hart {
     }
 }
 
-// How a run of two harts ended that took no step, so that none was chosen.
+// How a run of two harts ended in which the second one was chosen.
 fn end<A: Allocator + Copy>(
     alloc: A,
     seed: u64,
     campaign: Campaign,
     harts: &[Hart],
 ) -> Result<SeedEnd<A>, AllocError> {
-    let outcome = campaign
-        .expect
-        .judge(alloc, &[7, 9], &Chosen::new(), harts)?;
+    let mut chosen = Chosen::new();
+    chosen.add(1);
+    let outcome = campaign.expect.judge(alloc, &[7, 9], &chosen, harts)?;
     let ending = Ending::of(alloc, campaign.report, outcome, harts)?;
     Ok(SeedEnd { seed, ending })
 }
 
-// Two such runs: in the second one the first hart stands as if it had faulted.
+// Two such runs: the second hart stands as if it had exited, and in the second run the first one
+// as if it had faulted.
 fn ends<A: Allocator + Copy>(alloc: A, campaign: Campaign) -> Result<Vec<SeedEnd<A>, A>, AllocError>
     ensures { IfOk result (λ ends. length ends.items ≡ 2) }
 {
-    let running = hart(HartState::Running, 9);
+    let exited = hart(HartState::Exited(0), 9);
     let faulted = hart(HartState::Faulted(Cause::Break), 7);
-    let first = end(alloc, 5, campaign, &[hart(HartState::Running, 7), running])?;
-    let second = end(alloc, 6, campaign, &[faulted, running])?;
+    let first = end(alloc, 5, campaign, &[hart(HartState::Running, 7), exited])?;
+    let second = end(alloc, 6, campaign, &[faulted, exited])?;
     let mut ends = Vec::new(alloc);
     ends.push(first)?;
     ends.push(second)?;
@@ -80,8 +82,7 @@ fn ends<A: Allocator + Copy>(alloc: A, campaign: Campaign) -> Result<Vec<SeedEnd
 
 // An ending of one hart.
 fn ending<A: Allocator + Copy>(alloc: A) -> Result<Ending<A>, AllocError> {
-    let mut results = Vec::new(alloc);
-    results.push(HartResult { a0: 7, a1: 1 })?;
+    let words = String::from_str(alloc, " 0:a0=00000007 0:a1=00000001")?;
     Ok(Ending {
         outcome: Outcome {
             exited: 1,
@@ -89,7 +90,7 @@ fn ending<A: Allocator + Copy>(alloc: A) -> Result<Ending<A>, AllocError> {
             running: 0,
             verdict: Some(Verdict::Kept),
         },
-        results,
+        words,
     })
 }
 
@@ -110,10 +111,12 @@ impl Call for Counting {
     }
 }
 
-// The summary of two such runs.
-const SUMMARY: &str =
-    "seeds 1 first 5 exited 0 faulted 0 running 2 0:a0=00000007 0:a1=00000000 1:a0=00000009 1:a1=00000000\n\
-     seeds 1 first 6 exited 0 faulted 1 running 1 0:a0=00000007 0:a1=00000000 1:a0=00000009 1:a1=00000000\n";
+// The summaries of two such runs, by the results of harts and by their faults.
+const OUTCOMES: &str = "seeds 1 first 5 exited 1 faulted 0 running 1 1:a0=00000009 1:a1=00000001\n\
+     seeds 1 first 6 exited 1 faulted 1 running 0 1:a0=00000009 1:a1=00000001\n";
+
+const CAUSES: &str = "seeds 1 first 5 exited 1 faulted 0 running 1\n\
+     seeds 1 first 6 exited 1 faulted 1 running 0 Break at 00010000\n";
 
 // The summary of a block.
 #[derive(Clone, Copy)]
@@ -125,7 +128,7 @@ impl Call for Summing {
         let mut tally = Tally::new(alloc);
         count_ends_of(alloc, &mut tally, &ends)?;
         let text = summary_text(alloc, &tally)?;
-        Ok(text.as_str() == SUMMARY)
+        Ok(text.as_str() == OUTCOMES)
     }
 }
 
@@ -161,11 +164,12 @@ impl Call for Recording {
 }
 
 #[rattlefmt::skip]
-const RECORDINGS: [Recording; 3] = [
+const RECORDINGS: [Recording; 4] = [
     Recording { report: Report::Lines, text: "",
-        lines: "seed 5 exited 0 faulted 0 running 2\nseed 6 exited 0 faulted 1 running 1\n" },
-    Recording { report: Report::Failures, text: "", lines: "seed 6 exited 0 faulted 1 running 1\n" },
-    Recording { report: Report::Outcomes, text: SUMMARY, lines: "" },
+        lines: "seed 5 exited 1 faulted 0 running 1\nseed 6 exited 1 faulted 1 running 0\n" },
+    Recording { report: Report::Failures, text: "", lines: "seed 6 exited 1 faulted 1 running 0\n" },
+    Recording { report: Report::Outcomes, text: OUTCOMES, lines: "" },
+    Recording { report: Report::Causes, text: CAUSES, lines: "" },
 ];
 
 // The failures of a block, without a rule and with one.
@@ -180,7 +184,7 @@ impl Call for Failures {
         push_lines(&mut text, Report::Failures, PLAIN, &plain)?;
         push_lines(&mut text, Report::Failures, RULED, &ruled)?;
         let wanted =
-            "seed 6 exited 0 faulted 1 running 1\nseed 6 exited 0 faulted 1 running 1 broken\n";
+            "seed 6 exited 1 faulted 1 running 0\nseed 6 exited 1 faulted 1 running 0 broken\n";
         Ok(text.as_str() == wanted)
     }
 }

@@ -11,12 +11,12 @@ use std::alloc::{AllocError, Allocator, Global};
 use test_images::{CONDITIONAL, writable_program};
 use test_refusing::{Call, tried};
 
-// A judged run of 8 steps, whose harts' results are told.
+// A judged run of more steps than both harts take, so that both results are told.
 fn campaign_with(draw: Draw) -> Campaign {
     Campaign {
         first: 5,
         count: 1,
-        steps: 8,
+        steps: 1_000,
         draw,
         expect: Expect {
             rule: Some(Kind::LrSc),
@@ -42,7 +42,7 @@ impl Call for OneSeed {
         };
         let start: Machine<FlatStore<A>, A> = Machine::start(alloc, &image, &inputs)?;
         let end = run_seed(alloc, &start, &inputs, campaign_with(draw), 5)?;
-        Ok(end.seed == 5 && end.ending.results.len() == 2)
+        Ok(end.seed == 5 && end.ending.words.len() == 56)
     }
 }
 

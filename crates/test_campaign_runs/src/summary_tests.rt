@@ -28,7 +28,7 @@ struct Worked {
 // end in 15: in 26 of them. A hart of Swap alone takes 11, and one of LrSc alone 16, if nothing is
 // refused.
 #[rattlefmt::skip]
-const WORKED: [Worked; 18] = [
+const WORKED: [Worked; 20] = [
     Worked { kind: Kind::LrSc, inputs: &[4, 5, 6, 7],
         plan: Plan { first: 5, count: 2, steps: 600, order: Order::Usual, rule: Some(Kind::LrSc), exit: Exit::May }, report: Report::Lines,
         text: "seed 5 exited 4 faulted 0 running 0 kept\nseed 6 exited 4 faulted 0 running 0 kept\n", status: Status::Done, first_failure: None },
@@ -78,6 +78,12 @@ const WORKED: [Worked; 18] = [
         plan: Plan { first: 0, count: 100, steps: 16, order: Order::Never, rule: None, exit: Exit::Must }, report: Report::Outcomes,
         text: "seeds 100 first 0 exited 1 faulted 0 running 0 0:a0=00000006 0:a1=00000001\n", status: Status::Done, first_failure: None },
     Worked { kind: Kind::Swap, inputs: &[7, 9],
+        plan: Plan { first: 5, count: 2, steps: 25, order: Order::Priorities, rule: None, exit: Exit::May }, report: Report::Outcomes,
+        text: "seeds 2 first 5 exited 1 faulted 0 running 1 1:a0=00000009 1:a1=00000001\n", status: Status::Done, first_failure: None },
+    Worked { kind: Kind::Swap, inputs: &[7, 9, 5],
+        plan: Plan { first: 5, count: 2, steps: 300, order: Order::Usual, rule: Some(Kind::Swap), exit: Exit::May }, report: Report::Causes,
+        text: "seeds 2 first 5 exited 2 faulted 1 running 0 broken StoreAccess at 0001000c\n", status: Status::Broken, first_failure: Some(5) },
+    Worked { kind: Kind::Swap, inputs: &[7, 9],
         plan: Plan { first: 5, count: 2, steps: 0, order: Order::Usual, rule: Some(Kind::Swap), exit: Exit::Must }, report: Report::Summary,
         text: "seeds 2 first 5 exited 0 faulted 0 running 2 kept\n", status: Status::Faulted, first_failure: Some(5) },
     Worked { kind: Kind::Swap, inputs: &[7, 9, 5],
@@ -119,11 +125,7 @@ fn words_of(alloc: Global, ending: &Ending<Global>) -> Result<String<Global>, Al
     let running = ending.outcome.running;
     let mut words = String::new(alloc);
     write!(words, "exited {exited} faulted {faulted} running {running}")?;
-    for (number, result) in ending.results.iter().enumerate() {
-        let a0 = result.a0;
-        let a1 = result.a1;
-        write!(words, " {number}:a0={a0:08x} {number}:a1={a1:08x}")?;
-    }
+    words.push_str(ending.words.as_str())?;
     Ok(words)
 }
 

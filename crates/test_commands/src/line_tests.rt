@@ -109,6 +109,8 @@ const LINES: [(&str, &str); 77] = [
         "campaign FILE=p inputs=7,9 first=1 count=2 steps=3 summary=yes"),
     ("rvcons campaign p --inputs 7,9 --first 1 --count 2 --steps 3 --outcomes",
         "campaign FILE=p inputs=7,9 first=1 count=2 steps=3 outcomes=yes"),
+    ("rvcons campaign p --inputs 7,9 --first 1 --count 2 --steps 3 --by-cause",
+        "campaign FILE=p inputs=7,9 first=1 count=2 steps=3 by-cause=yes"),
     ("rvcons campaign p --inputs 7,9 --first 1 --count 2 --steps 3 --schedule d",
         "campaign FILE=p inputs=7,9 first=1 count=2 steps=3 schedule=d"),
     ("rvcons campaign p --inputs 7,9 --first 1 --count 2 --steps 3 --refusals r",

@@ -157,6 +157,7 @@ fn campaign_text(alloc: Global, order: &CampaignOrder) -> Result<String, AllocEr
         ("until-failure", flag(order.until_failure)),
         ("summary", flag(order.summary)),
         ("outcomes", flag(order.outcomes)),
+        ("by-cause", flag(order.by_cause)),
         ("schedule", order.draw),
         ("refusals", order.refusals),
         ("must-exit", flag(order.must_exit)),
