@@ -104,7 +104,12 @@ fn run_text(alloc: Global, order: &RunOrder) -> Result<String, AllocError> {
     ];
     let mut text = text_with(alloc, "run", fields)?;
     push_choices(&mut text, order.choices)?;
-    let fields = &[("rule", order.rule), ("must-exit", flag(order.must_exit))];
+    let fields = &[
+        ("rule", order.rule),
+        ("must-exit", flag(order.must_exit)),
+        ("never-both", order.never_both),
+        ("always", order.always),
+    ];
     push_fields(&mut text, fields)?;
     Ok(text)
 }

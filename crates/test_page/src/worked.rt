@@ -200,8 +200,8 @@ const EXITED: &str = "hart 0 exited a0 00000000 a1 00000007\n";
 
 const TABLE: &str = "| Choice | Hart 0 | At |
 |---|---|---|
-| 1 | `addi a7, zero, 93` a7 = 0x0000005d |  |
-| 2 | `ecall` exits with 0x00000000 |  |
+| 0 | `addi a7, zero, 93` a7 = 0x0000005d |  |
+| 1 | `ecall` exits with 0x00000000 |  |
 ";
 
 /// The calls, each with its answer.
