@@ -10,9 +10,9 @@ TOP = os.path.dirname(os.path.dirname(os.path.dirname(os.path.realpath(__file__)
 # The property, and what is told behind a run of amo.s by two harts, 4 steps of hart 0 and 5 of hart 1.
 ROWS = [
     (["--never-both", "_start+4..wait"],
-     "after 5 choices hart 0 at 00010010, _start+16; hart 1 at 00010004, _start+4: goto 5 in rvcons debug goes there\n"),
+     "after 5 choices: hart 0 at 00010010, _start+16; hart 1 at 00010004, _start+4; goto 5 in rvcons debug goes there\n"),
     (["--always", "counter < 2"],
-     "after 8 choices the word is 2, 0x00000002: goto 8 in rvcons debug goes there\n"),
+     "after 8 choices: the word is 2, 0x00000002; goto 8 in rvcons debug goes there\n"),
     (["--always", "counter <= 2"], ""),
 ]  # fmt: skip
 

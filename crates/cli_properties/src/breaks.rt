@@ -1,8 +1,5 @@
 //! What a person is told of a property that a run broke.
 
-ghost use Rattle.std.specs.Prelude.{◌<◌, length};
-ghost use Rattle.std.specs.List.{All};
-
 use cli_report::show;
 use cmd_debug::NamedRun;
 use elf_read::Symbol;
@@ -21,9 +18,7 @@ pub(crate) fn show_breaks<R: AllocGlobal + Eprint>(
     rt: &R,
     run: &NamedRun<Global>,
     judged: &[Judged],
-)
-    requires { All (λ c. c.hart < length run.now.opened.inputs) run.now.opened.choices.items }
-{
+) {
     for each in judged.iter() {
         if let Some(choices) = each.broken {
             let words = break_words(rt.alloc(), run, each.property, choices);
@@ -38,12 +33,10 @@ fn break_words(
     run: &NamedRun<Global>,
     property: Property,
     choices: usize,
-) -> Option<String>
-    requires { All (λ c. c.hart < length run.now.opened.inputs) run.now.opened.choices.items }
-{
+) -> Option<String> {
     let machine = machine_after(alloc, &run.opened, choices)?;
     let mut text = String::new(alloc);
-    write!(text, "after {choices} choices").ok()?;
+    write!(text, "after {choices} choices:").ok()?;
     match property {
         Property::NeverBoth { from, to } => {
             push_harts(&mut text, &run.symbols, machine.ends(), from, to).ok()?;
@@ -51,10 +44,10 @@ fn break_words(
         Property::Always { word, .. } => {
             let value = word_read(machine.store(), word);
             let shown = Word(value);
-            write!(text, " the word is {value}, 0x{shown}").ok()?;
+            write!(text, " the word is {value}, 0x{shown};").ok()?;
         }
     }
-    writeln!(text, ": goto {choices} in rvcons debug goes there").ok()?;
+    writeln!(text, " goto {choices} in rvcons debug goes there").ok()?;
     Some(text)
 }
 
@@ -63,12 +56,33 @@ fn machine_after<A: Allocator + Copy>(
     alloc: A,
     run: &OpenRun<A>,
     choices: usize,
-) -> Option<Machine<FlatStore<A>, A>>
-    requires { All (λ c. c.hart < length run.now.inputs) run.now.choices.items }
-{
+) -> Option<Machine<FlatStore<A>, A>> {
     let mut machine = Machine::start(alloc, &run.image, &run.inputs).ok()?;
-    machine.run(run.choices.get(..choices)?).ok()?;
+    for choice in run.choices.iter().take(choices) {
+        if choice.hart as usize >= machine.harts() {
+            return None;
+        }
+        machine.step(*choice).ok()?;
+    }
     Some(machine)
+}
+
+// Appends the place of a hart that is between two addresses.
+fn push_hart<A: Allocator>(
+    text: &mut String<A>,
+    symbols: &[Symbol<A>],
+    number: usize,
+    hart: &Hart,
+    from: u32,
+    to: u32,
+) -> Result<(), AllocError> {
+    if !is_within(hart, from, to) {
+        return Ok(());
+    }
+    text.push_str(" ")?;
+    push_standing(text, symbols, number, hart.pc)?;
+    text.push_str(";")?;
+    Ok(())
 }
 
 // Appends the places of the harts between two addresses.
@@ -79,13 +93,8 @@ fn push_harts<A: Allocator>(
     from: u32,
     to: u32,
 ) -> Result<(), AllocError> {
-    let mut before = " ";
     for (number, hart) in harts.iter().enumerate() {
-        if is_within(hart, from, to) {
-            text.push_str(before)?;
-            push_standing(text, symbols, number, hart.pc)?;
-            before = "; ";
-        }
+        push_hart(text, symbols, number, hart, from, to)?;
     }
     Ok(())
 }
