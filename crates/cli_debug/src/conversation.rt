@@ -3,7 +3,7 @@
 ghost use Rattle.std.specs.Prelude.{◌-◌, ◌^◌, ◌<◌};
 
 use byte_io::{MemorySource, Progress, ReadFault, Source, Status, read_all};
-use cmd_debug::{DebugEngineFault, NamedRun, open_named, open_session};
+use cmd_debug::{DebugEngineFault, open_session};
 use debug_session::Debugger;
 use debug_text::{Answer, Command, DebugFault, obey, read_command};
 use elf_read::Symbol;
@@ -12,6 +12,7 @@ use hint_debug::{
 };
 use hint_fault::symbols_or_none;
 use image::Image;
+use program_named::{NamedRun, open_named};
 use program_open::{CommandFault, Input as InputFile, ProgramForm, read_program};
 use std::alloc::{AllocError, Global};
 use std::io::{self, Input};
@@ -59,15 +60,17 @@ pub(crate) fn talk_to_person<R: AllocGlobal + Print + Input, P: Source, C: Sourc
         Err(ReadFault::Memory) => return Err(DebugEngineFault::Memory),
     };
     let mut source = MemorySource::new(&bytes);
-    let NamedRun { opened, symbols } = match open_named(rt.alloc(), inputs, &mut source, choices) {
+    let form = ProgramForm::Elf;
+    let named = match open_named(rt.alloc(), form, inputs, &mut source, choices) {
         Ok(named) => named,
         Err(fault) => return Err(DebugEngineFault::Refused(fault)),
     };
+    let NamedRun { opened, symbols } = named;
     let mut debugger = match open_session(rt.alloc(), opened, progress) {
         Ok(debugger) => debugger,
         Err(AllocError) => return Err(DebugEngineFault::Refused(CommandFault::Memory)),
     };
-    let image = match read_program(rt.alloc(), ProgramForm::Elf, &bytes) {
+    let image = match read_program(rt.alloc(), form, &bytes) {
         Ok(image) => image,
         Err(fault) => return Err(DebugEngineFault::Refused(fault)),
     };

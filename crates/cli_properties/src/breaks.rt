@@ -1,13 +1,13 @@
 //! What a person is told of a property that a run broke.
 
 use cli_report::show;
-use cmd_debug::NamedRun;
 use elf_read::Symbol;
 use hart_step::Hart;
 use hint_fault::push_standing;
 use isa_names::Word;
 use machine::Machine;
 use mem_flat::FlatStore;
+use program_named::NamedRun;
 use program_open::OpenRun;
 use property_judge::{Judged, Property, is_within, word_read};
 use std::alloc::{AllocError, Allocator, Global};

@@ -1,18 +1,15 @@
 //! Runs `run` with properties.
 
-ghost use Rattle.std.specs.Prelude.{◌^◌, ◌-◌, ◌<◌, IfOk, length};
-ghost use Rattle.std.specs.List.{All};
-
 use crate::breaks::show_breaks;
 use crate::said::properties_said;
-use byte_io::{Source, Status, WriterSink};
+use byte_io::{Status, WriterSink};
 use cli_args::RunOrder;
 use cli_report::{Audience, RunChoices, RunFiles, form_said, inputs_said, open_run, say_why};
 use cli_run::{expect_said, explain_failure, has_failed, obey_run};
-use cmd_debug::{NamedRun, open_named};
 use cmd_properties::judged_text;
-use program_open::{CommandFault, ProgramForm, deliver};
-use std::alloc::{AllocError, Global};
+use program_named::open_named;
+use program_open::{CommandFault, deliver};
+use std::alloc::AllocError;
 use std::io;
 use std::rt::Files;
 
@@ -49,7 +46,7 @@ fn obey_judged<R: Files + AllocGlobal + Print + Eprint>(
         harts: inputs.len(),
     };
     let (mut program, mut source) = open_run(rt, audience, order.file, choices)?;
-    let run = match open_form(rt.alloc(), form, &inputs, &mut program, &mut source) {
+    let run = match open_named(rt.alloc(), form, &inputs, &mut program, &mut source) {
         Ok(run) => run,
         Err(fault) => return Err(say_why(rt, audience, files, fault)),
     };
@@ -67,30 +64,5 @@ fn obey_judged<R: Files + AllocGlobal + Print + Eprint>(
             Ok(status)
         }
         Err(fault) => Err(say_why(rt, audience, files, fault)),
-    }
-}
-
-// Opens a run with its program's symbols, which words in hexadecimal don't have.
-fn open_form<P: Source, C: Source>(
-    alloc: Global,
-    form: ProgramForm,
-    inputs: &[u32],
-    program: &mut P,
-    choices: &mut C,
-) -> Result<NamedRun<Global>, CommandFault>
-    requires program_counts { P.failures program.old < 2 ^ 64 - 1 }
-    requires choices_count { C.failures choices.old < 2 ^ 64 - 1 }
-    ensures { IfOk result (λ run.
-        All (λ c. c.hart < length run.opened.inputs) run.opened.choices.items) }
-{
-    match form {
-        ProgramForm::Elf => open_named(alloc, inputs, program, choices),
-        ProgramForm::Hex => {
-            let opened = program_open::open_run(alloc, form, inputs, program, choices)?;
-            Ok(NamedRun {
-                opened,
-                symbols: Vec::new(alloc),
-            })
-        }
     }
 }

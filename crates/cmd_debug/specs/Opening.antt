@@ -5,7 +5,6 @@ use Rattle.std.specs.Str.Lines.{lines}
 use Rattle.std.specs.declared.result.Result.{Result}
 use Rattle.std.specs.declared.result.Result.TheVariants.{Ok, Err}
 use Rattle.elf_read.specs.Symbol.{SymbolValue}
-use Rattle.elf_read.specs.SymbolTable.{Symbols, symbols_of}
 use Rattle.image.specs.Image.{ImageValue}
 use Rattle.machine.specs.declared.choice.Choice.{Choice}
 use Rattle.debug_session.specs.Points.{no_words}
@@ -37,15 +36,6 @@ session_after inputs (Err why) = Err why
 -- the session of inputs, a file's bytes and a choice text
 unfoldable pub opened : List ℕ → List ℕ → List ℕ → Opening
 opened inputs program text = session_after inputs (opening form.Elf (length inputs) program text)
-
--- the symbols of a table, if it is valid
-abbrev pub symbols_or_none : Symbols → List SymbolValue
-symbols_or_none (Ok symbols) = symbols
-symbols_or_none (Err why) = []
-
--- the symbols of a file; none if it has no valid table
-abbrev pub file_symbols : List ℕ → List SymbolValue
-file_symbols program = symbols_or_none (symbols_of program)
 
 -- the answers to the lines of the commands were appended
 abbrev pub Answers : List SymbolValue → Opening → List ℕ → Option (List ℕ) → Option (List ℕ) → Type 0

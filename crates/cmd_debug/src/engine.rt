@@ -7,12 +7,14 @@ ghost use Rattle.machine.specs.Start.{IsStartable};
 ghost use Rattle.program_open.specs.CommandFaults.{IfNames, IsOfProgram, IsRefusal};
 ghost use Rattle.program_open.specs.Opening.{program_opening};
 ghost use Rattle.image.specs.Image.{ImageValue};
-ghost use Rattle.cmd_debug.specs.Opening.{file_symbols, opened, Answers, BeginsToAnswer, IfCut, IfUnopened};
+ghost use Rattle.program_named.specs.Symbols.{program_symbols};
+ghost use Rattle.cmd_debug.specs.Opening.{opened, Answers, BeginsToAnswer, IfCut, IfUnopened};
 
 use crate::conversation::{TalkFault, talk};
 use crate::fault::DebugEngineFault;
-use crate::opening::{open_named, open_session};
+use crate::opening::open_session;
 use byte_io::{Progress, Sink, Source, Status};
+use program_named::open_named;
 use program_open::{CommandFault, Input, ProgramForm};
 use std::alloc::{AllocError, Allocator};
 
@@ -39,7 +41,7 @@ pub fn debug_engine<A: Allocator + Copy, P: Source, C: Source, S: Source, K: Sin
     ensures done { IfOk result (λ _.
         IfSome (P.left program.old) (λ p. IfSome (C.left choices.old) (λ c.
         IfSome (S.left commands.old) (λ s.
-        Answers (file_symbols p) (opened inputs.now p c) s (K.held sink.old) (K.held sink.new))))) }
+        Answers (program_symbols ProgramForm.Elf p) (opened inputs.now p c) s (K.held sink.old) (K.held sink.new))))) }
     // An input is invalid, no command is read and nothing is written.
     ensures refused { IfErr result (λ fault. IfUnopened fault (λ why. IsRefusal why
         → IfSome (P.left program.old) (λ p. IfSome (C.left choices.old) (λ c.
@@ -71,9 +73,9 @@ pub fn debug_engine<A: Allocator + Copy, P: Source, C: Source, S: Source, K: Sin
     ensures begun { IfErr result (λ fault. IfCut fault
         (IfSome (P.left program.old) (λ p. IfSome (C.left choices.old) (λ c.
         IfSome (S.left commands.old) (λ s.
-        BeginsToAnswer (file_symbols p) (opened inputs.now p c) s (K.held sink.old) (K.held sink.new)))))) }
+        BeginsToAnswer (program_symbols ProgramForm.Elf p) (opened inputs.now p c) s (K.held sink.old) (K.held sink.new)))))) }
 {
-    let named = match open_named(alloc, inputs, program, choices) {
+    let named = match open_named(alloc, ProgramForm::Elf, inputs, program, choices) {
         Ok(named) => named,
         Err(fault) => return Err(DebugEngineFault::Refused(fault)),
     };

@@ -4,7 +4,7 @@
 pub use conversation::{TalkFault, talk};
 pub use engine::debug_engine;
 pub use fault::DebugEngineFault;
-pub use opening::{NamedRun, open_named, open_session};
+pub use opening::open_session;
 
 mod conversation;
 mod engine;

@@ -12,7 +12,7 @@ ghost use Rattle.program_open.specs.Answers.{BeginsToPrint, Prints};
 ghost use Rattle.cmd_trace.specs.Answer.{trace_after, trace_answer};
 
 use crate::counting::count_choices;
-use crate::opening::{OpenTrace, open_trace};
+use crate::opening::open_trace;
 use crate::plan::TracePlan;
 use crate::writing::write_trace;
 use byte_io::{Sink, Source, Status};
@@ -25,7 +25,7 @@ use std::alloc::Allocator;
 fn trace_run<A: Allocator + Copy, K: Sink>(
     alloc: A,
     plan: TracePlan,
-    run: &OpenTrace<A>,
+    run: &NamedText<A>,
     sink: &mut K,
 ) -> Result<Status, CommandFault>
     requires { K.failures sink.old < 2 ^ 64 - 1 }

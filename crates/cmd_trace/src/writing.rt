@@ -9,7 +9,6 @@ ghost use Rattle.program_open.specs.CommandFaults.{IfHalts};
 ghost use Rattle.cmd_trace.specs.Trace.{trace_head, trace_text};
 
 use crate::entries::write_entries;
-use crate::opening::{OpenProgram, OpenTrace};
 use crate::output::flush;
 use crate::page::Page;
 use crate::plan::{TraceForm, TracePlan, span_of};
@@ -26,7 +25,7 @@ fn push_head_of<A: Allocator + Copy>(
     form: TraceForm,
     inputs: &Inputs,
     span: Span,
-    program: &OpenProgram<A>,
+    program: &NamedProgram<A>,
     teller: &Teller<'_, A>,
     buffer: &mut Vec<u8, A>,
 ) -> Result<(), AllocError>
@@ -54,7 +53,7 @@ fn push_head_of<A: Allocator + Copy>(
 pub(crate) fn write_trace<A: Allocator + Copy, K: Sink>(
     alloc: A,
     plan: TracePlan,
-    run: &OpenTrace<A>,
+    run: &NamedText<A>,
     count: u64,
     sink: &mut K,
 ) -> Result<(), CommandFault>
