@@ -1,6 +1,7 @@
 pub mod WorldLemmas
 pub mod KeyLemmas
 pub mod SettledKeys
+pub mod KeepLemmas
 pub mod MemoLemmas
 pub mod FirstLemmas
 pub mod DifferLemmas

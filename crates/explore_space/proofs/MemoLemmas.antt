@@ -120,7 +120,7 @@ pub steps_more : {Z : Type 0} (image : ImageValue) (harts : List Hart) (shareds 
     → AreSteps image harts shareds more_keys more_answers
 steps_more image harts shareds keys answers more_keys more_answers hart shared new_hart new_shared c are keeps there after steps = record {
   each = λ at other_hart other_shared d after_hart after_shared kept.
-      elim (keeps at (step_words other_hart other_shared d) (after_hart ∷ after_shared ∷ []) kept) [
+      elim (keeps.each at (step_words other_hart other_shared d) (after_hart ∷ after_shared ∷ []) kept) [
         | inl old ↦ are.each at other_hart other_shared d after_hart after_shared old
         | inr new ↦
             let same = same_step other_hart hart other_shared shared d c new.0 in
@@ -143,7 +143,7 @@ pub rests_more : (image : ImageValue) (harts : List Hart) (keys answers more_key
     → AreRests image harts more_keys more_answers
 rests_more image harts keys answers more_keys more_answers id new_hart are keeps there after rest = record {
   each = λ at other after_other kept.
-      elim (keeps at (other ∷ []) (after_other ∷ []) kept) [
+      elim (keeps.each at (other ∷ []) (after_other ∷ []) kept) [
         | inl old ↦ are.each at other after_other old
         | inr new ↦ subst (λ x. Goes x after_other) (sym (ap (λ (xs : List ℕ). slice_index xs 0) new.0))
             (subst (λ x. Goes id x) (sym (ap (λ (xs : List ℕ). slice_index xs 0) new.1)) (there, after, rest))

@@ -34,19 +34,27 @@ mark_decides (Some x) None = (λ e. absurd (cc), λ e. absurd (cc))
 mark_decides (Some x) (Some y) = (λ e. ap Some ((Decides-eqb x y).0 e), λ e. (Decides-eqb x y).1 (same_Some x y e))
 
 -- ---- what holds of the elements so far
+pub record AllSoFar {X : Type 0} (P : X → Type 0) (xs : List X) (n : ℕ) : Type 0 where
+  pub each : (k : ℕ) (y : X) → k < n → slice_get xs k ≡ Some y → P y
+
+pub none_so_far : {X : Type 0} (P : X → Type 0) (xs : List X) → AllSoFar P xs 0
+none_so_far P xs = record { each = λ k y low e. absurd (omega (arith, low)) }
+
 pub all_so_far : {X : Type 0} (P : X → Type 0) (xs : List X) (n : ℕ) (x : X) → slice_get xs n ≡ Some x → P x
-    → ((k : ℕ) (y : X) → k < n → slice_get xs k ≡ Some y → P y) → (k : ℕ) (y : X) → k < n + 1 → slice_get xs k ≡ Some y → P y
-all_so_far P xs n x there holds before k y low e = elim (below_or k n low) [
-  | inl below ↦ before k y below e
-  | inr here ↦ subst P (same_Some x y (sym there ∙ ap (slice_get xs) (sym here) ∙ e)) holds
-]
+    → AllSoFar P xs n → AllSoFar P xs (n + 1)
+all_so_far P xs n x there holds before = record {
+  each = λ k y low e. elim (below_or k n low) [
+    | inl below ↦ before.each k y below e
+    | inr here ↦ subst P (same_Some x y (sym there ∙ ap (slice_get xs) (sym here) ∙ e)) holds
+  ];
+}
 
 -- one element more, which is like none of the others
 pub apart_more : {X : Type 0} (R : X → X → Type 0) (xs ys : List X) (x : X) (n : ℕ) → ys ≡ xs ++ x ∷ [] → length xs ≤ n
-    → ((k : ℕ) (y : X) → k < n → slice_get xs k ≡ Some y → R y x) → AllPairs R xs → AllPairs R ys
+    → AllSoFar (λ y. R y x) xs n → AllPairs R xs → AllPairs R ys
 apart_more R xs ys x n pushed all each apart =
     subst (AllPairs R) (sym pushed) (all_pairs_push R xs x apart
-    (λ k d low. each k (get_or xs k d) (omega (arith, low, all)) (slice_get-get_or xs k d low)))
+    (λ k d low. each.each k (get_or xs k d) (omega (arith, low, all)) (slice_get-get_or xs k d low)))
 
 pub pushed_first : {X : Type 0} (xs ys : List X) (x : X) → xs ≡ [] → ys ≡ xs ++ x ∷ [] → ys ≡ x ∷ []
 pushed_first xs ys x none pushed = pushed ∙ ap (λ zs. zs ++ x ∷ []) none

@@ -14,9 +14,9 @@ abbrev pub HasAnswer : List (List ℕ) → List (List ℕ) → ℕ → List ℕ 
 HasAnswer keys answers at key answer = (slice_get keys at ≡ Some key) × (slice_get answers at ≡ Some answer)
 
 -- what is kept was kept, or it is this answer under this key
-abbrev pub KeepsOne : List (List ℕ) → List (List ℕ) → List (List ℕ) → List (List ℕ) → List ℕ → List ℕ → Type 0
-KeepsOne keys answers more_keys more_answers key answer = (at : ℕ) (other told : List ℕ)
-    → HasAnswer more_keys more_answers at other told → HasAnswer keys answers at other told ⊎ ((other ≡ key) × (told ≡ answer))
+pub record KeepsOne (keys answers more_keys more_answers : List (List ℕ)) (key answer : List ℕ) : Type 0 where
+  pub each : (at : ℕ) (other told : List ℕ) → HasAnswer more_keys more_answers at other told
+      → HasAnswer keys answers at other told ⊎ ((other ≡ key) × (told ≡ answer))
 
 -- the words of a step of a hart over what it shares
 abbrev pub step_words : ℕ → ℕ → Choice → List ℕ

@@ -79,15 +79,15 @@ fn stuck_turns<A: Allocator + Copy>(
     seen: &Seen<A>,
     exit: Exit,
 ) -> Result<Option<Vec<Choice, A>>, AllocError>
-    requires seen { AreAllSeen (IsKey explorer.now.image.now (length explorer.now.inputs.now) explorer.now.harts.parts.items
-        explorer.now.shareds.parts.items)
-        (place_of_key explorer.now.image.now (length explorer.now.inputs.now) explorer.now.harts.parts.items
-        explorer.now.shareds.parts.items)
-        (place_begun (started explorer.now.image.now explorer.now.inputs.now)) meant.now seen.now.keys seen.now.links.items }
-    requires edges { exit ≡ Must → HaveEdges (place_of_key explorer.now.image.now (length explorer.now.inputs.now)
-        explorer.now.harts.parts.items explorer.now.shareds.parts.items) meant.now seen.now.keys seen.now.rows }
+    requires seen { AreAllSeen (IsKey explorer.now.known.image.now (length explorer.now.inputs.now) explorer.now.known.harts.parts.items
+        explorer.now.known.shareds.parts.items)
+        (place_of_key explorer.now.known.image.now (length explorer.now.inputs.now) explorer.now.known.harts.parts.items
+        explorer.now.known.shareds.parts.items)
+        (place_begun (started explorer.now.known.image.now explorer.now.inputs.now)) meant.now seen.now.keys seen.now.links.items }
+    requires edges { exit ≡ Must → HaveEdges (place_of_key explorer.now.known.image.now (length explorer.now.inputs.now)
+        explorer.now.known.harts.parts.items explorer.now.known.shareds.parts.items) meant.now seen.now.keys seen.now.rows }
     ensures { IfOk result (λ found. AnswersExit exit meant.now
-        (place_begun (started explorer.now.image.now explorer.now.inputs.now)) found) }
+        (place_begun (started explorer.now.known.image.now explorer.now.inputs.now)) found) }
 {
     match exit {
         Exit::May => Ok(None),

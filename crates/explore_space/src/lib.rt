@@ -18,6 +18,7 @@ mod failing;
 mod first;
 mod hash;
 mod kept;
+mod known;
 mod meant;
 mod memo;
 mod own_bounds;

@@ -35,20 +35,20 @@ fn bounds_of<A: Allocator + Copy>(
     meant: &[Choice],
     seen: &Seen<A>,
 ) -> Result<Vec<Bound, A>, AllocError>
-    requires seen { AreAllSeen (IsKey explorer.now.image.now (length explorer.now.inputs.now) explorer.now.harts.parts.items
-        explorer.now.shareds.parts.items)
-        (place_of_key explorer.now.image.now (length explorer.now.inputs.now) explorer.now.harts.parts.items
-        explorer.now.shareds.parts.items)
-        (place_begun (started explorer.now.image.now explorer.now.inputs.now)) meant.now seen.now.keys seen.now.links.items }
-    requires reaches { AreAllReached (IsKey explorer.now.image.now (length explorer.now.inputs.now) explorer.now.harts.parts.items
-        explorer.now.shareds.parts.items)
-        (place_of_key explorer.now.image.now (length explorer.now.inputs.now) explorer.now.harts.parts.items
-        explorer.now.shareds.parts.items) meant.now
-        (place_begun (started explorer.now.image.now explorer.now.inputs.now)) seen.now.keys }
-    requires edges { HaveEdges (place_of_key explorer.now.image.now (length explorer.now.inputs.now)
-        explorer.now.harts.parts.items explorer.now.shareds.parts.items) meant.now seen.now.keys seen.now.rows }
+    requires seen { AreAllSeen (IsKey explorer.now.known.image.now (length explorer.now.inputs.now) explorer.now.known.harts.parts.items
+        explorer.now.known.shareds.parts.items)
+        (place_of_key explorer.now.known.image.now (length explorer.now.inputs.now) explorer.now.known.harts.parts.items
+        explorer.now.known.shareds.parts.items)
+        (place_begun (started explorer.now.known.image.now explorer.now.inputs.now)) meant.now seen.now.keys seen.now.links.items }
+    requires reaches { AreAllReached (IsKey explorer.now.known.image.now (length explorer.now.inputs.now) explorer.now.known.harts.parts.items
+        explorer.now.known.shareds.parts.items)
+        (place_of_key explorer.now.known.image.now (length explorer.now.inputs.now) explorer.now.known.harts.parts.items
+        explorer.now.known.shareds.parts.items) meant.now
+        (place_begun (started explorer.now.known.image.now explorer.now.inputs.now)) seen.now.keys }
+    requires edges { HaveEdges (place_of_key explorer.now.known.image.now (length explorer.now.inputs.now)
+        explorer.now.known.harts.parts.items explorer.now.known.shareds.parts.items) meant.now seen.now.keys seen.now.rows }
     requires meant { MayAllStep meant.now (length explorer.now.inputs.now) }
-    ensures { IfOk result (λ bounds. AreBounds meant.now (started explorer.now.image.now explorer.now.inputs.now)
+    ensures { IfOk result (λ bounds. AreBounds meant.now (started explorer.now.known.image.now explorer.now.inputs.now)
         (length explorer.now.inputs.now) bounds.items) }
 {
     let steps = steps_of_turns(alloc, explorer, meant, &seen.keys)?;
@@ -68,20 +68,20 @@ pub fn asked_bounds<A: Allocator + Copy>(
     seen: &Seen<A>,
     asked: OwnBounds,
 ) -> Result<Vec<Bound, A>, AllocError>
-    requires seen { AreAllSeen (IsKey explorer.now.image.now (length explorer.now.inputs.now) explorer.now.harts.parts.items
-        explorer.now.shareds.parts.items)
-        (place_of_key explorer.now.image.now (length explorer.now.inputs.now) explorer.now.harts.parts.items
-        explorer.now.shareds.parts.items)
-        (place_begun (started explorer.now.image.now explorer.now.inputs.now)) meant.now seen.now.keys seen.now.links.items }
-    requires reaches { AreAllReached (IsKey explorer.now.image.now (length explorer.now.inputs.now) explorer.now.harts.parts.items
-        explorer.now.shareds.parts.items)
-        (place_of_key explorer.now.image.now (length explorer.now.inputs.now) explorer.now.harts.parts.items
-        explorer.now.shareds.parts.items) meant.now
-        (place_begun (started explorer.now.image.now explorer.now.inputs.now)) seen.now.keys }
-    requires edges { asked ≡ Asked → HaveEdges (place_of_key explorer.now.image.now (length explorer.now.inputs.now)
-        explorer.now.harts.parts.items explorer.now.shareds.parts.items) meant.now seen.now.keys seen.now.rows }
+    requires seen { AreAllSeen (IsKey explorer.now.known.image.now (length explorer.now.inputs.now) explorer.now.known.harts.parts.items
+        explorer.now.known.shareds.parts.items)
+        (place_of_key explorer.now.known.image.now (length explorer.now.inputs.now) explorer.now.known.harts.parts.items
+        explorer.now.known.shareds.parts.items)
+        (place_begun (started explorer.now.known.image.now explorer.now.inputs.now)) meant.now seen.now.keys seen.now.links.items }
+    requires reaches { AreAllReached (IsKey explorer.now.known.image.now (length explorer.now.inputs.now) explorer.now.known.harts.parts.items
+        explorer.now.known.shareds.parts.items)
+        (place_of_key explorer.now.known.image.now (length explorer.now.inputs.now) explorer.now.known.harts.parts.items
+        explorer.now.known.shareds.parts.items) meant.now
+        (place_begun (started explorer.now.known.image.now explorer.now.inputs.now)) seen.now.keys }
+    requires edges { asked ≡ Asked → HaveEdges (place_of_key explorer.now.known.image.now (length explorer.now.inputs.now)
+        explorer.now.known.harts.parts.items explorer.now.known.shareds.parts.items) meant.now seen.now.keys seen.now.rows }
     requires meant { MayAllStep meant.now (length explorer.now.inputs.now) }
-    ensures { IfOk result (λ bounds. AnswersBounds asked meant.now (started explorer.now.image.now explorer.now.inputs.now)
+    ensures { IfOk result (λ bounds. AnswersBounds asked meant.now (started explorer.now.known.image.now explorer.now.inputs.now)
         (length explorer.now.inputs.now) bounds.items) }
 {
     match asked {

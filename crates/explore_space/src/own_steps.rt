@@ -15,10 +15,10 @@ fn take_row<A: Allocator + Copy>(
     key: &[u32],
     row: &mut Vec<u32, A>,
 ) -> Result<(), AllocError>
-    requires { IsKey explorer.now.image.now (length explorer.now.inputs.now) explorer.now.harts.parts.items
-        explorer.now.shareds.parts.items key.now }
-    ensures { OnOk result (AreStepsFrom turns.now (place_of_key explorer.now.image.now (length explorer.now.inputs.now)
-        explorer.now.harts.parts.items explorer.now.shareds.parts.items key.now) row.new.items) }
+    requires { IsKey explorer.now.known.image.now (length explorer.now.inputs.now) explorer.now.known.harts.parts.items
+        explorer.now.known.shareds.parts.items key.now }
+    ensures { OnOk result (AreStepsFrom turns.now (place_of_key explorer.now.known.image.now (length explorer.now.inputs.now)
+        explorer.now.known.harts.parts.items explorer.now.known.shareds.parts.items key.now) row.new.items) }
 {
     row.clear();
     'turns: for turn in turns {
@@ -36,10 +36,10 @@ pub fn steps_of_turns<A: Allocator + Copy>(
     keys: &Table<A>,
 ) -> Result<Rows<A>, AllocError>
     requires { (k : ℕ) (key : List ℕ) → slice_get keys.now k ≡ Some key
-        → IsKey explorer.now.image.now (length explorer.now.inputs.now) explorer.now.harts.parts.items
-        explorer.now.shareds.parts.items key }
-    ensures { IfOk result (λ steps. HaveSteps (place_of_key explorer.now.image.now (length explorer.now.inputs.now)
-        explorer.now.harts.parts.items explorer.now.shareds.parts.items) turns.now keys.now steps) }
+        → IsKey explorer.now.known.image.now (length explorer.now.inputs.now) explorer.now.known.harts.parts.items
+        explorer.now.known.shareds.parts.items key }
+    ensures { IfOk result (λ steps. HaveSteps (place_of_key explorer.now.known.image.now (length explorer.now.inputs.now)
+        explorer.now.known.harts.parts.items explorer.now.known.shareds.parts.items) turns.now keys.now steps) }
 {
     let mut steps = Rows::new(alloc);
     let mut row = Vec::new(alloc);

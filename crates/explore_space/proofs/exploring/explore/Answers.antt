@@ -21,10 +21,10 @@ pub ends_at_keys-requires-clause-fit : goal.ends_at_keys-requires-clause-fit
 ends_at_keys-requires-clause-fit g c =
     let space = c.search.new.space in
     let n = length space.inputs.now in
-    let fit = all_fit c.args.question.expect.rule c.args.question.refusals c.args.image.now c.args.inputs.now space.image.now space.harts.parts.items
-    space.shareds.parts.items c.in-Safe.seen.keys n
-    (moved (λ m i l r f. SearchReaches (IsKey space.image.now n space.harts.parts.items space.shareds.parts.items)
-    (place_of_key space.image.now n space.harts.parts.items space.shareds.parts.items) m (place_begun (started i l)) f)
+    let fit = all_fit c.args.question.expect.rule c.args.question.refusals c.args.image.now c.args.inputs.now space.known.image.now space.known.harts.parts.items
+    space.known.shareds.parts.items c.in-Safe.seen.keys n
+    (moved (λ m i l r f. SearchReaches (IsKey space.known.image.now n space.known.harts.parts.items space.known.shareds.parts.items)
+    (place_of_key space.known.image.now n space.known.harts.parts.items space.known.shareds.parts.items) m (place_begun (started i l)) f)
     (c.deref.ensures.value ∙ c.in_ok-meant.ensures ∙ ap (meant_choices c.args.question.refusals) c.harts.ensures.harts) c.in_ok-explorer.ensures.image
     c.in_ok-explorer.ensures.inputs c.in_ok-explorer.ensures.rule c.in-Safe.is c.in_ok-seen.ensures.reaches) in
     rw c.words.ensures.same (rw c.known_harts.ensures fit)
@@ -33,7 +33,7 @@ pub stuck_turns-requires-clause-edges : goal.stuck_turns-requires-clause-edges
 stuck_turns-requires-clause-edges g c =
     let space = c.search.new.space in
     let n = length space.inputs.now in
-    let place = place_of_key space.image.now n space.harts.parts.items space.shareds.parts.items in
+    let place = place_of_key space.known.image.now n space.known.harts.parts.items space.known.shareds.parts.items in
     leads_where place c.args.question.expect.exit c.args.question.bounds c.edges_for-edges.ensures c.in-Safe.is (c.deref.ensures.value ∙ sym c.deref-in-Safe.ensures.value)
     c.in_ok-seen.ensures.leads
 
@@ -41,13 +41,13 @@ pub stuck_turns-requires-clause-seen : goal.stuck_turns-requires-clause-seen
 stuck_turns-requires-clause-seen g c =
     let space = c.search.new.space in
     let n = length space.inputs.now in
-    let keys = IsKey space.image.now n space.harts.parts.items space.shareds.parts.items in
-    let place = place_of_key space.image.now n space.harts.parts.items space.shareds.parts.items in
-    subst (λ (ms : List Choice). AreAllSeen keys place (place_begun (started space.image.now space.inputs.now)) ms c.in-Safe.seen.keys
+    let keys = IsKey space.known.image.now n space.known.harts.parts.items space.known.shareds.parts.items in
+    let place = place_of_key space.known.image.now n space.known.harts.parts.items space.known.shareds.parts.items in
+    subst (λ (ms : List Choice). AreAllSeen keys place (place_begun (started space.known.image.now space.inputs.now)) ms c.in-Safe.seen.keys
     c.in-Safe.seen.links.items) (c.deref.ensures.value ∙ sym c.deref-in-Safe.ensures.value)
     (subst (λ p. AreAllSeen keys place p c.deref.result.now c.in-Safe.seen.keys c.in-Safe.seen.links.items) (sym c.in_ok-seen.ensures.first)
     (subst (λ f. SearchSees keys place c.deref.result.now
-    (place_begun (started c.in_ok-explorer.explorer.image.now c.in_ok-explorer.explorer.inputs.now)) f) c.in-Safe.is
+    (place_begun (started c.in_ok-explorer.explorer.known.image.now c.in_ok-explorer.explorer.inputs.now)) f) c.in-Safe.is
     c.in_ok-seen.ensures.sees))
 
 pub returns-in-None-clause-holds : goal.returns-in-None-clause-holds
@@ -69,10 +69,10 @@ pub returns-in-None-clause-ends : goal.returns-in-None-clause-ends
 returns-in-None-clause-ends g c =
     let space = c.search.new.space in
     let n = length space.inputs.now in
-    ends_are_all c.args.question.expect.rule c.args.question.refusals c.args.image.now c.args.inputs.now space.image.now space.harts.parts.items
-    space.shareds.parts.items c.in-Safe.seen.keys n _
-    (moved (λ m i l r f. SearchReaches (IsKey space.image.now n space.harts.parts.items space.shareds.parts.items)
-    (place_of_key space.image.now n space.harts.parts.items space.shareds.parts.items) m (place_begun (started i l)) f)
+    ends_are_all c.args.question.expect.rule c.args.question.refusals c.args.image.now c.args.inputs.now space.known.image.now space.known.harts.parts.items
+    space.known.shareds.parts.items c.in-Safe.seen.keys n _
+    (moved (λ m i l r f. SearchReaches (IsKey space.known.image.now n space.known.harts.parts.items space.known.shareds.parts.items)
+    (place_of_key space.known.image.now n space.known.harts.parts.items space.known.shareds.parts.items) m (place_begun (started i l)) f)
     (c.deref.ensures.value ∙ c.in_ok-meant.ensures ∙ ap (meant_choices c.args.question.refusals) c.harts.ensures.harts) c.in_ok-explorer.ensures.image
     c.in_ok-explorer.ensures.inputs c.in_ok-explorer.ensures.rule c.in-Safe.is c.in_ok-seen.ensures.reaches)
     (moved (λ m i l r f. SearchAnswers m (place_begun (started i l)) (fails_there r l) f)
@@ -133,33 +133,33 @@ pub asked_bounds-requires-clause-seen : goal.asked_bounds-requires-clause-seen
 asked_bounds-requires-clause-seen g c =
     let space = c.search.new.space in
     let n = length space.inputs.now in
-    let keys = IsKey space.image.now n space.harts.parts.items space.shareds.parts.items in
-    let place = place_of_key space.image.now n space.harts.parts.items space.shareds.parts.items in
-    subst (λ (ms : List Choice). AreAllSeen keys place (place_begun (started space.image.now space.inputs.now)) ms c.in-Safe.seen.keys
+    let keys = IsKey space.known.image.now n space.known.harts.parts.items space.known.shareds.parts.items in
+    let place = place_of_key space.known.image.now n space.known.harts.parts.items space.known.shareds.parts.items in
+    subst (λ (ms : List Choice). AreAllSeen keys place (place_begun (started space.known.image.now space.inputs.now)) ms c.in-Safe.seen.keys
     c.in-Safe.seen.links.items) (c.deref.ensures.value ∙ sym c.deref-in-None.ensures.value)
     (subst (λ p. AreAllSeen keys place p c.deref.result.now c.in-Safe.seen.keys c.in-Safe.seen.links.items) (sym c.in_ok-seen.ensures.first)
     (subst (λ f. SearchSees keys place c.deref.result.now
-    (place_begun (started c.in_ok-explorer.explorer.image.now c.in_ok-explorer.explorer.inputs.now)) f) c.in-Safe.is
+    (place_begun (started c.in_ok-explorer.explorer.known.image.now c.in_ok-explorer.explorer.inputs.now)) f) c.in-Safe.is
     c.in_ok-seen.ensures.sees))
 
 pub asked_bounds-requires-clause-reaches : goal.asked_bounds-requires-clause-reaches
 asked_bounds-requires-clause-reaches g c =
     let space = c.search.new.space in
     let n = length space.inputs.now in
-    let keys = IsKey space.image.now n space.harts.parts.items space.shareds.parts.items in
-    let place = place_of_key space.image.now n space.harts.parts.items space.shareds.parts.items in
-    subst (λ (ms : List Choice). AreAllReached keys place ms (place_begun (started space.image.now space.inputs.now)) c.in-Safe.seen.keys)
+    let keys = IsKey space.known.image.now n space.known.harts.parts.items space.known.shareds.parts.items in
+    let place = place_of_key space.known.image.now n space.known.harts.parts.items space.known.shareds.parts.items in
+    subst (λ (ms : List Choice). AreAllReached keys place ms (place_begun (started space.known.image.now space.inputs.now)) c.in-Safe.seen.keys)
     (c.deref.ensures.value ∙ sym c.deref-in-None.ensures.value)
     (subst (λ p. AreAllReached keys place c.deref.result.now p c.in-Safe.seen.keys) (sym c.in_ok-seen.ensures.first)
     (subst (λ f. SearchReaches keys place c.deref.result.now
-    (place_begun (started c.in_ok-explorer.explorer.image.now c.in_ok-explorer.explorer.inputs.now)) f) c.in-Safe.is
+    (place_begun (started c.in_ok-explorer.explorer.known.image.now c.in_ok-explorer.explorer.inputs.now)) f) c.in-Safe.is
     c.in_ok-seen.ensures.reaches))
 
 pub asked_bounds-requires-clause-edges : goal.asked_bounds-requires-clause-edges
 asked_bounds-requires-clause-edges g c =
     let space = c.search.new.space in
     let n = length space.inputs.now in
-    let place = place_of_key space.image.now n space.harts.parts.items space.shareds.parts.items in
+    let place = place_of_key space.known.image.now n space.known.harts.parts.items space.known.shareds.parts.items in
     leads_asked place c.args.question.expect.exit c.args.question.bounds c.edges_for-edges.ensures c.in-Safe.is
     (c.deref.ensures.value ∙ sym c.deref-in-None.ensures.value) c.in_ok-seen.ensures.leads
 
@@ -167,10 +167,10 @@ pub asked_bounds-requires-clause-meant : goal.asked_bounds-requires-clause-meant
 asked_bounds-requires-clause-meant g c =
     let space = c.search.new.space in
     let n = length space.inputs.now in
-    let count = count_is c.args.question.expect.rule c.args.question.refusals c.args.image.now c.args.inputs.now space.image.now space.harts.parts.items
-    space.shareds.parts.items c.in-Safe.seen.keys n
-    (moved (λ m i l r f. SearchReaches (IsKey space.image.now n space.harts.parts.items space.shareds.parts.items)
-    (place_of_key space.image.now n space.harts.parts.items space.shareds.parts.items) m (place_begun (started i l)) f)
+    let count = count_is c.args.question.expect.rule c.args.question.refusals c.args.image.now c.args.inputs.now space.known.image.now space.known.harts.parts.items
+    space.known.shareds.parts.items c.in-Safe.seen.keys n
+    (moved (λ m i l r f. SearchReaches (IsKey space.known.image.now n space.known.harts.parts.items space.known.shareds.parts.items)
+    (place_of_key space.known.image.now n space.known.harts.parts.items space.known.shareds.parts.items) m (place_begun (started i l)) f)
     (c.deref.ensures.value ∙ c.in_ok-meant.ensures ∙ ap (meant_choices c.args.question.refusals) c.harts.ensures.harts) c.in_ok-explorer.ensures.image
     c.in_ok-explorer.ensures.inputs c.in_ok-explorer.ensures.rule c.in-Safe.is c.in_ok-seen.ensures.reaches) in
     moved_may (c.deref-in-None.ensures.value ∙ c.in_ok-meant.ensures ∙ ap (meant_choices c.args.question.refusals) c.harts.ensures.harts) count
@@ -180,10 +180,10 @@ pub returns-in-None-clause-bounds : goal.returns-in-None-clause-bounds
 returns-in-None-clause-bounds g c =
     let space = c.search.new.space in
     let n = length space.inputs.now in
-    let count = count_is c.args.question.expect.rule c.args.question.refusals c.args.image.now c.args.inputs.now space.image.now space.harts.parts.items
-    space.shareds.parts.items c.in-Safe.seen.keys n
-    (moved (λ m i l r f. SearchReaches (IsKey space.image.now n space.harts.parts.items space.shareds.parts.items)
-    (place_of_key space.image.now n space.harts.parts.items space.shareds.parts.items) m (place_begun (started i l)) f)
+    let count = count_is c.args.question.expect.rule c.args.question.refusals c.args.image.now c.args.inputs.now space.known.image.now space.known.harts.parts.items
+    space.known.shareds.parts.items c.in-Safe.seen.keys n
+    (moved (λ m i l r f. SearchReaches (IsKey space.known.image.now n space.known.harts.parts.items space.known.shareds.parts.items)
+    (place_of_key space.known.image.now n space.known.harts.parts.items space.known.shareds.parts.items) m (place_begun (started i l)) f)
     (c.deref.ensures.value ∙ c.in_ok-meant.ensures ∙ ap (meant_choices c.args.question.refusals) c.harts.ensures.harts) c.in_ok-explorer.ensures.image
     c.in_ok-explorer.ensures.inputs c.in_ok-explorer.ensures.rule c.in-Safe.is c.in_ok-seen.ensures.reaches) in
     moved_bounds c.args.question.bounds c.in_ok-bounds-in-None.bounds.items

@@ -12,9 +12,9 @@ steps_of_turns-requires g c = c.requires.seen.reached.are
 pub own_bound-requires-clause-some : goal.own_bound-requires-clause-some
 own_bound-requires-clause-some g c =
     let e = c.args.explorer.now in
-    some_rows (IsKey e.image.now (length e.inputs.now) e.harts.parts.items e.shareds.parts.items)
-    (place_of_key e.image.now (length e.inputs.now) e.harts.parts.items e.shareds.parts.items)
-    (place_begun (started e.image.now e.inputs.now)) c.args.meant.now c.args.seen.now.keys c.args.seen.now.links.items
+    some_rows (IsKey e.known.image.now (length e.inputs.now) e.known.harts.parts.items e.known.shareds.parts.items)
+    (place_of_key e.known.image.now (length e.inputs.now) e.known.harts.parts.items e.known.shareds.parts.items)
+    (place_begun (started e.known.image.now e.inputs.now)) c.args.meant.now c.args.seen.now.keys c.args.seen.now.links.items
     c.args.seen.now.rows c.requires.seen c.requires.edges
 
 pub own_bound-requires-clause-rows : goal.own_bound-requires-clause-rows
@@ -35,9 +35,9 @@ own_bound-requires-clause-even g c =
 pub harts-preserved : goal.harts-preserved
 harts-preserved g c =
     let e = c.args.explorer.now in
-    let keys = IsKey e.image.now (length e.inputs.now) e.harts.parts.items e.shareds.parts.items in
-    let place = place_of_key e.image.now (length e.inputs.now) e.harts.parts.items e.shareds.parts.items in
-    let first = started e.image.now e.inputs.now in
+    let keys = IsKey e.known.image.now (length e.inputs.now) e.known.harts.parts.items e.known.shareds.parts.items in
+    let place = place_of_key e.known.image.now (length e.inputs.now) e.known.harts.parts.items e.known.shareds.parts.items in
+    let first = started e.known.image.now e.inputs.now in
     let low = c.harts-test.true in
     let count = c.harts-hart-end.ensures in
     record {

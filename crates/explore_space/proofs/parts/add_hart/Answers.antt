@@ -3,8 +3,11 @@ use Rattle.std.proofs.lemmas.Bool.Decides.{when_false}
 use Rattle.std.proofs.lemmas.Option.{slice_get_read}
 use Rattle.hart_step.specs.Hart.{hart_of}
 use Rattle.hart_step.specs.declared.hart.Hart.{Hart}
-use Rattle.explore_space.proofs.SameLemmas.{all_so_far, apart_more}
+use Rattle.explore_space.proofs.SameLemmas.{all_so_far, apart_more, none_so_far}
 use Rattle.explore_space.proofs.parts.add_hart.Goals as goal
+
+pub harts-init : goal.harts-init
+harts-init g c = none_so_far (λ (known : Hart). hart_of known ≢ hart_of c.args.hart) c.args.harts.now.items
 
 pub harts-preserved : goal.harts-preserved
 harts-preserved g c =

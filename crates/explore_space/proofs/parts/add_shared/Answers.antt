@@ -1,8 +1,11 @@
 use Rattle.std.proofs.Common.{length, refl, arith}
 use Rattle.std.proofs.lemmas.Option.{slice_get_read}
 use Rattle.explore_space.specs.Places.{AreUnlike}
-use Rattle.explore_space.proofs.SameLemmas.{all_so_far, apart_more}
+use Rattle.explore_space.proofs.SameLemmas.{all_so_far, apart_more, none_so_far}
 use Rattle.explore_space.proofs.parts.add_shared.Goals as goal
+
+pub shareds-init : goal.shareds-init
+shareds-init g c = none_so_far (λ known. AreUnlike c.args.image.now known c.args.shared) c.args.shareds.now.items
 
 pub shareds-preserved : goal.shareds-preserved
 shareds-preserved g c =

@@ -3,9 +3,3 @@ use Rattle.explore_space.proofs.explorer.ExplorerSpace.first_key.Goals as goal
 
 pub returns-clause-differ : goal.returns-clause-differ
 returns-clause-differ g c = keys_differ _ _ _ _
-
-pub returns-in_err-self-clause-differ : goal.returns-in_err-self-clause-differ
-returns-in_err-self-clause-differ g c = keys_differ _ _ _ _
-
-pub returns-in_err-self-2-clause-differ : goal.returns-in_err-self-2-clause-differ
-returns-in_err-self-2-clause-differ g c = keys_differ _ _ _ _
