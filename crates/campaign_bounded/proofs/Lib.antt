@@ -1,0 +1,6 @@
+pub mod AmongLemmas
+pub mod RunningLemmas
+pub mod BoundedLemmas
+pub mod WalkLemmas
+pub mod FairLemmas
+pub mod SkipLemmas
