@@ -4,3 +4,4 @@ pub mod BoundedLemmas
 pub mod WalkLemmas
 pub mod FairLemmas
 pub mod SkipLemmas
+pub mod DistinctLemmas

@@ -53,7 +53,8 @@ from_each lists (g ∷ more) = flat_map (λ h. from_hart h (lists h)) (g ∷ mor
 unfoldable pub bounded : ℕ → ℕ → ℕ → World → Option ℕ → List (List Choice)
 bounded harts zero k w last = [] ∷ []
 bounded harts (suc m) k w last =
-    from_each (λ g. bounded harts m (k - preemption w last g) (step w (plain_choice g)) (Some g)) (nexts harts k w last)
+    from_each (λ g. bounded harts m (k - preemption w last g) (step w (plain_choice g)) (Some g))
+    (nexts harts k w last)
 
 -- those of a run from its first world on
 abbrev pub schedules : ℕ → ℕ → ℕ → World → List (List Choice)

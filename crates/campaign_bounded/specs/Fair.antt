@@ -8,7 +8,8 @@ use Rattle.campaign_bounded.specs.Walk.{Led}
 
 -- one choice more
 abbrev pub led_by_turn : Led → Choice → Led
-led_by_turn led choice = record { choices = led.choices ++ choice ∷ []; world = step led.world choice }
+led_by_turn led choice =
+    record { choices = led.choices ++ choice ∷ []; world = step led.world choice }
 
 -- n steps more, of so many harts in turn
 abbrev pub led_by_turns : ℕ → ℕ → Led → Led

@@ -1,5 +1,6 @@
 -- Steps from place to place in the tree of schedules.
-use Rattle.std.specs.Prelude.{◌≡◌, ℕ, ◌+◌, ◌-◌, Bool, true, false, List, [], ◌∷◌, ◌++◌, Option, Some, None}
+use Rattle.std.specs.Prelude.{◌≡◌, ℕ, ◌+◌, ◌-◌, Bool, true, false}
+use Rattle.std.specs.Prelude.{List, [], ◌∷◌, ◌++◌, Option, Some, None}
 use Rattle.std.specs.List.{filter}
 use Rattle.mem_store.specs.Memory.{Memory}
 use Rattle.machine.specs.World.{step}
@@ -39,6 +40,7 @@ Branches true p q old new = (through q ++ new ≡ through p ++ old) × (q.choice
 Branches false p q old new = (nexts_at p ≡ []) × (q ≡ p) × (new ≡ old)
 
 -- the first of the schedules that were left is given, or none was left
-abbrev pub GivesNext : {S Z : Type 0} → (S → Memory) → Option (Schedule S Z) → List Led → List Led → Type 0
+abbrev pub GivesNext :
+    {S Z : Type 0} → (S → Memory) → Option (Schedule S Z) → List Led → List Led → Type 0
 GivesNext memory None old new = (old ≡ []) × (new ≡ [])
 GivesNext memory (Some schedule) old new = old ≡ led_of memory schedule ∷ new

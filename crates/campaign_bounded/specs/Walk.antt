@@ -16,7 +16,8 @@ pub record Led : Type 0 where
 
 -- lists with the worlds that they lead to, behind choices that have led to a world
 abbrev pub led_behind : List Choice → World → List (List Choice) → List Led
-led_behind before w lists = map (λ list. record { choices = before ++ list; world = run w list }) lists
+led_behind before w lists =
+    map (λ list. record { choices = before ++ list; world = run w list }) lists
 
 -- lists with the worlds that they lead to from a first world
 abbrev pub led_from : World → List (List Choice) → List Led
@@ -34,7 +35,8 @@ pub record Spot : Type 0 where
 
 -- the schedules through a place
 abbrev pub through : Spot → List Led
-through p = led_behind p.before p.world (bounded p.harts p.choices p.preemptions p.world p.last)
+through p =
+    led_behind p.before p.world (bounded p.harts p.choices p.preemptions p.world p.last)
 
 -- a node's place
 abbrev pub spot_of : {S Z : Type 0} → (S → Memory) → Node S Z → Spot
@@ -62,4 +64,5 @@ schedules_left memory walk = through_nodes memory walk.nodes.items
 
 -- a schedule, and the world that it led to
 abbrev pub led_of : {S Z : Type 0} → (S → Memory) → Schedule S Z → Led
-led_of memory schedule = record { choices = schedule.choices.items; world = world memory schedule.machine }
+led_of memory schedule =
+    record { choices = schedule.choices.items; world = world memory schedule.machine }

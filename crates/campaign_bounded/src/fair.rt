@@ -22,7 +22,8 @@ impl<S: Store, A: Allocator> Schedule<S, A> {
     /// only error is out of memory.
     pub fn end_fairly(&mut self, harts: u32, steps: u64) -> Result<(), AllocError>
         requires { 0 < harts }
-        ensures { OnOk result (led_of S.memory self.new ≡ fair_end harts steps (led_of S.memory self.old)) }
+        ensures { OnOk result (led_of S.memory self.new
+            ≡ fair_end harts steps (led_of S.memory self.old)) }
     {
         if some_run(self.machine.ends()) {
             self.take_turns(harts, steps)?;
@@ -33,7 +34,8 @@ impl<S: Store, A: Allocator> Schedule<S, A> {
     // Takes steps of the harts in turn.
     fn take_turns(&mut self, harts: u32, steps: u64) -> Result<(), AllocError>
         requires { 0 < harts }
-        ensures { OnOk result (led_of S.memory self.new ≡ led_by_turns harts steps (led_of S.memory self.old)) }
+        ensures { OnOk result (led_of S.memory self.new
+            ≡ led_by_turns harts steps (led_of S.memory self.old)) }
     {
         'turns: for turn in 0..steps {
             self.take_turn((turn % u64::from(harts)) as u32)?;
@@ -43,7 +45,8 @@ impl<S: Store, A: Allocator> Schedule<S, A> {
 
     // Takes a step of a hart.
     fn take_turn(&mut self, hart: u32) -> Result<(), AllocError>
-        ensures { OnOk result (led_of S.memory self.new ≡ led_by_turn (led_of S.memory self.old) (plain_choice hart)) }
+        ensures { OnOk result (led_of S.memory self.new
+            ≡ led_by_turn (led_of S.memory self.old) (plain_choice hart)) }
     {
         let choice = Choice {
             hart,

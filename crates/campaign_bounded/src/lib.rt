@@ -1,7 +1,10 @@
 //! Every schedule of a program with a bounded number of preemptions, one after another.
 #![tactic(auto)]
 
-pub use laws::{each_list_begins_a_schedule, idle_choices_do_nothing, schedules_are_bounded};
+pub use laws::{
+    each_list_begins_a_schedule, each_schedule_is_one, idle_choices_do_nothing,
+    schedules_are_bounded,
+};
 pub use schedule::Schedule;
 pub use schedules::Schedules;
 

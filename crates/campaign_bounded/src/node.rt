@@ -63,7 +63,8 @@ impl<S: Store, A: Allocator> Node<S, A> {
 
     /// Whether another hart, this one, may take over.
     pub(crate) fn may_take_over(&self, hart: u32) -> bool
-        ensures { result ≡ may_take_over self.now.preemptions (world S.memory self.now.machine) self.now.last hart }
+        ensures { result ≡ may_take_over self.now.preemptions (world S.memory self.now.machine)
+            self.now.last hart }
     {
         runs(self.machine.ends(), hart)
             && !self.is_last(hart)
@@ -73,11 +74,12 @@ impl<S: Store, A: Allocator> Node<S, A> {
     /// The first other hart that may take over.
     #[tactic(auto, using(crate::proofs::WalkLemmas::dropped, crate::proofs::WalkLemmas::found, crate::proofs::WalkLemmas::all_dropped))]
     pub(crate) fn first_other(&self) -> Option<u32>
-        ensures none { IfNone result (others self.now.harts self.now.preemptions (world S.memory self.now.machine)
-            self.now.last ≡ []) }
+        ensures none { IfNone result (others self.now.harts self.now.preemptions
+            (world S.memory self.now.machine) self.now.last ≡ []) }
         ensures some { IfSome result (λ hart. (hart < self.now.harts)
-            × (others self.now.harts self.now.preemptions (world S.memory self.now.machine) self.now.last
-            ≡ hart ∷ filter (may_take_over self.now.preemptions (world S.memory self.now.machine) self.now.last)
+            × (others self.now.harts self.now.preemptions (world S.memory self.now.machine)
+            self.now.last ≡ hart ∷ filter (may_take_over self.now.preemptions
+            (world S.memory self.now.machine) self.now.last)
             (range_with_len (hart + 1) (self.now.harts - (hart + 1))))) }
     {
         'harts: for hart in 0..self.harts {
@@ -99,8 +101,10 @@ impl<S: Store, A: Allocator> Node<S, A> {
     pub(crate) fn take(&mut self, hart: u32) -> Result<(), AllocError>
         requires left { 0 < self.old.choices }
         requires runs { runs (world S.memory self.old.machine).harts hart ≡ true }
-        requires few { preemption (world S.memory self.old.machine) self.old.last hart ≤ self.old.preemptions }
-        ensures { OnOk result (spot_of S.memory self.new ≡ after_step (spot_of S.memory self.old) hart) }
+        requires few { preemption (world S.memory self.old.machine) self.old.last hart
+            ≤ self.old.preemptions }
+        ensures { OnOk result (spot_of S.memory self.new
+            ≡ after_step (spot_of S.memory self.old) hart) }
     {
         let choice = Choice {
             hart,
@@ -135,8 +139,10 @@ impl<S: FromImage<A>, A: Allocator + Copy> Node<S, A> {
     pub(crate) fn after(&self, alloc: A, hart: u32) -> Result<Self, AllocError>
         requires left { 0 < self.now.choices }
         requires runs { runs (world S.memory self.now.machine).harts hart ≡ true }
-        requires few { preemption (world S.memory self.now.machine) self.now.last hart ≤ self.now.preemptions }
-        ensures { IfOk result (λ node. spot_of S.memory node ≡ after_step (spot_of S.memory self.now) hart) }
+        requires few { preemption (world S.memory self.now.machine) self.now.last hart
+            ≤ self.now.preemptions }
+        ensures { IfOk result (λ node. spot_of S.memory node
+            ≡ after_step (spot_of S.memory self.now) hart) }
     {
         let mut node = self.copy(alloc)?;
         node.take(hart)?;

@@ -33,7 +33,8 @@ impl<S: FromImage<A>, A: Allocator + Copy> Schedules<S, A> {
         preemptions: u32,
     ) -> Result<Self, AllocError>
         ensures { IfOk result (λ walk. schedules_left S.memory walk
-            ≡ led_from (world S.memory start) (schedules harts choices preemptions (world S.memory start))) }
+            ≡ led_from (world S.memory start)
+            (schedules harts choices preemptions (world S.memory start))) }
     {
         let mut nodes = Vec::new(alloc);
         nodes.push(Node {
@@ -50,7 +51,8 @@ impl<S: FromImage<A>, A: Allocator + Copy> Schedules<S, A> {
     /// The next schedule; `None` once all were given. The only error is out of memory.
     #[tactic(auto, using(crate::proofs::WalkLemmas::next_given, crate::proofs::WalkLemmas::none_given))]
     pub fn next(&mut self, alloc: A) -> Result<Option<Schedule<S, A>>, AllocError>
-        ensures { IfOk result (λ next. GivesNext S.memory next (schedules_left S.memory self.old) (schedules_left S.memory self.new)) }
+        ensures { IfOk result (λ next. GivesNext S.memory next (schedules_left S.memory self.old)
+            (schedules_left S.memory self.new)) }
     {
         match self.nodes.pop() {
             None => Ok(None),
@@ -61,10 +63,12 @@ impl<S: FromImage<A>, A: Allocator + Copy> Schedules<S, A> {
         }
     }
 
-    /// Leaves out the next `count` schedules, or all that are left. The only error is out of memory.
+    /// Leaves out the next `count` schedules, or all that are left. The only error is out of
+    /// memory.
     #[tactic(auto, using(crate::proofs::SkipLemmas::skipped_one, crate::proofs::SkipLemmas::skipped_all))]
     pub fn skip(&mut self, alloc: A, count: u64) -> Result<(), AllocError>
-        ensures { OnOk result (schedules_left S.memory self.new ≡ drop count (schedules_left S.memory self.old)) }
+        ensures { OnOk result (schedules_left S.memory self.new
+            ≡ drop count (schedules_left S.memory self.old)) }
     {
         'skipped: for _done in 0..count {
             let Some(_schedule) = self.next(alloc)? else {
@@ -77,7 +81,8 @@ impl<S: FromImage<A>, A: Allocator + Copy> Schedules<S, A> {
     // The first schedule through a node; the others are kept.
     #[tactic(auto, using(crate::proofs::WalkLemmas::goes_on_after, crate::proofs::WalkLemmas::given_early, crate::proofs::WalkLemmas::given_last))]
     fn finish(&mut self, alloc: A, node: Node<S, A>) -> Result<Schedule<S, A>, AllocError>
-        ensures { IfOk result (λ schedule. led_of S.memory schedule ∷ schedules_left S.memory self.new
+        ensures { IfOk result (λ schedule.
+            led_of S.memory schedule ∷ schedules_left S.memory self.new
             ≡ through (spot_of S.memory node) ++ schedules_left S.memory self.old) }
     {
         let mut node = node;
@@ -100,8 +105,9 @@ impl<S: FromImage<A>, A: Allocator + Copy> Schedules<S, A> {
     #[tactic(auto, using(crate::proofs::WalkLemmas::branched_first, crate::proofs::WalkLemmas::branched_itself, crate::proofs::WalkLemmas::taken_none, crate::proofs::WalkLemmas::first_runs, crate::proofs::WalkLemmas::itself_runs))]
     fn branch(&mut self, alloc: A, node: &mut Node<S, A>) -> Result<bool, AllocError>
         requires { 0 < node.old.choices }
-        ensures { IfOk result (λ more. Branches more (spot_of S.memory node.old) (spot_of S.memory node.new)
-            (schedules_left S.memory self.old) (schedules_left S.memory self.new)) }
+        ensures { IfOk result (λ more. Branches more (spot_of S.memory node.old)
+            (spot_of S.memory node.new) (schedules_left S.memory self.old)
+            (schedules_left S.memory self.new)) }
     {
         match node.first_other() {
             Some(first) => {
@@ -126,7 +132,8 @@ impl<S: FromImage<A>, A: Allocator + Copy> Schedules<S, A> {
         requires { 0 < node.now.choices }
         ensures { OnOk result (schedules_left S.memory self.new
             ≡ flat_map (λ hart. through (after_step (spot_of S.memory node.now) hart))
-            (itself (world S.memory node.now.machine) node.now.last) ++ schedules_left S.memory self.old) }
+            (itself (world S.memory node.now.machine) node.now.last)
+            ++ schedules_left S.memory self.old) }
     {
         if let Some(last) = node.itself() {
             let after = node.after(alloc, last)?;
@@ -157,7 +164,8 @@ impl<S: FromImage<A>, A: Allocator + Copy> Schedules<S, A> {
         requires there { from ≤ node.now.harts }
         ensures { OnOk result (schedules_left S.memory self.new
             ≡ flat_map (λ hart. through (after_step (spot_of S.memory node.now) hart))
-            (filter (may_take_over node.now.preemptions (world S.memory node.now.machine) node.now.last)
+            (filter (may_take_over node.now.preemptions (world S.memory node.now.machine)
+            node.now.last)
             (range_with_len from (node.now.harts - from))) ++ schedules_left S.memory self.old) }
     {
         'harts: for back in 0..node.harts - from {
