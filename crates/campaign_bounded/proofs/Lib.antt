@@ -1,0 +1,7 @@
+pub mod AmongLemmas
+pub mod RunningLemmas
+pub mod BoundedLemmas
+pub mod WalkLemmas
+pub mod FairLemmas
+pub mod SkipLemmas
+pub mod DistinctLemmas

@@ -1,0 +1,7 @@
+//! Tests of schedules with a bounded number of preemptions: `campaign_bounded`.
+#![tactic(auto)]
+
+#[cfg(test)]
+mod force_tests;
+#[cfg(test)]
+mod refusal_tests;
