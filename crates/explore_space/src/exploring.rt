@@ -2,13 +2,18 @@
 ghost use Rattle.std.specs.Prelude.{◌≡◌, IfOk, length};
 ghost use Rattle.machine.specs.Start.{started};
 ghost use Rattle.explore_laws.specs.Places.{place_begun};
+ghost use Rattle.explore_laws.specs.Safe.{IsSafe};
 ghost use Rattle.explore_laws.specs.Settling.{turns_choices};
 ghost use Rattle.outcome.specs.declared.expect.Exit.TheVariants.{Must};
 ghost use Rattle.explore_search.specs.Edges.{HaveEdges};
+ghost use Rattle.explore_search.specs.Answers.{AreAllReached};
+ghost use Rattle.explore_search.specs.Counted.{HasPlaces};
 ghost use Rattle.explore_search.specs.Marked.{AreAllSeen};
 ghost use Rattle.explore_space.specs.Bounds.{TellsBounds};
 ghost use Rattle.explore_space.specs.Places.{IsKey, place_of_key};
-ghost use Rattle.explore_space.specs.Every.{HoldsOfEvery, CountsPlaces, TellsEnds, TellsExits};
+ghost use Rattle.explore_space.specs.Every.{HoldsOfEvery, CountsPlaces, TellsEnds, TellsExits, meant_choices};
+ghost use Rattle.explore_space.specs.Failing.{fails_there};
+ghost use Rattle.explore_space.specs.declared.own_bounds.OwnBounds.TheVariants.{Asked};
 ghost use Rattle.explore_space.specs.Stuck.{AnswersExit, edges_for};
 
 use crate::ending::ends_at_keys;
@@ -111,6 +116,62 @@ fn choices_and_turns<A: Allocator + Copy>(
     })
 }
 
+// What is said where a search has found no list that fails: a list that hangs, if that is asked for
+// and there is one, or how the runs end, and the bounds.
+fn safe_answer<A: Allocator + Copy>(
+    alloc: A,
+    image: &Image<A>,
+    inputs: &Inputs,
+    explorer: &Explorer<A>,
+    meant: &[Choice],
+    seen: &Seen<A>,
+    question: Question,
+) -> Result<Answer<A>, AllocError>
+    requires meant { meant.now ≡ meant_choices question.refusals (length inputs.now) }
+    requires first { place_begun (started explorer.now.known.image.now explorer.now.inputs.now)
+        ≡ place_begun (started image.now inputs.now) }
+    requires safe { IsSafe meant.now (place_begun (started image.now inputs.now))
+        (fails_there question.expect.rule inputs.now) }
+    requires counts { HasPlaces meant.now (place_begun (started image.now inputs.now)) (length seen.now.keys) }
+    requires seen { AreAllSeen (IsKey explorer.now.known.image.now (length explorer.now.inputs.now) explorer.now.known.harts.parts.items
+        explorer.now.known.shareds.parts.items)
+        (place_of_key explorer.now.known.image.now (length explorer.now.inputs.now) explorer.now.known.harts.parts.items
+        explorer.now.known.shareds.parts.items)
+        (place_begun (started explorer.now.known.image.now explorer.now.inputs.now)) meant.now seen.now.keys seen.now.links.items }
+    requires reaches { AreAllReached (IsKey explorer.now.known.image.now (length explorer.now.inputs.now) explorer.now.known.harts.parts.items
+        explorer.now.known.shareds.parts.items)
+        (place_of_key explorer.now.known.image.now (length explorer.now.inputs.now) explorer.now.known.harts.parts.items
+        explorer.now.known.shareds.parts.items) meant.now
+        (place_begun (started explorer.now.known.image.now explorer.now.inputs.now)) seen.now.keys }
+    requires exit_edges { question.expect.exit ≡ Must → HaveEdges (place_of_key explorer.now.known.image.now
+        (length explorer.now.inputs.now) explorer.now.known.harts.parts.items explorer.now.known.shareds.parts.items)
+        meant.now seen.now.keys seen.now.rows }
+    requires bound_edges { question.bounds ≡ Asked → HaveEdges (place_of_key explorer.now.known.image.now
+        (length explorer.now.inputs.now) explorer.now.known.harts.parts.items explorer.now.known.shareds.parts.items)
+        meant.now seen.now.keys seen.now.rows }
+    ensures holds { IfOk result (λ answer. HoldsOfEvery question.expect.rule question.refusals image.now inputs.now answer) }
+    ensures places { IfOk result (λ answer. CountsPlaces question.refusals image.now inputs.now question.most answer) }
+    ensures ends { IfOk result (λ answer. TellsEnds question.expect.rule question.refusals image.now inputs.now answer) }
+    ensures exits { IfOk result (λ answer. TellsExits question.expect.exit question.refusals image.now inputs.now answer) }
+    ensures bounds { IfOk result (λ answer. TellsBounds question.bounds question.refusals image.now inputs.now answer) }
+{
+    let expect = question.expect;
+    match stuck_turns(alloc, explorer, meant, seen, expect.exit)? {
+        Some(turns) => Ok(Answer::Hangs(choices_and_turns(alloc, image, inputs, &turns)?)),
+        None => {
+            let places = seen.keys.len();
+            let harts = explorer.known_harts();
+            let ends = ends_at_keys(alloc, harts, inputs.words(), expect.rule, &seen.keys)?;
+            let bounds = asked_bounds(alloc, explorer, meant, seen, question.bounds)?;
+            Ok(Answer::Holds(Held {
+                places,
+                ends,
+                bounds,
+            }))
+        }
+    }
+}
+
 /// Whether a list of the harts' choices, of any length, leads a program with these inputs to a
 /// failure: a broken rule, or without a rule a hart that has faulted. None does; or one does, which
 /// is given; or turns reach more places than may be looked at. Where each hart must exit and none
@@ -136,25 +197,7 @@ pub fn explore<A: Allocator + Copy>(
     let edges = edges_for(expect.exit, question.bounds);
     match search(alloc, &mut explorer, &meant, question.most, edges, progress)? {
         Found::Safe(seen) => {
-            let places = seen.keys.len();
-            let ends = ends_at_keys(
-                alloc,
-                explorer.known_harts(),
-                inputs.words(),
-                expect.rule,
-                &seen.keys,
-            )?;
-            match stuck_turns(alloc, &explorer, &meant, &seen, expect.exit)? {
-                None => {
-                    let bounds = asked_bounds(alloc, &explorer, &meant, &seen, question.bounds)?;
-                    Ok(Answer::Holds(Held {
-                        places,
-                        ends,
-                        bounds,
-                    }))
-                }
-                Some(turns) => Ok(Answer::Hangs(choices_and_turns(alloc, image, inputs, &turns)?)),
-            }
+            safe_answer(alloc, image, inputs, &explorer, &meant, &seen, question)
         }
         Found::Bad(turns) => Ok(Answer::Fails(choices_and_turns(alloc, image, inputs, &turns)?)),
         Found::Undecided => Ok(Answer::Undecided),
