@@ -17,6 +17,15 @@ ROWS = [
 ]  # fmt: skip
 
 
+# A campaign of amo.s that breaks a property, and what is told behind it.
+CAMPAIGN = ["campaign", "a.elf", "--inputs", "2,2", "--first", "5", "--count", "1", "--steps", "300", "--always", "counter < 2"]
+HINT = (
+    "seed 5 is the first such one. To look into it:\n"
+    "    rvcons debug a.elf --inputs 2,2 --seed 5 --steps 300\n"
+    "    rvcons run a.elf --inputs 2,2 --seed 5 --steps 300 --always 'counter < 2'\n"
+)
+
+
 def properties():
     """Where the harts stood, or what the word was, is told where a run breaks a property."""
     subprocess.run([PROGRAM, "asm", "--out", "a.elf", f"{TOP}/examples/counter/amo.s"], check=True, timeout=ENDLESS)
@@ -24,3 +33,5 @@ def properties():
         words = ["run", "a.elf", "--inputs", "2,2", "--list", "0*4 1*5", *asked]
         check(f"a property {asked} through a pipe", through_pipe(words)[0], "")
         check(f"a property {asked} at a terminal", at_terminal(words), told)
+    check("a campaign's property through a pipe", through_pipe(CAMPAIGN)[0], "")
+    check("a campaign's property at a terminal", at_terminal(CAMPAIGN)[-len(HINT):], HINT)

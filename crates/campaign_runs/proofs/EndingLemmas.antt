@@ -42,13 +42,16 @@ outcome_itself a =
 pub endings_equal : (a b : EndingValue) → same_ending a b ≡ true → a ≡ b
 endings_equal a b same =
     let parts = and_parts _ _ same in
+    let others = and_parts _ _ parts.0 in
     λ i. record {
-      outcome = outcomes_equal a.outcome b.outcome parts.0 i;
+      outcome = outcomes_equal a.outcome b.outcome others.0 i;
+      properties = verdicts_equal a.properties b.properties others.1 i;
       words = (bytes_eq-Decides a.words b.words).0 parts.1 i;
     }
 
 pub ending_itself : (a : EndingValue) → same_ending a a ≡ true
-ending_itself a = and_from _ _ (outcome_itself a.outcome) ((bytes_eq-Decides a.words a.words).1 refl)
+ending_itself a =
+    and_from _ _ (and_from _ _ (outcome_itself a.outcome) (verdict_itself a.properties)) ((bytes_eq-Decides a.words a.words).1 refl)
 
 pub same_from_equal : (a b : EndingValue) → a ≡ b → same_ending a b ≡ true
 same_from_equal a b equal = ap (same_ending a) (sym equal) ∙ ending_itself a

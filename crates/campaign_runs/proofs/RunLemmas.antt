@@ -17,7 +17,10 @@ use Rattle.machine.proofs.RunLaws.{length-started}
 use Rattle.sched_draw.specs.Schedules.{drawn_choices, RanOver}
 use Rattle.outcome.specs.Expect.{judged}
 use Rattle.outcome.specs.declared.run_outcome.Outcome.{Outcome}
+use Rattle.property_judge.specs.Judged.{judged_run}
+use Rattle.property_judge.specs.declared.judged.Judged.{Judged}
 use Rattle.campaign_runs.specs.Ending.{EndingValue, ending_with}
+use Rattle.campaign_runs.specs.Properties.{judged_over, unjudged}
 use Rattle.campaign_runs.specs.Runs.{SeedEnding, seed_ending, ending_after, ending_from, endings_of}
 use Rattle.campaign_runs.specs.declared.campaign.Campaign.{Campaign}
 use Rattle.campaign_runs.specs.declared.seed_run.SeedEnd.{SeedEnd}
@@ -26,22 +29,40 @@ use Rattle.campaign_runs.specs.declared.seed_run.SeedEnd.{SeedEnd}
 pub harts-started : (w : World) (image : ImageValue) (inputs : List ℕ) → w ≡ started image inputs → length w.harts ≡ length inputs
 harts-started w image inputs begun = ap (λ (v : World). length v.harts) begun ∙ length-started image inputs
 
--- the ending of a copy's run
+-- the parts of an ending
+same_parts : (campaign : Campaign) (outcome says : Outcome) (js judged_too : List Judged) (left harts : List HartValue)
+    → outcome ≡ says → js ≡ judged_too → left ≡ harts
+    → ending_with campaign.report outcome js left ≡ ending_with campaign.report says judged_too harts
+same_parts campaign outcome says js judged_too left harts so judges rest =
+    ap (λ o. ending_with campaign.report o js left) so
+    ∙ ap (λ each. ending_with campaign.report says each left) judges
+    ∙ ap (λ hs. ending_with campaign.report says judged_too hs) rest
+
+-- the ending of a copy's run, where there is no property
 pub ending-copied : (campaign : Campaign) (inputs : List ℕ) (seed : ℕ) (start v w : World) (chosen : ℕ → Bool) (outcome : Outcome)
-    (harts left : List HartValue) (ending : EndingValue)
+    (harts left : List HartValue) (ending : EndingValue) → unjudged campaign.properties ≡ []
     → v ≡ start → RanOver (drawn_choices campaign.draw v (length inputs) campaign.steps seed) v w chosen → harts ≡ w.harts → left ≡ w.harts
     → ((choices : List Choice) → ((k : ℕ) → chosen k ≡ is_chosen choices k) → outcome ≡ judged campaign.expect.rule inputs choices harts)
-    → ending ≡ ending_with campaign.report outcome left
+    → ending ≡ ending_with campaign.report outcome [] left
     → record { seed = seed; ending = ending } ≡ ending_from start campaign inputs seed
 unfolding ending_from
-ending-copied campaign inputs seed start v w chosen outcome harts left ending copied ran ends rest judges is =
+ending-copied campaign inputs seed start v w chosen outcome harts left ending none copied ran ends rest judges is =
     let choices = drawn_choices campaign.draw v (length inputs) campaign.steps seed in
     let after : w.harts ≡ (run v choices).harts = ap (λ (x : World). x.harts) ran.0 in
     let says : outcome ≡ judged campaign.expect.rule inputs choices (run v choices).harts
     = judges choices ran.1 ∙ ap (judged campaign.expect.rule inputs choices) (ends ∙ after) in
+    let unjudged_too : [] ≡ judged_over campaign.properties v choices = sym (ap (map (judged_run v choices)) none) in
     ap {A = EndingValue} {B = SeedEnding} (λ e. record { seed = seed; ending = e })
-    (is ∙ ap₂ (ending_with campaign.report) says (rest ∙ after))
+    (is ∙ same_parts campaign outcome _ [] _ left _ says unjudged_too (rest ∙ after))
     ∙ ap (λ x. ending_from x campaign inputs seed) copied
+
+-- the run of a seed is that over the list of its choices
+pub ending-listed : (campaign : Campaign) (inputs : List ℕ) (seed : ℕ) (start : World) (choices : List Choice) (ending : EndingValue)
+    → choices ≡ drawn_choices campaign.draw start (length inputs) campaign.steps seed → ending ≡ ending_after start campaign inputs choices
+    → record { seed = seed; ending = ending } ≡ ending_from start campaign inputs seed
+unfolding ending_from
+ending-listed campaign inputs seed start choices ending drawn is =
+    ap {A = EndingValue} {B = SeedEnding} (λ e. record { seed = seed; ending = e }) (is ∙ ap (ending_after start campaign inputs) drawn)
 
 -- the runs from the world in which a program begins are its runs
 pub endings-started : (campaign : Campaign) (image : ImageValue) (inputs seeds : List ℕ) (start : World) → start ≡ started image inputs

@@ -1,5 +1,5 @@
 -- How a run ended, in the detail that a report distinguishes.
-use Rattle.std.specs.Prelude.{ℕ, ◌+◌, Bool, true, false, ◌==◌, ◌&&◌, List, [], ◌∷◌, ◌++◌, Option, Some, None, codes, string_bytes}
+use Rattle.std.specs.Prelude.{ℕ, ◌+◌, Bool, true, false, ◌==◌, ◌&&◌, ◌||◌, List, [], ◌∷◌, ◌++◌, Option, Some, None, codes, string_bytes}
 use Rattle.std.specs.Fmt.{decimal}
 use Rattle.std.specs.List.{flat_map}
 use Rattle.std.specs.Str.{bytes_eq}
@@ -8,21 +8,27 @@ use Rattle.hart_step.specs.declared.hart.HartState.{HartState}
 use Rattle.hart_step.specs.declared.hart.HartState.TheVariants.{Running, Exited, Faulted}
 use Rattle.isa_names.specs.Digits.{word_text}
 use Rattle.outcome.specs.Ends.{a0_of, a1_of, cause_name}
+use Rattle.outcome.specs.Expect.{breaks, fails}
+use Rattle.outcome.specs.declared.expect.Exit.{Exit}
 use Rattle.outcome.specs.declared.run_outcome.Outcome.{Outcome}
+use Rattle.property_judge.specs.declared.judged.Judged.{Judged}
 use Rattle.object_library.specs.declared.verdict.Verdict.{Verdict}
 use Rattle.object_library.specs.declared.verdict.Verdict.TheVariants.{Kept, Broken}
+use Rattle.campaign_runs.specs.Properties.{property_words, verdict_on_each}
 use Rattle.campaign_runs.specs.declared.campaign.Report.{Report}
 use Rattle.campaign_runs.specs.declared.campaign.Report.TheVariants.{Lines, Failures, Summary, Outcomes, Causes}
 use Rattle.campaign_runs.specs.declared.ending.Ending.{Ending}
 
--- the outcome of a run, and what else a line of the report says of its harts
+-- the outcome of a run, the verdict on its properties, and what else a line of the report says
 pub record EndingValue : Type 0 where
   pub outcome : Outcome
+  pub properties : Option Verdict
   pub words : List ℕ
 
 -- the code's ending as an `EndingValue`
 abbrev pub ending_of : {Z : Type 0} → Ending Z → EndingValue
-ending_of ending = record { outcome = ending.outcome; words = string_bytes ending.words }
+ending_of ending =
+    record { outcome = ending.outcome; properties = ending.properties; words = string_bytes ending.words }
 
 -- the registers of a hart that has exited: ` 0:a0=00000001 0:a1=00000000`
 abbrev pub result_words : ℕ → HartState → HartValue → List ℕ
@@ -57,9 +63,21 @@ ending_words Summary harts = []
 ending_words Outcomes harts = results_from 0 harts
 ending_words Causes harts = faults_of harts
 
--- the ending of a run with this outcome that left these harts
-abbrev pub ending_with : Report → Outcome → List HartValue → EndingValue
-ending_with report outcome harts = record { outcome = outcome; words = ending_words report harts }
+-- the ending of a run with this outcome that left these properties and harts
+abbrev pub ending_with : Report → Outcome → List Judged → List HartValue → EndingValue
+ending_with report outcome judged harts = record {
+  outcome = outcome;
+  properties = verdict_on_each judged;
+  words = property_words judged ++ ending_words report harts;
+}
+
+-- whether a rule or a property is broken
+abbrev pub ending_breaks : EndingValue → Bool
+ending_breaks ending = breaks ending.properties || breaks ending.outcome.verdict
+
+-- whether a run has failed: a property is broken, or its outcome is a failure
+abbrev pub ending_fails : Exit → EndingValue → Bool
+ending_fails exit ending = breaks ending.properties || fails exit ending.outcome
 
 -- whether two verdicts are the same
 abbrev pub same_verdict : Option Verdict → Option Verdict → Bool
@@ -75,4 +93,5 @@ same_outcome a b =
 
 -- whether two endings are the same
 abbrev pub same_ending : EndingValue → EndingValue → Bool
-same_ending a b = same_outcome a.outcome b.outcome && bytes_eq a.words b.words
+same_ending a b =
+    same_outcome a.outcome b.outcome && same_verdict a.properties b.properties && bytes_eq a.words b.words

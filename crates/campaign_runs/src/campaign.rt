@@ -1,5 +1,6 @@
 //! The runs of a campaign, and what it reports of them.
 
+use crate::properties::Properties;
 use outcome::Expect;
 use sched_draw::Draw;
 
@@ -32,6 +33,8 @@ pub struct Campaign {
     pub draw: Draw,
     /// What is expected of each run.
     pub expect: Expect,
+    /// The properties of one's own that each run is judged by, at its start and after each choice.
+    pub properties: Properties,
     /// What is reported of the runs.
     pub report: Report,
 }

@@ -4,11 +4,14 @@ ghost use Rattle.std.specs.Prelude.{◌≡◌, ◌++◌, IfOk, map, string_bytes
 ghost use Rattle.hart_step.specs.Hart.{hart_of};
 ghost use Rattle.campaign_runs.specs.Ending.{ending_words, fault_words, faults_of, result_words};
 ghost use Rattle.campaign_runs.specs.Ending.{results_from};
+ghost use Rattle.campaign_runs.specs.Properties.{any_broken, property_name, property_words, verdict_by, verdict_on_each, words_of_property};
 
 use crate::campaign::Report;
 use hart_step::{Hart, HartState};
 use isa_names::Word;
-use outcome::{CauseName, Outcome};
+use object_library::Verdict;
+use outcome::{CauseName, Expect, Outcome};
+use property_judge::{Judged, Property};
 use std::alloc::{AllocError, Allocator};
 
 // The indices of a0 and a1 among the registers.
@@ -22,43 +25,131 @@ const A1: usize = 11;
 pub struct Ending<A: Allocator> {
     /// Number of harts that ended in each way, and the verdict.
     pub outcome: Outcome,
-    /// What else a line of the report says of the harts, each word behind a space.
+    /// The verdict on the properties of one's own, if there are some: `Broken` if one is broken.
+    pub properties: Option<Verdict>,
+    /// What else a line of the report says, of the properties and of the harts, each word behind a
+    /// space.
     pub words: String<A>,
 }
 
 impl<A: Allocator> Ending<A> {
-    ghost use Rattle.campaign_runs.specs.Ending.{ending_of, ending_with};
+    ghost use Rattle.campaign_runs.specs.Ending.{ending_breaks, ending_fails, ending_of, ending_with};
 
-    /// The ending of a run with this outcome that left these harts, in the detail that a report
-    /// distinguishes. The only error is out of memory.
+    /// The ending of a run with this outcome that left these properties and harts, in the detail
+    /// that a report distinguishes. The only error is out of memory.
     pub fn of(
         alloc: A,
         report: Report,
         outcome: Outcome,
+        judged: &[Judged],
         harts: &[Hart],
     ) -> Result<Ending<A>, AllocError>
         ensures { IfOk result (λ ending.
-            ending_of ending ≡ ending_with report outcome (map hart_of harts.now)) }
+            ending_of ending ≡ ending_with report outcome judged.now (map hart_of harts.now)) }
     {
+        let mut words = String::new(alloc);
+        push_properties(&mut words, judged)?;
+        push_harts(&mut words, report, harts)?;
         Ok(Ending {
             outcome,
-            words: words(alloc, report, harts)?,
+            properties: verdict_on_each(judged),
+            words,
         })
+    }
+
+    /// Whether a rule or a property is judged and broken.
+    pub fn breaks(&self) -> bool
+        ensures { result ≡ ending_breaks (ending_of self.now) }
+    {
+        self.properties == Some(Verdict::Broken) || self.outcome.breaks()
+    }
+
+    /// Whether the run has failed: a property is broken, or its outcome is a failure.
+    pub fn fails(&self, expect: Expect) -> bool
+        ensures { result ≡ ending_fails expect.exit (ending_of self.now) }
+    {
+        self.properties == Some(Verdict::Broken) || expect.fails(self.outcome)
     }
 }
 
-// What a line of a report says of harts.
-fn words<A: Allocator>(alloc: A, report: Report, harts: &[Hart]) -> Result<String<A>, AllocError>
-    ensures { IfOk result (λ words.
-        string_bytes words ≡ ending_words report (map hart_of harts.now)) }
+// Whether a property was kept.
+fn verdict_by(broken: Option<usize>) -> Verdict
+    ensures { result ≡ verdict_by broken }
 {
-    let mut text = String::new(alloc);
+    match broken {
+        None => Verdict::Kept,
+        Some(_) => Verdict::Broken,
+    }
+}
+
+// Whether one of these properties is broken.
+fn any_broken(judged: &[Judged]) -> bool
+    ensures { result ≡ any_broken judged.now }
+{
+    judged.iter().any(|each| each.broken.is_some())
+}
+
+// The verdict on properties, if there are some.
+fn verdict_on_each(judged: &[Judged]) -> Option<Verdict>
+    ensures { result ≡ verdict_on_each judged.now }
+{
+    if judged.is_empty() {
+        return None;
+    }
+    if any_broken(judged) {
+        Some(Verdict::Broken)
+    } else {
+        Some(Verdict::Kept)
+    }
+}
+
+// What the words of a property begin with.
+fn property_name(property: Property) -> &'static str
+    ensures { result.now ≡ property_name property }
+{
+    match property {
+        Property::Always { .. } => " always ",
+        Property::NeverBoth { .. } => " never-both ",
+    }
+}
+
+// Appends what a line says of a property.
+fn push_property<A: Allocator>(text: &mut String<A>, judged: Judged) -> Result<(), AllocError>
+    ensures { IfOk result (λ _. string_bytes text.new
+        ≡ string_bytes text.old ++ words_of_property judged) }
+{
+    let verdict = verdict_by(judged.broken);
+    text.push_str(property_name(judged.property))?;
+    write!(text, "{verdict}")?;
+    Ok(())
+}
+
+// Appends what a line says of properties.
+fn push_properties<A: Allocator>(text: &mut String<A>, judged: &[Judged]) -> Result<(), AllocError>
+    ensures { IfOk result (λ _. string_bytes text.new
+        ≡ string_bytes text.old ++ property_words judged.now) }
+{
+    'judged: for each in judged {
+        push_property(text, *each)?;
+    }
+    Ok(())
+}
+
+// Appends what a line of a report says of harts.
+fn push_harts<A: Allocator>(
+    text: &mut String<A>,
+    report: Report,
+    harts: &[Hart],
+) -> Result<(), AllocError>
+    ensures { IfOk result (λ _. string_bytes text.new
+        ≡ string_bytes text.old ++ ending_words report (map hart_of harts.now)) }
+{
     match report {
         Report::Lines | Report::Failures | Report::Summary => {}
-        Report::Outcomes => push_results(&mut text, harts)?,
-        Report::Causes => push_faults(&mut text, harts)?,
+        Report::Outcomes => push_results(text, harts)?,
+        Report::Causes => push_faults(text, harts)?,
     }
-    Ok(text)
+    Ok(())
 }
 
 // Appends a0 and a1 of a hart that has exited.

@@ -6,8 +6,9 @@ pub use campaign::{Campaign, Report};
 pub use ending::Ending;
 pub use jobs::Jobs;
 pub use laws::{blocks_are_counted_together, each_ending_is_counted, same_endings_are_equal};
+pub use properties::Properties;
 pub use runner::{Alone, OnThreads, Runner};
-pub use seed_run::{SeedEnd, run_seed};
+pub use seed_run::{SeedEnd, ending_of_choices, run_seed};
 pub use seeds::{BLOCK_STEPS, Block, LEAST_SEEDS, MOST_SEEDS, Seeds};
 pub use tally::{SeedCount, Tally};
 
@@ -16,6 +17,7 @@ mod campaign;
 mod ending;
 mod jobs;
 mod laws;
+mod properties;
 mod runner;
 mod seed_run;
 mod seeds;

@@ -152,6 +152,8 @@ pub(crate) const COMMANDS: [CommandRow; 14] = [
             Argument::Optional("schedule", DRAW),
             Argument::Optional("refusals", REFUSALS),
             Argument::Flag("must-exit", MUST_EXIT),
+            Argument::Optional("never-both", NEVER_BOTH),
+            Argument::Optional("always", ALWAYS),
             Argument::Optional("jobs", JOBS),
         ],
         schedule: Schedule::None,

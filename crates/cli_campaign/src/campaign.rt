@@ -3,6 +3,7 @@
 ghost use Rattle.std.specs.Prelude.{◌+◌, ◌-◌, ◌<◌, ◌≤◌, ◌^◌, IfOk};
 
 use crate::exiting::exit_of;
+use crate::properties::{read_properties, show_properties};
 use crate::watching::Watching;
 use byte_io::{MemorySource, Progress, Source, Status, WriterSink};
 use cli_orders::CampaignOrder;
@@ -12,7 +13,7 @@ use cli_report::{
 };
 use cli_values::{JOBS, read_draw, read_jobs, read_report, read_seed_numbers};
 use cmd_campaign::{
-    Campaign, Exit, Expect, Finished, Jobs, OnThreads, Report, campaign_engine,
+    Campaign, Exit, Expect, Finished, Jobs, OnThreads, Properties, Report, campaign_engine,
     until_failure_engine,
 };
 use cmd_schedule::{SeedPlan, seed_engine};
@@ -47,7 +48,10 @@ impl<'a, R: Eprint> Progress for Line<'a, R> {
 }
 
 // What a bad seed is, as a sentence.
-fn what_is_bad(expect: Expect) -> &'static str {
+fn what_is_bad(order: &CampaignOrder, expect: Expect) -> &'static str {
+    if order.has_properties() {
+        return "that failed";
+    }
     match (expect.rule, expect.exit) {
         (None, Exit::May) => "with a fault",
         (Some(_), Exit::May) => "with a broken rule",
@@ -64,7 +68,7 @@ fn read_expect<R: Print + Eprint>(rt: &R, order: &CampaignOrder) -> Result<Expec
     })
 }
 
-// The campaign that an order asks for, or the status of an invalid line.
+// The campaign that an order asks for, yet without its properties, or the status of an invalid line.
 fn read_campaign<R: Print + Eprint>(rt: &R, order: &CampaignOrder) -> Result<Campaign, Status>
     ensures { IfOk result (λ campaign. campaign.first + campaign.count ≤ 2 ^ 64) }
 {
@@ -100,6 +104,7 @@ fn read_campaign<R: Print + Eprint>(rt: &R, order: &CampaignOrder) -> Result<Cam
         steps: numbers.steps,
         draw,
         expect,
+        properties: Properties::NONE,
         report,
     })
 }
@@ -129,6 +134,9 @@ pub fn obey_campaign<R: Files + AllocGlobal + Print + Eprint + Threads + Sync>(
         return Err(bad_line(rt, JOBS));
     };
     let mut program = open_one(rt, audience, order.file)?;
+    if order.has_properties() {
+        return report_judged(rt, audience, order, &inputs, campaign, jobs, &mut program);
+    }
     Ok(report_campaign(
         rt,
         audience,
@@ -138,6 +146,27 @@ pub fn obey_campaign<R: Files + AllocGlobal + Print + Eprint + Threads + Sync>(
         jobs,
         &mut program,
     ))
+}
+
+// Reads the program, since the order's properties name its symbols, and reports a campaign in which
+// they are judged.
+fn report_judged<R: Files + AllocGlobal + Print + Eprint + Threads + Sync, P: Source>(
+    rt: &R,
+    audience: Audience,
+    order: &CampaignOrder,
+    inputs: &[u32],
+    campaign: Campaign,
+    jobs: Jobs,
+    program: &mut P,
+) -> Result<Status, Status>
+    requires fits { campaign.first + campaign.count ≤ 2 ^ 64 }
+    requires program_counts { P.failures program.old < 2 ^ 64 - 1 }
+{
+    let (bytes, properties) = read_properties(rt, audience, order, inputs, program)?;
+    let mut campaign = campaign;
+    campaign.properties = properties;
+    let mut source = MemorySource::new(&bytes);
+    Ok(report_campaign(rt, audience, order, inputs, campaign, jobs, &mut source))
 }
 
 // Runs a program under the schedule of each seed and reports it, with hints for a person.
@@ -164,7 +193,7 @@ fn report_campaign<R: Files + AllocGlobal + Print + Eprint + Threads + Sync, P: 
         rt,
         audience,
         count: campaign.count,
-        bad: what_is_bad(campaign.expect),
+        bad: what_is_bad(order, campaign.expect),
         is_shown: false,
     };
     let runner = &OnThreads { rt, jobs };
@@ -253,13 +282,20 @@ fn show_commands<R: Eprint>(
     eprintln!(rt; "seed {seed} is the first such one. To look into it:").ok()?;
     show_command(rt, "debug", order, campaign, seed)?;
     eprint!(rt; "\n").ok()?;
-    show_command(rt, "shrink", order, campaign, seed)?;
+    // Of properties run alone tells where they are broken.
+    let name = if order.has_properties() {
+        "run"
+    } else {
+        "shrink"
+    };
+    show_command(rt, name, order, campaign, seed)?;
     if let Some(rule) = order.rule {
         eprint!(rt; " --rule {rule}").ok()?;
     }
     if order.must_exit {
         eprint!(rt; " --must-exit").ok()?;
     }
+    show_properties(rt, order)?;
     eprint!(rt; "\n").ok()
 }
 

@@ -7,4 +7,5 @@ pub use explore::obey_explore;
 mod campaign;
 mod exiting;
 mod explore;
+mod properties;
 mod watching;

@@ -5,9 +5,10 @@ use cli_args::{is_set, text_of};
 
 /// `campaign FILE --inputs L --first S --count C --steps N [--rule K] [--failures]
 /// [--until-failure] [--summary] [--outcomes] [--by-cause] [--schedule KIND]
-/// [--refusals never|one-in:N] [--must-exit] [--jobs J]`: runs a program under a random schedule for
-/// each of C seeds from S on, and prints a line for each, with a rule also its verdict; or the lines
-/// of bad seeds alone, or of the first of them, or how many seeds end in which way.
+/// [--refusals never|one-in:N] [--must-exit] [--never-both R] [--always P] [--jobs J]`: runs a program
+/// under a random schedule for each of C seeds from S on, and prints a line for each, with a rule also
+/// its verdict; or the lines of bad seeds alone, or of the first of them, or how many seeds end in
+/// which way.
 #[derive(Drop)]
 pub struct CampaignOrder<'a> {
     /// The program's path.
@@ -38,8 +39,19 @@ pub struct CampaignOrder<'a> {
     pub refusals: Option<&'a str>,
     /// Whether a run that leaves a hart running has failed.
     pub must_exit: bool,
+    /// The addresses between which no two harts may be at once.
+    pub never_both: Option<&'a str>,
+    /// What a word of memory has to be after each choice.
+    pub always: Option<&'a str>,
     /// How many threads may do runs at a time.
     pub jobs: Option<&'a str>,
+}
+
+impl<'a> CampaignOrder<'a> {
+    /// Whether properties of one's own are judged.
+    pub fn has_properties(&self) -> bool {
+        self.never_both.is_some() || self.always.is_some()
+    }
 }
 
 /// The order in clap's matches.
@@ -59,6 +71,8 @@ pub(crate) fn campaign_order<'a>(matches: &ArgMatches<'a>) -> Option<CampaignOrd
         draw: text_of(matches, "schedule"),
         refusals: text_of(matches, "refusals"),
         must_exit: is_set(matches, "must-exit"),
+        never_both: text_of(matches, "never-both"),
+        always: text_of(matches, "always"),
         jobs: text_of(matches, "jobs"),
     })
 }

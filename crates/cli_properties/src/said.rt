@@ -37,7 +37,7 @@ fn push_said(
     let property = match read {
         Ok(property) => property,
         Err(fault) => {
-            let why = fault_words(fault);
+            let why = fault.advice();
             let _ = eprintln!(rt; "rvcons: '{text}': {why}");
             return Err(Status::BadLine);
         }
@@ -49,31 +49,5 @@ fn push_said(
     match pushed {
         Ok(()) => Ok(()),
         Err(_) => Err(out_of_memory(rt)),
-    }
-}
-
-// What has to be written in place of a text that is no property.
-fn fault_words(fault: PropertyFault) -> &'static str {
-    match fault {
-        PropertyFault::BadProperty => {
-            "--always takes a word, a comparison and a number, as 'counter <= 2'"
-        }
-        PropertyFault::BadRange =>
-            "--never-both takes two addresses with .. between, as enter..leave",
-        PropertyFault::BadAddress => {
-            "an address is a symbol, as lock or lock+4, or 0x and hexadecimal digits below 2^32"
-        }
-        PropertyFault::NoSymbol => "the program has no such symbol",
-        PropertyFault::SeveralSymbols => {
-            "several symbols of the program have this name: write the address"
-        }
-        PropertyFault::Misaligned => "the address of a word is a multiple of 4",
-        PropertyFault::BadComparison => {
-            "the comparisons are == != < <= > >=, and <u <=u >u >=u of unsigned numbers"
-        }
-        PropertyFault::BadNumber => {
-            "the number is a decimal one from -2147483648 to 4294967295, or 0x and hexadecimal digits"
-        }
-        PropertyFault::EmptyRange => "the second address of a range is above the first",
     }
 }

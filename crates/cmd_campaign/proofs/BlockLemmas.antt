@@ -11,8 +11,9 @@ use Rattle.std.specs.List.{range_with_len}
 use Rattle.image.specs.Image.{ImageValue}
 use Rattle.machine.specs.Start.{started}
 use Rattle.program_open.specs.Answers.{Begins}
-use Rattle.outcome.specs.Expect.{breaks, status_by}
+use Rattle.outcome.specs.Expect.{status_by}
 use Rattle.outcome.specs.declared.expect.Exit.{Exit}
+use Rattle.campaign_runs.specs.Ending.{ending_breaks}
 use Rattle.campaign_runs.specs.Runs.{SeedEnding, all_endings, seed_ending, ending_from, endings_of}
 use Rattle.campaign_runs.specs.Tally.{TallyRow, seeds_in, tally_of, tally_onto}
 use Rattle.campaign_runs.specs.declared.campaign.Campaign.{Campaign}
@@ -115,7 +116,7 @@ module _ (report : Report) (exit : Exit) where
         ∙ sym (tally_onto-append [] (counted_of report before.done) (counted_of report block))
         ∙ ap tally_of (sym (counted_of-append report before.done block));
     breaking = breaks_too ∙ ap (λ b. b || any_breaks block) before.breaking
-        ∙ sym (list_any-append (λ (end : SeedEnding). breaks end.ending.outcome.verdict) before.done block);
+        ∙ sym (list_any-append (λ (end : SeedEnding). ending_breaks end.ending) before.done block);
     failing = fails_too ∙ ap (λ f. first_or f (first_failure exit block)) before.failing
         ∙ sym (first_failure-append exit before.done block);
   }

@@ -22,10 +22,12 @@ use Rattle.outcome.specs.declared.expect.Exit.TheVariants.{May, Must}
 use Rattle.program_open.specs.Program.{program_of}
 use Rattle.program_open.specs.declared.program.ProgramForm.TheVariants as form
 use Rattle.program_open.specs.declared.command_fault.CommandFault.{CommandFault}
+use Rattle.campaign_runs.specs.Ending.{ending_breaks, ending_words}
+use Rattle.campaign_runs.specs.Properties.{judged_over, no_properties, property_words, verdict_on_each}
 use Rattle.campaign_runs.specs.Runs.{SeedEnding, all_endings, ending_from, endings_of}
 use Rattle.campaign_runs.specs.declared.campaign.Campaign.{Campaign}
 use Rattle.campaign_runs.specs.declared.campaign.Report.{Report}
-use Rattle.campaign_runs.specs.declared.campaign.Report.TheVariants.{Failures}
+use Rattle.campaign_runs.specs.declared.campaign.Report.TheVariants.{Lines, Failures, Summary, Outcomes, Causes}
 use Rattle.byte_io.specs.declared.status.Status.TheVariants as status
 use Rattle.cmd_campaign.specs.Answers.{after_image, campaign_answer}
 use Rattle.cmd_campaign.specs.Kept.{AllKept, AnswersNothing}
@@ -33,6 +35,20 @@ use Rattle.cmd_campaign.specs.Lines.{end_entry, report_entries, has_failed}
 use Rattle.cmd_campaign.specs.Summary.{report_text}
 use Rattle.cmd_campaign.specs.Status.{any_breaks, finished_of, first_failure, campaign_status}
 use Rattle.cmd_campaign.specs.declared.engine.Finished.{Finished}
+
+-- lines of seeds have no words
+abbrev pub IsWordless : SeedEnding → Type 0
+IsWordless end = end.ending.words ≡ []
+
+abbrev pub AllWordless : List SeedEnding → Type 0
+AllWordless ends = All IsWordless ends
+
+abbrev pub WordlessIn : Report → List SeedEnding → Type 0
+WordlessIn Lines ends = AllWordless ends
+WordlessIn Failures ends = AllWordless ends
+WordlessIn Summary ends = Unit {0}
+WordlessIn Outcomes ends = Unit {0}
+WordlessIn Causes ends = Unit {0}
 
 module _ (kind : Kind) (image : ImageValue) (campaign : Campaign) (inputs : List ℕ) (some : 0 < length inputs) (same : IsSame image (image_of kind))
     (meant : IsMeantFor kind (length inputs)) (words : All (λ x. x < 2 ^ 32) inputs) (ruled : campaign.expect.rule ≡ Some kind) where
@@ -55,47 +71,82 @@ module _ (kind : Kind) (image : ImageValue) (campaign : Campaign) (inputs : List
   all_kept (seed ∷ seeds) =
       All-cons (λ (end : SeedEnding). end.ending.outcome.verdict ≡ Some Kept) (end seed) (endings_of campaign image inputs seeds) (kept seed) (all_kept seeds)
 
-  -- no rule is broken
-  none_breaks : (seeds : List ℕ) → any_breaks (endings_of campaign image inputs seeds) ≡ false
-  unfolding endings_of end
-  none_breaks [] = refl
-  none_breaks (seed ∷ seeds) = ap₂ (λ a b. a || b) (ap breaks (kept seed)) (none_breaks seeds)
+  -- ---- where no property is judged
+  module _ (bare : campaign.properties ≡ no_properties) where
+    plain : (seed : ℕ) → (end seed).ending.properties ≡ None
+    unfolding end ending_from
+    plain seed =
+        let choices = drawn_choices campaign.draw (started image inputs) (length inputs) campaign.steps seed in
+        ap (λ properties. verdict_on_each (judged_over properties (started image inputs) choices)) bare
 
-  fails_not : (seed : ℕ) → has_failed May (end seed) ≡ false
-  fails_not seed = ap (λ v. breaks v || (has_faults v (end seed).ending.outcome.faulted || false)) (kept seed)
+    -- so an ending has the words of harts alone
+    harts_words : (report : Report) → campaign.report ≡ report → (seed : ℕ) → (end seed).ending.words
+        ≡ ending_words report (run (started image inputs) (drawn_choices campaign.draw (started image inputs) (length inputs) campaign.steps seed)).harts
+    unfolding end ending_from
+    harts_words report is seed =
+        let choices = drawn_choices campaign.draw (started image inputs) (length inputs) campaign.steps seed in
+        let harts = (run (started image inputs) choices).harts in
+        ap₂ (λ properties r. property_words (judged_over properties (started image inputs) choices) ++ ending_words r harts) bare is
 
-  -- and where harts may run, no run has failed
-  none_fails : (seeds : List ℕ) → first_failure May (endings_of campaign image inputs seeds) ≡ None
-  unfolding endings_of end
-  none_fails [] = refl
-  none_fails (seed ∷ seeds) =
-      ap₂ (λ failed rest. cond failed (Some (end seed).seed) rest) (fails_not seed) (none_fails seeds)
+    all_wordless : ((seed : ℕ) → (end seed).ending.words ≡ []) → (seeds : List ℕ) → AllWordless (endings_of campaign image inputs seeds)
+    unfolding endings_of end
+    all_wordless silent [] = All-nil IsWordless
+    all_wordless silent (seed ∷ seeds) =
+        All-cons IsWordless (end seed) (endings_of campaign image inputs seeds) (silent seed) (all_wordless silent seeds)
 
-  -- so none has a line among the failures
-  none_listed : (seeds : List ℕ) → report_entries Failures May (endings_of campaign image inputs seeds) ≡ []
-  unfolding endings_of end
-  none_listed [] = refl
-  none_listed (seed ∷ seeds) =
-      ap₂ (λ failed rest. cond failed (end_entry (end seed)) [] ++ rest) (fails_not seed) (none_listed seeds)
+    -- so lines of seeds have none
+    pub lines_wordless : (report : Report) → campaign.report ≡ report → (seeds : List ℕ) → WordlessIn report (endings_of campaign image inputs seeds)
+    lines_wordless Lines is seeds = all_wordless (harts_words Lines is) seeds
+    lines_wordless Failures is seeds = all_wordless (harts_words Failures is) seeds
+    lines_wordless Summary is seeds = tt
+    lines_wordless Outcomes is seeds = tt
+    lines_wordless Causes is seeds = tt
 
-  nothing : (report : Report) (exit : Exit) (seeds : List ℕ) → report ≡ Failures → exit ≡ May
-      → (report_text report exit (endings_of campaign image inputs seeds) ≡ []) × (campaign_status exit (endings_of campaign image inputs seeds) ≡ status.Done)
-  nothing report exit seeds failures may =
-      let ends = endings_of campaign image inputs seeds in (
-        ap₂ (λ r e. report_text r e ends) failures may ∙ none_listed seeds,
-        ap (λ e. campaign_status e ends) may ∙ ap₂ (λ b f. status_by b (is_some f)) (none_breaks seeds) (none_fails seeds),
-      )
+    -- nothing is broken
+    breaks_not : (seed : ℕ) → ending_breaks (end seed).ending ≡ false
+    breaks_not seed = ap₂ (λ p v. breaks p || breaks v) (plain seed) (kept seed)
 
-  -- the status
-  unbroken : (exit : Exit) (seeds : List ℕ) → IsUnbroken exit (campaign_status exit (endings_of campaign image inputs seeds))
-  unbroken May seeds = ap₂ (λ b f. status_by b (is_some f)) (none_breaks seeds) (none_fails seeds)
-  unbroken Must seeds =
-      let ends = endings_of campaign image inputs seeds in
-      subst (λ b. IsUnbroken Must (status_by b (is_some (first_failure Must ends)))) (sym (none_breaks seeds)) (by (is_some (first_failure Must ends)))
-    where
-      by : (b : Bool) → IsUnbroken Must (status_by false b)
-      by true = inr refl
-      by false = inl refl
+    none_breaks : (seeds : List ℕ) → any_breaks (endings_of campaign image inputs seeds) ≡ false
+    unfolding endings_of end
+    none_breaks [] = refl
+    none_breaks (seed ∷ seeds) = ap₂ (λ a b. a || b) (breaks_not seed) (none_breaks seeds)
+
+    fails_not : (seed : ℕ) → has_failed May (end seed) ≡ false
+    fails_not seed =
+        ap₂ (λ p v. breaks p || (breaks v || (has_faults v (end seed).ending.outcome.faulted || false))) (plain seed) (kept seed)
+
+    -- and where harts may run, no run has failed
+    none_fails : (seeds : List ℕ) → first_failure May (endings_of campaign image inputs seeds) ≡ None
+    unfolding endings_of end
+    none_fails [] = refl
+    none_fails (seed ∷ seeds) =
+        ap₂ (λ failed rest. cond failed (Some (end seed).seed) rest) (fails_not seed) (none_fails seeds)
+
+    -- so none has a line among the failures
+    none_listed : (seeds : List ℕ) → report_entries Failures May (endings_of campaign image inputs seeds) ≡ []
+    unfolding endings_of end
+    none_listed [] = refl
+    none_listed (seed ∷ seeds) =
+        ap₂ (λ failed rest. cond failed (end_entry (end seed)) [] ++ rest) (fails_not seed) (none_listed seeds)
+
+    nothing : (report : Report) (exit : Exit) (seeds : List ℕ) → report ≡ Failures → exit ≡ May
+        → (report_text report exit (endings_of campaign image inputs seeds) ≡ []) × (campaign_status exit (endings_of campaign image inputs seeds) ≡ status.Done)
+    nothing report exit seeds failures may =
+        let ends = endings_of campaign image inputs seeds in (
+          ap₂ (λ r e. report_text r e ends) failures may ∙ none_listed seeds,
+          ap (λ e. campaign_status e ends) may ∙ ap₂ (λ b f. status_by b (is_some f)) (none_breaks seeds) (none_fails seeds),
+        )
+
+    -- the status
+    unbroken : (exit : Exit) (seeds : List ℕ) → IsUnbroken exit (campaign_status exit (endings_of campaign image inputs seeds))
+    unbroken May seeds = ap₂ (λ b f. status_by b (is_some f)) (none_breaks seeds) (none_fails seeds)
+    unbroken Must seeds =
+        let ends = endings_of campaign image inputs seeds in
+        subst (λ b. IsUnbroken Must (status_by b (is_some (first_failure Must ends)))) (sym (none_breaks seeds)) (by (is_some (first_failure Must ends)))
+      where
+        by : (b : Bool) → IsUnbroken Must (status_by false b)
+        by true = inr refl
+        by false = inl refl
 
 abbrev loads : ImageValue → Result ImageValue CommandFault
 loads x = Ok x
@@ -107,7 +158,8 @@ same_image x y e = search (rules, e)
 module _ (campaign : Campaign) (inputs : List ℕ) (image : ImageValue) where
   abbrev Certifies : Finished → List ℕ → Type 0
   Certifies finished p = (object : IsCertified form.Elf p inputs campaign.expect.rule)
-      → IsUnbroken campaign.expect.exit finished.status × AllKept (all_endings campaign object.image inputs)
+      → (campaign.properties ≡ no_properties → IsUnbroken campaign.expect.exit finished.status)
+      × AllKept (all_endings campaign object.image inputs)
 
   certified : (finished : Finished) (p : List ℕ) → All (λ x. x < 2 ^ 32) inputs → IsStartable inputs → program_of form.Elf p ≡ Ok image
       → finished ≡ finished_of campaign.expect.exit (all_endings campaign image inputs) → Certifies finished p
@@ -116,8 +168,8 @@ module _ (campaign : Campaign) (inputs : List ℕ) (image : ImageValue) where
       let one : object.image ≡ image = same_image object.image image (sym object.reads ∙ reads) in
       let status : finished.status ≡ campaign_status campaign.expect.exit (all_endings campaign object.image inputs)
       = ap (λ (f : Finished). f.status) is ∙ ap (λ i. campaign_status campaign.expect.exit (all_endings campaign i inputs)) (sym one) in (
-        subst (IsUnbroken campaign.expect.exit) (sym status)
-            (unbroken object.kind object.image campaign inputs startable.0 object.same object.meant words object.ruled campaign.expect.exit seeds),
+        (λ bare. subst (IsUnbroken campaign.expect.exit) (sym status)
+            (unbroken object.kind object.image campaign inputs startable.0 object.same object.meant words object.ruled bare campaign.expect.exit seeds)),
         all_kept object.kind object.image campaign inputs startable.0 object.same object.meant words object.ruled seeds,
       )
 
@@ -148,11 +200,11 @@ answered P n none many shown of_none of_many runs = by (eqb n 0) refl
     by false e = few (ltb most_harts n) (some n e)
 
 pub no_failures : (campaign : Campaign) (inputs program : List ℕ) → campaign.report ≡ Failures → campaign.expect.exit ≡ May
-    → All (λ x. x < 2 ^ 32) inputs → IsCertified form.Elf program inputs campaign.expect.rule
+    → campaign.properties ≡ no_properties → All (λ x. x < 2 ^ 32) inputs → IsCertified form.Elf program inputs campaign.expect.rule
     → AnswersNothing (campaign_answer campaign inputs program)
 unfolding campaign_answer
-no_failures campaign inputs program failures may words h =
+no_failures campaign inputs program failures may bare words h =
     subst (λ p. AnswersNothing (after_image campaign inputs p)) (sym h.reads)
     (answered AnswersNothing (length inputs) _ _ _ tt tt (λ some.
-    nothing h.kind h.image campaign inputs some h.same h.meant words h.ruled campaign.report campaign.expect.exit
+    nothing h.kind h.image campaign inputs some h.same h.meant words h.ruled bare campaign.report campaign.expect.exit
     (range_with_len campaign.first campaign.count) failures may))

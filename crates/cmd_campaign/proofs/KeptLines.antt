@@ -9,6 +9,7 @@ use Rattle.program_open.specs.declared.command_fault.CommandFault.{CommandFault}
 use Rattle.program_open.specs.declared.command_fault.CommandFault.TheVariants as fault
 use Rattle.program_open.specs.declared.program.ProgramForm.TheVariants as form
 use Rattle.campaign_runs.specs.Ending.{same_ending}
+use Rattle.campaign_runs.specs.Properties.{no_properties}
 use Rattle.campaign_runs.specs.Runs.{SeedEnding, all_endings, endings_of}
 use Rattle.campaign_runs.specs.Tally.{TallyRow, add_seed, first_one, one_more, tally_of, tally_onto}
 use Rattle.campaign_runs.specs.declared.campaign.Campaign.{Campaign}
@@ -20,27 +21,28 @@ use Rattle.cmd_campaign.specs.Kept.{kept_line, kept_row, AllKept, AnswersKeptLin
 use Rattle.cmd_campaign.specs.Lines.{end_entry, has_failed, report_entries, report_entry, seed_line, verdict_word}
 use Rattle.cmd_campaign.specs.Status.{campaign_status}
 use Rattle.cmd_campaign.specs.Summary.{report_text, row_entry, row_line, rows_text}
-use Rattle.cmd_campaign.proofs.KeptLemmas.{all_kept, answered}
+use Rattle.cmd_campaign.proofs.KeptLemmas.{all_kept, answered, lines_wordless, AllWordless, IsWordless, WordlessIn}
 
 abbrev IsKept : SeedEnding → Type 0
 IsKept end = end.ending.outcome.verdict ≡ Some Kept
 
 -- ---- lines of seeds
-line_kept : (end : SeedEnding) → IsKept end → end_entry end ≡ kept_line end
-line_kept end is = ap (λ v. seed_line end.seed end.ending.outcome.exited end.ending.outcome.faulted end.ending.outcome.running
-    ++ (verdict_word v ++ 10 ∷ [])) is
+line_kept : (end : SeedEnding) → IsKept end → IsWordless end → end_entry end ≡ kept_line end
+line_kept end is none = ap₂ (λ v words. seed_line end.seed end.ending.outcome.exited end.ending.outcome.faulted end.ending.outcome.running
+    ++ (verdict_word v ++ (words ++ 10 ∷ []))) is none
 
-lines_kept : (ends : List SeedEnding) → AllKept ends → flat_map end_entry ends ≡ flat_map kept_line ends
-lines_kept [] all = refl
-lines_kept (end ∷ ends) all =
-    ap₂ (λ (line rest : List ℕ). line ++ rest) (line_kept end (All-head IsKept end ends all)) (lines_kept ends (All-tail IsKept end ends all))
+lines_kept : (ends : List SeedEnding) → AllKept ends → AllWordless ends → flat_map end_entry ends ≡ flat_map kept_line ends
+lines_kept [] all none = refl
+lines_kept (end ∷ ends) all none =
+    ap₂ (λ (line rest : List ℕ). line ++ rest) (line_kept end (All-head IsKept end ends all) (All-head IsWordless end ends none))
+    (lines_kept ends (All-tail IsKept end ends all) (All-tail IsWordless end ends none))
 
 -- the lines of those that have failed
-failures_kept : (exit : Exit) (ends : List SeedEnding) → AllKept ends
+failures_kept : (exit : Exit) (ends : List SeedEnding) → AllKept ends → AllWordless ends
     → (some : List SeedEnding) × (report_entries Failures exit ends ≡ flat_map kept_line some)
-failures_kept exit [] all = ([], refl)
-failures_kept exit (end ∷ ends) all =
-    by (has_failed exit end) refl (failures_kept exit ends (All-tail IsKept end ends all))
+failures_kept exit [] all none = ([], refl)
+failures_kept exit (end ∷ ends) all none =
+    by (has_failed exit end) refl (failures_kept exit ends (All-tail IsKept end ends all) (All-tail IsWordless end ends none))
   where
     by : (b : Bool) → has_failed exit end ≡ b
         → (some : List SeedEnding) × (report_entries Failures exit ends ≡ flat_map kept_line some)
@@ -48,7 +50,7 @@ failures_kept exit (end ∷ ends) all =
     by true e rest = (
       end ∷ rest.0,
       ap₂ (λ (line more : List ℕ). line ++ more)
-          (ap (λ b. cond b (end_entry end) []) e ∙ line_kept end (All-head IsKept end ends all)) rest.1,
+          (ap (λ b. cond b (end_entry end) []) e ∙ line_kept end (All-head IsKept end ends all) (All-head IsWordless end ends none)) rest.1,
     )
     by false e rest = (rest.0, ap₂ (λ (line more : List ℕ). line ++ more) (ap (λ b. cond b (end_entry end) []) e) rest.1)
 
@@ -83,13 +85,13 @@ tally_kept : (ends : List SeedEnding) → AllKept ends → (rows : List TallyRow
 tally_kept ends all = (tally_of ends, rows_kept (tally_of ends) (onto_kept [] ends tt all))
 
 -- ---- the report
-report_kept : (report : Report) (campaign : Campaign) (ends : List SeedEnding) → AllKept ends
+report_kept : (report : Report) (campaign : Campaign) (ends : List SeedEnding) → AllKept ends → WordlessIn report ends
     → AnswersKeptLines report (Ok (report_text report campaign.expect.exit ends, campaign_status campaign.expect.exit ends))
-report_kept Lines campaign ends all = (ends, lines_kept ends all)
-report_kept Failures campaign ends all = failures_kept campaign.expect.exit ends all
-report_kept Summary campaign ends all = tally_kept ends all
-report_kept Outcomes campaign ends all = tally_kept ends all
-report_kept Causes campaign ends all = tally_kept ends all
+report_kept Lines campaign ends all none = (ends, lines_kept ends all none)
+report_kept Failures campaign ends all none = failures_kept campaign.expect.exit ends all none
+report_kept Summary campaign ends all none = tally_kept ends all
+report_kept Outcomes campaign ends all none = tally_kept ends all
+report_kept Causes campaign ends all none = tally_kept ends all
 
 refused_kept : (report : Report) (why : CommandFault) → AnswersKeptLines report (Err why)
 refused_kept Lines why = tt
@@ -98,11 +100,12 @@ refused_kept Summary why = tt
 refused_kept Outcomes why = tt
 refused_kept Causes why = tt
 
-pub lines_say_kept : (campaign : Campaign) (inputs program : List ℕ) → All (λ x. x < 2 ^ 32) inputs
+pub lines_say_kept : (campaign : Campaign) (inputs program : List ℕ) → campaign.properties ≡ no_properties → All (λ x. x < 2 ^ 32) inputs
     → IsCertified form.Elf program inputs campaign.expect.rule → AnswersKeptLines campaign.report (campaign_answer campaign inputs program)
 unfolding campaign_answer
-lines_say_kept campaign inputs program words h =
+lines_say_kept campaign inputs program bare words h =
     subst (λ p. AnswersKeptLines campaign.report (after_image campaign inputs p)) (sym h.reads)
     (answered (AnswersKeptLines campaign.report) (length inputs) _ _ _ (refused_kept campaign.report fault.NoHarts) (refused_kept campaign.report fault.TooManyHarts) (λ some.
     report_kept campaign.report campaign (all_endings campaign h.image inputs)
-    (all_kept h.kind h.image campaign inputs some h.same h.meant words h.ruled (range_with_len campaign.first campaign.count))))
+    (all_kept h.kind h.image campaign inputs some h.same h.meant words h.ruled (range_with_len campaign.first campaign.count))
+    (lines_wordless h.kind h.image campaign inputs some h.same h.meant words h.ruled bare campaign.report refl (range_with_len campaign.first campaign.count))))

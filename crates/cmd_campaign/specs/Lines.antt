@@ -4,8 +4,8 @@ use Rattle.std.specs.Fmt.{decimal}
 use Rattle.std.specs.List.{flat_map}
 use Rattle.object_library.specs.declared.verdict.Verdict.{Verdict}
 use Rattle.object_library.specs.Names.{verdict_name}
-use Rattle.outcome.specs.Expect.{fails}
 use Rattle.outcome.specs.declared.expect.Exit.{Exit}
+use Rattle.campaign_runs.specs.Ending.{ending_fails}
 use Rattle.campaign_runs.specs.Runs.{SeedEnding}
 use Rattle.campaign_runs.specs.declared.campaign.Report.{Report}
 use Rattle.campaign_runs.specs.declared.campaign.Report.TheVariants.{Lines, Failures, Summary, Outcomes, Causes}
@@ -25,11 +25,11 @@ verdict_word (Some verdict) = codes " " ++ verdict_name verdict
 abbrev pub end_entry : SeedEnding → List ℕ
 end_entry end =
     seed_line end.seed end.ending.outcome.exited end.ending.outcome.faulted end.ending.outcome.running
-    ++ (verdict_word end.ending.outcome.verdict ++ 10 ∷ [])
+    ++ (verdict_word end.ending.outcome.verdict ++ (end.ending.words ++ 10 ∷ []))
 
 -- whether the run of a seed has failed
 abbrev pub has_failed : Exit → SeedEnding → Bool
-has_failed exit end = fails exit end.ending.outcome
+has_failed exit end = ending_fails exit end.ending
 
 -- what a report has of a run while the runs go on
 abbrev pub report_entry : Report → Exit → SeedEnding → List ℕ

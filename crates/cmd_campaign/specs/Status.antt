@@ -2,15 +2,16 @@
 use Rattle.std.specs.Prelude.{ℕ, Bool, List, [], ◌∷◌, Option, Some, None, is_some, if◌then◌else◌}
 use Rattle.std.specs.List.{list_any}
 use Rattle.byte_io.specs.declared.status.Status.{Status}
-use Rattle.outcome.specs.Expect.{breaks, status_by}
+use Rattle.outcome.specs.Expect.{status_by}
 use Rattle.outcome.specs.declared.expect.Exit.{Exit}
+use Rattle.campaign_runs.specs.Ending.{EndingValue, ending_breaks, ending_fails}
 use Rattle.campaign_runs.specs.Runs.{SeedEnding}
 use Rattle.cmd_campaign.specs.Lines.{has_failed}
 use Rattle.cmd_campaign.specs.declared.engine.Finished.{Finished}
 
--- whether a rule is broken in some run
+-- whether a rule or a property is broken in some run
 abbrev pub any_breaks : List SeedEnding → Bool
-any_breaks ends = list_any (λ end. breaks end.ending.outcome.verdict) ends
+any_breaks ends = list_any (λ end. ending_breaks end.ending) ends
 
 -- the first seed whose run has failed, if there is one
 abbrev pub first_failure : Exit → List SeedEnding → Option ℕ
@@ -22,7 +23,12 @@ abbrev pub first_or : Option ℕ → Option ℕ → Option ℕ
 first_or None other = other
 first_or (Some seed) other = Some seed
 
--- the status of a campaign's runs: whether a rule is broken in one, and whether one has failed
+-- the status of a run
+abbrev pub ending_status : Exit → EndingValue → Status
+ending_status exit ending = status_by (ending_breaks ending) (ending_fails exit ending)
+
+-- the status of a campaign's runs: whether a rule or a property is broken in one, and whether one
+-- has failed
 abbrev pub campaign_status : Exit → List SeedEnding → Status
 campaign_status exit ends = status_by (any_breaks ends) (is_some (first_failure exit ends))
 

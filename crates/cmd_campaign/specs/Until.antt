@@ -4,7 +4,6 @@ use Rattle.std.specs.List.{All}
 use Rattle.std.specs.declared.result.Result.{Result}
 use Rattle.std.specs.declared.result.Result.TheVariants.{Ok}
 use Rattle.byte_io.specs.declared.status.Status.TheVariants as status
-use Rattle.outcome.specs.Expect.{status_of}
 use Rattle.outcome.specs.declared.expect.Exit.{Exit}
 use Rattle.program_open.specs.Opening.{after_program}
 use Rattle.program_open.specs.Program.{program_of}
@@ -13,6 +12,7 @@ use Rattle.program_open.specs.declared.command_fault.CommandFault.{CommandFault}
 use Rattle.campaign_runs.specs.Runs.{SeedEnding, all_endings}
 use Rattle.campaign_runs.specs.declared.campaign.Campaign.{Campaign}
 use Rattle.cmd_campaign.specs.Lines.{end_entry, has_failed}
+use Rattle.cmd_campaign.specs.Status.{ending_status}
 use Rattle.cmd_campaign.specs.declared.engine.Finished.{Finished}
 
 -- the first run that has failed, if there is one
@@ -24,7 +24,7 @@ first_failing exit (end ∷ ends) = if has_failed exit end then Some end else fi
 abbrev pub ended_at : Exit → Option SeedEnding → List ℕ × Finished
 ended_at exit None = ([], record { status = status.Done; first_failure = None })
 ended_at exit (Some end) =
-    (end_entry end, record { status = status_of exit end.ending.outcome; first_failure = Some end.seed })
+    (end_entry end, record { status = ending_status exit end.ending; first_failure = Some end.seed })
 
 -- the answer over an ELF file: the number of inputs is checked before the first run
 unfoldable pub until_answer : Campaign → List ℕ → List ℕ → Result (List ℕ × Finished) CommandFault

@@ -6,6 +6,7 @@ ghost use Rattle.machine.specs.Start.{IsStartable};
 ghost use Rattle.cmd_run.specs.Certified.{IsCertified, IsUnbroken};
 ghost use Rattle.program_open.specs.Answers.{Begins, BeginsToPrint, Prints};
 ghost use Rattle.program_open.specs.CommandFaults.{IfHalts, IfNames, IsRefusal};
+ghost use Rattle.campaign_runs.specs.Properties.{no_properties};
 ghost use Rattle.campaign_runs.specs.Runs.{all_endings};
 ghost use Rattle.campaign_runs.specs.Tally.{tally_rows, tally_of};
 ghost use Rattle.cmd_campaign.specs.Answers.{after_image, campaign_answer, campaign_failure};
@@ -27,8 +28,8 @@ use std::alloc::{AllocError, Allocator};
 /// How a campaign ended.
 #[derive(Clone, Copy, PartialEq, Eq)]
 pub struct Finished {
-    /// `Broken` if a rule is broken in some run, else `Faulted` if some run has failed, else
-    /// `Done`.
+    /// `Broken` if a rule or a property is broken in some run, else `Faulted` if some run has
+    /// failed, else `Done`.
     pub status: Status,
     /// The first seed whose run has failed, if one has.
     pub first_failure: Option<u64>,
@@ -241,10 +242,10 @@ pub fn campaign_engine<A: Allocator + Copy, W: Runner<A>, P: Source, K: Sink>(
         Keeps (K.held sink.old) (K.held sink.new)
         ⊎ BeginsToPrint (campaign_answer campaign inputs.now p) (K.held sink.old) (K.held sink.new)) }
     // For a file that is an object, run by as many harts as it is for, each verdict by its kind's
-    // rule is `kept`, and the status shows no broken rule.
+    // rule is `kept`, and the status shows nothing broken if no property is judged.
     ensures certified { IfOk result (λ finished. IfSome (P.left program.old) (λ p.
         (object : IsCertified ProgramForm.Elf p inputs.now campaign.expect.rule)
-        → IsUnbroken campaign.expect.exit finished.status
+        → (campaign.properties ≡ no_properties → IsUnbroken campaign.expect.exit finished.status)
         × AllKept (all_endings campaign object.image inputs.now))) }
 {
     let image = match read_image(alloc, ProgramForm::Elf, program) {

@@ -12,7 +12,7 @@ use std::alloc::Allocator;
 /// The failures of the runs that are done.
 #[derive(Clone, Copy, Drop)]
 pub(crate) struct Findings {
-    /// Whether a rule is broken in one.
+    /// Whether a rule or a property is broken in one.
     pub(crate) is_broken: bool,
     /// The first seed whose run has failed.
     pub(crate) first_failure: Option<u64>,
@@ -54,12 +54,12 @@ impl Findings {
     }
 }
 
-// Whether a rule is broken in some run.
+// Whether a rule or a property is broken in some run.
 fn any_breaks<A: Allocator>(ends: &[SeedEnd<A>]) -> bool
     ensures { result ≡ any_breaks (map seed_ending ends.now) }
 {
     'ends: for end in ends {
-        if end.ending.outcome.breaks() {
+        if end.ending.breaks() {
             return true;
         }
     }
@@ -71,7 +71,7 @@ fn first_failure<A: Allocator>(expect: Expect, ends: &[SeedEnd<A>]) -> Option<u6
     ensures { result ≡ first_failure expect.exit (map seed_ending ends.now) }
 {
     'ends: for end in ends {
-        if expect.fails(end.ending.outcome) {
+        if end.ending.fails(expect) {
             return Some(end.seed);
         }
     }
@@ -82,7 +82,7 @@ fn first_failure<A: Allocator>(expect: Expect, ends: &[SeedEnd<A>]) -> Option<u6
 pub(crate) fn count_failures<A: Allocator>(expect: Expect, ends: &[SeedEnd<A>]) -> u64 {
     let mut count = 0u64;
     'ends: for end in ends {
-        count = count.saturating_add(u64::from(expect.fails(end.ending.outcome)));
+        count = count.saturating_add(u64::from(end.ending.fails(expect)));
     }
     count
 }

@@ -4,17 +4,17 @@ ghost use Rattle.std.specs.Prelude.{◌≡◌, ◌^◌, ◌<◌, ℕ, List, [], 
 ghost use Rattle.std.specs.List.{All};
 ghost use Rattle.image.specs.Image.{ImageValue};
 ghost use Rattle.cmd_run.specs.Certified.{IsCertified};
-ghost use Rattle.outcome.specs.Expect as run;
 ghost use Rattle.outcome.specs.declared.expect.Exit.{Exit};
 ghost use Rattle.outcome.specs.declared.expect.Exit.TheVariants.{May};
 ghost use Rattle.program_open.specs.declared.program.ProgramForm.TheVariants.{Elf};
+ghost use Rattle.campaign_runs.specs.Properties.{no_properties};
 ghost use Rattle.campaign_runs.specs.Runs.{SeedEnding, all_endings};
 ghost use Rattle.campaign_runs.specs.Tally.{seeds_in, tally_of};
 ghost use Rattle.campaign_runs.specs.declared.campaign.Campaign.{Campaign};
 ghost use Rattle.campaign_runs.specs.declared.campaign.Report.TheVariants.{Failures};
 ghost use Rattle.cmd_campaign.specs.Answers.{campaign_answer};
 ghost use Rattle.cmd_campaign.specs.Kept.{AnswersKeptLines, AnswersNothing};
-ghost use Rattle.cmd_campaign.specs.Status.{campaign_status, first_failure};
+ghost use Rattle.cmd_campaign.specs.Status.{campaign_status, ending_status, first_failure};
 ghost use Rattle.cmd_campaign.specs.Until.{first_failing, ended_at, IsFirstFailing, NoneFailed};
 
 /// The counts of a summary's rows add up to the number of seeds.
@@ -26,21 +26,21 @@ pub fn all_seeds_are_counted()
 /// A campaign of one run has the status of that run.
 pub fn campaign_of_one_run_has_its_status()
     ensures { (exit : Exit) (end : SeedEnding)
-        → campaign_status exit (end ∷ []) ≡ run.status_of exit end.ending.outcome }
+        → campaign_status exit (end ∷ []) ≡ ending_status exit end.ending }
 {}
 
 /// For a file that is an object, run by as many harts as it is for under its kind's rule, `campaign
-/// --failures` reports no run, and its status is 0.
+/// --failures` without properties of one's own reports no run, and its status is 0.
 pub fn failures_of_an_object_are_none()
     ensures { (campaign : Campaign) (inputs program : List ℕ) → campaign.report ≡ Failures → campaign.expect.exit ≡ May
-        → All (λ x. x < 2 ^ 32) inputs → IsCertified Elf program inputs campaign.expect.rule
+        → campaign.properties ≡ no_properties → All (λ x. x < 2 ^ 32) inputs → IsCertified Elf program inputs campaign.expect.rule
         → AnswersNothing (campaign_answer campaign inputs program) }
 {}
 
 /// For a file that is an object, run by as many harts as it is for under its kind's rule, each line
-/// of `campaign` says `kept`, whatever it reports.
+/// of `campaign` without properties of one's own says `kept`, whatever it reports.
 pub fn lines_of_an_object_say_kept()
-    ensures { (campaign : Campaign) (inputs program : List ℕ) → All (λ x. x < 2 ^ 32) inputs
+    ensures { (campaign : Campaign) (inputs program : List ℕ) → campaign.properties ≡ no_properties → All (λ x. x < 2 ^ 32) inputs
         → IsCertified Elf program inputs campaign.expect.rule
         → AnswersKeptLines campaign.report (campaign_answer campaign inputs program) }
 {}

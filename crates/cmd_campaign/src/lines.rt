@@ -51,9 +51,11 @@ pub(crate) fn push_end<A: Allocator>(
         running: outcome.running,
     };
     match outcome.verdict {
-        None => writeln!(text, "{line}")?,
-        Some(verdict) => writeln!(text, "{line} {verdict}")?,
+        None => write!(text, "{line}")?,
+        Some(verdict) => write!(text, "{line} {verdict}")?,
     }
+    text.push_str(end.ending.words.as_str())?;
+    text.push('\n')?;
     Ok(())
 }
 
@@ -70,7 +72,7 @@ fn push_entry<A: Allocator>(
     match report {
         Report::Lines => push_end(text, end)?,
         Report::Failures => {
-            if expect.fails(end.ending.outcome) {
+            if end.ending.fails(expect) {
                 push_end(text, end)?;
             }
         }

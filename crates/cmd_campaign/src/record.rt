@@ -22,6 +22,7 @@ fn copied<A: Allocator + Copy>(alloc: A, ending: &Ending<A>) -> Result<Ending<A>
 {
     Ok(Ending {
         outcome: ending.outcome,
+        properties: ending.properties,
         words: String::from_str(alloc, ending.words.as_str())?,
     })
 }

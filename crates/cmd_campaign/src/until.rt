@@ -11,7 +11,7 @@ use byte_io::{Progress, Source, Status};
 use campaign_runs::{Campaign, Runner, SeedEnd, Seeds};
 use image::Image;
 use machine::Inputs;
-use outcome::Expect;
+use outcome::{Expect, status_by};
 use program_open::{CommandFault, ProgramForm, read_image};
 use std::alloc::{AllocError, Allocator};
 
@@ -22,7 +22,7 @@ fn first_failing<'a, A: Allocator>(expect: Expect, ends: &'a [SeedEnd<A>]) -> Op
         (λ end. first_failing expect.exit (map seed_ending ends.now) ≡ Some (seed_ending end.now)) }
 {
     'ends: for end in ends {
-        if expect.fails(end.ending.outcome) {
+        if end.ending.fails(expect) {
             return Some(end);
         }
     }
@@ -41,7 +41,7 @@ fn stop_at<A: Allocator + Copy>(
     let mut text = String::new(alloc);
     push_end(&mut text, end)?;
     let finished = Finished {
-        status: expect.status(end.ending.outcome),
+        status: status_by(end.ending.breaks(), end.ending.fails(expect)),
         first_failure: Some(end.seed),
     };
     Ok((text, finished))

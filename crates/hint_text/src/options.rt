@@ -113,6 +113,8 @@ pub(crate) const COMMANDS: [Row; 14] = [
             "--schedule",
             "--refusals",
             "--must-exit",
+            "--never-both",
+            "--always",
             "--jobs",
         ],
         example: "rvcons campaign prog.elf --inputs 7,9 --first 1 --count 1000 --steps 300",

@@ -5,7 +5,7 @@ ghost use Rattle.page.specs.Seeds.{AsksCampaign, AsksChoices, AsksDraw, AsksOrde
 ghost use Rattle.std.specs.Prelude.{◌≡◌};
 
 use crate::asked::{expect_of, report_of};
-use cmd_campaign::Campaign;
+use cmd_campaign::{Campaign, Properties};
 use cmd_schedule::SeedPlan;
 use sched_draw::{Chance, Depth, Draw, Mean, Order, Refusals};
 
@@ -122,6 +122,7 @@ pub(crate) fn campaign_of(asked: AskedCampaign) -> Option<Campaign>
         steps: asked.steps,
         draw,
         expect,
+        properties: Properties::NONE,
         report,
     })
 }

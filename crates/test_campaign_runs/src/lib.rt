@@ -11,6 +11,9 @@ mod failure_tests;
 mod plain_runs;
 #[cfg(test)]
 mod plans;
+// Properties of one's own.
+#[cfg(test)]
+mod property_tests;
 // Requests that are refused, and one seed's run.
 #[cfg(test)]
 mod refusal_tests;

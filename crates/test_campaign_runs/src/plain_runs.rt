@@ -95,6 +95,7 @@ pub(crate) fn plain_ending(
     let words = words_of(alloc, machine.ends()).ok()?;
     Some(Ending {
         outcome: outcome_of(machine.ends()),
+        properties: None,
         words,
     })
 }

@@ -4,7 +4,7 @@
 ghost use Rattle.std.specs.Prelude.{◌≡◌, IfOk, length};
 
 use byte_io::MemorySink;
-use campaign_runs::{Campaign, Ending, Report, SeedCount, SeedEnd, Tally};
+use campaign_runs::{Campaign, Ending, Properties, Report, SeedCount, SeedEnd, Tally};
 use cmd_campaign::{count_ends_of, push_lines, record_block, summary_text};
 use hart_step::{Cause, Hart, HartState};
 use object_library::{Kind, Verdict};
@@ -35,6 +35,7 @@ fn campaign_with(expect: Expect, report: Report) -> Campaign {
         steps: 0,
         draw: Draw::usual(),
         expect,
+        properties: Properties::NONE,
         report,
     }
 }
@@ -61,7 +62,7 @@ fn end<A: Allocator + Copy>(
     let mut chosen = Chosen::new();
     chosen.add(1);
     let outcome = campaign.expect.judge(alloc, &[7, 9], &chosen, harts)?;
-    let ending = Ending::of(alloc, campaign.report, outcome, harts)?;
+    let ending = Ending::of(alloc, campaign.report, outcome, &[], harts)?;
     Ok(SeedEnd { seed, ending })
 }
 
@@ -90,6 +91,7 @@ fn ending<A: Allocator + Copy>(alloc: A) -> Result<Ending<A>, AllocError> {
             running: 0,
             verdict: Some(Verdict::Kept),
         },
+        properties: None,
         words,
     })
 }

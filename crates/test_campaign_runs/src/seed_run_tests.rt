@@ -1,18 +1,19 @@
 //! What no clause says of the first machine of a campaign and of one seed's run: that they are had
 //! where memory is left, with each request refused in turn.
 use crate::plans::{Order, draw_of};
-use campaign_runs::{Campaign, Report, run_seed};
+use campaign_runs::{Campaign, Ending, Properties, Report, run_seed};
 use machine::{Inputs, Machine};
 use mem_flat::FlatStore;
-use object_library::Kind;
+use object_library::{Kind, Verdict};
 use outcome::{Exit, Expect};
+use property_judge::{Comparison, Property};
 use sched_draw::Draw;
 use std::alloc::{AllocError, Allocator, Global};
 use test_images::{CONDITIONAL, writable_program};
 use test_refusing::{Call, tried};
 
 // A judged run of more steps than both harts take, so that both results are told.
-fn campaign_with(draw: Draw) -> Campaign {
+fn campaign_with(draw: Draw, properties: Properties) -> Campaign {
     Campaign {
         first: 5,
         count: 1,
@@ -22,13 +23,52 @@ fn campaign_with(draw: Draw) -> Campaign {
             rule: Some(Kind::LrSc),
             exit: Exit::Must,
         },
+        properties,
         report: Report::Outcomes,
     }
 }
 
-// The run of one seed under schedules of an order.
+// The word at 0x11000 is 0 until the first store. At the start both harts are at 0x10000; none is
+// ever at 0x20000.
+const WORD: Property = Property::Always {
+    word: 0x0001_1000,
+    comparison: Comparison::Equal,
+    number: 0,
+};
+
+const NO_WORD: Property = Property::Always {
+    word: 0x0002_0000,
+    comparison: Comparison::Equal,
+    number: 0,
+};
+
+const START: Property = Property::NeverBoth {
+    from: 0x0001_0000,
+    to: 0x0001_0004,
+};
+
+const NOWHERE: Property = Property::NeverBoth {
+    from: 0x0002_0000,
+    to: 0x0002_0004,
+};
+
+// The run of one seed under schedules of an order, what its line says of two properties, and
+// the verdict on them.
 struct OneSeed {
     order: Order,
+    first: Option<Property>,
+    second: Option<Property>,
+    says: &'static str,
+    verdict: Option<Verdict>,
+}
+
+impl OneSeed {
+    // Whether a run ended so: behind the properties come the results of both harts.
+    fn is_end(&self, ending: &Ending<impl Allocator>) -> bool {
+        ending.properties == self.verdict
+            && ending.words.as_str().starts_with(self.says)
+            && ending.words.len() == self.says.len() + 56
+    }
 }
 
 impl Call for OneSeed {
@@ -36,23 +76,40 @@ impl Call for OneSeed {
         let Some(draw) = draw_of(self.order) else {
             return Ok(false);
         };
+        let properties = Properties {
+            first: self.first,
+            second: self.second,
+        };
         let image = writable_program(host, &CONDITIONAL)?;
         let Ok(inputs) = Inputs::new(&[7, 9]) else {
             return Ok(false);
         };
         let start: Machine<FlatStore<A>, A> = Machine::start(alloc, &image, &inputs)?;
-        let end = run_seed(alloc, &start, &inputs, campaign_with(draw), 5)?;
-        Ok(end.seed == 5 && end.ending.words.len() == 56)
+        let campaign = campaign_with(draw, properties);
+        let end = run_seed(alloc, &start, &inputs, campaign, 5)?;
+        Ok(end.seed == 5 && self.is_end(&end.ending))
     }
 }
 
 #[rattlefmt::skip]
-const SEEDS: [OneSeed; 5] = [
-    OneSeed { order: Order::Usual },
-    OneSeed { order: Order::Never },
-    OneSeed { order: Order::Bursts },
-    OneSeed { order: Order::Priorities },
-    OneSeed { order: Order::Mixed },
+const SEEDS: [OneSeed; 11] = [
+    OneSeed { order: Order::Usual, first: None, second: None, says: "", verdict: None },
+    OneSeed { order: Order::Never, first: None, second: None, says: "", verdict: None },
+    OneSeed { order: Order::Bursts, first: None, second: None, says: "", verdict: None },
+    OneSeed { order: Order::Priorities, first: None, second: None, says: "", verdict: None },
+    OneSeed { order: Order::Mixed, first: None, second: None, says: "", verdict: None },
+    OneSeed { order: Order::Usual, first: Some(NOWHERE), second: Some(NO_WORD),
+        says: " never-both kept always kept", verdict: Some(Verdict::Kept) },
+    OneSeed { order: Order::Usual, first: Some(NOWHERE), second: Some(WORD),
+        says: " never-both kept always broken", verdict: Some(Verdict::Broken) },
+    OneSeed { order: Order::Bursts, first: Some(START), second: Some(NO_WORD),
+        says: " never-both broken always kept", verdict: Some(Verdict::Broken) },
+    OneSeed { order: Order::Priorities, first: Some(WORD), second: None,
+        says: " always broken", verdict: Some(Verdict::Broken) },
+    OneSeed { order: Order::Mixed, first: None, second: Some(WORD),
+        says: " always broken", verdict: Some(Verdict::Broken) },
+    OneSeed { order: Order::Never, first: None, second: Some(NOWHERE),
+        says: " never-both kept", verdict: Some(Verdict::Kept) },
 ];
 
 #[test]

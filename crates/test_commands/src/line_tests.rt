@@ -47,7 +47,7 @@ fn inputs_are_read(rt: HostRuntime) {
 
 // Lines, and what is read of each: its command and the texts of its arguments, by their names.
 #[rattlefmt::skip]
-const LINES: [(&str, &str); 80] = [
+const LINES: [(&str, &str); 82] = [
     ("rvcons asm a.s", "asm IN=a.s"),
     ("rvcons asm --out o a.s b.s", "asm out=o IN=a.s IN=b.s"),
     ("rvcons asm b.s a.s --out=o", "asm out=o IN=b.s IN=a.s"),
@@ -121,6 +121,10 @@ const LINES: [(&str, &str); 80] = [
         "campaign FILE=p inputs=7,9 first=1 count=2 steps=3 refusals=r"),
     ("rvcons campaign p --inputs 7,9 --first 1 --count 2 --steps 3 --must-exit",
         "campaign FILE=p inputs=7,9 first=1 count=2 steps=3 must-exit=yes"),
+    ("rvcons campaign p --inputs 7,9 --first 1 --count 2 --steps 3 --never-both a..b",
+        "campaign FILE=p inputs=7,9 first=1 count=2 steps=3 never-both=a..b"),
+    ("rvcons campaign p --inputs 7,9 --first 1 --count 2 --steps 3 --always x",
+        "campaign FILE=p inputs=7,9 first=1 count=2 steps=3 always=x"),
     ("rvcons campaign p --inputs 7,9 --first 1 --count 2 --steps 3 --jobs 4",
         "campaign FILE=p inputs=7,9 first=1 count=2 steps=3 jobs=4"),
     ("rvcons campaign --steps 3 --count 2 --first 1 --inputs 7 --refusals r --schedule d p",

@@ -166,6 +166,8 @@ fn campaign_text(alloc: Global, order: &CampaignOrder) -> Result<String, AllocEr
         ("schedule", order.draw),
         ("refusals", order.refusals),
         ("must-exit", flag(order.must_exit)),
+        ("never-both", order.never_both),
+        ("always", order.always),
         ("jobs", order.jobs),
     ];
     text_with(alloc, "campaign", fields)

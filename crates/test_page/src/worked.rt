@@ -2,7 +2,7 @@
 ghost use Rattle.std.specs.Prelude.{◌+◌, ◌≤◌, ◌^◌};
 
 use byte_io::Status;
-use cmd_campaign::{Campaign, Report};
+use cmd_campaign::{Campaign, Properties, Report};
 use cmd_run::FileView;
 use cmd_schedule::SeedPlan;
 use cmd_trace::{TraceForm, TracePlan};
@@ -145,6 +145,7 @@ fn three_seeds(report: Report) -> Campaign
         steps: 2,
         draw: drawn(2).draw,
         expect: FILE_RUN.expect(),
+        properties: Properties::NONE,
         report,
     }
 }

@@ -1,12 +1,12 @@
 use Rattle.std.proofs.Common.{length, ap, sym, ◌∙◌}
 use Rattle.machine.specs.World.{World}
 use Rattle.campaign_runs.proofs.RunLemmas.{ending-copied}
-use Rattle.campaign_runs.proofs.seed_run.run_seed.Goals as goal
+use Rattle.campaign_runs.proofs.seed_run.run_plain.Goals as goal
 
 pub run_schedule-requires-clause-there : goal.run_schedule-requires-clause-there
 run_schedule-requires-clause-there g c = ap (λ (w : World). length w.harts) c.in_ok-machine.ensures ∙ c.requires.there ∙ sym c.harts.ensures.harts
 
 pub returns : goal.returns
 returns g c =
-    ending-copied c.args.campaign c.args.inputs.now c.args.seed _ _ _ _ _ _ _ _
+    ending-copied c.args.campaign c.args.inputs.now c.args.seed _ _ _ _ _ _ _ _ c.requires.none
     c.in_ok-machine.ensures (rw c.harts.ensures.harts at c.in_ok-chosen.ensures) c.ends.ensures c.ends-2.ensures (rw c.words.ensures.same at c.in_ok-outcome.ensures) c.in_ok-ending.ensures

@@ -1,0 +1,103 @@
+//! The properties of a campaign.
+
+ghost use Rattle.std.specs.Prelude.{◌-◌, ◌<◌, ◌^◌};
+
+use byte_io::{ReadFault, Source, Status, read_all};
+use cli_orders::CampaignOrder;
+use cli_report::{Audience, RunFiles, say_why};
+use cmd_campaign::Properties;
+use elf_read::symbols;
+use machine::Inputs;
+use program_open::{CommandFault, Input, ProgramForm, read_program};
+use property_text::{PropertyFault, read_always, read_never_both};
+use std::alloc::Global;
+use std::rt::Files;
+
+/// The bytes of an order's program, to its end, and the properties that the order's texts mean by its
+/// symbols. The error is the status of what was refused, which is reported: a fault of the program
+/// comes before that of the number of inputs, and both before that of a property.
+pub(crate) fn read_properties<R: Files + AllocGlobal + Eprint, P: Source>(
+    rt: &R,
+    audience: Audience,
+    order: &CampaignOrder,
+    inputs: &[u32],
+    program: &mut P,
+) -> Result<(Vec<u8>, Properties), Status>
+    requires { P.failures program.old < 2 ^ 64 - 1 }
+{
+    let bytes = match read_checked(rt.alloc(), inputs, program) {
+        Ok(bytes) => bytes,
+        Err(fault) => {
+            let files = RunFiles::of_program(order.file, inputs.len());
+            return Err(say_why(rt, audience, files, fault));
+        }
+    };
+    let properties = properties_among(rt, order, &bytes)?;
+    Ok((bytes, properties))
+}
+
+// The bytes of a program that an image can be made of, for a number of inputs that can start.
+fn read_checked<P: Source>(
+    alloc: Global,
+    inputs: &[u32],
+    program: &mut P,
+) -> Result<Vec<u8>, CommandFault>
+    requires { P.failures program.old < 2 ^ 64 - 1 }
+{
+    let bytes = match read_all(alloc, program) {
+        Ok(bytes) => bytes,
+        Err(ReadFault::Device) => return Err(CommandFault::Read(Input::File)),
+        Err(ReadFault::Memory) => return Err(CommandFault::Memory),
+    };
+    read_program(alloc, ProgramForm::Elf, &bytes)?;
+    Inputs::new(inputs)?;
+    Ok(bytes)
+}
+
+// The properties of an order, by the symbols of a program: of its range, and then of its word.
+fn properties_among<R: AllocGlobal + Eprint>(
+    rt: &R,
+    order: &CampaignOrder,
+    program: &[u8],
+) -> Result<Properties, Status> {
+    let symbols = match symbols(rt.alloc(), program) {
+        Ok(symbols) => symbols,
+        Err(_) => Vec::new(rt.alloc()),
+    };
+    let first = match order.never_both {
+        Some(text) => Some(property_said(rt, text, read_never_both(&symbols, text.as_bytes()))?),
+        None => None,
+    };
+    let second = match order.always {
+        Some(text) => Some(property_said(rt, text, read_always(&symbols, text.as_bytes()))?),
+        None => None,
+    };
+    Ok(Properties { first, second })
+}
+
+// What a text was read as, or its fault, which is reported.
+fn property_said<P: Copy>(
+    rt: &impl Eprint,
+    text: &str,
+    read: Result<P, PropertyFault>,
+) -> Result<P, Status> {
+    match read {
+        Ok(property) => Ok(property),
+        Err(fault) => {
+            let why = fault.advice();
+            let _ = eprintln!(rt; "rvcons: '{text}': {why}");
+            Err(Status::BadLine)
+        }
+    }
+}
+
+/// Shows the options of a campaign's properties behind a command.
+pub(crate) fn show_properties<R: Eprint>(rt: &R, order: &CampaignOrder) -> Option<()> {
+    if let Some(range) = order.never_both {
+        eprint!(rt; " --never-both {range}").ok()?;
+    }
+    if let Some(text) = order.always {
+        eprint!(rt; " --always '{text}'").ok()?;
+    }
+    Some(())
+}
