@@ -3,8 +3,8 @@
 use crate::arguments::Argument;
 use crate::help::{
     ALWAYS, BANKED, BOUNDS, BUDGET, BY_CAUSE, DRAW, DRAW_OF_SCHEDULE, FILE, HANGS, HEX, HISTORY,
-    INPUTS, INPUTS_OF_SCHEDULE, JOBS, MUST_EXIT, NEVER_BOTH, OUTCOMES, REFUSALS, REFUSE, RULE,
-    SC_REFUSALS, SUMMARY, UNTIL_FAILURE, WAYS_OUT, WORLDS, WRITTEN,
+    INPUTS, INPUTS_OF_SCHEDULE, JOBS, JSON, MUST_EXIT, NEVER_BOTH, OUTCOMES, REFUSALS, REFUSE,
+    RULE, SC_REFUSALS, SUMMARY, UNTIL_FAILURE, WAYS_OUT, WORLDS, WRITTEN,
 };
 
 /// Which options name the choices of a command's run.
@@ -74,6 +74,7 @@ pub(crate) const COMMANDS: [CommandRow; 14] = [
             Argument::Flag("must-exit", MUST_EXIT),
             Argument::Optional("never-both", NEVER_BOTH),
             Argument::Optional("always", ALWAYS),
+            Argument::Flag("json", JSON),
         ],
         schedule: Schedule::FileOrInput,
     },

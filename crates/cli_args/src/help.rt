@@ -70,6 +70,9 @@ pub(crate) const NEVER_BOTH: &str =
 pub(crate) const ALWAYS: &str =
     "a word, a comparison and a number, as 'counter <= 2': a choice after which that isn't so is a failure, with status 4";
 
+/// Of `--json`.
+pub(crate) const JSON: &str = "print one object of JSON, with the same facts";
+
 /// Of `--must-exit` of `explore`.
 pub(crate) const WAYS_OUT: &str =
     "a list after which no list lets all harts stop is a failure, with status 3";

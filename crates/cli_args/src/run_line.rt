@@ -4,9 +4,9 @@ use crate::arguments::{is_set, text_of};
 use crate::choice_text::{ChoiceText, choice_text_of};
 use clap::ArgMatches;
 
-/// `run [--hex] FILE --inputs L SCHEDULE [--rule K] [--must-exit] [--never-both R] [--always P]`:
-/// runs a program under a schedule, and prints each hart's end, with a rule its verdict, and for
-/// each property whether it was kept.
+/// `run [--hex] FILE --inputs L SCHEDULE [--rule K] [--must-exit] [--never-both R] [--always P]
+/// [--json]`: runs a program under a schedule, and prints each hart's end, with a rule its verdict,
+/// and for each property whether it was kept.
 #[derive(Drop)]
 pub struct RunOrder<'a> {
     /// Whether the file has words in hexadecimal.
@@ -25,6 +25,8 @@ pub struct RunOrder<'a> {
     pub never_both: Option<&'a str>,
     /// What a word of memory must be after each choice.
     pub always: Option<&'a str>,
+    /// Whether an object of JSON is printed in place of lines.
+    pub json: bool,
 }
 
 impl<'a> RunOrder<'a> {
@@ -45,5 +47,6 @@ pub fn run_order<'a>(matches: &ArgMatches<'a>) -> Option<RunOrder<'a>> {
         must_exit: is_set(matches, "must-exit"),
         never_both: text_of(matches, "never-both"),
         always: text_of(matches, "always"),
+        json: is_set(matches, "json"),
     })
 }

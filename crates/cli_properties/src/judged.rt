@@ -1,4 +1,4 @@
-//! Runs `run` with properties.
+//! Runs `run` with properties, or for an object of JSON.
 
 use crate::breaks::show_breaks;
 use crate::said::properties_said;
@@ -6,27 +6,32 @@ use byte_io::{Status, WriterSink};
 use cli_args::RunOrder;
 use cli_report::{Audience, RunChoices, RunFiles, form_said, inputs_said, open_run, say_why};
 use cli_run::{expect_said, explain_failure, has_failed, obey_run};
-use cmd_properties::judged_text;
+use cmd_properties::{Form, judged_text};
 use program_named::open_named;
-use program_open::{CommandFault, deliver};
-use std::alloc::AllocError;
+use program_open::{CommandFault, write_text};
 use std::io;
 use std::rt::Files;
 
 /// Runs a program under choices, those of its order, and judges the order's properties, if it has
-/// some. The program, and the file of the choices if there is one, are opened before either is
-/// read. The error is the status of what was refused, which is reported.
+/// some; prints lines, or an object of JSON. The program, and the file of the choices if there is
+/// one, are opened before either is read. The error is the status of what was refused, which is
+/// reported.
 pub fn obey_any_run<R: Files + AllocGlobal + Print + Eprint>(
     rt: &R,
     audience: Audience,
     order: &RunOrder,
     choices: RunChoices<'_>,
 ) -> Result<Status, Status> {
-    if order.has_properties() {
+    if order.has_properties() || order.json {
         obey_judged(rt, audience, order, choices)
     } else {
         obey_run(rt, audience, order, choices)
     }
+}
+
+// The form in which an order is answered.
+fn form_of(order: &RunOrder) -> Form {
+    if order.json { Form::Json } else { Form::Text }
 }
 
 // Runs a program under choices, and judges the order's properties.
@@ -51,12 +56,12 @@ fn obey_judged<R: Files + AllocGlobal + Print + Eprint>(
         Err(fault) => return Err(say_why(rt, audience, files, fault)),
     };
     let mut judged = properties_said(rt, &run.symbols, order)?;
-    let answer = match judged_text(rt.alloc(), &run.opened, expect, &mut judged) {
-        Ok(answer) => Ok(answer),
-        Err(AllocError) => Err(CommandFault::Memory),
+    let shown = form_of(order);
+    let Ok((text, status)) = judged_text(rt.alloc(), shown, &run.opened, expect, &mut judged) else {
+        return Err(say_why(rt, audience, files, CommandFault::Memory));
     };
-    match deliver(&mut WriterSink::new(io::writer(rt)), answer) {
-        Ok(status) => {
+    match write_text(&mut WriterSink::new(io::writer(rt)), &text) {
+        Ok(()) => {
             if has_failed(status) && audience.is_told() {
                 let _ = explain_failure(rt, order, &inputs, choices, expect.rule);
                 show_breaks(rt, &run, &judged);

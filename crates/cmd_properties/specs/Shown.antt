@@ -1,14 +1,20 @@
--- What is printed of a run in which properties were judged, and its status.
+-- What is printed of a run in which properties may have been judged, and its status.
 use Rattle.std.specs.Prelude.{ℕ, Bool, true, false, List, ◌++◌, Option, Some, None, if◌then◌else◌}
 use Rattle.std.specs.List.{list_any}
 use Rattle.machine.specs.World.{World}
 use Rattle.machine.specs.declared.choice.Choice.{Choice}
 use Rattle.byte_io.specs.declared.status.Status.{Status}
 use Rattle.byte_io.specs.declared.status.Status.TheVariants as status
+use Rattle.hart_step.specs.Hart.{HartValue}
+use Rattle.object_library.specs.declared.verdict.Verdict.{Verdict}
+use Rattle.outcome.specs.Ends.{lines_of_ends, verdict_on}
 use Rattle.outcome.specs.declared.expect.Expect.{Expect}
 use Rattle.property_judge.specs.declared.judged.Judged.{Judged}
 use Rattle.cmd_run.specs.Run.{shown}
+use Rattle.cmd_json.specs.declared.form.Form.{Form}
+use Rattle.cmd_json.specs.declared.form.Form.TheVariants.{Text, Json}
 use Rattle.cmd_properties.specs.Lines.{judged_lines}
+use Rattle.cmd_properties.specs.Objects.{run_object}
 
 -- whether a property is broken
 abbrev pub is_broken : Judged → Bool
@@ -26,10 +32,15 @@ has_broken judged = list_any is_broken judged
 abbrev pub status_with : List Judged → Status → Status
 status_with judged code = if has_broken judged then status.Broken else code
 
--- the printed run with the lines of its properties, and its status
-abbrev pub with_properties : List Judged → List ℕ × Status → List ℕ × Status
-with_properties judged (lines, code) = (lines ++ judged_lines judged, status_with judged code)
+-- what is printed of a run: the lines of `run`, and then those of its properties; or an object
+abbrev pub printed : Form → Option Verdict → List HartValue → List Judged → List ℕ
+printed Text verdict harts judged = lines_of_ends verdict harts ++ judged_lines judged
+printed Json verdict harts judged = run_object verdict harts judged
 
--- the printed world after a list of choices, with the verdict and the properties
-abbrev pub judged_shown : Expect → List ℕ → List Choice → List Judged → World → List ℕ × Status
-judged_shown expect inputs choices judged w = with_properties judged (shown expect inputs choices w)
+-- what is printed of the world after a list of choices, with the verdict and the properties, and
+-- the status
+abbrev pub judged_shown : Form → Expect → List ℕ → List Choice → List Judged → World → List ℕ × Status
+judged_shown form expect inputs choices judged w = (
+  printed form (verdict_on expect.rule inputs choices w.harts) w.harts judged,
+  status_with judged (shown expect inputs choices w).1,
+)

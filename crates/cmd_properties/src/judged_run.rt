@@ -1,16 +1,21 @@
-//! A run in which properties are judged.
-ghost use Rattle.std.specs.Prelude.{◌≡◌, ◌<◌, ℕ, IfOk, List, length, map, string_bytes};
+//! A run in which properties may be judged.
+ghost use Rattle.std.specs.Prelude.{◌≡◌, ◌<◌, ℕ, IfOk, List, length, map};
 ghost use Rattle.std.specs.List.{All};
 ghost use Rattle.machine.specs.Start.{started};
 ghost use Rattle.property_judge.specs.Judged.{judged_run};
 ghost use Rattle.cmd_run.specs.Run.{world_after};
-ghost use Rattle.cmd_properties.specs.Shown.{has_broken, judged_shown, status_with};
+ghost use Rattle.cmd_properties.specs.Shown.{has_broken, judged_shown, printed, status_with};
+ghost use Rattle.hart_step.specs.Hart.{hart_of};
 
 use crate::lines::push_lines;
+use crate::objects::run_object;
 use byte_io::Status;
-use cmd_run::{Expect, ends_text};
+use cmd_json::Form;
+use hart_step::Hart;
 use machine::{Machine, Stopped};
 use mem_flat::FlatStore;
+use object_library::Verdict;
+use outcome::{Expect, Outcome, lines_text, verdict_on};
 use program_open::OpenRun;
 use property_judge::{Judged, judge_run};
 use std::alloc::{AllocError, Allocator};
@@ -33,35 +38,53 @@ fn status_with(judged: &[Judged], status: Status) -> Status
     }
 }
 
+// What is printed of a run in this form.
+fn printed<A: Allocator + Copy>(
+    alloc: A,
+    form: Form,
+    verdict: Option<Verdict>,
+    harts: &[Hart],
+    judged: &[Judged],
+) -> Result<Vec<u8, A>, AllocError>
+    ensures { IfOk result (λ text. text.items
+        ≡ printed form verdict (map hart_of harts.now) judged.now) }
+{
+    match form {
+        Form::Text => {
+            let mut text = lines_text(alloc, verdict, harts)?;
+            push_lines(&mut text, judged)?;
+            Ok(text.into_bytes())
+        }
+        Form::Json => run_object(alloc, verdict, harts, judged),
+    }
+}
+
 /// Runs an opened run's choices, and judges the properties at the start and after each choice.
-/// Returns what `run` prints of it and then a line for each property; and the status, `Broken` if
-/// one is broken, else that of the run. The only error is out of memory.
+/// Returns in this form what `run` prints of it and whether each property is broken; and the
+/// status, `Broken` if one is broken, else that of the run. The only error is out of memory.
 pub fn judged_text<A: Allocator + Copy>(
     alloc: A,
+    form: Form,
     run: &OpenRun<A>,
     expect: Expect,
     judged: &mut [Judged],
-) -> Result<(String<A>, Status), AllocError>
+) -> Result<(Vec<u8, A>, Status), AllocError>
     requires { All (λ c. c.hart < length run.now.inputs) run.now.choices.items }
     ensures judged { IfOk result (λ _. judged.new
         ≡ map (judged_run (started run.now.image run.now.inputs) run.now.choices.items) judged.old) }
     ensures shown { IfOk result (λ answer.
-        judged_shown expect run.now.inputs run.now.choices.items judged.new
+        judged_shown form expect run.now.inputs run.now.choices.items judged.new
         (world_after run.now.image run.now.inputs run.now.choices.items)
-        ≡ (string_bytes answer.0, answer.1)) }
+        ≡ (answer.0.items, answer.1)) }
 {
     let mut machine: Machine<FlatStore<A>, A> = Machine::start(alloc, &run.image, &run.inputs)?;
     match judge_run(&mut machine, &run.choices, judged) {
         Ok(()) => {}
         Err(Stopped { .. }) => return Err(AllocError),
     }
-    let (mut text, status) = ends_text(
-        alloc,
-        expect,
-        run.inputs.words(),
-        &run.choices,
-        machine.ends(),
-    )?;
-    push_lines(&mut text, judged)?;
+    let harts = machine.ends();
+    let verdict = verdict_on(expect.rule, run.inputs.words(), &run.choices, harts);
+    let text = printed(alloc, form, verdict, harts, judged)?;
+    let status = expect.status(Outcome::of(verdict, harts));
     Ok((text, status_with(judged, status)))
 }

@@ -25,9 +25,9 @@ impl fmt::Display for OrderName {
     }
 }
 
-// A comparison, shown as a text of `--always` has it.
+/// A comparison, shown as a text of `--always` has it.
 #[derive(Clone, Copy)]
-struct ComparisonName(Comparison);
+pub(crate) struct ComparisonName(pub(crate) Comparison);
 
 impl fmt::Display for ComparisonName {
     ghost output = { λ c. Some (comparison_name c.0) };

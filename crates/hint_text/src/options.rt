@@ -41,6 +41,9 @@ pub(crate) const COMMANDS: [Row; 14] = [
             "--refusals",
             "--rule",
             "--must-exit",
+            "--never-both",
+            "--always",
+            "--json",
         ],
         example: "rvcons run prog.elf --inputs 7,9 --choices turns.choices",
     },
@@ -232,7 +235,7 @@ pub(crate) const OTHER_OPTIONS: [(&[&str], &str); 14] = [
     ),
     (
         &["--json", "--markdown", "--md", "--format"],
-        "rvcons trace prints lines of JSON, and with --table a table in Markdown",
+        "rvcons trace prints lines of JSON, and with --table a table in Markdown; run prints an object by --json",
     ),
     (
         &["--begin", "--end", "--range", "--from", "--to"],

@@ -65,6 +65,12 @@ fn run<R: Files + AllocGlobal + Print + Eprint + Input>(
             "this is the program of run alone: the whole program judges properties",
         ));
     }
+    if order.json {
+        return Err(bad_line(
+            rt,
+            "this is the program of run alone: the whole program prints JSON",
+        ));
+    }
     let held = match order.choices {
         ChoiceText::File(_) | ChoiceText::List(_) => Vec::new(rt.alloc()),
         ChoiceText::Input => read_input_to_end(rt)?,

@@ -47,7 +47,7 @@ fn inputs_are_read(rt: HostRuntime) {
 
 // Lines, and what is read of each: its command and the texts of its arguments, by their names.
 #[rattlefmt::skip]
-const LINES: [(&str, &str); 82] = [
+const LINES: [(&str, &str); 83] = [
     ("rvcons asm a.s", "asm IN=a.s"),
     ("rvcons asm --out o a.s b.s", "asm out=o IN=a.s IN=b.s"),
     ("rvcons asm b.s a.s --out=o", "asm out=o IN=b.s IN=a.s"),
@@ -68,6 +68,7 @@ const LINES: [(&str, &str); 82] = [
         "run FILE=p inputs=7,9 choices=c never-both=a..b"),
     ("rvcons run p --inputs 7,9 --always x --choices c",
         "run FILE=p inputs=7,9 choices=c always=x"),
+    ("rvcons run p --json --inputs 7,9 --choices c", "run FILE=p inputs=7,9 choices=c json=yes"),
     ("rvcons run p --must-exit --inputs 7,9 --rule k --choices c --hex",
         "run hex=yes FILE=p inputs=7,9 choices=c rule=k must-exit=yes"),
     ("rvcons run p --inputs 7,9 --list 0*3", "run FILE=p inputs=7,9 list=0*3"),

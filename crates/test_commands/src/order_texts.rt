@@ -109,6 +109,7 @@ fn run_text(alloc: Global, order: &RunOrder) -> Result<String, AllocError> {
         ("must-exit", flag(order.must_exit)),
         ("never-both", order.never_both),
         ("always", order.always),
+        ("json", flag(order.json)),
     ];
     push_fields(&mut text, fields)?;
     Ok(text)

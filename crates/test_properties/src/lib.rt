@@ -4,6 +4,8 @@
 #[cfg(test)]
 mod comparison_tests;
 #[cfg(test)]
+mod object_tests;
+#[cfg(test)]
 mod run_tests;
 #[cfg(test)]
 mod shown_tests;

@@ -1,6 +1,7 @@
 //! Worked runs, with each request for memory refused in turn: what `run` prints of their
 //! properties, and its status.
 use byte_io::Status;
+use cmd_json::Form;
 use cmd_properties::judged_text;
 use machine::Inputs;
 use outcome::{Exit, Expect};
@@ -93,8 +94,8 @@ impl Call for Row {
             property,
             broken: None,
         });
-        let (text, status) = judged_text(alloc, &run, expect, &mut judged)?;
-        Ok(text.as_str() == self.shown && status == self.status)
+        let (text, status) = judged_text(alloc, Form::Text, &run, expect, &mut judged)?;
+        Ok(text.as_slice() == self.shown.as_bytes() && status == self.status)
     }
 }
 
