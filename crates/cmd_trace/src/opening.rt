@@ -13,7 +13,7 @@ ghost use Rattle.cmd_trace.specs.declared.plan.TracePlan.{TracePlan};
 
 use byte_io::Source;
 use program_named::{NamedText, open_named_text};
-use program_open::{CommandFault, ProgramForm};
+use program_open::{CommandFault, Input, ProgramForm};
 use std::alloc::Allocator;
 
 /// Reads a program in this form to its end, checks the number of inputs, and reads the bytes of the

@@ -16,6 +16,7 @@ use crate::opening::open_trace;
 use crate::plan::TracePlan;
 use crate::writing::write_trace;
 use byte_io::{Sink, Source, Status};
+use program_named::NamedText;
 use program_open::{CommandFault, Input, ProgramForm};
 use std::alloc::Allocator;
 

@@ -15,6 +15,7 @@ use crate::plan::{TraceForm, TracePlan, span_of};
 use crate::teller::Teller;
 use byte_io::Sink;
 use machine::Inputs;
+use program_named::{NamedProgram, NamedText};
 use program_open::CommandFault;
 use std::alloc::{AllocError, Allocator};
 use trace_text::{Span, push_head, push_head_rows};

@@ -172,6 +172,34 @@ fn safe_answer<A: Allocator + Copy>(
     }
 }
 
+// Searches, and answers by what was found.
+fn searched_answer<A: Allocator + Copy>(
+    alloc: A,
+    image: &Image<A>,
+    inputs: &Inputs,
+    explorer: &mut Explorer<A>,
+    meant: &[Choice],
+    question: Question,
+    progress: &mut impl Progress,
+) -> Result<Answer<A>, AllocError>
+    requires meant { meant.now ≡ meant_choices question.refusals (length inputs.now) }
+    requires image { explorer.old.known.image.now ≡ image.now }
+    requires inputs { explorer.old.inputs.now ≡ inputs.now }
+    requires rule { explorer.old.rule ≡ question.expect.rule }
+    ensures holds { IfOk result (λ answer. HoldsOfEvery question.expect.rule question.refusals image.now inputs.now answer) }
+    ensures places { IfOk result (λ answer. CountsPlaces question.refusals image.now inputs.now question.most answer) }
+    ensures ends { IfOk result (λ answer. TellsEnds question.expect.rule question.refusals image.now inputs.now answer) }
+    ensures exits { IfOk result (λ answer. TellsExits question.expect.exit question.refusals image.now inputs.now answer) }
+    ensures bounds { IfOk result (λ answer. TellsBounds question.bounds question.refusals image.now inputs.now answer) }
+{
+    let edges = edges_for(question.expect.exit, question.bounds);
+    match search(alloc, explorer, meant, question.most, edges, progress)? {
+        Found::Safe(seen) => safe_answer(alloc, image, inputs, explorer, meant, &seen, question),
+        Found::Bad(turns) => Ok(Answer::Fails(choices_and_turns(alloc, image, inputs, &turns)?)),
+        Found::Undecided => Ok(Answer::Undecided),
+    }
+}
+
 /// Whether a list of the harts' choices, of any length, leads a program with these inputs to a
 /// failure: a broken rule, or without a rule a hart that has faulted. None does; or one does, which
 /// is given; or turns reach more places than may be looked at. Where each hart must exit and none
@@ -191,15 +219,15 @@ pub fn explore<A: Allocator + Copy>(
     ensures exits { IfOk result (λ answer. TellsExits question.expect.exit question.refusals image.now inputs.now answer) }
     ensures bounds { IfOk result (λ answer. TellsBounds question.bounds question.refusals image.now inputs.now answer) }
 {
-    let expect = question.expect;
     let meant = meant_choices(alloc, question.refusals, inputs.harts())?;
-    let mut explorer = Explorer::new(alloc, image, inputs, expect.rule)?;
-    let edges = edges_for(expect.exit, question.bounds);
-    match search(alloc, &mut explorer, &meant, question.most, edges, progress)? {
-        Found::Safe(seen) => {
-            safe_answer(alloc, image, inputs, &explorer, &meant, &seen, question)
-        }
-        Found::Bad(turns) => Ok(Answer::Fails(choices_and_turns(alloc, image, inputs, &turns)?)),
-        Found::Undecided => Ok(Answer::Undecided),
-    }
+    let mut explorer = Explorer::new(alloc, image, inputs, question.expect.rule)?;
+    searched_answer(
+        alloc,
+        image,
+        inputs,
+        &mut explorer,
+        &meant,
+        question,
+        progress,
+    )
 }
