@@ -6,9 +6,7 @@ use Rattle.explore_laws.specs.Places.{Place, place_begun}
 use Rattle.explore_laws.specs.Settling.{turns_choices}
 use Rattle.explore_laws.specs.Safe.{IsSafe}
 use Rattle.explore_search.specs.Answers.{AreAllReached}
-use Rattle.explore_search.specs.Counted.{HasPlaces}
 use Rattle.explore_space.specs.Ends.{AreEndsAt, ends_in}
-use Rattle.explore_space.specs.Every.{meant_choices}
 use Rattle.explore_space.specs.Failing.{fails_there}
 use Rattle.explore_space.specs.Places.{IsKey, place_of_key}
 use Rattle.explore_space.proofs.EveryEnds.{all_fit, count_is, ends_are_all}
@@ -29,21 +27,14 @@ ends_at_keys-requires-clause-fit g c =
     space.known.shareds.parts.items c.args.seen.now.keys n reached in
     rw c.words.ensures.same (rw c.known_harts-harts.ensures fit)
 
-pub returns-in-None-clause-holds : goal.returns-in-None-clause-holds
-returns-in-None-clause-holds g c =
+pub returns-in_ok-bounds-in-None-clause-holds : goal.returns-in_ok-bounds-in-None-clause-holds
+returns-in_ok-bounds-in-None-clause-holds g c =
     safe_is_safe c.args.question.expect.rule c.args.question.refusals c.args.image.now c.args.inputs.now
     (subst (λ (ms : List Choice). IsSafe ms (place_begun (started c.args.image.now c.args.inputs.now)) (fails_there c.args.question.expect.rule c.args.inputs.now))
     c.requires.meant c.requires.safe)
 
-pub returns-in-None-clause-places : goal.returns-in-None-clause-places
-returns-in-None-clause-places g c =
-    subst (HasPlaces (meant_choices c.args.question.refusals (length c.args.inputs.now)) (place_begun (started c.args.image.now c.args.inputs.now)))
-    (sym c.len-places.ensures)
-    (subst (λ (ms : List Choice). HasPlaces ms (place_begun (started c.args.image.now c.args.inputs.now)) (length c.args.seen.now.keys))
-    c.requires.meant c.requires.counts)
-
-pub returns-in-None-clause-ends : goal.returns-in-None-clause-ends
-returns-in-None-clause-ends g c =
+pub returns-in_ok-bounds-in-None-clause-ends : goal.returns-in_ok-bounds-in-None-clause-ends
+returns-in_ok-bounds-in-None-clause-ends g c =
     let space = c.args.explorer.now in
     let n = length space.inputs.now in
     let keys = IsKey space.known.image.now n space.known.harts.parts.items space.known.shareds.parts.items in
@@ -59,13 +50,13 @@ returns-in-None-clause-ends g c =
     (subst (λ (l : List ℕ). AreEndsAt c.args.question.expect.rule l c.known_harts-harts.result.now c.args.seen.now.keys (ends_in c.in_ok-ends-in-None.ends))
     c.words.ensures.same c.in_ok-ends-in-None.ensures))
 
-pub returns-in-None-clause-exits : goal.returns-in-None-clause-exits
-returns-in-None-clause-exits g c =
-    held_exits c.args.question.refusals c.args.image.now c.args.inputs.now c.args.question.expect.exit _ c.in_ok-stuck_turns.field-0 c.in-None.is
-    (moved_exit c.args.question.expect.exit c.in_ok-stuck_turns.field-0 c.requires.meant c.requires.first c.in_ok-stuck_turns.ensures)
+pub returns-in_ok-bounds-in-None-clause-exits : goal.returns-in_ok-bounds-in-None-clause-exits
+returns-in_ok-bounds-in-None-clause-exits g c =
+    held_exits c.args.question.refusals c.args.image.now c.args.inputs.now c.args.question.expect.exit _ c.in_ok-turns.field-0 c.in-None.is
+    (moved_exit c.args.question.expect.exit c.in_ok-turns.field-0 c.requires.meant c.requires.first c.in_ok-turns.ensures)
 
-pub returns-in-None-clause-bounds : goal.returns-in-None-clause-bounds
-returns-in-None-clause-bounds g c =
+pub returns-in_ok-bounds-in-None-clause-bounds : goal.returns-in_ok-bounds-in-None-clause-bounds
+returns-in_ok-bounds-in-None-clause-bounds g c =
     let space = c.args.explorer.now in
     let n = length space.inputs.now in
     let keys = IsKey space.known.image.now n space.known.harts.parts.items space.known.shareds.parts.items in
@@ -89,17 +80,17 @@ asked_bounds-requires-clause-meant g c =
     space.known.shareds.parts.items c.args.seen.now.keys n reached in
     moved_may c.requires.meant count (all_may_step c.args.question.refusals (length c.args.inputs.now))
 
-pub returns-in-Some-clause-holds : goal.returns-in-Some-clause-holds
-returns-in-Some-clause-holds g c =
+pub returns-in_ok-choices_and_turns-in-Some-clause-holds : goal.returns-in_ok-choices_and_turns-in-Some-clause-holds
+returns-in_ok-choices_and_turns-in-Some-clause-holds g c =
     safe_is_safe c.args.question.expect.rule c.args.question.refusals c.args.image.now c.args.inputs.now
     (subst (λ (ms : List Choice). IsSafe ms (place_begun (started c.args.image.now c.args.inputs.now)) (fails_there c.args.question.expect.rule c.args.inputs.now))
     c.requires.meant c.requires.safe)
 
-pub returns-in-Some-clause-exits : goal.returns-in-Some-clause-exits
-returns-in-Some-clause-exits g c =
-    hanging_exits c.args.question.refusals c.args.image.now c.args.inputs.now c.args.question.expect.exit _ c.in_ok-stuck_turns.field-0 c.in-Some.turns
+pub returns-in_ok-choices_and_turns-in-Some-clause-exits : goal.returns-in_ok-choices_and_turns-in-Some-clause-exits
+returns-in_ok-choices_and_turns-in-Some-clause-exits g c =
+    hanging_exits c.args.question.refusals c.args.image.now c.args.inputs.now c.args.question.expect.exit _ c.in_ok-turns.field-0 c.in-Some.turns
     c.in-Some.is
-    (moved_exit c.args.question.expect.exit c.in_ok-stuck_turns.field-0 c.requires.meant c.requires.first c.in_ok-stuck_turns.ensures)
+    (moved_exit c.args.question.expect.exit c.in_ok-turns.field-0 c.requires.meant c.requires.first c.in_ok-turns.ensures)
     (c.in_ok-choices_and_turns-in-Some.ensures.choices
-    ∙ ap (turns_choices (started c.args.image.now c.args.inputs.now)) c.deref-in-Some.ensures.value)
-    (ap length (sym c.deref-in-Some.ensures.value) ∙ c.in_ok-choices_and_turns-in-Some.ensures.turns)
+    ∙ ap (turns_choices (started c.args.image.now c.args.inputs.now)) c.deref.ensures.value)
+    (ap length (sym c.deref.ensures.value) ∙ c.in_ok-choices_and_turns-in-Some.ensures.turns)

@@ -19,13 +19,13 @@ safe_answer-requires-clause-first g c =
 pub safe_answer-requires-clause-safe : goal.safe_answer-requires-clause-safe
 safe_answer-requires-clause-safe g c =
     moved (λ m i n r f. SearchAnswers m (place_begun (started i n)) (fails_there r n) f)
-    refl c.requires.image
+    (λ i. c.args.meant.now) c.requires.image
     c.requires.inputs c.requires.rule c.in-Safe.is c.in_ok-seen.ensures.answers
 
 pub safe_answer-requires-clause-counts : goal.safe_answer-requires-clause-counts
 safe_answer-requires-clause-counts g c =
     moved (λ m i n r f. SearchCounts m (place_begun (started i n)) c.args.question.most f)
-    refl c.requires.image
+    (λ i. c.args.meant.now) c.requires.image
     c.requires.inputs c.requires.rule c.in-Safe.is c.in_ok-seen.ensures.counts
 
 pub safe_answer-requires-clause-seen : goal.safe_answer-requires-clause-seen
@@ -35,7 +35,7 @@ safe_answer-requires-clause-seen g c =
     let keys = IsKey space.known.image.now n space.known.harts.parts.items space.known.shareds.parts.items in
     let place = place_of_key space.known.image.now n space.known.harts.parts.items space.known.shareds.parts.items in
     subst (λ (ms : List Choice). AreAllSeen keys place (place_begun (started space.known.image.now space.inputs.now)) ms c.in-Safe.seen.keys
-    c.in-Safe.seen.links.items) refl
+    c.in-Safe.seen.links.items) (λ i. c.args.meant.now)
     (subst (λ p. AreAllSeen keys place p c.args.meant.now c.in-Safe.seen.keys c.in-Safe.seen.links.items) (sym c.in_ok-seen.ensures.first)
     (subst (λ f. SearchSees keys place c.args.meant.now
     (place_begun (started c.args.explorer.now.known.image.now c.args.explorer.now.inputs.now)) f) c.in-Safe.is
@@ -48,7 +48,7 @@ safe_answer-requires-clause-reaches g c =
     let keys = IsKey space.known.image.now n space.known.harts.parts.items space.known.shareds.parts.items in
     let place = place_of_key space.known.image.now n space.known.harts.parts.items space.known.shareds.parts.items in
     subst (λ (ms : List Choice). AreAllReached keys place ms (place_begun (started space.known.image.now space.inputs.now)) c.in-Safe.seen.keys)
-    refl
+    (λ i. c.args.meant.now)
     (subst (λ p. AreAllReached keys place c.args.meant.now p c.in-Safe.seen.keys) (sym c.in_ok-seen.ensures.first)
     (subst (λ f. SearchReaches keys place c.args.meant.now
     (place_begun (started c.args.explorer.now.known.image.now c.args.explorer.now.inputs.now)) f) c.in-Safe.is
@@ -60,7 +60,7 @@ safe_answer-requires-clause-exit_edges g c =
     let n = length space.inputs.now in
     let place = place_of_key space.known.image.now n space.known.harts.parts.items space.known.shareds.parts.items in
     leads_where place c.args.question.expect.exit c.args.question.bounds c.edges_for-edges.ensures c.in-Safe.is
-    refl c.in_ok-seen.ensures.leads
+    (λ i. c.args.meant.now) c.in_ok-seen.ensures.leads
 
 pub safe_answer-requires-clause-bound_edges : goal.safe_answer-requires-clause-bound_edges
 safe_answer-requires-clause-bound_edges g c =
@@ -68,21 +68,15 @@ safe_answer-requires-clause-bound_edges g c =
     let n = length space.inputs.now in
     let place = place_of_key space.known.image.now n space.known.harts.parts.items space.known.shareds.parts.items in
     leads_asked place c.args.question.expect.exit c.args.question.bounds c.edges_for-edges.ensures c.in-Safe.is
-    refl c.in_ok-seen.ensures.leads
+    (λ i. c.args.meant.now) c.in_ok-seen.ensures.leads
 
-pub returns-in-Bad-clause-holds : goal.returns-in-Bad-clause-holds
-returns-in-Bad-clause-holds g c =
+pub returns-in_ok-choices_and_turns-in-Bad-clause-holds : goal.returns-in_ok-choices_and_turns-in-Bad-clause-holds
+returns-in_ok-choices_and_turns-in-Bad-clause-holds g c =
     bad_is_bad c.args.question.expect.rule c.args.question.refusals c.args.image.now c.args.inputs.now c.in-Bad.turns.items
     c.in_ok-choices_and_turns-in-Bad.field-0.choices.items c.in_ok-choices_and_turns-in-Bad.field-0.turns
     (moved (λ m i n r f. SearchAnswers m (place_begun (started i n)) (fails_there r n) f)
     c.requires.meant c.requires.image
     c.requires.inputs c.requires.rule c.in-Bad.is c.in_ok-seen.ensures.answers)
     (c.in_ok-choices_and_turns-in-Bad.ensures.choices
-    ∙ ap (turns_choices (started c.args.image.now c.args.inputs.now)) c.deref-in-Bad.ensures.value)
-    (ap length (sym c.deref-in-Bad.ensures.value) ∙ c.in_ok-choices_and_turns-in-Bad.ensures.turns)
-
-pub returns-clause-places : goal.returns-clause-places
-returns-clause-places g c =
-    moved (λ m i n r f. SearchCounts m (place_begun (started i n)) c.args.question.most f)
-    c.requires.meant c.requires.image
-    c.requires.inputs c.requires.rule c.in-Undecided.is c.in_ok-seen.ensures.counts
+    ∙ ap (turns_choices (started c.args.image.now c.args.inputs.now)) c.deref.ensures.value)
+    (ap length (sym c.deref.ensures.value) ∙ c.in_ok-choices_and_turns-in-Bad.ensures.turns)
