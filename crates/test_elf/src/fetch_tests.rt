@@ -89,13 +89,16 @@ fn is_guarded<S: FromImage<Global>>(alloc: Global, split: &Split) -> Result<bool
     )
 }
 
-// Whether a hart's step is right over memory of each kind.
+// Whether a hart's step is right over memory of a kind.
+fn is_right_over<S: FromImage<Global>>(alloc: Global, split: &Split) -> Result<bool, ElfFault> {
+    Ok(is_executed::<S>(alloc, split)? && is_guarded::<S>(alloc, split)?)
+}
+
+// Whether it is right over memory of each kind.
 fn is_right(alloc: Global, split: &Split) -> Result<bool, ElfFault> {
     Ok(
-        is_executed::<FlatStore<Global>>(alloc, split)?
-            && is_executed::<PageStore<Global>>(alloc, split)?
-            && is_guarded::<FlatStore<Global>>(alloc, split)?
-            && is_guarded::<PageStore<Global>>(alloc, split)?,
+        is_right_over::<FlatStore<Global>>(alloc, split)?
+            && is_right_over::<PageStore<Global>>(alloc, split)?,
     )
 }
 

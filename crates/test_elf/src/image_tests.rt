@@ -32,7 +32,7 @@ struct Row {
 
 /// The limit of each check, and pairs of neighbours in the order of the checks that both fail.
 #[rattlefmt::skip]
-const CHECKS: [Row; 15] = [
+static CHECKS: [Row; 15] = [
     Row { name: "nothing", entry: 0, parts: &[], fault: None },
     Row { name: "one shared byte", entry: 0, parts: &[(0x1000, 0x11, 0), (0x1010, 0x10, 0)], fault: Some(ElfFault::Overlap) },
     Row { name: "one shared byte, later first", entry: 0, parts: &[(0x1010, 0x10, 0), (0x1000, 0x11, 0)], fault: Some(ElfFault::Overlap) },
@@ -56,9 +56,13 @@ fn fault_of(alloc: Global, row: &Row) -> Result<Option<ElfFault>, AllocError> {
     Ok(Image::new(alloc, row.entry, segments).err())
 }
 
+fn checks() -> &'static [Row] {
+    &CHECKS
+}
+
 #[test]
 fn each_check_has_its_limit_and_its_place(rt: HostRuntime) {
-    for row in &CHECKS {
+    for row in checks() {
         assert!(rt; fault_of(rt.alloc(), row) == Ok(row.fault), "{}", row.name);
     }
 }

@@ -108,7 +108,7 @@ struct Patched {
 }
 
 #[rattlefmt::skip]
-const PATCHED: [Patched; 20] = [
+static PATCHED: [Patched; 20] = [
     // Fields that matter only in some files.
     Patched { name: "no headers, and their size is 0", patches: &[(40, 52), (44, 0x0028_0000)], fault: None },
     Patched { name: "no headers, and the file's header has another size", patches: &[(40, 51), (44, 0x0028_0000)], fault: Some(ElfFault::HeaderSize) },
@@ -134,9 +134,13 @@ const PATCHED: [Patched; 20] = [
     Patched { name: "two segments filled from the same bytes", patches: &[(88, 116)], fault: None },
 ];
 
+fn patched_rows() -> &'static [Patched] {
+    &PATCHED
+}
+
 #[test]
 fn fields_are_looked_at_where_they_count(rt: HostRuntime) {
-    for row in &PATCHED {
+    for row in patched_rows() {
         assert!(rt;
             fault_of(rt.alloc(), row.patches) == Ok(row.fault),
             "{}",

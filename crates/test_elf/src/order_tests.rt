@@ -48,7 +48,7 @@ impl Break {
 
 /// The changes in the order of the checks.
 #[rattlefmt::skip]
-const BREAKS: [Break; 21] = [
+static BREAKS: [Break; 21] = [
     Break::Bytes(ElfFault::Magic, &[(0, 0x7e)]),
     Break::Bytes(ElfFault::Class, &[(4, 2)]),
     Break::Bytes(ElfFault::Encoding, &[(5, 2)]),
@@ -71,6 +71,10 @@ const BREAKS: [Break; 21] = [
     Break::Bytes(ElfFault::EntryAlign, &[(24, 2)]),
     Break::Nothing,
 ];
+
+fn breaks() -> &'static [Break] {
+    &BREAKS
+}
 
 /// The header of the one segment that each file has.
 const SEGMENT: [Header; 1] = [[1, 0, 0x0001_0000, 1, 1]];
@@ -126,7 +130,7 @@ fn is_told_first(alloc: Global, one: &Break, other: &Break) -> Result<bool, Allo
 
 // Whether the fault of the row at a place is reported before that of each later row.
 fn is_told_before_later(alloc: Global, place: usize, one: &Break) -> Result<bool, AllocError> {
-    for other in BREAKS.iter().skip(place.saturating_add(1)) {
+    for other in breaks().iter().skip(place.saturating_add(1)) {
         if !is_told_first(alloc, one, other)? {
             return Ok(false);
         }
@@ -136,7 +140,7 @@ fn is_told_before_later(alloc: Global, place: usize, one: &Break) -> Result<bool
 
 #[test]
 fn of_two_faults_the_first_is_told(rt: HostRuntime) {
-    for (place, one) in BREAKS.iter().enumerate() {
+    for (place, one) in breaks().iter().enumerate() {
         assert!(rt;
             is_told_before_later(rt.alloc(), place, one) == Ok(true),
             "row {place}"
