@@ -62,7 +62,7 @@ fn arg_of<'a>(alloc: Global, argument: Argument, objects: &'a str) -> Result<Arg
 pub(crate) const EXPLAIN: &str = "explain";
 
 // The options that name the choices of a run, but for `--choices`.
-const NAMED: [Argument; 7] = [
+static NAMED: [Argument; 7] = [
     Argument::Optional("list", LIST),
     Argument::With("seed", "steps", SEED),
     Argument::Optional("turns", TURNS),
@@ -71,6 +71,21 @@ const NAMED: [Argument; 7] = [
     Argument::With("schedule", "seed", DRAW),
     Argument::With("refusals", "seed", REFUSALS),
 ];
+
+fn named() -> &'static [Argument] {
+    &NAMED
+}
+
+// The command with an argument.
+fn with_argument<'a>(
+    alloc: Global,
+    command: Command<'a>,
+    argument: Argument,
+    objects: &'a str,
+) -> Result<Command<'a>, AllocError> {
+    let arg = arg_of(alloc, argument, objects)?;
+    command.arg(arg)
+}
 
 // The command with these arguments.
 fn with_arguments<'a>(
@@ -81,9 +96,20 @@ fn with_arguments<'a>(
 ) -> Result<Command<'a>, AllocError> {
     let mut command = command;
     'arguments: for argument in arguments {
-        command = command.arg(arg_of(alloc, *argument, objects)?)?;
+        command = with_argument(alloc, command, *argument, objects)?;
     }
     Ok(command)
+}
+
+// The options that name the choices of a run, of which exactly one is given.
+fn schedules<'a>(alloc: Global) -> Result<ArgGroup<'a>, AllocError> {
+    ArgGroup::new(alloc, "schedules")
+        .required(true)
+        .arg("choices")?
+        .arg("list")?
+        .arg("seed")?
+        .arg("turns")?
+        .arg("history")
 }
 
 // The command with the options that name the choices of a run, of which exactly one is given; and
@@ -94,14 +120,8 @@ fn with_choices<'a>(
     choices: &'static str,
 ) -> Result<Command<'a>, AllocError> {
     let command = command.arg(option_of(alloc, "choices", choices))?;
-    let command = with_arguments(alloc, command, &NAMED, "")?;
-    let group = ArgGroup::new(alloc, "schedules")
-        .required(true)
-        .arg("choices")?
-        .arg("list")?
-        .arg("seed")?
-        .arg("turns")?
-        .arg("history")?;
+    let command = with_arguments(alloc, command, named(), "")?;
+    let group = schedules(alloc)?;
     command.group(group)
 }
 
@@ -129,7 +149,7 @@ pub(crate) fn command_of<'a>(
         .after_help(row.example);
     let command = with_arguments(alloc, command, row.arguments, objects)?;
     let command = with_schedule(alloc, command, row.schedule)?;
-    command.arg(arg_of(alloc, Argument::Optional(EXPLAIN, EXPLAINED), objects)?)
+    command.arg(option_of(alloc, EXPLAIN, EXPLAINED))
 }
 
 /// The text of an argument.

@@ -34,7 +34,7 @@ pub(crate) struct CommandRow {
 }
 
 /// The commands, in the order in which help lists them.
-pub(crate) const COMMANDS: [CommandRow; 14] = [
+pub(crate) static COMMANDS: [CommandRow; 14] = [
     CommandRow {
         name: "asm",
         does: "Assembles sources; prints the listing or writes an ELF file",

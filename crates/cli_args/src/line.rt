@@ -51,6 +51,11 @@ fn program<'a>(
     Ok(program)
 }
 
+// All commands.
+fn commands() -> &'static [CommandRow] {
+    &COMMANDS
+}
+
 // Whether a command's `--explain`, if it is given, has one of its values.
 fn explains<'a>(matches: &ArgMatches<'a>) -> bool {
     let Some((_, found)) = matches.subcommand() else {
@@ -69,7 +74,7 @@ pub fn match_line<'a>(
     words: &'a [&'a str],
     objects: &'a str,
 ) -> Result<ArgMatches<'a>, LineFault> {
-    let Ok(command) = program(alloc, &COMMANDS, objects) else {
+    let Ok(command) = program(alloc, commands(), objects) else {
         return Err(LineFault::Memory);
     };
     match command.try_get_matches_from(words) {
