@@ -54,6 +54,7 @@ pub fn obey_shrink<R: Files + AllocGlobal + Print + Eprint>(
         rt.alloc(),
         &inputs,
         expect,
+        &[],
         &mut program,
         &mut source,
         &mut line,

@@ -16,8 +16,9 @@ use Rattle.outcome.specs.Expect.{hangs}
 use Rattle.outcome.specs.declared.expect.Exit.{Exit}
 use Rattle.outcome.specs.declared.expect.Exit.TheVariants.{May, Must}
 use Rattle.outcome.specs.declared.expect.Expect.{Expect}
+use Rattle.property_judge.specs.declared.property.Property.{Property}
 use Rattle.cmd_shrink.specs.Hanging.{hangs_after, harts_after, steps_for}
-use Rattle.cmd_shrink.specs.Failure.{RunFailsSo, or_failure, lowest_fault, failure_after, failure_by, failure_of, failure_or}
+use Rattle.cmd_shrink.specs.Failure.{RunFailsSo, or_failure, lowest_fault, breaks_property, broken_property, failure_after, failure_by, failure_of, failure_or, failure_otherwise, property_or}
 use Rattle.cmd_shrink.specs.declared.failure.Failure.{Failure}
 use Rattle.cmd_shrink.specs.declared.failure.Failure.TheVariants as failure
 
@@ -99,7 +100,34 @@ module _ (image : ImageValue) (inputs : List ℕ) (choices : List Choice) (how :
       fails_at_end expect.rule same
   by_failure expect None is e = fails_by_hang expect.exit (hangs_after (steps_for (length choices)) image inputs choices) refl e
 
-pub fails_so : (expect : Expect) (image : ImageValue) (inputs : List ℕ) (choices : List Choice) (how : Failure)
-    → failure_after expect image inputs choices ≡ Some how → RunFailsSo how image inputs choices
-fails_so expect image inputs choices how e =
-    by_failure image inputs choices how expect (failure_of expect.rule inputs choices (harts_after image inputs choices)) refl e
+  fails_otherwise : (expect : Expect) → failure_otherwise expect image inputs choices ≡ Some how → RunFailsSo how image inputs choices
+  fails_otherwise expect e =
+      by_failure expect (failure_of expect.rule inputs choices (harts_after image inputs choices)) refl e
+
+module _ (image : ImageValue) (inputs : List ℕ) (choices : List Choice) where
+  broken_there : (properties : List Property) (property : Property) → broken_property properties image inputs choices ≡ Some property
+      → breaks_property property image inputs choices ≡ true
+  broken_there [] property e = absurd (cc)
+  broken_there (first ∷ properties) property e = by (breaks_property first image inputs choices) refl (broken_there properties property) e
+    where
+      by : (b : Bool) → breaks_property first image inputs choices ≡ b
+          → (broken_property properties image inputs choices ≡ Some property → breaks_property property image inputs choices ≡ true)
+          → cond b (Some first) (broken_property properties image inputs choices) ≡ Some property
+          → breaks_property property image inputs choices ≡ true
+      by true is others e =
+          let same : first ≡ property = cc in
+          subst (λ p. breaks_property p image inputs choices ≡ true) same is
+      by false is others e = others e
+
+  by_property : (expect : Expect) (properties : List Property) (how : Failure) (broken : Option Property)
+      → broken_property properties image inputs choices ≡ broken → property_or broken (failure_otherwise expect image inputs choices) ≡ Some how
+      → RunFailsSo how image inputs choices
+  by_property expect properties how (Some property) is e =
+      let same : failure.BrokenProperty property ≡ how = cc in
+      subst (λ x. RunFailsSo x image inputs choices) same (broken_there properties property is)
+  by_property expect properties how None is e = fails_otherwise image inputs choices how expect e
+
+pub fails_so : (expect : Expect) (properties : List Property) (image : ImageValue) (inputs : List ℕ) (choices : List Choice) (how : Failure)
+    → failure_after expect properties image inputs choices ≡ Some how → RunFailsSo how image inputs choices
+fails_so expect properties image inputs choices how e =
+    by_property image inputs choices expect properties how (broken_property properties image inputs choices) refl e

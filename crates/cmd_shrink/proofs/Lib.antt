@@ -1,6 +1,7 @@
 pub mod StepLemmas
 pub mod FaultLemmas
 pub mod FailureLemmas
+pub mod BreakLemmas
 pub mod TurnLemmas
 pub mod BelowLemmas
 pub mod ShrunkLemmas

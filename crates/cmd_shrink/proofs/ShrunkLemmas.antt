@@ -14,6 +14,7 @@ use Rattle.cmd_shrink.specs.Switches.{HasFewSwitches}
 use Rattle.cmd_shrink.proofs.LessLemmas.{less_same, one_left}
 use Rattle.cmd_shrink.proofs.EachLemmas.{each_trans, each_less, choices_of_hart-first}
 use Rattle.outcome.specs.declared.expect.Expect.{Expect}
+use Rattle.property_judge.specs.declared.property.Property.{Property}
 use Rattle.cmd_shrink.specs.Failure.{failure_after, RunFailsSo}
 use Rattle.cmd_shrink.specs.declared.failure.Failure.{Failure}
 use Rattle.cmd_shrink.specs.Shrink.{IsShrunk}
@@ -40,11 +41,11 @@ within_each n (c ∷ list) given less all =
     (within_less n (c ∷ choices_of_hart c.hart list) (choices_of_hart c.hart given) own theirs 0 c (omega arith))
     (within_each n list given rest all)
 
-module _ (expect : Expect) (image : ImageValue) (inputs : List ℕ) (given choices printed : List Choice) (text : List ℕ)
-    (how : Failure) where
-  pub is_shrunk : length inputs < 2 ^ 32 → All (λ c. c.hart < length inputs) given → failure_after expect image inputs given ≡ Some how
+module _ (expect : Expect) (properties : List Property) (image : ImageValue) (inputs : List ℕ)
+    (given choices printed : List Choice) (text : List ℕ) (how : Failure) where
+  pub is_shrunk : length inputs < 2 ^ 32 → All (λ c. c.hart < length inputs) given → failure_after expect properties image inputs given ≡ Some how
       → IsLessOfEach choices given → RunFailsSo how image inputs choices → IsMinimal (RunFailsSo how image inputs) choices
-      → HasFewSwitches (RunFailsSo how image inputs) choices → printed ≡ choices → text ≡ runs_text printed → IsShrunk expect image inputs given text
+      → HasFewSwitches (RunFailsSo how image inputs) choices → printed ≡ choices → text ≡ runs_text printed → IsShrunk expect properties image inputs given text
   is_shrunk few within given_fails less fails minimal few_switches same shows =
       let is : text ≡ runs_text choices = shows ∙ ap runs_text same in
       let there = within_each (length inputs) choices given less within in

@@ -12,10 +12,13 @@ ghost use Rattle.hart_step.specs.Hart.{hart_of};
 use hart_step::{Cause, Hart, HartState};
 use machine::Choice;
 use object_library::{Kind, Verdict, judge};
+use property_judge::Property;
 
 /// How a run fails.
 #[derive(Clone, Copy, PartialEq, Eq)]
 pub enum Failure {
+    /// This property is broken: it doesn't hold at the start, or not after one of the choices.
+    BrokenProperty(Property),
     /// The rule of this kind is broken.
     Broken(Kind),
     /// A hart has faulted.

@@ -2,17 +2,20 @@
 //! found by a search over any test of lists.
 #![tactic(auto)]
 
+pub use breaking::breaks_property;
 pub use byte_io::Unheard;
 pub use failing::Failing;
 pub use failure::Failure;
 pub use hanging::{FEWEST_STEPS, hangs_after, steps_for};
 pub use hearing::ChoicesLeft;
 pub use laws::failing_run_fails_so;
+pub use property_judge::Property;
 pub use run_failure::failure_after;
 pub use same_failure::SameFailure;
 pub use shrink::shrink_engine;
 pub use shrinking::shrink_choices;
 
+mod breaking;
 mod edits;
 mod failing;
 mod failure;

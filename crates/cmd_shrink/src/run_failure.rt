@@ -1,8 +1,9 @@
 //! How the run of a list of choices fails.
 ghost use Rattle.std.specs.Prelude.{◌≡◌, IfOk};
-ghost use Rattle.cmd_shrink.specs.Failure.{failure_after, failure_of};
+ghost use Rattle.cmd_shrink.specs.Failure.{failure_after, failure_of, failure_otherwise};
 ghost use Rattle.cmd_shrink.specs.Hanging.{harts_after};
 
+use crate::breaking::broken_property;
 use crate::failure::{Failure, failure_of};
 use crate::hanging::{hangs_after, steps_for};
 use crate::running::machine_after;
@@ -10,6 +11,7 @@ use image::Image;
 use machine::{Choice, Inputs};
 use object_library::Kind;
 use outcome::{Exit, Expect};
+use property_judge::Property;
 use std::alloc::{AllocError, Allocator};
 
 // How the run of a list of choices fails at its end.
@@ -27,18 +29,17 @@ fn failure_at_end<A: Allocator + Copy>(
     Ok(failure_of(rule, inputs.words(), choices, machine.ends()))
 }
 
-/// How the run of a list of choices fails, from an image's start: under a rule if its verdict is
-/// `Broken`, and without one if a hart has faulted, of which the lowest counts; or else, if each
-/// hart must exit, it hangs for as many further steps as the list has choices, and at least
-/// `FEWEST_STEPS`.
-pub fn failure_after<A: Allocator + Copy>(
+// How the run of a list of choices fails where it breaks no property: at its end, or else, if each
+// hart must exit, it hangs.
+fn failure_otherwise<A: Allocator + Copy>(
     alloc: A,
     expect: Expect,
     image: &Image<A>,
     inputs: &Inputs,
     choices: &[Choice],
 ) -> Result<Option<Failure>, AllocError>
-    ensures { IfOk result (λ failure. failure ≡ failure_after expect image.now inputs.now choices.now) }
+    ensures { IfOk result (λ failure. failure
+        ≡ failure_otherwise expect image.now inputs.now choices.now) }
 {
     if let Some(how) = failure_at_end(alloc, expect.rule, image, inputs, choices)? {
         return Ok(Some(how));
@@ -53,5 +54,26 @@ pub fn failure_after<A: Allocator + Copy>(
                 Ok(None)
             }
         }
+    }
+}
+
+/// How the run of a list of choices fails, from an image's start: it breaks a property, of which
+/// the first counts; or else under a rule if its verdict is `Broken`, and without one if a hart has
+/// faulted, of which the lowest counts; or else, if each hart must exit, it hangs for as many
+/// further steps as the list has choices, and at least `FEWEST_STEPS`.
+pub fn failure_after<A: Allocator + Copy>(
+    alloc: A,
+    expect: Expect,
+    properties: &[Property],
+    image: &Image<A>,
+    inputs: &Inputs,
+    choices: &[Choice],
+) -> Result<Option<Failure>, AllocError>
+    ensures { IfOk result (λ failure. failure
+        ≡ failure_after expect properties.now image.now inputs.now choices.now) }
+{
+    match broken_property(alloc, properties, image, inputs, choices)? {
+        Some(property) => Ok(Some(Failure::BrokenProperty(property))),
+        None => failure_otherwise(alloc, expect, image, inputs, choices),
     }
 }

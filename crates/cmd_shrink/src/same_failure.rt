@@ -2,6 +2,7 @@
 ghost use Rattle.cmd_shrink.specs.Failure.{RunFailsSo};
 
 use crate::Failing;
+use crate::breaking::breaks_property;
 use crate::failure::{Failure, breaks_rule, has_faulted_at};
 use crate::hanging::hangs_after;
 use crate::running::machine_after;
@@ -27,6 +28,9 @@ impl<'a, A: Allocator + Copy> Failing for SameFailure<'a, A> {
 
     fn is_failing(&self, choices: &[Choice]) -> Result<bool, AllocError> {
         match self.failure {
+            Failure::BrokenProperty(property) => {
+                breaks_property(self.alloc, property, self.image, self.inputs, choices)
+            }
             Failure::Broken(kind) => {
                 let machine = machine_after(self.alloc, self.image, self.inputs, choices)?;
                 Ok(breaks_rule(kind, self.inputs.words(), choices, machine.ends()))

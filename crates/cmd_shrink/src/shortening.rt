@@ -12,6 +12,7 @@ use crate::{ChoicesLeft, shrink_choices};
 use image::Image;
 use machine::{Choice, Inputs};
 use outcome::Expect;
+use property_judge::Property;
 use sched_text::print_runs;
 use std::alloc::{AllocError, Allocator};
 
@@ -22,16 +23,17 @@ pub(crate) fn shortened<A: Allocator + Copy, L: ChoicesLeft>(
     image: &Image<A>,
     inputs: &Inputs,
     expect: Expect,
+    properties: &[Property],
     given: &[Choice],
     left: &mut L,
 ) -> Result<Option<String<A>>, AllocError>
     requires takes { IsStartable inputs.now }
     requires within { All (λ c. c.hart < length inputs.now) given.now }
     ensures shrunk { IfOk result (λ answer. IfSome answer (λ text.
-        IsShrunk expect image.now inputs.now given.now (string_bytes text))) }
-    ensures kept { result ≡ Ok None → failure_after expect image.now inputs.now given.now ≡ None }
+        IsShrunk expect properties.now image.now inputs.now given.now (string_bytes text))) }
+    ensures kept { result ≡ Ok None → failure_after expect properties.now image.now inputs.now given.now ≡ None }
 {
-    let Some(failure) = failure_after(alloc, expect, image, inputs, given)? else {
+    let Some(failure) = failure_after(alloc, expect, properties, image, inputs, given)? else {
         return Ok(None);
     };
     let test = SameFailure {

@@ -15,17 +15,20 @@ use crate::shortening::shortened;
 use byte_io::{Source, Status};
 use outcome::Expect;
 use program_open::{CommandFault, Input, ProgramForm, open_run};
+use property_judge::Property;
 use std::alloc::{AllocError, Allocator};
 
 /// `shrink`: reads the program to its end and, if it is valid and the number of inputs is, the
 /// choice text to its end; returns the text of some of these choices, those of each hart in their
 /// order and some without their mark, whose run still fails in the same way, but no longer without
 /// any one of its choices or marks, nor with fewer switches of harts after an exchange or a move of
-/// runs. If each hart must exit, a run that hangs has failed.
+/// runs. If each hart must exit, a run that hangs has failed; a run that breaks one of the properties
+/// has failed in that way, whatever else it does.
 pub fn shrink_engine<A: Allocator + Copy, P: Source, C: Source, L: ChoicesLeft>(
     alloc: A,
     inputs: &[u32],
     expect: Expect,
+    properties: &[Property],
     program: &mut P,
     choices: &mut C,
     left: &mut L,
@@ -35,12 +38,12 @@ pub fn shrink_engine<A: Allocator + Copy, P: Source, C: Source, L: ChoicesLeft>(
     ensures done { IfOk result (λ answer. answer.1 ≡ Status.Done) }
     ensures shrunk { IfOk result (λ answer.
         IfSome (P.left program.old) (λ p. IfSome (C.left choices.old) (λ c.
-        Shrinks expect inputs.now (opening ProgramForm.Elf (length inputs.now) p c)
+        Shrinks expect properties.now inputs.now (opening ProgramForm.Elf (length inputs.now) p c)
         (string_bytes answer.0)))) }
     // An input is invalid, or nothing fails.
     ensures refused { IfErr result (λ fault. IsRefusal fault
         → IfSome (P.left program.old) (λ p. IfSome (C.left choices.old) (λ c.
-        refusal expect inputs.now (opening ProgramForm.Elf (length inputs.now) p c) ≡ Some fault))) }
+        refusal expect properties.now inputs.now (opening ProgramForm.Elf (length inputs.now) p c) ≡ Some fault))) }
     // A fault of the program or of the number of inputs is that whatever the choices are.
     ensures of_program { IfErr result (λ fault. IsOfProgram fault
         → IfSome (P.left program.old) (λ p. program_opening ProgramForm.Elf (length inputs.now) p ≡ Err fault)) }
@@ -54,7 +57,15 @@ pub fn shrink_engine<A: Allocator + Copy, P: Source, C: Source, L: ChoicesLeft>(
     ensures inputs_first { result ≡ Err (CommandFault.Read Input.Choices) → IsStartable inputs.now }
 {
     let run = open_run(alloc, ProgramForm::Elf, inputs, program, choices)?;
-    match shortened(alloc, &run.image, &run.inputs, expect, &run.choices, left) {
+    match shortened(
+        alloc,
+        &run.image,
+        &run.inputs,
+        expect,
+        properties,
+        &run.choices,
+        left,
+    ) {
         Ok(Some(text)) => Ok((text, Status::Done)),
         Ok(None) => Err(CommandFault::NothingFails),
         Err(AllocError) => Err(CommandFault::Memory),

@@ -1,5 +1,5 @@
 -- A reply that tells what a command prints, or why it is refused.
-use Rattle.std.proofs.Common.{◌≡◌, ◌≢◌, ℕ, List, Option, Some, IfSome, length, subst}
+use Rattle.std.proofs.Common.{◌≡◌, ◌≢◌, ℕ, List, [], Option, Some, IfSome, length, subst}
 use Rattle.std.proofs.Common.{refl, sym, ◌∙◌, inl, inr}
 use Rattle.byte_io.specs.declared.status.Status.{Status}
 use Rattle.byte_io.specs.declared.status.Status.TheVariants.{Done}
@@ -58,12 +58,12 @@ module _ (Prints : List ℕ → Type 0) (Refuses : CommandFault → Type 0) wher
 module _ (expect : Expect) (inputs program choices : List ℕ) where
   -- a text that shrinks these choices
   abbrev IsText : List ℕ → Type 0
-  IsText = Shrinks expect inputs (opening form.Elf (length inputs) program choices)
+  IsText = Shrinks expect [] inputs (opening form.Elf (length inputs) program choices)
 
   -- why there is none, if the file has these bytes and the choice text those
   abbrev IsRefused : List ℕ → List ℕ → CommandFault → Type 0
   IsRefused file text why =
-      refusal expect inputs (opening form.Elf (length inputs) file text) ≡ Some why
+      refusal expect [] inputs (opening form.Elf (length inputs) file text) ≡ Some why
 
   -- a list that was shrunk is told
   pub shrunk_told : (text out : List ℕ) (status : Status) (reply : Reply) → IsText text

@@ -1,5 +1,5 @@
 -- What a reply and the output behind it tell where a command may print one of several texts.
-use Rattle.std.specs.Prelude.{◌≡◌, ℕ, ◌<◌, ◌≤◌, ◌⊎◌, List, length, take, Some}
+use Rattle.std.specs.Prelude.{◌≡◌, ℕ, ◌<◌, ◌≤◌, ◌⊎◌, List, [], length, take, Some}
 use Rattle.std.specs.declared.result.Result.TheVariants.{Err}
 use Rattle.byte_io.specs.declared.status.Status.{Status}
 use Rattle.byte_io.specs.declared.status.Status.TheVariants.{Done}
@@ -46,8 +46,8 @@ RefusesFile bytes why = program_of form.Elf bytes ≡ Err why
 abbrev pub TellsFile : FileView → List ℕ → List ℕ → Reply → Type 0
 TellsFile view bytes = TellsOne (ShowsFile view bytes) (RefusesFile bytes)
 
--- a reply tells a minimal list of choices that fails as the given one
+-- a reply tells a minimal list of choices that fails as the given one; no property is judged
 abbrev pub TellsShrunk : Expect → List ℕ → List ℕ → List ℕ → List ℕ → Reply → Type 0
 TellsShrunk expect inputs program choices =
-    TellsOne (Shrinks expect inputs (opening form.Elf (length inputs) program choices))
-    (λ why. refusal expect inputs (opening form.Elf (length inputs) program choices) ≡ Some why)
+    TellsOne (Shrinks expect [] inputs (opening form.Elf (length inputs) program choices))
+    (λ why. refusal expect [] inputs (opening form.Elf (length inputs) program choices) ≡ Some why)

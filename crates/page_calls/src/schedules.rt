@@ -48,7 +48,7 @@ pub fn shrink_call<A: Allocator + Copy>(
     let mut program = MemorySource::new(program);
     let mut choices = MemorySource::new(choices);
     let left = &mut Unheard;
-    match shrink_engine(alloc, inputs, expect, &mut program, &mut choices, left) {
+    match shrink_engine(alloc, inputs, expect, &[], &mut program, &mut choices, left) {
         Ok((text, status)) => answered(text.as_bytes(), status, out),
         Err(fault) => refused_by(alloc, fault, out),
     }

@@ -4,6 +4,7 @@ use byte_io::{MemorySink, MemorySource, Status};
 use cmd_shrink::{Unheard, shrink_engine};
 use outcome::{Exit, Expect};
 use program_open::{CommandFault, deliver};
+use property_judge::Property;
 use std::alloc::{AllocError, Allocator, Global};
 use test_refusing::{Call, Wrong, tried};
 
@@ -11,12 +12,24 @@ use test_refusing::{Call, Wrong, tried};
 #[derive(Clone, Copy)]
 struct Shrinking<'a> {
     file: &'a [u8],
+    properties: &'a [Property],
+    left: &'a str,
 }
 
-// Whether a shrinking gave its full answer; or it told want of memory and wrote nothing.
-fn answer_of(ending: Result<Status, CommandFault>, bytes: &[u8]) -> Result<bool, AllocError> {
+// No two harts are behind the address of a word and before the end of a section.
+const ALONE: [Property; 1] = [Property::NeverBoth {
+    from: 0x1_0008,
+    to: 0x1_0100,
+}];
+
+// Whether a shrinking gave this answer in full; or it told want of memory and wrote nothing.
+fn answer_of(
+    ending: Result<Status, CommandFault>,
+    bytes: &[u8],
+    left: &str,
+) -> Result<bool, AllocError> {
     match ending {
-        Ok(status) => Ok(status == Status::Done && bytes == b"1*4 0*6\n".as_slice()),
+        Ok(status) => Ok(status == Status::Done && bytes == left.as_bytes()),
         Err(CommandFault::Memory) if bytes.is_empty() => Err(AllocError),
         Err(_) => Ok(false),
     }
@@ -34,22 +47,38 @@ impl<'a> Call for Shrinking<'a> {
                 rule: None,
                 exit: Exit::May,
             },
+            self.properties,
             &mut program,
             &mut choices,
             &mut Unheard,
         );
         let ending = deliver(&mut sink, answer);
-        answer_of(ending, sink.bytes())
+        answer_of(ending, sink.bytes(), self.left)
     }
 }
 
-// What is wrong with the shrinking of the file's run; nothing for want of memory for the file.
-fn tried_shrinking(alloc: Global) -> Option<Result<(), Wrong>> {
+// What is wrong with the shrinking of the file's run, in which these properties are judged; nothing
+// for want of memory for the file.
+fn tried_shrinking(
+    alloc: Global,
+    properties: &[Property],
+    left: &str,
+) -> Option<Result<(), Wrong>> {
     let file = file_of(alloc, TWO_FAULTS)?;
-    Some(tried(alloc, &Shrinking { file: &file }))
+    let shrinking = Shrinking {
+        file: &file,
+        properties,
+        left,
+    };
+    Some(tried(alloc, &shrinking))
 }
 
 #[test]
 fn shrinking_tells_want_of_memory(rt: HostRuntime) {
-    assert!(rt; tried_shrinking(rt.alloc()) == Some(Ok(())));
+    assert!(rt; tried_shrinking(rt.alloc(), &[], "1*4 0*6\n") == Some(Ok(())));
+}
+
+#[test]
+fn shrinking_by_a_property_tells_want_of_memory(rt: HostRuntime) {
+    assert!(rt; tried_shrinking(rt.alloc(), &ALONE, "1*2 0*2\n") == Some(Ok(())));
 }
