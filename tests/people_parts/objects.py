@@ -15,6 +15,8 @@ HART = re.compile(
 )
 WORD = "([0-9a-f]{8})"
 PROPERTY = re.compile(rf"(?:never-both {WORD}\.\.{WORD}|always {WORD} (\S+) {WORD}) (?:kept|broken after (\d+))")
+END = re.compile(r"ends exited (\d+) faulted (\d+) running (\d+)(?: (kept|broken))?((?: \d+:a[01]=[0-9a-f]{8})*)")
+BOUND = re.compile(r"hart \d+ has (?:stopped after (\d+) own steps|no bound: it may wait for ever)")
 
 # Of run, behind the program: schedules, with a rule or properties.
 RUNS = [
@@ -24,6 +26,9 @@ RUNS = [
     ["--seed", "3", "--steps", "200", "--always", "0x10000 != 0", "--never-both", "0x10004..0x10010"],
     ["--list", "", "--always", "0x10000 <u 5"],
 ]
+EXPLORATIONS = [[], ["--bounds"], ["--must-exit", "--rule", "swap", "--bounds"]]
+# The most worlds that are looked at.
+MOST = 200
 
 
 def number(text):
@@ -56,6 +61,53 @@ def run_of(text):
     }
 
 
+def segment_of(line):
+    _, base, size, rights = line.split()
+    return {"base": number(base), "size": int(size), "rights": rights}
+
+
+def info_of(text):
+    """The object of the lines of `info`."""
+    entry, *lines, library = text.splitlines()
+    symbols = [line.split(" ", 2)[1:] for line in lines if line.startswith("symbol ")]
+    return {
+        "entry": number(entry.split()[1]),
+        "segments": [segment_of(line) for line in lines if line.startswith("segment ")],
+        "symbols": None if "symbols bad" in lines else [{"name": name, "address": number(at)} for at, name in symbols],
+        "library": None if library == "library none" else library.split()[1],
+    }
+
+
+def end_of(line):
+    exited, faulted, running, verdict, words = END.fullmatch(line).groups()
+    words = [number(word.split("=")[1]) for word in words.split()]
+    returned = [{"a0": a0, "a1": a1} for a0, a1 in zip(words[::2], words[1::2])]
+    counts = {"exited": int(exited), "faulted": int(faulted), "running": int(running)}
+    return counts | {"verdict": verdict, "returned": returned}
+
+
+def bound_of(line):
+    steps = BOUND.fullmatch(line).group(1)
+    return int(steps) if steps else None
+
+
+def explore_of(text, status, most=MOST):
+    """The object of what `explore` prints, without the turns of a list, which no line has."""
+    if status == 6:
+        return {"answer": "undecided", "most": most}
+    lines = text.splitlines()
+    head = re.fullmatch(r"every schedule: (\d+) worlds(, each with a way out)?", lines[0]) if lines else None
+    if not head:
+        return {"choices": text}
+    return {
+        "answer": "holds",
+        "worlds": int(head.group(1)),
+        "ways_out": True if head.group(2) else None,
+        "ends": [end_of(line) for line in lines if line.startswith("ends ")],
+        "bounds": [bound_of(line) for line in lines if line.startswith("hart ")],
+    }
+
+
 def asked(words):
     done = subprocess.run([PROGRAM, *words], capture_output=True, timeout=ENDLESS)
     return done.returncode, done.stdout.decode()
@@ -68,6 +120,18 @@ def object_of(name, words):
     return status, json.loads(text)
 
 
+def without_turns(found):
+    """An answer of `explore` without what its lines don't have: the turns, and how a list ends."""
+    if found["answer"] not in ("fails", "hangs"):
+        return found | ({"ends": sorted_ends(found["ends"])} if "ends" in found else {})
+    check("a list has turns", found["turns"] >= 0, True)
+    return {"choices": found["choices"]}
+
+
+def sorted_ends(ends):
+    return sorted(ends, key=json.dumps)
+
+
 def compare(name, words, told):
     """A command's object has the facts of its lines, and its status is the same."""
     status, text = asked(words)
@@ -75,9 +139,19 @@ def compare(name, words, told):
 
 
 def of_program(name, elf):
+    compare(f"info {name}", ["info", elf], lambda text, _: info_of(text))
+    compare(f"info --by-address {name}", ["info", elf, "--by-address"], lambda text, _: info_of(text))
     for options in RUNS:
         words = ["run", elf, "--inputs", "2,2", *options]
         compare(f"run {name} {options}", words, lambda text, _: run_of(text))
+    for options in EXPLORATIONS:
+        words = ["explore", elf, "--inputs", "2,2", "--worlds", str(MOST), *options]
+        status, text = asked(words)
+        given, found = object_of(f"explore {name}", words)
+        wanted = explore_of(text, status, MOST)
+        if "ends" in wanted:
+            wanted["ends"] = sorted_ends(wanted["ends"])
+        check(f"explore {name} {options}", (given, without_turns(found)), (status, wanted))
 
 
 def objects():

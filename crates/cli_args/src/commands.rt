@@ -58,6 +58,7 @@ pub(crate) static COMMANDS: [CommandRow; 14] = [
         example: "Example: rvcons info swap.elf",
         arguments: &[
             Argument::Flag("by-address", "show the symbols by rising address"),
+            Argument::Flag("json", JSON),
             Argument::Needed("FILE", "an ELF file"),
         ],
         schedule: Schedule::None,
@@ -171,6 +172,7 @@ pub(crate) static COMMANDS: [CommandRow; 14] = [
             Argument::Optional("worlds", WORLDS),
             Argument::Flag("must-exit", WAYS_OUT),
             Argument::Flag("bounds", BOUNDS),
+            Argument::Flag("json", JSON),
         ],
         schedule: Schedule::None,
     },

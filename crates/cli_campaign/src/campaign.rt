@@ -11,12 +11,13 @@ use cli_report::{
     Audience, EndsTold, Explained, RunFiles, WIPE, bad_line, ends_running, explain_ends,
     explain_places, inputs_said, open_one, read_again, rule_said, say_why, wipe_line,
 };
-use cli_values::{JOBS, read_draw, read_jobs, read_report, read_seed_numbers};
+use cli_values::{
+    JOBS, SeedPlan, read_draw, read_jobs, read_report, read_seed_numbers, seed_engine,
+};
 use cmd_campaign::{
     Campaign, Exit, Expect, Finished, Jobs, OnThreads, Properties, Report, campaign_engine,
     until_failure_engine,
 };
-use cmd_schedule::{SeedPlan, seed_engine};
 use program_open::{ProgramForm, write_text};
 use sched_draw::Order;
 use std::io;

@@ -9,10 +9,12 @@ use cli_report::{
 };
 use cli_values::{WORLDS, read_worlds};
 use cmd_campaign::Expect;
-use cmd_explore::{Explored, Finding, OwnBounds, Question, explore_engine, read_refusals};
+use cmd_explore::{
+    Explored, Finding, Form, OwnBounds, Question, explore_engine, read_refusals, undecided_object,
+};
 use object_library::Kind;
 use program_open::{CommandFault, ProgramForm, write_text};
-use std::alloc::Global;
+use std::alloc::{AllocError, Global};
 use std::io;
 use std::rt::{Clock, Files};
 use std::time::Instant;
@@ -24,6 +26,11 @@ fn bounds_of(bounds: bool) -> OwnBounds {
     } else {
         OwnBounds::NotAsked
     }
+}
+
+// The form in which an order is answered.
+fn form_of(order: &ExploreOrder) -> Form {
+    if order.json { Form::Json } else { Form::Text }
 }
 
 // How many worlds are looked at before a person is told again.
@@ -107,6 +114,7 @@ pub fn obey_explore<R: Files + AllocGlobal + Print + Eprint + Clock>(
     let answer = explore_engine(
         rt.alloc(),
         inputs.as_slice(),
+        form_of(order),
         question,
         &mut program,
         &mut line,
@@ -123,8 +131,34 @@ pub fn obey_explore<R: Files + AllocGlobal + Print + Eprint + Clock>(
             question.expect.rule,
             &found,
         ),
+        Err(CommandFault::Undecided(most)) => {
+            Err(tell_undecided(rt, audience, order, inputs.len(), most))
+        }
         Err(fault) => Err(tell_fault(rt, audience, order, inputs.len(), fault)),
     }
+}
+
+// Reports that there are more worlds than so many, and prints an object that says so, if it is
+// asked for.
+fn tell_undecided<R: Files + AllocGlobal + Print + Eprint>(
+    rt: &R,
+    audience: Audience,
+    order: &ExploreOrder,
+    harts: usize,
+    most: usize,
+) -> Status {
+    let printed = match form_of(order) {
+        Form::Text => Ok(()),
+        Form::Json => match undecided_object(rt.alloc(), most) {
+            Ok(text) => write_text(&mut WriterSink::new(io::writer(rt)), &text),
+            Err(AllocError) => Err(CommandFault::Memory),
+        },
+    };
+    let fault = match printed {
+        Ok(()) => CommandFault::Undecided(most),
+        Err(fault) => fault,
+    };
+    tell_fault(rt, audience, order, harts, fault)
 }
 
 // Prints the answer, and explains it to a person.
@@ -137,10 +171,10 @@ fn tell<R: Files + AllocGlobal + Print + Eprint>(
     found: &Explored<Global>,
 ) -> Result<Status, Status> {
     let mut sink = WriterSink::new(io::writer(rt));
-    if let Err(fault) = write_text(&mut sink, found.text.as_bytes()) {
+    if let Err(fault) = write_text(&mut sink, &found.text) {
         return Err(tell_fault(rt, audience, order, inputs.len(), fault));
     }
-    if audience.is_told() {
+    if audience.is_told() && !order.json {
         let _ = explain_list(rt, order, inputs, rule, found);
     }
     Ok(found.status)
@@ -188,7 +222,7 @@ fn explain_list<R: Files + AllocGlobal + Eprint>(
         ProgramForm::Elf,
         &program,
         inputs,
-        found.text.as_bytes(),
+        &found.text,
         Explained {
             ends: EndsTold::Faults,
             rule,

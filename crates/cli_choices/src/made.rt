@@ -6,8 +6,7 @@ use cli_args::{SeedText, read_number, read_word};
 use cli_report::{
     Audience, RunChoices, RunFiles, bad_line, cannot_read, open_one, out_of_memory, say, say_why,
 };
-use cli_values::read_draw;
-use cmd_schedule::{Plan, SeedPlan, schedule_engine, seed_engine};
+use cli_values::{Plan, SeedPlan, read_draw, schedule_engine, seed_engine};
 use hart_reservations::MAX_HARTS;
 use history::{Entry, HistoryFault, read_history};
 use program_open::{CommandFault, ProgramForm};

@@ -7,10 +7,9 @@ use cli_args::read_word;
 use cli_orders::ScheduleOrder;
 use cli_report::{Audience, RunFiles, bad_line, inputs_said, open_one, say, say_why};
 use cli_values::{
-    DRAWS, OrderFault, REFUSALS, read_draw, read_order, read_refusals, read_schedule,
-    read_seed_plan,
+    DRAWS, OrderFault, Plan, PlanFault, REFUSALS, read_draw, read_order, read_refusals,
+    read_schedule, read_seed_plan, schedule_engine, seed_engine,
 };
-use cmd_schedule::{Plan, PlanFault, schedule_engine, seed_engine};
 use program_open::deliver;
 use sched_draw::{Draw, Order};
 use std::io;

@@ -3,8 +3,8 @@
 use byte_io::{ReaderSource, Status, WriterSink};
 use cli_orders::{InfoOrder, ListOrder};
 use cli_report::{Audience, RunFiles, cannot_open, say_why};
-use cmd_run::{FileView, file_engine};
-use program_open::{ProgramForm, deliver};
+use cmd_info::{FileView, SymbolOrder, facts_engine, file_engine};
+use program_open::{ProgramForm, deliver, write_text};
 use std::rt::Files;
 use std::{fs, io};
 
@@ -23,12 +23,41 @@ pub fn obey_info<R: Files + AllocGlobal + Print + Eprint>(
     audience: Audience,
     order: &InfoOrder,
 ) -> Status {
+    if order.json {
+        return show_object(rt, audience, order);
+    }
     let view = if order.by_address {
         FileView::FactsByAddress
     } else {
         FileView::Facts
     };
     show(rt, audience, view, order.file)
+}
+
+// Shows the facts of an ELF file as an object of JSON.
+fn show_object<R: Files + AllocGlobal + Print + Eprint>(
+    rt: &R,
+    audience: Audience,
+    order: &InfoOrder,
+) -> Status {
+    let symbols = if order.by_address {
+        SymbolOrder::ByAddress
+    } else {
+        SymbolOrder::OfFile
+    };
+    let file = match fs::open(rt, order.file) {
+        Ok(file) => file,
+        Err(error) => return cannot_open(rt, audience, order.file, &error),
+    };
+    let answer = facts_engine(rt.alloc(), symbols, &mut ReaderSource::new(file));
+    let written = match answer {
+        Ok(text) => write_text(&mut WriterSink::new(io::writer(rt)), &text),
+        Err(fault) => Err(fault),
+    };
+    match written {
+        Ok(()) => Status::Done,
+        Err(fault) => say_why(rt, audience, RunFiles::of_program(order.file, 0), fault),
+    }
 }
 
 // Shows a view of the ELF file at a path.

@@ -3,8 +3,8 @@
 use clap::ArgMatches;
 use cli_args::{is_set, text_of};
 
-/// `explore FILE --inputs L [--rule K] [--refusals never] [--worlds N] [--must-exit] [--bounds]`:
-/// decides whether some schedule fails.
+/// `explore FILE --inputs L [--rule K] [--refusals never] [--worlds N] [--must-exit] [--bounds]
+/// [--json]`: decides whether some schedule fails.
 #[derive(Drop)]
 pub struct ExploreOrder<'a> {
     /// The program's path.
@@ -21,6 +21,8 @@ pub struct ExploreOrder<'a> {
     pub must_exit: bool,
     /// Whether the bounds on harts' own steps are printed.
     pub bounds: bool,
+    /// Whether an object of JSON is printed in place of lines.
+    pub json: bool,
 }
 
 /// The order in clap's matches.
@@ -33,5 +35,6 @@ pub(crate) fn explore_order<'a>(matches: &ArgMatches<'a>) -> Option<ExploreOrder
         worlds: text_of(matches, "worlds"),
         must_exit: is_set(matches, "must-exit"),
         bounds: is_set(matches, "bounds"),
+        json: is_set(matches, "json"),
     })
 }

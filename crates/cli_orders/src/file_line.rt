@@ -10,11 +10,13 @@ pub struct ListOrder<'a> {
     pub file: &'a str,
 }
 
-/// `info FILE`: shows the entry, segments and symbols of an ELF file.
+/// `info [--by-address] [--json] FILE`: shows the entry, segments and symbols of an ELF file.
 #[derive(Drop)]
 pub struct InfoOrder<'a> {
     /// Whether the symbols are shown by rising address.
     pub by_address: bool,
+    /// Whether an object of JSON is printed in place of lines.
+    pub json: bool,
     /// The file's path.
     pub file: &'a str,
 }
@@ -30,6 +32,7 @@ pub(crate) fn list_order<'a>(matches: &ArgMatches<'a>) -> Option<ListOrder<'a>> 
 pub(crate) fn info_order<'a>(matches: &ArgMatches<'a>) -> Option<InfoOrder<'a>> {
     Some(InfoOrder {
         by_address: is_set(matches, "by-address"),
+        json: is_set(matches, "json"),
         file: text_of(matches, "FILE")?,
     })
 }

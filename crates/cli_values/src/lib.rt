@@ -2,6 +2,7 @@
 #![tactic(auto)]
 
 pub use campaign::{SeedNumbers, read_report, read_seed_numbers};
+pub use cmd_schedule::{Plan, PlanFault, SeedPlan, schedule_engine, seed_engine};
 pub use draw::{DRAWS, DrawFault, OrderFault, REFUSALS, read_draw, read_order, read_refusals};
 pub use explore::{WORLDS, read_worlds};
 pub use jobs::{JOBS, read_jobs};

@@ -1,5 +1,5 @@
 -- The choice text of a failing list.
-use Rattle.std.proofs.Common.{◌≡◌, ℕ, zero, suc, ◌<◌, ◌^◌, ◌⊎◌, List, [], ◌∷◌, ◌++◌, length, string_bytes, Ok, ap, sym, ◌∙◌, arith, inl, inr}
+use Rattle.std.proofs.Common.{◌≡◌, ℕ, zero, suc, ◌<◌, ◌^◌, ◌⊎◌, List, [], ◌∷◌, ◌++◌, length, codes, Ok, ap, sym, ◌∙◌, arith, inl, inr}
 use Rattle.std.specs.List.{All, Contains, slice_index_or}
 use Rattle.image.specs.Image.{ImageValue}
 use Rattle.machine.specs.declared.choice.Choice.{Choice}
@@ -18,7 +18,8 @@ use Rattle.explore_space.specs.declared.meant.ScRefusals.TheVariants.{Also, Neve
 use Rattle.explore_space.specs.declared.question.Question.{Question}
 use Rattle.cmd_explore.specs.declared.finding.Explored.{Explored}
 use Rattle.cmd_explore.specs.declared.finding.Finding.TheVariants as finding
-use Rattle.cmd_explore.specs.Explore.{failing_status, IsExplored}
+use Rattle.cmd_json.specs.declared.form.Form.{Form}
+use Rattle.cmd_explore.specs.Explore.{failing_status, list_shown, IsExplored}
 
 -- ---- the harts of meant choices
 shifted : (c x : Choice) (xs ys : List Choice) → Contains xs x ⊎ Contains ys x → Contains (c ∷ xs) x ⊎ Contains ys x
@@ -53,10 +54,10 @@ harts_below : (refusals : ScRefusals) (n : ℕ) (choices : List Choice) → IsLi
 harts_below refusals n choices are k d lt = hart_below refusals n (slice_index_or choices k d) (are k d lt)
 
 -- the text of meant choices reads as these
-read_again : (refusals : ScRefusals) (n : ℕ) (choices : List Choice) (text : List ℕ) → n < 2 ^ 32
-    → IsListOf (meant_choices refusals n) choices → text ≡ runs_text choices → choices_read n text ≡ Ok choices
-read_again refusals n choices text few are is =
-    ap (choices_read n) is ∙ choices_of-spelled n (runs_text choices) choices few (runs_spell n choices few (harts_below refusals n choices are))
+read_again : (refusals : ScRefusals) (n : ℕ) (choices : List Choice) → n < 2 ^ 32
+    → IsListOf (meant_choices refusals n) choices → choices_read n (runs_text choices) ≡ Ok choices
+read_again refusals n choices few are =
+    choices_of-spelled n (runs_text choices) choices few (runs_spell n choices few (harts_below refusals n choices are))
 
 -- ---- what is told
 hanging_meant : {Z : Type 0} (exit : Exit) (refusals : ScRefusals) (image : ImageValue) (inputs : List ℕ) (hanging : Failing Z)
@@ -64,12 +65,12 @@ hanging_meant : {Z : Type 0} (exit : Exit) (refusals : ScRefusals) (image : Imag
 hanging_meant May refusals image inputs hanging none = absurd none
 hanging_meant Must refusals image inputs hanging hangs = hangs.meant_ones
 
-module _ {Z : Type 0} (question : Question) (image : ImageValue) (inputs : List ℕ) (found : Explored Z) where
+module _ {Z : Type 0} (form : Form) (question : Question) (image : ImageValue) (inputs : List ℕ) (found : Explored Z) where
   pub tells_failing : length inputs < 2 ^ 32 → (failing : Failing Z)
       → HoldsOfEvery {Z = Z} question.expect.rule question.refusals image inputs (Fails failing)
       → TellsExits {Z = Z} question.expect.exit question.refusals image inputs (Fails failing)
-      → string_bytes found.text ≡ runs_text failing.choices.items → found.status ≡ failing_status question.expect.rule
-      → found.finding ≡ finding.Fails failing.turns → IsExplored question image inputs found
+      → found.text.items ≡ list_shown form (codes "fails") failing.turns failing.choices.items → found.status ≡ failing_status question.expect.rule
+      → found.finding ≡ finding.Fails failing.turns → IsExplored form question image inputs found
   tells_failing few failing fails exits text status finding_is = record {
     answer = Fails failing;
     holds = fails;
@@ -79,7 +80,7 @@ module _ {Z : Type 0} (question : Question) (image : ImageValue) (inputs : List 
     bounds = tt;
     told = (
       text,
-      read_again question.refusals (length inputs) failing.choices.items (string_bytes found.text) few fails.meant_ones text,
+      read_again question.refusals (length inputs) failing.choices.items few fails.meant_ones,
       status,
       finding_is,
     );
@@ -88,8 +89,8 @@ module _ {Z : Type 0} (question : Question) (image : ImageValue) (inputs : List 
   pub tells_hanging : length inputs < 2 ^ 32 → (hanging : Failing Z)
       → HoldsOfEvery {Z = Z} question.expect.rule question.refusals image inputs (Hangs hanging)
       → TellsExits {Z = Z} question.expect.exit question.refusals image inputs (Hangs hanging)
-      → string_bytes found.text ≡ runs_text hanging.choices.items → found.status ≡ status.Faulted
-      → found.finding ≡ finding.Hangs hanging.turns → IsExplored question image inputs found
+      → found.text.items ≡ list_shown form (codes "hangs") hanging.turns hanging.choices.items → found.status ≡ status.Faulted
+      → found.finding ≡ finding.Hangs hanging.turns → IsExplored form question image inputs found
   tells_hanging few hanging holds exits text status finding_is = record {
     answer = Hangs hanging;
     holds = holds;
@@ -99,8 +100,8 @@ module _ {Z : Type 0} (question : Question) (image : ImageValue) (inputs : List 
     bounds = tt;
     told = (
       text,
-      read_again question.refusals (length inputs) hanging.choices.items (string_bytes found.text) few
-          (hanging_meant question.expect.exit question.refusals image inputs hanging exits) text,
+      read_again question.refusals (length inputs) hanging.choices.items few
+          (hanging_meant question.expect.exit question.refusals image inputs hanging exits),
       status,
       finding_is,
     );

@@ -1,5 +1,5 @@
 -- What `explore` answers.
-use Rattle.std.specs.Prelude.{◌≡◌, ℕ, ◌++◌, List, codes, length, string_bytes, Option, Some, None}
+use Rattle.std.specs.Prelude.{◌≡◌, ℕ, ◌++◌, List, codes, length, Option, Some, None}
 use Rattle.std.specs.Fmt.{decimal}
 use Rattle.std.specs.declared.result.Result.{Result}
 use Rattle.std.specs.declared.result.Result.TheVariants.{Ok, Err}
@@ -21,6 +21,10 @@ use Rattle.explore_space.specs.declared.exploring.Answer.{Answer}
 use Rattle.explore_space.specs.declared.exploring.Answer.TheVariants.{Holds, Fails, Hangs, Undecided}
 use Rattle.cmd_explore.specs.BoundLines.{bound_lines}
 use Rattle.cmd_explore.specs.EndLines.{IsEndsText}
+use Rattle.cmd_explore.specs.Objects.{held_object, list_object}
+use Rattle.cmd_json.specs.declared.form.Form.{Form}
+use Rattle.cmd_json.specs.declared.form.Form.TheVariants.{Text, Json}
+use Rattle.machine.specs.declared.choice.Choice.{Choice}
 use Rattle.explore_space.specs.declared.question.Question.{Question}
 use Rattle.cmd_explore.specs.declared.finding.Finding.TheVariants as finding
 use Rattle.cmd_explore.specs.declared.finding.Explored.{Explored}
@@ -32,10 +36,16 @@ worlds_line Must worlds =
     codes "every schedule: " ++ (decimal worlds ++ codes " worlds, each with a way out\n")
 
 -- the number of worlds of a program that fails in no schedule, and behind it the lines of its ends,
--- and those of its harts' bounds
-abbrev pub TellsHeld : Exit → ℕ → List EndValue → List Bound → List ℕ → Type 0
-TellsHeld exit worlds ends bounds text =
+-- and those of its harts' bounds; or an object
+abbrev pub TellsHeld : Form → Exit → ℕ → List EndValue → List Bound → List ℕ → Type 0
+TellsHeld Text exit worlds ends bounds text =
     (lines : List ℕ) × IsEndsText ends lines × (text ≡ (worlds_line exit worlds ++ lines) ++ bound_lines 0 bounds)
+TellsHeld Json exit worlds ends bounds text = text ≡ held_object exit worlds ends bounds
+
+-- a list that fails or hangs, as the answer's word says: its choice text, or an object
+abbrev pub list_shown : Form → List ℕ → ℕ → List Choice → List ℕ
+list_shown Text answer turns choices = runs_text choices
+list_shown Json answer turns choices = list_object answer turns choices
 
 -- the status of a failing run: under a rule it is broken, without one a hart has faulted
 abbrev pub failing_status : Option Kind → Status
@@ -43,35 +53,35 @@ failing_status None = status.Faulted
 failing_status (Some kind) = status.Broken
 
 -- an answer about every schedule of harts is told by a text, a status and a finding with a number
--- of turns: by the lines, or by a choice text that reads as the list
-abbrev pub TellsEvery : {Z : Type 0} → Option Kind → Exit → ℕ → Answer Z → Explored Z → Type 0
-TellsEvery rule exit harts (Holds held) found =
-    TellsHeld exit held.places (ends_in held.ends) held.bounds.items (string_bytes found.text)
+-- of turns: by the lines, or by a choice text that reads as the list; or by an object
+abbrev pub TellsEvery : {Z : Type 0} → Form → Option Kind → Exit → ℕ → Answer Z → Explored Z → Type 0
+TellsEvery form rule exit harts (Holds held) found =
+    TellsHeld form exit held.places (ends_in held.ends) held.bounds.items found.text.items
     × (found.status ≡ status.Done) × (found.finding ≡ finding.Holds)
-TellsEvery rule exit harts (Fails failing) found =
-    (string_bytes found.text ≡ runs_text failing.choices.items)
-    × (choices_read harts (string_bytes found.text) ≡ Ok failing.choices.items)
+TellsEvery form rule exit harts (Fails failing) found =
+    (found.text.items ≡ list_shown form (codes "fails") failing.turns failing.choices.items)
+    × (choices_read harts (runs_text failing.choices.items) ≡ Ok failing.choices.items)
     × (found.status ≡ failing_status rule) × (found.finding ≡ finding.Fails failing.turns)
-TellsEvery rule exit harts (Hangs hanging) found =
-    (string_bytes found.text ≡ runs_text hanging.choices.items)
-    × (choices_read harts (string_bytes found.text) ≡ Ok hanging.choices.items)
+TellsEvery form rule exit harts (Hangs hanging) found =
+    (found.text.items ≡ list_shown form (codes "hangs") hanging.turns hanging.choices.items)
+    × (choices_read harts (runs_text hanging.choices.items) ≡ Ok hanging.choices.items)
     × (found.status ≡ status.Faulted) × (found.finding ≡ finding.Hangs hanging.turns)
-TellsEvery rule exit harts Undecided found = ⊥
+TellsEvery form rule exit harts Undecided found = ⊥
 
 -- what is found tells an answer that holds of every schedule of an image
-pub record IsExplored {Z : Type 0} (question : Question) (image : ImageValue) (inputs : List ℕ) (found : Explored Z) : Type 0 where
+pub record IsExplored {Z : Type 0} (form : Form) (question : Question) (image : ImageValue) (inputs : List ℕ) (found : Explored Z) : Type 0 where
   pub answer : Answer Z
   pub holds : HoldsOfEvery question.expect.rule question.refusals image inputs answer
   pub counts : CountsPlaces question.refusals image inputs question.most answer
   pub ends : TellsEnds question.expect.rule question.refusals image inputs answer
   pub exits : TellsExits question.expect.exit question.refusals image inputs answer
   pub bounds : TellsBounds question.bounds question.refusals image inputs answer
-  pub told : TellsEvery question.expect.rule question.expect.exit (length inputs) answer found
+  pub told : TellsEvery form question.expect.rule question.expect.exit (length inputs) answer found
 
 -- the same of an image that may have been opened
-abbrev pub ExploresOpened : {Z : Type 0} → Question → List ℕ → Result ImageValue CommandFault → Explored Z → Type 0
-ExploresOpened question inputs (Ok image) found = IsExplored question image inputs found
-ExploresOpened question inputs (Err why) found = ⊥
+abbrev pub ExploresOpened : {Z : Type 0} → Form → Question → List ℕ → Result ImageValue CommandFault → Explored Z → Type 0
+ExploresOpened form question inputs (Ok image) found = IsExplored form question image inputs found
+ExploresOpened form question inputs (Err why) found = ⊥
 
 -- choices lead to more worlds of an image than may be looked at
 abbrev pub HasTooMany : Question → ImageValue → List ℕ → Type 0

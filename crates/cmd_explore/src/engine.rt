@@ -8,13 +8,14 @@ ghost use Rattle.cmd_explore.specs.Explore.{failing_status, ExploresOpened, HasT
 
 use crate::finding::{Explored, Finding};
 use crate::holding::holding_text;
+use crate::listed::list_text;
 use byte_io::{Progress, Source, Status};
+use cmd_json::Form;
 use explore_space::{Answer, Question, explore};
 use image::Image;
 use machine::Inputs;
 use object_library::Kind;
 use program_open::{CommandFault, ProgramForm, open_program};
-use sched_text::print_runs;
 use std::alloc::{AllocError, Allocator};
 
 // The status of a failing run.
@@ -32,27 +33,28 @@ fn explored<A: Allocator + Copy>(
     alloc: A,
     image: &Image<A>,
     inputs: &Inputs,
+    form: Form,
     question: Question,
     progress: &mut impl Progress,
 ) -> Result<Option<Explored<A>>, AllocError>
     requires { IsStartable inputs.now }
-    ensures told { IfOk result (λ answer. IfSome answer (λ found. IsExplored question image.now inputs.now found)) }
+    ensures told { IfOk result (λ answer. IfSome answer (λ found. IsExplored form question image.now inputs.now found)) }
     ensures too_many { result ≡ Ok None → HasTooMany question image.now inputs.now }
 {
     let expect = question.expect;
     match explore(alloc, image, inputs, question, progress)? {
         Answer::Holds(held) => Ok(Some(Explored {
-            text: holding_text(alloc, expect.exit, &held)?,
+            text: holding_text(alloc, form, expect.exit, &held)?,
             status: Status::Done,
             finding: Finding::Holds,
         })),
         Answer::Fails(failing) => Ok(Some(Explored {
-            text: print_runs(alloc, &failing.choices)?,
+            text: list_text(alloc, form, "fails", &failing)?,
             status: failing_status(expect.rule),
             finding: Finding::Fails(failing.turns),
         })),
         Answer::Hangs(hanging) => Ok(Some(Explored {
-            text: print_runs(alloc, &hanging.choices)?,
+            text: list_text(alloc, form, "hangs", &hanging)?,
             status: Status::Faulted,
             finding: Finding::Hangs(hanging.turns),
         })),
@@ -66,13 +68,14 @@ fn explored<A: Allocator + Copy>(
 pub fn explore_engine<A: Allocator + Copy, P: Source>(
     alloc: A,
     inputs: &[u32],
+    form: Form,
     question: Question,
     program: &mut P,
     progress: &mut impl Progress,
 ) -> Result<Explored<A>, CommandFault>
     requires { P.failures program.old < 2 ^ 64 - 1 }
     ensures done { IfOk result (λ found. IfSome (P.left program.old) (λ p.
-        ExploresOpened question inputs.now (program_opening ProgramForm.Elf (length inputs.now) p) found)) }
+        ExploresOpened form question inputs.now (program_opening ProgramForm.Elf (length inputs.now) p) found)) }
     // An input is invalid, or there are too many worlds.
     ensures refused { IfErr result (λ fault. IsRefusal fault
         → IfSome (P.left program.old) (λ p.
@@ -82,7 +85,7 @@ pub fn explore_engine<A: Allocator + Copy, P: Source>(
         (P.failures program.old < P.failures program.new) ⊥ ⊥ ⊥) }
 {
     let run = open_program(alloc, ProgramForm::Elf, inputs, program)?;
-    match explored(alloc, &run.image, &run.inputs, question, progress) {
+    match explored(alloc, &run.image, &run.inputs, form, question, progress) {
         Ok(Some(found)) => Ok(found),
         Ok(None) => Err(CommandFault::Undecided(question.most)),
         Err(AllocError) => Err(CommandFault::Memory),

@@ -21,7 +21,8 @@ pub enum Finding {
 pub struct Explored<A: Allocator> {
     /// Where no schedule fails or hangs a line with the number of worlds, and behind it the lines of
     /// how runs end, and of harts' bounds where they are asked for; else a choice text that does.
-    pub text: String<A>,
+    /// Or an object of JSON with the same facts.
+    pub text: Vec<u8, A>,
     /// `Done` where no schedule fails or hangs; `Faulted` where one hangs; where one fails, `Broken`
     /// under a rule, and `Faulted` without one.
     pub status: Status,

@@ -1,9 +1,11 @@
-//! The engine of `explore`: whether a program fails in any schedule, as text.
+//! The engine of `explore`: whether a program fails in any schedule, as text or as JSON.
 #![tactic(auto)]
 
+pub use cmd_json::Form;
 pub use engine::explore_engine;
 pub use explore_space::{OwnBounds, Question};
 pub use finding::{Explored, Finding};
+pub use objects::undecided_object;
 pub use refusals::read_refusals;
 
 mod bound_lines;
@@ -11,4 +13,7 @@ mod end_lines;
 mod engine;
 mod finding;
 mod holding;
+mod listed;
+mod object_lists;
+mod objects;
 mod refusals;

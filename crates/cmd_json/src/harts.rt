@@ -7,9 +7,10 @@ ghost use Rattle.cmd_json.specs.Harts.{ended_object, ended_objects, harts_value}
 ghost use Rattle.trace_text.specs.Composites.{member, more_elements};
 ghost use Rattle.trace_text.specs.Values.{cause_text, name_value};
 
+use crate::members::{push_name_member, push_next_number, push_number_member};
 use hart_step::{Cause, Hart, HartState};
 use std::alloc::{AllocError, Allocator};
-use trace_text::{cause_name, push_number};
+use trace_text::cause_name;
 
 // The indices of a0 and a1 among the registers.
 const A0: usize = 10;
@@ -17,7 +18,6 @@ const A0: usize = 10;
 const A1: usize = 11;
 
 // Appends a hart's number and state, behind the opening brace.
-#[tactic(auto, unfolding(trace_text::specs::Composites::member))]
 fn push_state<A: Allocator>(
     out: &mut Vec<u8, A>,
     number: usize,
@@ -27,47 +27,39 @@ fn push_state<A: Allocator>(
         ++ 123 ∷ (member (codes "hart") (decimal number)
         ++ 44 ∷ member (codes "state") (name_value state.now))) }
 {
-    out.extend_from_slice(b"{\"hart\":")?;
-    push_number(out, number as u64)?;
-    out.extend_from_slice(b",\"state\":\"")?;
-    out.extend_from_slice(state.as_bytes())?;
-    out.extend_from_slice(b"\"")
+    out.push(b'{')?;
+    push_number_member(out, "hart", number as u64)?;
+    out.push(b',')?;
+    push_name_member(out, "state", state)
 }
 
 // Appends where a hart stands, and the closing brace.
-#[tactic(auto, unfolding(trace_text::specs::Composites::member))]
 fn push_pc<A: Allocator>(out: &mut Vec<u8, A>, pc: u32) -> Result<(), AllocError>
     ensures { OnOk result (out.new.items ≡ out.old.items
         ++ 44 ∷ (member (codes "pc") (decimal pc) ++ 125 ∷ [])) }
 {
-    out.extend_from_slice(b",\"pc\":")?;
-    push_number(out, u64::from(pc))?;
+    push_next_number(out, "pc", u64::from(pc))?;
     out.extend_from_slice(b"}")
 }
 
 // Appends what a hart returned, and the closing brace.
-#[tactic(auto, unfolding(trace_text::specs::Composites::member))]
 fn push_results<A: Allocator>(out: &mut Vec<u8, A>, hart: &Hart) -> Result<(), AllocError>
     ensures { OnOk result (out.new.items ≡ out.old.items
         ++ 44 ∷ (member (codes "a0") (decimal (a0_of (hart_of hart.now)))
         ++ 44 ∷ (member (codes "a1") (decimal (a1_of (hart_of hart.now))) ++ 125 ∷ []))) }
 {
-    out.extend_from_slice(b",\"a0\":")?;
-    push_number(out, u64::from(hart.registers[A0]))?;
-    out.extend_from_slice(b",\"a1\":")?;
-    push_number(out, u64::from(hart.registers[A1]))?;
+    push_next_number(out, "a0", u64::from(hart.registers[A0]))?;
+    push_next_number(out, "a1", u64::from(hart.registers[A1]))?;
     out.extend_from_slice(b"}")
 }
 
 // Appends why a hart was stopped by its instruction.
-#[tactic(auto, unfolding(trace_text::specs::Composites::member))]
 fn push_cause<A: Allocator>(out: &mut Vec<u8, A>, cause: Cause) -> Result<(), AllocError>
     ensures { OnOk result (out.new.items ≡ out.old.items
         ++ 44 ∷ member (codes "cause") (name_value (cause_text cause))) }
 {
-    out.extend_from_slice(b",\"cause\":\"")?;
-    out.extend_from_slice(cause_name(cause).as_bytes())?;
-    out.extend_from_slice(b"\"")
+    out.push(b',')?;
+    push_name_member(out, "cause", cause_name(cause))
 }
 
 // Appends a hart.

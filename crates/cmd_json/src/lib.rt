@@ -1,6 +1,7 @@
 //! In which form a command answers, and the values of JSON that more than one command prints.
 #![tactic(auto)]
 
+pub use counts::push_counts;
 pub use form::Form;
 pub use harts::push_harts;
 pub use members::{
@@ -9,6 +10,7 @@ pub use members::{
 };
 pub use verdict::push_verdict;
 
+mod counts;
 mod form;
 mod harts;
 mod members;

@@ -21,9 +21,9 @@ pub enum SymbolOrder {
     ByAddress,
 }
 
-// Rights, shown as `rwx` with a dash for each missing one.
+/// Rights, shown as `rwx` with a dash for each missing one.
 #[derive(Clone, Copy)]
-struct RightsText(Rights);
+pub struct RightsText(pub Rights);
 
 impl fmt::Display for RightsText {
     ghost use Rattle.std.specs.Prelude.{Some};
@@ -151,8 +151,8 @@ fn by_address<A: Allocator>(symbols: Vec<Symbol<A>, A>) -> Result<Vec<Symbol<A>,
     Ok(sorted)
 }
 
-// The symbols of a file in an order, or why it has none.
-fn shown_symbols<A: Allocator + Copy>(
+/// The symbols of a file in an order, or why it has none.
+pub fn shown_symbols<A: Allocator + Copy>(
     alloc: A,
     bytes: &[u8],
     order: SymbolOrder,
@@ -189,9 +189,9 @@ fn push_found<A: Allocator>(
     Ok(())
 }
 
-// The kind whose object the image is, or `None`.
+/// The kind whose object the image is, or `None`.
 #[tactic(auto, using(crate::proofs::InfoLemmas::names_none))]
-fn library_of<A: Allocator>(image: &Image<A>) -> Option<Kind>
+pub fn library_of<A: Allocator>(image: &Image<A>) -> Option<Kind>
     ensures { NamesLibrary image.now result }
 {
     if certify(Kind::Swap, image) {

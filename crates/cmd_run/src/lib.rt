@@ -6,7 +6,7 @@ pub use byte_io::{
     Source, Status, WriterSink, read_all, write_all,
 };
 pub use file::{FileView, file_engine, file_text};
-pub use info::{SymbolOrder, info_text};
+pub use info::{RightsText, SymbolOrder, info_text, library_of, shown_symbols};
 pub use isa_names::Word;
 pub use outcome::{EndLine, Exit, Expect};
 pub use program_open::{

@@ -23,7 +23,7 @@ pub(crate) const COMMANDS: [Row; 14] = [
     },
     Row {
         name: "info",
-        options: &["--by-address"],
+        options: &["--by-address", "--json"],
         example: "rvcons info prog.elf",
     },
     Row {
@@ -131,6 +131,7 @@ pub(crate) const COMMANDS: [Row; 14] = [
             "--worlds",
             "--must-exit",
             "--bounds",
+            "--json",
         ],
         example: "rvcons explore prog.elf --inputs 7,9",
     },
@@ -235,7 +236,7 @@ pub(crate) const OTHER_OPTIONS: [(&[&str], &str); 14] = [
     ),
     (
         &["--json", "--markdown", "--md", "--format"],
-        "rvcons trace prints lines of JSON, and with --table a table in Markdown; run prints an object by --json",
+        "rvcons trace prints lines of JSON, and with --table a table in Markdown; run, info and explore print an object by --json",
     ),
     (
         &["--begin", "--end", "--range", "--from", "--to"],

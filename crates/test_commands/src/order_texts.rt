@@ -91,6 +91,7 @@ fn list_text(alloc: Global, order: &ListOrder) -> Result<String, AllocError> {
 fn info_text(alloc: Global, order: &InfoOrder) -> Result<String, AllocError> {
     let fields = &[
         ("by-address", flag(order.by_address)),
+        ("json", flag(order.json)),
         ("FILE", Some(order.file)),
     ];
     text_with(alloc, "info", fields)
@@ -183,6 +184,7 @@ fn explore_text(alloc: Global, order: &ExploreOrder) -> Result<String, AllocErro
         ("worlds", order.worlds),
         ("must-exit", flag(order.must_exit)),
         ("bounds", flag(order.bounds)),
+        ("json", flag(order.json)),
     ];
     text_with(alloc, "explore", fields)
 }
