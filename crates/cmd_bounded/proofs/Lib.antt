@@ -1,0 +1,4 @@
+pub mod RangeLemmas
+pub mod RowLemmas
+pub mod ReportLemmas
+pub mod RunLemmas

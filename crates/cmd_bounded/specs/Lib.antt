@@ -1,0 +1,5 @@
+pub mod Runs
+pub mod Lines
+pub mod Told
+pub mod Answers
+pub mod Choices

@@ -1,0 +1,92 @@
+//! What no clause says of the report of a range of schedules: that its calls succeed where memory
+//! is left, with each request refused in turn.
+use byte_io::{MemorySource, Status, Unheard};
+use cmd_bounded::{
+    BoundedCampaign, Exit, Expect, Finished, Report, bounded_choices_engine, bounded_engine,
+};
+use object_library::Kind;
+use program_open::CommandFault;
+use std::alloc::{AllocError, Allocator, Global};
+use test_images::object_file;
+use test_refusing::{Call, tried};
+
+const LINES: &str =
+    "schedule 1 exited 2 faulted 0 running 0 kept\nschedule 2 exited 2 faulted 0 running 0 kept\n\
+     covered 2 schedules from 1 on, with at most 1 preemptions and 40 choices; more are left\n";
+
+const SUMMARY: &str = "schedules 2 first 1 exited 2 faulted 0 running 0 kept\n\
+     covered 2 schedules from 1 on, with at most 1 preemptions and 40 choices; more are left\n";
+
+const NO_FAILURES: &str =
+    "covered 2 schedules from 1 on, with at most 1 preemptions and 40 choices; more are left\n";
+
+// Two schedules of the object swap, which keeps its rule and exits in each.
+fn two_of(report: Report) -> BoundedCampaign {
+    BoundedCampaign {
+        first: 1,
+        count: 2,
+        steps: 40,
+        preemptions: 1,
+        expect: Expect {
+            rule: Some(Kind::Swap),
+            exit: Exit::Must,
+        },
+        report,
+    }
+}
+
+// A report, and its text.
+#[derive(Clone, Copy)]
+struct Two {
+    report: Report,
+    text: &'static str,
+}
+
+impl Call for Two {
+    fn answer<A: Allocator + Copy>(&self, alloc: A, host: Global) -> Result<bool, AllocError> {
+        let file = object_file(host, Kind::Swap)?;
+        let mut program = MemorySource::new(&file);
+        let campaign = two_of(self.report);
+        match bounded_engine(alloc, &[7, 9], campaign, &mut program, &mut Unheard) {
+            Ok((text, finished)) => Ok(is_answer(text.as_str(), self.text, finished)),
+            Err(CommandFault::Memory) => Err(AllocError),
+            Err(_) => Ok(false),
+        }
+    }
+}
+
+// Whether a text is the one that is wanted, and no run has failed.
+fn is_answer(text: &str, wanted: &str, finished: Finished) -> bool {
+    text == wanted && finished.status == Status::Done && finished.first_failure.is_none()
+}
+
+// The choices of the same schedule.
+struct Choices;
+
+impl Call for Choices {
+    fn answer<A: Allocator + Copy>(&self, alloc: A, host: Global) -> Result<bool, AllocError> {
+        let file = object_file(host, Kind::Swap)?;
+        let mut program = MemorySource::new(&file);
+        match bounded_choices_engine(alloc, &[7, 9], two_of(Report::Lines), &mut program) {
+            Ok(text) => Ok(text.is_some()),
+            Err(CommandFault::Memory) => Err(AllocError),
+            Err(_) => Ok(false),
+        }
+    }
+}
+
+#[test]
+fn each_refused_request_of_a_report_is_told(rt: HostRuntime) {
+    for (report, text) in [
+        (Report::Lines, LINES),
+        (Report::Failures, NO_FAILURES),
+        (Report::Summary, SUMMARY),
+    ] {
+        assert!(rt; tried(rt.alloc(), &Two { report, text }).is_ok());
+    }
+}
+
+#[test]
+fn each_refused_request_for_choices_is_told(rt: HostRuntime) {
+    assert!(rt; tried(rt.alloc(), &Choices).is_ok());
+}
