@@ -1,5 +1,5 @@
 -- The ends at all keys are those of all lists of choices after which no hart runs.
-use Rattle.std.proofs.Common.{◌≡◌, ℕ, false, List, [], length, take, Option, Some, ap, sym, ◌∙◌, subst, arith}
+use Rattle.std.proofs.Common.{◌≡◌, ℕ, true, false, List, [], ◌++◌, length, take, Option, Some, ap, sym, ◌∙◌, subst, arith}
 use Rattle.std.proofs.lemmas.List.{length-map, length-take-le}
 use Rattle.std.proofs.lemmas.List.Elements.{All-nil, All-contains}
 use Rattle.std.proofs.lemmas.Option.{slice_get_within, get_or_from_slice_get}
@@ -15,22 +15,22 @@ use Rattle.object_library.specs.declared.kind.Kind.{Kind}
 use Rattle.outcome.specs.Expect.{fails, judged}
 use Rattle.outcome.specs.Outcome.{some_run}
 use Rattle.outcome.specs.declared.expect.Exit.TheVariants.{May}
-use Rattle.explore_laws.proofs.CoverLemmas.{run_has_turns}
-use Rattle.explore_laws.proofs.PlaceLemmas.{chosen_reached}
-use Rattle.explore_laws.proofs.TurnLemmas.{run_of_turns, chosen_in_turns}
-use Rattle.explore_laws.specs.Covering.{HasTurns}
+use Rattle.explore_laws.proofs.TurnLemmas.{run_joined, run_of_turns}
 use Rattle.explore_laws.specs.Places.{Place, place_begun, place_reached}
 use Rattle.explore_laws.specs.Safe.{IsSafe}
 use Rattle.explore_laws.specs.Settling.{turns_choices}
 use Rattle.explore_search.specs.Answers.{AreAllReached}
 use Rattle.explore_search.specs.Counted.{IsLedTo}
+use Rattle.explore_space.specs.Begun.{begun_choices, settled_start}
 use Rattle.explore_space.specs.Ends.{EndValue, end_with, AreEndsAt, FitsHarts}
 use Rattle.explore_space.specs.Every.{meant_choices, IsListOf, StopsAll, run_end, AreAllEnds}
 use Rattle.explore_space.specs.Failing.{one_each, fails_there}
 use Rattle.explore_space.specs.Places.{hart_numbered, place_of_key, IsKey}
 use Rattle.explore_space.specs.declared.meant.ScRefusals.{ScRefusals}
 use Rattle.explore_space.specs.declared.shared.Shared.{Shared}
-use Rattle.explore_space.proofs.EveryLemmas.{alike, same_judgement, good_run, turns_meant}
+use Rattle.explore_space.proofs.BegunLemmas.{begun_count, run_of_begun}
+use Rattle.explore_space.proofs.EveryLemmas.{good_run, safe_is_safe, start_meant}
+use Rattle.explore_space.proofs.StartLemmas.{HasStart, run_has_start}
 use Rattle.explore_space.proofs.StopLemmas.{same_harts, same_outcomes}
 
 contains_at : {X : Type 0} (xs : List X) (k : ℕ) (x : X) → slice_get xs k ≡ Some x → Contains xs x
@@ -44,23 +44,26 @@ module _ (rule : Option Kind) (refusals : ScRefusals) (image : ImageValue) (inpu
   abbrev meant : List Choice
   meant = meant_choices refusals (length inputs)
 
+  abbrev start : World
+  start = started image inputs
+
   abbrev first : World
-  first = started image inputs
+  first = settled_start start
 
   abbrev reached : List Choice → Place
   reached turns = place_reached (place_begun first) turns
 
   -- where no hart runs after a list, the place that stands for its run has the same end
-  same_place : (choices : List Choice) (found : HasTurns meant first choices) → StopsAll image inputs choices
-      → (reached found.turns).world.harts ≡ (run first choices).harts
-  same_place choices found stops = same_harts (reached found.turns).world (run first choices) found.place.covers stops
+  same_place : (choices : List Choice) (found : HasStart meant start choices) → StopsAll image inputs choices
+      → (reached found.turns).world.harts ≡ (run start choices).harts
+  same_place choices found stops = same_harts (reached found.turns).world (run start choices) found.place.covers stops
 
-  same_end : (choices : List Choice) (found : HasTurns meant first choices) → IsSafe meant (place_begun first) (fails_there rule inputs)
+  same_end : (choices : List Choice) (found : HasStart meant start choices) → IsSafe meant (place_begun first) (fails_there rule inputs)
       → StopsAll image inputs choices → end_there rule inputs (reached found.turns) ≡ run_end rule image inputs choices
   same_end choices found safe stops =
       let p = reached found.turns in
       let each = one_each (length inputs) p.chosen in
-      let hs = (run first choices).harts in
+      let hs = (run start choices).harts in
       let same = same_place choices found stops in
       let good = safe found.turns found.are_meant in
       let outcome : judged rule inputs each p.world.harts ≡ judged rule inputs choices hs
@@ -69,15 +72,26 @@ module _ (rule : Option Kind) (refusals : ScRefusals) (image : ImageValue) (inpu
       (good_run rule refusals image inputs choices found good) in
       ap (λ o. end_with o p.world.harts) outcome ∙ ap (end_with (judged rule inputs choices hs)) same
 
-  -- where turns lead, the run of their choices ends as the place does
-  turns_end : (turns : List Choice) → IsListOf meant turns
-      → end_there rule inputs (reached turns) ≡ run_end rule image inputs (turns_choices first turns)
-  turns_end turns all =
+  -- the first local steps of all harts, and turns
+  abbrev list_of : List Choice → List Choice
+  list_of turns = begun_choices start (λ k. true) (length start.harts) ++ turns_choices first turns
+
+  leads_there : (turns : List Choice) → run start (list_of turns) ≡ (reached turns).world
+  leads_there turns =
+      run_joined start (begun_choices start (λ k. true) (length start.harts)) (turns_choices first turns)
+      ∙ ap (λ (x : World). run x (turns_choices first turns)) (run_of_begun start (λ k. true) (length start.harts))
+      ∙ run_of_turns first turns
+
+  -- the run of these choices ends as the place does
+  turns_end : (turns : List Choice) → IsListOf meant turns → IsSafe meant (place_begun first) (fails_there rule inputs)
+      → end_there rule inputs (reached turns) ≡ run_end rule image inputs (list_of turns)
+  turns_end turns all safe =
       let p = reached turns in
-      let list = turns_choices first turns in
-      ap (λ o. end_with o p.world.harts) (same_judgement rule inputs (one_each (length inputs) p.chosen) list p.world.harts
-      (λ k. alike refusals (length inputs) first turns all k ∙ sym (chosen_reached first turns k) ∙ sym (chosen_in_turns first turns k)))
-      ∙ ap (λ (x : World). end_with (judged rule inputs list x.harts) x.harts) (sym (run_of_turns first turns))
+      let list = list_of turns in
+      let good = safe_is_safe rule refusals image inputs safe list (start_meant refusals image inputs (λ k. true) turns all) in
+      ap (λ o. end_with o p.world.harts) (same_outcomes rule inputs (one_each (length inputs) p.chosen) list p.world.harts (safe turns all)
+      (subst (λ (x : World). fails May (judged rule inputs list x.harts) ≡ false) (leads_there turns) good))
+      ∙ ap (λ (x : World). end_with (judged rule inputs list x.harts) x.harts) (sym (leads_there turns))
 
   -- keys of a search, over parts that are known
   module _ {Z : Type 0} (other : ImageValue) (harts : List Hart) (shareds : List (Shared Z)) (keys : List (List ℕ)) where
@@ -93,7 +107,8 @@ module _ (rule : Option Kind) (refusals : ScRefusals) (image : ImageValue) (inpu
         let len = is_key.len in
         let taken = length-take-le n seen.key (omega (arith, len)) in
         let mapped = length-map (take n seen.key) (hart_numbered harts) in
-        sym (mapped ∙ taken) ∙ ap (λ (p : Place). length p.world.harts) seen.is ∙ length-started image inputs
+        sym (mapped ∙ taken) ∙ ap (λ (p : Place). length p.world.harts) seen.is
+        ∙ begun_count start (λ k. true) (length start.harts) ∙ length-started image inputs
 
     keys_fit : Reached (length inputs) → All (FitsHarts (length inputs) (length harts)) keys
     keys_fit r k d low = let is = r.are k d low in (is.len, is.harts)
@@ -105,7 +120,7 @@ module _ (rule : Option Kind) (refusals : ScRefusals) (image : ImageValue) (inpu
         → AreEndsAt rule inputs harts keys ends → AreAllEnds rule refusals image inputs ends
     ends_all ends r safe at = record {
       all = λ choices all stops.
-          let found = run_has_turns meant first choices all in
+          let found = run_has_start meant start choices all in
           let seen = r.all found.turns found.are_meant in
           let stopped = ap (λ (p : Place). some_run p.world.harts) seen.is
           ∙ ap (λ (xs : List HartValue). some_run xs) (same_place choices found stops) ∙ stops in
@@ -116,11 +131,11 @@ module _ (rule : Option Kind) (refusals : ScRefusals) (image : ImageValue) (inpu
           let led = All-contains (λ key. IsLedTo meant (place_begun first) (place_of_key other (length inputs) harts shareds key)) keys is.key
           r.led_to is.there in
           record {
-            choices = turns_choices first led.list;
-            meant_ones = turns_meant refusals (length inputs) first led.list led.meant;
-            stops = ap (λ (x : World). some_run x.harts) (run_of_turns first led.list)
+            choices = list_of led.list;
+            meant_ones = start_meant refusals image inputs (λ k. true) led.list led.meant;
+            stops = ap (λ (x : World). some_run x.harts) (leads_there led.list)
                 ∙ ap (λ (p : Place). some_run p.world.harts) led.leads ∙ is.stopped;
-            is = sym (turns_end led.list led.meant) ∙ ap (end_there rule inputs) led.leads ∙ is.is;
+            is = sym (turns_end led.list led.meant safe) ∙ ap (end_there rule inputs) led.leads ∙ is.is;
           };
       once = at.once;
     }

@@ -1,13 +1,14 @@
 -- From places to runs.
-use Rattle.std.proofs.Common.{◌≡◌, ℕ, zero, suc, ◌<◌, ◌≤◌, false, List, [], ◌∷◌, ◌++◌, length, Option, Some, None, refl, ap, sym, ◌∙◌, subst, arith, inl, inr}
+use Rattle.std.proofs.Common.{◌≡◌, ℕ, zero, suc, ◌<◌, ◌≤◌, Bool, false, List, [], ◌∷◌, ◌++◌, length, Option, Some, None, refl, ap, sym, ◌∙◌, subst, arith, inl, inr}
 use Rattle.std.proofs.lemmas.Bool.{cases_lt, ne_eqb}
-use Rattle.std.proofs.lemmas.List.Elements.{All-head, All-tail, All-cons, Contains-append_cases, Contains-append_left, Contains-append_right}
+use Rattle.std.proofs.lemmas.List.Elements.{All-head, All-tail, All-append, All-cons, Contains-append_cases, Contains-append_left, Contains-append_right}
 use Rattle.std.specs.List.{Contains, slice_get, slice_index_or}
 use Rattle.image.specs.Image.{ImageValue}
 use Rattle.hart_step.specs.Hart.{HartValue}
 use Rattle.hart_local.specs.LocalRuns.{plain_choices}
 use Rattle.machine.specs.Chosen.{is_chosen, ChooseAlike}
 use Rattle.machine.specs.Start.{started}
+use Rattle.machine.proofs.RunLaws.{length-started}
 use Rattle.machine.specs.World.{World, step, run}
 use Rattle.machine.specs.declared.choice.Choice.{Choice}
 use Rattle.object_library.proofs.ChosenLemmas.{same_verdict}
@@ -15,22 +16,23 @@ use Rattle.object_library.specs.declared.kind.Kind.{Kind}
 use Rattle.outcome.specs.Outcome.{outcome_of}
 use Rattle.outcome.specs.Expect.{fails, judged}
 use Rattle.outcome.specs.declared.expect.Exit.TheVariants.{May}
-use Rattle.explore_laws.proofs.CoverLemmas.{run_has_turns}
 use Rattle.explore_laws.proofs.PlaceLemmas.{chosen_reached}
-use Rattle.explore_laws.proofs.TurnLemmas.{run_of_turns, chosen_in_turns}
-use Rattle.explore_laws.specs.Covering.{HasTurns}
 use Rattle.explore_laws.specs.Places.{place_begun, place_reached}
 use Rattle.explore_laws.specs.Safe.{IsSafe}
 use Rattle.explore_laws.specs.Settling.{world_settled, settling_steps, turns_choices}
 use Rattle.explore_search.proofs.SearchLemmas.{below_or}
 use Rattle.explore_search.specs.Answers.{LeadsToBad}
 use Rattle.explore_search.specs.declared.searching.Found.{Found}
+use Rattle.explore_space.specs.Begun.{begun_choices, choices_from_start, settled_start, world_begun}
 use Rattle.explore_space.specs.Every.{hart_choices, meant_choices, IsListOf, run_fails, FailsFirst}
 use Rattle.explore_space.specs.Failing.{one_each, fails_there}
 use Rattle.explore_space.specs.declared.meant.ScRefusals.{ScRefusals}
 use Rattle.explore_space.specs.declared.meant.ScRefusals.TheVariants.{Also, Never}
 use Rattle.explore_space.proofs.MarkLemmas.{chosen_below, chosen_past}
-use Rattle.explore_space.proofs.PassLemmas.{passes}
+use Rattle.explore_space.proofs.PassLemmas.{covered_stops, passes}
+use Rattle.explore_space.proofs.BegunLemmas.{start_chosen}
+use Rattle.explore_space.proofs.AheadLemmas.{all_run, fails_ahead, start_ahead}
+use Rattle.explore_space.proofs.StartLemmas.{HasStart, begun_meant, run_has_start}
 
 -- ---- the harts of meant choices
 of_hart : (refusals : ScRefusals) (n i : ℕ) (c : Choice) → i < length (hart_choices refusals n)
@@ -108,37 +110,56 @@ same_judgement (Some kind) inputs a b harts same = ap (λ v. outcome_of (Some v)
 -- where turns lead, their own run has failed exactly where the place has
 fails_alike : (rule : Option Kind) (refusals : ScRefusals) (image : ImageValue) (inputs : List ℕ) (turns : List Choice)
     → IsListOf (meant_choices refusals (length inputs)) turns
-    → fails_there rule inputs (place_reached (place_begun (started image inputs)) turns)
-    ≡ run_fails rule image inputs (turns_choices (started image inputs) turns)
+    → fails_there rule inputs (place_reached (place_begun (settled_start (started image inputs))) turns)
+    ≡ run_fails rule image inputs (choices_from_start (started image inputs) turns)
 fails_alike rule refusals image inputs turns all =
     let w = started image inputs in
-    let p = place_reached (place_begun w) turns in
-    ap (fails May) (same_judgement rule inputs (one_each (length inputs) p.chosen) (turns_choices w turns) p.world.harts
-    (λ k. alike refusals (length inputs) w turns all k ∙ sym (chosen_reached w turns k) ∙ sym (chosen_in_turns w turns k)))
-    ∙ ap (λ (x : World). fails May (judged rule inputs (turns_choices w turns) x.harts)) (sym (run_of_turns w turns))
+    let p = place_reached (place_begun (settled_start w)) turns in
+    fails_ahead rule inputs (is_chosen turns) p.world (run w (choices_from_start w turns)) (one_each (length inputs) p.chosen)
+    (choices_from_start w turns) (start_ahead w turns (all_run image inputs))
+    (λ k. alike refusals (length inputs) (settled_start w) turns all k ∙ sym (start_chosen w turns k))
 
 -- a run fails in no other way than the place that stands for it
 pub good_run : (rule : Option Kind) (refusals : ScRefusals) (image : ImageValue) (inputs : List ℕ) (choices : List Choice)
-    (found : HasTurns (meant_choices refusals (length inputs)) (started image inputs) choices)
-    → fails_there rule inputs (place_reached (place_begun (started image inputs)) found.turns) ≡ false
+    (found : HasStart (meant_choices refusals (length inputs)) (started image inputs) choices)
+    → fails_there rule inputs (place_reached (place_begun (settled_start (started image inputs))) found.turns) ≡ false
     → run_fails rule image inputs choices ≡ false
 good_run rule refusals image inputs choices found good =
     let w = started image inputs in
-    let p = place_reached (place_begun w) found.turns in
-    passes rule inputs p.world (run w choices) (one_each (length inputs) p.chosen) choices found.place.covers
-    (λ k e. found.place.fewer k (chosen_reached w found.turns k ∙ sym (alike refusals (length inputs) w found.turns found.are_meant k) ∙ e)) good
+    let s = settled_start w in
+    let p = place_reached (place_begun s) found.turns in
+    passes rule inputs p.world.harts (run w choices).harts (one_each (length inputs) p.chosen) choices
+    (covered_stops p.world (run w choices) found.place.covers)
+    (λ k e. found.place.fewer k (chosen_reached s found.turns k ∙ sym (alike refusals (length inputs) s found.turns found.are_meant k) ∙ e)) good
+
+-- the choices of turns from the start are meant
+pub plains : (refusals : ScRefusals) (image : ImageValue) (inputs : List ℕ) (h : ℕ) → h < length (started image inputs).harts
+    → Contains (meant_choices refusals (length inputs)) (record { hart = h; refuse = false })
+plains refusals image inputs h low =
+    plain_meant refusals (length inputs) h (let c = length-started image inputs in omega (arith, c, low))
+
+pub start_meant : (refusals : ScRefusals) (image : ImageValue) (inputs : List ℕ) (asked : ℕ → Bool) (turns : List Choice)
+    → IsListOf (meant_choices refusals (length inputs)) turns
+    → IsListOf (meant_choices refusals (length inputs)) (begun_choices (started image inputs) asked (length (started image inputs).harts)
+    ++ turns_choices (world_begun (started image inputs) asked (length (started image inputs).harts)) turns)
+start_meant refusals image inputs asked turns all =
+    let w = started image inputs in
+    let n = length w.harts in
+    All-append (Contains (meant_choices refusals (length inputs))) (begun_choices w asked n) (turns_choices (world_begun w asked n) turns)
+    (begun_meant (meant_choices refusals (length inputs)) w (plains refusals image inputs) asked n (omega arith))
+    (turns_meant refusals (length inputs) (world_begun w asked n) turns all)
 
 -- ---- an answer for places is one for runs
 pub safe_is_safe : (rule : Option Kind) (refusals : ScRefusals) (image : ImageValue) (inputs : List ℕ)
-    → IsSafe (meant_choices refusals (length inputs)) (place_begun (started image inputs)) (fails_there rule inputs)
+    → IsSafe (meant_choices refusals (length inputs)) (place_begun (settled_start (started image inputs))) (fails_there rule inputs)
     → (choices : List Choice) → IsListOf (meant_choices refusals (length inputs)) choices → run_fails rule image inputs choices ≡ false
 safe_is_safe rule refusals image inputs safe choices all =
-    let found = run_has_turns (meant_choices refusals (length inputs)) (started image inputs) choices all in
+    let found = run_has_start (meant_choices refusals (length inputs)) (started image inputs) choices all in
     good_run rule refusals image inputs choices found (safe found.turns found.are_meant)
 
 pub bad_is_bad : (rule : Option Kind) (refusals : ScRefusals) (image : ImageValue) (inputs : List ℕ) (turns choices : List Choice) (count : ℕ)
-    → LeadsToBad (meant_choices refusals (length inputs)) (place_begun (started image inputs)) (fails_there rule inputs) turns
-    → choices ≡ turns_choices (started image inputs) turns → length turns ≡ count
+    → LeadsToBad (meant_choices refusals (length inputs)) (place_begun (settled_start (started image inputs))) (fails_there rule inputs) turns
+    → choices ≡ choices_from_start (started image inputs) turns → length turns ≡ count
     → FailsFirst (meant_choices refusals (length inputs)) (started image inputs) (run_fails rule image inputs) choices count
 bad_is_bad rule refusals image inputs turns choices count bad is count_is =
     let w = started image inputs in
@@ -146,13 +167,14 @@ bad_is_bad rule refusals image inputs turns choices count bad is count_is =
       turns = turns;
       count_is = count_is;
       choices_are = is;
-      meant_ones = subst (IsListOf (meant_choices refusals (length inputs))) (sym is) (turns_meant refusals (length inputs) w turns bad.meant);
+      meant_ones = subst (IsListOf (meant_choices refusals (length inputs))) (sym is)
+          (start_meant refusals image inputs (is_chosen turns) turns bad.meant);
       meant_turns = bad.meant;
       fails = ap (run_fails rule image inputs) is ∙ sym (fails_alike rule refusals image inputs turns bad.meant) ∙ bad.ends;
       fewest = λ other all less.
           sym (fails_alike rule refusals image inputs other all) ∙ bad.shortest other all (omega (arith, less, count_is));
       shortest = λ other all less.
-          let found = run_has_turns (meant_choices refusals (length inputs)) w other all in
+          let found = run_has_start (meant_choices refusals (length inputs)) w other all in
           good_run rule refusals image inputs other found
           (bad.shortest found.turns found.are_meant (let few = found.no_more in omega (arith, few, less, count_is)));
     }

@@ -12,10 +12,9 @@ use Rattle.machine.proofs.RunLaws.{run_length, length-started}
 use Rattle.outcome.specs.Outcome.{some_run}
 use Rattle.outcome.specs.declared.expect.Exit.{Exit}
 use Rattle.outcome.specs.declared.expect.Exit.TheVariants.{May, Must}
-use Rattle.explore_laws.proofs.CoverLemmas.{run_has_turns}
 use Rattle.explore_laws.proofs.TurnLemmas.{run_joined, run_of_turns, turns_from}
 use Rattle.explore_laws.proofs.WayLemmas.{walks_there}
-use Rattle.explore_laws.specs.Covering.{HasTurns, WorldCovers}
+use Rattle.explore_laws.specs.Covering.{WorldCovers}
 use Rattle.explore_laws.specs.Places.{Place, place_begun, place_reached}
 use Rattle.explore_laws.specs.Settling.{turns_choices}
 use Rattle.explore_laws.specs.WaysOut.{HasWayOut, HaveWaysOut}
@@ -26,6 +25,7 @@ use Rattle.explore_search.specs.declared.edges.Edges.TheVariants.{Kept}
 use Rattle.explore_search.specs.declared.searching.Found.{Found}
 use Rattle.explore_search.specs.declared.searching.Found.TheVariants.{Safe}
 use Rattle.explore_search.specs.declared.seen.Seen.{Seen}
+use Rattle.explore_space.specs.Begun.{choices_from_start, settled_start}
 use Rattle.explore_space.specs.Every.{meant_choices, IsListOf, HasExit, HangsFirst, TellsExits}
 use Rattle.explore_space.specs.Failing.{ends_there}
 use Rattle.explore_space.specs.Stuck.{AnswersExit, edges_for}
@@ -35,7 +35,11 @@ use Rattle.explore_space.specs.declared.exploring.Held.{Held}
 use Rattle.explore_space.specs.declared.meant.ScRefusals.{ScRefusals}
 use Rattle.explore_space.specs.declared.own_bounds.OwnBounds.{OwnBounds}
 use Rattle.explore_space.specs.declared.own_bounds.OwnBounds.TheVariants.{Asked, NotAsked}
-use Rattle.explore_space.proofs.EveryLemmas.{plain_meant, turns_meant}
+use Rattle.machine.specs.Chosen.{is_chosen}
+use Rattle.explore_space.proofs.AheadLemmas.{all_run, start_ahead}
+use Rattle.explore_space.proofs.BegunLemmas.{begun_count}
+use Rattle.explore_space.proofs.EveryLemmas.{plain_meant, start_meant, turns_meant}
+use Rattle.explore_space.proofs.StartLemmas.{covered_follow, run_has_start}
 use Rattle.explore_space.proofs.StopLemmas.{same_harts}
 
 stopped : (b : Bool) → not b ≡ true → b ≡ false
@@ -46,8 +50,11 @@ module _ (refusals : ScRefusals) (image : ImageValue) (inputs : List ℕ) where
   abbrev meant : List Choice
   meant = meant_choices refusals (length inputs)
 
+  abbrev start : World
+  start = started image inputs
+
   abbrev first : World
-  first = started image inputs
+  first = settled_start start
 
   abbrev reached : List Choice → Place
   reached turns = place_reached (place_begun first) turns
@@ -61,15 +68,15 @@ module _ (refusals : ScRefusals) (image : ImageValue) (inputs : List ℕ) where
         ∙ stopped (some_run (place_reached p way.turns).world.harts) way.ends;
   }
 
-  exit_place : (p : Place) → HasExit meant p.world → HasWayOut meant ends_there p
-  exit_place p exit =
-      let found = run_has_turns meant p.world exit.choices exit.meant_ones in
-      let world = sym (turns_from p found.turns) ∙ run_of_turns p.world found.turns in
-      let harts = same_harts (place_reached (place_begun p.world) found.turns).world (run p.world exit.choices) found.place.covers exit.stops in
+  -- and a world out of which choices lead is covered by no place without a way out
+  exit_place : (p : Place) (w : World) → WorldCovers p.world w → HasExit meant w → HasWayOut meant ends_there p
+  exit_place p w covers exit =
+      let found = covered_follow meant p w exit.choices covers exit.meant_ones in
+      let harts = same_harts (place_reached p found.0).world (run w exit.choices) found.2 exit.stops in
       record {
-        turns = found.turns;
-        are_meant = found.are_meant;
-        ends = ap (λ (x : World). not (some_run x.harts)) world ∙ ap (λ (hs : List HartValue). not (some_run hs)) harts ∙ ap not exit.stops;
+        turns = found.0;
+        are_meant = found.1;
+        ends = ap (λ (hs : List HartValue). not (some_run hs)) harts ∙ ap not exit.stops;
       }
 
   -- local steps lead to a world that covers another, and so out of that one
@@ -86,38 +93,41 @@ module _ (refusals : ScRefusals) (image : ImageValue) (inputs : List ℕ) where
   count_of : (turns : List Choice) → length (reached turns).world.harts ≡ length inputs
   count_of turns =
       ap (λ (x : World). length x.harts) (sym (run_of_turns first turns)) ∙ run_length first (turns_choices first turns)
-      ∙ length-started image inputs
+      ∙ begun_count start (λ k. true) (length start.harts) ∙ length-started image inputs
 
-  run_exit : (choices : List Choice) (found : HasTurns meant first choices) → HasWayOut meant ends_there (reached found.turns)
-      → HasExit meant (run first choices)
-  run_exit choices found way =
-      covered_exit (reached found.turns).world (run first choices) (count_of found.turns) found.place.covers
-      (place_exit (reached found.turns) way)
+  -- what leads out of a place leads out of each world that it covers
+  run_exit : (turns : List Choice) (w : World) → WorldCovers (reached turns).world w → HasWayOut meant ends_there (reached turns)
+      → HasExit meant w
+  run_exit turns w covers way =
+      covered_exit (reached turns).world w (count_of turns) covers (place_exit (reached turns) way)
 
   exits_all : HaveWaysOut meant (place_begun first) ends_there → (choices : List Choice) → IsListOf meant choices
-      → HasExit meant (run first choices)
+      → HasExit meant (run start choices)
   exits_all ways choices all =
-      let found = run_has_turns meant first choices all in run_exit choices found (ways found.turns found.are_meant)
+      let found = run_has_start meant start choices all in
+      run_exit found.turns (run start choices) found.place.covers (ways found.turns found.are_meant)
+
+  covers_list : (turns : List Choice) → WorldCovers (reached turns).world (run start (choices_from_start start turns))
+  covers_list turns = (start_ahead start turns (all_run image inputs)).covers
 
   hangs_first : (turns choices : List Choice) (count : ℕ) → LeadsToStuck meant (place_begun first) ends_there turns
-      → choices ≡ turns_choices first turns → length turns ≡ count → HangsFirst meant first choices count
-  hangs_first turns choices count leads is count_is =
-      let world : run first choices ≡ (reached turns).world = ap (run first) is ∙ run_of_turns first turns in
-      record {
-        turns = turns;
-        meant_turns = leads.meant;
-        count_is = count_is;
-        choices_are = is;
-        meant_ones = subst (IsListOf meant) (sym is) (turns_meant refusals (length inputs) first turns leads.meant);
-        hangs = λ exit. leads.stuck (exit_place (reached turns) (subst (HasExit meant) world exit));
-        fewest = λ other all less.
-            subst (HasExit meant) (sym (run_of_turns first other))
-            (place_exit (reached other) (leads.nearest other all (omega (arith, less, count_is))));
-        shortest = λ other all less.
-            let found = run_has_turns meant first other all in
-            run_exit other found (leads.nearest found.turns found.are_meant
-            (let few = found.no_more in omega (arith, few, less, count_is)));
-      }
+      → choices ≡ choices_from_start start turns → length turns ≡ count → HangsFirst meant start choices count
+  hangs_first turns choices count leads is count_is = record {
+    turns = turns;
+    meant_turns = leads.meant;
+    count_is = count_is;
+    choices_are = is;
+    meant_ones = subst (IsListOf meant) (sym is) (start_meant refusals image inputs (is_chosen turns) turns leads.meant);
+    hangs = λ exit. leads.stuck (exit_place (reached turns) (run start choices)
+        (subst (λ (cs : List Choice). WorldCovers (reached turns).world (run start cs)) (sym is) (covers_list turns)) exit);
+    fewest = λ other all less.
+        run_exit other (run start (choices_from_start start other)) (covers_list other)
+        (leads.nearest other all (omega (arith, less, count_is)));
+    shortest = λ other all less.
+        let found = run_has_start meant start other all in
+        run_exit found.turns (run start other) found.place.covers (leads.nearest found.turns found.are_meant
+        (let few = found.no_more in omega (arith, few, less, count_is)));
+  }
 
   -- ---- an answer for places is one for runs
   pub held_exits : {Z : Type 0} (exit : Exit) (held : Held Z) (found : Option (Vec Choice Z)) → found ≡ None
@@ -128,7 +138,7 @@ module _ (refusals : ScRefusals) (image : ImageValue) (inputs : List ℕ) where
 
   pub hanging_exits : {Z : Type 0} (exit : Exit) (hanging : Failing Z) (found : Option (Vec Choice Z)) (turns : Vec Choice Z)
       → found ≡ Some turns → AnswersExit exit meant (place_begun first) found
-      → hanging.choices.items ≡ turns_choices first turns.items → length turns.items ≡ hanging.turns
+      → hanging.choices.items ≡ choices_from_start start turns.items → length turns.items ≡ hanging.turns
       → TellsExits exit refusals image inputs (Hangs hanging)
   hanging_exits May hanging found turns is none choices count = absurd (cc)
   hanging_exits Must hanging found turns is answers choices count =

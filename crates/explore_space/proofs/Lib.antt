@@ -9,6 +9,11 @@ pub mod SameLemmas
 pub mod MarkLemmas
 pub mod TurnLists
 pub mod PassLemmas
+pub mod BegunLemmas
+pub mod LagLemmas
+pub mod AheadLemmas
+pub mod StartLemmas
+pub mod BeginLemmas
 pub mod EveryLemmas
 pub mod EndLemmas
 pub mod StopLemmas

@@ -79,28 +79,43 @@ module _ (s w : World) (covers : WorldCovers s w) where
       stays_there (code_in w.memory) walks.steps (get_or w.harts i d) (get_or s.harts i d) walks.walks
       (faulted_stays (code_in w.memory) (get_or w.harts i d).pc (get_or w.harts i d).state e)
 
-  there_in : (i : ℕ) → i < length w.harts → i < length s.harts
-  there_in i low = let c = covers.count in omega (arith, low, c)
+-- each hart that has stopped is the same among others
+pub record StopsAlike (others harts : List HartValue) : Type 0 where
+  pub count : length others ≡ length harts
+  pub exited : (i : ℕ) (d : HartValue) → i < length harts → HasExited (get_or harts i d) → get_or harts i d ≡ get_or others i d
+  pub faulted : (i : ℕ) (d : HartValue) → i < length harts → is_faulted (get_or harts i d).state ≡ true
+      → get_or harts i d ≡ get_or others i d
+
+pub covered_stops : (s w : World) → WorldCovers s w → StopsAlike s.harts w.harts
+covered_stops s w covers = record {
+  count = covers.count;
+  exited = same_exited s w covers;
+  faulted = same_faulted s w covers;
+}
+
+module _ (others harts : List HartValue) (alike : StopsAlike others harts) where
+  there_in : (i : ℕ) → i < length harts → i < length others
+  there_in i low = let c = alike.count in omega (arith, low, c)
 
   -- ---- what holds of each hart that has exited
-  exited_all : (P : HartValue → Type 0) → All (λ h. HasExited h → P h) s.harts → All (λ h. HasExited h → P h) w.harts
+  exited_all : (P : HartValue → Type 0) → All (λ h. HasExited h → P h) others → All (λ h. HasExited h → P h) harts
   exited_all P all i d low e =
-      let is = same_exited i d low e in
+      let is = alike.exited i d low e in
       subst P (sym is) (all i d (there_in i low) (subst HasExited is e))
 
-  exited_pairs : (P : HartValue → HartValue → Type 0) → All (λ h. All (λ k. HasExited h → HasExited k → P h k) s.harts) s.harts
-      → All (λ h. All (λ k. HasExited h → HasExited k → P h k) w.harts) w.harts
+  exited_pairs : (P : HartValue → HartValue → Type 0) → All (λ h. All (λ k. HasExited h → HasExited k → P h k) others) others
+      → All (λ h. All (λ k. HasExited h → HasExited k → P h k) harts) harts
   exited_pairs P all i d low j e below one other =
-      let a = same_exited i d low one in
-      let b = same_exited j e below other in
-      subst (λ h. P h (get_or w.harts j e)) (sym a) (subst (P (get_or s.harts i d)) (sym b)
+      let a = alike.exited i d low one in
+      let b = alike.exited j e below other in
+      subst (λ h. P h (get_or harts j e)) (sym a) (subst (P (get_or others i d)) (sym b)
       (all i d (there_in i low) j e (there_in j below) (subst HasExited a one) (subst HasExited b other)))
 
-  none_faulted : All (λ h. is_faulted h.state ≡ false) s.harts → All (λ h. is_faulted h.state ≡ false) w.harts
-  none_faulted all i d low = elim (cases_Bool (is_faulted (get_or w.harts i d).state)) [
+  none_faulted : All (λ h. is_faulted h.state ≡ false) others → All (λ h. is_faulted h.state ≡ false) harts
+  none_faulted all i d low = elim (cases_Bool (is_faulted (get_or harts i d).state)) [
     | inl yes_ ↦
-        let is = same_faulted i d low yes_ in
-        absurd (let none = all i d (there_in i low) in let again : is_faulted (get_or s.harts i d).state ≡ true
+        let is = alike.faulted i d low yes_ in
+        absurd (let none = all i d (there_in i low) in let again : is_faulted (get_or others i d).state ≡ true
         = ap (λ (h : HartValue). is_faulted h.state) (sym is) ∙ yes_ in cc)
     | inr no_ ↦ no_
   ]
@@ -113,7 +128,7 @@ module _ (s w : World) (covers : WorldCovers s w) where
     proposed : (v : ℕ) → IsProposed inputs a v → IsProposed inputs b v
     proposed v p = (p.0, moves p.0 p.1, p.2)
 
-    consensus : KeepsConsensus inputs a s.harts → KeepsConsensus inputs b w.harts
+    consensus : KeepsConsensus inputs a others → KeepsConsensus inputs b harts
     consensus kept = record {
       valid = λ i d low e. proposed _ (exited_all (λ h. IsProposed inputs a (value_of h)) kept.valid i d low e);
       agreed = exited_pairs (λ h k. value_of h ≡ value_of k) kept.agreed;
@@ -121,7 +136,7 @@ module _ (s w : World) (covers : WorldCovers s w) where
       sound = none_faulted kept.sound;
     }
 
-    adopt_commit : KeepsAdoptCommit inputs a s.harts → KeepsAdoptCommit inputs b w.harts
+    adopt_commit : KeepsAdoptCommit inputs a others → KeepsAdoptCommit inputs b harts
     adopt_commit kept = record {
       valid = λ i d low e. proposed _ (exited_all (λ h. IsProposed inputs a (value_of h)) kept.valid i d low e);
       answered = exited_all (λ h. (flag_of h ≡ 0) ⊎ (flag_of h ≡ 1)) kept.answered;
@@ -130,7 +145,7 @@ module _ (s w : World) (covers : WorldCovers s w) where
       sound = none_faulted kept.sound;
     }
 
-    keeps : (kind : Kind) → KeepsRule kind inputs a s.harts → KeepsRule kind inputs b w.harts
+    keeps : (kind : Kind) → KeepsRule kind inputs a others → KeepsRule kind inputs b harts
     keeps Swap kept = consensus kept
     keeps Add kept = consensus kept
     keeps LrSc kept = consensus kept
@@ -169,13 +184,13 @@ pub not_broken : (b : Bool) → breaks (Some (cond b verdict.Kept verdict.Broken
 not_broken true e = refl
 not_broken false e = absurd (cc)
 
-pub passes : (rule : Option Kind) (inputs : List ℕ) (s w : World) (a b : List Choice) → WorldCovers s w
-    → ((k : ℕ) → is_chosen a k ≡ true → is_chosen b k ≡ true) → fails May (judged rule inputs a s.harts) ≡ false
-    → fails May (judged rule inputs b w.harts) ≡ false
-passes None inputs s w a b covers fewer good =
+pub passes : (rule : Option Kind) (inputs : List ℕ) (others harts : List HartValue) (a b : List Choice) → StopsAlike others harts
+    → ((k : ℕ) → is_chosen a k ≡ true → is_chosen b k ≡ true) → fails May (judged rule inputs a others) ≡ false
+    → fails May (judged rule inputs b harts) ≡ false
+passes None inputs others harts a b alike fewer good =
     ap (λ n. ltb 0 n || false)
-    (counted_none w.harts (none_faulted s w covers (none_counted s.harts (none_above (counted end.Faulted s.harts) good))))
-passes (Some kind) inputs s w a b covers fewer good =
-    let kept : is_kept kind inputs a s.harts ≡ true = not_broken (is_kept kind inputs a s.harts) good in
-    let rule_kept = keeps s w covers inputs a b fewer kind ((kept-decides kind inputs a s.harts).0 kept) in
-    ap (λ k. breaks (Some (cond k verdict.Kept verdict.Broken)) || false) ((kept-decides kind inputs b w.harts).1 rule_kept)
+    (counted_none harts (none_faulted others harts alike (none_counted others (none_above (counted end.Faulted others) good))))
+passes (Some kind) inputs others harts a b alike fewer good =
+    let kept : is_kept kind inputs a others ≡ true = not_broken (is_kept kind inputs a others) good in
+    let rule_kept = keeps others harts alike inputs a b fewer kind ((kept-decides kind inputs a others).0 kept) in
+    ap (λ k. breaks (Some (cond k verdict.Kept verdict.Broken)) || false) ((kept-decides kind inputs b harts).1 rule_kept)

@@ -39,7 +39,7 @@ unfolding meant_choices
 meant_more refusals n = let k : n + 1 ≡ suc n = omega arith in rw k refl
 
 -- ---- a turn of no hart
-no_step : (w : World) (c : Choice) → slice_get w.harts c.hart ≡ None → step w c ≡ w
+pub no_step : (w : World) (c : Choice) → slice_get w.harts c.hart ≡ None → step w c ≡ w
 unfolding step
 no_step w c none = ap (step_of w c) none
 

@@ -1,5 +1,5 @@
 -- What is said of harts' own steps.
-use Rattle.std.specs.Prelude.{◌≡◌, ℕ, ◌<◌, false, List, [], Some, length, slice_get}
+use Rattle.std.specs.Prelude.{◌≡◌, ℕ, ◌+◌, ◌<◌, false, List, [], Some, length, slice_get}
 use Rattle.std.specs.List.{Contains}
 use Rattle.image.specs.Image.{ImageValue}
 use Rattle.machine.specs.Start.{started}
@@ -8,12 +8,18 @@ use Rattle.machine.specs.declared.choice.Choice.{Choice}
 use Rattle.explore_laws.specs.OwnSteps.{HasPlainChoices}
 use Rattle.explore_bounds.specs.Steps.{TellsBound}
 use Rattle.explore_bounds.specs.declared.bound.Bound.{Bound}
+use Rattle.explore_bounds.specs.declared.bound.Bound.TheVariants.{After, Never}
 use Rattle.explore_space.specs.Every.{meant_choices}
 use Rattle.explore_space.specs.declared.exploring.Answer.{Answer}
 use Rattle.explore_space.specs.declared.exploring.Answer.TheVariants.{Holds, Fails, Hangs, Undecided}
 use Rattle.explore_space.specs.declared.meant.ScRefusals.{ScRefusals}
 use Rattle.explore_space.specs.declared.own_bounds.OwnBounds.{OwnBounds}
 use Rattle.explore_space.specs.declared.own_bounds.OwnBounds.TheVariants.{Asked, NotAsked}
+
+-- a bound, where so many steps come before those that it counts
+abbrev pub later_by : Bound → ℕ → Bound
+later_by (After b) n = After (b + n)
+later_by Never n = Never
 
 -- each of n harts may be chosen without a refusal, and so may each that may be chosen
 pub record MayAllStep (meant : List Choice) (n : ℕ) : Type 0 where

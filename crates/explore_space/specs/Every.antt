@@ -11,8 +11,8 @@ use Rattle.outcome.specs.Outcome.{some_run}
 use Rattle.outcome.specs.declared.expect.Exit.{Exit}
 use Rattle.outcome.specs.declared.expect.Exit.TheVariants.{May, Must}
 use Rattle.explore_laws.specs.Places.{place_begun}
-use Rattle.explore_laws.specs.Settling.{turns_choices}
 use Rattle.explore_search.specs.Counted.{HasPlaces, HasMorePlaces}
+use Rattle.explore_space.specs.Begun.{choices_from_start, settled_start}
 use Rattle.explore_space.specs.Ends.{EndValue, end_with, ends_in}
 use Rattle.explore_space.specs.declared.exploring.Answer.{Answer}
 use Rattle.explore_space.specs.declared.exploring.Answer.TheVariants.{Holds, Fails, Hangs, Undecided}
@@ -45,10 +45,10 @@ pub record FailsFirst (meant : List Choice) (first : World) (is_failing : List C
   pub turns : List Choice
   pub meant_turns : IsListOf meant turns
   pub count_is : length turns ≡ count
-  pub choices_are : choices ≡ turns_choices first turns
+  pub choices_are : choices ≡ choices_from_start first turns
   pub meant_ones : IsListOf meant choices
   pub fails : is_failing choices ≡ true
-  pub fewest : (other : List Choice) → IsListOf meant other → length other < count → is_failing (turns_choices first other) ≡ false
+  pub fewest : (other : List Choice) → IsListOf meant other → length other < count → is_failing (choices_from_start first other) ≡ false
   pub shortest : (other : List Choice) → IsListOf meant other → length other < count → is_failing other ≡ false
 
 -- an answer holds of every schedule: no list of the harts' choices fails, or this one does; where
@@ -67,11 +67,11 @@ HoldsOfEvery rule refusals image inputs Undecided = Unit {0}
 -- it is undecided
 abbrev pub CountsPlaces : {Z : Type 0} → ScRefusals → ImageValue → List ℕ → ℕ → Answer Z → Type 0
 CountsPlaces refusals image inputs most (Holds held) =
-    HasPlaces (meant_choices refusals (length inputs)) (place_begun (started image inputs)) held.places
+    HasPlaces (meant_choices refusals (length inputs)) (place_begun (settled_start (started image inputs))) held.places
 CountsPlaces refusals image inputs most (Fails failing) = Unit {0}
 CountsPlaces refusals image inputs most (Hangs hanging) = Unit {0}
 CountsPlaces refusals image inputs most Undecided =
-    HasMorePlaces (meant_choices refusals (length inputs)) (place_begun (started image inputs)) most
+    HasMorePlaces (meant_choices refusals (length inputs)) (place_begun (settled_start (started image inputs))) most
 
 -- no hart runs after a list of choices from a program's start
 abbrev pub StopsAll : ImageValue → List ℕ → List Choice → Type 0
@@ -117,11 +117,11 @@ pub record HangsFirst (meant : List Choice) (first : World) (choices : List Choi
   pub turns : List Choice
   pub meant_turns : IsListOf meant turns
   pub count_is : length turns ≡ count
-  pub choices_are : choices ≡ turns_choices first turns
+  pub choices_are : choices ≡ choices_from_start first turns
   pub meant_ones : IsListOf meant choices
   pub hangs : HasExit meant (run first choices) → ⊥
   pub fewest : (other : List Choice) → IsListOf meant other → length other < count
-      → HasExit meant (run first (turns_choices first other))
+      → HasExit meant (run first (choices_from_start first other))
   pub shortest : (other : List Choice) → IsListOf meant other → length other < count
       → HasExit meant (run first other)
 

@@ -1,4 +1,5 @@
 pub mod Places
+pub mod Begun
 pub mod Memo
 pub mod Failing
 pub mod Stuck

@@ -6,6 +6,7 @@ ghost use Rattle.hart_local.specs.CodeMemory.{code_in};
 ghost use Rattle.machine.specs.Start.{started};
 ghost use Rattle.explore_laws.specs.OwnSteps.{steps_in_turn};
 ghost use Rattle.explore_laws.specs.Places.{Place, place_begun};
+ghost use Rattle.explore_space.specs.Begun.{settled_start};
 ghost use Rattle.explore_space.specs.Places.{IsKey, place_of_key, world_of_key};
 ghost use Rattle.explore_space.specs.Failing.{ends_there, fails_there};
 
@@ -61,13 +62,6 @@ impl<'a, A: Allocator + Copy> Explorer<'a, A> {
         &self.known.harts.parts
     }
 
-    /// How many harts a world has.
-    pub fn harts(&self) -> u32
-        ensures { result ≡ length self.now.inputs.now }
-    {
-        self.inputs.harts()
-    }
-
     /// How many steps a turn's hart takes in it from a key's place. The only error is out of memory.
     pub fn steps_in(&self, key: &[u32], turn: Choice) -> Result<u32, AllocError>
         requires { IsKey self.now.known.image.now (length self.now.inputs.now) self.now.known.harts.parts.items
@@ -91,14 +85,14 @@ impl<'a, A: Allocator + Copy> Space<A> for Explorer<'a, A> {
 
     ghost place = { λ e key. place_of_key e.known.image.now (length e.inputs.now) e.known.harts.parts.items e.known.shareds.parts.items key };
 
-    ghost first = { λ e. place_begun (started e.known.image.now e.inputs.now) };
+    ghost first = { λ e. place_begun (settled_start (started e.known.image.now e.inputs.now)) };
 
     ghost bad = { λ e p. fails_there e.rule e.inputs.now p };
 
     ghost ended = { λ e p. ends_there p };
 
     fn first_key(&mut self) -> Result<Vec<u32, A>, AllocError> {
-        self.known.begin(self.alloc, self.inputs)
+        self.known.begin(self.alloc, &self.code, self.inputs)
     }
 
     fn key_after(&mut self, key: &[u32], choice: Choice) -> Result<Vec<u32, A>, AllocError> {

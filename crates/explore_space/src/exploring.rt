@@ -3,12 +3,12 @@ ghost use Rattle.std.specs.Prelude.{◌≡◌, IfOk, length};
 ghost use Rattle.machine.specs.Start.{started};
 ghost use Rattle.explore_laws.specs.Places.{place_begun};
 ghost use Rattle.explore_laws.specs.Safe.{IsSafe};
-ghost use Rattle.explore_laws.specs.Settling.{turns_choices};
 ghost use Rattle.outcome.specs.declared.expect.Exit.TheVariants.{Must};
 ghost use Rattle.explore_search.specs.Edges.{HaveEdges};
 ghost use Rattle.explore_search.specs.Answers.{AreAllReached};
 ghost use Rattle.explore_search.specs.Counted.{HasPlaces};
 ghost use Rattle.explore_search.specs.Marked.{AreAllSeen};
+ghost use Rattle.explore_space.specs.Begun.{choices_from_start, settled_start};
 ghost use Rattle.explore_space.specs.Bounds.{TellsBounds};
 ghost use Rattle.explore_space.specs.Places.{IsKey, place_of_key};
 ghost use Rattle.explore_space.specs.Every.{HoldsOfEvery, CountsPlaces, TellsEnds, TellsExits, meant_choices};
@@ -34,7 +34,7 @@ use std::alloc::{AllocError, Allocator};
 /// A list of choices that fails or hangs.
 #[derive(Drop)]
 pub struct Failing<A: Allocator> {
-    /// The choices.
+    /// The choices: the first local steps of the harts that take turns, and the turns.
     pub choices: Vec<Choice, A>,
     /// How many turns they are: a choice, and the local steps of its hart behind it. No fewer turns
     /// fail or hang, and no list of fewer choices does.
@@ -88,11 +88,11 @@ fn stuck_turns<A: Allocator + Copy>(
         explorer.now.known.shareds.parts.items)
         (place_of_key explorer.now.known.image.now (length explorer.now.inputs.now) explorer.now.known.harts.parts.items
         explorer.now.known.shareds.parts.items)
-        (place_begun (started explorer.now.known.image.now explorer.now.inputs.now)) meant.now seen.now.keys seen.now.links.items }
+        (place_begun (settled_start (started explorer.now.known.image.now explorer.now.inputs.now))) meant.now seen.now.keys seen.now.links.items }
     requires edges { exit ≡ Must → HaveEdges (place_of_key explorer.now.known.image.now (length explorer.now.inputs.now)
         explorer.now.known.harts.parts.items explorer.now.known.shareds.parts.items) meant.now seen.now.keys seen.now.rows }
     ensures { IfOk result (λ found. AnswersExit exit meant.now
-        (place_begun (started explorer.now.known.image.now explorer.now.inputs.now)) found) }
+        (place_begun (settled_start (started explorer.now.known.image.now explorer.now.inputs.now))) found) }
 {
     match exit {
         Exit::May => Ok(None),
@@ -107,7 +107,7 @@ fn choices_and_turns<A: Allocator + Copy>(
     inputs: &Inputs,
     turns: &[Choice],
 ) -> Result<Failing<A>, AllocError>
-    ensures choices { IfOk result (λ list. list.choices.items ≡ turns_choices (started image.now inputs.now) turns.now) }
+    ensures choices { IfOk result (λ list. list.choices.items ≡ choices_from_start (started image.now inputs.now) turns.now) }
     ensures turns { IfOk result (λ list. length turns.now ≡ list.turns) }
 {
     Ok(Failing {
@@ -128,21 +128,21 @@ fn safe_answer<A: Allocator + Copy>(
     question: Question,
 ) -> Result<Answer<A>, AllocError>
     requires meant { meant.now ≡ meant_choices question.refusals (length inputs.now) }
-    requires first { place_begun (started explorer.now.known.image.now explorer.now.inputs.now)
-        ≡ place_begun (started image.now inputs.now) }
-    requires safe { IsSafe meant.now (place_begun (started image.now inputs.now))
+    requires first { place_begun (settled_start (started explorer.now.known.image.now explorer.now.inputs.now))
+        ≡ place_begun (settled_start (started image.now inputs.now)) }
+    requires safe { IsSafe meant.now (place_begun (settled_start (started image.now inputs.now)))
         (fails_there question.expect.rule inputs.now) }
-    requires counts { HasPlaces meant.now (place_begun (started image.now inputs.now)) (length seen.now.keys) }
+    requires counts { HasPlaces meant.now (place_begun (settled_start (started image.now inputs.now))) (length seen.now.keys) }
     requires seen { AreAllSeen (IsKey explorer.now.known.image.now (length explorer.now.inputs.now) explorer.now.known.harts.parts.items
         explorer.now.known.shareds.parts.items)
         (place_of_key explorer.now.known.image.now (length explorer.now.inputs.now) explorer.now.known.harts.parts.items
         explorer.now.known.shareds.parts.items)
-        (place_begun (started explorer.now.known.image.now explorer.now.inputs.now)) meant.now seen.now.keys seen.now.links.items }
+        (place_begun (settled_start (started explorer.now.known.image.now explorer.now.inputs.now))) meant.now seen.now.keys seen.now.links.items }
     requires reaches { AreAllReached (IsKey explorer.now.known.image.now (length explorer.now.inputs.now) explorer.now.known.harts.parts.items
         explorer.now.known.shareds.parts.items)
         (place_of_key explorer.now.known.image.now (length explorer.now.inputs.now) explorer.now.known.harts.parts.items
         explorer.now.known.shareds.parts.items) meant.now
-        (place_begun (started explorer.now.known.image.now explorer.now.inputs.now)) seen.now.keys }
+        (place_begun (settled_start (started explorer.now.known.image.now explorer.now.inputs.now))) seen.now.keys }
     requires exit_edges { question.expect.exit ≡ Must → HaveEdges (place_of_key explorer.now.known.image.now
         (length explorer.now.inputs.now) explorer.now.known.harts.parts.items explorer.now.known.shareds.parts.items)
         meant.now seen.now.keys seen.now.rows }
@@ -162,7 +162,15 @@ fn safe_answer<A: Allocator + Copy>(
             let places = seen.keys.len();
             let harts = explorer.known_harts();
             let ends = ends_at_keys(alloc, harts, inputs.words(), expect.rule, &seen.keys)?;
-            let bounds = asked_bounds(alloc, explorer, meant, seen, question.bounds)?;
+            let bounds = asked_bounds(
+                alloc,
+                image,
+                inputs,
+                explorer,
+                meant,
+                seen,
+                question.bounds,
+            )?;
             Ok(Answer::Holds(Held {
                 places,
                 ends,

@@ -31,8 +31,8 @@ fn first_row<A: Allocator>(alloc: A, count: u32) -> Result<Vec<u32, A>, AllocErr
     Ok(row)
 }
 
-// The harts with which a program begins.
-fn first_harts<A: Allocator + Copy>(
+/// The harts with which a program begins.
+pub fn first_harts<A: Allocator + Copy>(
     alloc: A,
     image: &Image<A>,
     inputs: &Inputs,

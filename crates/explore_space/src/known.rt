@@ -4,9 +4,11 @@ ghost use Rattle.mem_store.specs.Image.{image_memory, segments_memory};
 ghost use Rattle.hart_local.specs.CodeMemory.{code_in};
 ghost use Rattle.machine.specs.Start.{started};
 ghost use Rattle.explore_laws.specs.Places.{place_after, place_begun};
+ghost use Rattle.explore_space.specs.Begun.{settled_start};
 ghost use Rattle.explore_space.specs.Memo.{AreRests, AreSteps};
 ghost use Rattle.explore_space.specs.Places.{IsKey, IsKeyOf, KeysStay, place_of_key};
 
+use crate::beginning::begun_key;
 use crate::first::first_parts;
 use crate::kept::Kept;
 use crate::memo::Memo;
@@ -52,21 +54,37 @@ impl<'a, A: Allocator + Copy> Known<'a, A> {
         })
     }
 
-    /// The key of the place in which the program begins; nothing else is known then.
+    /// The key of the place in which turns start; nothing else is known then.
     #[tactic(auto, using(crate::proofs::MemoLemmas::no_steps, crate::proofs::MemoLemmas::no_rests))]
-    pub fn begin(&mut self, alloc: A, inputs: &Inputs) -> Result<Vec<u32, A>, AllocError>
+    pub fn begin(
+        &mut self,
+        alloc: A,
+        code: &Code<A>,
+        inputs: &Inputs,
+    ) -> Result<Vec<u32, A>, AllocError>
+        requires { segments_memory code.now ≡ code_in (image_memory self.old.image.now) }
         ensures key { IfOk result (λ key. IsKeyOf self.new.image.now (length inputs.now) self.new.harts.parts.items
-            self.new.shareds.parts.items key.items (place_begun (started self.old.image.now inputs.now))) }
+            self.new.shareds.parts.items key.items (place_begun (settled_start (started self.old.image.now inputs.now)))) }
         ensures image { self.new.image.now ≡ self.old.image.now }
     {
         self.steps = Memo::new(alloc)?;
         self.rests = Memo::new(alloc)?;
-        first_parts(
+        let key = first_parts(
             alloc,
             self.image,
             inputs,
             &mut self.harts,
             &mut self.shareds,
+        )?;
+        begun_key(
+            alloc,
+            self.image,
+            code,
+            inputs,
+            &mut self.harts,
+            &self.shareds.parts,
+            &mut self.rests,
+            key,
         )
     }
 

@@ -10,6 +10,7 @@ pub use question::Question;
 pub use run_end::{Ends, Returned, RunEnd};
 pub use shared::Shared;
 
+mod beginning;
 mod ending;
 mod expanding;
 mod explorer;

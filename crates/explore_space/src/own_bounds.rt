@@ -7,15 +7,18 @@ ghost use Rattle.explore_laws.specs.OwnSteps.{HasPlainChoices};
 ghost use Rattle.explore_search.specs.Answers.{AreAllReached};
 ghost use Rattle.explore_search.specs.Edges.{HaveEdges};
 ghost use Rattle.explore_search.specs.Marked.{AreAllSeen};
-ghost use Rattle.explore_space.specs.Bounds.{AnswersBounds, AreBounds, MayAllStep};
+ghost use Rattle.explore_space.specs.Begun.{settled_start};
+ghost use Rattle.explore_space.specs.Bounds.{AnswersBounds, AreBounds, MayAllStep, later_by};
 ghost use Rattle.explore_space.specs.Places.{IsKey, place_of_key};
 ghost use Rattle.explore_space.specs.declared.own_bounds.OwnBounds.TheVariants.{Asked};
 
+use crate::beginning::begun_steps;
 use crate::explorer::Explorer;
 use crate::own_steps::steps_of_turns;
 use explore_bounds::{Bound, own_bound};
 use explore_search::Seen;
-use machine::Choice;
+use image::Image;
+use machine::{Choice, Inputs};
 use std::alloc::{AllocError, Allocator};
 
 /// Whether the bounds on harts' own steps are asked for.
@@ -28,33 +31,52 @@ pub enum OwnBounds {
     NotAsked,
 }
 
+// The bound where so many steps come before those that it counts.
+fn bound_later(bound: Bound, steps: u32) -> Result<Bound, AllocError>
+    ensures { IfOk result (λ later. later ≡ later_by bound steps) }
+{
+    match bound {
+        Bound::After(count) => match count.checked_add(u64::from(steps)) {
+            Some(all) => Ok(Bound::After(all)),
+            None => Err(AllocError),
+        },
+        Bound::Never => Ok(Bound::Never),
+    }
+}
+
 // The bound on the own steps of each hart.
 fn bounds_of<A: Allocator + Copy>(
     alloc: A,
+    image: &Image<A>,
+    inputs: &Inputs,
     explorer: &Explorer<A>,
     meant: &[Choice],
     seen: &Seen<A>,
 ) -> Result<Vec<Bound, A>, AllocError>
+    requires first { place_begun (settled_start (started explorer.now.known.image.now explorer.now.inputs.now))
+        ≡ place_begun (settled_start (started image.now inputs.now)) }
     requires seen { AreAllSeen (IsKey explorer.now.known.image.now (length explorer.now.inputs.now) explorer.now.known.harts.parts.items
         explorer.now.known.shareds.parts.items)
         (place_of_key explorer.now.known.image.now (length explorer.now.inputs.now) explorer.now.known.harts.parts.items
         explorer.now.known.shareds.parts.items)
-        (place_begun (started explorer.now.known.image.now explorer.now.inputs.now)) meant.now seen.now.keys seen.now.links.items }
+        (place_begun (settled_start (started explorer.now.known.image.now explorer.now.inputs.now))) meant.now seen.now.keys seen.now.links.items }
     requires reaches { AreAllReached (IsKey explorer.now.known.image.now (length explorer.now.inputs.now) explorer.now.known.harts.parts.items
         explorer.now.known.shareds.parts.items)
         (place_of_key explorer.now.known.image.now (length explorer.now.inputs.now) explorer.now.known.harts.parts.items
         explorer.now.known.shareds.parts.items) meant.now
-        (place_begun (started explorer.now.known.image.now explorer.now.inputs.now)) seen.now.keys }
+        (place_begun (settled_start (started explorer.now.known.image.now explorer.now.inputs.now))) seen.now.keys }
     requires edges { HaveEdges (place_of_key explorer.now.known.image.now (length explorer.now.inputs.now)
         explorer.now.known.harts.parts.items explorer.now.known.shareds.parts.items) meant.now seen.now.keys seen.now.rows }
-    requires meant { MayAllStep meant.now (length explorer.now.inputs.now) }
-    ensures { IfOk result (λ bounds. AreBounds meant.now (started explorer.now.known.image.now explorer.now.inputs.now)
-        (length explorer.now.inputs.now) bounds.items) }
+    requires meant { MayAllStep meant.now (length inputs.now) }
+    ensures { IfOk result (λ bounds. AreBounds meant.now (started image.now inputs.now) (length inputs.now) bounds.items) }
 {
     let steps = steps_of_turns(alloc, explorer, meant, &seen.keys)?;
+    let begun = begun_steps(alloc, image, inputs)?;
     let mut bounds = Vec::new(alloc);
-    'harts: for hart in 0..explorer.harts() {
-        bounds.push(own_bound(alloc, meant, &seen.rows, &steps, hart)?)?;
+    'harts: for hart in 0..inputs.harts() {
+        let bound = own_bound(alloc, meant, &seen.rows, &steps, hart)?;
+        let later = bound_later(bound, begun[hart as usize])?;
+        bounds.push(later)?;
     }
     Ok(bounds)
 }
@@ -63,29 +85,32 @@ fn bounds_of<A: Allocator + Copy>(
 /// else none. The only error is out of memory; 2^64 - 1 steps and more are answered so too.
 pub fn asked_bounds<A: Allocator + Copy>(
     alloc: A,
+    image: &Image<A>,
+    inputs: &Inputs,
     explorer: &Explorer<A>,
     meant: &[Choice],
     seen: &Seen<A>,
     asked: OwnBounds,
 ) -> Result<Vec<Bound, A>, AllocError>
+    requires first { place_begun (settled_start (started explorer.now.known.image.now explorer.now.inputs.now))
+        ≡ place_begun (settled_start (started image.now inputs.now)) }
     requires seen { AreAllSeen (IsKey explorer.now.known.image.now (length explorer.now.inputs.now) explorer.now.known.harts.parts.items
         explorer.now.known.shareds.parts.items)
         (place_of_key explorer.now.known.image.now (length explorer.now.inputs.now) explorer.now.known.harts.parts.items
         explorer.now.known.shareds.parts.items)
-        (place_begun (started explorer.now.known.image.now explorer.now.inputs.now)) meant.now seen.now.keys seen.now.links.items }
+        (place_begun (settled_start (started explorer.now.known.image.now explorer.now.inputs.now))) meant.now seen.now.keys seen.now.links.items }
     requires reaches { AreAllReached (IsKey explorer.now.known.image.now (length explorer.now.inputs.now) explorer.now.known.harts.parts.items
         explorer.now.known.shareds.parts.items)
         (place_of_key explorer.now.known.image.now (length explorer.now.inputs.now) explorer.now.known.harts.parts.items
         explorer.now.known.shareds.parts.items) meant.now
-        (place_begun (started explorer.now.known.image.now explorer.now.inputs.now)) seen.now.keys }
+        (place_begun (settled_start (started explorer.now.known.image.now explorer.now.inputs.now))) seen.now.keys }
     requires edges { asked ≡ Asked → HaveEdges (place_of_key explorer.now.known.image.now (length explorer.now.inputs.now)
         explorer.now.known.harts.parts.items explorer.now.known.shareds.parts.items) meant.now seen.now.keys seen.now.rows }
-    requires meant { MayAllStep meant.now (length explorer.now.inputs.now) }
-    ensures { IfOk result (λ bounds. AnswersBounds asked meant.now (started explorer.now.known.image.now explorer.now.inputs.now)
-        (length explorer.now.inputs.now) bounds.items) }
+    requires meant { MayAllStep meant.now (length inputs.now) }
+    ensures { IfOk result (λ bounds. AnswersBounds asked meant.now (started image.now inputs.now) (length inputs.now) bounds.items) }
 {
     match asked {
-        OwnBounds::Asked => bounds_of(alloc, explorer, meant, seen),
+        OwnBounds::Asked => bounds_of(alloc, image, inputs, explorer, meant, seen),
         OwnBounds::NotAsked => Ok(Vec::new(alloc)),
     }
 }

@@ -29,8 +29,8 @@ const BREAK: u32 = 0x0010_0073; // ebreak
 
 // Hart 0 stores 1 and goes round for ever; the others wait for that and stop at an EBREAK. Of the
 // text that may be written each step counts: four up to the store, and five of another hart. Of the
-// other text a turn goes up to the next load or store: two of hart 0, and three of another, from
-// its start, from its load, and from the EBREAK.
+// other text each hart starts at its first load or store, and a turn goes up to the next: one of
+// hart 0, and two of another, from its load and from the EBREAK.
 const WAITS: [u32; 8] = [DATA, SPLIT, ONE, STORE, ROUND, LOAD, AGAIN, BREAK];
 
 // The same at address 0.
@@ -51,8 +51,8 @@ const ROWS: [Row; 7] = [
     Row { program: Program::Writable(&WAITS), inputs: &[0], first: None },
     Row { program: Program::Writable(&WAITS), inputs: &[0, 0], first: Some(9) },
     Row { program: Program::Writable(&WAITS), inputs: &[0, 0, 0], first: Some(9) },
-    Row { program: Program::Fixed(&WAITS_AT_ZERO), inputs: &[0, 0], first: Some(5) },
-    Row { program: Program::Fixed(&WAITS_AT_ZERO), inputs: &[0, 0, 0], first: Some(5) },
+    Row { program: Program::Fixed(&WAITS_AT_ZERO), inputs: &[0, 0], first: Some(3) },
+    Row { program: Program::Fixed(&WAITS_AT_ZERO), inputs: &[0, 0, 0], first: Some(3) },
     Row { program: Program::Writable(&WAITS_FOR_EVER), inputs: &[0, 0, 0], first: None },
     Row { program: Program::Fixed(&[BREAK]), inputs: &[0, 0, 0, 0], first: Some(1) },
 ];

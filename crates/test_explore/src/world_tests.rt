@@ -17,12 +17,12 @@ struct Row {
 
 #[rattlefmt::skip]
 const ROWS: [Row; 6] = [
-    Row { kind: Kind::Swap, refusals: ScRefusals::Never, inputs: &[7, 9], places: 33 },
-    Row { kind: Kind::Add, refusals: ScRefusals::Never, inputs: &[7, 9], places: 33 },
-    Row { kind: Kind::LrSc, refusals: ScRefusals::Never, inputs: &[7, 9], places: 82 },
-    Row { kind: Kind::LrSc, refusals: ScRefusals::Also, inputs: &[7, 9], places: 108 },
-    Row { kind: Kind::LrSc, refusals: ScRefusals::Never, inputs: &[7, 9, 4], places: 1153 },
-    Row { kind: Kind::AdoptCommit, refusals: ScRefusals::Never, inputs: &[7, 9], places: 347 },
+    Row { kind: Kind::Swap, refusals: ScRefusals::Never, inputs: &[7, 9], places: 24 },
+    Row { kind: Kind::Add, refusals: ScRefusals::Never, inputs: &[7, 9], places: 24 },
+    Row { kind: Kind::LrSc, refusals: ScRefusals::Never, inputs: &[7, 9], places: 69 },
+    Row { kind: Kind::LrSc, refusals: ScRefusals::Also, inputs: &[7, 9], places: 91 },
+    Row { kind: Kind::LrSc, refusals: ScRefusals::Never, inputs: &[7, 9, 4], places: 927 },
+    Row { kind: Kind::AdoptCommit, refusals: ScRefusals::Never, inputs: &[7, 9], places: 324 },
 ];
 
 // How many worlds were last reported, done and found.

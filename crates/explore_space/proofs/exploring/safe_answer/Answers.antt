@@ -3,13 +3,13 @@ use Rattle.hart_step.specs.declared.hart.Hart.{Hart}
 use Rattle.machine.specs.Start.{started}
 use Rattle.machine.specs.declared.choice.Choice.{Choice}
 use Rattle.explore_laws.specs.Places.{Place, place_begun}
-use Rattle.explore_laws.specs.Settling.{turns_choices}
 use Rattle.explore_laws.specs.Safe.{IsSafe}
 use Rattle.explore_search.specs.Answers.{AreAllReached}
 use Rattle.explore_space.specs.Ends.{AreEndsAt, ends_in}
+use Rattle.explore_space.specs.Begun.{choices_from_start, settled_start}
 use Rattle.explore_space.specs.Failing.{fails_there}
 use Rattle.explore_space.specs.Places.{IsKey, place_of_key}
-use Rattle.explore_space.proofs.EveryEnds.{all_fit, count_is, ends_are_all}
+use Rattle.explore_space.proofs.EveryEnds.{all_fit, ends_are_all}
 use Rattle.explore_space.proofs.EveryLemmas.{safe_is_safe}
 use Rattle.explore_space.proofs.ExitLemmas.{hanging_exits, held_exits, moved_exit}
 use Rattle.explore_space.proofs.OwnBoundLemmas.{all_may_step, moved_bounds, moved_may}
@@ -21,7 +21,7 @@ ends_at_keys-requires-clause-fit g c =
     let n = length space.inputs.now in
     let keys = IsKey space.known.image.now n space.known.harts.parts.items space.known.shareds.parts.items in
     let place = place_of_key space.known.image.now n space.known.harts.parts.items space.known.shareds.parts.items in
-    let reached = subst (λ (ms : List Choice). AreAllReached keys place ms (place_begun (started c.args.image.now c.args.inputs.now)) c.args.seen.now.keys)
+    let reached = subst (λ (ms : List Choice). AreAllReached keys place ms (place_begun (settled_start (started c.args.image.now c.args.inputs.now))) c.args.seen.now.keys)
     c.requires.meant (subst (λ (p : Place). AreAllReached keys place c.args.meant.now p c.args.seen.now.keys) c.requires.first c.requires.reaches) in
     let fit = all_fit c.args.question.expect.rule c.args.question.refusals c.args.image.now c.args.inputs.now space.known.image.now space.known.harts.parts.items
     space.known.shareds.parts.items c.args.seen.now.keys n reached in
@@ -30,7 +30,7 @@ ends_at_keys-requires-clause-fit g c =
 pub returns-in_ok-bounds-in-None-clause-holds : goal.returns-in_ok-bounds-in-None-clause-holds
 returns-in_ok-bounds-in-None-clause-holds g c =
     safe_is_safe c.args.question.expect.rule c.args.question.refusals c.args.image.now c.args.inputs.now
-    (subst (λ (ms : List Choice). IsSafe ms (place_begun (started c.args.image.now c.args.inputs.now)) (fails_there c.args.question.expect.rule c.args.inputs.now))
+    (subst (λ (ms : List Choice). IsSafe ms (place_begun (settled_start (started c.args.image.now c.args.inputs.now))) (fails_there c.args.question.expect.rule c.args.inputs.now))
     c.requires.meant c.requires.safe)
 
 pub returns-in_ok-bounds-in-None-clause-ends : goal.returns-in_ok-bounds-in-None-clause-ends
@@ -39,11 +39,11 @@ returns-in_ok-bounds-in-None-clause-ends g c =
     let n = length space.inputs.now in
     let keys = IsKey space.known.image.now n space.known.harts.parts.items space.known.shareds.parts.items in
     let place = place_of_key space.known.image.now n space.known.harts.parts.items space.known.shareds.parts.items in
-    let reached = subst (λ (ms : List Choice). AreAllReached keys place ms (place_begun (started c.args.image.now c.args.inputs.now)) c.args.seen.now.keys)
+    let reached = subst (λ (ms : List Choice). AreAllReached keys place ms (place_begun (settled_start (started c.args.image.now c.args.inputs.now))) c.args.seen.now.keys)
     c.requires.meant (subst (λ (p : Place). AreAllReached keys place c.args.meant.now p c.args.seen.now.keys) c.requires.first c.requires.reaches) in
     ends_are_all c.args.question.expect.rule c.args.question.refusals c.args.image.now c.args.inputs.now space.known.image.now space.known.harts.parts.items
     space.known.shareds.parts.items c.args.seen.now.keys n _ reached
-    (subst (λ (ms : List Choice). IsSafe ms (place_begun (started c.args.image.now c.args.inputs.now)) (fails_there c.args.question.expect.rule c.args.inputs.now))
+    (subst (λ (ms : List Choice). IsSafe ms (place_begun (settled_start (started c.args.image.now c.args.inputs.now))) (fails_there c.args.question.expect.rule c.args.inputs.now))
     c.requires.meant c.requires.safe)
     (subst (λ (hs : List Hart). AreEndsAt c.args.question.expect.rule c.args.inputs.now hs c.args.seen.now.keys (ends_in c.in_ok-ends-in-None.ends))
     c.known_harts-harts.ensures
@@ -57,33 +57,17 @@ returns-in_ok-bounds-in-None-clause-exits g c =
 
 pub returns-in_ok-bounds-in-None-clause-bounds : goal.returns-in_ok-bounds-in-None-clause-bounds
 returns-in_ok-bounds-in-None-clause-bounds g c =
-    let space = c.args.explorer.now in
-    let n = length space.inputs.now in
-    let keys = IsKey space.known.image.now n space.known.harts.parts.items space.known.shareds.parts.items in
-    let place = place_of_key space.known.image.now n space.known.harts.parts.items space.known.shareds.parts.items in
-    let reached = subst (λ (ms : List Choice). AreAllReached keys place ms (place_begun (started c.args.image.now c.args.inputs.now)) c.args.seen.now.keys)
-    c.requires.meant (subst (λ (p : Place). AreAllReached keys place c.args.meant.now p c.args.seen.now.keys) c.requires.first c.requires.reaches) in
-    let count = count_is c.args.question.expect.rule c.args.question.refusals c.args.image.now c.args.inputs.now space.known.image.now space.known.harts.parts.items
-    space.known.shareds.parts.items c.args.seen.now.keys n reached in
-    moved_bounds c.args.question.bounds c.in_ok-bounds-in-None.bounds.items c.requires.meant (ap (λ (p : Place). p.world) c.requires.first) count
-    c.in_ok-bounds-in-None.ensures
+    moved_bounds c.args.question.bounds c.in_ok-bounds-in-None.bounds.items c.requires.meant (λ i. started c.args.image.now c.args.inputs.now)
+    (λ i. length c.args.inputs.now) c.in_ok-bounds-in-None.ensures
 
 pub asked_bounds-requires-clause-meant : goal.asked_bounds-requires-clause-meant
 asked_bounds-requires-clause-meant g c =
-    let space = c.args.explorer.now in
-    let n = length space.inputs.now in
-    let keys = IsKey space.known.image.now n space.known.harts.parts.items space.known.shareds.parts.items in
-    let place = place_of_key space.known.image.now n space.known.harts.parts.items space.known.shareds.parts.items in
-    let reached = subst (λ (ms : List Choice). AreAllReached keys place ms (place_begun (started c.args.image.now c.args.inputs.now)) c.args.seen.now.keys)
-    c.requires.meant (subst (λ (p : Place). AreAllReached keys place c.args.meant.now p c.args.seen.now.keys) c.requires.first c.requires.reaches) in
-    let count = count_is c.args.question.expect.rule c.args.question.refusals c.args.image.now c.args.inputs.now space.known.image.now space.known.harts.parts.items
-    space.known.shareds.parts.items c.args.seen.now.keys n reached in
-    moved_may c.requires.meant count (all_may_step c.args.question.refusals (length c.args.inputs.now))
+    moved_may c.requires.meant (λ i. length c.args.inputs.now) (all_may_step c.args.question.refusals (length c.args.inputs.now))
 
 pub returns-in_ok-choices_and_turns-in-Some-clause-holds : goal.returns-in_ok-choices_and_turns-in-Some-clause-holds
 returns-in_ok-choices_and_turns-in-Some-clause-holds g c =
     safe_is_safe c.args.question.expect.rule c.args.question.refusals c.args.image.now c.args.inputs.now
-    (subst (λ (ms : List Choice). IsSafe ms (place_begun (started c.args.image.now c.args.inputs.now)) (fails_there c.args.question.expect.rule c.args.inputs.now))
+    (subst (λ (ms : List Choice). IsSafe ms (place_begun (settled_start (started c.args.image.now c.args.inputs.now))) (fails_there c.args.question.expect.rule c.args.inputs.now))
     c.requires.meant c.requires.safe)
 
 pub returns-in_ok-choices_and_turns-in-Some-clause-exits : goal.returns-in_ok-choices_and_turns-in-Some-clause-exits
@@ -92,5 +76,5 @@ returns-in_ok-choices_and_turns-in-Some-clause-exits g c =
     c.in-Some.is
     (moved_exit c.args.question.expect.exit c.in_ok-turns.field-0 c.requires.meant c.requires.first c.in_ok-turns.ensures)
     (c.in_ok-choices_and_turns-in-Some.ensures.choices
-    ∙ ap (turns_choices (started c.args.image.now c.args.inputs.now)) c.deref.ensures.value)
+    ∙ ap (choices_from_start (started c.args.image.now c.args.inputs.now)) c.deref.ensures.value)
     (ap length (sym c.deref.ensures.value) ∙ c.in_ok-choices_and_turns-in-Some.ensures.turns)

@@ -1,9 +1,16 @@
-use Rattle.std.proofs.Common.{◌+◌, length, ap, ◌∙◌, arith}
+use Rattle.std.proofs.Common.{◌+◌, length, refl, ap, sym, ◌∙◌, subst, arith}
+use Rattle.std.proofs.lemmas.Option.{slice_get_read}
 use Rattle.std.proofs.lemmas.List.{length-append}
 use Rattle.machine.specs.Start.{started}
-use Rattle.explore_laws.specs.Places.{place_begun}
+use Rattle.machine.proofs.RunLaws.{length-started}
+use Rattle.explore_laws.specs.Places.{Place, place_begun}
+use Rattle.explore_bounds.specs.Steps.{AreLedTo, TellsBound}
+use Rattle.explore_space.specs.Begun.{settled_start}
+use Rattle.explore_space.specs.Bounds.{later_by}
 use Rattle.explore_space.specs.Places.{IsKey, place_of_key}
+use Rattle.explore_space.proofs.AheadLemmas.{all_run}
 use Rattle.explore_space.proofs.OwnBoundLemmas.{below_edges, led_from, some_rows, told_more, wide_edges, wide_steps}
+use Rattle.explore_space.proofs.StartLemmas.{told_later}
 use Rattle.explore_space.proofs.own_bounds.bounds_of.Goals as goal
 
 pub steps_of_turns-requires : goal.steps_of_turns-requires
@@ -14,7 +21,7 @@ own_bound-requires-clause-some g c =
     let e = c.args.explorer.now in
     some_rows (IsKey e.known.image.now (length e.inputs.now) e.known.harts.parts.items e.known.shareds.parts.items)
     (place_of_key e.known.image.now (length e.inputs.now) e.known.harts.parts.items e.known.shareds.parts.items)
-    (place_begun (started e.known.image.now e.inputs.now)) c.args.meant.now c.args.seen.now.keys c.args.seen.now.links.items
+    (place_begun (settled_start (started e.known.image.now e.inputs.now))) c.args.meant.now c.args.seen.now.keys c.args.seen.now.links.items
     c.args.seen.now.rows c.requires.seen c.requires.edges
 
 pub own_bound-requires-clause-rows : goal.own_bound-requires-clause-rows
@@ -37,15 +44,25 @@ harts-preserved g c =
     let e = c.args.explorer.now in
     let keys = IsKey e.known.image.now (length e.inputs.now) e.known.harts.parts.items e.known.shareds.parts.items in
     let place = place_of_key e.known.image.now (length e.inputs.now) e.known.harts.parts.items e.known.shareds.parts.items in
-    let first = started e.known.image.now e.inputs.now in
+    let start = started c.args.image.now c.args.inputs.now in
+    let first = settled_start start in
+    let hart = c.harts.hart in
     let low = c.harts-test.true in
-    let count = c.harts-hart-end.ensures in
+    let end = c.harts-hart-end.ensures.harts in
+    let len = length-started c.args.image.now c.args.inputs.now in
+    let begun_there = slice_get_read c.in_ok-begun.begun.items (length c.in_ok-begun.begun.items) hart c.index.result.now refl
+    (let count = c.in_ok-begun.ensures.count in omega (arith, low, end, count)) c.index.ensures in
+    let led = subst (λ (p : Place). AreLedTo c.args.meant.now p place c.args.seen.now.keys) c.requires.first
+    (led_from keys place _ c.args.meant.now c.args.seen.now.keys c.args.seen.now.links.items c.requires.seen c.requires.reaches) in
+    let tells : TellsBound c.args.meant.now first hart c.in_ok-bound.bound
+    = c.in_ok-bound.ensures first place c.args.seen.now.keys c.requires.meant.plain (c.requires.meant.each hart (omega (arith, low, end)))
+    led c.requires.edges c.in_ok-steps.ensures in
     record {
       count = ap length c.in_ok-push.ensures.items ∙ length-append c.harts.bounds.items _ ∙ ap (λ n. n + 1) c.harts.invariant.count;
-      told = told_more c.args.meant.now first c.harts.bounds.items c.push.new.self.items c.harts.hart _ c.harts.invariant.count
-          (c.in_ok-own_bound.ensures first place c.args.seen.now.keys c.requires.meant.plain
-          (c.requires.meant.each c.harts.hart (omega (arith, low, count)))
-          (led_from keys place (place_begun first) c.args.meant.now c.args.seen.now.keys c.args.seen.now.links.items c.requires.seen
-          c.requires.reaches) c.requires.edges c.in_ok-steps.ensures)
+      told = told_more c.args.meant.now start c.harts.bounds.items c.push.new.self.items hart c.in_ok-later.later c.harts.invariant.count
+          (subst (TellsBound c.args.meant.now start hart)
+          (ap (later_by c.in_ok-bound.bound) (sym (c.in_ok-begun.ensures.are hart c.index.result.now begun_there)) ∙ sym c.in_ok-later.ensures)
+          (told_later c.args.meant.now start (λ h l. c.requires.meant.each h (omega (arith, l, len))) hart c.in_ok-bound.bound
+          (omega (arith, low, end, len)) (all_run c.args.image.now c.args.inputs.now) tells))
           c.harts.invariant.told c.in_ok-push.ensures.items;
     }

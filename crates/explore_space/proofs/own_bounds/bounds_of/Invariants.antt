@@ -7,5 +7,5 @@ use Rattle.explore_space.proofs.own_bounds.bounds_of.Given as goal
 abbrev pub invariant-harts : goal.invariant-harts
 invariant-harts g l = record {
   count : length l.bounds.items ≡ l.hart;
-  told : AreTold l.meant (started l.explorer.known.image.now l.explorer.inputs.now) l.bounds.items;
+  told : AreTold l.meant (started l.image l.inputs) l.bounds.items;
 }

@@ -1,7 +1,3 @@
-use Rattle.std.proofs.Common.{subst, sym}
-use Rattle.std.specs.Prelude.{IfOk}
-use Rattle.explore_laws.specs.Places.{place_after}
-use Rattle.explore_space.specs.Places.{place_of_key, IsKeyOf, KeysStay}
 use Rattle.explore_space.proofs.DifferLemmas.{keys_differ}
 use Rattle.explore_space.proofs.explorer.ExplorerSpace.key_after.Goals as goal
 

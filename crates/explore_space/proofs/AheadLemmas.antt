@@ -1,0 +1,231 @@
+-- A run in which harts that take no turn haven't taken their first local steps either.
+use Rattle.std.proofs.Common.{◌≡◌, ℕ, zero, suc, ◌+◌, ◌<◌, ◌==◌, Bool, true, false, ◌||◌, List, [], ◌∷◌, length, get_or, set, cond, Option, Some, None, refl, ap, sym, ◌∙◌, subst, inl, inr, arith, eq-eqb, true≢false}
+use Rattle.std.proofs.lemmas.Bool.{cases_Bool, cases_eq, or_right}
+use Rattle.std.proofs.lemmas.List.{length-set}
+use Rattle.std.proofs.lemmas.Option.{get_or_from_slice_get, slice_get-get_or}
+use Rattle.std.specs.List.{slice_get}
+use Rattle.image.specs.Image.{ImageValue}
+use Rattle.mem_store.specs.Memory.{Memory}
+use Rattle.hart_reservations.specs.Marks.{Marks}
+use Rattle.hart_step.specs.Hart.{HartValue}
+use Rattle.hart_step.specs.Effect.{Site, site}
+use Rattle.hart_step.specs.Step.{stepped}
+use Rattle.hart_step.specs.declared.hart.HartState.{HartState}
+use Rattle.hart_step.specs.declared.hart.HartState.TheVariants.{Running, Exited, Faulted}
+use Rattle.hart_local.specs.CodeMemory.{code_in}
+use Rattle.hart_local.specs.LocalStep.{walk}
+use Rattle.hart_local.proofs.StepLemmas.{walk_none}
+use Rattle.machine.specs.Chosen.{is_chosen}
+use Rattle.machine.specs.Start.{first_harts, started}
+use Rattle.machine.specs.World.{World, placed, step, run}
+use Rattle.machine.specs.declared.choice.Choice.{Choice}
+use Rattle.explore_laws.specs.Bounds.{not_stopped, still_runs}
+use Rattle.explore_laws.specs.Covering.{WalksTo, WorldCovers}
+use Rattle.explore_laws.specs.Places.{Place, place_after, place_begun, place_reached}
+use Rattle.explore_laws.specs.Settling.{rested, at_once, settled_by, world_settled}
+use Rattle.explore_laws.proofs.CoverLemmas.{step_code, step_is}
+use Rattle.explore_laws.proofs.SettleLemmas.{covers_itself, get_set_other, same_value, settled_covers, there_set, there_too}
+use Rattle.machine.specs.Chosen.{ChooseAlike}
+use Rattle.object_library.specs.declared.kind.Kind.{Kind}
+use Rattle.object_library.specs.Rules.{is_exited, is_faulted}
+use Rattle.outcome.specs.Expect.{fails, judged}
+use Rattle.outcome.specs.declared.expect.Exit.TheVariants.{May}
+use Rattle.explore_space.specs.Begun.{choices_from_start, hart_begun, runs_settled, settled_start, world_begun}
+use Rattle.explore_space.proofs.BegunLemmas.{begun_other, run_from_start, runs_alike, settled_other}
+use Rattle.explore_space.proofs.LagLemmas.{covers_joined}
+use Rattle.explore_space.proofs.TurnLists.{no_step}
+use Rattle.explore_space.proofs.PassLemmas.{StopsAlike, covered_stops, passes}
+
+-- each hart of a world runs
+pub record AllRun (w : World) : Type 0 where
+  pub each : (h : ℕ) (v : HartValue) → slice_get w.harts h ≡ Some v → not_stopped v.state ≡ true
+
+-- one world covers another, and has the same harts for which `who` says so; the others run in both
+pub record Ahead (who : ℕ → Bool) (s w : World) : Type 0 where
+  pub covers : WorldCovers s w
+  pub same : (h : ℕ) → who h ≡ true → slice_get s.harts h ≡ slice_get w.harts h
+  pub runs : (h : ℕ) (u : HartValue) → who h ≡ false → slice_get s.harts h ≡ Some u → not_stopped u.state ≡ true
+
+ahead_itself : (who : ℕ → Bool) (w : World) → AllRun w → Ahead who w w
+ahead_itself who w all = record {
+  covers = covers_itself w;
+  same = λ h yes_. refl;
+  runs = λ h u no_ at. all.each h u at;
+}
+
+-- ---- one of the harts is changed in both
+set_both : (who : ℕ → Bool) (s w : World) (h : ℕ) (v u : HartValue) (ms mw : Memory) (rs rw : Marks) → Ahead who s w → who h ≡ true
+    → slice_get w.harts h ≡ Some v → code_in mw ≡ code_in w.memory → ms ≡ mw → rs ≡ rw
+    → Ahead who (record { harts = set s.harts h u; memory = ms; reserved = rs }) (record { harts = set w.harts h u; memory = mw; reserved = rw })
+set_both who s w h v u ms mw rs rw ahead yes_ there code_is memory reserved =
+    let here_w : slice_get (set w.harts h u) h ≡ Some u = there_set w.harts h v u there in
+    let here_s : slice_get (set s.harts h u) h ≡ Some u = there_set s.harts h v u (ahead.same h yes_ ∙ there) in
+    record {
+      covers = record {
+        count = length-set s.harts h u ∙ ahead.covers.count ∙ sym (length-set w.harts h u);
+        memory = memory;
+        reserved = reserved;
+        harts = λ k a b at_a at_b. elim (cases_eq k h) [
+          | inl is ↦
+              let a_is : u ≡ a = same_value u a (slice_get (set w.harts h u) k) (ap (slice_get (set w.harts h u)) is ∙ here_w) at_a in
+              let b_is : u ≡ b = same_value u b (slice_get (set s.harts h u) k) (ap (slice_get (set s.harts h u)) is ∙ here_s) at_b in
+              record { steps = 0; walks = walk_none (code_in mw) a ∙ ap Some (sym a_is ∙ b_is) }
+          | inr other ↦
+              subst (λ m. WalksTo m a b) (sym code_is)
+              (ahead.covers.harts k a b (sym (get_set_other w.harts h k u other) ∙ at_a) (sym (get_set_other s.harts h k u other) ∙ at_b))
+        ];
+      };
+      same = λ k yes_k. elim (cases_eq k h) [
+        | inl is ↦
+            ap (slice_get (set s.harts h u)) is ∙ here_s ∙ sym here_w ∙ sym (ap (slice_get (set w.harts h u)) is)
+        | inr other ↦ get_set_other s.harts h k u other ∙ ahead.same k yes_k ∙ sym (get_set_other w.harts h k u other)
+      ];
+      runs = λ k x no_ at. elim (cases_eq k h) [
+        | inl is ↦ absurd (true≢false (sym yes_ ∙ ap who (sym is) ∙ no_))
+        | inr other ↦ ahead.runs k x no_ (sym (get_set_other s.harts h k u other) ∙ at)
+      ];
+    }
+
+settle_both : (who : ℕ → Bool) (s w : World) (h : ℕ) → Ahead who s w → who h ≡ true
+    → Ahead who (world_settled s h) (world_settled w h)
+settle_both who s w h ahead yes_ =
+    subst (λ o. Ahead who (settled_by s h o) (world_settled w h)) (sym (ahead.same h yes_)) (by_hart (slice_get w.harts h) refl)
+  where
+    by_hart : (o : Option HartValue) → slice_get w.harts h ≡ o → Ahead who (settled_by s h o) (settled_by w h o)
+    by_hart None e = ahead
+    by_hart (Some v) e =
+        subst (λ (m : Memory). Ahead who (record { harts = set s.harts h (rested (code_in m) at_once v); memory = s.memory; reserved = s.reserved })
+        (settled_by w h (Some v))) (sym ahead.covers.memory)
+        (set_both who s w h v (rested (code_in w.memory) at_once v) s.memory w.memory s.reserved w.reserved ahead yes_ e refl
+        ahead.covers.memory ahead.covers.reserved)
+
+step_alike : (who : ℕ → Bool) (s w : World) (c : Choice) → Ahead who s w → who c.hart ≡ true → Ahead who (step s c) (step w c)
+step_alike who s w c ahead yes_ = by_hart (slice_get w.harts c.hart) refl
+  where
+    by_hart : (o : Option HartValue) → slice_get w.harts c.hart ≡ o → Ahead who (step s c) (step w c)
+    by_hart None e =
+        subst (λ x. Ahead who x (step w c)) (sym (no_step s c (ahead.same c.hart yes_ ∙ e)))
+        (subst (Ahead who s) (sym (no_step w c e)) ahead)
+    by_hart (Some v) e =
+        let new : Site = stepped c.hart c.refuse (site v w.memory w.reserved) in
+        let w_is : step w c ≡ placed w c.hart new = step_is w c v e in
+        let s_is : step s c ≡ placed s c.hart new
+        = step_is s c v (ahead.same c.hart yes_ ∙ e)
+        ∙ ap (λ m. placed s c.hart (stepped c.hart c.refuse (site v m s.reserved))) ahead.covers.memory
+        ∙ ap (λ r. placed s c.hart (stepped c.hart c.refuse (site v w.memory r))) ahead.covers.reserved in
+        let code_is : code_in new.memory ≡ code_in w.memory
+        = ap (λ (x : World). code_in x.memory) (sym w_is) ∙ step_code w c in
+        subst (λ x. Ahead who x (step w c)) (sym s_is) (subst (Ahead who (placed s c.hart new)) (sym w_is)
+        (set_both who s w c.hart v new.hart new.memory new.memory new.reserved new.reserved ahead yes_ e code_is refl refl))
+
+pub turns_ahead : (who : ℕ → Bool) (p q : Place) (turns : List Choice) → ((k : ℕ) → is_chosen turns k ≡ true → who k ≡ true)
+    → Ahead who p.world q.world → Ahead who (place_reached p turns).world (place_reached q turns).world
+unfolding place_reached
+turns_ahead who p q [] all ahead = ahead
+turns_ahead who p q (c ∷ turns) all ahead =
+    let yes_ : who c.hart ≡ true = all c.hart (rw (eq-eqb c.hart c.hart refl) refl) in
+    turns_ahead who (place_after p c) (place_after q c) turns (λ k e. all k (or_right (c.hart == k) (is_chosen turns k) e))
+    (settle_both who (step p.world c) (step q.world c) c.hart (step_alike who p.world q.world c ahead yes_) yes_)
+
+-- ---- the first local steps
+-- a hart that isn't among them takes its steps in the one alone
+begun_one : (who : ℕ → Bool) (s w : World) (n : ℕ) → Ahead who s w → who n ≡ false → Ahead who (hart_begun s n) w
+begun_one who s w n ahead no_ = by_case (runs_settled s n) refl
+  where
+    by_case : (b : Bool) → runs_settled s n ≡ b → Ahead who (cond b (world_settled s n) s) w
+    by_case false is = ahead
+    by_case true is = record {
+      covers = covers_joined (world_settled s n) s w (settled_covers s n) ahead.covers;
+      same = λ h yes_. settled_other s n h (λ e. true≢false (sym yes_ ∙ ap who e ∙ no_)) ∙ ahead.same h yes_;
+      runs = λ h u no_h at. elim (cases_eq h n) [
+        | inl same ↦ ap still_runs (sym at ∙ ap (slice_get (world_settled s n).harts) same) ∙ is
+        | inr other ↦ ahead.runs h u no_h (sym (settled_other s n h other) ∙ at)
+      ];
+    }
+
+begun_both : (who : ℕ → Bool) (s w : World) (n : ℕ) → Ahead who s w → who n ≡ true → Ahead who (hart_begun s n) (hart_begun w n)
+begun_both who s w n ahead yes_ =
+    subst (λ b. Ahead who (cond b (world_settled s n) s) (hart_begun w n)) (sym (runs_alike s w n (ahead.same n yes_) ahead.covers.memory))
+    (by_case (runs_settled w n))
+  where
+    by_case : (b : Bool) → Ahead who (cond b (world_settled s n) s) (cond b (world_settled w n) w)
+    by_case true = settle_both who s w n ahead yes_
+    by_case false = ahead
+
+begun_ahead : (who : ℕ → Bool) (w : World) (n : ℕ) → AllRun w → Ahead who (world_begun w (λ k. true) n) (world_begun w who n)
+unfolding world_begun
+begun_ahead who w zero all = ahead_itself who w all
+begun_ahead who w (suc n) all = by_case (who n) refl (begun_ahead who w n all)
+  where
+    by_case : (b : Bool) → who n ≡ b → Ahead who (world_begun w (λ k. true) n) (world_begun w who n)
+        → Ahead who (hart_begun (world_begun w (λ k. true) n) n) (cond b (hart_begun (world_begun w who n) n) (world_begun w who n))
+    by_case true is before = begun_both who (world_begun w (λ k. true) n) (world_begun w who n) n before is
+    by_case false is before = begun_one who (world_begun w (λ k. true) n) (world_begun w who n) n before is
+
+-- where turns lead from the settled start is ahead of where their choices lead from the start
+pub start_ahead : (w : World) (turns : List Choice) → AllRun w
+    → Ahead (is_chosen turns) (place_reached (place_begun (settled_start w)) turns).world (run w (choices_from_start w turns))
+start_ahead w turns all =
+    subst (Ahead (is_chosen turns) (place_reached (place_begun (settled_start w)) turns).world) (sym (run_from_start w turns))
+    (turns_ahead (is_chosen turns) (place_begun (settled_start w)) (place_begun (world_begun w (is_chosen turns) (length w.harts))) turns
+    (λ k e. e) (begun_ahead (is_chosen turns) w (length w.harts) all))
+
+-- ---- a program's harts all run at its start
+first_run : (entry n h : ℕ) (inputs : List ℕ) (k : ℕ) (v : HartValue) → slice_get (first_harts entry n h inputs) k ≡ Some v
+    → not_stopped v.state ≡ true
+first_run entry n h [] k v e = absurd (cc)
+first_run entry n h (input ∷ inputs) zero v e = ap (λ (o : Option HartValue). still_runs o) (sym e)
+first_run entry n h (input ∷ inputs) (suc k) v e = first_run entry n (h + 1) inputs k v e
+
+pub all_run : (image : ImageValue) (inputs : List ℕ) → AllRun (started image inputs)
+unfolding started
+all_run image inputs = record { each = first_run image.entry (length inputs) 0 inputs }
+
+-- where turns start, all harts run
+pub begun_run : (w : World) → AllRun w → AllRun (settled_start w)
+begun_run w all = record {
+  each = λ h u at. (begun_ahead (λ k. false) w (length w.harts) all).runs h u refl at;
+}
+
+-- ---- harts that have stopped are the same in both
+exited_stopped : (s : HartState) → is_exited s ≡ true → not_stopped s ≡ false
+exited_stopped Running e = absurd (cc)
+exited_stopped (Exited status) e = refl
+exited_stopped (Faulted cause) e = refl
+
+faulted_stopped : (s : HartState) → is_faulted s ≡ true → not_stopped s ≡ false
+faulted_stopped Running e = absurd (cc)
+faulted_stopped (Exited status) e = refl
+faulted_stopped (Faulted cause) e = refl
+
+module _ (who : ℕ → Bool) (s w : World) (ahead : Ahead who s w) where
+  same_stopped : (i : ℕ) (d : HartValue) → i < length s.harts → not_stopped (get_or s.harts i d).state ≡ false
+      → get_or s.harts i d ≡ get_or w.harts i d
+  same_stopped i d low stopped = elim (cases_Bool (who i)) [
+    | inl yes_ ↦
+        get_or_from_slice_get s.harts i (get_or w.harts i d) d
+        (ahead.same i yes_ ∙ slice_get-get_or w.harts i d (let c = ahead.covers.count in omega (arith, low, c)))
+    | inr no_ ↦
+        absurd (true≢false (sym (ahead.runs i (get_or s.harts i d) no_ (slice_get-get_or s.harts i d low)) ∙ stopped))
+  ]
+
+  ahead_stops : StopsAlike w.harts s.harts
+  ahead_stops = record {
+    count = sym ahead.covers.count;
+    exited = λ i d low e. same_stopped i d low (exited_stopped (get_or s.harts i d).state e);
+    faulted = λ i d low e. same_stopped i d low (faulted_stopped (get_or s.harts i d).state e);
+  }
+
+both_false : (x y : Bool) → (x ≡ false → y ≡ false) → (y ≡ false → x ≡ false) → x ≡ y
+both_false true true f g = refl
+both_false true false f g = g refl
+both_false false true f g = sym (f refl)
+both_false false false f g = refl
+
+-- a run has failed exactly where the world ahead of it has
+pub fails_ahead : (rule : Option Kind) (inputs : List ℕ) (who : ℕ → Bool) (s w : World) (a b : List Choice) → Ahead who s w → ChooseAlike a b
+    → fails May (judged rule inputs a s.harts) ≡ fails May (judged rule inputs b w.harts)
+fails_ahead rule inputs who s w a b ahead alike =
+    both_false (fails May (judged rule inputs a s.harts)) (fails May (judged rule inputs b w.harts))
+    (passes rule inputs s.harts w.harts a b (covered_stops s w ahead.covers) (λ k e. sym (alike k) ∙ e))
+    (passes rule inputs w.harts s.harts b a (ahead_stops who s w ahead) (λ k e. alike k ∙ e))
