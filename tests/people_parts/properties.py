@@ -23,6 +23,7 @@ HINT = (
     "seed 5 is the first such one. To look into it:\n"
     "    rvcons debug a.elf --inputs 2,2 --seed 5 --steps 300\n"
     "    rvcons run a.elf --inputs 2,2 --seed 5 --steps 300 --always 'counter < 2'\n"
+    "    rvcons shrink a.elf --inputs 2,2 --seed 5 --steps 300 --always 'counter < 2'\n"
 )
 
 

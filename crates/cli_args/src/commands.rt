@@ -2,9 +2,10 @@
 
 use crate::arguments::Argument;
 use crate::help::{
-    ALWAYS, BANKED, BOUNDS, BUDGET, BY_CAUSE, DRAW, DRAW_OF_SCHEDULE, FILE, HANGS, HEX, HISTORY,
-    INPUTS, INPUTS_OF_SCHEDULE, JOBS, JSON, MUST_EXIT, NEVER_BOTH, OUTCOMES, REFUSALS, REFUSE,
-    RULE, SC_REFUSALS, SUMMARY, UNTIL_FAILURE, WAYS_OUT, WORLDS, WRITTEN,
+    ALWAYS, BANKED, BOUNDS, BROKEN_WORD, BUDGET, BY_CAUSE, DRAW, DRAW_OF_SCHEDULE, FILE, HANGS,
+    HEX, HISTORY, INPUTS, INPUTS_OF_SCHEDULE, JOBS, JSON, MUST_EXIT, NEVER_BOTH, OUTCOMES,
+    REFUSALS, REFUSE, RULE, SC_REFUSALS, SHARED_RANGE, SUMMARY, UNTIL_FAILURE, WAYS_OUT, WORLDS,
+    WRITTEN,
 };
 
 /// Which options name the choices of a command's run.
@@ -205,6 +206,8 @@ pub(crate) static COMMANDS: [CommandRow; 14] = [
             Argument::NeededOption("inputs", INPUTS),
             Argument::Optional("rule", RULE),
             Argument::Flag("must-exit", HANGS),
+            Argument::Optional("never-both", SHARED_RANGE),
+            Argument::Optional("always", BROKEN_WORD),
         ],
         schedule: Schedule::FileOrInput,
     },

@@ -70,6 +70,14 @@ pub(crate) const NEVER_BOTH: &str =
 pub(crate) const ALWAYS: &str =
     "a word, a comparison and a number, as 'counter <= 2': a choice after which that isn't so is a failure, with status 4";
 
+/// Of `--never-both` of `shrink`.
+pub(crate) const SHARED_RANGE: &str =
+    "two addresses or symbols, as enter..leave: two harts between them at once are a failure";
+
+/// Of `--always` of `shrink`.
+pub(crate) const BROKEN_WORD: &str =
+    "a word, a comparison and a number, as 'counter <= 2': a choice after which that isn't so is a failure";
+
 /// Of `--json`.
 pub(crate) const JSON: &str = "print one object of JSON, with the same facts";
 

@@ -3,7 +3,7 @@
 ghost use Rattle.std.specs.Prelude.{◌+◌, ◌-◌, ◌<◌, ◌≤◌, ◌^◌, IfOk};
 
 use crate::exiting::exit_of;
-use crate::properties::{read_properties, show_properties};
+use crate::properties::{PropertyTexts, read_properties, show_properties};
 use crate::watching::Watching;
 use byte_io::{MemorySource, Progress, Source, Status, WriterSink};
 use cli_orders::CampaignOrder;
@@ -163,7 +163,8 @@ fn report_judged<R: Files + AllocGlobal + Print + Eprint + Threads + Sync, P: So
     requires fits { campaign.first + campaign.count ≤ 2 ^ 64 }
     requires program_counts { P.failures program.old < 2 ^ 64 - 1 }
 {
-    let (bytes, properties) = read_properties(rt, audience, order, inputs, program)?;
+    let texts = PropertyTexts::of_campaign(order);
+    let (bytes, properties) = read_properties(rt, audience, order.file, texts, inputs, program)?;
     let mut campaign = campaign;
     campaign.properties = properties;
     let mut source = MemorySource::new(&bytes);
@@ -273,6 +274,25 @@ fn show_command<R: Eprint>(
     Some(())
 }
 
+// Shows a command for the run of a seed, with all that is expected of the run.
+fn show_judging<R: Eprint>(
+    rt: &R,
+    name: &str,
+    order: &CampaignOrder,
+    campaign: Campaign,
+    seed: u64,
+) -> Option<()> {
+    show_command(rt, name, order, campaign, seed)?;
+    if let Some(rule) = order.rule {
+        eprint!(rt; " --rule {rule}").ok()?;
+    }
+    if order.must_exit {
+        eprint!(rt; " --must-exit").ok()?;
+    }
+    show_properties(rt, order)?;
+    eprint!(rt; "\n").ok()
+}
+
 // Shows the commands for a closer look at the run of a seed.
 fn show_commands<R: Eprint>(
     rt: &R,
@@ -284,20 +304,10 @@ fn show_commands<R: Eprint>(
     show_command(rt, "debug", order, campaign, seed)?;
     eprint!(rt; "\n").ok()?;
     // Of properties run alone tells where they are broken.
-    let name = if order.has_properties() {
-        "run"
-    } else {
-        "shrink"
-    };
-    show_command(rt, name, order, campaign, seed)?;
-    if let Some(rule) = order.rule {
-        eprint!(rt; " --rule {rule}").ok()?;
+    if order.has_properties() {
+        show_judging(rt, "run", order, campaign, seed)?;
     }
-    if order.must_exit {
-        eprint!(rt; " --must-exit").ok()?;
-    }
-    show_properties(rt, order)?;
-    eprint!(rt; "\n").ok()
+    show_judging(rt, "shrink", order, campaign, seed)
 }
 
 // The program and the choices of a seed, which are made again.

@@ -1,11 +1,13 @@
-//! Runs `campaign` and `explore`.
+//! Runs `campaign`, `explore` and `shrink`.
 #![tactic(auto)]
 
 pub use campaign::obey_campaign;
 pub use explore::obey_explore;
+pub use shrink::obey_shrink;
 
 mod campaign;
 mod exiting;
 mod explore;
 mod properties;
+mod shrink;
 mod watching;

@@ -1,9 +1,9 @@
-//! The properties of a campaign.
+//! The properties of a campaign, or of a run that is shrunk.
 
 ghost use Rattle.std.specs.Prelude.{◌-◌, ◌<◌, ◌^◌};
 
 use byte_io::{ReadFault, Source, Status, read_all};
-use cli_orders::CampaignOrder;
+use cli_orders::{CampaignOrder, ShrinkOrder};
 use cli_report::{Audience, RunFiles, say_why};
 use cmd_campaign::Properties;
 use elf_read::symbols;
@@ -13,13 +13,39 @@ use property_text::{PropertyFault, read_always, read_never_both};
 use std::alloc::Global;
 use std::rt::Files;
 
-/// The bytes of an order's program, to its end, and the properties that the order's texts mean by its
-/// symbols. The error is the status of what was refused, which is reported: a fault of the program
-/// comes before that of the number of inputs, and both before that of a property.
+/// The properties of an order, as they are written.
+#[derive(Clone, Copy)]
+pub(crate) struct PropertyTexts<'a> {
+    never_both: Option<&'a str>,
+    always: Option<&'a str>,
+}
+
+impl<'a> PropertyTexts<'a> {
+    /// Those of a campaign.
+    pub(crate) fn of_campaign(order: &CampaignOrder<'a>) -> PropertyTexts<'a> {
+        PropertyTexts {
+            never_both: order.never_both,
+            always: order.always,
+        }
+    }
+
+    /// Those of a run that is shrunk.
+    pub(crate) fn of_shrink(order: &ShrinkOrder<'a>) -> PropertyTexts<'a> {
+        PropertyTexts {
+            never_both: order.never_both,
+            always: order.always,
+        }
+    }
+}
+
+/// The bytes of a program, to its end, and the properties that these texts mean by its symbols. The
+/// error is the status of what was refused, which is reported: a fault of the program comes before
+/// that of the number of inputs, and both before that of a property.
 pub(crate) fn read_properties<R: Files + AllocGlobal + Eprint, P: Source>(
     rt: &R,
     audience: Audience,
-    order: &CampaignOrder,
+    file: &str,
+    texts: PropertyTexts<'_>,
     inputs: &[u32],
     program: &mut P,
 ) -> Result<(Vec<u8>, Properties), Status>
@@ -28,11 +54,11 @@ pub(crate) fn read_properties<R: Files + AllocGlobal + Eprint, P: Source>(
     let bytes = match read_checked(rt.alloc(), inputs, program) {
         Ok(bytes) => bytes,
         Err(fault) => {
-            let files = RunFiles::of_program(order.file, inputs.len());
+            let files = RunFiles::of_program(file, inputs.len());
             return Err(say_why(rt, audience, files, fault));
         }
     };
-    let properties = properties_among(rt, order, &bytes)?;
+    let properties = properties_among(rt, texts, &bytes)?;
     Ok((bytes, properties))
 }
 
@@ -54,21 +80,21 @@ fn read_checked<P: Source>(
     Ok(bytes)
 }
 
-// The properties of an order, by the symbols of a program: of its range, and then of its word.
+// The properties of texts, by the symbols of a program: of a range, and then of a word.
 fn properties_among<R: AllocGlobal + Eprint>(
     rt: &R,
-    order: &CampaignOrder,
+    texts: PropertyTexts<'_>,
     program: &[u8],
 ) -> Result<Properties, Status> {
     let symbols = match symbols(rt.alloc(), program) {
         Ok(symbols) => symbols,
         Err(_) => Vec::new(rt.alloc()),
     };
-    let first = match order.never_both {
+    let first = match texts.never_both {
         Some(text) => Some(property_said(rt, text, read_never_both(&symbols, text.as_bytes()))?),
         None => None,
     };
-    let second = match order.always {
+    let second = match texts.always {
         Some(text) => Some(property_said(rt, text, read_always(&symbols, text.as_bytes()))?),
         None => None,
     };

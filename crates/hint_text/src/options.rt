@@ -163,6 +163,8 @@ pub(crate) const COMMANDS: [Row; 14] = [
             "--refusals",
             "--rule",
             "--must-exit",
+            "--never-both",
+            "--always",
         ],
         example: "rvcons shrink prog.elf --inputs 7,9 --seed 5 --steps 300 >few.choices",
     },

@@ -2,13 +2,14 @@
 
 use byte_io::Status;
 use cli_args::{ChoiceText, RunOrder};
+use cli_campaign::obey_shrink;
 use cli_choices::{NamedRun, hold_choices};
 use cli_debug::obey_debug;
 use cli_gdb::obey_gdb;
 use cli_orders::{DebugOrder, ShrinkOrder, TraceOrder};
 use cli_properties::obey_any_run;
 use cli_report::{Audience, RunChoices, bad_line, form_said};
-use cli_runs::{obey_shrink, obey_trace};
+use cli_runs::obey_trace;
 use std::io::Input;
 use std::rt::Files;
 

@@ -208,7 +208,12 @@ fn shrink_text(alloc: Global, order: &ShrinkOrder) -> Result<String, AllocError>
     let fields = &[("FILE", Some(order.file)), ("inputs", Some(order.inputs))];
     let mut text = text_with(alloc, "shrink", fields)?;
     push_choices(&mut text, order.choices)?;
-    let fields = &[("rule", order.rule), ("must-exit", flag(order.must_exit))];
+    let fields = &[
+        ("rule", order.rule),
+        ("must-exit", flag(order.must_exit)),
+        ("never-both", order.never_both),
+        ("always", order.always),
+    ];
     push_fields(&mut text, fields)?;
     Ok(text)
 }
