@@ -4,6 +4,7 @@
 pub use campaign::obey_campaign;
 pub use explore::obey_explore;
 
+mod bounded;
 mod campaign;
 mod exiting;
 mod explore;
