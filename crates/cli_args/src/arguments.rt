@@ -27,6 +27,8 @@ pub(crate) enum Argument {
     With(&'static str, &'static str, &'static str),
     /// A required option with a value.
     NeededOption(&'static str, &'static str),
+    /// An option with a value that is required unless another option is given: the names of both.
+    NeededUnless(&'static str, &'static str, &'static str),
     /// An option without a value.
     Flag(&'static str, &'static str),
 }
@@ -50,6 +52,9 @@ fn arg_of<'a>(alloc: Global, argument: Argument, objects: &'a str) -> Result<Arg
         Argument::Lettered(id, letter, help) => option_of(alloc, id, help).short(letter),
         Argument::With(id, other, help) => { option_of(alloc, id, help).requires_arg(other)? }
         Argument::NeededOption(id, help) => option_of(alloc, id, help).required(true),
+        Argument::NeededUnless(id, other, help) => {
+            option_of(alloc, id, help).required_unless_present(other)?
+        }
         Argument::Flag(id, help) => Arg::new(alloc, id)
             .long(id)
             .action(ArgAction::SetTrue)

@@ -2,10 +2,10 @@
 
 use crate::arguments::Argument;
 use crate::help::{
-    ALWAYS, BANKED, BOUNDS, BROKEN_WORD, BUDGET, BY_CAUSE, DRAW, DRAW_OF_SCHEDULE, FILE, HANGS,
-    HEX, HISTORY, INPUTS, INPUTS_OF_SCHEDULE, JOBS, JSON, MUST_EXIT, NEVER_BOTH, OUTCOMES,
-    REFUSALS, REFUSE, RULE, SC_REFUSALS, SHARED_RANGE, SUMMARY, UNTIL_FAILURE, WAYS_OUT, WORLDS,
-    WRITTEN,
+    ALWAYS, BANKED, BOUNDS, BROKEN_WORD, BUDGET, BY_CAUSE, CHOICES_OF, COUNT, DRAW,
+    DRAW_OF_SCHEDULE, FILE, FIRST, HANGS, HEX, HISTORY, INPUTS, INPUTS_OF_SCHEDULE, JOBS, JSON,
+    MUST_EXIT, NEVER_BOTH, OUTCOMES, PREEMPTIONS, REFUSALS, REFUSE, RULE, SC_REFUSALS,
+    SHARED_RANGE, STEPS_OF_CAMPAIGN, SUMMARY, UNTIL_FAILURE, WAYS_OUT, WORLDS, WRITTEN,
 };
 
 /// Which options name the choices of a command's run.
@@ -143,9 +143,9 @@ pub(crate) static COMMANDS: [CommandRow; 14] = [
         arguments: &[
             Argument::Needed("FILE", FILE),
             Argument::NeededOption("inputs", INPUTS),
-            Argument::NeededOption("first", "the first seed"),
-            Argument::NeededOption("count", "how many seeds"),
-            Argument::NeededOption("steps", "how many steps for each seed"),
+            Argument::NeededUnless("first", "preemptions", FIRST),
+            Argument::NeededUnless("count", "preemptions", COUNT),
+            Argument::NeededOption("steps", STEPS_OF_CAMPAIGN),
             Argument::Optional("rule", RULE),
             Argument::Flag("failures", "print the lines of bad seeds alone"),
             Argument::Flag("until-failure", UNTIL_FAILURE),
@@ -158,6 +158,8 @@ pub(crate) static COMMANDS: [CommandRow; 14] = [
             Argument::Optional("never-both", NEVER_BOTH),
             Argument::Optional("always", ALWAYS),
             Argument::Optional("jobs", JOBS),
+            Argument::Optional("preemptions", PREEMPTIONS),
+            Argument::With("choices-of", "preemptions", CHOICES_OF),
         ],
         schedule: Schedule::None,
     },

@@ -108,6 +108,25 @@ pub(crate) const OUTCOMES: &str =
 pub(crate) const BY_CAUSE: &str =
     "with --summary: tell ends apart by the cause and the pc of each fault, too";
 
+/// Of `--first` of `campaign`.
+pub(crate) const FIRST: &str =
+    "the first seed; with --preemptions the first schedule, 0 if not said";
+
+/// Of `--count` of `campaign`.
+pub(crate) const COUNT: &str =
+    "how many seeds; with --preemptions how many schedules, all if not said";
+
+/// Of `--steps` of `campaign`.
+pub(crate) const STEPS_OF_CAMPAIGN: &str =
+    "how many steps for each seed; with --preemptions how many choices at most";
+
+/// Of `--preemptions`.
+pub(crate) const PREEMPTIONS: &str =
+    "in place of seeds run every schedule in which a hart is left at most so often though it could go on";
+
+/// Of `--choices-of`.
+pub(crate) const CHOICES_OF: &str = "with --preemptions: print the choices of this schedule alone";
+
 /// Of `--jobs`.
 pub(crate) const JOBS: &str =
     "how many threads do the runs, 1 to 64; as suits the processors is usual";

@@ -1,7 +1,8 @@
 //! Runs `campaign`.
 
-ghost use Rattle.std.specs.Prelude.{◌+◌, ◌-◌, ◌<◌, ◌≤◌, ◌^◌, IfOk};
+ghost use Rattle.std.specs.Prelude.{◌+◌, ◌-◌, ◌<◌, ◌≤◌, ◌^◌, IfOk, IfSome};
 
+use crate::bounded::obey_bounded;
 use crate::exiting::exit_of;
 use crate::properties::{PropertyTexts, read_properties, show_properties};
 use crate::watching::Watching;
@@ -12,7 +13,7 @@ use cli_report::{
     explain_places, inputs_said, open_one, read_again, rule_said, say_why, wipe_line,
 };
 use cli_values::{
-    JOBS, SeedPlan, read_draw, read_jobs, read_report, read_seed_numbers, seed_engine,
+    JOBS, SeedNumbers, SeedPlan, read_draw, read_jobs, read_report, read_seed_numbers, seed_engine,
 };
 use cmd_campaign::{
     Campaign, Exit, Expect, Finished, Jobs, OnThreads, Properties, Report, campaign_engine,
@@ -61,7 +62,10 @@ fn what_is_bad(order: &CampaignOrder, expect: Expect) -> &'static str {
 }
 
 // What an order expects of each run, or the status of an invalid line.
-fn read_expect<R: Print + Eprint>(rt: &R, order: &CampaignOrder) -> Result<Expect, Status> {
+pub(crate) fn read_expect<R: Print + Eprint>(
+    rt: &R,
+    order: &CampaignOrder,
+) -> Result<Expect, Status> {
     let rule = rule_said(rt, order.rule)?;
     Ok(Expect {
         rule,
@@ -69,12 +73,19 @@ fn read_expect<R: Print + Eprint>(rt: &R, order: &CampaignOrder) -> Result<Expec
     })
 }
 
+// The numbers of seeds and steps; `None` if one is invalid or too large.
+fn read_numbers(order: &CampaignOrder) -> Option<SeedNumbers>
+    ensures { IfSome result (λ numbers. numbers.first + numbers.count ≤ 2 ^ 64) }
+{
+    read_seed_numbers(order.first?, order.count?, order.steps)
+}
+
 // The campaign that an order asks for, yet without its properties, or the status of an invalid line.
 fn read_campaign<R: Print + Eprint>(rt: &R, order: &CampaignOrder) -> Result<Campaign, Status>
     ensures { IfOk result (λ campaign. campaign.first + campaign.count ≤ 2 ^ 64) }
 {
     let expect = read_expect(rt, order)?;
-    let Some(numbers) = read_seed_numbers(order.first, order.count, order.steps) else {
+    let Some(numbers) = read_numbers(order) else {
         return Err(bad_line(
             rt,
             "--first, --count and --steps take decimal numbers, first and count together at most 2^64, steps below 2^32, \
@@ -111,7 +122,7 @@ fn read_campaign<R: Print + Eprint>(rt: &R, order: &CampaignOrder) -> Result<Cam
 }
 
 // Why options of a report don't go together.
-fn why_no_report(order: &CampaignOrder) -> &'static str {
+pub(crate) fn why_no_report(order: &CampaignOrder) -> &'static str {
     if order.failures && order.summary {
         "--failures prints lines, and --summary none: write one of the two"
     } else if order.outcomes && order.by_cause {
@@ -129,6 +140,9 @@ pub fn obey_campaign<R: Files + AllocGlobal + Print + Eprint + Threads + Sync>(
     audience: Audience,
     order: &CampaignOrder,
 ) -> Result<Status, Status> {
+    if let Some(preemptions) = order.preemptions {
+        return obey_bounded(rt, audience, order, preemptions);
+    }
     let inputs = inputs_said(rt, order.inputs)?;
     let campaign = read_campaign(rt, order)?;
     let Some(jobs) = read_jobs(order.jobs) else {

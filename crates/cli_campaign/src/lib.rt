@@ -5,6 +5,7 @@ pub use campaign::obey_campaign;
 pub use explore::obey_explore;
 pub use shrink::obey_shrink;
 
+mod bounded;
 mod campaign;
 mod exiting;
 mod explore;

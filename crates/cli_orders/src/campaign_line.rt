@@ -8,17 +8,18 @@ use cli_args::{is_set, text_of};
 /// [--refusals never|one-in:N] [--must-exit] [--never-both R] [--always P] [--jobs J]`: runs a program
 /// under a random schedule for each of C seeds from S on, and prints a line for each, with a rule also
 /// its verdict; or the lines of bad seeds alone, or of the first of them, or how many seeds end in
-/// which way.
+/// which way. With `--preemptions K [--choices-of N]` it does so for every schedule with at most K
+/// preemptions.
 #[derive(Drop)]
 pub struct CampaignOrder<'a> {
     /// The program's path.
     pub file: &'a str,
     /// The harts' inputs.
     pub inputs: &'a str,
-    /// The first seed.
-    pub first: &'a str,
-    /// The number of seeds.
-    pub count: &'a str,
+    /// The first seed or schedule; always there without `preemptions`.
+    pub first: Option<&'a str>,
+    /// The number of seeds or schedules; always there without `preemptions`.
+    pub count: Option<&'a str>,
     /// The number of steps for each seed.
     pub steps: &'a str,
     /// The name of the object whose rule is judged.
@@ -45,6 +46,10 @@ pub struct CampaignOrder<'a> {
     pub always: Option<&'a str>,
     /// How many threads may do runs at a time.
     pub jobs: Option<&'a str>,
+    /// How many preemptions a schedule has at most, in place of seeds.
+    pub preemptions: Option<&'a str>,
+    /// The schedule whose choices alone are printed.
+    pub choices_of: Option<&'a str>,
 }
 
 impl<'a> CampaignOrder<'a> {
@@ -59,8 +64,8 @@ pub(crate) fn campaign_order<'a>(matches: &ArgMatches<'a>) -> Option<CampaignOrd
     Some(CampaignOrder {
         file: text_of(matches, "FILE")?,
         inputs: text_of(matches, "inputs")?,
-        first: text_of(matches, "first")?,
-        count: text_of(matches, "count")?,
+        first: text_of(matches, "first"),
+        count: text_of(matches, "count"),
         steps: text_of(matches, "steps")?,
         rule: text_of(matches, "rule"),
         failures: is_set(matches, "failures"),
@@ -74,5 +79,7 @@ pub(crate) fn campaign_order<'a>(matches: &ArgMatches<'a>) -> Option<CampaignOrd
         never_both: text_of(matches, "never-both"),
         always: text_of(matches, "always"),
         jobs: text_of(matches, "jobs"),
+        preemptions: text_of(matches, "preemptions"),
+        choices_of: text_of(matches, "choices-of"),
     })
 }

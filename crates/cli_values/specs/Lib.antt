@@ -4,3 +4,4 @@ pub mod CampaignPlans
 pub mod Reports
 pub mod Explorations
 pub mod JobCounts
+pub mod Bounds

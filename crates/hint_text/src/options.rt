@@ -119,6 +119,8 @@ pub(crate) const COMMANDS: [Row; 14] = [
             "--never-both",
             "--always",
             "--jobs",
+            "--preemptions",
+            "--choices-of",
         ],
         example: "rvcons campaign prog.elf --inputs 7,9 --first 1 --count 1000 --steps 300",
     },

@@ -156,8 +156,8 @@ fn campaign_text(alloc: Global, order: &CampaignOrder) -> Result<String, AllocEr
     let fields = &[
         ("FILE", Some(order.file)),
         ("inputs", Some(order.inputs)),
-        ("first", Some(order.first)),
-        ("count", Some(order.count)),
+        ("first", order.first),
+        ("count", order.count),
         ("steps", Some(order.steps)),
         ("rule", order.rule),
         ("failures", flag(order.failures)),
@@ -171,6 +171,8 @@ fn campaign_text(alloc: Global, order: &CampaignOrder) -> Result<String, AllocEr
         ("never-both", order.never_both),
         ("always", order.always),
         ("jobs", order.jobs),
+        ("preemptions", order.preemptions),
+        ("choices-of", order.choices_of),
     ];
     text_with(alloc, "campaign", fields)
 }
