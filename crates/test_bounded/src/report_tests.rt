@@ -75,15 +75,23 @@ impl Call for Choices {
     }
 }
 
+fn is_told(alloc: Global, report: Report, text: &'static str) -> bool {
+    tried(alloc, &Two { report, text }).is_ok()
+}
+
 #[test]
-fn each_refused_request_of_a_report_is_told(rt: HostRuntime) {
-    for (report, text) in [
-        (Report::Lines, LINES),
-        (Report::Failures, NO_FAILURES),
-        (Report::Summary, SUMMARY),
-    ] {
-        assert!(rt; tried(rt.alloc(), &Two { report, text }).is_ok());
-    }
+fn each_refused_request_of_lines_is_told(rt: HostRuntime) {
+    assert!(rt; is_told(rt.alloc(), Report::Lines, LINES));
+}
+
+#[test]
+fn each_refused_request_of_failures_is_told(rt: HostRuntime) {
+    assert!(rt; is_told(rt.alloc(), Report::Failures, NO_FAILURES));
+}
+
+#[test]
+fn each_refused_request_of_a_summary_is_told(rt: HostRuntime) {
+    assert!(rt; is_told(rt.alloc(), Report::Summary, SUMMARY));
 }
 
 #[test]
