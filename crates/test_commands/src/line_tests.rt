@@ -47,7 +47,7 @@ fn inputs_are_read(rt: HostRuntime) {
 
 // Lines, and what is read of each: its command and the texts of its arguments, by their names.
 #[rattlefmt::skip]
-const LINES: [(&str, &str); 86] = [
+static LINES: [(&str, &str); 90] = [
     ("rvcons asm a.s", "asm IN=a.s"),
     ("rvcons asm --out o a.s b.s", "asm out=o IN=a.s IN=b.s"),
     ("rvcons asm b.s a.s --out=o", "asm out=o IN=b.s IN=a.s"),
@@ -195,9 +195,13 @@ fn gives(alloc: Global, line: &str, wanted: &str) -> bool {
     }
 }
 
+fn lines() -> &'static [(&'static str, &'static str)] {
+    &LINES
+}
+
 #[test]
 fn lines_are_read(rt: HostRuntime) {
-    for (line, wanted) in &LINES {
+    for (line, wanted) in lines() {
         assert!(rt; gives(rt.alloc(), line, wanted), "{line}");
     }
 }
@@ -217,7 +221,7 @@ fn is_read_alone(alloc: Global, line: &str, wanted: &str) -> bool {
 
 #[test]
 fn lines_of_run_are_read_alone(rt: HostRuntime) {
-    for (line, wanted) in &LINES {
+    for (line, wanted) in lines() {
         assert!(rt; is_read_alone(rt.alloc(), line, wanted), "{line}");
     }
 }
