@@ -1,7 +1,7 @@
 //! Matches the command line by clap.
 
 use crate::arguments::{EXPLAIN, command_of, text_of};
-use crate::commands::{COMMANDS, CommandRow};
+use crate::commands::{CommandRow, commands};
 use crate::explain::explain_of;
 use crate::run_line::{RunOrder, run_order};
 use clap::error::ErrorKind;
@@ -41,7 +41,7 @@ fn bare_program<'a>(alloc: Global) -> Command<'a> {
 // The program with these commands.
 fn program<'a>(
     alloc: Global,
-    commands: &[CommandRow],
+    commands: &[&CommandRow],
     objects: &'a str,
 ) -> Result<Command<'a>, AllocError> {
     let mut program = bare_program(alloc);
@@ -49,11 +49,6 @@ fn program<'a>(
         program = program.subcommand(command_of(alloc, command, objects)?)?;
     }
     Ok(program)
-}
-
-// All commands.
-fn commands() -> &'static [CommandRow] {
-    &COMMANDS
 }
 
 // Whether a command's `--explain`, if it is given, has one of its values.
@@ -74,7 +69,7 @@ pub fn match_line<'a>(
     words: &'a [&'a str],
     objects: &'a str,
 ) -> Result<ArgMatches<'a>, LineFault> {
-    let Ok(command) = program(alloc, commands(), objects) else {
+    let Ok(command) = program(alloc, &commands(), objects) else {
         return Err(LineFault::Memory);
     };
     match command.try_get_matches_from(words) {
