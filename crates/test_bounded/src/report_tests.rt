@@ -1,5 +1,7 @@
 //! What no clause says of the report of a range of schedules: that its calls succeed where memory
 //! is left, with each request refused in turn.
+ghost use Rattle.std.specs.Prelude.{◌+◌, ◌<◌, ◌^◌};
+
 use byte_io::{MemorySource, Status, Unheard};
 use cmd_bounded::{
     BoundedCampaign, Exit, Expect, Finished, Report, bounded_choices_engine, bounded_engine,
@@ -21,7 +23,9 @@ const NO_FAILURES: &str =
     "covered 2 schedules from 1 on, with at most 1 preemptions and 40 choices; more are left\n";
 
 // Two schedules of the object swap, which keeps its rule and exits in each.
-fn two_of(report: Report) -> BoundedCampaign {
+fn two_of(report: Report) -> BoundedCampaign
+    ensures { result.first + result.count < 2 ^ 64 }
+{
     BoundedCampaign {
         first: 1,
         count: 2,
