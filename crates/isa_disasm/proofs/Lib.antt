@@ -1,2 +1,5 @@
+mod BufferLemmas
+mod DigitLemmas
 mod ListingLemmas
+mod NameLemmas
 mod SegmentLemmas

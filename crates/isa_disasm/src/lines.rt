@@ -1,9 +1,10 @@
 //! The lines of bytes.
 
 ghost use Rattle.std.specs.Prelude.{◌≡◌, ◌≤◌, ◌<◌, ◌^◌, ◌+◌, ◌%◌, ◌*◌, ◌/◌, ◌++◌, [], OnOk, length, drop, slice_index, string_bytes};
-ghost use Rattle.isa_disasm.specs.Listing.{byte_lines, listing, lines_from, word_of_bytes};
+ghost use Rattle.isa_disasm.specs.Listing.{byte_lines, listing, lines_from, word_entry, word_of_bytes};
 
-use crate::line::Line;
+use crate::buffer::LineBuffer;
+use crate::line::push_line;
 use isa_names::{Byte, Word};
 use std::alloc::{AllocError, Allocator};
 
@@ -29,15 +30,28 @@ fn push_words<A: Allocator>(text: &mut String<A>, base: u64, bytes: &[u8]) -> Re
         ++ listing (base + 4 * (length bytes.now / 4)) (drop (4 * (length bytes.now / 4)) bytes.now)
         ≡ string_bytes text.old ++ listing base bytes.now) }
 {
+    let mut line = LineBuffer::new();
     'words: for index in 0..bytes.len() / 4 {
         let place = 4 * index;
-        let word = word_at(bytes, place);
         let address = (base + place as u64) as u32;
-        let line = Line { address, word };
-        let (address, word) = (Word(address), Word(word));
-        writeln!(text, "{line}  # {address} {word}")?;
+        write_entry(&mut line, address, word_at(bytes, place));
+        text.push_str(line.as_str())?;
     }
     Ok(())
+}
+
+// Makes the line that of a word, with its address and its digits after it, and a line end.
+#[inline(always)]
+fn write_entry(line: &mut LineBuffer, address: u32, word: u32)
+    ensures { line.new ≡ word_entry address word [] }
+{
+    line.clear();
+    push_line(line, address, word);
+    line.push("  # ");
+    line.push_word(address);
+    line.push(" ");
+    line.push_word(word);
+    line.push("\n");
 }
 
 // Appends a line for each byte; none of them is in an aligned word.

@@ -1,176 +1,191 @@
-//! The shapes of operands, one function each.
+//! The shapes of operands, one function each. A shape takes at most 40 bytes of a line.
 
-ghost use Rattle.std.specs.Prelude.{Some};
-ghost use Rattle.std.specs.Fmt.{DisplaysOnOk};
+ghost use Rattle.std.specs.Prelude.{◌≡◌, ◌≤◌, ◌+◌, ◌++◌, codes, length};
 ghost use Rattle.isa_table.specs.Signed.{signed_of};
-ghost use Rattle.isa_disasm.specs.Lines.{word_line, upper_line, jump_line, branch_line, memory_line, immediate_line, shift_line, register_line, reserved_line, atomic_line, sets_line, fence_line};
+ghost use Rattle.isa_names.specs.Names.{abi};
+ghost use Rattle.isa_disasm.specs.Lines.{word_line, upper_line, jump_line, branch_line, memory_line, immediate_line, shift_line, register_line, reserved_line, atomic_line, sets_line, suffix};
 
-use isa_names::{FenceAccesses, RegisterName, Word};
+use crate::buffer::LineBuffer;
 use isa_table::{FenceSet, Immediate12, Order, Reg, ShiftAmount, UpperImmediate};
-use std::fmt;
 
 /// A `.word` line.
-pub fn write_word<W: fmt::Write>(f: &mut fmt::Formatter<W>, word: u32) -> fmt::Result
-    ensures { DisplaysOnOk W.write_str_gives f.old result (Some (word_line word)) f.new }
+pub fn push_word_line(line: &mut LineBuffer, word: u32)
+    requires { length line.old + 40 ≤ 64 }
+    ensures value { line.new ≡ line.old ++ word_line word }
+    ensures short { length line.new ≤ length line.old + 40 }
 {
-    let word = Word(word);
-    write!(f, ".word 0x{word}")
+    line.push(".word 0x");
+    line.push_word(word);
 }
 
 /// LUI and AUIPC.
-pub fn write_upper<W: fmt::Write>(
-    f: &mut fmt::Formatter<W>,
-    name: &str,
-    rd: Reg,
-    imm: UpperImmediate,
-) -> fmt::Result
-    ensures { DisplaysOnOk W.write_str_gives f.old result (Some (upper_line name.now rd imm)) f.new }
+pub fn push_upper(line: &mut LineBuffer, name: &str, rd: Reg, imm: UpperImmediate)
+    requires named { length name.now ≤ 16 }
+    requires room { length line.old + 40 ≤ 64 }
+    ensures value { line.new ≡ line.old ++ upper_line name.now rd imm }
+    ensures short { length line.new ≤ length line.old + 40 }
 {
-    let (rd, high) = (RegisterName(rd), imm.high());
-    write!(f, "{name} {rd}, 0x{high:x}")
+    line.push(name);
+    line.push(" ");
+    line.push_register(rd);
+    line.push(", 0x");
+    line.push_upper_immediate(imm);
 }
 
 /// JAL.
-pub fn write_jump<W: fmt::Write>(f: &mut fmt::Formatter<W>, rd: Reg, target: u32) -> fmt::Result
-    ensures { DisplaysOnOk W.write_str_gives f.old result (Some (jump_line rd target)) f.new }
+pub fn push_jump(line: &mut LineBuffer, rd: Reg, target: u32)
+    requires { length line.old + 40 ≤ 64 }
+    ensures value { line.new ≡ line.old ++ jump_line rd target }
+    ensures short { length line.new ≤ length line.old + 40 }
 {
-    let (rd, target) = (RegisterName(rd), Word(target));
-    write!(f, "jal {rd}, 0x{target}")
+    line.push("jal ");
+    line.push_register(rd);
+    line.push(", 0x");
+    line.push_word(target);
 }
 
 /// The branches.
-pub fn write_branch<W: fmt::Write>(
-    f: &mut fmt::Formatter<W>,
-    name: &str,
-    rs1: Reg,
-    rs2: Reg,
-    target: u32,
-) -> fmt::Result
-    ensures { DisplaysOnOk W.write_str_gives f.old result
-        (Some (branch_line name.now rs1 rs2 target)) f.new }
+pub fn push_branch(line: &mut LineBuffer, name: &str, rs1: Reg, rs2: Reg, target: u32)
+    requires named { length name.now ≤ 16 }
+    requires room { length line.old + 40 ≤ 64 }
+    ensures value { line.new ≡ line.old ++ branch_line name.now rs1 rs2 target }
+    ensures short { length line.new ≤ length line.old + 40 }
 {
-    let (rs1, rs2, target) = (RegisterName(rs1), RegisterName(rs2), Word(target));
-    write!(f, "{name} {rs1}, {rs2}, 0x{target}")
+    line.push(name);
+    line.push(" ");
+    line.push_register(rs1);
+    line.push(", ");
+    line.push_register(rs2);
+    line.push(", 0x");
+    line.push_word(target);
 }
 
 /// Loads, stores and JALR.
-pub fn write_memory<W: fmt::Write>(
-    f: &mut fmt::Formatter<W>,
-    name: &str,
-    register: Reg,
-    offset: Immediate12,
-    base: Reg,
-) -> fmt::Result
-    ensures { DisplaysOnOk W.write_str_gives f.old result
-        (Some (memory_line name.now register (signed_of offset) base)) f.new }
+pub fn push_memory(line: &mut LineBuffer, name: &str, register: Reg, offset: Immediate12, base: Reg)
+    requires named { length name.now ≤ 16 }
+    requires room { length line.old + 40 ≤ 64 }
+    ensures value { line.new ≡ line.old ++ memory_line name.now register (signed_of offset) base }
+    ensures short { length line.new ≤ length line.old + 40 }
 {
-    let (register, offset, base) = (RegisterName(register), offset.value(), RegisterName(base));
-    write!(f, "{name} {register}, {offset}({base})")
+    line.push(name);
+    line.push(" ");
+    line.push_register(register);
+    line.push(", ");
+    line.push_immediate(offset);
+    line.push("(");
+    line.push_register(base);
+    line.push(")");
 }
 
 /// Operations with an immediate.
-pub fn write_immediate<W: fmt::Write>(
-    f: &mut fmt::Formatter<W>,
-    name: &str,
-    rd: Reg,
-    rs1: Reg,
-    imm: Immediate12,
-) -> fmt::Result
-    ensures { DisplaysOnOk W.write_str_gives f.old result
-        (Some (immediate_line name.now rd rs1 (signed_of imm))) f.new }
+pub fn push_immediate(line: &mut LineBuffer, name: &str, rd: Reg, rs1: Reg, imm: Immediate12)
+    requires named { length name.now ≤ 16 }
+    requires room { length line.old + 40 ≤ 64 }
+    ensures value { line.new ≡ line.old ++ immediate_line name.now rd rs1 (signed_of imm) }
+    ensures short { length line.new ≤ length line.old + 40 }
 {
-    let (rd, rs1, number) = (RegisterName(rd), RegisterName(rs1), imm.value());
-    write!(f, "{name} {rd}, {rs1}, {number}")
+    line.push(name);
+    line.push(" ");
+    line.push_register(rd);
+    line.push(", ");
+    line.push_register(rs1);
+    line.push(", ");
+    line.push_immediate(imm);
 }
 
 /// Shifts by an immediate.
-pub fn write_shift<W: fmt::Write>(
-    f: &mut fmt::Formatter<W>,
-    name: &str,
-    rd: Reg,
-    rs1: Reg,
-    amount: ShiftAmount,
-) -> fmt::Result
-    ensures { DisplaysOnOk W.write_str_gives f.old result
-        (Some (shift_line name.now rd rs1 amount)) f.new }
+pub fn push_shift(line: &mut LineBuffer, name: &str, rd: Reg, rs1: Reg, amount: ShiftAmount)
+    requires named { length name.now ≤ 16 }
+    requires room { length line.old + 40 ≤ 64 }
+    ensures value { line.new ≡ line.old ++ shift_line name.now rd rs1 amount }
+    ensures short { length line.new ≤ length line.old + 40 }
 {
-    let (rd, rs1, count) = (RegisterName(rd), RegisterName(rs1), amount.count());
-    write!(f, "{name} {rd}, {rs1}, {count}")
+    line.push(name);
+    line.push(" ");
+    line.push_register(rd);
+    line.push(", ");
+    line.push_register(rs1);
+    line.push(", ");
+    line.push_amount(amount);
 }
 
 /// Operations on two registers.
-pub fn write_register<W: fmt::Write>(
-    f: &mut fmt::Formatter<W>,
-    name: &str,
-    rd: Reg,
-    rs1: Reg,
-    rs2: Reg,
-) -> fmt::Result
-    ensures { DisplaysOnOk W.write_str_gives f.old result
-        (Some (register_line name.now rd rs1 rs2)) f.new }
+pub fn push_registers(line: &mut LineBuffer, name: &str, rd: Reg, rs1: Reg, rs2: Reg)
+    requires named { length name.now ≤ 16 }
+    requires room { length line.old + 40 ≤ 64 }
+    ensures value { line.new ≡ line.old ++ register_line name.now rd rs1 rs2 }
+    ensures short { length line.new ≤ length line.old + 40 }
 {
-    let (rd, rs1, rs2) = (RegisterName(rd), RegisterName(rs1), RegisterName(rs2));
-    write!(f, "{name} {rd}, {rs1}, {rs2}")
+    line.push(name);
+    line.push(" ");
+    line.push_register(rd);
+    line.push(", ");
+    line.push_register(rs1);
+    line.push(", ");
+    line.push_register(rs2);
 }
 
-// An ordering, displayed as its suffix.
-#[derive(Clone, Copy)]
-struct Suffix(Order);
-
-impl fmt::Display for Suffix {
-    ghost use Rattle.isa_disasm.specs.Lines.{suffix};
-
-    ghost output = { λ s. Some (suffix s.0.aq s.0.rl) };
-
-    fn fmt<W: fmt::Write>(&self, f: &mut fmt::Formatter<W>) -> fmt::Result {
-        f.write_str(match (self.0.aq, self.0.rl) {
-            (true, true) => ".aqrl",
-            (true, false) => ".aq",
-            (false, true) => ".rl",
-            (false, false) => "",
-        })
+// An ordering as a suffix.
+fn suffix_of(order: Order) -> &'static str
+    ensures value { result.now ≡ suffix order.aq order.rl }
+    ensures short { length result.now ≤ 5 }
+{
+    match (order.aq, order.rl) {
+        (true, true) => ".aqrl",
+        (true, false) => ".aq",
+        (false, true) => ".rl",
+        (false, false) => "",
     }
 }
 
-/// LR.W.
-pub fn write_reserved<W: fmt::Write>(
-    f: &mut fmt::Formatter<W>,
-    order: Order,
-    rd: Reg,
-    rs1: Reg,
-) -> fmt::Result
-    ensures { DisplaysOnOk W.write_str_gives f.old result
-        (Some (reserved_line order.aq order.rl rd rs1)) f.new }
+// The register with the address of an atomic access.
+fn push_address(line: &mut LineBuffer, base: Reg)
+    requires { length line.old + 8 ≤ 64 }
+    ensures value { line.new ≡ line.old ++ (codes ", (" ++ (abi base ++ codes ")")) }
+    ensures short { length line.new ≤ length line.old + 8 }
 {
-    let (order, rd, rs1) = (Suffix(order), RegisterName(rd), RegisterName(rs1));
-    write!(f, "lr.w{order} {rd}, ({rs1})")
+    line.push(", (");
+    line.push_register(base);
+    line.push(")");
+}
+
+/// LR.W.
+pub fn push_reserved(line: &mut LineBuffer, order: Order, rd: Reg, rs1: Reg)
+    requires { length line.old + 40 ≤ 64 }
+    ensures value { line.new ≡ line.old ++ reserved_line order.aq order.rl rd rs1 }
+    ensures short { length line.new ≤ length line.old + 40 }
+{
+    line.push("lr.w");
+    line.push(suffix_of(order));
+    line.push(" ");
+    line.push_register(rd);
+    push_address(line, rs1);
 }
 
 /// SC.W and the atomic memory operations.
-pub fn write_atomic<W: fmt::Write>(
-    f: &mut fmt::Formatter<W>,
-    name: &str,
-    order: Order,
-    rd: Reg,
-    rs2: Reg,
-    rs1: Reg,
-) -> fmt::Result
-    ensures { DisplaysOnOk W.write_str_gives f.old result
-        (Some (atomic_line name.now order.aq order.rl rd rs2 rs1)) f.new }
+pub fn push_atomic(line: &mut LineBuffer, name: &str, order: Order, rd: Reg, rs2: Reg, rs1: Reg)
+    requires named { length name.now ≤ 16 }
+    requires room { length line.old + 40 ≤ 64 }
+    ensures value { line.new ≡ line.old ++ atomic_line name.now order.aq order.rl rd rs2 rs1 }
+    ensures short { length line.new ≤ length line.old + 40 }
 {
-    let order = Suffix(order);
-    let (rd, rs2, rs1) = (RegisterName(rd), RegisterName(rs2), RegisterName(rs1));
-    write!(f, "{name}{order} {rd}, {rs2}, ({rs1})")
+    line.push(name);
+    line.push(suffix_of(order));
+    line.push(" ");
+    line.push_register(rd);
+    line.push(", ");
+    line.push_register(rs2);
+    push_address(line, rs1);
 }
 
 /// FENCE with two sets.
-pub fn write_sets<W: fmt::Write>(
-    f: &mut fmt::Formatter<W>,
-    pred: FenceSet,
-    succ: FenceSet,
-) -> fmt::Result
-    ensures { DisplaysOnOk W.write_str_gives f.old result (Some (sets_line pred succ)) f.new }
+pub fn push_sets(line: &mut LineBuffer, pred: FenceSet, succ: FenceSet)
+    requires { length line.old + 40 ≤ 64 }
+    ensures value { line.new ≡ line.old ++ sets_line pred succ }
+    ensures short { length line.new ≤ length line.old + 40 }
 {
-    let (pred, succ) = (FenceAccesses(pred), FenceAccesses(succ));
-    write!(f, "fence {pred}, {succ}")
+    line.push("fence ");
+    line.push_set(pred);
+    line.push(", ");
+    line.push_set(succ);
 }

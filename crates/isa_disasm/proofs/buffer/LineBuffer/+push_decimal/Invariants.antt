@@ -1,0 +1,4 @@
+use Rattle.isa_disasm.proofs.buffer.LineBuffer.+push_decimal.Given as goal
+
+abbrev pub decreases-push_decimal : goal.decreases-push_decimal
+decreases-push_decimal l = l.number
