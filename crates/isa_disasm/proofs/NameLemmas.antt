@@ -1,5 +1,5 @@
 -- how long the pieces of a line are
-use Rattle.std.proofs.Common.{ℕ, zero, suc, ◌≤◌, Bool, true, false, List, [], ◌∷◌, ◌++◌, length, length-append, get_or, arith, max, cond}
+use Rattle.std.proofs.Common.{ℕ, zero, suc, ◌≤◌, ◌<◌, Bool, true, false, List, [], ◌∷◌, ◌++◌, length, length-append, get_or, arith, max, min, cond}
 use Rattle.isa_names.specs.Names.{abi, abi_names, letter, set_name}
 use Rattle.isa_table.specs.Names.{name_of}
 use Rattle.isa_table.specs.declared.mnemonic.Mnemonic.{Mnemonic}
@@ -26,6 +26,21 @@ within_longest (text ∷ texts) (suc i) = let rest = within_longest texts i in o
 pub abi_short : (register : ℕ) → length (abi register) ≤ 4
 unfolding abi longest
 abi_short register = within_longest abi_names register
+
+-- the shortest of some texts of four bytes at most
+shortest : List (List ℕ) → ℕ
+shortest [] = 4
+shortest (text ∷ texts) = min (length text) (shortest texts)
+
+above_shortest : (texts : List (List ℕ)) (i : ℕ) → i < length texts → shortest texts ≤ length (get_or texts i [])
+unfolding shortest
+above_shortest [] i low = absurd (omega arith)
+above_shortest (text ∷ texts) zero low = omega arith
+above_shortest (text ∷ texts) (suc i) low = let rest = above_shortest texts i (omega arith) in omega arith
+
+pub abi_some : (register : ℕ) → register < 32 → 2 ≤ length (abi register)
+unfolding abi shortest
+abi_some register low = above_shortest abi_names register low
 
 one_at_most : (has : Bool) (byte : ℕ) → length (cond has (byte ∷ []) []) ≤ 1
 one_at_most true byte = omega arith

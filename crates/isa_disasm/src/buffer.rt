@@ -1,6 +1,6 @@
 //! The text of one line, built on the stack.
 
-ghost use Rattle.std.specs.Prelude.{◌≡◌, ◌+◌, ◌*◌, ◌≤◌, ◌<◌, ◌^◌, ◌++◌, ℕ, List, [], ◌∷◌, length, take, false};
+ghost use Rattle.std.specs.Prelude.{◌≡◌, ◌+◌, ◌≤◌, ◌<◌, ◌++◌, ℕ, List, [], ◌∷◌, length, take, false};
 ghost use Rattle.std.specs.Str.{IsAscii, IsUtf8};
 ghost use Rattle.std.specs.Fmt.{decimal, digit_glyph, digits, signed_decimal};
 ghost use Rattle.isa_table.specs.Signed.{signed_of};
@@ -68,15 +68,31 @@ impl LineBuffer {
         self.length = end;
     }
 
+    // Appends a text of two to four bytes: its first two and its last two, which may be the same. A
+    // copy of a length that is known only when it runs is a call.
+    #[inline(always)]
+    fn push_short(&mut self, text: &str)
+        requires some { 2 ≤ length text.now }
+        requires few { length text.now ≤ 4 }
+        requires room { length self.old + 4 ≤ 64 }
+        ensures { self.new ≡ self.old ++ text.now }
+    {
+        let bytes = text.as_bytes();
+        let (start, end) = (self.length, self.length + bytes.len());
+        self.bytes[start..start + 2].copy_from_slice(&bytes[..2]);
+        self.bytes[end - 2..end].copy_from_slice(&bytes[bytes.len() - 2..]);
+        self.length = end;
+    }
+
     /// Appends the ABI name of a register.
-    #[tactic(auto, using(crate::proofs::NameLemmas::abi_short))]
+    #[tactic(auto, using(crate::proofs::NameLemmas::abi_short, crate::proofs::NameLemmas::abi_some))]
     #[inline(always)]
     pub fn push_register(&mut self, register: Reg)
         requires room { length self.old + 4 ≤ 64 }
         ensures value { self.new ≡ self.old ++ abi register }
         ensures short { length self.new ≤ length self.old + 4 }
     {
-        self.push(abi_name(register));
+        self.push_short(abi_name(register));
     }
 
     /// Appends the letters of a set of accesses.
