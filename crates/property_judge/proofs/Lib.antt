@@ -1,3 +1,4 @@
 pub mod JudgedLemmas
 pub mod RunLemmas
 pub mod FirstLemmas
+pub mod KeptLemmas

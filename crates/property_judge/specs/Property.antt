@@ -63,3 +63,9 @@ harts_between from to harts = count_by (is_within from to) harts
 unfoldable pub holds_in : Property → World → Bool
 holds_in (Always word comparison number) w = compares comparison (word_read w.memory word) number
 holds_in (NeverBoth from to) w = nat_lt (harts_between from to w.harts) 2
+
+-- whether a step keeps a property for sure, by the hart that took it alone: a hart that is not
+-- between two addresses has not come to be there
+abbrev pub is_kept_by : Property → HartValue → Bool
+is_kept_by (Always word comparison number) hart = false
+is_kept_by (NeverBoth from to) hart = not (is_within from to hart)

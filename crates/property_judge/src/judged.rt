@@ -1,11 +1,14 @@
 //! Properties that are judged over a run.
 ghost use Rattle.std.specs.Prelude.{◌≡◌, ◌<◌, OnOk, OnErr, IfErr, IsTrue, All, map, take, length};
+ghost use Rattle.hart_step.specs.Hart.{hart_of};
 ghost use Rattle.machine.specs.World.{run};
 ghost use Rattle.machine.specs.Machine.{world};
-ghost use Rattle.property_judge.specs.Judged.{judged_at, judged_run};
+ghost use Rattle.property_judge.specs.Judged.{judged_after, judged_at, judged_run};
+ghost use Rattle.property_judge.specs.Property.{is_kept_by};
 
-use crate::judging::holds_in;
+use crate::judging::{holds_in, is_within};
 use crate::property::Property;
+use hart_step::Hart;
 use machine::{Choice, Machine, Stopped};
 use mem_store::Store;
 use std::alloc::Allocator;
@@ -46,6 +49,48 @@ pub fn judge_world<S: Store, A: Allocator>(
     }
 }
 
+// Whether a step keeps a property, by the hart that took it alone: whoever is not between two
+// addresses has not come to be there.
+fn is_kept_by(property: Property, hart: &Hart) -> bool
+    ensures { result ≡ is_kept_by property (hart_of hart.now) }
+{
+    match property {
+        Property::Always { .. } => false,
+        Property::NeverBoth { from, to } => !is_within(hart, from, to),
+    }
+}
+
+// A property judged in the machine's world, to which `done` choices have led, the last of them of
+// this hart. What holds for sure isn't looked at.
+fn judge_one_after<S: Store, A: Allocator>(
+    machine: &Machine<S, A>,
+    hart: &Hart,
+    done: usize,
+    judged: Judged,
+) -> Judged
+    ensures { result ≡ judged_after done (world S.memory machine.now) (hart_of hart.now) judged }
+{
+    if is_kept_by(judged.property, hart) {
+        return judged;
+    }
+    judge_one(machine, done, judged)
+}
+
+// Judges the machine's world, to which `done` choices have led, the last of them of this hart.
+fn judge_after<S: Store, A: Allocator>(
+    machine: &Machine<S, A>,
+    hart: &Hart,
+    done: usize,
+    judged: &mut [Judged],
+)
+    ensures { judged.new
+        ≡ map (judged_after done (world S.memory machine.now) (hart_of hart.now)) judged.old }
+{
+    for each in judged.iter_mut() {
+        *each = judge_one_after(machine, hart, done, *each);
+    }
+}
+
 /// Runs choices, and judges the world before the first and the one after each. Fails only when out
 /// of memory; then the machine is in the world after the choices that were done, and the worlds up
 /// to that one are judged.
@@ -67,12 +112,13 @@ pub fn judge_run<S: Store, A: Allocator>(
         ≡ run (world S.memory machine.old) (take stopped.done choices.now))) }
     ensures refused { OnErr result (IsTrue S.grows) }
 {
+    judge_world(machine, 0, judged);
     'choices: for (done, choice) in choices.iter().enumerate() {
-        judge_world(machine, done, judged);
         if machine.step(*choice).is_err() {
             return Err(Stopped { done });
         }
+        let hart = machine.hart(choice.hart as usize);
+        judge_after(machine, hart, done + 1, judged);
     }
-    judge_world(machine, choices.len(), judged);
     Ok(())
 }
