@@ -3,6 +3,7 @@ use Rattle.std.proofs.lemmas.Option.{slice_get_read}
 use Rattle.std.specs.List.{slice_get, slice_index}
 use Rattle.mem_store.specs.Image.{image_memory}
 use Rattle.explore_sites.specs.Cells.{words_shown}
+use Rattle.explore_space.specs.Failing.{breaks_word}
 use Rattle.explore_space.specs.Places.{cells_in, world_of_key}
 use Rattle.explore_space.proofs.WordBreaks.{over_rights}
 use Rattle.explore_space.proofs.explorer.Explorer.breaks_word_at.Goals as goal
@@ -20,7 +21,9 @@ returns g c =
     let shared_there = slice_get_read shareds (length shareds) (slice_index key c.harts-count.result) c.index-shared.result.now refl
     shared_low c.index-shared.ensures in
     let words = words_shown image (cells_in (slice_get shareds (slice_index key n))) in
-    c.breaks_word.ensures (world_of_key image n e.known.harts.parts.items shareds key) (over_rights (image_memory image) words)
+    let world = world_of_key image n e.known.harts.parts.items shareds key in
+    subst (λ a. c.breaks_word.result ≡ breaks_word a world) (sym c.in-Some.is)
+    (c.breaks_word.ensures world (over_rights (image_memory image) words)
     (λ x is_word. ap (λ l. words_shown image l x) c.deref.ensures.value
     ∙ ap (λ o. words_shown image (cells_in o) x) (sym shared_there ∙ ap (λ i. slice_get shareds (slice_index key i)) count)
-    ∙ c.requires.words x is_word)
+    ∙ c.requires.words x is_word))
