@@ -243,6 +243,7 @@ static ROW_OF_EXPLORE: CommandRow = CommandRow {
         Argument::Optional("refusals", SC_REFUSALS),
         Argument::Optional("worlds", WORLDS),
         Argument::Flag("must-exit", WAYS_OUT),
+        Argument::Optional("always", ALWAYS),
         Argument::Flag("bounds", BOUNDS),
         Argument::Flag("json", JSON),
     ],

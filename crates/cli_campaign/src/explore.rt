@@ -1,7 +1,10 @@
 //! Runs `explore`.
 
+ghost use Rattle.std.specs.Prelude.{◌-◌, ◌<◌, ◌^◌};
+
 use crate::exiting::exit_of;
-use byte_io::{Progress, Status, WriterSink};
+use crate::properties::{PropertyTexts, read_properties};
+use byte_io::{MemorySource, Progress, Source, Status, WriterSink};
 use cli_orders::ExploreOrder;
 use cli_report::{
     Audience, EndsTold, Explained, RunFiles, WIPE, bad_line, explain_ends, inputs_said, open_one,
@@ -10,10 +13,12 @@ use cli_report::{
 use cli_values::{WORLDS, read_worlds};
 use cmd_campaign::Expect;
 use cmd_explore::{
-    Explored, Finding, Form, OwnBounds, Question, explore_engine, read_refusals, undecided_object,
+    Always, Explored, Finding, Form, OwnBounds, Question, explore_engine, read_refusals,
+    undecided_object,
 };
 use object_library::Kind;
 use program_open::{CommandFault, ProgramForm, write_text};
+use property_judge::Property;
 use std::alloc::{AllocError, Global};
 use std::io;
 use std::rt::{Clock, Files};
@@ -77,7 +82,7 @@ impl<'a, R: Eprint + Clock> Progress for Line<'a, R> {
     }
 }
 
-// What an order asks, or the status of an invalid line.
+// What an order asks but for its word, or the status of an invalid line.
 fn read_question<R: Print + Eprint>(rt: &R, order: &ExploreOrder) -> Result<Question, Status> {
     let rule = rule_said(rt, order.rule)?;
     let Some(refusals) = read_refusals(order.refusals) else {
@@ -89,10 +94,29 @@ fn read_question<R: Print + Eprint>(rt: &R, order: &ExploreOrder) -> Result<Ques
     let exit = exit_of(order.must_exit);
     Ok(Question {
         expect: Expect { rule, exit },
+        always: None,
         bounds: bounds_of(order.bounds),
         refusals,
         most: worlds as usize,
     })
+}
+
+// What a property says of a word, if it says something of one.
+fn word_said(property: Option<Property>) -> Option<Always> {
+    match property {
+        Some(
+            Property::Always {
+                word,
+                comparison,
+                number,
+            },
+        ) => Some(Always {
+            word,
+            comparison,
+            number,
+        }),
+        Some(Property::NeverBoth { .. }) | None => None,
+    }
 }
 
 /// Decides whether some schedule of a program fails, and prints a list of choices that does. A
@@ -105,6 +129,42 @@ pub fn obey_explore<R: Files + AllocGlobal + Print + Eprint + Clock>(
     let question = read_question(rt, order)?;
     let inputs = inputs_said(rt, order.inputs)?;
     let mut program = open_one(rt, audience, order.file)?;
+    match order.always {
+        Some(_) => answer_judged(rt, audience, order, &inputs, question, &mut program),
+        None => answer(rt, audience, order, &inputs, question, &mut program),
+    }
+}
+
+// Reads the program, since the order's word may be named by its symbols, and answers.
+fn answer_judged<R: Files + AllocGlobal + Print + Eprint + Clock, P: Source>(
+    rt: &R,
+    audience: Audience,
+    order: &ExploreOrder,
+    inputs: &[u32],
+    question: Question,
+    program: &mut P,
+) -> Result<Status, Status>
+    requires { P.failures program.old < 2 ^ 64 - 1 }
+{
+    let texts = PropertyTexts::of_explore(order);
+    let (bytes, properties) = read_properties(rt, audience, order.file, texts, inputs, program)?;
+    let mut question = question;
+    question.always = word_said(properties.second);
+    let mut source = MemorySource::new(&bytes);
+    answer(rt, audience, order, inputs, question, &mut source)
+}
+
+// Decides a question of a program, and prints the answer. A person sees the progress.
+fn answer<R: Files + AllocGlobal + Print + Eprint + Clock, P: Source>(
+    rt: &R,
+    audience: Audience,
+    order: &ExploreOrder,
+    inputs: &[u32],
+    question: Question,
+    program: &mut P,
+) -> Result<Status, Status>
+    requires { P.failures program.old < 2 ^ 64 - 1 }
+{
     let mut line = Line {
         rt,
         audience,
@@ -113,24 +173,17 @@ pub fn obey_explore<R: Files + AllocGlobal + Print + Eprint + Clock>(
     };
     let answer = explore_engine(
         rt.alloc(),
-        inputs.as_slice(),
+        inputs,
         form_of(order),
         question,
-        &mut program,
+        program,
         &mut line,
     );
     if line.is_shown {
         wipe_line(rt, audience);
     }
     match answer {
-        Ok(found) => tell(
-            rt,
-            audience,
-            order,
-            inputs.as_slice(),
-            question.expect.rule,
-            &found,
-        ),
+        Ok(found) => tell(rt, audience, order, inputs, question.expect.rule, &found),
         Err(CommandFault::Undecided(most)) => {
             Err(tell_undecided(rt, audience, order, inputs.len(), most))
         }
@@ -215,6 +268,12 @@ fn explain_list<R: Files + AllocGlobal + Eprint>(
         return eprintln!(rt;
             "From the world that they lead to no list of choices leads to one in which no hart runs."
         ).ok();
+    }
+    if let Some(choices) = found.broken {
+        let always = order.always?;
+        eprintln!(rt;
+            "After {choices} of them '{always}' isn't so; goto {choices} in rvcons debug goes there."
+        ).ok()?;
     }
     let program = read_again(rt, order.file)?;
     explain_ends(

@@ -1,9 +1,9 @@
-//! The properties of a campaign, or of a run that is shrunk.
+//! The properties of a campaign, of an exploration, or of a run that is shrunk.
 
 ghost use Rattle.std.specs.Prelude.{◌-◌, ◌<◌, ◌^◌};
 
 use byte_io::{ReadFault, Source, Status, read_all};
-use cli_orders::{CampaignOrder, ShrinkOrder};
+use cli_orders::{CampaignOrder, ExploreOrder, ShrinkOrder};
 use cli_report::{Audience, RunFiles, say_why};
 use cmd_campaign::Properties;
 use elf_read::symbols;
@@ -25,6 +25,14 @@ impl<'a> PropertyTexts<'a> {
     pub(crate) fn of_campaign(order: &CampaignOrder<'a>) -> PropertyTexts<'a> {
         PropertyTexts {
             never_both: order.never_both,
+            always: order.always,
+        }
+    }
+
+    /// That of an exploration.
+    pub(crate) fn of_explore(order: &ExploreOrder<'a>) -> PropertyTexts<'a> {
+        PropertyTexts {
+            never_both: None,
             always: order.always,
         }
     }

@@ -3,8 +3,8 @@
 use clap::ArgMatches;
 use cli_args::{is_set, text_of};
 
-/// `explore FILE --inputs L [--rule K] [--refusals never] [--worlds N] [--must-exit] [--bounds]
-/// [--json]`: decides whether some schedule fails.
+/// `explore FILE --inputs L [--rule K] [--refusals never] [--worlds N] [--must-exit] [--always P]
+/// [--bounds] [--json]`: decides whether some schedule fails.
 #[derive(Drop)]
 pub struct ExploreOrder<'a> {
     /// The program's path.
@@ -19,6 +19,8 @@ pub struct ExploreOrder<'a> {
     pub worlds: Option<&'a str>,
     /// Whether each world must have a way out.
     pub must_exit: bool,
+    /// What a word must be at the start and after each choice.
+    pub always: Option<&'a str>,
     /// Whether the bounds on harts' own steps are printed.
     pub bounds: bool,
     /// Whether an object of JSON is printed in place of lines.
@@ -34,6 +36,7 @@ pub(crate) fn explore_order<'a>(matches: &ArgMatches<'a>) -> Option<ExploreOrder
         refusals: text_of(matches, "refusals"),
         worlds: text_of(matches, "worlds"),
         must_exit: is_set(matches, "must-exit"),
+        always: text_of(matches, "always"),
         bounds: is_set(matches, "bounds"),
         json: is_set(matches, "json"),
     })

@@ -1,7 +1,8 @@
 -- The choice text of a failing list.
-use Rattle.std.proofs.Common.{◌≡◌, ℕ, zero, suc, ◌<◌, ◌^◌, ◌⊎◌, List, [], ◌∷◌, ◌++◌, length, codes, Ok, ap, sym, ◌∙◌, arith, inl, inr}
+use Rattle.std.proofs.Common.{◌≡◌, ℕ, zero, suc, ◌<◌, ◌^◌, ◌⊎◌, List, [], ◌∷◌, ◌++◌, length, codes, None, Ok, ap, sym, ◌∙◌, arith, inl, inr}
 use Rattle.std.specs.List.{All, Contains, slice_index_or}
 use Rattle.image.specs.Image.{ImageValue}
+use Rattle.machine.specs.Start.{started}
 use Rattle.machine.specs.declared.choice.Choice.{Choice}
 use Rattle.sched_text.specs.Printing.{runs_text}
 use Rattle.sched_text.specs.Reading.{choices_read}
@@ -10,16 +11,20 @@ use Rattle.sched_text.proofs.PrintLemmas.{runs_spell}
 use Rattle.byte_io.specs.declared.status.Status.TheVariants as status
 use Rattle.outcome.specs.declared.expect.Exit.{Exit}
 use Rattle.outcome.specs.declared.expect.Exit.TheVariants.{May, Must}
-use Rattle.explore_space.specs.Every.{hart_choices, meant_choices, HoldsOfEvery, IsListOf, TellsExits}
-use Rattle.explore_space.specs.declared.exploring.Answer.TheVariants.{Fails, Hangs}
+use Rattle.explore_space.specs.Bounds.{TellsBounds}
+use Rattle.explore_space.specs.Ends.{ends_in}
+use Rattle.explore_space.specs.Every.{hart_choices, meant_choices, CountsPlaces, HoldsOfEvery, IsListOf, TellsEnds, TellsExits}
+use Rattle.explore_space.specs.declared.exploring.Answer.TheVariants.{Holds, Fails, Hangs}
 use Rattle.explore_space.specs.declared.exploring.Failing.{Failing}
+use Rattle.explore_space.specs.declared.exploring.Held.{Held}
 use Rattle.explore_space.specs.declared.meant.ScRefusals.{ScRefusals}
 use Rattle.explore_space.specs.declared.meant.ScRefusals.TheVariants.{Also, Never}
 use Rattle.explore_space.specs.declared.question.Question.{Question}
 use Rattle.cmd_explore.specs.declared.finding.Explored.{Explored}
 use Rattle.cmd_explore.specs.declared.finding.Finding.TheVariants as finding
 use Rattle.cmd_json.specs.declared.form.Form.{Form}
-use Rattle.cmd_explore.specs.Explore.{failing_status, list_shown, IsExplored}
+use Rattle.cmd_explore.specs.Explore.{failing_status, list_shown, word_broken, IsExplored, TellsHeld}
+use Rattle.cmd_explore.proofs.KeepLemmas.{keeps_all, keeps_before}
 
 -- ---- the harts of meant choices
 shifted : (c x : Choice) (xs ys : List Choice) → Contains xs x ⊎ Contains ys x → Contains (c ∷ xs) x ⊎ Contains ys x
@@ -49,7 +54,7 @@ hart_below refusals (suc n) c there =
     by_either below (inl earlier) = let low = below earlier in omega (arith, low)
     by_either below (inr last) = let is = of_the_hart refusals n c last in omega (arith, is)
 
-harts_below : (refusals : ScRefusals) (n : ℕ) (choices : List Choice) → IsListOf (meant_choices refusals n) choices
+pub harts_below : (refusals : ScRefusals) (n : ℕ) (choices : List Choice) → IsListOf (meant_choices refusals n) choices
     → All (λ c. c.hart < n) choices
 harts_below refusals n choices are k d lt = hart_below refusals n (slice_index_or choices k d) (are k d lt)
 
@@ -66,14 +71,34 @@ hanging_meant May refusals image inputs hanging none = absurd none
 hanging_meant Must refusals image inputs hanging hangs = hangs.meant_ones
 
 module _ {Z : Type 0} (form : Form) (question : Question) (image : ImageValue) (inputs : List ℕ) (found : Explored Z) where
+  pub tells_holding : (held : Held Z) → HoldsOfEvery {Z = Z} question.expect.rule question.always question.refusals image inputs (Holds held)
+      → CountsPlaces {Z = Z} question.refusals image inputs question.most (Holds held)
+      → TellsEnds {Z = Z} question.expect.rule question.refusals image inputs (Holds held)
+      → TellsExits {Z = Z} question.expect.exit question.refusals image inputs (Holds held)
+      → TellsBounds {Z = Z} question.bounds question.refusals image inputs (Holds held)
+      → TellsHeld form question.expect.exit held.places (ends_in held.ends) held.bounds.items found.text.items
+      → found.status ≡ status.Done → found.broken ≡ None → found.finding ≡ finding.Holds → IsExplored form question image inputs found
+  tells_holding held holds counts ends exits bounds text status broken finding_is = record {
+    answer = Holds held;
+    holds = holds;
+    keeps = keeps_all question.expect.rule question.always (meant_choices question.refusals (length inputs)) image inputs holds;
+    counts = counts;
+    ends = ends;
+    exits = exits;
+    bounds = bounds;
+    told = (text, status, broken, finding_is);
+  }
+
   pub tells_failing : length inputs < 2 ^ 32 → (failing : Failing Z)
-      → HoldsOfEvery {Z = Z} question.expect.rule question.refusals image inputs (Fails failing)
+      → HoldsOfEvery {Z = Z} question.expect.rule question.always question.refusals image inputs (Fails failing)
       → TellsExits {Z = Z} question.expect.exit question.refusals image inputs (Fails failing)
-      → found.text.items ≡ list_shown form (codes "fails") failing.turns failing.choices.items → found.status ≡ failing_status question.expect.rule
+      → found.text.items ≡ list_shown form (codes "fails") failing.turns failing.choices.items → found.status ≡ failing_status question.expect.rule found.broken
+      → found.broken ≡ word_broken question.always (started image inputs) failing.choices.items
       → found.finding ≡ finding.Fails failing.turns → IsExplored form question image inputs found
-  tells_failing few failing fails exits text status finding_is = record {
+  tells_failing few failing fails exits text status broken finding_is = record {
     answer = Fails failing;
     holds = fails;
+    keeps = keeps_before question.expect.rule question.always (meant_choices question.refusals (length inputs)) image inputs failing.turns fails.shortest;
     counts = tt;
     ends = tt;
     exits = exits;
@@ -82,18 +107,20 @@ module _ {Z : Type 0} (form : Form) (question : Question) (image : ImageValue) (
       text,
       read_again question.refusals (length inputs) failing.choices.items few fails.meant_ones,
       status,
+      broken,
       finding_is,
     );
   }
 
   pub tells_hanging : length inputs < 2 ^ 32 → (hanging : Failing Z)
-      → HoldsOfEvery {Z = Z} question.expect.rule question.refusals image inputs (Hangs hanging)
+      → HoldsOfEvery {Z = Z} question.expect.rule question.always question.refusals image inputs (Hangs hanging)
       → TellsExits {Z = Z} question.expect.exit question.refusals image inputs (Hangs hanging)
       → found.text.items ≡ list_shown form (codes "hangs") hanging.turns hanging.choices.items → found.status ≡ status.Faulted
-      → found.finding ≡ finding.Hangs hanging.turns → IsExplored form question image inputs found
-  tells_hanging few hanging holds exits text status finding_is = record {
+      → found.broken ≡ None → found.finding ≡ finding.Hangs hanging.turns → IsExplored form question image inputs found
+  tells_hanging few hanging holds exits text status broken finding_is = record {
     answer = Hangs hanging;
     holds = holds;
+    keeps = keeps_all question.expect.rule question.always (meant_choices question.refusals (length inputs)) image inputs holds;
     counts = tt;
     ends = tt;
     exits = exits;
@@ -103,6 +130,7 @@ module _ {Z : Type 0} (form : Form) (question : Question) (image : ImageValue) (
       read_again question.refusals (length inputs) hanging.choices.items few
           (hanging_meant question.expect.exit question.refusals image inputs hanging exits),
       status,
+      broken,
       finding_is,
     );
   }

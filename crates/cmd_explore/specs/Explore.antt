@@ -1,10 +1,14 @@
 -- What `explore` answers.
-use Rattle.std.specs.Prelude.{◌≡◌, ℕ, ◌++◌, List, codes, length, Option, Some, None}
+use Rattle.std.specs.Prelude.{◌≡◌, ℕ, ◌<◌, ◌++◌, List, codes, length, Option, Some, None}
 use Rattle.std.specs.Fmt.{decimal}
 use Rattle.std.specs.declared.result.Result.{Result}
 use Rattle.std.specs.declared.result.Result.TheVariants.{Ok, Err}
 use Rattle.image.specs.Image.{ImageValue}
+use Rattle.machine.specs.Start.{started}
+use Rattle.machine.specs.World.{World}
 use Rattle.object_library.specs.declared.kind.Kind.{Kind}
+use Rattle.property_judge.specs.Broken.{first_broken}
+use Rattle.property_judge.specs.declared.property.Property.TheVariants as property
 use Rattle.sched_text.specs.Printing.{runs_text}
 use Rattle.sched_text.specs.Reading.{choices_read}
 use Rattle.byte_io.specs.declared.status.Status.{Status}
@@ -16,7 +20,7 @@ use Rattle.outcome.specs.declared.expect.Exit.TheVariants.{May, Must}
 use Rattle.explore_bounds.specs.declared.bound.Bound.{Bound}
 use Rattle.explore_space.specs.Bounds.{TellsBounds}
 use Rattle.explore_space.specs.Ends.{EndValue, ends_in}
-use Rattle.explore_space.specs.Every.{CountsPlaces, HoldsOfEvery, TellsEnds, TellsExits}
+use Rattle.explore_space.specs.Every.{CountsPlaces, HoldsOfEvery, IsListOf, TellsEnds, TellsExits, meant_choices}
 use Rattle.explore_space.specs.declared.exploring.Answer.{Answer}
 use Rattle.explore_space.specs.declared.exploring.Answer.TheVariants.{Holds, Fails, Hangs, Undecided}
 use Rattle.cmd_explore.specs.BoundLines.{bound_lines}
@@ -25,6 +29,8 @@ use Rattle.cmd_explore.specs.Objects.{held_object, list_object}
 use Rattle.cmd_json.specs.declared.form.Form.{Form}
 use Rattle.cmd_json.specs.declared.form.Form.TheVariants.{Text, Json}
 use Rattle.machine.specs.declared.choice.Choice.{Choice}
+use Rattle.explore_space.specs.declared.meant.ScRefusals.{ScRefusals}
+use Rattle.explore_space.specs.declared.question.Always.{Always}
 use Rattle.explore_space.specs.declared.question.Question.{Question}
 use Rattle.cmd_explore.specs.declared.finding.Finding.TheVariants as finding
 use Rattle.cmd_explore.specs.declared.finding.Explored.{Explored}
@@ -47,36 +53,67 @@ abbrev pub list_shown : Form → List ℕ → ℕ → List Choice → List ℕ
 list_shown Text answer turns choices = runs_text choices
 list_shown Json answer turns choices = list_object answer turns choices
 
--- the status of a failing run: under a rule it is broken, without one a hart has faulted
-abbrev pub failing_status : Option Kind → Status
-failing_status None = status.Faulted
-failing_status (Some kind) = status.Broken
+-- after how many choices of a list a word first isn't what it must be, 0 at the start, if that is
+-- asked; `None` if it always is
+abbrev pub word_broken : Option Always → World → List Choice → Option ℕ
+word_broken None w choices = None
+word_broken (Some always) w choices =
+    first_broken (property.Always always.word always.comparison always.number) w choices
 
--- an answer about every schedule of harts is told by a text, a status and a finding with a number
--- of turns: by the lines, or by a choice text that reads as the list; or by an object
-abbrev pub TellsEvery : {Z : Type 0} → Form → Option Kind → Exit → ℕ → Answer Z → Explored Z → Type 0
-TellsEvery form rule exit harts (Holds held) found =
+-- no list of these choices, or none with fewer than so many, breaks what a word must be: it is so at
+-- the start and after each choice
+abbrev pub KeepsWord : Option Always → List Choice → World → Type 0
+KeepsWord always meant w = (choices : List Choice) → IsListOf meant choices → word_broken always w choices ≡ None
+
+abbrev pub KeepsWordBefore : Option Always → List Choice → World → ℕ → Type 0
+KeepsWordBefore always meant w count =
+    (choices : List Choice) → IsListOf meant choices → length choices < count → word_broken always w choices ≡ None
+
+-- where no list fails, none breaks what a word must be; where one does, none of fewer choices than it
+-- has turns breaks it
+abbrev pub KeepsAlways : {Z : Type 0} → Option Always → ScRefusals → ImageValue → List ℕ → Answer Z → Type 0
+KeepsAlways always refusals image inputs (Holds held) =
+    KeepsWord always (meant_choices refusals (length inputs)) (started image inputs)
+KeepsAlways always refusals image inputs (Fails failing) =
+    KeepsWordBefore always (meant_choices refusals (length inputs)) (started image inputs) failing.turns
+KeepsAlways always refusals image inputs (Hangs hanging) =
+    KeepsWord always (meant_choices refusals (length inputs)) (started image inputs)
+KeepsAlways always refusals image inputs Undecided = Unit {0}
+
+-- the status of a failing run: what a word must be is broken after so many choices; or else under a
+-- rule that is broken, and without one a hart has faulted
+abbrev pub failing_status : Option Kind → Option ℕ → Status
+failing_status rule (Some choices) = status.Broken
+failing_status None None = status.Faulted
+failing_status (Some kind) None = status.Broken
+
+-- an answer about every schedule of harts from a world is told by a text, a status and a finding
+-- with a number of turns: by the lines, or by a choice text that reads as the list; or by an object
+abbrev pub TellsEvery : {Z : Type 0} → Form → Option Kind → Option Always → Exit → World → ℕ → Answer Z → Explored Z → Type 0
+TellsEvery form rule always exit w harts (Holds held) found =
     TellsHeld form exit held.places (ends_in held.ends) held.bounds.items found.text.items
-    × (found.status ≡ status.Done) × (found.finding ≡ finding.Holds)
-TellsEvery form rule exit harts (Fails failing) found =
+    × (found.status ≡ status.Done) × (found.broken ≡ None) × (found.finding ≡ finding.Holds)
+TellsEvery form rule always exit w harts (Fails failing) found =
     (found.text.items ≡ list_shown form (codes "fails") failing.turns failing.choices.items)
     × (choices_read harts (runs_text failing.choices.items) ≡ Ok failing.choices.items)
-    × (found.status ≡ failing_status rule) × (found.finding ≡ finding.Fails failing.turns)
-TellsEvery form rule exit harts (Hangs hanging) found =
+    × (found.status ≡ failing_status rule found.broken) × (found.broken ≡ word_broken always w failing.choices.items)
+    × (found.finding ≡ finding.Fails failing.turns)
+TellsEvery form rule always exit w harts (Hangs hanging) found =
     (found.text.items ≡ list_shown form (codes "hangs") hanging.turns hanging.choices.items)
     × (choices_read harts (runs_text hanging.choices.items) ≡ Ok hanging.choices.items)
-    × (found.status ≡ status.Faulted) × (found.finding ≡ finding.Hangs hanging.turns)
-TellsEvery form rule exit harts Undecided found = ⊥
+    × (found.status ≡ status.Faulted) × (found.broken ≡ None) × (found.finding ≡ finding.Hangs hanging.turns)
+TellsEvery form rule always exit w harts Undecided found = ⊥
 
 -- what is found tells an answer that holds of every schedule of an image
 pub record IsExplored {Z : Type 0} (form : Form) (question : Question) (image : ImageValue) (inputs : List ℕ) (found : Explored Z) : Type 0 where
   pub answer : Answer Z
-  pub holds : HoldsOfEvery question.expect.rule question.refusals image inputs answer
+  pub holds : HoldsOfEvery question.expect.rule question.always question.refusals image inputs answer
+  pub keeps : KeepsAlways question.always question.refusals image inputs answer
   pub counts : CountsPlaces question.refusals image inputs question.most answer
   pub ends : TellsEnds question.expect.rule question.refusals image inputs answer
   pub exits : TellsExits question.expect.exit question.refusals image inputs answer
   pub bounds : TellsBounds question.bounds question.refusals image inputs answer
-  pub told : TellsEvery form question.expect.rule question.expect.exit (length inputs) answer found
+  pub told : TellsEvery form question.expect.rule question.always question.expect.exit (started image inputs) (length inputs) answer found
 
 -- the same of an image that may have been opened
 abbrev pub ExploresOpened : {Z : Type 0} → Form → Question → List ℕ → Result ImageValue CommandFault → Explored Z → Type 0

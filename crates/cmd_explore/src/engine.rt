@@ -1,31 +1,60 @@
 //! `explore`: from a program and inputs to whether some schedule of it fails or hangs.
 
-ghost use Rattle.std.specs.Prelude.{◌≡◌, ◌-◌, ◌^◌, ◌<◌, None, Ok, IfErr, IfOk, IfSome, length};
-ghost use Rattle.machine.specs.Start.{IsStartable};
+ghost use Rattle.std.specs.Prelude.{◌≡◌, ◌-◌, ◌^◌, ◌<◌, None, Ok, IfErr, IfOk, IfSome, codes, length};
+ghost use Rattle.std.specs.List.{All};
+ghost use Rattle.machine.specs.Start.{IsStartable, started};
 ghost use Rattle.program_open.specs.CommandFaults.{IfNames, IsRefusal};
 ghost use Rattle.program_open.specs.Opening.{program_opening};
-ghost use Rattle.cmd_explore.specs.Explore.{failing_status, ExploresOpened, HasTooMany, IsExplored, RefusesOpened};
+ghost use Rattle.cmd_explore.specs.Explore.{failing_status, list_shown, word_broken, ExploresOpened, HasTooMany, IsExplored, RefusesOpened};
 
 use crate::finding::{Explored, Finding};
 use crate::holding::holding_text;
 use crate::listed::list_text;
+use crate::word_breaks::word_broken;
 use byte_io::{Progress, Source, Status};
 use cmd_json::Form;
-use explore_space::{Answer, Question, explore};
+use explore_space::{Answer, Failing, Question, explore};
 use image::Image;
 use machine::Inputs;
 use object_library::Kind;
 use program_open::{CommandFault, ProgramForm, open_program};
 use std::alloc::{AllocError, Allocator};
 
-// The status of a failing run.
-fn failing_status(rule: Option<Kind>) -> Status
-    ensures { result ≡ failing_status rule }
+// The status of a failing run, which breaks what a word must be after so many choices, if it does.
+fn failing_status(rule: Option<Kind>, broken: Option<usize>) -> Status
+    ensures { result ≡ failing_status rule broken }
 {
-    match rule {
-        None => Status::Faulted,
-        Some(_) => Status::Broken,
+    match (rule, broken) {
+        (_, Some(_)) | (Some(_), None) => Status::Broken,
+        (None, None) => Status::Faulted,
     }
+}
+
+// The answer where a list fails.
+fn failing_found<A: Allocator + Copy>(
+    alloc: A,
+    image: &Image<A>,
+    inputs: &Inputs,
+    form: Form,
+    question: Question,
+    failing: &Failing<A>,
+) -> Result<Explored<A>, AllocError>
+    requires { All (λ c. c.hart < length inputs.now) failing.now.choices.items }
+    ensures text { IfOk result (λ found. found.text.items
+        ≡ list_shown form (codes "fails") failing.now.turns failing.now.choices.items) }
+    ensures status { IfOk result (λ found. found.status
+        ≡ failing_status question.expect.rule found.broken) }
+    ensures broken { IfOk result (λ found. found.broken
+        ≡ word_broken question.always (started image.now inputs.now) failing.now.choices.items) }
+    ensures finding { IfOk result (λ found. found.finding ≡ Finding.Fails failing.now.turns) }
+{
+    let broken = word_broken(alloc, image, inputs, question.always, &failing.choices)?;
+    Ok(Explored {
+        text: list_text(alloc, form, "fails", failing)?,
+        status: failing_status(question.expect.rule, broken),
+        broken,
+        finding: Finding::Fails(failing.turns),
+    })
 }
 
 // The answer for an image; `None` if there are too many worlds.
@@ -46,16 +75,16 @@ fn explored<A: Allocator + Copy>(
         Answer::Holds(held) => Ok(Some(Explored {
             text: holding_text(alloc, form, expect.exit, &held)?,
             status: Status::Done,
+            broken: None,
             finding: Finding::Holds,
         })),
-        Answer::Fails(failing) => Ok(Some(Explored {
-            text: list_text(alloc, form, "fails", &failing)?,
-            status: failing_status(expect.rule),
-            finding: Finding::Fails(failing.turns),
-        })),
+        Answer::Fails(failing) => Ok(Some(failing_found(
+            alloc, image, inputs, form, question, &failing,
+        )?)),
         Answer::Hangs(hanging) => Ok(Some(Explored {
             text: list_text(alloc, form, "hangs", &hanging)?,
             status: Status::Faulted,
+            broken: None,
             finding: Finding::Hangs(hanging.turns),
         })),
         Answer::Undecided => Ok(None),

@@ -3,7 +3,7 @@
 
 pub use cmd_json::Form;
 pub use engine::explore_engine;
-pub use explore_space::{OwnBounds, Question};
+pub use explore_space::{Always, OwnBounds, Question};
 pub use finding::{Explored, Finding};
 pub use objects::undecided_object;
 pub use refusals::read_refusals;
@@ -17,3 +17,4 @@ mod listed;
 mod object_lists;
 mod objects;
 mod refusals;
+mod word_breaks;

@@ -1,12 +1,18 @@
 //! Words read and written.
 ghost use Rattle.std.specs.Prelude.{◌≡◌, ◌≢◌, ◌<◌, ◌%◌, ℕ, IfSome, IfNone, OnOk, Some, length, slice_get};
+ghost use Rattle.image.specs.Image.{span_of};
+ghost use Rattle.image.specs.Spans.{has_address};
+ghost use Rattle.mem_store.specs.Image.{image_memory, segments_memory};
+ghost use Rattle.mem_store.specs.Memory.{Memory, to_load, grants, granted, number_at};
 ghost use Rattle.bank_laws.specs.Banks.{WordBytes, with_word_bytes};
+ghost use Rattle.bank_laws.specs.Words.{bytes_at};
+ghost use Rattle.property_judge.specs.Property.{word_read};
 ghost use Rattle.explore_sites.specs.Cells.{values_over, words_shown};
 ghost use Rattle.explore_sites.specs.declared.cell.Cell.{Cell as CellValue};
 
 use crate::cell::Cell;
 use bank_step::bytes_at;
-use image::Image;
+use image::{Image, Rights, Segment};
 use std::alloc::{AllocError, Allocator};
 
 // The first cell at an address.
@@ -34,6 +40,62 @@ pub fn word_at<A: Allocator>(image: &Image<A>, cells: &[Cell], address: u32) -> 
         Some(at) => cells[at].bytes,
         None => bytes_at(image.segments(), address),
     }
+}
+
+// Whether a segment has an address.
+fn has_address<A: Allocator>(segment: &Segment<A>, address: u64) -> bool
+    ensures { result ≡ has_address address (span_of segment.now) }
+{
+    u64::from(segment.base) <= address
+        && address < u64::from(segment.base) + u64::from(segment.size)
+}
+
+// Whether a byte may be loaded.
+#[tactic(auto, unfolding(mem_store::specs::Image::segments_memory))]
+fn is_loadable<A: Allocator>(segments: &[Segment<A>], address: u64) -> bool
+    ensures { result ≡ grants to_load ((segments_memory segments.now).rights address) }
+{
+    'segments: for segment in segments {
+        if has_address(segment, address) {
+            return segment.rights.grants(Rights::ANY);
+        }
+    }
+    false
+}
+
+// Whether each of the four bytes from an address on may be loaded.
+fn is_word_loadable<A: Allocator>(image: &Image<A>, address: u32) -> bool
+    ensures { result ≡ granted to_load (image_memory image.now) 4 address }
+{
+    let segments = image.segments();
+    let first = u64::from(address);
+    is_loadable(segments, first)
+        && is_loadable(segments, first + 1)
+        && is_loadable(segments, first + 2)
+        && is_loadable(segments, first + 3)
+}
+
+// The number that four bytes spell.
+fn number_of(bytes: [u8; 4]) -> u32
+    ensures { (values : ℕ → ℕ) (x : ℕ) → bytes ≡ bytes_at values x → result ≡ number_at values 4 x }
+{
+    u32::from_le_bytes(bytes)
+}
+
+/// The word that a load of an address reads, in a memory with the image's rights that shows these
+/// words; 0 where the load faults.
+pub fn word_read<A: Allocator>(image: &Image<A>, cells: &[Cell], address: u32) -> u32
+    ensures { (m : Memory) → m.rights ≡ (image_memory image.now).rights
+        → ((x : ℕ) → x % 4 ≡ 0 → words_shown image.now cells.now x ≡ bytes_at m.bytes x)
+        → result ≡ word_read m address }
+{
+    if address % 4 != 0 {
+        return 0;
+    }
+    if !is_word_loadable(image, address) {
+        return 0;
+    }
+    number_of(word_at(image, cells, address))
 }
 
 /// Gives a word new bytes.

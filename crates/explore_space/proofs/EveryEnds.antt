@@ -24,14 +24,16 @@ use Rattle.explore_search.specs.Counted.{IsLedTo}
 use Rattle.explore_space.specs.Begun.{begun_choices, settled_start}
 use Rattle.explore_space.specs.Ends.{EndValue, end_with, AreEndsAt, FitsHarts}
 use Rattle.explore_space.specs.Every.{meant_choices, IsListOf, StopsAll, run_end, AreAllEnds}
-use Rattle.explore_space.specs.Failing.{one_each, fails_there}
+use Rattle.explore_space.specs.Failing.{breaks_word, one_each, fails_there}
 use Rattle.explore_space.specs.Places.{hart_numbered, place_of_key, IsKey}
 use Rattle.explore_space.specs.declared.meant.ScRefusals.{ScRefusals}
+use Rattle.explore_space.specs.declared.question.Always.{Always}
 use Rattle.explore_space.specs.declared.shared.Shared.{Shared}
 use Rattle.explore_space.proofs.BegunLemmas.{begun_count, run_of_begun}
 use Rattle.explore_space.proofs.EveryLemmas.{good_run, safe_is_safe, start_meant}
 use Rattle.explore_space.proofs.StartLemmas.{HasStart, run_has_start}
 use Rattle.explore_space.proofs.StopLemmas.{same_harts, same_outcomes}
+use Rattle.explore_space.proofs.WordBreaks.{fails_not}
 
 contains_at : {X : Type 0} (xs : List X) (k : ℕ) (x : X) → slice_get xs k ≡ Some x → Contains xs x
 contains_at xs k x e = (k, slice_get_within xs k x e, get_or_from_slice_get xs k x x e)
@@ -40,7 +42,7 @@ contains_at xs k x e = (k, slice_get_within xs k x e, get_or_from_slice_get xs k
 abbrev end_there : Option Kind → List ℕ → Place → EndValue
 end_there rule inputs p = end_with (judged rule inputs (one_each (length inputs) p.chosen) p.world.harts) p.world.harts
 
-module _ (rule : Option Kind) (refusals : ScRefusals) (image : ImageValue) (inputs : List ℕ) where
+module _ (rule : Option Kind) (always : Option Always) (refusals : ScRefusals) (image : ImageValue) (inputs : List ℕ) where
   abbrev meant : List Choice
   meant = meant_choices refusals (length inputs)
 
@@ -58,7 +60,7 @@ module _ (rule : Option Kind) (refusals : ScRefusals) (image : ImageValue) (inpu
       → (reached found.turns).world.harts ≡ (run start choices).harts
   same_place choices found stops = same_harts (reached found.turns).world (run start choices) found.place.covers stops
 
-  same_end : (choices : List Choice) (found : HasStart meant start choices) → IsSafe meant (place_begun first) (fails_there rule inputs)
+  same_end : (choices : List Choice) (found : HasStart meant start choices) → IsSafe meant (place_begun first) (fails_there rule always inputs)
       → StopsAll image inputs choices → end_there rule inputs (reached found.turns) ≡ run_end rule image inputs choices
   same_end choices found safe stops =
       let p = reached found.turns in
@@ -66,10 +68,12 @@ module _ (rule : Option Kind) (refusals : ScRefusals) (image : ImageValue) (inpu
       let hs = (run start choices).harts in
       let same = same_place choices found stops in
       let good = safe found.turns found.are_meant in
+      let both = fails_not (breaks_word always p.world) (fails May (judged rule inputs each p.world.harts)) good in
+      let run_good = good_run rule always refusals image inputs choices found good in
       let outcome : judged rule inputs each p.world.harts ≡ judged rule inputs choices hs
       = ap (judged rule inputs each) same ∙ same_outcomes rule inputs each choices hs
-      (subst (λ (xs : List HartValue). fails May (judged rule inputs each xs) ≡ false) same good)
-      (good_run rule refusals image inputs choices found good) in
+      (subst (λ (xs : List HartValue). fails May (judged rule inputs each xs) ≡ false) same both.1)
+      (fails_not (breaks_word always (run start choices)) (fails May (judged rule inputs choices hs)) run_good).1 in
       ap (λ o. end_with o p.world.harts) outcome ∙ ap (end_with (judged rule inputs choices hs)) same
 
   -- the first local steps of all harts, and turns
@@ -83,14 +87,17 @@ module _ (rule : Option Kind) (refusals : ScRefusals) (image : ImageValue) (inpu
       ∙ run_of_turns first turns
 
   -- the run of these choices ends as the place does
-  turns_end : (turns : List Choice) → IsListOf meant turns → IsSafe meant (place_begun first) (fails_there rule inputs)
+  turns_end : (turns : List Choice) → IsListOf meant turns → IsSafe meant (place_begun first) (fails_there rule always inputs)
       → end_there rule inputs (reached turns) ≡ run_end rule image inputs (list_of turns)
   turns_end turns all safe =
       let p = reached turns in
       let list = list_of turns in
-      let good = safe_is_safe rule refusals image inputs safe list (start_meant refusals image inputs (λ k. true) turns all) in
-      ap (λ o. end_with o p.world.harts) (same_outcomes rule inputs (one_each (length inputs) p.chosen) list p.world.harts (safe turns all)
-      (subst (λ (x : World). fails May (judged rule inputs list x.harts) ≡ false) (leads_there turns) good))
+      let good = safe_is_safe rule always refusals image inputs safe list (start_meant refusals image inputs (λ k. true) turns all) in
+      let each = one_each (length inputs) p.chosen in
+      let there = fails_not (breaks_word always p.world) (fails May (judged rule inputs each p.world.harts)) (safe turns all) in
+      let here = fails_not (breaks_word always (run start list)) (fails May (judged rule inputs list (run start list).harts)) good in
+      ap (λ o. end_with o p.world.harts) (same_outcomes rule inputs each list p.world.harts there.1
+      (subst (λ (x : World). fails May (judged rule inputs list x.harts) ≡ false) (leads_there turns) here.1))
       ∙ ap (λ (x : World). end_with (judged rule inputs list x.harts) x.harts) (sym (leads_there turns))
 
   -- keys of a search, over parts that are known
@@ -116,7 +123,7 @@ module _ (rule : Option Kind) (refusals : ScRefusals) (image : ImageValue) (inpu
     pub all_fit : (n : ℕ) → Reached n → All (FitsHarts (length inputs) (length harts)) keys
     all_fit n r = keys_fit (subst Reached (count_is n r) r)
 
-    ends_all : (ends : List EndValue) → Reached (length inputs) → IsSafe meant (place_begun first) (fails_there rule inputs)
+    ends_all : (ends : List EndValue) → Reached (length inputs) → IsSafe meant (place_begun first) (fails_there rule always inputs)
         → AreEndsAt rule inputs harts keys ends → AreAllEnds rule refusals image inputs ends
     ends_all ends r safe at = record {
       all = λ choices all stops.
@@ -140,6 +147,6 @@ module _ (rule : Option Kind) (refusals : ScRefusals) (image : ImageValue) (inpu
       once = at.once;
     }
 
-    pub ends_are_all : (n : ℕ) (ends : List EndValue) → Reached n → IsSafe meant (place_begun first) (fails_there rule inputs)
+    pub ends_are_all : (n : ℕ) (ends : List EndValue) → Reached n → IsSafe meant (place_begun first) (fails_there rule always inputs)
         → AreEndsAt rule inputs harts keys ends → AreAllEnds rule refusals image inputs ends
     ends_are_all n ends r safe at = ends_all ends (subst Reached (count_is n r) r) safe at

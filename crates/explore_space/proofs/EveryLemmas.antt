@@ -1,5 +1,5 @@
 -- From places to runs.
-use Rattle.std.proofs.Common.{◌≡◌, ℕ, zero, suc, ◌<◌, ◌≤◌, Bool, false, List, [], ◌∷◌, ◌++◌, length, Option, Some, None, refl, ap, sym, ◌∙◌, subst, arith, inl, inr}
+use Rattle.std.proofs.Common.{◌≡◌, ℕ, zero, suc, ◌<◌, ◌≤◌, Bool, true, false, ◌||◌, List, [], ◌∷◌, ◌++◌, length, Option, Some, None, refl, ap, sym, ◌∙◌, subst, arith, inl, inr}
 use Rattle.std.proofs.lemmas.Bool.{cases_lt, ne_eqb}
 use Rattle.std.proofs.lemmas.List.Elements.{All-head, All-tail, All-append, All-cons, Contains-append_cases, Contains-append_left, Contains-append_right}
 use Rattle.std.specs.List.{Contains, slice_get, slice_index_or}
@@ -25,11 +25,13 @@ use Rattle.explore_search.specs.Answers.{LeadsToBad}
 use Rattle.explore_search.specs.declared.searching.Found.{Found}
 use Rattle.explore_space.specs.Begun.{begun_choices, choices_from_start, settled_start, world_begun}
 use Rattle.explore_space.specs.Every.{hart_choices, meant_choices, IsListOf, run_fails, FailsFirst}
-use Rattle.explore_space.specs.Failing.{one_each, fails_there}
+use Rattle.explore_space.specs.Failing.{breaks_word, one_each, fails_there}
 use Rattle.explore_space.specs.declared.meant.ScRefusals.{ScRefusals}
 use Rattle.explore_space.specs.declared.meant.ScRefusals.TheVariants.{Also, Never}
+use Rattle.explore_space.specs.declared.question.Always.{Always}
 use Rattle.explore_space.proofs.MarkLemmas.{chosen_below, chosen_past}
 use Rattle.explore_space.proofs.PassLemmas.{covered_stops, passes}
+use Rattle.explore_space.proofs.WordBreaks.{fails_neither, fails_not, same_break}
 use Rattle.explore_space.proofs.BegunLemmas.{start_chosen}
 use Rattle.explore_space.proofs.AheadLemmas.{all_run, fails_ahead, start_ahead}
 use Rattle.explore_space.proofs.StartLemmas.{HasStart, begun_meant, run_has_start}
@@ -108,29 +110,38 @@ same_judgement None inputs a b harts same = refl
 same_judgement (Some kind) inputs a b harts same = ap (λ v. outcome_of (Some v) harts) (same_verdict kind inputs a b harts same)
 
 -- where turns lead, their own run has failed exactly where the place has
-fails_alike : (rule : Option Kind) (refusals : ScRefusals) (image : ImageValue) (inputs : List ℕ) (turns : List Choice)
+fails_alike : (rule : Option Kind) (always : Option Always) (refusals : ScRefusals) (image : ImageValue) (inputs : List ℕ) (turns : List Choice)
     → IsListOf (meant_choices refusals (length inputs)) turns
-    → fails_there rule inputs (place_reached (place_begun (settled_start (started image inputs))) turns)
-    ≡ run_fails rule image inputs (choices_from_start (started image inputs) turns)
-fails_alike rule refusals image inputs turns all =
+    → fails_there rule always inputs (place_reached (place_begun (settled_start (started image inputs))) turns)
+    ≡ run_fails rule always image inputs (choices_from_start (started image inputs) turns)
+fails_alike rule always refusals image inputs turns all =
     let w = started image inputs in
     let p = place_reached (place_begun (settled_start w)) turns in
-    fails_ahead rule inputs (is_chosen turns) p.world (run w (choices_from_start w turns)) (one_each (length inputs) p.chosen)
-    (choices_from_start w turns) (start_ahead w turns (all_run image inputs))
-    (λ k. alike refusals (length inputs) (settled_start w) turns all k ∙ sym (start_chosen w turns k))
+    let list = choices_from_start w turns in
+    let each = one_each (length inputs) p.chosen in
+    let ahead = start_ahead w turns (all_run image inputs) in
+    ap (λ (b : Bool). b || fails May (judged rule inputs each p.world.harts))
+    (same_break always p.world (run w list) ahead.covers.memory)
+    ∙ ap (λ (b : Bool). breaks_word always (run w list) || b)
+    (fails_ahead rule inputs (is_chosen turns) p.world (run w list) each list ahead
+    (λ k. alike refusals (length inputs) (settled_start w) turns all k ∙ sym (start_chosen w turns k)))
 
 -- a run fails in no other way than the place that stands for it
-pub good_run : (rule : Option Kind) (refusals : ScRefusals) (image : ImageValue) (inputs : List ℕ) (choices : List Choice)
+pub good_run : (rule : Option Kind) (always : Option Always) (refusals : ScRefusals) (image : ImageValue) (inputs : List ℕ) (choices : List Choice)
     (found : HasStart (meant_choices refusals (length inputs)) (started image inputs) choices)
-    → fails_there rule inputs (place_reached (place_begun (settled_start (started image inputs))) found.turns) ≡ false
-    → run_fails rule image inputs choices ≡ false
-good_run rule refusals image inputs choices found good =
+    → fails_there rule always inputs (place_reached (place_begun (settled_start (started image inputs))) found.turns) ≡ false
+    → run_fails rule always image inputs choices ≡ false
+good_run rule always refusals image inputs choices found good =
     let w = started image inputs in
     let s = settled_start w in
     let p = place_reached (place_begun s) found.turns in
-    passes rule inputs p.world.harts (run w choices).harts (one_each (length inputs) p.chosen) choices
+    let each = one_each (length inputs) p.chosen in
+    let both = fails_not (breaks_word always p.world) (fails May (judged rule inputs each p.world.harts)) good in
+    fails_neither (breaks_word always (run w choices)) (fails May (judged rule inputs choices (run w choices).harts))
+    (sym (same_break always p.world (run w choices) found.place.covers.memory) ∙ both.0)
+    (passes rule inputs p.world.harts (run w choices).harts each choices
     (covered_stops p.world (run w choices) found.place.covers)
-    (λ k e. found.place.fewer k (chosen_reached s found.turns k ∙ sym (alike refusals (length inputs) s found.turns found.are_meant k) ∙ e)) good
+    (λ k e. found.place.fewer k (chosen_reached s found.turns k ∙ sym (alike refusals (length inputs) s found.turns found.are_meant k) ∙ e)) both.1)
 
 -- the choices of turns from the start are meant
 pub plains : (refusals : ScRefusals) (image : ImageValue) (inputs : List ℕ) (h : ℕ) → h < length (started image inputs).harts
@@ -150,18 +161,18 @@ start_meant refusals image inputs asked turns all =
     (turns_meant refusals (length inputs) (world_begun w asked n) turns all)
 
 -- ---- an answer for places is one for runs
-pub safe_is_safe : (rule : Option Kind) (refusals : ScRefusals) (image : ImageValue) (inputs : List ℕ)
-    → IsSafe (meant_choices refusals (length inputs)) (place_begun (settled_start (started image inputs))) (fails_there rule inputs)
-    → (choices : List Choice) → IsListOf (meant_choices refusals (length inputs)) choices → run_fails rule image inputs choices ≡ false
-safe_is_safe rule refusals image inputs safe choices all =
+pub safe_is_safe : (rule : Option Kind) (always : Option Always) (refusals : ScRefusals) (image : ImageValue) (inputs : List ℕ)
+    → IsSafe (meant_choices refusals (length inputs)) (place_begun (settled_start (started image inputs))) (fails_there rule always inputs)
+    → (choices : List Choice) → IsListOf (meant_choices refusals (length inputs)) choices → run_fails rule always image inputs choices ≡ false
+safe_is_safe rule always refusals image inputs safe choices all =
     let found = run_has_start (meant_choices refusals (length inputs)) (started image inputs) choices all in
-    good_run rule refusals image inputs choices found (safe found.turns found.are_meant)
+    good_run rule always refusals image inputs choices found (safe found.turns found.are_meant)
 
-pub bad_is_bad : (rule : Option Kind) (refusals : ScRefusals) (image : ImageValue) (inputs : List ℕ) (turns choices : List Choice) (count : ℕ)
-    → LeadsToBad (meant_choices refusals (length inputs)) (place_begun (settled_start (started image inputs))) (fails_there rule inputs) turns
+pub bad_is_bad : (rule : Option Kind) (always : Option Always) (refusals : ScRefusals) (image : ImageValue) (inputs : List ℕ) (turns choices : List Choice) (count : ℕ)
+    → LeadsToBad (meant_choices refusals (length inputs)) (place_begun (settled_start (started image inputs))) (fails_there rule always inputs) turns
     → choices ≡ choices_from_start (started image inputs) turns → length turns ≡ count
-    → FailsFirst (meant_choices refusals (length inputs)) (started image inputs) (run_fails rule image inputs) choices count
-bad_is_bad rule refusals image inputs turns choices count bad is count_is =
+    → FailsFirst (meant_choices refusals (length inputs)) (started image inputs) (run_fails rule always image inputs) choices count
+bad_is_bad rule always refusals image inputs turns choices count bad is count_is =
     let w = started image inputs in
     record {
       turns = turns;
@@ -170,19 +181,19 @@ bad_is_bad rule refusals image inputs turns choices count bad is count_is =
       meant_ones = subst (IsListOf (meant_choices refusals (length inputs))) (sym is)
           (start_meant refusals image inputs (is_chosen turns) turns bad.meant);
       meant_turns = bad.meant;
-      fails = ap (run_fails rule image inputs) is ∙ sym (fails_alike rule refusals image inputs turns bad.meant) ∙ bad.ends;
+      fails = ap (run_fails rule always image inputs) is ∙ sym (fails_alike rule always refusals image inputs turns bad.meant) ∙ bad.ends;
       fewest = λ other all less.
-          sym (fails_alike rule refusals image inputs other all) ∙ bad.shortest other all (omega (arith, less, count_is));
+          sym (fails_alike rule always refusals image inputs other all) ∙ bad.shortest other all (omega (arith, less, count_is));
       shortest = λ other all less.
           let found = run_has_start (meant_choices refusals (length inputs)) w other all in
-          good_run rule refusals image inputs other found
+          good_run rule always refusals image inputs other found
           (bad.shortest found.turns found.are_meant (let few = found.no_more in omega (arith, few, less, count_is)));
     }
 
 -- the same by equal parts
-pub moved : {Z : Type 0} (P : List Choice → ImageValue → List ℕ → Option Kind → Found Z → Type 0) {m1 m2 : List Choice}
-    {i1 i2 : ImageValue} {n1 n2 : List ℕ} {r1 r2 : Option Kind} {f1 f2 : Found Z} → m1 ≡ m2 → i1 ≡ i2 → n1 ≡ n2 → r1 ≡ r2 → f1 ≡ f2
-    → P m1 i1 n1 r1 f1 → P m2 i2 n2 r2 f2
-moved P {m1} {m2} {i1} {i2} {n1} {n2} {r1} {r2} {f1} {f2} m i n r f a =
-    subst (P m2 i2 n2 r2) f (subst (λ x. P m2 i2 n2 x f1) r (subst (λ x. P m2 i2 x r1 f1) n
-    (subst (λ x. P m2 x n1 r1 f1) i (subst (λ x. P x i1 n1 r1 f1) m a))))
+pub moved : {Z : Type 0} (P : List Choice → ImageValue → List ℕ → Option Kind → Option Always → Found Z → Type 0) {m1 m2 : List Choice}
+    {i1 i2 : ImageValue} {n1 n2 : List ℕ} {r1 r2 : Option Kind} {a1 a2 : Option Always} {f1 f2 : Found Z}
+    → m1 ≡ m2 → i1 ≡ i2 → n1 ≡ n2 → r1 ≡ r2 → a1 ≡ a2 → f1 ≡ f2 → P m1 i1 n1 r1 a1 f1 → P m2 i2 n2 r2 a2 f2
+moved P {m1} {m2} {i1} {i2} {n1} {n2} {r1} {r2} {a1} {a2} {f1} {f2} m i n r a f p =
+    subst (P m2 i2 n2 r2 a2) f (subst (λ x. P m2 i2 n2 r2 x f1) a (subst (λ x. P m2 i2 n2 x a1 f1) r
+    (subst (λ x. P m2 i2 x r1 a1 f1) n (subst (λ x. P m2 x n1 r1 a1 f1) i (subst (λ x. P x i1 n1 r1 a1 f1) m p)))))

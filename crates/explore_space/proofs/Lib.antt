@@ -11,6 +11,7 @@ pub mod TurnLists
 pub mod PassLemmas
 pub mod BegunLemmas
 pub mod LagLemmas
+pub mod WordBreaks
 pub mod AheadLemmas
 pub mod StartLemmas
 pub mod BeginLemmas

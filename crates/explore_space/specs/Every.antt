@@ -1,5 +1,5 @@
 -- What every schedule of a program does.
-use Rattle.std.specs.Prelude.{◌≡◌, ◌≢◌, ℕ, zero, suc, ◌<◌, Bool, true, false, List, [], ◌∷◌, ◌++◌, length, Option}
+use Rattle.std.specs.Prelude.{◌≡◌, ◌≢◌, ℕ, zero, suc, ◌<◌, Bool, true, false, ◌||◌, List, [], ◌∷◌, ◌++◌, length, Option}
 use Rattle.std.specs.List.{All, AllPairs, Contains}
 use Rattle.image.specs.Image.{ImageValue}
 use Rattle.machine.specs.Start.{started}
@@ -14,10 +14,12 @@ use Rattle.explore_laws.specs.Places.{place_begun}
 use Rattle.explore_search.specs.Counted.{HasPlaces, HasMorePlaces}
 use Rattle.explore_space.specs.Begun.{choices_from_start, settled_start}
 use Rattle.explore_space.specs.Ends.{EndValue, end_with, ends_in}
+use Rattle.explore_space.specs.Failing.{breaks_word}
 use Rattle.explore_space.specs.declared.exploring.Answer.{Answer}
 use Rattle.explore_space.specs.declared.exploring.Answer.TheVariants.{Holds, Fails, Hangs, Undecided}
 use Rattle.explore_space.specs.declared.meant.ScRefusals.{ScRefusals}
 use Rattle.explore_space.specs.declared.meant.ScRefusals.TheVariants.{Also, Never}
+use Rattle.explore_space.specs.declared.question.Always.{Always}
 
 -- the choices of a hart: the plain one, and the one that refuses its store-conditional if that is
 -- meant too
@@ -34,10 +36,12 @@ meant_choices refusals (suc n) = meant_choices refusals n ++ hart_choices refusa
 abbrev pub IsListOf : List Choice → List Choice → Type 0
 IsListOf meant choices = All (Contains meant) choices
 
--- whether the run of a list of choices from a program's start fails: its rule is broken, or without
--- a rule a hart has faulted
-abbrev pub run_fails : Option Kind → ImageValue → List ℕ → List Choice → Bool
-run_fails rule image inputs choices = fails May (judged rule inputs choices (run (started image inputs) choices).harts)
+-- whether the run of a list of choices from a program's start fails: behind it a word isn't what it
+-- must be, or its rule is broken, or without a rule a hart has faulted
+abbrev pub run_fails : Option Kind → Option Always → ImageValue → List ℕ → List Choice → Bool
+run_fails rule always image inputs choices =
+    breaks_word always (run (started image inputs) choices)
+    || fails May (judged rule inputs choices (run (started image inputs) choices).harts)
 
 -- a list of these choices fails: it is the choices of so many turns, and neither fewer turns nor
 -- fewer choices do
@@ -53,15 +57,15 @@ pub record FailsFirst (meant : List Choice) (first : World) (is_failing : List C
 
 -- an answer holds of every schedule: no list of the harts' choices fails, or this one does; where
 -- it is undecided, nothing is said, and where one hangs, none fails
-abbrev pub HoldsOfEvery : {Z : Type 0} → Option Kind → ScRefusals → ImageValue → List ℕ → Answer Z → Type 0
-HoldsOfEvery rule refusals image inputs (Holds held) =
-    (choices : List Choice) → IsListOf (meant_choices refusals (length inputs)) choices → run_fails rule image inputs choices ≡ false
-HoldsOfEvery rule refusals image inputs (Fails failing) =
-    FailsFirst (meant_choices refusals (length inputs)) (started image inputs) (run_fails rule image inputs)
+abbrev pub HoldsOfEvery : {Z : Type 0} → Option Kind → Option Always → ScRefusals → ImageValue → List ℕ → Answer Z → Type 0
+HoldsOfEvery rule always refusals image inputs (Holds held) =
+    (choices : List Choice) → IsListOf (meant_choices refusals (length inputs)) choices → run_fails rule always image inputs choices ≡ false
+HoldsOfEvery rule always refusals image inputs (Fails failing) =
+    FailsFirst (meant_choices refusals (length inputs)) (started image inputs) (run_fails rule always image inputs)
     failing.choices.items failing.turns
-HoldsOfEvery rule refusals image inputs (Hangs hanging) =
-    (choices : List Choice) → IsListOf (meant_choices refusals (length inputs)) choices → run_fails rule image inputs choices ≡ false
-HoldsOfEvery rule refusals image inputs Undecided = Unit {0}
+HoldsOfEvery rule always refusals image inputs (Hangs hanging) =
+    (choices : List Choice) → IsListOf (meant_choices refusals (length inputs)) choices → run_fails rule always image inputs choices ≡ false
+HoldsOfEvery rule always refusals image inputs Undecided = Unit {0}
 
 -- an answer counts places: turns lead to so many where nothing fails, and to more than `most` where
 -- it is undecided

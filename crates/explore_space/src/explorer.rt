@@ -1,17 +1,20 @@
 //! The worlds of a program.
-ghost use Rattle.std.specs.Prelude.{◌≡◌, ℕ, Bool, List, IfOk, length};
+ghost use Rattle.std.specs.Prelude.{◌≡◌, ◌+◌, ◌==◌, ℕ, Bool, List, IfOk, length, map, slice_index, take};
 ghost use Rattle.image.specs.Image.{ImageValue};
 ghost use Rattle.mem_store.specs.Image.{image_memory, segments_memory};
 ghost use Rattle.hart_local.specs.CodeMemory.{code_in};
 ghost use Rattle.machine.specs.Start.{started};
 ghost use Rattle.explore_laws.specs.OwnSteps.{steps_in_turn};
 ghost use Rattle.explore_laws.specs.Places.{Place, place_begun};
+ghost use Rattle.outcome.specs.Expect.{fails, judged};
+ghost use Rattle.outcome.specs.declared.expect.Exit.TheVariants.{May};
 ghost use Rattle.explore_space.specs.Begun.{settled_start};
-ghost use Rattle.explore_space.specs.Places.{IsKey, place_of_key, world_of_key};
-ghost use Rattle.explore_space.specs.Failing.{ends_there, fails_there};
+ghost use Rattle.explore_space.specs.Places.{IsKey, hart_numbered, place_of_key, world_of_key};
+ghost use Rattle.explore_space.specs.Failing.{breaks_word, ends_there, fails_there, one_each};
 
-use crate::failing::{fails_at, has_ended_at};
+use crate::failing::{breaks_word, fails_at, has_ended_at};
 use crate::known::Known;
+use crate::question::Always;
 use crate::stepping::steps_from;
 use explore_search::Space;
 use hart_local::Code;
@@ -29,6 +32,7 @@ pub struct Explorer<'a, A: Allocator> {
     code: Code<A>,
     inputs: &'a Inputs,
     rule: Option<Kind>,
+    always: Option<Always>,
     ghost its_code: { segments_memory code ≡ code_in (image_memory known.image.now) },
 }
 
@@ -39,10 +43,12 @@ impl<'a, A: Allocator + Copy> Explorer<'a, A> {
         image: &'a Image<A>,
         inputs: &'a Inputs,
         rule: Option<Kind>,
+        always: Option<Always>,
     ) -> Result<Explorer<'a, A>, AllocError>
         ensures image { IfOk result (λ e. e.known.image.now ≡ image.now) }
         ensures inputs { IfOk result (λ e. e.inputs.now ≡ inputs.now) }
         ensures rule { IfOk result (λ e. e.rule ≡ rule) }
+        ensures always { IfOk result (λ e. e.always ≡ always) }
     {
         let code = Code::new(alloc, image)?;
         let known = Known::new(alloc, image)?;
@@ -52,6 +58,7 @@ impl<'a, A: Allocator + Copy> Explorer<'a, A> {
             code,
             inputs,
             rule,
+            always,
         })
     }
 
@@ -78,6 +85,38 @@ impl<'a, A: Allocator + Copy> Explorer<'a, A> {
         let shared = &self.known.shareds.parts[key[count] as usize];
         steps_from(self.alloc, self.known.image, &self.code, hart, shared, turn)
     }
+
+    // Whether a word isn't what it must be in a key's place.
+    fn breaks_word_at(&self, key: &[u32]) -> bool
+        requires { IsKey self.now.known.image.now (length self.now.inputs.now) self.now.known.harts.parts.items
+            self.now.known.shareds.parts.items key.now }
+        ensures { result ≡ breaks_word self.now.always (world_of_key self.now.known.image.now (length self.now.inputs.now)
+            self.now.known.harts.parts.items self.now.known.shareds.parts.items key.now) }
+    {
+        let Some(always) = self.always else {
+            return false;
+        };
+        let count = self.inputs.harts() as usize;
+        let shared = &self.known.shareds.parts[key[count] as usize];
+        breaks_word(self.known.image, &shared.cells, always)
+    }
+
+    // Whether the rule is broken in a key's place, or without a rule a hart has faulted.
+    fn fails_by_rule_at(&self, key: &[u32]) -> Result<bool, AllocError>
+        requires { IsKey self.now.known.image.now (length self.now.inputs.now) self.now.known.harts.parts.items
+            self.now.known.shareds.parts.items key.now }
+        ensures { IfOk result (λ answer. answer ≡ fails May (judged self.now.rule self.now.inputs.now
+            (one_each (length self.now.inputs.now) (λ k. slice_index key.now (length self.now.inputs.now + 1 + k) == 1))
+            (map (hart_numbered self.now.known.harts.parts.items) (take (length self.now.inputs.now) key.now)))) }
+    {
+        fails_at(
+            self.alloc,
+            &self.known.harts.parts,
+            self.inputs.words(),
+            self.rule,
+            key,
+        )
+    }
 }
 
 impl<'a, A: Allocator + Copy> Space<A> for Explorer<'a, A> {
@@ -87,7 +126,7 @@ impl<'a, A: Allocator + Copy> Space<A> for Explorer<'a, A> {
 
     ghost first = { λ e. place_begun (settled_start (started e.known.image.now e.inputs.now)) };
 
-    ghost bad = { λ e p. fails_there e.rule e.inputs.now p };
+    ghost bad = { λ e p. fails_there e.rule e.always e.inputs.now p };
 
     ghost ended = { λ e p. ends_there p };
 
@@ -102,13 +141,10 @@ impl<'a, A: Allocator + Copy> Space<A> for Explorer<'a, A> {
     }
 
     fn is_bad(&self, key: &[u32]) -> Result<bool, AllocError> {
-        fails_at(
-            self.alloc,
-            &self.known.harts.parts,
-            self.inputs.words(),
-            self.rule,
-            key,
-        )
+        if self.breaks_word_at(key) {
+            return Ok(true);
+        }
+        self.fails_by_rule_at(key)
     }
 
     fn has_ended(&self, key: &[u32]) -> Result<bool, AllocError> {

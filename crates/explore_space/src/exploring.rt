@@ -131,7 +131,7 @@ fn safe_answer<A: Allocator + Copy>(
     requires first { place_begun (settled_start (started explorer.now.known.image.now explorer.now.inputs.now))
         ≡ place_begun (settled_start (started image.now inputs.now)) }
     requires safe { IsSafe meant.now (place_begun (settled_start (started image.now inputs.now)))
-        (fails_there question.expect.rule inputs.now) }
+        (fails_there question.expect.rule question.always inputs.now) }
     requires counts { HasPlaces meant.now (place_begun (settled_start (started image.now inputs.now))) (length seen.now.keys) }
     requires seen { AreAllSeen (IsKey explorer.now.known.image.now (length explorer.now.inputs.now) explorer.now.known.harts.parts.items
         explorer.now.known.shareds.parts.items)
@@ -149,7 +149,7 @@ fn safe_answer<A: Allocator + Copy>(
     requires bound_edges { question.bounds ≡ Asked → HaveEdges (place_of_key explorer.now.known.image.now
         (length explorer.now.inputs.now) explorer.now.known.harts.parts.items explorer.now.known.shareds.parts.items)
         meant.now seen.now.keys seen.now.rows }
-    ensures holds { IfOk result (λ answer. HoldsOfEvery question.expect.rule question.refusals image.now inputs.now answer) }
+    ensures holds { IfOk result (λ answer. HoldsOfEvery question.expect.rule question.always question.refusals image.now inputs.now answer) }
     ensures places { IfOk result (λ answer. CountsPlaces question.refusals image.now inputs.now question.most answer) }
     ensures ends { IfOk result (λ answer. TellsEnds question.expect.rule question.refusals image.now inputs.now answer) }
     ensures exits { IfOk result (λ answer. TellsExits question.expect.exit question.refusals image.now inputs.now answer) }
@@ -194,7 +194,8 @@ fn searched_answer<A: Allocator + Copy>(
     requires image { explorer.old.known.image.now ≡ image.now }
     requires inputs { explorer.old.inputs.now ≡ inputs.now }
     requires rule { explorer.old.rule ≡ question.expect.rule }
-    ensures holds { IfOk result (λ answer. HoldsOfEvery question.expect.rule question.refusals image.now inputs.now answer) }
+    requires always { explorer.old.always ≡ question.always }
+    ensures holds { IfOk result (λ answer. HoldsOfEvery question.expect.rule question.always question.refusals image.now inputs.now answer) }
     ensures places { IfOk result (λ answer. CountsPlaces question.refusals image.now inputs.now question.most answer) }
     ensures ends { IfOk result (λ answer. TellsEnds question.expect.rule question.refusals image.now inputs.now answer) }
     ensures exits { IfOk result (λ answer. TellsExits question.expect.exit question.refusals image.now inputs.now answer) }
@@ -209,8 +210,8 @@ fn searched_answer<A: Allocator + Copy>(
 }
 
 /// Whether a list of the harts' choices, of any length, leads a program with these inputs to a
-/// failure: a broken rule, or without a rule a hart that has faulted. None does; or one does, which
-/// is given; or turns reach more places than may be looked at. Where each hart must exit and none
+/// failure: a word that isn't what it must be, a broken rule, or without a rule a hart that has
+/// faulted. None does; or one does, which is given; or turns reach more places than may be looked at. Where each hart must exit and none
 /// fails, it is also answered whether a list leads to a world that has no way out, and one that does
 /// is given. Where bounds are asked for and none fails or hangs, the exact bound on each hart's own
 /// steps is given, or that it has none. The only error is out of memory.
@@ -221,14 +222,14 @@ pub fn explore<A: Allocator + Copy>(
     question: Question,
     progress: &mut impl Progress,
 ) -> Result<Answer<A>, AllocError>
-    ensures holds { IfOk result (λ answer. HoldsOfEvery question.expect.rule question.refusals image.now inputs.now answer) }
+    ensures holds { IfOk result (λ answer. HoldsOfEvery question.expect.rule question.always question.refusals image.now inputs.now answer) }
     ensures places { IfOk result (λ answer. CountsPlaces question.refusals image.now inputs.now question.most answer) }
     ensures ends { IfOk result (λ answer. TellsEnds question.expect.rule question.refusals image.now inputs.now answer) }
     ensures exits { IfOk result (λ answer. TellsExits question.expect.exit question.refusals image.now inputs.now answer) }
     ensures bounds { IfOk result (λ answer. TellsBounds question.bounds question.refusals image.now inputs.now answer) }
 {
     let meant = meant_choices(alloc, question.refusals, inputs.harts())?;
-    let mut explorer = Explorer::new(alloc, image, inputs, question.expect.rule)?;
+    let mut explorer = Explorer::new(alloc, image, inputs, question.expect.rule, question.always)?;
     searched_answer(
         alloc,
         image,

@@ -1,16 +1,24 @@
 //! Whether the run to a key's place has failed, and whether it has ended.
-ghost use Rattle.std.specs.Prelude.{◌≡◌, ◌<◌, ◌≤◌, ◌+◌, ◌*◌, ◌==◌, ◌&&◌, nat_lt, not, ℕ, Bool, Some, IfOk, length, map, slice_get, slice_index, take};
+ghost use Rattle.std.specs.Prelude.{◌≡◌, ◌<◌, ◌≤◌, ◌+◌, ◌*◌, ◌%◌, ◌==◌, ◌&&◌, nat_lt, not, ℕ, Bool, Some, IfOk, length, map, slice_get, slice_index, take};
 ghost use Rattle.hart_step.specs.Hart.{hart_of};
+ghost use Rattle.machine.specs.World.{World};
+ghost use Rattle.mem_store.specs.Image.{image_memory};
+ghost use Rattle.bank_laws.specs.Words.{bytes_at};
+ghost use Rattle.explore_sites.specs.Cells.{words_shown};
 ghost use Rattle.outcome.specs.Expect.{fails, judged};
 ghost use Rattle.outcome.specs.Outcome.{some_run};
 ghost use Rattle.outcome.specs.declared.expect.Exit.TheVariants.{May};
 ghost use Rattle.sched_run.specs.Chosen.{harts_of};
 ghost use Rattle.explore_space.specs.Places.{hart_numbered};
-ghost use Rattle.explore_space.specs.Failing.{one_each};
+ghost use Rattle.explore_space.specs.Failing.{breaks_word, one_each};
 
+use crate::question::Always;
+use explore_sites::{Cell, word_read};
 use hart_step::Hart;
+use image::Image;
 use object_library::Kind;
 use outcome::{Exit, Expect, some_run};
+use property_judge::compares;
 use sched_run::Chosen;
 use std::alloc::{AllocError, Allocator};
 
@@ -47,7 +55,19 @@ pub fn chosen_by_key(count: usize, key: &[u32]) -> Chosen
     chosen
 }
 
-/// Whether the run to a key's place has failed: its rule is broken, or without a rule a hart has
+/// Whether a word isn't what it must be in a world that has the image's rights and shows these
+/// words.
+#[tactic(auto, unfolding(property_judge::specs::Property::holds_in))]
+pub fn breaks_word<A: Allocator>(image: &Image<A>, cells: &[Cell], always: Always) -> bool
+    ensures { (w : World) → w.memory.rights ≡ (image_memory image.now).rights
+        → ((x : ℕ) → x % 4 ≡ 0 → words_shown image.now cells.now x ≡ bytes_at w.memory.bytes x)
+        → result ≡ breaks_word (Some always) w }
+{
+    let value = word_read(image, cells, always.word);
+    !compares(always.comparison, value, always.number)
+}
+
+/// Whether the run to a key's place has failed by its harts: its rule is broken, or without a rule a hart has
 /// faulted. The only error is out of memory.
 pub fn fails_at<A: Allocator + Copy>(
     alloc: A,

@@ -6,7 +6,7 @@ pub use explorer::Explorer;
 pub use exploring::{Answer, Failing, Held, explore};
 pub use meant::ScRefusals;
 pub use own_bounds::OwnBounds;
-pub use question::Question;
+pub use question::{Always, Question};
 pub use run_end::{Ends, Returned, RunEnd};
 pub use shared::Shared;
 

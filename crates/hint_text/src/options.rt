@@ -132,6 +132,7 @@ pub(crate) const COMMANDS: [Row; 14] = [
             "--refusals",
             "--worlds",
             "--must-exit",
+            "--always",
             "--bounds",
             "--json",
         ],

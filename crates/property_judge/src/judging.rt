@@ -35,8 +35,8 @@ fn in_signed_order(order: Order, a: u32, b: u32) -> bool
     }
 }
 
-// Whether two words are as a comparison says.
-fn compares(comparison: Comparison, a: u32, b: u32) -> bool
+/// Whether two words are as a comparison says.
+pub fn compares(comparison: Comparison, a: u32, b: u32) -> bool
     ensures { result ≡ compares comparison a b }
 {
     match comparison {

@@ -2,7 +2,7 @@
 #![tactic(auto)]
 
 pub use judged::{Judged, judge_run, judge_world};
-pub use judging::{holds_in, is_within, word_read};
+pub use judging::{compares, holds_in, is_within, word_read};
 pub use laws::break_is_the_first;
 pub use property::{Comparison, Order, Property};
 

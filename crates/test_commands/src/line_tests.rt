@@ -47,7 +47,7 @@ fn inputs_are_read(rt: HostRuntime) {
 
 // Lines, and what is read of each: its command and the texts of its arguments, by their names.
 #[rattlefmt::skip]
-static LINES: [(&str, &str); 90] = [
+static LINES: [(&str, &str); 91] = [
     ("rvcons asm a.s", "asm IN=a.s"),
     ("rvcons asm --out o a.s b.s", "asm out=o IN=a.s IN=b.s"),
     ("rvcons asm b.s a.s --out=o", "asm out=o IN=b.s IN=a.s"),
@@ -141,10 +141,11 @@ static LINES: [(&str, &str); 90] = [
     ("rvcons explore p --inputs 7,9 --refusals r", "explore FILE=p inputs=7,9 refusals=r"),
     ("rvcons explore p --inputs 7,9 --worlds 5", "explore FILE=p inputs=7,9 worlds=5"),
     ("rvcons explore p --inputs 7,9 --must-exit", "explore FILE=p inputs=7,9 must-exit=yes"),
+    ("rvcons explore p --inputs 7,9 --always x", "explore FILE=p inputs=7,9 always=x"),
     ("rvcons explore p --inputs 7,9 --bounds", "explore FILE=p inputs=7,9 bounds=yes"),
     ("rvcons explore p --json --inputs 7,9", "explore FILE=p inputs=7,9 json=yes"),
-    ("rvcons explore --bounds --json --worlds 5 --refusals r --rule k --must-exit --inputs 7 p",
-        "explore FILE=p inputs=7 rule=k refusals=r worlds=5 must-exit=yes bounds=yes json=yes"),
+    ("rvcons explore --bounds --json --worlds 5 --refusals r --rule k --must-exit --always x --inputs 7 p",
+        "explore FILE=p inputs=7 rule=k refusals=r worlds=5 must-exit=yes always=x bounds=yes json=yes"),
     ("rvcons schedule --harts 2 --steps 3", "schedule harts=2 steps=3"),
     ("rvcons schedule --harts 2 --steps 3 --seed 5", "schedule harts=2 steps=3 seed=5"),
     ("rvcons schedule --harts 2 --steps 3 --turns", "schedule harts=2 steps=3 turns=yes"),

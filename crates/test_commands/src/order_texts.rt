@@ -185,6 +185,7 @@ fn explore_text(alloc: Global, order: &ExploreOrder) -> Result<String, AllocErro
         ("refusals", order.refusals),
         ("worlds", order.worlds),
         ("must-exit", flag(order.must_exit)),
+        ("always", order.always),
         ("bounds", flag(order.bounds)),
         ("json", flag(order.json)),
     ];

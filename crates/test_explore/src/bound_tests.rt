@@ -49,6 +49,7 @@ fn has_bounds(alloc: Global, row: &Row) -> Option<bool> {
     };
     let question = Question {
         expect,
+        always: None,
         bounds: OwnBounds::Asked,
         refusals: row.refusals,
         most: 100_000,

@@ -50,6 +50,7 @@ fn has_ends(alloc: Global, row: &Row) -> Option<bool> {
     };
     let question = Question {
         expect,
+        always: None,
         bounds: OwnBounds::NotAsked,
         refusals: ScRefusals::Also,
         most: 100_000,

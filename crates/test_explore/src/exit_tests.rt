@@ -63,6 +63,7 @@ fn answer_of(alloc: Global, row: &Row, exit: Exit) -> Option<Answer<Global>> {
     let expect = Expect { rule: None, exit };
     let question = Question {
         expect,
+        always: None,
         bounds: OwnBounds::NotAsked,
         refusals: ScRefusals::Also,
         most: 10_000,

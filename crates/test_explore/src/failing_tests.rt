@@ -87,6 +87,7 @@ fn is_found(alloc: Global, row: &Row) -> Option<bool> {
     };
     let question = Question {
         expect,
+        always: None,
         bounds: OwnBounds::NotAsked,
         refusals: ScRefusals::Also,
         most: 10_000,
@@ -131,6 +132,7 @@ fn breaks_consensus(alloc: Global, inputs: &[u32]) -> Option<bool> {
     };
     let question = Question {
         expect,
+        always: None,
         bounds: OwnBounds::NotAsked,
         refusals: ScRefusals::Never,
         most: 100_000,

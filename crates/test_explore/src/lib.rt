@@ -2,6 +2,8 @@
 #![tactic(auto)]
 
 #[cfg(test)]
+mod always_tests;
+#[cfg(test)]
 mod bound_tests;
 #[cfg(test)]
 mod end_tests;

@@ -49,6 +49,7 @@ fn places_of(alloc: Global, row: &Row, most: usize, heard: &mut Heard) -> Option
     };
     let question = Question {
         expect,
+        always: None,
         bounds: OwnBounds::NotAsked,
         refusals: row.refusals,
         most,

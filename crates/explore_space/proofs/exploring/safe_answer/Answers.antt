@@ -23,14 +23,14 @@ ends_at_keys-requires-clause-fit g c =
     let place = place_of_key space.known.image.now n space.known.harts.parts.items space.known.shareds.parts.items in
     let reached = subst (λ (ms : List Choice). AreAllReached keys place ms (place_begun (settled_start (started c.args.image.now c.args.inputs.now))) c.args.seen.now.keys)
     c.requires.meant (subst (λ (p : Place). AreAllReached keys place c.args.meant.now p c.args.seen.now.keys) c.requires.first c.requires.reaches) in
-    let fit = all_fit c.args.question.expect.rule c.args.question.refusals c.args.image.now c.args.inputs.now space.known.image.now space.known.harts.parts.items
+    let fit = all_fit c.args.question.expect.rule c.args.question.always c.args.question.refusals c.args.image.now c.args.inputs.now space.known.image.now space.known.harts.parts.items
     space.known.shareds.parts.items c.args.seen.now.keys n reached in
     rw c.words.ensures.same (rw c.known_harts-harts.ensures fit)
 
 pub returns-in_ok-bounds-in-None-clause-holds : goal.returns-in_ok-bounds-in-None-clause-holds
 returns-in_ok-bounds-in-None-clause-holds g c =
-    safe_is_safe c.args.question.expect.rule c.args.question.refusals c.args.image.now c.args.inputs.now
-    (subst (λ (ms : List Choice). IsSafe ms (place_begun (settled_start (started c.args.image.now c.args.inputs.now))) (fails_there c.args.question.expect.rule c.args.inputs.now))
+    safe_is_safe c.args.question.expect.rule c.args.question.always c.args.question.refusals c.args.image.now c.args.inputs.now
+    (subst (λ (ms : List Choice). IsSafe ms (place_begun (settled_start (started c.args.image.now c.args.inputs.now))) (fails_there c.args.question.expect.rule c.args.question.always c.args.inputs.now))
     c.requires.meant c.requires.safe)
 
 pub returns-in_ok-bounds-in-None-clause-ends : goal.returns-in_ok-bounds-in-None-clause-ends
@@ -41,9 +41,9 @@ returns-in_ok-bounds-in-None-clause-ends g c =
     let place = place_of_key space.known.image.now n space.known.harts.parts.items space.known.shareds.parts.items in
     let reached = subst (λ (ms : List Choice). AreAllReached keys place ms (place_begun (settled_start (started c.args.image.now c.args.inputs.now))) c.args.seen.now.keys)
     c.requires.meant (subst (λ (p : Place). AreAllReached keys place c.args.meant.now p c.args.seen.now.keys) c.requires.first c.requires.reaches) in
-    ends_are_all c.args.question.expect.rule c.args.question.refusals c.args.image.now c.args.inputs.now space.known.image.now space.known.harts.parts.items
+    ends_are_all c.args.question.expect.rule c.args.question.always c.args.question.refusals c.args.image.now c.args.inputs.now space.known.image.now space.known.harts.parts.items
     space.known.shareds.parts.items c.args.seen.now.keys n _ reached
-    (subst (λ (ms : List Choice). IsSafe ms (place_begun (settled_start (started c.args.image.now c.args.inputs.now))) (fails_there c.args.question.expect.rule c.args.inputs.now))
+    (subst (λ (ms : List Choice). IsSafe ms (place_begun (settled_start (started c.args.image.now c.args.inputs.now))) (fails_there c.args.question.expect.rule c.args.question.always c.args.inputs.now))
     c.requires.meant c.requires.safe)
     (subst (λ (hs : List Hart). AreEndsAt c.args.question.expect.rule c.args.inputs.now hs c.args.seen.now.keys (ends_in c.in_ok-ends-in-None.ends))
     c.known_harts-harts.ensures
@@ -66,8 +66,8 @@ asked_bounds-requires-clause-meant g c =
 
 pub returns-in_ok-choices_and_turns-in-Some-clause-holds : goal.returns-in_ok-choices_and_turns-in-Some-clause-holds
 returns-in_ok-choices_and_turns-in-Some-clause-holds g c =
-    safe_is_safe c.args.question.expect.rule c.args.question.refusals c.args.image.now c.args.inputs.now
-    (subst (λ (ms : List Choice). IsSafe ms (place_begun (settled_start (started c.args.image.now c.args.inputs.now))) (fails_there c.args.question.expect.rule c.args.inputs.now))
+    safe_is_safe c.args.question.expect.rule c.args.question.always c.args.question.refusals c.args.image.now c.args.inputs.now
+    (subst (λ (ms : List Choice). IsSafe ms (place_begun (settled_start (started c.args.image.now c.args.inputs.now))) (fails_there c.args.question.expect.rule c.args.question.always c.args.inputs.now))
     c.requires.meant c.requires.safe)
 
 pub returns-in_ok-choices_and_turns-in-Some-clause-exits : goal.returns-in_ok-choices_and_turns-in-Some-clause-exits

@@ -18,15 +18,15 @@ safe_answer-requires-clause-first g c =
 
 pub safe_answer-requires-clause-safe : goal.safe_answer-requires-clause-safe
 safe_answer-requires-clause-safe g c =
-    moved (λ m i n r f. SearchAnswers m (place_begun (settled_start (started i n))) (fails_there r n) f)
+    moved (λ m i n r a f. SearchAnswers m (place_begun (settled_start (started i n))) (fails_there r a n) f)
     (λ i. c.args.meant.now) c.requires.image
-    c.requires.inputs c.requires.rule c.in-Safe.is c.in_ok-seen.ensures.answers
+    c.requires.inputs c.requires.rule c.requires.always c.in-Safe.is c.in_ok-seen.ensures.answers
 
 pub safe_answer-requires-clause-counts : goal.safe_answer-requires-clause-counts
 safe_answer-requires-clause-counts g c =
-    moved (λ m i n r f. SearchCounts m (place_begun (settled_start (started i n))) c.args.question.most f)
+    moved (λ m i n r a f. SearchCounts m (place_begun (settled_start (started i n))) c.args.question.most f)
     (λ i. c.args.meant.now) c.requires.image
-    c.requires.inputs c.requires.rule c.in-Safe.is c.in_ok-seen.ensures.counts
+    c.requires.inputs c.requires.rule c.requires.always c.in-Safe.is c.in_ok-seen.ensures.counts
 
 pub safe_answer-requires-clause-seen : goal.safe_answer-requires-clause-seen
 safe_answer-requires-clause-seen g c =
@@ -72,11 +72,11 @@ safe_answer-requires-clause-bound_edges g c =
 
 pub returns-in_ok-choices_and_turns-in-Bad-clause-holds : goal.returns-in_ok-choices_and_turns-in-Bad-clause-holds
 returns-in_ok-choices_and_turns-in-Bad-clause-holds g c =
-    bad_is_bad c.args.question.expect.rule c.args.question.refusals c.args.image.now c.args.inputs.now c.in-Bad.turns.items
+    bad_is_bad c.args.question.expect.rule c.args.question.always c.args.question.refusals c.args.image.now c.args.inputs.now c.in-Bad.turns.items
     c.in_ok-choices_and_turns-in-Bad.field-0.choices.items c.in_ok-choices_and_turns-in-Bad.field-0.turns
-    (moved (λ m i n r f. SearchAnswers m (place_begun (settled_start (started i n))) (fails_there r n) f)
+    (moved (λ m i n r a f. SearchAnswers m (place_begun (settled_start (started i n))) (fails_there r a n) f)
     c.requires.meant c.requires.image
-    c.requires.inputs c.requires.rule c.in-Bad.is c.in_ok-seen.ensures.answers)
+    c.requires.inputs c.requires.rule c.requires.always c.in-Bad.is c.in_ok-seen.ensures.answers)
     (c.in_ok-choices_and_turns-in-Bad.ensures.choices
     ∙ ap (choices_from_start (started c.args.image.now c.args.inputs.now)) c.deref.ensures.value)
     (ap length (sym c.deref.ensures.value) ∙ c.in_ok-choices_and_turns-in-Bad.ensures.turns)

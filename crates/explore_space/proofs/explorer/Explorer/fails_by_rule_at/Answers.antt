@@ -6,7 +6,7 @@ use Rattle.outcome.specs.Expect.{fails, judged}
 use Rattle.outcome.specs.declared.expect.Exit.TheVariants.{May}
 use Rattle.explore_space.specs.Places.{hart_numbered}
 use Rattle.explore_space.specs.Failing.{one_each}
-use Rattle.explore_space.proofs.explorer.ExplorerSpace.is_bad.Goals as goal
+use Rattle.explore_space.proofs.explorer.Explorer.fails_by_rule_at.Goals as goal
 
 pub returns : goal.returns
 returns g c =
