@@ -16,6 +16,12 @@ HART = re.compile(
 WORD = "([0-9a-f]{8})"
 PROPERTY = re.compile(rf"(?:never-both {WORD}\.\.{WORD}|always {WORD} (\S+) {WORD}) (?:kept|broken after (\d+))")
 END = re.compile(r"ends exited (\d+) faulted (\d+) running (\d+)(?: (kept|broken))?((?: \d+:a[01]=[0-9a-f]{8})*)")
+COUNTS = r"exited (\d+) faulted (\d+) running (\d+)"
+# A line of a campaign: a seed or a row, then the verdict, properties, results and faults.
+RUN = re.compile(
+    rf"(?:seed (\d+)|seeds (\d+) first (\d+)) {COUNTS}(?: (kept|broken))?((?: (?:never-both|always) (?:kept|broken))*)"
+    r"((?: \d+:a0=[0-9a-f]{8} \d+:a1=[0-9a-f]{8})*)((?: \w+ at [0-9a-f]{8})*)"
+)
 BOUND = re.compile(r"hart \d+ has (?:stopped after (\d+) own steps|no bound: it may wait for ever)")
 
 # Of run, behind the program: schedules, with a rule or properties.
@@ -27,6 +33,14 @@ RUNS = [
     ["--list", "", "--always", "0x10000 <u 5"],
 ]
 EXPLORATIONS = [[], ["--bounds"], ["--must-exit", "--rule", "swap", "--bounds"]]
+CAMPAIGNS = [
+    [],
+    ["--failures", "--must-exit", "--rule", "swap"],
+    ["--summary", "--always", "0x10000 != 0", "--never-both", "0x10004..0x10010"],
+    ["--summary", "--outcomes"],
+    ["--summary", "--by-cause"],
+    ["--until-failure", "--must-exit", "--always", "0x10000 <u 5"],
+]
 # The most worlds that are looked at.
 MOST = 200
 
@@ -108,6 +122,39 @@ def explore_of(text, status, most=MOST):
     }
 
 
+def words_by(text, size):
+    """The words of a text, so many at a time."""
+    words = text.split()
+    return [words[at : at + size] for at in range(0, len(words), size)]
+
+
+def result_of(words):
+    a0, a1 = (word.split("=") for word in words)
+    return {"hart": int(a0[0].split(":")[0]), "a0": number(a0[1]), "a1": number(a1[1])}
+
+
+def campaign_line_of(line, options):
+    """The object of a line of `campaign`."""
+    seed, seeds, first, exited, faulted, running, verdict, judged, results, faults = RUN.fullmatch(line).groups()
+    found = {"seed": int(seed)} if seed else {"seeds": int(seeds), "first": int(first)}
+    found |= {"exited": int(exited), "faulted": int(faulted), "running": int(running), "verdict": verdict}
+    if judged:
+        found["properties"] = [{"kind": kind, "verdict": word} for kind, word in words_by(judged, 2)]
+    if "--outcomes" in options:
+        found["results"] = [result_of(words) for words in words_by(results, 2)]
+    if "--by-cause" in options:
+        found["faults"] = [{"cause": cause, "pc": number(pc)} for cause, _, pc in words_by(faults, 3)]
+    return found
+
+
+def compare_campaign(name, words, options):
+    """Each line of a campaign is an object with the facts of the line, and the status is the same."""
+    status, text = asked([*words, *options])
+    given, objects_text = asked([*words, *options, "--json"])
+    wanted = [campaign_line_of(line, options) for line in text.splitlines()]
+    check(name, (given, [json.loads(line) for line in objects_text.splitlines()]), (status, wanted))
+
+
 def asked(words):
     done = subprocess.run([PROGRAM, *words], capture_output=True, timeout=ENDLESS)
     return done.returncode, done.stdout.decode()
@@ -144,6 +191,9 @@ def of_program(name, elf):
     for options in RUNS:
         words = ["run", elf, "--inputs", "2,2", *options]
         compare(f"run {name} {options}", words, lambda text, _: run_of(text))
+    words = ["campaign", elf, "--inputs", "2,2", "--first", "1", "--count", "20", "--steps", "200"]
+    for options in CAMPAIGNS:
+        compare_campaign(f"campaign {name} {options}", words, options)
     for options in EXPLORATIONS:
         words = ["explore", elf, "--inputs", "2,2", "--worlds", str(MOST), *options]
         status, text = asked(words)

@@ -32,18 +32,18 @@ harts-started w image inputs begun = ap (λ (v : World). length v.harts) begun �
 -- the parts of an ending
 same_parts : (campaign : Campaign) (outcome says : Outcome) (js judged_too : List Judged) (left harts : List HartValue)
     → outcome ≡ says → js ≡ judged_too → left ≡ harts
-    → ending_with campaign.report outcome js left ≡ ending_with campaign.report says judged_too harts
+    → ending_with campaign.form campaign.report outcome js left ≡ ending_with campaign.form campaign.report says judged_too harts
 same_parts campaign outcome says js judged_too left harts so judges rest =
-    ap (λ o. ending_with campaign.report o js left) so
-    ∙ ap (λ each. ending_with campaign.report says each left) judges
-    ∙ ap (λ hs. ending_with campaign.report says judged_too hs) rest
+    ap (λ o. ending_with campaign.form campaign.report o js left) so
+    ∙ ap (λ each. ending_with campaign.form campaign.report says each left) judges
+    ∙ ap (λ hs. ending_with campaign.form campaign.report says judged_too hs) rest
 
 -- the ending of a copy's run, where there is no property
 pub ending-copied : (campaign : Campaign) (inputs : List ℕ) (seed : ℕ) (start v w : World) (chosen : ℕ → Bool) (outcome : Outcome)
     (harts left : List HartValue) (ending : EndingValue) → unjudged campaign.properties ≡ []
     → v ≡ start → RanOver (drawn_choices campaign.draw v (length inputs) campaign.steps seed) v w chosen → harts ≡ w.harts → left ≡ w.harts
     → ((choices : List Choice) → ((k : ℕ) → chosen k ≡ is_chosen choices k) → outcome ≡ judged campaign.expect.rule inputs choices harts)
-    → ending ≡ ending_with campaign.report outcome [] left
+    → ending ≡ ending_with campaign.form campaign.report outcome [] left
     → record { seed = seed; ending = ending } ≡ ending_from start campaign inputs seed
 unfolding ending_from
 ending-copied campaign inputs seed start v w chosen outcome harts left ending none copied ran ends rest judges is =

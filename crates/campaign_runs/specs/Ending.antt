@@ -14,12 +14,16 @@ use Rattle.outcome.specs.declared.run_outcome.Outcome.{Outcome}
 use Rattle.property_judge.specs.declared.judged.Judged.{Judged}
 use Rattle.object_library.specs.declared.verdict.Verdict.{Verdict}
 use Rattle.object_library.specs.declared.verdict.Verdict.TheVariants.{Kept, Broken}
+use Rattle.cmd_form.specs.declared.form.Form.{Form}
+use Rattle.cmd_form.specs.declared.form.Form.TheVariants.{Text, Json}
+use Rattle.campaign_runs.specs.Members.{ending_members}
 use Rattle.campaign_runs.specs.Properties.{property_words, verdict_on_each}
 use Rattle.campaign_runs.specs.declared.campaign.Report.{Report}
 use Rattle.campaign_runs.specs.declared.campaign.Report.TheVariants.{Lines, Failures, Summary, Outcomes, Causes}
 use Rattle.campaign_runs.specs.declared.ending.Ending.{Ending}
 
--- the outcome of a run, the verdict on its properties, and what else a line of the report says
+-- the outcome of a run, the verdict on its properties, and what else a line of the report says in
+-- the report's form
 pub record EndingValue : Type 0 where
   pub outcome : Outcome
   pub properties : Option Verdict
@@ -63,12 +67,17 @@ ending_words Summary harts = []
 ending_words Outcomes harts = results_from 0 harts
 ending_words Causes harts = faults_of harts
 
+-- the same with what it says of properties before, or what an object of the report says of both
+abbrev pub words_of_ending : Form → Report → List Judged → List HartValue → List ℕ
+words_of_ending Text report judged harts = property_words judged ++ ending_words report harts
+words_of_ending Json report judged harts = ending_members report judged harts
+
 -- the ending of a run with this outcome that left these properties and harts
-abbrev pub ending_with : Report → Outcome → List Judged → List HartValue → EndingValue
-ending_with report outcome judged harts = record {
+abbrev pub ending_with : Form → Report → Outcome → List Judged → List HartValue → EndingValue
+ending_with form report outcome judged harts = record {
   outcome = outcome;
   properties = verdict_on_each judged;
-  words = property_words judged ++ ending_words report harts;
+  words = words_of_ending form report judged harts;
 }
 
 -- whether a rule or a property is broken

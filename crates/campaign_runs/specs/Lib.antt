@@ -1,6 +1,8 @@
 pub mod Seeds
 pub mod Blocks
 pub mod Properties
+pub mod Members
+pub mod Elements
 pub mod Ending
 pub mod Runs
 pub mod Tally

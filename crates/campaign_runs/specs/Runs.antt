@@ -23,7 +23,7 @@ seed_ending end = record { seed = end.seed; ending = ending_of end.ending }
 
 -- the ending of the run from a world over a list of choices
 abbrev pub ending_after : World → Campaign → List ℕ → List Choice → EndingValue
-ending_after world campaign inputs choices = ending_with campaign.report
+ending_after world campaign inputs choices = ending_with campaign.form campaign.report
     (judged campaign.expect.rule inputs choices (run world choices).harts)
     (judged_over campaign.properties world choices) (run world choices).harts
 

@@ -1,6 +1,7 @@
 //! The runs of a campaign, and what it reports of them.
 
 use crate::properties::Properties;
+use cmd_form::Form;
 use outcome::Expect;
 use sched_draw::Draw;
 
@@ -37,4 +38,6 @@ pub struct Campaign {
     pub properties: Properties,
     /// What is reported of the runs.
     pub report: Report,
+    /// In which form it is reported.
+    pub form: Form,
 }

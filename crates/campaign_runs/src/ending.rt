@@ -3,10 +3,12 @@
 ghost use Rattle.std.specs.Prelude.{◌≡◌, ◌++◌, IfOk, map, string_bytes};
 ghost use Rattle.hart_step.specs.Hart.{hart_of};
 ghost use Rattle.campaign_runs.specs.Ending.{ending_words, fault_words, faults_of, result_words};
-ghost use Rattle.campaign_runs.specs.Ending.{results_from};
+ghost use Rattle.campaign_runs.specs.Ending.{results_from, words_of_ending};
 ghost use Rattle.campaign_runs.specs.Properties.{any_broken, property_name, property_words, verdict_by, verdict_on_each, words_of_property};
 
 use crate::campaign::Report;
+use crate::members::push_members;
+use cmd_form::Form;
 use hart_step::{Hart, HartState};
 use isa_names::Word;
 use object_library::Verdict;
@@ -27,8 +29,8 @@ pub struct Ending<A: Allocator> {
     pub outcome: Outcome,
     /// The verdict on the properties of one's own, if there are some: `Broken` if one is broken.
     pub properties: Option<Verdict>,
-    /// What else a line of the report says, of the properties and of the harts, each word behind a
-    /// space.
+    /// What else a line of the report says, of the properties and of the harts: as text each word
+    /// behind a space, as JSON each member behind a comma.
     pub words: String<A>,
 }
 
@@ -36,20 +38,20 @@ impl<A: Allocator> Ending<A> {
     ghost use Rattle.campaign_runs.specs.Ending.{ending_breaks, ending_fails, ending_of, ending_with};
 
     /// The ending of a run with this outcome that left these properties and harts, in the detail
-    /// that a report distinguishes. The only error is out of memory.
+    /// that a report distinguishes, for a report in this form. The only error is out of memory.
     pub fn of(
         alloc: A,
+        form: Form,
         report: Report,
         outcome: Outcome,
         judged: &[Judged],
         harts: &[Hart],
     ) -> Result<Ending<A>, AllocError>
         ensures { IfOk result (λ ending.
-            ending_of ending ≡ ending_with report outcome judged.now (map hart_of harts.now)) }
+            ending_of ending ≡ ending_with form report outcome judged.now (map hart_of harts.now)) }
     {
         let mut words = String::new(alloc);
-        push_properties(&mut words, judged)?;
-        push_harts(&mut words, report, harts)?;
+        push_words(&mut words, form, report, judged, harts)?;
         Ok(Ending {
             outcome,
             properties: verdict_on_each(judged),
@@ -72,8 +74,29 @@ impl<A: Allocator> Ending<A> {
     }
 }
 
-// Whether a property was kept.
-fn verdict_by(broken: Option<usize>) -> Verdict
+// Appends what a report in this form says of properties and harts.
+fn push_words<A: Allocator>(
+    text: &mut String<A>,
+    form: Form,
+    report: Report,
+    judged: &[Judged],
+    harts: &[Hart],
+) -> Result<(), AllocError>
+    ensures { IfOk result (λ _. string_bytes text.new
+        ≡ string_bytes text.old ++ words_of_ending form report judged.now (map hart_of harts.now)) }
+{
+    match form {
+        Form::Text => {
+            push_properties(text, judged)?;
+            push_harts(text, report, harts)?;
+        }
+        Form::Json => push_members(text, report, judged, harts)?,
+    }
+    Ok(())
+}
+
+/// Whether a property was kept.
+pub(crate) fn verdict_by(broken: Option<usize>) -> Verdict
     ensures { result ≡ verdict_by broken }
 {
     match broken {

@@ -3,6 +3,7 @@
 #![tactic(auto)]
 
 pub use campaign::{Campaign, Report};
+pub use cmd_form::Form;
 pub use ending::Ending;
 pub use jobs::Jobs;
 pub use laws::{blocks_are_counted_together, each_ending_is_counted, same_endings_are_equal};
@@ -17,6 +18,7 @@ mod campaign;
 mod ending;
 mod jobs;
 mod laws;
+mod members;
 mod properties;
 mod runner;
 mod seed_run;

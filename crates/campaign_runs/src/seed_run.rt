@@ -74,7 +74,14 @@ fn run_plain<S: FromImage<A>, A: Allocator + Copy>(
     let outcome = campaign
         .expect
         .judge(alloc, inputs.words(), &chosen, machine.ends())?;
-    let ending = Ending::of(alloc, campaign.report, outcome, &[], machine.ends())?;
+    let ending = Ending::of(
+        alloc,
+        campaign.form,
+        campaign.report,
+        outcome,
+        &[],
+        machine.ends(),
+    )?;
     Ok(SeedEnd { seed, ending })
 }
 
@@ -127,7 +134,14 @@ pub fn ending_of_choices<S: FromImage<A>, A: Allocator + Copy>(
         machine.ends(),
     );
     let outcome = Outcome::of(verdict, machine.ends());
-    Ending::of(alloc, campaign.report, outcome, &judged, machine.ends())
+    Ending::of(
+        alloc,
+        campaign.form,
+        campaign.report,
+        outcome,
+        &judged,
+        machine.ends(),
+    )
 }
 
 // As `run_seed`: the choices are held as a list.

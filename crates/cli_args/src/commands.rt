@@ -4,7 +4,7 @@ use crate::arguments::Argument;
 use crate::help::{
     ALWAYS, BANKED, BOUNDS, BROKEN_WORD, BUDGET, BY_CAUSE, CHOICES_OF, COUNT, DRAW,
     DRAW_OF_SCHEDULE, FILE, FIRST, HANGS, HEX, HISTORY, INPUTS, INPUTS_OF_SCHEDULE, JOBS, JSON,
-    MUST_EXIT, NEVER_BOTH, OUTCOMES, PREEMPTIONS, REFUSALS, REFUSE, RULE, SC_REFUSALS,
+    JSON_LINES, MUST_EXIT, NEVER_BOTH, OUTCOMES, PREEMPTIONS, REFUSALS, REFUSE, RULE, SC_REFUSALS,
     SHARED_RANGE, STEPS_OF_CAMPAIGN, SUMMARY, UNTIL_FAILURE, WAYS_OUT, WORLDS, WRITTEN,
 };
 
@@ -224,6 +224,7 @@ static ROW_OF_CAMPAIGN: CommandRow = CommandRow {
         Argument::Optional("jobs", JOBS),
         Argument::Optional("preemptions", PREEMPTIONS),
         Argument::With("choices-of", "preemptions", CHOICES_OF),
+        Argument::Flag("json", JSON_LINES),
     ],
     schedule: Schedule::None,
 };

@@ -85,6 +85,9 @@ pub(crate) const JSON: &str = "print one object of JSON, with the same facts";
 pub(crate) const WAYS_OUT: &str =
     "a list after which no list lets all harts stop is a failure, with status 3";
 
+/// Of `--json` of `campaign`.
+pub(crate) const JSON_LINES: &str = "print each line as an object of JSON, with the same facts";
+
 /// Of `--bounds` of `explore`.
 pub(crate) const BOUNDS: &str =
     "also print after how many own steps each hart has stopped, in every schedule";

@@ -42,10 +42,10 @@ fn refuse_others<R: Print + Eprint>(rt: &R, order: &CampaignOrder) -> Result<(),
             "--preemptions draws no choices and uses one thread: --schedule, --refusals and --jobs don't go with it",
         ));
     }
-    if order.until_failure || order.has_properties() {
+    if order.until_failure || order.has_properties() || order.json {
         return Err(bad_line(
             rt,
-            "--until-failure, --never-both and --always don't go with --preemptions",
+            "--until-failure, --never-both, --always and --json don't go with --preemptions",
         ));
     }
     if order.choices_of.is_some() && (order.first.is_some() || order.count.is_some()) {

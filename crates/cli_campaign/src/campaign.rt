@@ -16,7 +16,7 @@ use cli_values::{
     JOBS, SeedNumbers, SeedPlan, read_draw, read_jobs, read_report, read_seed_numbers, seed_engine,
 };
 use cmd_campaign::{
-    Campaign, Exit, Expect, Finished, Jobs, OnThreads, Properties, Report, campaign_engine,
+    Campaign, Exit, Expect, Finished, Form, Jobs, OnThreads, Properties, Report, campaign_engine,
     until_failure_engine,
 };
 use program_open::{ProgramForm, write_text};
@@ -118,7 +118,13 @@ fn read_campaign<R: Print + Eprint>(rt: &R, order: &CampaignOrder) -> Result<Cam
         expect,
         properties: Properties::NONE,
         report,
+        form: form_of(order),
     })
+}
+
+// In which form an order's report is printed.
+fn form_of(order: &CampaignOrder) -> Form {
+    if order.json { Form::Json } else { Form::Text }
 }
 
 // Why options of a report don't go together.
@@ -198,7 +204,9 @@ fn report_campaign<R: Files + AllocGlobal + Print + Eprint + Threads + Sync, P: 
     requires fits { campaign.first + campaign.count ≤ 2 ^ 64 }
     requires program_counts { P.failures program.old < 2 ^ 64 - 1 }
 {
-    let names_places = campaign.report == Report::Causes && audience.is_told();
+    let names_places = campaign.report == Report::Causes
+        && campaign.form == Form::Text
+        && audience.is_told();
     let kept = if names_places {
         Some(Vec::new(rt.alloc()))
     } else {

@@ -5,10 +5,10 @@ use cli_args::{is_set, text_of};
 
 /// `campaign FILE --inputs L --first S --count C --steps N [--rule K] [--failures]
 /// [--until-failure] [--summary] [--outcomes] [--by-cause] [--schedule KIND]
-/// [--refusals never|one-in:N] [--must-exit] [--never-both R] [--always P] [--jobs J]`: runs a program
-/// under a random schedule for each of C seeds from S on, and prints a line for each, with a rule also
-/// its verdict; or the lines of bad seeds alone, or of the first of them, or how many seeds end in
-/// which way. With `--preemptions K [--choices-of N]` it does so for every schedule with at most K
+/// [--refusals never|one-in:N] [--must-exit] [--never-both R] [--always P] [--jobs J] [--json]`: runs a
+/// program under a random schedule for each of C seeds from S on, and prints a line for each, with a
+/// rule also its verdict; or the lines of bad seeds alone, or of the first of them, or how many seeds
+/// end in which way. With `--preemptions K [--choices-of N]` it does so for every schedule with at most K
 /// preemptions.
 #[derive(Drop)]
 pub struct CampaignOrder<'a> {
@@ -50,6 +50,8 @@ pub struct CampaignOrder<'a> {
     pub preemptions: Option<&'a str>,
     /// The schedule whose choices alone are printed.
     pub choices_of: Option<&'a str>,
+    /// Whether each line is an object of JSON.
+    pub json: bool,
 }
 
 impl<'a> CampaignOrder<'a> {
@@ -81,5 +83,6 @@ pub(crate) fn campaign_order<'a>(matches: &ArgMatches<'a>) -> Option<CampaignOrd
         jobs: text_of(matches, "jobs"),
         preemptions: text_of(matches, "preemptions"),
         choices_of: text_of(matches, "choices-of"),
+        json: is_set(matches, "json"),
     })
 }

@@ -13,6 +13,7 @@ use Rattle.machine.specs.Start.{started}
 use Rattle.program_open.specs.Answers.{Begins}
 use Rattle.outcome.specs.Expect.{status_by}
 use Rattle.outcome.specs.declared.expect.Exit.{Exit}
+use Rattle.cmd_form.specs.declared.form.Form.{Form}
 use Rattle.campaign_runs.specs.Ending.{ending_breaks}
 use Rattle.campaign_runs.specs.Runs.{SeedEnding, all_endings, seed_ending, ending_from, endings_of}
 use Rattle.campaign_runs.specs.Tally.{TallyRow, seeds_in, tally_of, tally_onto}
@@ -72,13 +73,13 @@ first_failure-append exit (end ∷ done) block = by (has_failed exit end) (first
     by true rest = refl
     by false rest = rest
 
-module _ (report : Report) (exit : Exit) where
+module _ (form : Form) (report : Report) (exit : Exit) where
   -- the runs that are done are recorded, and it is known which of them has failed first; the others
   -- are to come
   pub record SoFar (all left : List SeedEnding) (old now : Option (List ℕ)) (rows : List TallyRow) (broken : Bool) (first : Option ℕ) : Type 0 where
     pub done : List SeedEnding
     pub order : all ≡ done ++ left
-    pub text : Appends old now (report_entries report exit done)
+    pub text : Appends old now (report_entries form report exit done)
     pub counted : rows ≡ tally_of (counted_of report done)
     pub breaking : broken ≡ any_breaks done
     pub failing : first ≡ first_failure exit done
@@ -103,15 +104,15 @@ module _ (report : Report) (exit : Exit) where
 
   -- one block later
   pub goes_on : (all runs block left : List SeedEnding) (old now new : Option (List ℕ)) (rows rows_now : List TallyRow) (broken broken_now : Bool)
-      (first first_now : Option ℕ) → runs ≡ block ++ left → Appends now new (report_entries report exit block)
+      (first first_now : Option ℕ) → runs ≡ block ++ left → Appends now new (report_entries form report exit block)
       → rows_now ≡ tally_onto rows (counted_of report block) → broken_now ≡ (broken || any_breaks block)
       → first_now ≡ first_or first (first_failure exit block)
       → SoFar all runs old now rows broken first → SoFar all left old new rows_now broken_now first_now
   goes_on all runs block left old now new rows rows_now broken broken_now first first_now split more counts breaks_too fails_too before = record {
     done = before.done ++ block;
     order = before.order ∙ ap (λ rest. before.done ++ rest) split ∙ sym (append_assoc before.done block left);
-    text = subst (λ text. Appends old new text) (sym (flat_map-append (report_entry report exit) before.done block))
-        (Appends-trans old now new (report_entries report exit before.done) (report_entries report exit block) before.text more);
+    text = subst (λ text. Appends old new text) (sym (flat_map-append (report_entry form report exit) before.done block))
+        (Appends-trans old now new (report_entries form report exit before.done) (report_entries form report exit block) before.text more);
     counted = counts ∙ ap (λ rs. tally_onto rs (counted_of report block)) before.counted
         ∙ sym (tally_onto-append [] (counted_of report before.done) (counted_of report block))
         ∙ ap tally_of (sym (counted_of-append report before.done block));
@@ -123,7 +124,7 @@ module _ (report : Report) (exit : Exit) where
 
   -- all is done
   pub record IsDone (all : List SeedEnding) (old now : Option (List ℕ)) (rows : List TallyRow) (finished : Finished) : Type 0 where
-    pub written : Appends old now (report_entries report exit all)
+    pub written : Appends old now (report_entries form report exit all)
     pub counted : rows ≡ tally_of (counted_of report all)
     pub finished_is : finished ≡ finished_of exit all
 
@@ -134,7 +135,7 @@ module _ (report : Report) (exit : Exit) where
       let whole : h.done ≡ all = sym (h.order ∙ ap (λ rest. h.done ++ rest) none ∙ append-nil h.done) in
       let breaking : broken ≡ any_breaks all = h.breaking ∙ ap any_breaks whole in
       let failing : first ≡ first_failure exit all = h.failing ∙ ap (first_failure exit) whole in record {
-        written = subst (λ runs. Appends old now (report_entries report exit runs)) whole h.text;
+        written = subst (λ runs. Appends old now (report_entries form report exit runs)) whole h.text;
         counted = h.counted ∙ ap (λ runs. tally_of (counted_of report runs)) whole;
         finished_is = λ i. record {
           status = (status ∙ ap₂ (λ b f. status_by b (is_some f)) breaking failing) i;
@@ -144,28 +145,28 @@ module _ (report : Report) (exit : Exit) where
 
   -- a halt between two blocks
   pub halts_between : (all left : List SeedEnding) (old now : Option (List ℕ)) (rows : List TallyRow) (broken : Bool) (first : Option ℕ)
-      → SoFar all left old now rows broken first → Begins (report_entries report exit all) old now
+      → SoFar all left old now rows broken first → Begins (report_entries form report exit all) old now
   halts_between all left old now rows broken first h =
-      subst (λ bytes. Begins bytes old now) (sym (ap (report_entries report exit) h.order ∙ flat_map-append (report_entry report exit) h.done left))
-      (begins_at old now (report_entries report exit h.done) (report_entries report exit left) h.text)
+      subst (λ bytes. Begins bytes old now) (sym (ap (report_entries form report exit) h.order ∙ flat_map-append (report_entry form report exit) h.done left))
+      (begins_at old now (report_entries form report exit h.done) (report_entries form report exit left) h.text)
 
   -- a halt within a block
   pub halts_in_block : (all runs block left : List SeedEnding) (old now new : Option (List ℕ)) (rows : List TallyRow) (broken : Bool) (first : Option ℕ)
-      → runs ≡ block ++ left → SoFar all runs old now rows broken first → Begins (report_entries report exit block) now new
-      → Begins (report_entries report exit all) old new
+      → runs ≡ block ++ left → SoFar all runs old now rows broken first → Begins (report_entries form report exit block) now new
+      → Begins (report_entries form report exit all) old new
   halts_in_block all runs block left old now new rows broken first split h more =
       let order : all ≡ h.done ++ (block ++ left) = h.order ∙ ap (λ rest. h.done ++ rest) split in
-      let text : report_entries report exit all
-      ≡ report_entries report exit h.done ++ (report_entries report exit block ++ report_entries report exit left)
-      = ap (report_entries report exit) order ∙ flat_map-append (report_entry report exit) h.done (block ++ left)
-      ∙ ap (λ rest. report_entries report exit h.done ++ rest) (flat_map-append (report_entry report exit) block left) in
+      let text : report_entries form report exit all
+      ≡ report_entries form report exit h.done ++ (report_entries form report exit block ++ report_entries form report exit left)
+      = ap (report_entries form report exit) order ∙ flat_map-append (report_entry form report exit) h.done (block ++ left)
+      ∙ ap (λ rest. report_entries form report exit h.done ++ rest) (flat_map-append (report_entry form report exit) block left) in
       subst (λ bytes. Begins bytes old new) (sym text)
-      (begins_in old now new (report_entries report exit h.done) (report_entries report exit block) (report_entries report exit left) more.0 h.text more.1)
+      (begins_in old now new (report_entries form report exit h.done) (report_entries form report exit block) (report_entries form report exit left) more.0 h.text more.1)
 
 -- the runs of a block can be counted, as all can
 pub room : (campaign : Campaign) (image : ImageValue) (inputs : List ℕ) (runs left : List SeedEnding) (old now : Option (List ℕ)) (rows : List TallyRow)
     (broken : Bool) (first : Option ℕ) {Z : Type 0} (ends : List (SeedEnd Z))
-    → SoFar campaign.report campaign.expect.exit (all_endings campaign image inputs) runs old now rows broken first
+    → SoFar campaign.form campaign.report campaign.expect.exit (all_endings campaign image inputs) runs old now rows broken first
     → runs ≡ map seed_ending ends ++ left → campaign.count < 2 ^ 64 → seeds_in rows + length ends < 2 ^ 64
 room campaign image inputs runs left old now rows broken first ends h split few =
     let all : campaign.count ≡ length h.done + (length (map seed_ending ends) + length left)

@@ -7,7 +7,7 @@ use Rattle.std.proofs.lemmas.List.Elements.{All-nil, All-cons}
 use Rattle.image.specs.Image.{ImageValue}
 use Rattle.hart_reservations.specs.Limit.{most_harts}
 use Rattle.machine.specs.Start.{IsStartable, started}
-use Rattle.machine.specs.World.{run}
+use Rattle.machine.specs.World.{World, run}
 use Rattle.sched_draw.specs.Schedules.{drawn_choices}
 use Rattle.sched_draw.proofs.ChoiceLemmas.{drawn_choices-within}
 use Rattle.outcome.specs.Ends.{verdict_on}
@@ -22,8 +22,10 @@ use Rattle.outcome.specs.declared.expect.Exit.TheVariants.{May, Must}
 use Rattle.program_open.specs.Program.{program_of}
 use Rattle.program_open.specs.declared.program.ProgramForm.TheVariants as form
 use Rattle.program_open.specs.declared.command_fault.CommandFault.{CommandFault}
-use Rattle.campaign_runs.specs.Ending.{ending_breaks, ending_words}
-use Rattle.campaign_runs.specs.Properties.{judged_over, no_properties, property_words, verdict_on_each}
+use Rattle.cmd_form.specs.declared.form.Form.{Form}
+use Rattle.cmd_form.specs.declared.form.Form.TheVariants.{Text, Json}
+use Rattle.campaign_runs.specs.Ending.{ending_breaks, words_of_ending}
+use Rattle.campaign_runs.specs.Properties.{judged_over, no_properties, verdict_on_each}
 use Rattle.campaign_runs.specs.Runs.{SeedEnding, all_endings, ending_from, endings_of}
 use Rattle.campaign_runs.specs.declared.campaign.Campaign.{Campaign}
 use Rattle.campaign_runs.specs.declared.campaign.Report.{Report}
@@ -49,6 +51,15 @@ WordlessIn Failures ends = AllWordless ends
 WordlessIn Summary ends = Unit {0}
 WordlessIn Outcomes ends = Unit {0}
 WordlessIn Causes ends = Unit {0}
+
+-- without properties they say nothing more, in either form
+none_in_lines : (form : Form) (w : World) → words_of_ending form Lines [] w.harts ≡ []
+none_in_lines Text w = refl
+none_in_lines Json w = refl
+
+none_in_failures : (form : Form) (w : World) → words_of_ending form Failures [] w.harts ≡ []
+none_in_failures Text w = refl
+none_in_failures Json w = refl
 
 module _ (kind : Kind) (image : ImageValue) (campaign : Campaign) (inputs : List ℕ) (some : 0 < length inputs) (same : IsSame image (image_of kind))
     (meant : IsMeantFor kind (length inputs)) (words : All (λ x. x < 2 ^ 32) inputs) (ruled : campaign.expect.rule ≡ Some kind) where
@@ -79,14 +90,19 @@ module _ (kind : Kind) (image : ImageValue) (campaign : Campaign) (inputs : List
         let choices = drawn_choices campaign.draw (started image inputs) (length inputs) campaign.steps seed in
         ap (λ properties. verdict_on_each (judged_over properties (started image inputs) choices)) bare
 
+    -- the world after the run of a seed
+    abbrev after_seed : ℕ → World
+    after_seed seed =
+        run (started image inputs) (drawn_choices campaign.draw (started image inputs) (length inputs) campaign.steps seed)
+
     -- so an ending has the words of harts alone
-    harts_words : (report : Report) → campaign.report ≡ report → (seed : ℕ) → (end seed).ending.words
-        ≡ ending_words report (run (started image inputs) (drawn_choices campaign.draw (started image inputs) (length inputs) campaign.steps seed)).harts
+    harts_words : (report : Report) → campaign.report ≡ report
+        → (seed : ℕ) → (end seed).ending.words ≡ words_of_ending campaign.form report [] (after_seed seed).harts
     unfolding end ending_from
     harts_words report is seed =
         let choices = drawn_choices campaign.draw (started image inputs) (length inputs) campaign.steps seed in
         let harts = (run (started image inputs) choices).harts in
-        ap₂ (λ properties r. property_words (judged_over properties (started image inputs) choices) ++ ending_words r harts) bare is
+        ap₂ (λ properties r. words_of_ending campaign.form r (judged_over properties (started image inputs) choices) harts) bare is
 
     all_wordless : ((seed : ℕ) → (end seed).ending.words ≡ []) → (seeds : List ℕ) → AllWordless (endings_of campaign image inputs seeds)
     unfolding endings_of end
@@ -96,8 +112,8 @@ module _ (kind : Kind) (image : ImageValue) (campaign : Campaign) (inputs : List
 
     -- so lines of seeds have none
     pub lines_wordless : (report : Report) → campaign.report ≡ report → (seeds : List ℕ) → WordlessIn report (endings_of campaign image inputs seeds)
-    lines_wordless Lines is seeds = all_wordless (harts_words Lines is) seeds
-    lines_wordless Failures is seeds = all_wordless (harts_words Failures is) seeds
+    lines_wordless Lines is seeds = all_wordless (λ seed. harts_words Lines is seed ∙ none_in_lines campaign.form (after_seed seed)) seeds
+    lines_wordless Failures is seeds = all_wordless (λ seed. harts_words Failures is seed ∙ none_in_failures campaign.form (after_seed seed)) seeds
     lines_wordless Summary is seeds = tt
     lines_wordless Outcomes is seeds = tt
     lines_wordless Causes is seeds = tt
@@ -123,17 +139,17 @@ module _ (kind : Kind) (image : ImageValue) (campaign : Campaign) (inputs : List
         ap₂ (λ failed rest. cond failed (Some (end seed).seed) rest) (fails_not seed) (none_fails seeds)
 
     -- so none has a line among the failures
-    none_listed : (seeds : List ℕ) → report_entries Failures May (endings_of campaign image inputs seeds) ≡ []
+    none_listed : (seeds : List ℕ) → report_entries campaign.form Failures May (endings_of campaign image inputs seeds) ≡ []
     unfolding endings_of end
     none_listed [] = refl
     none_listed (seed ∷ seeds) =
-        ap₂ (λ failed rest. cond failed (end_entry (end seed)) [] ++ rest) (fails_not seed) (none_listed seeds)
+        ap₂ (λ failed rest. cond failed (end_entry campaign.form (end seed)) [] ++ rest) (fails_not seed) (none_listed seeds)
 
     nothing : (report : Report) (exit : Exit) (seeds : List ℕ) → report ≡ Failures → exit ≡ May
-        → (report_text report exit (endings_of campaign image inputs seeds) ≡ []) × (campaign_status exit (endings_of campaign image inputs seeds) ≡ status.Done)
+        → (report_text campaign.form report exit (endings_of campaign image inputs seeds) ≡ []) × (campaign_status exit (endings_of campaign image inputs seeds) ≡ status.Done)
     nothing report exit seeds failures may =
         let ends = endings_of campaign image inputs seeds in (
-          ap₂ (λ r e. report_text r e ends) failures may ∙ none_listed seeds,
+          ap₂ (λ r e. report_text campaign.form r e ends) failures may ∙ none_listed seeds,
           ap (λ e. campaign_status e ends) may ∙ ap₂ (λ b f. status_by b (is_some f)) (none_breaks seeds) (none_fails seeds),
         )
 

@@ -8,6 +8,7 @@ use Rattle.std.proofs.lemmas.List.{take-append-le}
 use Rattle.std.specs.Io.KnownBytes.{Appends, Keeps}
 use Rattle.program_open.specs.Answers.{Begins}
 use Rattle.outcome.specs.declared.expect.Exit.{Exit}
+use Rattle.cmd_form.specs.declared.form.Form.{Form}
 use Rattle.campaign_runs.specs.Runs.{SeedEnding}
 use Rattle.campaign_runs.specs.Tally.{TallyRow, tally_of}
 use Rattle.campaign_runs.specs.declared.campaign.Report.{Report}
@@ -70,21 +71,21 @@ is_summary report (inl is) = subst IsSummary (sym is) tt
 is_summary report (inr (inl is)) = subst IsSummary (sym is) tt
 is_summary report (inr (inr is)) = subst IsSummary (sym is) tt
 
-module _ (exit : Exit) where
-  none_in_summary : (ends : List SeedEnding) → report_entries Summary exit ends ≡ []
+module _ (form : Form) (exit : Exit) where
+  none_in_summary : (ends : List SeedEnding) → report_entries form Summary exit ends ≡ []
   none_in_summary [] = refl
   none_in_summary (end ∷ ends) = none_in_summary ends
 
-  none_in_outcomes : (ends : List SeedEnding) → report_entries Outcomes exit ends ≡ []
+  none_in_outcomes : (ends : List SeedEnding) → report_entries form Outcomes exit ends ≡ []
   none_in_outcomes [] = refl
   none_in_outcomes (end ∷ ends) = none_in_outcomes ends
 
-  none_in_causes : (ends : List SeedEnding) → report_entries Causes exit ends ≡ []
+  none_in_causes : (ends : List SeedEnding) → report_entries form Causes exit ends ≡ []
   none_in_causes [] = refl
   none_in_causes (end ∷ ends) = none_in_causes ends
 
   -- of a summary there is nothing while the runs go on
-  no_entries : (report : Report) (ends : List SeedEnding) → IsSummary report → report_entries report exit ends ≡ []
+  no_entries : (report : Report) (ends : List SeedEnding) → IsSummary report → report_entries form report exit ends ≡ []
   no_entries Lines ends h = absurd h
   no_entries Failures ends h = absurd h
   no_entries Summary ends h = none_in_summary ends
@@ -93,53 +94,53 @@ module _ (exit : Exit) where
 
   -- so nothing is to be written of it then
   pub nothing_written : {V E : Type 0} (r : Result V E) (report : Report) (ends : List SeedEnding) (old : Option (List ℕ)) → IsSummary report
-      → IfOk r (λ _. Appends old old (report_entries report exit ends))
+      → IfOk r (λ _. Appends old old (report_entries form report exit ends))
   nothing_written r report ends old summary =
-      if_ok r (Appends old old (report_entries report exit ends))
+      if_ok r (Appends old old (report_entries form report exit ends))
       (subst (Appends old old) (sym (no_entries report ends summary)) (Appends-nil old))
 
   -- a report is what there is of it while the runs go on, and then the rows of what is counted
   report_is : (report : Report) (ends : List SeedEnding)
-      → report_entries report exit ends ++ rows_text (tally_of (counted_of report ends)) ≡ report_text report exit ends
-  report_is Lines ends = append-nil (report_entries Lines exit ends)
-  report_is Failures ends = append-nil (report_entries Failures exit ends)
-  report_is Summary ends = ap (λ text. text ++ rows_text (tally_of ends)) (none_in_summary ends)
-  report_is Outcomes ends = ap (λ text. text ++ rows_text (tally_of ends)) (none_in_outcomes ends)
-  report_is Causes ends = ap (λ text. text ++ rows_text (tally_of ends)) (none_in_causes ends)
+      → report_entries form report exit ends ++ rows_text form (tally_of (counted_of report ends)) ≡ report_text form report exit ends
+  report_is Lines ends = append-nil (report_entries form Lines exit ends)
+  report_is Failures ends = append-nil (report_entries form Failures exit ends)
+  report_is Summary ends = ap (λ text. text ++ rows_text form (tally_of ends)) (none_in_summary ends)
+  report_is Outcomes ends = ap (λ text. text ++ rows_text form (tally_of ends)) (none_in_outcomes ends)
+  report_is Causes ends = ap (λ text. text ++ rows_text form (tally_of ends)) (none_in_causes ends)
 
   module _ (report : Report) (ends : List SeedEnding) (rows : List TallyRow) (counted : rows ≡ tally_of (counted_of report ends)) where
-    both : report_entries report exit ends ++ rows_text rows ≡ report_text report exit ends
-    both = ap (λ rs. report_entries report exit ends ++ rows_text rs) counted ∙ report_is report ends
+    both : report_entries form report exit ends ++ rows_text form rows ≡ report_text form report exit ends
+    both = ap (λ rs. report_entries form report exit ends ++ rows_text form rs) counted ∙ report_is report ends
 
     -- the whole report
-    pub report_written : (old now new : Option (List ℕ)) → Appends old now (report_entries report exit ends) → Appends now new (rows_text rows)
-        → Appends old new (report_text report exit ends)
+    pub report_written : (old now new : Option (List ℕ)) → Appends old now (report_entries form report exit ends) → Appends now new (rows_text form rows)
+        → Appends old new (report_text form report exit ends)
     report_written old now new before more =
-        subst (Appends old new) both (Appends-trans old now new (report_entries report exit ends) (rows_text rows) before more)
+        subst (Appends old new) both (Appends-trans old now new (report_entries form report exit ends) (rows_text form rows) before more)
 
     -- a beginning of it, where its rows are cut off
-    pub report_begun : (old now new : Option (List ℕ)) → Appends old now (report_entries report exit ends) → Begins (rows_text rows) now new
-        → Begins (report_text report exit ends) old new
+    pub report_begun : (old now new : Option (List ℕ)) → Appends old now (report_entries form report exit ends) → Begins (rows_text form rows) now new
+        → Begins (report_text form report exit ends) old new
     report_begun old now new before more =
-        subst (λ text. Begins text old new) (ap (λ text. report_entries report exit ends ++ text) (append-nil (rows_text rows)) ∙ both)
-        (begins_in old now new (report_entries report exit ends) (rows_text rows) [] more.0 before more.1)
+        subst (λ text. Begins text old new) (ap (λ text. report_entries form report exit ends ++ text) (append-nil (rows_text form rows)) ∙ both)
+        (begins_in old now new (report_entries form report exit ends) (rows_text form rows) [] more.0 before more.1)
 
   -- a beginning of it, where the runs are cut off
-  pub runs_begun : (report : Report) (ends : List SeedEnding) (old new : Option (List ℕ)) → Begins (report_entries report exit ends) old new
-      → Begins (report_text report exit ends) old new
+  pub runs_begun : (report : Report) (ends : List SeedEnding) (old new : Option (List ℕ)) → Begins (report_entries form report exit ends) old new
+      → Begins (report_text form report exit ends) old new
   runs_begun report ends old new h =
       subst (λ text. Begins text old new) (report_is report ends)
-      (begins_in old old new [] (report_entries report exit ends) (rows_text (tally_of (counted_of report ends))) h.0 (Appends-nil old) h.1)
+      (begins_in old old new [] (report_entries form report exit ends) (rows_text form (tally_of (counted_of report ends))) h.0 (Appends-nil old) h.1)
 
   -- nothing of a summary, where the runs are cut off
   pub summary_kept : (report : Report) (ends : List SeedEnding) (old new : Option (List ℕ)) → IsSummary report
-      → Begins (report_entries report exit ends) old new → Keeps old new
+      → Begins (report_entries form report exit ends) old new → Keeps old new
   summary_kept report ends old new summary h =
       keeps_with_none old new
       (subst (Appends old new) (ap (take h.0) (no_entries report ends summary) ∙ take_none h.0) h.1)
 
   -- nor where its rows are not written
   pub summary_unwritten : (report : Report) (ends : List SeedEnding) (old now new : Option (List ℕ)) → IsSummary report
-      → Appends old now (report_entries report exit ends) → Keeps now new → Keeps old new
+      → Appends old now (report_entries form report exit ends) → Keeps now new → Keeps old new
   summary_unwritten report ends old now new summary h kept =
       keeps-trans old now new (keeps_with_none old now (subst (Appends old now) (no_entries report ends summary) h)) kept

@@ -2,17 +2,18 @@
 use Rattle.std.proofs.Common.{◌≡◌, ℕ, ◌+◌, List, ◌∷◌, ◌++◌, drop, slice_get, Some, append_assoc, ap, sym, ◌∙◌}
 use Rattle.std.proofs.lemmas.List.{drop_more}
 use Rattle.std.proofs.lemmas.Option.{get_or_from_slice_get, slice_get_within}
+use Rattle.cmd_form.specs.declared.form.Form.{Form}
 use Rattle.campaign_runs.specs.Tally.{TallyRow}
 use Rattle.cmd_campaign.specs.Summary.{row_entry, rows_text}
 
 -- one line more is there, and one row less is left
-pub one_line_more : (rows : List TallyRow) (place : ℕ) (row : TallyRow) (before after all : List ℕ)
-    → slice_get rows place ≡ Some row → after ≡ before ++ row_entry row
-    → before ++ rows_text (drop place rows) ≡ all → after ++ rows_text (drop (place + 1) rows) ≡ all
-one_line_more rows place row before after all at more so_far =
+pub one_line_more : (form : Form) (rows : List TallyRow) (place : ℕ) (row : TallyRow) (before after all : List ℕ)
+    → slice_get rows place ≡ Some row → after ≡ before ++ row_entry form row
+    → before ++ rows_text form (drop place rows) ≡ all → after ++ rows_text form (drop (place + 1) rows) ≡ all
+one_line_more form rows place row before after all at more so_far =
     let next : drop place rows ≡ row ∷ drop (place + 1) rows
     = drop_more rows place row (slice_get_within rows place row at) ∙ ap (λ r. r ∷ drop (place + 1) rows) (get_or_from_slice_get rows place row row at) in
-    ap (λ text. text ++ rows_text (drop (place + 1) rows)) more
-    ∙ append_assoc before (row_entry row) (rows_text (drop (place + 1) rows))
-    ∙ ap (λ rest. before ++ rows_text rest) (sym next)
+    ap (λ text. text ++ rows_text form (drop (place + 1) rows)) more
+    ∙ append_assoc before (row_entry form row) (rows_text form (drop (place + 1) rows))
+    ∙ ap (λ rest. before ++ rows_text form rest) (sym next)
     ∙ so_far

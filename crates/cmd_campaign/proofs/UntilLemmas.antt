@@ -3,6 +3,7 @@ use Rattle.std.proofs.Common.{◌≡◌, ℕ, Bool, true, false, cond, rules, Li
 use Rattle.std.proofs.lemmas.List.Elements.{All-nil, All-cons}
 use Rattle.image.specs.Image.{ImageValue}
 use Rattle.outcome.specs.declared.expect.Exit.{Exit}
+use Rattle.cmd_form.specs.declared.form.Form.{Form}
 use Rattle.campaign_runs.specs.Runs.{SeedEnding, endings_of}
 use Rattle.campaign_runs.specs.declared.campaign.Campaign.{Campaign}
 use Rattle.cmd_campaign.specs.Lines.{has_failed}
@@ -76,12 +77,12 @@ module _ (exit : Exit) where
       by false e none rest = All-cons Succeeded run ends e (rest none)
 
   -- its seed is the first failure
-  pub same_seed : (ends : List SeedEnding) → (ended_at exit (first_failing exit ends)).1.first_failure ≡ first_failure exit ends
-  same_seed [] = refl
-  same_seed (run ∷ ends) = by (has_failed exit run) (same_seed ends)
+  pub same_seed : (form : Form) (ends : List SeedEnding) → (ended_at form exit (first_failing exit ends)).1.first_failure ≡ first_failure exit ends
+  same_seed form [] = refl
+  same_seed form (run ∷ ends) = by (has_failed exit run) (same_seed form ends)
     where
-      by : (failed : Bool) → (ended_at exit (first_failing exit ends)).1.first_failure ≡ first_failure exit ends
-          → (ended_at exit (cond failed (Some run) (first_failing exit ends))).1.first_failure ≡ cond failed (Some run.seed) (first_failure exit ends)
+      by : (failed : Bool) → (ended_at form exit (first_failing exit ends)).1.first_failure ≡ first_failure exit ends
+          → (ended_at form exit (cond failed (Some run) (first_failing exit ends))).1.first_failure ≡ cond failed (Some run.seed) (first_failure exit ends)
       by true rest = refl
       by false rest = rest
 
@@ -110,5 +111,5 @@ module _ (exit : Exit) where
   no_failure = record { status = status.Done; first_failure = None }
 
   -- no run has failed
-  pub ended_without : (text : List ℕ) (first : Option SeedEnding) → text ≡ [] → first ≡ None → (text, no_failure) ≡ ended_at exit first
-  ended_without text first nothing none = ap (λ t. (t, no_failure)) nothing ∙ ap (ended_at exit) (sym none)
+  pub ended_without : (form : Form) (text : List ℕ) (first : Option SeedEnding) → text ≡ [] → first ≡ None → (text, no_failure) ≡ ended_at form exit first
+  ended_without form text first nothing none = ap (λ t. (t, no_failure)) nothing ∙ ap (ended_at form exit) (sym none)

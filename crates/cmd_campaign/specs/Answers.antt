@@ -16,7 +16,10 @@ use Rattle.cmd_campaign.specs.Summary.{report_text}
 
 -- the report of a campaign's runs, and their status
 abbrev pub reported : Campaign → List SeedEnding → List ℕ × Status
-reported campaign ends = (report_text campaign.report campaign.expect.exit ends, campaign_status campaign.expect.exit ends)
+reported campaign ends = (
+  report_text campaign.form campaign.report campaign.expect.exit ends,
+  campaign_status campaign.expect.exit ends,
+)
 
 -- the answer after the program is read: the number of inputs is checked before the first run
 abbrev pub after_image : Campaign → List ℕ → Result ImageValue CommandFault → Answer

@@ -4,6 +4,7 @@ use Rattle.std.specs.List.{All}
 use Rattle.std.specs.declared.result.Result.{Result}
 use Rattle.std.specs.declared.result.Result.TheVariants.{Ok}
 use Rattle.byte_io.specs.declared.status.Status.TheVariants as status
+use Rattle.cmd_form.specs.declared.form.Form.{Form}
 use Rattle.outcome.specs.declared.expect.Exit.{Exit}
 use Rattle.program_open.specs.Opening.{after_program}
 use Rattle.program_open.specs.Program.{program_of}
@@ -21,15 +22,16 @@ first_failing exit [] = None
 first_failing exit (end ∷ ends) = if has_failed exit end then Some end else first_failing exit ends
 
 -- what is written of it: its line, or nothing; and the end of the campaign: its status and seed, or 0
-abbrev pub ended_at : Exit → Option SeedEnding → List ℕ × Finished
-ended_at exit None = ([], record { status = status.Done; first_failure = None })
-ended_at exit (Some end) =
-    (end_entry end, record { status = ending_status exit end.ending; first_failure = Some end.seed })
+abbrev pub ended_at : Form → Exit → Option SeedEnding → List ℕ × Finished
+ended_at form exit None = ([], record { status = status.Done; first_failure = None })
+ended_at form exit (Some end) =
+    (end_entry form end, record { status = ending_status exit end.ending; first_failure = Some end.seed })
 
 -- the answer over an ELF file: the number of inputs is checked before the first run
 unfoldable pub until_answer : Campaign → List ℕ → List ℕ → Result (List ℕ × Finished) CommandFault
 until_answer campaign inputs bytes = after_program (length inputs)
-    (λ image. Ok (ended_at campaign.expect.exit (first_failing campaign.expect.exit (all_endings campaign image inputs))))
+    (λ image. Ok (ended_at campaign.form campaign.expect.exit
+    (first_failing campaign.expect.exit (all_endings campaign image inputs))))
     (program_of form.Elf bytes)
 
 -- no run has failed

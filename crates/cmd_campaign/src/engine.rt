@@ -19,7 +19,7 @@ use crate::findings::{Findings, count_failures};
 use crate::record::record_block;
 use crate::rows::summary_text;
 use byte_io::{Progress, Sink, Source, Status, write_all};
-use campaign_runs::{Campaign, Runner, Seeds, Tally};
+use campaign_runs::{Campaign, Form, Runner, Seeds, Tally};
 use image::Image;
 use machine::Inputs;
 use program_open::{CommandFault, ProgramForm, read_image};
@@ -57,13 +57,13 @@ fn run_blocks<A: Allocator + Copy, W: Runner<A>, K: Sink>(
     requires fits { campaign.first + campaign.count ≤ 2 ^ 64 }
     requires sink_counts { K.failures sink.old < 2 ^ 64 - 1 }
     ensures written { IfOk result (λ _. Appends (K.held sink.old) (K.held sink.new)
-        (report_entries campaign.report campaign.expect.exit (all_endings campaign image.now inputs.now))) }
+        (report_entries campaign.form campaign.report campaign.expect.exit (all_endings campaign image.now inputs.now))) }
     ensures counted { IfOk result (λ answer. tally_rows answer.0
         ≡ tally_of (counted_of campaign.report (all_endings campaign image.now inputs.now))) }
     ensures finished { IfOk result (λ answer.
         answer.1 ≡ finished_of campaign.expect.exit (all_endings campaign image.now inputs.now)) }
     ensures begun { IfErr result (λ _. Begins
-        (report_entries campaign.report campaign.expect.exit (all_endings campaign image.now inputs.now))
+        (report_entries campaign.form campaign.report campaign.expect.exit (all_endings campaign image.now inputs.now))
         (K.held sink.old) (K.held sink.new)) }
     ensures fault { IfErr result (λ fault.
         IfHalts fault (K.failures sink.old < K.failures sink.new)) }
@@ -95,20 +95,21 @@ fn run_blocks<A: Allocator + Copy, W: Runner<A>, K: Sink>(
 // Writes a line for each row of a tally. Nothing is written if out of memory.
 fn write_rows<A: Allocator + Copy, K: Sink>(
     alloc: A,
+    form: Form,
     tally: &Tally<A>,
     sink: &mut K,
 ) -> Result<(), CommandFault>
     requires sink_counts { K.failures sink.old < 2 ^ 64 - 1 }
     ensures written { IfOk result (λ _.
-        Appends (K.held sink.old) (K.held sink.new) (rows_text (tally_rows tally.now))) }
+        Appends (K.held sink.old) (K.held sink.new) (rows_text form (tally_rows tally.now))) }
     ensures begun { IfErr result (λ _.
-        Begins (rows_text (tally_rows tally.now)) (K.held sink.old) (K.held sink.new)) }
+        Begins (rows_text form (tally_rows tally.now)) (K.held sink.old) (K.held sink.new)) }
     ensures unwritten { IfErr result (λ fault. fault ≢ CommandFault.Write
         → Keeps (K.held sink.old) (K.held sink.new)) }
     ensures fault { IfErr result (λ fault.
         IfHalts fault (K.failures sink.old < K.failures sink.new)) }
 {
-    let text = match summary_text(alloc, tally) {
+    let text = match summary_text(alloc, form, tally) {
         Ok(text) => text,
         Err(AllocError) => return Err(CommandFault::Memory),
     };
@@ -133,11 +134,11 @@ fn write_report<A: Allocator + Copy, W: Runner<A>, K: Sink>(
     requires fits { campaign.first + campaign.count ≤ 2 ^ 64 }
     requires sink_counts { K.failures sink.old < 2 ^ 64 - 1 }
     ensures written { IfOk result (λ _. Appends (K.held sink.old) (K.held sink.new)
-        (report_text campaign.report campaign.expect.exit (all_endings campaign image.now inputs.now))) }
+        (report_text campaign.form campaign.report campaign.expect.exit (all_endings campaign image.now inputs.now))) }
     ensures finished { IfOk result (λ finished.
         finished ≡ finished_of campaign.expect.exit (all_endings campaign image.now inputs.now)) }
     ensures begun { IfErr result (λ _. Begins
-        (report_text campaign.report campaign.expect.exit (all_endings campaign image.now inputs.now))
+        (report_text campaign.form campaign.report campaign.expect.exit (all_endings campaign image.now inputs.now))
         (K.held sink.old) (K.held sink.new)) }
     ensures whole { IsSummary campaign.report → IfErr result (λ fault. fault ≢ CommandFault.Write
         → Keeps (K.held sink.old) (K.held sink.new)) }
@@ -150,7 +151,7 @@ fn write_report<A: Allocator + Copy, W: Runner<A>, K: Sink>(
         Ok(answer) => answer,
         Err(fault) => return Err(fault),
     };
-    match write_rows(alloc, &tally, sink) {
+    match write_rows(alloc, campaign.form, &tally, sink) {
         Ok(()) => Ok(finished),
         Err(fault) => Err(fault),
     }

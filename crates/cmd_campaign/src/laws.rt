@@ -7,6 +7,7 @@ ghost use Rattle.cmd_run.specs.Certified.{IsCertified};
 ghost use Rattle.outcome.specs.declared.expect.Exit.{Exit};
 ghost use Rattle.outcome.specs.declared.expect.Exit.TheVariants.{May};
 ghost use Rattle.program_open.specs.declared.program.ProgramForm.TheVariants.{Elf};
+ghost use Rattle.cmd_form.specs.declared.form.Form.{Form};
 ghost use Rattle.campaign_runs.specs.Properties.{no_properties};
 ghost use Rattle.campaign_runs.specs.Runs.{SeedEnding, all_endings};
 ghost use Rattle.campaign_runs.specs.Tally.{seeds_in, tally_of};
@@ -42,7 +43,7 @@ pub fn failures_of_an_object_are_none()
 pub fn lines_of_an_object_say_kept()
     ensures { (campaign : Campaign) (inputs program : List ℕ) → campaign.properties ≡ no_properties → All (λ x. x < 2 ^ 32) inputs
         → IsCertified Elf program inputs campaign.expect.rule
-        → AnswersKeptLines campaign.report (campaign_answer campaign inputs program) }
+        → AnswersKeptLines campaign.form campaign.report (campaign_answer campaign inputs program) }
 {}
 
 /// The first run that has failed has failed, and no run before it has; if there is none, no run has
@@ -52,6 +53,6 @@ pub fn no_run_fails_before_the_first()
         → first_failing exit ends ≡ Some end → IsFirstFailing exit ends end }
     ensures none { (exit : Exit) (ends : List SeedEnding)
         → first_failing exit ends ≡ None → NoneFailed exit ends }
-    ensures seed { (exit : Exit) (ends : List SeedEnding)
-        → (ended_at exit (first_failing exit ends)).1.first_failure ≡ first_failure exit ends }
+    ensures seed { (form : Form) (exit : Exit) (ends : List SeedEnding)
+        → (ended_at form exit (first_failing exit ends)).1.first_failure ≡ first_failure exit ends }
 {}

@@ -53,16 +53,17 @@ fn write_lines<A: Allocator + Copy, K: Sink>(
 ) -> Result<(), CommandFault>
     requires sink_counts { K.failures sink.old < 2 ^ 64 - 1 }
     ensures written { IfOk result (λ _. Appends (K.held sink.old) (K.held sink.new)
-        (report_entries campaign.report campaign.expect.exit (map seed_ending ends.now))) }
+        (report_entries campaign.form campaign.report campaign.expect.exit (map seed_ending ends.now))) }
     ensures begun { IfErr result (λ _. Begins
-        (report_entries campaign.report campaign.expect.exit (map seed_ending ends.now))
+        (report_entries campaign.form campaign.report campaign.expect.exit (map seed_ending ends.now))
         (K.held sink.old) (K.held sink.new)) }
     ensures fault { IfErr result (λ fault.
         IfHalts fault (K.failures sink.old < K.failures sink.new)) }
     ensures count { IfOk result (λ _. K.failures sink.new ≡ K.failures sink.old) }
 {
     let mut text = String::new(alloc);
-    match push_lines(&mut text, campaign.report, campaign.expect, ends) {
+    let (form, report) = (campaign.form, campaign.report);
+    match push_lines(&mut text, form, report, campaign.expect, ends) {
         Ok(()) => {}
         Err(AllocError) => return Err(CommandFault::Memory),
     }
@@ -100,11 +101,11 @@ pub fn record_block<A: Allocator + Copy, K: Sink>(
     requires fits { seeds_in (tally_rows tally.old) + length ends.now < 2 ^ 64 }
     requires sink_counts { K.failures sink.old < 2 ^ 64 - 1 }
     ensures written { IfOk result (λ _. Appends (K.held sink.old) (K.held sink.new)
-        (report_entries campaign.report campaign.expect.exit (map seed_ending ends.now))) }
+        (report_entries campaign.form campaign.report campaign.expect.exit (map seed_ending ends.now))) }
     ensures counted { IfOk result (λ _. tally_rows tally.new
         ≡ tally_onto (tally_rows tally.old) (counted_of campaign.report (map seed_ending ends.now))) }
     ensures begun { IfErr result (λ _. Begins
-        (report_entries campaign.report campaign.expect.exit (map seed_ending ends.now))
+        (report_entries campaign.form campaign.report campaign.expect.exit (map seed_ending ends.now))
         (K.held sink.old) (K.held sink.new)) }
     ensures fault { IfErr result (λ fault.
         IfHalts fault (K.failures sink.old < K.failures sink.new)) }

@@ -8,7 +8,7 @@ ghost use Rattle.cmd_campaign.specs.Until.{first_failing, ended_at, until_answer
 use crate::engine::Finished;
 use crate::lines::push_end;
 use byte_io::{Progress, Source, Status};
-use campaign_runs::{Campaign, Runner, SeedEnd, Seeds};
+use campaign_runs::{Campaign, Form, Runner, SeedEnd, Seeds};
 use image::Image;
 use machine::Inputs;
 use outcome::{Expect, status_by};
@@ -32,14 +32,15 @@ fn first_failing<'a, A: Allocator>(expect: Expect, ends: &'a [SeedEnd<A>]) -> Op
 // The line of a run that has failed, and the end of the campaign.
 fn stop_at<A: Allocator + Copy>(
     alloc: A,
+    form: Form,
     expect: Expect,
     end: &SeedEnd<A>,
 ) -> Result<(String<A>, Finished), AllocError>
     ensures { IfOk result (λ answer.
-        (string_bytes answer.0, answer.1) ≡ ended_at expect.exit (Some (seed_ending end.now))) }
+        (string_bytes answer.0, answer.1) ≡ ended_at form expect.exit (Some (seed_ending end.now))) }
 {
     let mut text = String::new(alloc);
-    push_end(&mut text, end)?;
+    push_end(&mut text, form, end)?;
     let finished = Finished {
         status: status_by(end.ending.breaks(), end.ending.fails(expect)),
         first_failure: Some(end.seed),
@@ -60,14 +61,14 @@ fn find_failure<A: Allocator + Copy, W: Runner<A>>(
     requires ready { W.ready runner.now }
     requires fits { campaign.first + campaign.count ≤ 2 ^ 64 }
     ensures { IfOk result (λ answer. (string_bytes answer.0, answer.1)
-        ≡ ended_at campaign.expect.exit (first_failing campaign.expect.exit (all_endings campaign image.now inputs.now))) }
+        ≡ ended_at campaign.form campaign.expect.exit (first_failing campaign.expect.exit (all_endings campaign image.now inputs.now))) }
 {
     let mut seeds = Seeds::new(campaign.first, campaign.count);
     let mut done = 0u64;
     'blocks: while let Some(block) = seeds.next_block(campaign.steps) {
         let ends = runner.run_block(alloc, image, inputs, campaign, block)?;
         if let Some(end) = first_failing(campaign.expect, &ends) {
-            let answer = stop_at(alloc, campaign.expect, end)?;
+            let answer = stop_at(alloc, campaign.form, campaign.expect, end)?;
             return Ok(answer);
         }
         done = done.saturating_add(block.count);

@@ -22,7 +22,7 @@ use Rattle.explore_space.specs.declared.meant.ScRefusals.TheVariants.{Also, Neve
 use Rattle.explore_space.specs.declared.question.Question.{Question}
 use Rattle.cmd_explore.specs.declared.finding.Explored.{Explored}
 use Rattle.cmd_explore.specs.declared.finding.Finding.TheVariants as finding
-use Rattle.cmd_json.specs.declared.form.Form.{Form}
+use Rattle.cmd_form.specs.declared.form.Form.{Form}
 use Rattle.cmd_explore.specs.Explore.{failing_status, list_shown, word_broken, IsExplored, TellsHeld}
 use Rattle.cmd_explore.proofs.KeepLemmas.{keeps_all, keeps_before}
 

@@ -26,8 +26,8 @@ use Rattle.explore_space.specs.declared.exploring.Answer.TheVariants.{Holds, Fai
 use Rattle.cmd_explore.specs.BoundLines.{bound_lines}
 use Rattle.cmd_explore.specs.EndLines.{IsEndsText}
 use Rattle.cmd_explore.specs.Objects.{held_object, list_object}
-use Rattle.cmd_json.specs.declared.form.Form.{Form}
-use Rattle.cmd_json.specs.declared.form.Form.TheVariants.{Text, Json}
+use Rattle.cmd_form.specs.declared.form.Form.{Form}
+use Rattle.cmd_form.specs.declared.form.Form.TheVariants.{Text, Json}
 use Rattle.machine.specs.declared.choice.Choice.{Choice}
 use Rattle.explore_space.specs.declared.meant.ScRefusals.{ScRefusals}
 use Rattle.explore_space.specs.declared.question.Always.{Always}

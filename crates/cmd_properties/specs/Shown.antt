@@ -11,8 +11,8 @@ use Rattle.outcome.specs.Ends.{lines_of_ends, verdict_on}
 use Rattle.outcome.specs.declared.expect.Expect.{Expect}
 use Rattle.property_judge.specs.declared.judged.Judged.{Judged}
 use Rattle.cmd_run.specs.Run.{shown}
-use Rattle.cmd_json.specs.declared.form.Form.{Form}
-use Rattle.cmd_json.specs.declared.form.Form.TheVariants.{Text, Json}
+use Rattle.cmd_form.specs.declared.form.Form.{Form}
+use Rattle.cmd_form.specs.declared.form.Form.TheVariants.{Text, Json}
 use Rattle.cmd_properties.specs.Lines.{judged_lines}
 use Rattle.cmd_properties.specs.Objects.{run_object}
 

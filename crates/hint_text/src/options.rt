@@ -121,6 +121,7 @@ pub(crate) const COMMANDS: [Row; 14] = [
             "--jobs",
             "--preemptions",
             "--choices-of",
+            "--json",
         ],
         example: "rvcons campaign prog.elf --inputs 7,9 --first 1 --count 1000 --steps 300",
     },
@@ -241,7 +242,7 @@ pub(crate) const OTHER_OPTIONS: [(&[&str], &str); 14] = [
     ),
     (
         &["--json", "--markdown", "--md", "--format"],
-        "rvcons trace prints lines of JSON, and with --table a table in Markdown; run, info and explore print an object by --json",
+        "rvcons trace prints lines of JSON, and with --table a table in Markdown; run, info and explore print an object by --json, campaign one for each line",
     ),
     (
         &["--begin", "--end", "--range", "--from", "--to"],

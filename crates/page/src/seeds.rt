@@ -5,7 +5,7 @@ ghost use Rattle.page.specs.Seeds.{AsksCampaign, AsksChoices, AsksDraw, AsksOrde
 ghost use Rattle.std.specs.Prelude.{◌≡◌};
 
 use crate::asked::{expect_of, report_of};
-use cmd_campaign::{Campaign, Properties};
+use cmd_campaign::{Campaign, Form, Properties};
 use cmd_schedule::SeedPlan;
 use sched_draw::{Chance, Depth, Draw, Mean, Order, Refusals};
 
@@ -124,5 +124,6 @@ pub(crate) fn campaign_of(asked: AskedCampaign) -> Option<Campaign>
         expect,
         properties: Properties::NONE,
         report,
+        form: Form::Text,
     })
 }

@@ -1,7 +1,7 @@
 //! Campaigns in which properties of one's own are judged: lines, rows, the status and the first
 //! failure.
 use byte_io::{MemorySink, MemorySource, Status, Unheard};
-use campaign_runs::{Alone, Campaign, Properties, Report};
+use campaign_runs::{Alone, Campaign, Form, Properties, Report};
 use cmd_campaign::{Finished, campaign_engine, until_failure_engine};
 use object_library::Kind;
 use outcome::{Exit, Expect};
@@ -25,6 +25,7 @@ const LAST: Property = Property::NeverBoth {
 // Two seeds of two harts of Swap without a step: how they are reported under properties, and how
 // the campaign ends.
 struct Row {
+    form: Form,
     report: Report,
     rule: Option<Kind>,
     properties: Properties,
@@ -49,22 +50,28 @@ const BOTH: Properties = Properties {
 };
 
 #[rattlefmt::skip]
-const ROWS: [Row; 8] = [
-    Row { report: Report::Lines, rule: None, properties: BROKEN, status: Status::Broken, failure: Some(3),
+const ROWS: [Row; 11] = [
+    Row { form: Form::Text, report: Report::Lines, rule: None, properties: BROKEN, status: Status::Broken, failure: Some(3),
         text: "seed 3 exited 0 faulted 0 running 2 never-both broken\nseed 4 exited 0 faulted 0 running 2 never-both broken\n" },
-    Row { report: Report::Lines, rule: Some(Kind::Swap), properties: KEPT, status: Status::Done, failure: None,
+    Row { form: Form::Text, report: Report::Lines, rule: Some(Kind::Swap), properties: KEPT, status: Status::Done, failure: None,
         text: "seed 3 exited 0 faulted 0 running 2 kept never-both kept\nseed 4 exited 0 faulted 0 running 2 kept never-both kept\n" },
-    Row { report: Report::Failures, rule: Some(Kind::Swap), properties: BOTH, status: Status::Broken, failure: Some(3),
+    Row { form: Form::Text, report: Report::Failures, rule: Some(Kind::Swap), properties: BOTH, status: Status::Broken, failure: Some(3),
         text: "seed 3 exited 0 faulted 0 running 2 kept never-both broken never-both kept\nseed 4 exited 0 faulted 0 running 2 kept never-both broken never-both kept\n" },
-    Row { report: Report::Failures, rule: None, properties: KEPT, status: Status::Done, failure: None, text: "" },
-    Row { report: Report::Summary, rule: Some(Kind::Swap), properties: BROKEN, status: Status::Broken, failure: Some(3),
+    Row { form: Form::Text, report: Report::Failures, rule: None, properties: KEPT, status: Status::Done, failure: None, text: "" },
+    Row { form: Form::Text, report: Report::Summary, rule: Some(Kind::Swap), properties: BROKEN, status: Status::Broken, failure: Some(3),
         text: "seeds 2 first 3 exited 0 faulted 0 running 2 kept never-both broken\n" },
-    Row { report: Report::Summary, rule: None, properties: Properties::NONE, status: Status::Done, failure: None,
+    Row { form: Form::Text, report: Report::Summary, rule: None, properties: Properties::NONE, status: Status::Done, failure: None,
         text: "seeds 2 first 3 exited 0 faulted 0 running 2\n" },
-    Row { report: Report::Outcomes, rule: None, properties: KEPT, status: Status::Done, failure: None,
+    Row { form: Form::Text, report: Report::Outcomes, rule: None, properties: KEPT, status: Status::Done, failure: None,
         text: "seeds 2 first 3 exited 0 faulted 0 running 2 never-both kept\n" },
-    Row { report: Report::Causes, rule: None, properties: BROKEN, status: Status::Broken, failure: Some(3),
+    Row { form: Form::Text, report: Report::Causes, rule: None, properties: BROKEN, status: Status::Broken, failure: Some(3),
         text: "seeds 2 first 3 exited 0 faulted 0 running 2 never-both broken\n" },
+    Row { form: Form::Json, report: Report::Lines, rule: None, properties: Properties::NONE, status: Status::Done, failure: None,
+        text: "{\"seed\":3,\"exited\":0,\"faulted\":0,\"running\":2,\"verdict\":null}\n{\"seed\":4,\"exited\":0,\"faulted\":0,\"running\":2,\"verdict\":null}\n" },
+    Row { form: Form::Json, report: Report::Failures, rule: Some(Kind::Swap), properties: BOTH, status: Status::Broken, failure: Some(3),
+        text: "{\"seed\":3,\"exited\":0,\"faulted\":0,\"running\":2,\"verdict\":\"kept\",\"properties\":[{\"kind\":\"never-both\",\"verdict\":\"broken\"},{\"kind\":\"never-both\",\"verdict\":\"kept\"}]}\n{\"seed\":4,\"exited\":0,\"faulted\":0,\"running\":2,\"verdict\":\"kept\",\"properties\":[{\"kind\":\"never-both\",\"verdict\":\"broken\"},{\"kind\":\"never-both\",\"verdict\":\"kept\"}]}\n" },
+    Row { form: Form::Json, report: Report::Causes, rule: None, properties: KEPT, status: Status::Done, failure: None,
+        text: "{\"seeds\":2,\"first\":3,\"exited\":0,\"faulted\":0,\"running\":2,\"verdict\":null,\"properties\":[{\"kind\":\"never-both\",\"verdict\":\"kept\"}],\"faults\":[]}\n" },
 ];
 
 impl Row {
@@ -80,6 +87,7 @@ impl Row {
             },
             properties: self.properties,
             report: self.report,
+            form: self.form,
         }
     }
 }
@@ -153,4 +161,7 @@ fn first_broken_property_ends_a_campaign(rt: HostRuntime) {
     let line = "seed 3 exited 0 faulted 0 running 2 never-both broken\n";
     assert!(rt; is_first(rt.alloc(), &ROWS[0], line));
     assert!(rt; is_first(rt.alloc(), &ROWS[3], ""));
+    let object =
+        "{\"seed\":3,\"exited\":0,\"faulted\":0,\"running\":2,\"verdict\":\"kept\",\"properties\":[{\"kind\":\"never-both\",\"verdict\":\"broken\"},{\"kind\":\"never-both\",\"verdict\":\"kept\"}]}\n";
+    assert!(rt; is_first(rt.alloc(), &ROWS[9], object));
 }

@@ -4,7 +4,7 @@
 ghost use Rattle.std.specs.Prelude.{◌≡◌, IfOk, length};
 
 use byte_io::MemorySink;
-use campaign_runs::{Campaign, Ending, Properties, Report, SeedCount, SeedEnd, Tally};
+use campaign_runs::{Campaign, Ending, Form, Properties, Report, SeedCount, SeedEnd, Tally};
 use cmd_campaign::{count_ends_of, push_lines, record_block, summary_text};
 use hart_step::{Cause, Hart, HartState};
 use object_library::{Kind, Verdict};
@@ -28,7 +28,7 @@ const RULED: Expect = Expect {
 };
 
 // A campaign of the two runs below.
-fn campaign_with(expect: Expect, report: Report) -> Campaign {
+fn campaign_with(expect: Expect, form: Form, report: Report) -> Campaign {
     Campaign {
         first: 5,
         count: 2,
@@ -37,6 +37,7 @@ fn campaign_with(expect: Expect, report: Report) -> Campaign {
         expect,
         properties: Properties::NONE,
         report,
+        form,
     }
 }
 
@@ -62,7 +63,7 @@ fn end<A: Allocator + Copy>(
     let mut chosen = Chosen::new();
     chosen.add(1);
     let outcome = campaign.expect.judge(alloc, &[7, 9], &chosen, harts)?;
-    let ending = Ending::of(alloc, campaign.report, outcome, &[], harts)?;
+    let ending = Ending::of(alloc, campaign.form, campaign.report, outcome, &[], harts)?;
     Ok(SeedEnd { seed, ending })
 }
 
@@ -120,16 +121,25 @@ const OUTCOMES: &str = "seeds 1 first 5 exited 1 faulted 0 running 1 1:a0=000000
 const CAUSES: &str = "seeds 1 first 5 exited 1 faulted 0 running 1\n\
      seeds 1 first 6 exited 1 faulted 1 running 0 Break at 00010000\n";
 
+// The same as objects.
+const RESULT_OBJECTS: &str =
+    "{\"seeds\":1,\"first\":5,\"exited\":1,\"faulted\":0,\"running\":1,\"verdict\":null,\"results\":[{\"hart\":1,\"a0\":9,\"a1\":1}]}\n\
+     {\"seeds\":1,\"first\":6,\"exited\":1,\"faulted\":1,\"running\":0,\"verdict\":null,\"results\":[{\"hart\":1,\"a0\":9,\"a1\":1}]}\n";
+
+const FAULT_OBJECTS: &str =
+    "{\"seeds\":1,\"first\":5,\"exited\":1,\"faulted\":0,\"running\":1,\"verdict\":null,\"faults\":[]}\n\
+     {\"seeds\":1,\"first\":6,\"exited\":1,\"faulted\":1,\"running\":0,\"verdict\":null,\"faults\":[{\"cause\":\"Break\",\"pc\":65536}]}\n";
+
 // The summary of a block.
 #[derive(Clone, Copy)]
 struct Summing;
 
 impl Call for Summing {
     fn answer<A: Allocator + Copy>(&self, alloc: A, _host: Global) -> Result<bool, AllocError> {
-        let ends = ends(alloc, campaign_with(PLAIN, Report::Outcomes))?;
+        let ends = ends(alloc, campaign_with(PLAIN, Form::Text, Report::Outcomes))?;
         let mut tally = Tally::new(alloc);
         count_ends_of(alloc, &mut tally, &ends)?;
-        let text = summary_text(alloc, &tally)?;
+        let text = summary_text(alloc, Form::Text, &tally)?;
         Ok(text.as_str() == OUTCOMES)
     }
 }
@@ -145,6 +155,7 @@ fn refused(fault: CommandFault) -> Result<bool, AllocError> {
 // What is recorded of a block: the lines that are written, and the seeds that are counted.
 #[derive(Clone, Copy)]
 struct Recording {
+    form: Form,
     report: Report,
     lines: &'static str,
     text: &'static str,
@@ -152,7 +163,7 @@ struct Recording {
 
 impl Call for Recording {
     fn answer<A: Allocator + Copy>(&self, alloc: A, host: Global) -> Result<bool, AllocError> {
-        let campaign = campaign_with(PLAIN, self.report);
+        let campaign = campaign_with(PLAIN, self.form, self.report);
         let ends = ends(alloc, campaign)?;
         let mut tally = Tally::new(alloc);
         let mut sink = MemorySink::new(host);
@@ -160,18 +171,24 @@ impl Call for Recording {
             Ok(()) => {}
             Err(fault) => return refused(fault),
         }
-        let text = summary_text(alloc, &tally)?;
+        let text = summary_text(alloc, self.form, &tally)?;
         Ok(sink.bytes() == self.lines.as_bytes() && text.as_str() == self.text)
     }
 }
 
 #[rattlefmt::skip]
-const RECORDINGS: [Recording; 4] = [
-    Recording { report: Report::Lines, text: "",
+const RECORDINGS: [Recording; 8] = [
+    Recording { form: Form::Text, report: Report::Lines, text: "",
         lines: "seed 5 exited 1 faulted 0 running 1\nseed 6 exited 1 faulted 1 running 0\n" },
-    Recording { report: Report::Failures, text: "", lines: "seed 6 exited 1 faulted 1 running 0\n" },
-    Recording { report: Report::Outcomes, text: OUTCOMES, lines: "" },
-    Recording { report: Report::Causes, text: CAUSES, lines: "" },
+    Recording { form: Form::Text, report: Report::Failures, text: "", lines: "seed 6 exited 1 faulted 1 running 0\n" },
+    Recording { form: Form::Text, report: Report::Outcomes, text: OUTCOMES, lines: "" },
+    Recording { form: Form::Text, report: Report::Causes, text: CAUSES, lines: "" },
+    Recording { form: Form::Json, report: Report::Lines, text: "",
+        lines: "{\"seed\":5,\"exited\":1,\"faulted\":0,\"running\":1,\"verdict\":null}\n{\"seed\":6,\"exited\":1,\"faulted\":1,\"running\":0,\"verdict\":null}\n" },
+    Recording { form: Form::Json, report: Report::Failures, text: "",
+        lines: "{\"seed\":6,\"exited\":1,\"faulted\":1,\"running\":0,\"verdict\":null}\n" },
+    Recording { form: Form::Json, report: Report::Outcomes, text: RESULT_OBJECTS, lines: "" },
+    Recording { form: Form::Json, report: Report::Causes, text: FAULT_OBJECTS, lines: "" },
 ];
 
 // The failures of a block, without a rule and with one.
@@ -180,13 +197,16 @@ struct Failures;
 
 impl Call for Failures {
     fn answer<A: Allocator + Copy>(&self, alloc: A, _host: Global) -> Result<bool, AllocError> {
-        let plain = ends(alloc, campaign_with(PLAIN, Report::Failures))?;
-        let ruled = ends(alloc, campaign_with(RULED, Report::Failures))?;
+        let plain = ends(alloc, campaign_with(PLAIN, Form::Text, Report::Failures))?;
+        let ruled = ends(alloc, campaign_with(RULED, Form::Text, Report::Failures))?;
         let mut text = String::new(alloc);
-        push_lines(&mut text, Report::Failures, PLAIN, &plain)?;
-        push_lines(&mut text, Report::Failures, RULED, &ruled)?;
+        push_lines(&mut text, Form::Text, Report::Failures, PLAIN, &plain)?;
+        push_lines(&mut text, Form::Text, Report::Failures, RULED, &ruled)?;
+        // Neither form has words of harts here.
+        push_lines(&mut text, Form::Json, Report::Failures, RULED, &ruled)?;
         let wanted =
-            "seed 6 exited 1 faulted 1 running 0\nseed 6 exited 1 faulted 1 running 0 broken\n";
+            "seed 6 exited 1 faulted 1 running 0\nseed 6 exited 1 faulted 1 running 0 broken\n\
+             {\"seed\":6,\"exited\":1,\"faulted\":1,\"running\":0,\"verdict\":\"broken\"}\n";
         Ok(text.as_str() == wanted)
     }
 }

@@ -130,6 +130,8 @@ static LINES: [(&str, &str); 91] = [
         "campaign FILE=p inputs=7,9 first=1 count=2 steps=3 always=x"),
     ("rvcons campaign p --inputs 7,9 --first 1 --count 2 --steps 3 --jobs 4",
         "campaign FILE=p inputs=7,9 first=1 count=2 steps=3 jobs=4"),
+    ("rvcons campaign p --inputs 7,9 --first 1 --count 2 --steps 3 --json",
+        "campaign FILE=p inputs=7,9 first=1 count=2 steps=3 json=yes"),
     ("rvcons campaign --steps 3 --count 2 --first 1 --inputs 7 --refusals r --schedule d p",
         "campaign FILE=p inputs=7 first=1 count=2 steps=3 schedule=d refusals=r"),
     ("rvcons campaign p --inputs 7,9 --steps 3 --preemptions 2",

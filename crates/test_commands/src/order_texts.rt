@@ -173,6 +173,7 @@ fn campaign_text(alloc: Global, order: &CampaignOrder) -> Result<String, AllocEr
         ("jobs", order.jobs),
         ("preemptions", order.preemptions),
         ("choices-of", order.choices_of),
+        ("json", flag(order.json)),
     ];
     text_with(alloc, "campaign", fields)
 }

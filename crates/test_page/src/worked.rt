@@ -2,7 +2,7 @@
 ghost use Rattle.std.specs.Prelude.{◌+◌, ◌≤◌, ◌^◌};
 
 use byte_io::Status;
-use cmd_campaign::{Campaign, Properties, Report};
+use cmd_campaign::{Campaign, Form, Properties, Report};
 use cmd_run::FileView;
 use cmd_schedule::SeedPlan;
 use cmd_trace::{TraceForm, TracePlan};
@@ -147,6 +147,7 @@ fn three_seeds(report: Report) -> Campaign
         expect: FILE_RUN.expect(),
         properties: Properties::NONE,
         report,
+        form: Form::Text,
     }
 }
 

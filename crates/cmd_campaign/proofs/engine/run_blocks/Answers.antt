@@ -6,14 +6,14 @@ use Rattle.cmd_campaign.proofs.engine.run_blocks.Goals as goal
 
 pub blocks-2-init : goal.blocks-2-init
 blocks-2-init g c = (
-  at_start c.args.campaign.report c.args.campaign.expect.exit _ _ _ _
+  at_start c.args.campaign.form c.args.campaign.report c.args.campaign.expect.exit _ _ _ _
       (ap (endings_of c.args.campaign c.args.image.now c.args.inputs.now) c.new-seeds.ensures) c.new-tally.ensures,
   refl,
 )
 
 pub returns-in-Err-clause-begun : goal.returns-in-Err-clause-begun
 returns-in-Err-clause-begun g c =
-    halts_between c.args.campaign.report c.args.campaign.expect.exit _ _ _ _ _ _ _ c.blocks-2.invariant.0
+    halts_between c.args.campaign.form c.args.campaign.report c.args.campaign.expect.exit _ _ _ _ _ _ _ c.blocks-2.invariant.0
 
 pub record_block-requires-clause-fits : goal.record_block-requires-clause-fits
 record_block-requires-clause-fits g c =
@@ -23,7 +23,7 @@ record_block-requires-clause-fits g c =
 
 pub returns-in-Err-record_block-clause-begun : goal.returns-in-Err-record_block-clause-begun
 returns-in-Err-record_block-clause-begun g c =
-    halts_in_block c.args.campaign.report c.args.campaign.expect.exit _ _ _ _ _ _ _ _ _ _
+    halts_in_block c.args.campaign.form c.args.campaign.report c.args.campaign.expect.exit _ _ _ _ _ _ _ _ _ _
     (split c.args.campaign c.args.image.now c.args.inputs.now _ _ _ _ c.in-Some.ensures.order
     (ap (map seed_ending) c.deref.ensures.value ∙ c.in-Ok.ensures)) c.blocks-2.invariant.0
     c.in-Err-record_block.ensures.begun
@@ -33,7 +33,7 @@ blocks-2-smaller g c = fewer c.in-Some.block.first c.in-Some.block.count _ _ c.i
 
 pub blocks-2-preserved : goal.blocks-2-preserved
 blocks-2-preserved g c = (
-  goes_on c.args.campaign.report c.args.campaign.expect.exit _ _ (map seed_ending c.deref.result.now) _ _ _ _ _ _ _ _ _ _
+  goes_on c.args.campaign.form c.args.campaign.report c.args.campaign.expect.exit _ _ (map seed_ending c.deref.result.now) _ _ _ _ _ _ _ _ _ _
       (split c.args.campaign c.args.image.now c.args.inputs.now _ _ _ _ c.in-Some.ensures.order
       (ap (map seed_ending) c.deref.ensures.value ∙ c.in-Ok.ensures))
       c.in-Ok-record_block.ensures.written c.in-Ok-record_block.ensures.counted
@@ -47,18 +47,18 @@ blocks-2-preserved g c = (
 
 pub returns-clause-written : goal.returns-clause-written
 returns-clause-written g c =
-    (at_end c.args.campaign.report c.args.campaign.expect.exit _ _ _ _ _ _ _ _
+    (at_end c.args.campaign.form c.args.campaign.report c.args.campaign.expect.exit _ _ _ _ _ _ _ _
     (endings_none c.args.campaign c.args.image.now c.args.inputs.now _ c.in_default.ensures.order)
     c.finished.ensures.status c.finished.ensures.first c.blocks-2.invariant.0).written
 
 pub returns-clause-counted : goal.returns-clause-counted
 returns-clause-counted g c =
-    (at_end c.args.campaign.report c.args.campaign.expect.exit _ _ _ _ _ _ _ _
+    (at_end c.args.campaign.form c.args.campaign.report c.args.campaign.expect.exit _ _ _ _ _ _ _ _
     (endings_none c.args.campaign c.args.image.now c.args.inputs.now _ c.in_default.ensures.order)
     c.finished.ensures.status c.finished.ensures.first c.blocks-2.invariant.0).counted
 
 pub returns-clause-finished : goal.returns-clause-finished
 returns-clause-finished g c =
-    (at_end c.args.campaign.report c.args.campaign.expect.exit _ _ _ _ _ _ _ _
+    (at_end c.args.campaign.form c.args.campaign.report c.args.campaign.expect.exit _ _ _ _ _ _ _ _
     (endings_none c.args.campaign c.args.image.now c.args.inputs.now _ c.in_default.ensures.order)
     c.finished.ensures.status c.finished.ensures.first c.blocks-2.invariant.0).finished_is

@@ -5,4 +5,5 @@ use Rattle.cmd_campaign.proofs.rows.summary_text.Given as goal
 
 -- the text so far, and then the lines of the rows that are left
 abbrev pub invariant-rows : goal.invariant-rows
-invariant-rows g l = string_bytes l.text ++ rows_text (drop l.place (tally_rows l.tally)) ≡ rows_text (tally_rows l.tally)
+invariant-rows g l =
+    string_bytes l.text ++ rows_text l.form (drop l.place (tally_rows l.tally)) ≡ rows_text l.form (tally_rows l.tally)

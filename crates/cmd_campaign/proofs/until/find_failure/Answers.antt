@@ -8,7 +8,7 @@ use Rattle.cmd_campaign.proofs.until.find_failure.Goals as goal
 pub returns-in-Some-first_failing : goal.returns-in-Some-first_failing
 returns-in-Some-first_failing g c =
     c.in_ok-answer.ensures
-    ∙ ap (ended_at c.args.campaign.expect.exit)
+    ∙ ap (ended_at c.args.campaign.form c.args.campaign.expect.exit)
     (sym (found_in_block c.args.campaign.expect.exit c.args.campaign c.args.image.now c.args.inputs.now _ _ _
     (map seed_ending c.deref.result.now) _ (all_endings c.args.campaign c.args.image.now c.args.inputs.now)
     c.in-Some.ensures.order (ap (map seed_ending) c.deref.ensures.value ∙ c.in_ok-ends.ensures)
@@ -26,7 +26,7 @@ blocks-2-preserved g c =
 
 pub returns : goal.returns
 returns g c =
-    ended_without c.args.campaign.expect.exit _ (first_failing c.args.campaign.expect.exit (all_endings c.args.campaign c.args.image.now c.args.inputs.now))
+    ended_without c.args.campaign.expect.exit c.args.campaign.form _ (first_failing c.args.campaign.expect.exit (all_endings c.args.campaign c.args.image.now c.args.inputs.now))
     c.new.ensures.bytes
     (none_left c.args.campaign.expect.exit c.args.campaign c.args.image.now c.args.inputs.now _
     (all_endings c.args.campaign c.args.image.now c.args.inputs.now) c.in_default.ensures.order c.blocks-2.invariant)

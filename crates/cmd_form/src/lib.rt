@@ -1,0 +1,6 @@
+//! In which form a command answers: as text or as JSON.
+#![tactic(auto)]
+
+pub use form::Form;
+
+mod form;
