@@ -47,7 +47,7 @@ fn inputs_are_read(rt: HostRuntime) {
 
 // Lines, and what is read of each: its command and the texts of its arguments, by their names.
 #[rattlefmt::skip]
-static LINES: [(&str, &str); 90] = [
+static LINES: [(&str, &str); 91] = [
     ("rvcons asm a.s", "asm IN=a.s"),
     ("rvcons asm --out o a.s b.s", "asm out=o IN=a.s IN=b.s"),
     ("rvcons asm b.s a.s --out=o", "asm out=o IN=b.s IN=a.s"),
@@ -172,6 +172,7 @@ static LINES: [(&str, &str); 90] = [
     ("rvcons trace p --inputs 7 --choices c --to 2", "trace FILE=p inputs=7 choices=c to=2"),
     ("rvcons trace p --inputs 7 --choices c --table", "trace FILE=p inputs=7 choices=c table=yes"),
     ("rvcons trace p --inputs 7 --choices c --shared", "trace FILE=p inputs=7 choices=c shared=yes"),
+    ("rvcons trace p --inputs 7 --choices c --word w+4", "trace FILE=p inputs=7 choices=c word=w+4"),
     ("rvcons trace --table p --to 2 --from 1 --choices c --inputs 7,9 --hex",
         "trace hex=yes FILE=p inputs=7,9 choices=c from=1 to=2 table=yes"),
 ];
