@@ -1,6 +1,5 @@
-// A log without output: each call is one store to a word that has no other use. A trace shows by
-// that word's address what was logged, by which hart and at which step, and the log itself is as
-// short as a store.
+// A log without output: each call is one store to a word that has no other use. `trace --word logged`
+// shows what was logged, by which hart and at which step, and the log itself is as short as a store.
 
 static volatile unsigned logged;
 

@@ -9,11 +9,12 @@ use crate::step::{Walked, step};
 use bank_hart_log::{Ahead, HartLog, Slot};
 use std::alloc::Allocator;
 use std::sync::Wait;
-use thread_gate::{Gate, is_planned, is_stopped};
+use thread_gate::{Gate, Spinning, is_planned, is_stopped};
 
 /// Makes a hart's choices until it has stopped or its budget is used up: local steps while the next
 /// one is local, then one step under the locks of the banks that it touches. No lock is held while
-/// the gate is asked to let the hart go on.
+/// the gate is asked to let the hart go on. A hart that spins lets other threads run between its
+/// segments.
 pub fn work<'a, A: Allocator + Copy, G: Gate, R: Wait>(
     rt: &R,
     alloc: A,
@@ -28,6 +29,7 @@ pub fn work<'a, A: Allocator + Copy, G: Gate, R: Wait>(
     ensures rising { IfOk result (λ log. Rises Earlier log.log) }
 {
     let mut log = HartLog::new(alloc, job.image, job.inputs, hart);
+    let mut spinning = Spinning::new(log.slot());
     let mut made = 0;
     'choices: while made < job.budget {
         if is_stopped(log.slot()) {
@@ -50,6 +52,7 @@ pub fn work<'a, A: Allocator + Copy, G: Gate, R: Wait>(
             last_stamp: log.last_stamp(),
         };
         step(rt, alloc, job, gate, &mut log, &walked)?;
+        spinning.look(log.slot());
         made = number + 1;
     }
     Ok(log)

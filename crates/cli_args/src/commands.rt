@@ -317,6 +317,7 @@ static ROW_OF_TRACE: CommandRow = CommandRow {
             "shared",
             "print the rows of that table alone that access memory",
         ),
+        Argument::Optional("word", "print the choices alone that access this word"),
     ],
     schedule: Schedule::FileOrInput,
 };

@@ -3,8 +3,8 @@
 use clap::ArgMatches;
 use cli_args::{ChoiceText, choice_text_of, is_set, text_of};
 
-/// `trace [--hex] FILE --inputs L (--choices C | --list T) [--from A] [--to B] [--table] [--shared]`:
-/// prints what each choice of a run did.
+/// `trace [--hex] FILE --inputs L (--choices C | --list T) [--from A] [--to B] [--table] [--shared]
+/// [--word W]`: prints what each choice of a run did.
 #[derive(Drop)]
 pub struct TraceOrder<'a> {
     /// Whether the file has words in hexadecimal.
@@ -23,6 +23,8 @@ pub struct TraceOrder<'a> {
     pub table: bool,
     /// Whether only the rows of that table are printed whose instruction accesses memory.
     pub shared: bool,
+    /// The word whose accesses alone are printed: a symbol with or without an offset, or an address.
+    pub word: Option<&'a str>,
 }
 
 /// The order in clap's matches.
@@ -36,5 +38,6 @@ pub(crate) fn trace_order<'a>(matches: &ArgMatches<'a>) -> Option<TraceOrder<'a>
         to: text_of(matches, "to"),
         table: is_set(matches, "table"),
         shared: is_set(matches, "shared"),
+        word: text_of(matches, "word"),
     })
 }

@@ -1,1 +1,2 @@
 pub mod TracePlans
+pub mod Words

@@ -26,11 +26,11 @@ form_of table true = form.Shared
 form_of true false = form.Table
 form_of false false = form.Lines
 
--- the plan of these numbers
+-- the plan of these numbers, of all words
 abbrev pub plan_with : TraceForm → Option ℕ → Option (Option ℕ) → Option TracePlan
 plan_with how None end = None
 plan_with how (Some first) None = None
-plan_with how (Some first) (Some end) = Some (record { form = how; from = first; to = end })
+plan_with how (Some first) (Some end) = Some (record { form = how; from = first; to = end; word = None })
 
 -- the plan of the order's texts
 abbrev pub trace_plan_of : Bool → Bool → Option (Bor (List ℕ)) → Option (Bor (List ℕ)) → Option TracePlan

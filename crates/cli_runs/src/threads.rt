@@ -113,7 +113,9 @@ fn write_answer<R: Files + AllocGlobal + Print + Eprint>(
         answer.lines.as_bytes(),
     ) {
         Ok(()) => {
-            if is_explained(answer.status, audience) {
+            if is_explained(answer.status, audience)
+                || (audience.is_told() && is_any_running(answer))
+            {
                 let _ = explain_ends(rt, order, answer.history.as_bytes());
             }
             Ok(answer.status)
@@ -167,7 +169,7 @@ fn explain_ends<R: Files + AllocGlobal + Eprint>(
     let inputs = read_inputs(rt.alloc(), order.inputs).ok()?;
     let program = read_again(rt, order.file)?;
     let explained = Explained {
-        ends: ends_told(order.must_exit),
+        ends: EndsTold::FaultsAndUsedUp,
         rule: read_rule(order.rule).ok()?,
     };
     let text = history_advice(rt.alloc(), &program, inputs.as_slice(), history, explained)?;
@@ -175,11 +177,7 @@ fn explain_ends<R: Files + AllocGlobal + Eprint>(
     Some(())
 }
 
-// Which ends of harts are explained.
-fn ends_told(must_exit: bool) -> EndsTold {
-    if must_exit {
-        EndsTold::FaultsAndUsedUp
-    } else {
-        EndsTold::Faults
-    }
+// Whether a hart still runs, having used its budget up.
+fn is_any_running(answer: &ThreadsAnswer<Global>) -> bool {
+    answer.lines.contains(" running ")
 }

@@ -47,8 +47,8 @@ fn form_of(table: bool, shared: bool) -> TraceForm
     }
 }
 
-/// The plan of an order's options: a table, its rows that access memory, or lines, from a choice on
-/// and up to, but not including, another. `None` exactly if one of both isn't a decimal number from
+/// The plan of an order's options, of all words: a table, its rows that access memory, or lines,
+/// from a choice on and up to, but not including, another. `None` exactly if one of both isn't a decimal number from
 /// 0 to 2^64 - 1.
 pub fn read_trace_plan(
     table: bool,
@@ -64,5 +64,6 @@ pub fn read_trace_plan(
         form: form_of(table, shared),
         from,
         to,
+        word: None,
     })
 }

@@ -44,6 +44,7 @@ pub begins_nothing : (all : List ℕ) (start : Option (List ℕ)) → Begins all
 begins_nothing all start = (0, Appends-nil start)
 
 -- a page with the same number of harts and the same symbols
-pub page_is : (form : TraceForm) (harts n : ℕ) (symbols seen : List SymbolValue) → n ≡ harts → seen ≡ symbols
-    → ◌≡◌ {A = PageValue} (record { form = form; harts = harts; symbols = symbols }) (record { form = form; harts = n; symbols = seen })
-page_is form harts n symbols seen e f = rw (e, f) refl
+pub page_is : (form : TraceForm) (harts n : ℕ) (symbols seen : List SymbolValue) (word : Option ℕ) → n ≡ harts → seen ≡ symbols
+    → ◌≡◌ {A = PageValue} (record { form = form; harts = harts; symbols = symbols; word = word })
+    (record { form = form; harts = n; symbols = seen; word = word })
+page_is form harts n symbols seen word e f = rw (e, f) refl

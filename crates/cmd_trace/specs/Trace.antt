@@ -1,5 +1,5 @@
 -- The output of `trace`: the head, and what each traced choice did.
-use Rattle.std.specs.Prelude.{ℕ, ◌+◌, ◌-◌, min, max, List, [], ◌∷◌, ◌++◌, length, take, drop, Option, Some, None}
+use Rattle.std.specs.Prelude.{ℕ, ◌+◌, ◌-◌, min, max, Bool, true, false, ◌&&◌, nat_lt, List, [], ◌∷◌, ◌++◌, length, take, drop, Option, Some, None, if◌then◌else◌}
 use Rattle.image.specs.Image.{ImageValue}
 use Rattle.elf_read.specs.Symbol.{SymbolValue}
 use Rattle.hart_reservations.specs.Marks.{Marks}
@@ -54,9 +54,19 @@ entry_in form.Lines page e k = line_of e.told k
 entry_in form.Table page e k = table_row page.symbols e k page.harts
 entry_in form.Shared page e k = where_accessed e.told.access (table_row page.symbols e k page.harts)
 
+-- one of the bytes of an access is one of the four of a word
+abbrev pub is_at_word : ℕ → ToldAccess → Bool
+is_at_word word access = nat_lt access.address (word + 4) && nat_lt word (access.address + access.size)
+
+-- a choice whose instruction has this access is traced: each one, or those of a word alone
+abbrev pub is_told : Option ℕ → Option ToldAccess → Bool
+is_told None access = true
+is_told (Some word) None = false
+is_told (Some word) (Some access) = is_at_word word access
+
 -- the text of choice k
 abbrev pub choice_entry : PageValue → Explained → ℕ → List ℕ
-choice_entry page e k = entry_in page.form page e k
+choice_entry page e k = if is_told page.word e.told.access then entry_in page.form page e k else []
 
 -- the texts of choices that are numbered from k on
 unfoldable pub entries : PageValue → ℕ → List Explained → List ℕ
@@ -69,7 +79,8 @@ told_entries page span f choices = entries page span.from (explains f span.from 
 
 -- how the traced choices of a run are written
 abbrev pub page_of : TracePlan → List SymbolValue → List ℕ → PageValue
-page_of plan symbols inputs = record { form = plan.form; harts = length inputs; symbols = symbols }
+page_of plan symbols inputs =
+    record { form = plan.form; harts = length inputs; symbols = symbols; word = plan.word }
 
 -- the start of a run: no reservation has ended
 abbrev pub followed_start : ImageValue → List ℕ → Followed

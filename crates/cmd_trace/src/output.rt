@@ -6,7 +6,7 @@ ghost use Rattle.cmd_trace.specs.Output.{SoFar};
 ghost use Rattle.cmd_trace.specs.Trace.{choice_entry};
 
 use crate::page::Page;
-use crate::plan::TraceForm;
+use crate::plan::{TraceForm, is_told};
 use byte_io::{Sink, write_all};
 use program_open::CommandFault;
 use std::alloc::{AllocError, Allocator};
@@ -26,6 +26,9 @@ fn push_entry<A: Allocator + Copy>(
 ) -> Result<(), AllocError>
     ensures { OnOk result (buffer.new.items ≡ buffer.old.items ++ choice_entry page.now explained.now k) }
 {
+    if !is_told(page.word, explained.told.access) {
+        return Ok(());
+    }
     match page.form {
         TraceForm::Lines => push_line(alloc, buffer, &explained.told, k),
         TraceForm::Shared if explained.told.access.is_none() => Ok(()),

@@ -14,6 +14,8 @@ pub(crate) struct Page<'a, A: Allocator> {
     pub(crate) harts: u32,
     /// The program's symbols.
     pub(crate) symbols: &'a [Symbol<A>],
+    /// The word whose accesses alone are written, if it is one.
+    pub(crate) word: Option<u32>,
 }
 
 impl<'a, A: Allocator> Model for Page<'a, A> {
@@ -21,5 +23,5 @@ impl<'a, A: Allocator> Model for Page<'a, A> {
 
     ghost Value = { PageValue };
 
-    ghost view = { λ p. record { form = p.form; harts = p.harts; symbols = p.symbols.now } };
+    ghost view = { λ p. record { form = p.form; harts = p.harts; symbols = p.symbols.now; word = p.word } };
 }

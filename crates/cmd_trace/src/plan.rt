@@ -1,7 +1,8 @@
 //! What a trace shows.
 ghost use Rattle.std.specs.Prelude.{◌≡◌, ◌≤◌};
-ghost use Rattle.cmd_trace.specs.Trace.{traced_span, told_count};
+ghost use Rattle.cmd_trace.specs.Trace.{is_at_word, is_told, traced_span, told_count};
 
+use trace_steps::ToldAccess;
 use trace_text::Span;
 
 /// The form of a trace.
@@ -26,6 +27,9 @@ pub struct TracePlan {
     /// The choice before which the trace ends, if the run has as many; `None` for the end of the
     /// list.
     pub to: Option<u64>,
+    /// The word of memory whose accesses alone are traced, by its address in bytes; `None` for all
+    /// choices.
+    pub word: Option<u32>,
 }
 
 /// The traced choices, given the number of choices.
@@ -49,4 +53,24 @@ pub(crate) fn told_count(span: Span) -> u64
     ensures { result ≡ told_count span }
 {
     span.to - span.from
+}
+
+// Whether one of the bytes of an access is one of a word's, which has this address.
+fn is_at_word(word: u32, access: &ToldAccess) -> bool
+    ensures { result ≡ is_at_word word access.now }
+{
+    let (first, word) = (u64::from(access.address), u64::from(word));
+    first < word + 4 && word < first + u64::from(access.size)
+}
+
+/// Whether a choice is traced whose instruction has this access: each one, or those of a word
+/// alone.
+pub(crate) fn is_told(word: Option<u32>, access: Option<ToldAccess>) -> bool
+    ensures { result ≡ is_told word access }
+{
+    match (word, access) {
+        (None, _) => true,
+        (Some(_), None) => false,
+        (Some(word), Some(access)) => is_at_word(word, &access),
+    }
 }

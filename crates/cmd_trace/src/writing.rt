@@ -91,6 +91,7 @@ pub(crate) fn write_trace<A: Allocator + Copy, K: Sink>(
         form: plan.form,
         harts: run.inputs.harts(),
         symbols: &run.program.symbols,
+        word: plan.word,
     };
     match write_entries(alloc, &page, span, &mut teller, &mut buffer, sink) {
         Ok(()) => {}

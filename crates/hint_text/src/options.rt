@@ -189,6 +189,7 @@ pub(crate) const COMMANDS: [Row; 14] = [
             "--to",
             "--table",
             "--shared",
+            "--word",
         ],
         example: "rvcons trace prog.elf --inputs 7,9 --choices turns.choices --table",
     },

@@ -42,7 +42,7 @@ view_numbered n = if n == 0 then Some view.Listing else if n == 1 then Some view
 
 -- the lines of the choices from one up to, but not including, another
 abbrev pub lines_of : ℕ → ℕ → TracePlan
-lines_of from to = record { form = Lines; from = from; to = Some to }
+lines_of from to = record { form = Lines; from = from; to = Some to; word = None }
 
 -- what is reported of a campaign: 0 all runs, 1 the failed ones, 2 outcomes, 3 outcomes with the
 -- results of harts that have exited, 4 outcomes with the causes and the places of faults

@@ -62,6 +62,7 @@ pub(crate) fn plan_of(from: u64, to: u64) -> TracePlan
         form: TraceForm::Lines,
         from,
         to: Some(to),
+        word: None,
     }
 }
 

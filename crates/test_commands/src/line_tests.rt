@@ -175,6 +175,7 @@ static LINES: [(&str, &str); 91] = [
     ("rvcons trace p --inputs 7 --choices c --to 2", "trace FILE=p inputs=7 choices=c to=2"),
     ("rvcons trace p --inputs 7 --choices c --table", "trace FILE=p inputs=7 choices=c table=yes"),
     ("rvcons trace p --inputs 7 --choices c --shared", "trace FILE=p inputs=7 choices=c shared=yes"),
+    ("rvcons trace p --inputs 7 --choices c --word w+4", "trace FILE=p inputs=7 choices=c word=w+4"),
     ("rvcons trace --table p --to 2 --from 1 --choices c --inputs 7,9 --hex",
         "trace hex=yes FILE=p inputs=7,9 choices=c from=1 to=2 table=yes"),
 ];

@@ -235,6 +235,7 @@ fn trace_text(alloc: Global, order: &TraceOrder) -> Result<String, AllocError> {
         ("to", order.to),
         ("table", flag(order.table)),
         ("shared", flag(order.shared)),
+        ("word", order.word),
     ];
     push_fields(&mut text, fields)?;
     Ok(text)

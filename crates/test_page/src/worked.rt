@@ -116,6 +116,7 @@ pub(crate) fn made<A: Allocator + Copy>(alloc: A, asked: Asked, out: &mut [u8]) 
                 form: TraceForm::Table,
                 from: 0,
                 to: None,
+                word: None,
             };
             let choices = run.choices.as_bytes();
             trace_call(alloc, run.form, plan, &[7], run.program, choices, out)

@@ -11,6 +11,7 @@ const ALL: TracePlan = TracePlan {
     form: TraceForm::Lines,
     from: 0,
     to: None,
+    word: None,
 };
 
 // The head of the run of one hart, up to the number of its first choice.
@@ -137,6 +138,7 @@ fn are_told(alloc: Global, told: &Told) -> bool {
         form: TraceForm::Lines,
         from: told.from,
         to: told.to,
+        word: None,
     };
     is_written(alloc, plan, told.parts)
 }
@@ -154,6 +156,7 @@ const AS_TABLE: TracePlan = TracePlan {
     form: TraceForm::Table,
     from: 0,
     to: None,
+    word: None,
 };
 
 #[test]

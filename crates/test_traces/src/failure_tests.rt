@@ -74,6 +74,7 @@ fn has_row(host: Global, source: &str, row: &Row) -> Option<bool> {
         form: TraceForm::Table,
         from: row.number,
         to: None,
+        word: None,
     };
     let mut program = MemorySource::new(&file);
     let mut choices = MemorySource::new(row.choices.as_bytes());

@@ -8,4 +8,6 @@ mod failure_tests;
 #[cfg(test)]
 mod refused_tests;
 #[cfg(test)]
+mod word_tests;
+#[cfg(test)]
 mod worked;

@@ -24,6 +24,7 @@ fn traced<A: Allocator + Copy>(
         form: tracing.form,
         from: 1,
         to: None,
+        word: None,
     };
     let mut program = MemorySource::new(tracing.file);
     let mut choices = MemorySource::new(b"0*3 1*2 0*8 1!");

@@ -8,10 +8,11 @@ use crate::terms::Terms;
 use std::alloc::Allocator;
 use std::sync::ledger::Share;
 use std::sync::{Mutex, Wait};
-use thread_gate::Gate;
+use thread_gate::{Gate, Spinning};
 
 /// Makes a hart's choices until it has stopped or its budget is used up: local steps as long as the
 /// next one is local, then one step under the lock. Before that the gate is called, without a lock.
+/// A hart that spins lets other threads run between its entries.
 pub fn work<T: Terms, A: Allocator, G: Gate, R: Wait>(
     rt: &R,
     running: &Mutex<Running<T, A>>,
@@ -24,6 +25,7 @@ pub fn work<T: Terms, A: Allocator, G: Gate, R: Wait>(
 {
     let mut ticket = ticket;
     let mut seat = running.lock(rt).seat(hart)?;
+    let mut spinning = Spinning::new(seat.slot());
     let mut left = budget;
     'choices: while left > 0 {
         seat.advance_local(left - 1);
@@ -33,6 +35,7 @@ pub fn work<T: Terms, A: Allocator, G: Gate, R: Wait>(
         if done {
             return Ok(Spent { share: ticket });
         }
+        spinning.look(seat.slot());
         left -= local + 1;
     }
     // The hart's last commit has already returned that it is done, so this is not reached.

@@ -21,7 +21,7 @@ returns-in-Err-write_entries-clause-begun g c choices read counted =
     let all = trace_text c.args.plan c.args.run.now.program.image c.args.run.now.program.symbols.items c.args.run.now.inputs choices in
     let waiting = subst (λ (page : PageValue). SoFar all (g.K.Sink.held c.args.sink.now) (g.K.Sink.held c.args.sink.now) c.push_head_of.new.buffer.items
     (told_entries page c.span_of-span.result (place c.skip.new.self.machine c.skip.new.self.endings) rest))
-    (page_is c.args.plan.form (length c.args.run.now.inputs) _ c.args.run.now.program.symbols.items _ c.harts.ensures.harts c.deref-2.ensures.value) waits in
+    (page_is c.args.plan.form (length c.args.run.now.inputs) _ c.args.run.now.program.symbols.items _ c.args.plan.word c.harts.ensures.harts c.deref-2.ensures.value) waits in
     c.in-Err-write_entries.ensures.begun rest all (g.K.Sink.held c.args.sink.now) skipped.1 waiting
 
 pub returns-in-Ok-flush-clause-told : goal.returns-in-Ok-flush-clause-told
@@ -36,7 +36,7 @@ returns-in-Ok-flush-clause-told g c choices read counted =
     let all = trace_text c.args.plan c.args.run.now.program.image c.args.run.now.program.symbols.items c.args.run.now.inputs choices in
     let waiting = subst (λ (page : PageValue). SoFar all (g.K.Sink.held c.args.sink.now) (g.K.Sink.held c.args.sink.now) c.push_head_of.new.buffer.items
     (told_entries page c.span_of-span.result (place c.skip.new.self.machine c.skip.new.self.endings) rest))
-    (page_is c.args.plan.form (length c.args.run.now.inputs) _ c.args.run.now.program.symbols.items _ c.harts.ensures.harts c.deref-2.ensures.value) waits in
+    (page_is c.args.plan.form (length c.args.run.now.inputs) _ c.args.run.now.program.symbols.items _ c.args.plan.word c.harts.ensures.harts c.deref-2.ensures.value) waits in
     let told = c.in-Ok-write_entries.ensures.taken rest all (g.K.Sink.held c.args.sink.now) skipped.1 waiting in
     sent_all all c.flush.new.buffer.items (g.K.Sink.held c.args.sink.now) (g.K.Sink.held c.flush.new.sink) c.in-Ok-flush.ensures.empty
     (c.in-Ok-flush.ensures.sent all (g.K.Sink.held c.args.sink.now) [] told)
@@ -53,6 +53,6 @@ returns-clause-begun g c choices read counted =
     let all = trace_text c.args.plan c.args.run.now.program.image c.args.run.now.program.symbols.items c.args.run.now.inputs choices in
     let waiting = subst (λ (page : PageValue). SoFar all (g.K.Sink.held c.args.sink.now) (g.K.Sink.held c.args.sink.now) c.push_head_of.new.buffer.items
     (told_entries page c.span_of-span.result (place c.skip.new.self.machine c.skip.new.self.endings) rest))
-    (page_is c.args.plan.form (length c.args.run.now.inputs) _ c.args.run.now.program.symbols.items _ c.harts.ensures.harts c.deref-2.ensures.value) waits in
+    (page_is c.args.plan.form (length c.args.run.now.inputs) _ c.args.run.now.program.symbols.items _ c.args.plan.word c.harts.ensures.harts c.deref-2.ensures.value) waits in
     let told = c.in-Ok-write_entries.ensures.taken rest all (g.K.Sink.held c.args.sink.now) skipped.1 waiting in
     c.in-Err-flush.ensures.begun all (g.K.Sink.held c.args.sink.now) [] told
