@@ -1,4 +1,4 @@
-"""Properties of one's own at a terminal."""
+"""Properties of one's own, and runs that hang, at a terminal."""
 
 import os
 import subprocess
@@ -26,6 +26,20 @@ HINT = (
     "    rvcons shrink a.elf --inputs 2,2 --seed 5 --steps 300 --always 'counter < 2'\n"
 )
 
+# A run that hangs, and what is told of it: hart 1 marks that it waits, by its step behind 0*30, once
+# hart 0 has handed the lock over.
+HANGING = ["run", "h.elf", "--inputs", "1,1", "--list", "0*12 1*13 0*30 1*30", "--hangs"]
+TOLD = (
+    "the run hangs; 10000 further steps of the harts in turn lead here:\n"
+    "hart 1 at 0001003c, spin+4: bne t0, zero, 0x00010038\n"
+    "    it spins on the word 00011010, nodes+12, which is 1; choice 55 changed it last, hart 1 at 00010034, again+20\n"
+    "    another hart would have to go on, and no other still runs\n"
+    "shrink --must-exit in the place of run --hangs prints few of the choices that lead there\n"
+)
+
+# A run that only had too few steps.
+SHORT = ["run", "a.elf", "--inputs", "2,2", "--list", "0*4 1*5", "--hangs"]
+
 
 def properties():
     """Where the harts stood, or what the word was, is told where a run breaks a property."""
@@ -36,3 +50,7 @@ def properties():
         check(f"a property {asked} at a terminal", at_terminal(words), told)
     check("a campaign's property through a pipe", through_pipe(CAMPAIGN)[0], "")
     check("a campaign's property at a terminal", at_terminal(CAMPAIGN)[-len(HINT):], HINT)
+    subprocess.run([PROGRAM, "asm", "--out", "h.elf", f"{TOP}/examples/bugs/mcs_hangs.s"], check=True, timeout=ENDLESS)
+    check("a hang through a pipe", through_pipe(HANGING)[0], "")
+    check("a hang at a terminal", at_terminal(HANGING), TOLD)
+    check("too few steps at a terminal", at_terminal(SHORT), "")

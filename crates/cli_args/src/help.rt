@@ -62,6 +62,10 @@ pub(crate) const WORLDS: &str = "the most worlds that are looked at, below 2^32;
 /// Of `--must-exit` of a run or a campaign.
 pub(crate) const MUST_EXIT: &str = "a hart that still runs at the end is a failure, with status 3";
 
+/// Of `--hangs` of a run.
+pub(crate) const HANGS_OF_RUN: &str =
+    "decide whether the run hangs, which is a failure, with status 7: given as many steps more, a hart still runs";
+
 /// Of `--never-both`.
 pub(crate) const NEVER_BOTH: &str =
     "two addresses or symbols, as enter..leave: two harts between them at once are a failure, with status 4";

@@ -4,9 +4,9 @@ use crate::arguments::{is_set, text_of};
 use crate::choice_text::{ChoiceText, choice_text_of};
 use clap::ArgMatches;
 
-/// `run [--hex] FILE --inputs L SCHEDULE [--rule K] [--must-exit] [--never-both R] [--always P]
-/// [--json]`: runs a program under a schedule, and prints each hart's end, with a rule its verdict,
-/// and for each property whether it was kept.
+/// `run [--hex] FILE --inputs L SCHEDULE [--rule K] [--must-exit] [--hangs] [--never-both R]
+/// [--always P] [--json]`: runs a program under a schedule, and prints each hart's end, with a rule
+/// its verdict, for each property whether it was kept, and with `--hangs` whether the run hangs.
 #[derive(Drop)]
 pub struct RunOrder<'a> {
     /// Whether the file has words in hexadecimal.
@@ -21,6 +21,8 @@ pub struct RunOrder<'a> {
     pub rule: Option<&'a str>,
     /// Whether a run that leaves a hart running has failed.
     pub must_exit: bool,
+    /// Whether it is decided if the run hangs.
+    pub hangs: bool,
     /// The range of addresses in which no two harts may be at once.
     pub never_both: Option<&'a str>,
     /// What a word of memory must be after each choice.
@@ -45,6 +47,7 @@ pub fn run_order<'a>(matches: &ArgMatches<'a>) -> Option<RunOrder<'a>> {
         choices: choice_text_of(matches)?,
         rule: text_of(matches, "rule"),
         must_exit: is_set(matches, "must-exit"),
+        hangs: is_set(matches, "hangs"),
         never_both: text_of(matches, "never-both"),
         always: text_of(matches, "always"),
         json: is_set(matches, "json"),

@@ -1,9 +1,8 @@
 //! What a person is told of a property that a run broke.
 
-use cli_report::show;
+use cli_report::{push_standing, show};
 use elf_read::Symbol;
 use hart_step::Hart;
-use hint_fault::push_standing;
 use isa_names::Word;
 use machine::Machine;
 use mem_flat::FlatStore;

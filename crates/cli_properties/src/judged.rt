@@ -1,31 +1,41 @@
-//! Runs `run` with properties, or for an object of JSON.
+//! Runs `run` with properties, where it decides whether its run hangs, or for an object of JSON.
 
 use crate::breaks::show_breaks;
+use crate::hangs::show_hang;
 use crate::said::properties_said;
 use byte_io::{Status, WriterSink};
 use cli_args::RunOrder;
-use cli_report::{Audience, RunChoices, RunFiles, form_said, inputs_said, open_run, say_why};
+use cli_report::{
+    Audience, RunChoices, RunFiles, bad_line, form_said, inputs_said, open_run, say_why,
+};
 use cli_run::{expect_said, explain_failure, has_failed, obey_run};
-use cmd_properties::{Form, judged_text};
+use cmd_properties::{Form, Hangs, RunStatus, judged_text};
 use program_named::open_named;
 use program_open::{CommandFault, write_text};
 use std::io;
 use std::rt::Files;
 
-/// Runs a program under choices, those of its order, and judges the order's properties, if it has
-/// some; prints lines, or an object of JSON. The program, and the file of the choices if there is
-/// one, are opened before either is read. The error is the status of what was refused, which is
-/// reported.
+const BOTH: &str =
+    "--must-exit takes each hart that still runs for a failure, and --hangs decides whether it can stop: they don't go together";
+
+/// Runs a program under choices, those of its order, judges the order's properties, if it has some,
+/// and decides whether the run hangs, if it asks for that; prints lines, or an object of JSON. The
+/// program, and the file of the choices if there is one, are opened before either is read. The error
+/// is the status of what was refused, which is reported.
 pub fn obey_any_run<R: Files + AllocGlobal + Print + Eprint>(
     rt: &R,
     audience: Audience,
     order: &RunOrder,
     choices: RunChoices<'_>,
-) -> Result<Status, Status> {
-    if order.has_properties() || order.json {
+) -> Result<RunStatus, Status> {
+    if order.hangs && order.must_exit {
+        return Err(bad_line(rt, BOTH));
+    }
+    if order.has_properties() || order.json || order.hangs {
         obey_judged(rt, audience, order, choices)
     } else {
-        obey_run(rt, audience, order, choices)
+        let status = obey_run(rt, audience, order, choices)?;
+        Ok(RunStatus::Of(status))
     }
 }
 
@@ -34,13 +44,22 @@ fn form_of(order: &RunOrder) -> Form {
     if order.json { Form::Json } else { Form::Text }
 }
 
-// Runs a program under choices, and judges the order's properties.
+// Whether an order asks if its run hangs.
+fn hangs_of(order: &RunOrder) -> Hangs {
+    if order.hangs {
+        Hangs::Asked
+    } else {
+        Hangs::Unasked
+    }
+}
+
+// Runs a program under choices, judges the order's properties, and decides whether the run hangs.
 fn obey_judged<R: Files + AllocGlobal + Print + Eprint>(
     rt: &R,
     audience: Audience,
     order: &RunOrder,
     choices: RunChoices<'_>,
-) -> Result<Status, Status> {
+) -> Result<RunStatus, Status> {
     let inputs = inputs_said(rt, order.inputs)?;
     let expect = expect_said(rt, order)?;
     let form = form_said(order.hex);
@@ -56,15 +75,22 @@ fn obey_judged<R: Files + AllocGlobal + Print + Eprint>(
         Err(fault) => return Err(say_why(rt, audience, files, fault)),
     };
     let mut judged = properties_said(rt, &run.symbols, order)?;
-    let shown = form_of(order);
-    let Ok((text, status)) = judged_text(rt.alloc(), shown, &run.opened, expect, &mut judged) else {
+    let (shown, asked) = (form_of(order), hangs_of(order));
+    let answer = judged_text(rt.alloc(), shown, &run.opened, expect, asked, &mut judged);
+    let Ok((text, status)) = answer else {
         return Err(say_why(rt, audience, files, CommandFault::Memory));
     };
     match write_text(&mut WriterSink::new(io::writer(rt)), &text) {
         Ok(()) => {
-            if has_failed(status) && audience.is_told() {
-                let _ = explain_failure(rt, order, &inputs, choices, expect.rule);
-                show_breaks(rt, &run, &judged);
+            if audience.is_told() {
+                match status {
+                    RunStatus::Of(code) if has_failed(code) => {
+                        let _ = explain_failure(rt, order, &inputs, choices, expect.rule);
+                        show_breaks(rt, &run, &judged);
+                    }
+                    RunStatus::Of(_) => {}
+                    RunStatus::Hangs => show_hang(rt, &run),
+                }
             }
             Ok(status)
         }

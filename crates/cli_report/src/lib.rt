@@ -11,7 +11,7 @@ pub use explain::{
 pub use files::{
     ChoiceSource, is_same_file, open_both, open_one, open_run, read_input_to_end, say_why,
 };
-pub use hint_fault::{EndsTold, Explained};
+pub use hint_fault::{EndsTold, Explained, push_instruction, push_standing};
 pub use objects::{read_object, read_rule};
 pub use output_file::{OutputFault, OutputFile, PROGRAM_MODE, TEXT_MODE};
 pub use places::explain_places;

@@ -1,3 +1,4 @@
 pub mod Lines
+pub mod Hangs
 pub mod Objects
 pub mod Shown

@@ -1,5 +1,5 @@
 -- A run as an object of JSON, with its properties.
-use Rattle.std.specs.Prelude.{ℕ, List, [], ◌∷◌, ◌++◌, codes, decimal, map, Option}
+use Rattle.std.specs.Prelude.{ℕ, Bool, List, [], ◌∷◌, ◌++◌, codes, decimal, map, Option}
 use Rattle.cmd_json.specs.Harts.{harts_value}
 use Rattle.cmd_json.specs.Verdict.{verdict_value}
 use Rattle.hart_step.specs.Hart.{HartValue}
@@ -10,6 +10,7 @@ use Rattle.property_judge.specs.declared.property.Property.TheVariants.{Always, 
 use Rattle.trace_text.specs.Composites.{array, member, object}
 use Rattle.trace_text.specs.Scalars.{number_or_null}
 use Rattle.trace_text.specs.Values.{name_value}
+use Rattle.cmd_properties.specs.Hangs.{hang_member}
 use Rattle.cmd_properties.specs.Lines.{comparison_name}
 
 -- the kind of a property of a range
@@ -35,10 +36,10 @@ unfoldable pub judged_object : Judged → List ℕ
 judged_object judged =
     object (property_members judged.property (member (codes "broken_after") (number_or_null judged.broken)))
 
--- a run by its harts, the verdict and its properties, on a line of its own
-unfoldable pub run_object : Option Verdict → List HartValue → List Judged → List ℕ
-run_object verdict harts judged = object (
+-- a run by its harts, the verdict, its properties and whether it hangs, on a line of its own
+unfoldable pub run_object : Option Verdict → List HartValue → List Judged → Option Bool → List ℕ
+run_object verdict harts judged hangs = object (
     member (codes "harts") (harts_value harts)
     ∷ member (codes "verdict") (verdict_value verdict)
     ∷ member (codes "properties") (array (map judged_object judged))
-    ∷ []) ++ 10 ∷ []
+    ∷ hang_member hangs) ++ 10 ∷ []

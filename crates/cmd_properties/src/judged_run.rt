@@ -1,4 +1,4 @@
-//! A run in which properties may be judged.
+//! A run in which properties may be judged, and of which it may be asked whether it hangs.
 ghost use Rattle.std.specs.Prelude.{◌≡◌, ◌<◌, ℕ, IfOk, List, length, map};
 ghost use Rattle.std.specs.List.{All};
 ghost use Rattle.machine.specs.Start.{started};
@@ -7,6 +7,7 @@ ghost use Rattle.cmd_run.specs.Run.{world_after};
 ghost use Rattle.cmd_properties.specs.Shown.{has_broken, judged_shown, printed, status_with};
 ghost use Rattle.hart_step.specs.Hart.{hart_of};
 
+use crate::hangs::{Hangs, hangs_if, push_hang_line, status_if};
 use crate::lines::push_lines;
 use crate::objects::run_object;
 use byte_io::Status;
@@ -18,6 +19,7 @@ use object_library::Verdict;
 use outcome::{Expect, Outcome, lines_text, verdict_on};
 use program_open::OpenRun;
 use property_judge::{Judged, judge_run};
+use run_hangs::RunStatus;
 use std::alloc::{AllocError, Allocator};
 
 // Whether one of these properties is broken.
@@ -45,35 +47,39 @@ fn printed<A: Allocator + Copy>(
     verdict: Option<Verdict>,
     harts: &[Hart],
     judged: &[Judged],
+    hangs: Option<bool>,
 ) -> Result<Vec<u8, A>, AllocError>
     ensures { IfOk result (λ text. text.items
-        ≡ printed form verdict (map hart_of harts.now) judged.now) }
+        ≡ printed form verdict (map hart_of harts.now) judged.now hangs) }
 {
     match form {
         Form::Text => {
             let mut text = lines_text(alloc, verdict, harts)?;
             push_lines(&mut text, judged)?;
+            push_hang_line(&mut text, hangs)?;
             Ok(text.into_bytes())
         }
-        Form::Json => run_object(alloc, verdict, harts, judged),
+        Form::Json => run_object(alloc, verdict, harts, judged, hangs),
     }
 }
 
 /// Runs an opened run's choices, and judges the properties at the start and after each choice.
-/// Returns in this form what `run` prints of it and whether each property is broken; and the
-/// status, `Broken` if one is broken, else that of the run. The only error is out of memory.
+/// Returns in this form what `run` prints of it, whether each property is broken and, if that is
+/// asked, whether the run hangs; and the status, `Broken` if a property is broken, else that of the
+/// run, or `Hangs` if it has failed in no other way. The only error is out of memory.
 pub fn judged_text<A: Allocator + Copy>(
     alloc: A,
     form: Form,
     run: &OpenRun<A>,
     expect: Expect,
+    asked: Hangs,
     judged: &mut [Judged],
-) -> Result<(Vec<u8, A>, Status), AllocError>
+) -> Result<(Vec<u8, A>, RunStatus), AllocError>
     requires { All (λ c. c.hart < length run.now.inputs) run.now.choices.items }
     ensures judged { IfOk result (λ _. judged.new
         ≡ map (judged_run (started run.now.image run.now.inputs) run.now.choices.items) judged.old) }
     ensures shown { IfOk result (λ answer.
-        judged_shown form expect run.now.inputs run.now.choices.items judged.new
+        judged_shown form expect asked run.now.inputs run.now.choices.items judged.new
         (world_after run.now.image run.now.inputs run.now.choices.items)
         ≡ (answer.0.items, answer.1)) }
 {
@@ -82,9 +88,16 @@ pub fn judged_text<A: Allocator + Copy>(
         Ok(()) => {}
         Err(Stopped { .. }) => return Err(AllocError),
     }
+    let hangs = hangs_if(
+        alloc,
+        asked,
+        &machine,
+        run.inputs.harts(),
+        run.choices.len(),
+    )?;
     let harts = machine.ends();
     let verdict = verdict_on(expect.rule, run.inputs.words(), &run.choices, harts);
-    let text = printed(alloc, form, verdict, harts, judged)?;
+    let text = printed(alloc, form, verdict, harts, judged, hangs)?;
     let status = expect.status(Outcome::of(verdict, harts));
-    Ok((text, status_with(judged, status)))
+    Ok((text, status_if(hangs, status_with(judged, status))))
 }

@@ -9,6 +9,7 @@ ghost use Rattle.trace_text.specs.Composites.{array, member, more_elements};
 ghost use Rattle.trace_text.specs.Scalars.{number_or_null};
 ghost use Rattle.trace_text.specs.Values.{name_value};
 
+use crate::hangs::push_hang_member;
 use crate::lines::ComparisonName;
 use cmd_json::{
     push_count_member, push_harts, push_key, push_name_member, push_next_number, push_verdict,
@@ -180,21 +181,24 @@ fn push_ends<A: Allocator>(
     push_verdict(out, verdict)
 }
 
-/// The object of a run, by its harts, the verdict on it and its properties, and LF.
+/// The object of a run, by its harts, the verdict on it, its properties and whether it hangs if that
+/// is asked, and LF.
 #[tactic(auto, unfolding(crate::specs::Objects::run_object))]
 pub(crate) fn run_object<A: Allocator + Copy>(
     alloc: A,
     verdict: Option<Verdict>,
     harts: &[Hart],
     judged: &[Judged],
+    hangs: Option<bool>,
 ) -> Result<Vec<u8, A>, AllocError>
     ensures { IfOk result (λ object. object.items
-        ≡ run_object verdict (map hart_of harts.now) judged.now) }
+        ≡ run_object verdict (map hart_of harts.now) judged.now hangs) }
 {
     let mut out = Vec::new(alloc);
     push_ends(&mut out, verdict, harts)?;
     out.push(b',')?;
     push_properties(alloc, &mut out, judged)?;
-    out.extend_from_slice(b"}\n")?;
+    push_hang_member(&mut out, hangs)?;
+    out.push(b'\n')?;
     Ok(out)
 }

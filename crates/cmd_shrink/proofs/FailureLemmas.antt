@@ -17,8 +17,8 @@ use Rattle.outcome.specs.declared.expect.Exit.{Exit}
 use Rattle.outcome.specs.declared.expect.Exit.TheVariants.{May, Must}
 use Rattle.outcome.specs.declared.expect.Expect.{Expect}
 use Rattle.property_judge.specs.declared.property.Property.{Property}
-use Rattle.cmd_shrink.specs.Hanging.{hangs_after, harts_after, steps_for}
-use Rattle.cmd_shrink.specs.Failure.{RunFailsSo, or_failure, lowest_fault, breaks_property, broken_property, failure_after, failure_by, failure_of, failure_or, failure_otherwise, property_or}
+use Rattle.run_hangs.specs.Hanging.{hangs_after, steps_for}
+use Rattle.cmd_shrink.specs.Failure.{RunFailsSo, or_failure, lowest_fault, breaks_property, broken_property, failure_after, failure_by, failure_of, failure_or, failure_otherwise, harts_after, property_or}
 use Rattle.cmd_shrink.specs.declared.failure.Failure.{Failure}
 use Rattle.cmd_shrink.specs.declared.failure.Failure.TheVariants as failure
 

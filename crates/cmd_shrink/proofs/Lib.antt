@@ -1,9 +1,6 @@
-pub mod StepLemmas
 pub mod FaultLemmas
 pub mod FailureLemmas
 pub mod BreakLemmas
-pub mod TurnLemmas
-pub mod BelowLemmas
 pub mod ShrunkLemmas
 pub mod LessLemmas
 pub mod WeightLemmas

@@ -7,6 +7,7 @@ use Rattle.hart_step.specs.declared.hart.Cause.{Cause}
 use Rattle.hart_step.specs.declared.hart.HartState.{HartState}
 use Rattle.hart_step.specs.declared.hart.HartState.TheVariants.{Running, Exited, Faulted}
 use Rattle.machine.specs.Start.{started}
+use Rattle.machine.specs.World.{run}
 use Rattle.machine.specs.declared.choice.Choice.{Choice}
 use Rattle.object_library.specs.declared.kind.Kind.{Kind}
 use Rattle.object_library.specs.declared.verdict.Verdict.{Verdict}
@@ -17,7 +18,7 @@ use Rattle.outcome.specs.declared.expect.Exit.{Exit}
 use Rattle.outcome.specs.declared.expect.Expect.{Expect}
 use Rattle.property_judge.specs.Broken.{first_broken}
 use Rattle.property_judge.specs.declared.property.Property.{Property}
-use Rattle.cmd_shrink.specs.Hanging.{hangs_after, harts_after, steps_for}
+use Rattle.run_hangs.specs.Hanging.{hangs_after, steps_for}
 use Rattle.cmd_shrink.specs.declared.failure.Failure.{Failure}
 use Rattle.cmd_shrink.specs.declared.failure.Failure.TheVariants as failure
 
@@ -26,6 +27,10 @@ use Rattle.cmd_shrink.specs.declared.failure.Failure.TheVariants as failure
 abbrev pub breaks_property : Property → ImageValue → List ℕ → List Choice → Bool
 breaks_property property image inputs choices =
     is_some (first_broken property (started image inputs) choices)
+
+-- the harts after choices, from an image's start
+abbrev pub harts_after : ImageValue → List ℕ → List Choice → List HartValue
+harts_after image inputs choices = (run (started image inputs) choices).harts
 
 -- the verdict on a run with these inputs, choices and harts is that the rule of a kind is broken
 abbrev pub BreaksRule : Kind → List ℕ → List Choice → List HartValue → Type 0

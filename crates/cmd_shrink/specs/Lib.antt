@@ -1,4 +1,3 @@
-pub mod Hanging
 pub mod Failure
 pub mod Shrink
 pub mod Less

@@ -4,11 +4,11 @@ ghost use Rattle.machine.specs.State.{state};
 ghost use Rattle.property_judge.specs.Broken.{first_broken};
 ghost use Rattle.cmd_shrink.specs.Failure.{breaks_property, broken_property};
 
-use crate::running::take_step;
 use image::Image;
 use machine::{Choice, Inputs, Machine};
 use mem_flat::FlatStore;
 use property_judge::{Property, holds_in};
+use run_hangs::take_step;
 use std::alloc::{AllocError, Allocator};
 
 // Whether a property doesn't hold in the machine's world, or not after one of these choices. The

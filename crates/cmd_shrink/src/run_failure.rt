@@ -1,17 +1,15 @@
 //! How the run of a list of choices fails.
 ghost use Rattle.std.specs.Prelude.{◌≡◌, IfOk};
-ghost use Rattle.cmd_shrink.specs.Failure.{failure_after, failure_of, failure_otherwise};
-ghost use Rattle.cmd_shrink.specs.Hanging.{harts_after};
+ghost use Rattle.cmd_shrink.specs.Failure.{failure_after, failure_of, failure_otherwise, harts_after};
 
 use crate::breaking::broken_property;
 use crate::failure::{Failure, failure_of};
-use crate::hanging::{hangs_after, steps_for};
-use crate::running::machine_after;
 use image::Image;
 use machine::{Choice, Inputs};
 use object_library::Kind;
 use outcome::{Exit, Expect};
 use property_judge::Property;
+use run_hangs::{hangs_after, machine_after, steps_for};
 use std::alloc::{AllocError, Allocator};
 
 // How the run of a list of choices fails at its end.

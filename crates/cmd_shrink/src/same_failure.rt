@@ -4,10 +4,9 @@ ghost use Rattle.cmd_shrink.specs.Failure.{RunFailsSo};
 use crate::Failing;
 use crate::breaking::breaks_property;
 use crate::failure::{Failure, breaks_rule, has_faulted_at};
-use crate::hanging::hangs_after;
-use crate::running::machine_after;
 use image::Image;
 use machine::{Choice, Inputs};
+use run_hangs::{hangs_after, machine_after};
 use std::alloc::{AllocError, Allocator};
 
 /// Tests whether the runs of lists of choices, from an image's start, fail in one way.

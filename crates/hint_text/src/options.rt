@@ -41,6 +41,7 @@ pub(crate) const COMMANDS: [Row; 14] = [
             "--refusals",
             "--rule",
             "--must-exit",
+            "--hangs",
             "--never-both",
             "--always",
             "--json",

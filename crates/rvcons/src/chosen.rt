@@ -7,7 +7,7 @@ use cli_choices::{NamedRun, hold_choices};
 use cli_debug::obey_debug;
 use cli_gdb::obey_gdb;
 use cli_orders::{DebugOrder, ShrinkOrder, TraceOrder};
-use cli_properties::obey_any_run;
+use cli_properties::{RunStatus, obey_any_run};
 use cli_report::{Audience, RunChoices, bad_line, form_said};
 use cli_runs::obey_trace;
 use std::io::Input;
@@ -24,7 +24,7 @@ pub(crate) fn run_chosen<R: Files + AllocGlobal + Print + Eprint + Input>(
     rt: &R,
     audience: Audience,
     order: &RunOrder,
-) -> Result<Status, Status> {
+) -> Result<RunStatus, Status> {
     let named = NamedRun {
         file: order.file,
         form: form_said(order.hex),

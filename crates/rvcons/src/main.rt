@@ -7,6 +7,7 @@ use cli_campaign::{obey_campaign, obey_explore};
 use cli_choices::obey_schedule;
 use cli_files::{obey_asm, obey_info, obey_lib, obey_list};
 use cli_orders::{Order, read_line};
+use cli_properties::RunStatus;
 use cli_report::{Audience, explain_line, out_of_memory, read_arguments, refuse_line};
 use cli_runs::{obey_replay, obey_threads};
 use object_library::KIND_NAMES;
@@ -30,7 +31,8 @@ fn main(rt: HostRuntime) -> ExitCode {
         Audience::Program
     };
     match obey(&rt, audience, talk) {
-        Ok(status) | Err(status) => ExitCode::from(status.code()),
+        Ok(status) => ExitCode::from(status.code()),
+        Err(status) => ExitCode::from(status.code()),
     }
 }
 
@@ -41,7 +43,7 @@ fn obey<R: Files + AllocGlobal + Print + Eprint + Env + Threads + Wait + Sync + 
     rt: &R,
     seen_by: Audience,
     talk: Audience,
-) -> Result<Status, Status> {
+) -> Result<RunStatus, Status> {
     let arguments = read_arguments(rt)?;
     let Ok(words) = arguments
         .iter()
@@ -51,14 +53,14 @@ fn obey<R: Files + AllocGlobal + Print + Eprint + Env + Threads + Wait + Sync + 
         return Err(out_of_memory(rt));
     };
     let audience = seen_by.as_said(words.as_slice());
-    match read_line(rt.alloc(), words.as_slice(), KIND_NAMES) {
+    let answer = match read_line(rt.alloc(), words.as_slice(), KIND_NAMES) {
+        Ok(Order::Run(order)) => return run_chosen(rt, audience, &order),
         Ok(Order::Asm(order)) => Ok(obey_asm(rt, audience, &order)),
         Ok(Order::Debug(order)) => debug_chosen(rt, audience, talk, &order),
         Ok(Order::Gdb(order)) => gdb_chosen(rt, audience, &order),
         Ok(Order::Lib(order)) => Ok(obey_lib(rt, &order)),
         Ok(Order::List(order)) => Ok(obey_list(rt, audience, &order)),
         Ok(Order::Info(order)) => Ok(obey_info(rt, audience, &order)),
-        Ok(Order::Run(order)) => run_chosen(rt, audience, &order),
         Ok(Order::Threads(order)) => obey_threads(rt, audience, &order),
         Ok(Order::Replay(order)) => obey_replay(rt, audience, &order),
         Ok(Order::Campaign(order)) => obey_campaign(rt, audience, &order),
@@ -71,5 +73,9 @@ fn obey<R: Files + AllocGlobal + Print + Eprint + Env + Threads + Wait + Sync + 
             explain_line(rt, audience, words.as_slice(), &fault);
             Err(status)
         }
+    };
+    match answer {
+        Ok(status) => Ok(RunStatus::Of(status)),
+        Err(status) => Err(status),
     }
 }

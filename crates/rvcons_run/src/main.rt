@@ -65,6 +65,12 @@ fn run<R: Files + AllocGlobal + Print + Eprint + Input>(
             "this is the program of run alone: the whole program judges properties",
         ));
     }
+    if order.hangs {
+        return Err(bad_line(
+            rt,
+            "this is the program of run alone: the whole program decides whether a run hangs",
+        ));
+    }
     if order.json {
         return Err(bad_line(
             rt,

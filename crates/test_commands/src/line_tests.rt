@@ -66,6 +66,7 @@ static LINES: [(&str, &str); 91] = [
     ("rvcons run p --inputs 7,9 --choices c --rule k", "run FILE=p inputs=7,9 choices=c rule=k"),
     ("rvcons run p --inputs 7,9 --choices c --must-exit",
         "run FILE=p inputs=7,9 choices=c must-exit=yes"),
+    ("rvcons run p --inputs 7,9 --hangs --choices c", "run FILE=p inputs=7,9 choices=c hangs=yes"),
     ("rvcons run p --inputs 7,9 --choices c --never-both a..b",
         "run FILE=p inputs=7,9 choices=c never-both=a..b"),
     ("rvcons run p --inputs 7,9 --always x --choices c",

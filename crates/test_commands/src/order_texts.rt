@@ -108,6 +108,7 @@ fn run_text(alloc: Global, order: &RunOrder) -> Result<String, AllocError> {
     let fields = &[
         ("rule", order.rule),
         ("must-exit", flag(order.must_exit)),
+        ("hangs", flag(order.hangs)),
         ("never-both", order.never_both),
         ("always", order.always),
         ("json", flag(order.json)),

@@ -1,8 +1,10 @@
-//! Tests of `property_judge`, `property_text` and `cmd_properties`.
+//! Tests of `property_judge`, `property_text`, `run_hangs` and `cmd_properties`.
 #![tactic(auto)]
 
 #[cfg(test)]
 mod comparison_tests;
+#[cfg(test)]
+mod hang_tests;
 #[cfg(test)]
 mod object_tests;
 #[cfg(test)]

@@ -2,12 +2,13 @@
 //! of them.
 use byte_io::Status;
 use cmd_json::Form;
-use cmd_properties::judged_text;
+use cmd_properties::{Hangs, judged_text};
 use machine::Inputs;
 use object_library::Kind;
 use outcome::{Exit, Expect};
 use program_open::OpenRun;
 use property_judge::{Comparison, Judged, Order, Property};
+use run_hangs::RunStatus;
 use sched_text::read_choices;
 use std::alloc::{AllocError, Allocator, Global};
 use test_images::{CONDITIONAL, STORES_INPUT, writable_program};
@@ -70,8 +71,9 @@ impl Call for Row {
             property,
             broken: None,
         });
-        let (text, status) = judged_text(alloc, Form::Json, &run, expect, &mut judged)?;
-        Ok(text.as_slice() == self.shown.as_bytes() && status == self.status)
+        let asked = Hangs::Unasked;
+        let (text, status) = judged_text(alloc, Form::Json, &run, expect, asked, &mut judged)?;
+        Ok(text.as_slice() == self.shown.as_bytes() && status == RunStatus::Of(self.status))
     }
 }
 

@@ -2,11 +2,12 @@
 //! properties, and its status.
 use byte_io::Status;
 use cmd_json::Form;
-use cmd_properties::judged_text;
+use cmd_properties::{Hangs, judged_text};
 use machine::Inputs;
 use outcome::{Exit, Expect};
 use program_open::OpenRun;
 use property_judge::{Comparison, Judged, Order, Property};
+use run_hangs::RunStatus;
 use sched_text::read_choices;
 use std::alloc::{AllocError, Allocator, Global};
 use test_images::{STORES_INPUT, writable_program};
@@ -94,8 +95,9 @@ impl Call for Row {
             property,
             broken: None,
         });
-        let (text, status) = judged_text(alloc, Form::Text, &run, expect, &mut judged)?;
-        Ok(text.as_slice() == self.shown.as_bytes() && status == self.status)
+        let asked = Hangs::Unasked;
+        let (text, status) = judged_text(alloc, Form::Text, &run, expect, asked, &mut judged)?;
+        Ok(text.as_slice() == self.shown.as_bytes() && status == RunStatus::Of(self.status))
     }
 }
 

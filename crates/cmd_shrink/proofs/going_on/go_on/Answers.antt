@@ -1,5 +1,0 @@
-use Rattle.cmd_shrink.proofs.StepLemmas.{harts_stay}
-use Rattle.cmd_shrink.proofs.going_on.go_on.Goals as goal
-
-pub returns-clause-there : goal.returns-clause-there
-returns-clause-there g c = harts_stay _ _ _ _ c.in_ok-run_schedule.ensures.0 c.requires.there

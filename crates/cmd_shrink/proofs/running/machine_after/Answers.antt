@@ -1,5 +1,0 @@
-use Rattle.cmd_shrink.proofs.StepLemmas.{harts_stay}
-use Rattle.cmd_shrink.proofs.running.machine_after.Goals as goal
-
-pub returns-clause-harts : goal.returns-clause-harts
-returns-clause-harts g c = harts_stay _ _ _ _ c.take_steps.ensures c.in_ok-machine.ensures.harts

@@ -1,0 +1,4 @@
+pub mod StepLemmas
+pub mod TurnLemmas
+pub mod BelowLemmas
+pub mod StatusLemmas

@@ -1,0 +1,2 @@
+pub mod Hanging
+pub mod Status
