@@ -398,11 +398,16 @@ class Workbench {
   }
 }
 
+/** The module that stands in the page, compiled: it is there under gzip, in base64. */
+async function inflatedModule(letters) {
+  const bytes = await through(ofLetters(letters), new DecompressionStream('gzip'), Infinity);
+  return WebAssembly.compile(bytes);
+}
+
 async function openPage() {
   const { commit, digest } = JSON.parse(find('about').textContent);
   find('build').textContent = `Commit ${commit}; the module’s SHA-256 is ${digest}.`;
-  const bytes = Uint8Array.from(atob(find('module').textContent), (it) => it.charCodeAt(0));
-  const module = WebAssembly.compile(bytes).catch((error) => {
+  const module = inflatedModule(find('module').textContent).catch((error) => {
     throw new NoAnswer(error.message);
   });
   // Each command says that there is no module.
