@@ -2,11 +2,9 @@
 
 // The most worlds are below this.
 const WORLD_LIMIT = 2n ** 32n;
-// What is said of a list, by its status (docs/MANUAL.md, "explore").
-const LIST_SAID = {
-  3: 'these choices fail, or lead to a world from which a hart can’t exit',
-  4: 'these choices break the rule',
-};
+// What is said of an answer by its status (docs/MANUAL.md, "explore"), and where each hart must exit.
+const FOUND = { 0: 'no schedule fails', 3: 'these choices fail', 4: 'these choices break the rule' };
+const FOUND_WITH_EXITS = { ...FOUND, 3: 'these choices fail, or lead to a world from which not all harts can exit' };
 
 class EveryPanel {
   constructor(bench, makeEngine) {
@@ -63,7 +61,7 @@ class EveryPanel {
       return;
     }
     this.list = answer.status === 0 ? null : text.trim();
-    this.tell('explore', `status ${answer.status}, ${LIST_SAID[answer.status] ?? 'no schedule fails'} ${time}`);
+    this.tell('explore', `status ${answer.status}, ${(this.asked.mustExit ? FOUND_WITH_EXITS : FOUND)[answer.status]} ${time}`);
     this.show(text);
   }
 
