@@ -56,4 +56,5 @@ const STATUSES = {
   3: 'failed: a hart has faulted without a rule, or still runs where it must exit',
   4: 'failed: the rule is broken',
   5: 'out of memory',
+  6: 'not decided: there are more worlds than may be looked at',
 };

@@ -130,6 +130,12 @@ class Machine {
     return this.call('page_schedule', [packed([steps, seed], drawWords(draw))], [inputs, program]);
   }
 
+  /** `explore` of an ELF file: every schedule, where they lead to at most so many worlds. */
+  explore({ most, rule = 'none', mustExit = false, bounds, refusals, inputs, program }) {
+    const words = [RULE_NUMBERS[rule], mustExit ? 1 : 0, bounds ? 1 : 0, refusals ? 1 : 0];
+    return this.call('page_explore', [packed([most], words)], [inputs, program]);
+  }
+
   /** `campaign` of an ELF file: the runs of `count` seeds from `first` on. */
   campaign({ first, count, steps, draw, rule = 'none', mustExit = false, report, inputs, program }) {
     const words = [...drawWords(draw), RULE_NUMBERS[rule], mustExit ? 1 : 0, REPORT_NUMBERS[report]];

@@ -54,6 +54,7 @@ class Workbench {
     Object.assign(this, { engine: makeEngine(), examples, name: OWN_NAME, turn: 0 });
     this.picture = new TracePicture();
     this.campaign = new CampaignPanel(this, makeEngine);
+    this.every = new EveryPanel(this, makeEngine);
     this.debugger = new DebugPanel(this.engine, this.picture);
     this.source = new Editor(find('source-editor'), find('source-fault'));
     this.choices = new Editor(find('choices-editor'), find('choices-fault'));
@@ -149,6 +150,7 @@ class Workbench {
       } else if (event.key === 'Escape') {
         if (this.engine.isBusy) this.engine.stop();
         this.campaign.stop();
+        this.every.stop();
       }
     });
   }
@@ -398,11 +400,16 @@ class Workbench {
   }
 }
 
+/** The module that stands in the page, compiled: it is there under gzip, in base64. */
+async function inflatedModule(letters) {
+  const bytes = await through(ofLetters(letters), new DecompressionStream('gzip'), Infinity);
+  return WebAssembly.compile(bytes);
+}
+
 async function openPage() {
   const { commit, digest } = JSON.parse(find('about').textContent);
   find('build').textContent = `Commit ${commit}; the module’s SHA-256 is ${digest}.`;
-  const bytes = Uint8Array.from(atob(find('module').textContent), (it) => it.charCodeAt(0));
-  const module = WebAssembly.compile(bytes).catch((error) => {
+  const module = inflatedModule(find('module').textContent).catch((error) => {
     throw new NoAnswer(error.message);
   });
   // Each command says that there is no module.
@@ -411,7 +418,7 @@ async function openPage() {
   if (!(await bench.openLink())) bench.showExample(bench.examples[0].title);
   if (!has64BitMemory()) {
     bench.notify(NO_MEMORY_64, true);
-    for (const button of document.querySelectorAll('#result button, #campaign button, #harts-next button, #undo, #of-seed, #do-shrink')) button.disabled = true;
+    for (const button of document.querySelectorAll('#result button, #campaign button, #every button, #harts-next button, #undo, #of-seed, #do-shrink')) button.disabled = true;
   }
 }
 

@@ -41,6 +41,7 @@ class Commands {
       shrink: () => machine.shrink(given),
       schedule: () => machine.schedule(given),
       campaign: () => machine.campaign(given),
+      explore: () => machine.explore(given),
       debug: () => machine.debug({ ...given, commands: encode(commands) }),
     };
     return deeds[command]();

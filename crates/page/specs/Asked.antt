@@ -6,6 +6,10 @@ use Rattle.cmd_run.specs.declared.file.FileView.{FileView}
 use Rattle.cmd_run.specs.declared.file.FileView.TheVariants as view
 use Rattle.cmd_trace.specs.declared.plan.TraceForm.TheVariants.{Lines}
 use Rattle.cmd_trace.specs.declared.plan.TracePlan.{TracePlan}
+use Rattle.explore_space.specs.declared.meant.ScRefusals.{ScRefusals}
+use Rattle.explore_space.specs.declared.meant.ScRefusals.TheVariants as refusals
+use Rattle.explore_space.specs.declared.own_bounds.OwnBounds.{OwnBounds}
+use Rattle.explore_space.specs.declared.own_bounds.OwnBounds.TheVariants as bounds
 use Rattle.object_library.specs.declared.kind.Kind.{Kind}
 use Rattle.object_library.specs.declared.kind.Kind.TheVariants as kind
 use Rattle.outcome.specs.declared.expect.Exit.{Exit}
@@ -54,3 +58,13 @@ report_numbered n =
     else if n == 3 then Some report.Outcomes
     else if n == 4 then Some report.Causes
     else None
+
+-- whether the bounds on harts' own steps are asked for: 0 they aren't, 1 they are
+abbrev pub bounds_numbered : ℕ → Option OwnBounds
+bounds_numbered n =
+    if n == 0 then Some bounds.NotAsked else if n == 1 then Some bounds.Asked else None
+
+-- whether store-conditionals are refused that could succeed: 0 never, 1 they are too
+abbrev pub refusals_numbered : ℕ → Option ScRefusals
+refusals_numbered n =
+    if n == 0 then Some refusals.Never else if n == 1 then Some refusals.Also else None

@@ -1,11 +1,12 @@
 //! What the numbers of a call ask for.
 
 ghost use Rattle.std.specs.Prelude.{◌≡◌};
-ghost use Rattle.page.specs.Asked.{exit_numbered, expect_numbered, lines_of, report_numbered, rule_numbered, view_numbered};
+ghost use Rattle.page.specs.Asked.{bounds_numbered, exit_numbered, expect_numbered, lines_of, refusals_numbered, report_numbered, rule_numbered, view_numbered};
 
 use cmd_campaign::Report;
 use cmd_run::FileView;
 use cmd_trace::{TraceForm, TracePlan};
+use explore_space::{OwnBounds, ScRefusals};
 use object_library::Kind;
 use outcome::{Exit, Expect};
 
@@ -76,6 +77,28 @@ pub(crate) fn report_of(report: u32) -> Option<Report>
         2 => Some(Report::Summary),
         3 => Some(Report::Outcomes),
         4 => Some(Report::Causes),
+        _ => None,
+    }
+}
+
+/// Whether the bounds on harts' own steps are asked for.
+pub(crate) fn bounds_of(bounds: u32) -> Option<OwnBounds>
+    ensures { result ≡ bounds_numbered bounds }
+{
+    match bounds {
+        0 => Some(OwnBounds::NotAsked),
+        1 => Some(OwnBounds::Asked),
+        _ => None,
+    }
+}
+
+/// Whether store-conditionals are refused that could succeed.
+pub(crate) fn refusals_of(refusals: u32) -> Option<ScRefusals>
+    ensures { result ≡ refusals_numbered refusals }
+{
+    match refusals {
+        0 => Some(ScRefusals::Never),
+        1 => Some(ScRefusals::Also),
         _ => None,
     }
 }

@@ -1,3 +1,4 @@
+pub mod Explored
 pub mod Replies
 pub mod Shown
 pub mod Sessions

@@ -2,6 +2,7 @@
 #![tactic(auto)]
 
 pub use campaigns::campaign_call;
+pub use every::explore_call;
 pub use reply::{Reply, Told};
 pub use running::{run_call, trace_call};
 pub use schedules::{schedule_call, shrink_call};
@@ -11,6 +12,7 @@ pub use sources::{assemble_call, listing_call};
 pub use words::explain_call;
 
 mod campaigns;
+mod every;
 mod reply;
 mod running;
 mod schedules;

@@ -3,14 +3,16 @@ ghost use Rattle.std.specs.Prelude.{◌+◌, ◌≤◌, ◌^◌};
 
 use byte_io::Status;
 use cmd_campaign::{Campaign, Form, Properties, Report};
+use cmd_explore::{OwnBounds, Question};
 use cmd_run::FileView;
 use cmd_schedule::SeedPlan;
 use cmd_trace::{TraceForm, TracePlan};
+use explore_space::ScRefusals;
 use object_library::Kind;
 use outcome::{Exit, Expect};
 use page_calls::{
-    Reply, Told, assemble_call, campaign_call, debug_call, explain_call, file_call, listing_call,
-    run_call, schedule_call, shrink_call, trace_call,
+    Reply, Told, assemble_call, campaign_call, debug_call, explain_call, explore_call, file_call,
+    listing_call, run_call, schedule_call, shrink_call, trace_call,
 };
 use program_open::ProgramForm;
 use sched_draw::{Draw, Order, Refusals};
@@ -61,6 +63,8 @@ pub(crate) enum Asked {
     Shrunk(Run),
     /// What a campaign of three seeds of two steps each reports of a file.
     Campaign(Report, &'static [u8]),
+    /// What is found of every schedule of a run's program, of at most so many worlds.
+    Every(Run, usize),
     /// A session with these commands.
     Session(Run, &'static str),
 }
@@ -129,6 +133,10 @@ pub(crate) fn made<A: Allocator + Copy>(alloc: A, asked: Asked, out: &mut [u8]) 
         Asked::Campaign(report, file) => {
             campaign_call(alloc, three_seeds(report), &[7], file, out)
         }
+        Asked::Every(run, most) => {
+            let question = every(run.expect(), most);
+            explore_call(alloc, question, &[7], run.program, out)
+        }
         Asked::Session(run, commands) => {
             let (choices, commands) = (run.choices.as_bytes(), commands.as_bytes());
             debug_call(alloc, &[7], run.program, choices, commands, out)
@@ -149,6 +157,17 @@ fn three_seeds(report: Report) -> Campaign
         properties: Properties::NONE,
         report,
         form: Form::Text,
+    }
+}
+
+// What is asked of every schedule, with bounds and all refusals.
+fn every(expect: Expect, most: usize) -> Question {
+    Question {
+        expect,
+        always: None,
+        bounds: OwnBounds::Asked,
+        refusals: ScRefusals::Also,
+        most,
     }
 }
 
@@ -201,6 +220,12 @@ const NO_FILE: Run = Run { form: ProgramForm::Elf, program: b"none", choices: "0
 
 const EXITED: &str = "hart 0 exited a0 00000000 a1 00000007\n";
 
+// The hart exits in the one turn that there is: behind its first step, and behind its second.
+const HOLDS: &str = "every schedule: 2 worlds
+ends exited 1 faulted 0 running 0 0:a0=00000000 0:a1=00000007
+hart 0 has stopped after 2 own steps
+";
+
 const TABLE: &str = "| Choice | Hart 0 | At |
 |---|---|---|
 | 0 | `addi a7, zero, 93` a7 = 0x0000005d |  |
@@ -228,10 +253,14 @@ pub(crate) const ROWS: [(Asked, Wanted); 14] = [
 
 /// The calls on choices, each with its answer.
 #[rattlefmt::skip]
-pub(crate) const CHOICES: [(Asked, Wanted); 11] = [
+pub(crate) const CHOICES: [(Asked, Wanted); 15] = [
     (Asked::Campaign(Report::Lines, &EXITS), Wanted::Prints("seed 5 exited 1 faulted 0 running 0\nseed 6 exited 1 faulted 0 running 0\nseed 7 exited 1 faulted 0 running 0\n", Status::Done)),
     (Asked::Campaign(Report::Summary, &EXITS), Wanted::Prints("seeds 3 first 5 exited 1 faulted 0 running 0\n", Status::Done)),
     (Asked::Campaign(Report::Lines, b"none"), Wanted::Faults("elf fault 1 Short", Status::Refused)),
+    (Asked::Every(FILE_RUN, 9), Wanted::Prints(HOLDS, Status::Done)),
+    (Asked::Every(UNKEPT_FILE, 9), Wanted::Prints("0*2\n", Status::Broken)),
+    (Asked::Every(FILE_RUN, 0), Wanted::Faults("not decided: more than 0 worlds", Status::Undecided)),
+    (Asked::Every(NO_FILE, 9), Wanted::Faults("elf fault 1 Short", Status::Refused)),
     (Asked::Drawn(&EXITS, 3), Wanted::Prints("0 0 0\n", Status::Done)),
     (Asked::Drawn(b"none", 3), Wanted::Faults("elf fault 1 Short", Status::Refused)),
     (Asked::Shrunk(UNKEPT_FILE), Wanted::Prints("0*2\n", Status::Done)),
