@@ -47,7 +47,7 @@ fn inputs_are_read(rt: HostRuntime) {
 
 // Lines, and what is read of each: its command and the texts of its arguments, by their names.
 #[rattlefmt::skip]
-static LINES: [(&str, &str); 91] = [
+static LINES: [(&str, &str); 94] = [
     ("rvcons asm a.s", "asm IN=a.s"),
     ("rvcons asm --out o a.s b.s", "asm out=o IN=a.s IN=b.s"),
     ("rvcons asm b.s a.s --out=o", "asm out=o IN=b.s IN=a.s"),
