@@ -5,7 +5,7 @@ use Rattle.std.specs.declared.result.Result.TheVariants.{Ok, Err}
 use Rattle.byte_io.specs.declared.status.Status.{Status}
 use Rattle.cmd_explore.specs.Explore.{ExploresOpened, RefusesOpened}
 use Rattle.cmd_explore.specs.declared.finding.Explored.{Explored}
-use Rattle.cmd_json.specs.declared.form.Form.TheVariants.{Text}
+use Rattle.cmd_form.specs.declared.form.Form.TheVariants.{Text}
 use Rattle.explore_space.specs.declared.question.Question.{Question}
 use Rattle.page_calls.specs.Shown.{TellsOne}
 use Rattle.page_calls.specs.declared.reply.Reply.{Reply}
