@@ -1,22 +1,24 @@
 -- Priorities: how they are drawn, and what is chosen by them.
-use Rattle.std.proofs.Common.{◌≡◌, ◌≢◌, ℕ, zero, suc, ◌+◌, ◌-◌, ◌%◌, ◌<◌, ◌≤◌, ◌==◌, Bool, true, false, not, List, [], ◌∷◌, ◌++◌, Option, Some, None, length, max, take, drop, filter, insert, refl, arith, ap, ap₂, sym, subst, ◌∙◌, mod-lt, true≢false, if◌then◌else◌, inl, inr, ◌⊎◌}
+use Rattle.std.proofs.Common.{◌≡◌, ◌≢◌, ℕ, zero, suc, ◌+◌, ◌-◌, ◌%◌, ◌<◌, ◌≤◌, ◌==◌, Bool, true, false, not, List, [], ◌∷◌, ◌++◌, Option, Some, None, length, max, take, drop, filter, get_or, insert, map, option_map, refl, arith, ap, ap₂, sym, subst, ◌∙◌, mod-lt, true≢false, if◌then◌else◌, inl, inr, ◌⊎◌}
 use Rattle.std.proofs.lemmas.Bool.{eq-eqb, eqb-true, ne_eqb}
 use Rattle.std.proofs.lemmas.List.{take-append-drop, length_push}
 use Rattle.std.proofs.lemmas.List.Edits.{length-insert}
 use Rattle.std.proofs.lemmas.List.Elements.{All-nil, All-cons, All-head, All-tail, All-append, All-push, All-take, All-drop, All-weaker, All-filter, filter_passes, Contains-append_left, Contains-append_right, Contains-append_cases, Contains-push}
-use Rattle.std.proofs.lemmas.Option.{slice_get_within}
+use Rattle.std.proofs.lemmas.Option.{slice_get-get_or, slice_get-map, slice_get_within}
 use Rattle.std.specs.List.{All, Contains, slice_get}
 use Rattle.rand_pcg.specs.Lcg.{Lcg}
 use Rattle.rand_pcg.specs.Pcg.{pcg32}
-use Rattle.hart_step.specs.Hart.{HartValue}
+use Rattle.hart_step.specs.Hart.{HartValue, hart_of}
+use Rattle.hart_step.specs.declared.hart.Hart.{Hart}
 use Rattle.machine.specs.Running.{goes, runs}
 use Rattle.machine.specs.World.{World, step, run}
 use Rattle.machine.specs.declared.choice.Choice.{Choice}
 use Rattle.machine.proofs.RunLaws.{run_length}
 use Rattle.sched_draw.specs.Seeds.{generator_of}
 use Rattle.sched_draw.specs.Refusing.{is_refused}
+use Rattle.sched_draw.specs.Spinning.{WatchValue, spins, watch_after}
 use Rattle.sched_draw.specs.declared.refusals.Refusals.{Refusals}
-use Rattle.sched_draw.specs.Priorities.{PriorityDrawing, with_priority_hart, with_harts, with_point, with_points, priority_drawing, first_running, next_priority_choice, fallen, is_point, order_after, after_priority_choice, priority_choices_drawn, priority_choices, NeverWaits}
+use Rattle.sched_draw.specs.Priorities.{PriorityDrawing, with_priority_hart, with_harts, with_point, with_points, priority_drawing, first_running, next_priority_choice, fallen, is_point, order_after, after_priority_choice, WatchedDrawing, spins_there, watched_there, spinning_fallen, after_choice_of, after_watched_choice, watched_drawing, priority_choices_drawn, priority_choices, NeverWaits}
 
 -- ---- drawing
 pub hart_placed : (d : PriorityDrawing) (hart word n : ℕ) (g : Lcg) (order : List ℕ) → (word, g) ≡ pcg32 d.generator → n ≡ length d.order
@@ -87,6 +89,29 @@ left_behind place harts d e hart word g first took is =
     is
     ∙ ap {A = ℕ} {B = PriorityDrawing} (λ h. record { order = order_after place h d; points = d.points; generator = g }) first
     ∙ ap {A = ℕ × Lcg} {B = PriorityDrawing} (λ p. record { order = order_after place (first_running harts d.order) d; points = d.points; generator = p.1 }) took
+
+-- ---- the chosen hart, which may spin
+pub next-hart : (refusals : Refusals) (harts : List HartValue) (d : PriorityDrawing) (c : Choice) → c ≡ next_priority_choice refusals harts d
+    → c.hart ≡ first_running harts d.order
+unfolding next_priority_choice
+next-hart refusals harts d c is = ap (λ (x : Choice). x.hart) is
+
+-- the state of a hart that is chosen
+pub chosen_there : (harts : List Hart) (i : ℕ) (h : Hart) → i < length harts → h ≡ get_or harts i h
+    → slice_get (map hart_of harts) i ≡ Some (hart_of h)
+chosen_there harts i h below is =
+    slice_get-map hart_of harts i ∙ ap (option_map hart_of) (slice_get-get_or harts i h below ∙ ap Some (sym is))
+
+pub gone_on : (place : ℕ) (harts : List HartValue) (d : WatchedDrawing) (hart : ℕ) (now : HartValue) (e f : PriorityDrawing) (does : Bool)
+    (watch : Option WatchValue) → hart ≡ first_running harts d.drawing.order → slice_get harts hart ≡ Some now
+    → e ≡ after_priority_choice place harts d.drawing → does ≡ spins d.watch hart now → watch ≡ Some (watch_after d.watch hart now)
+    → f ≡ spinning_fallen does hart e → record { drawing = f; watch = watch } ≡ after_watched_choice place harts d
+unfolding after_watched_choice
+gone_on place harts d hart now e f does watch first there after spin watched is =
+    ap₂ {A = PriorityDrawing} {B = Option WatchValue} {C = WatchedDrawing} (λ x y. record { drawing = x; watch = y })
+    (is ∙ ap₂ (λ b x. spinning_fallen b hart x) (spin ∙ sym (ap (spins_there d.watch hart) there)) after)
+    (watched ∙ sym (ap (watched_there d.watch hart) there))
+    ∙ ap (λ h. after_choice_of h place harts d) first
 
 -- ---- the order has each hart
 points-order : (steps n : ℕ) (d : PriorityDrawing) → (with_points steps n d).order ≡ d.order
@@ -282,6 +307,34 @@ after-keeps place harts d k there = either (is_point place d.points)
     either true = fallen-keeps (first_running harts d.order) d.order k there
     either false = there
 
+-- where the chosen hart may fall once more, since it spins
+spinning-keeps : (does : Bool) (hart : ℕ) (d : PriorityDrawing) (k : ℕ) → Contains d.order k → Contains (spinning_fallen does hart d).order k
+spinning-keeps true hart d k there = fallen-keeps hart d.order k there
+spinning-keeps false hart d k there = there
+
+watched-keeps : (place : ℕ) (harts : List HartValue) (d : WatchedDrawing) (k : ℕ) → Contains d.drawing.order k
+    → Contains (after_watched_choice place harts d).drawing.order k
+unfolding after_watched_choice
+watched-keeps place harts d k there =
+    let hart = first_running harts d.drawing.order in
+    spinning-keeps (spins_there d.watch hart (slice_get harts hart)) hart (after_priority_choice place harts d.drawing) k
+    (after-keeps place harts d.drawing k there)
+
+spinning-below : (n : ℕ) (does : Bool) (hart : ℕ) (d : PriorityDrawing) → hart < n → All (λ h. h < n) d.order
+    → All (λ h. h < n) (spinning_fallen does hart d).order
+spinning-below n true hart d there all =
+    All-push (λ h. h < n) (filter (λ other. not (other == hart)) d.order) hart
+    (All-filter (λ other. not (other == hart)) (λ h. h < n) d.order all) there
+spinning-below n false hart d there all = all
+
+pub watched-below : (n place : ℕ) (harts : List HartValue) (d : WatchedDrawing) → 0 < n → All (λ h. h < n) d.drawing.order
+    → All (λ h. h < n) (after_watched_choice place harts d).drawing.order
+unfolding after_watched_choice
+watched-below n place harts d some all =
+    let hart = first_running harts d.drawing.order in
+    spinning-below n (spins_there d.watch hart (slice_get harts hart)) hart (after_priority_choice place harts d.drawing)
+    (first-below n harts d.drawing.order some all) (after-below n place harts d.drawing some all)
+
 -- ---- laws
 runs-there : (harts : List HartValue) (k : ℕ) → runs harts k ≡ true → k < length harts
 runs-there harts k going = either (slice_get harts k) refl
@@ -294,70 +347,111 @@ step_length : (w : World) (c : Choice) → length (step w c).harts ≡ length w.
 unfolding run
 step_length w c = run_length w (c ∷ [])
 
-never : (refusals : Refusals) (steps place : ℕ) (d : PriorityDrawing) (w : World) → ((k : ℕ) → k < length w.harts → Contains d.order k)
+never : (refusals : Refusals) (steps place : ℕ) (d : WatchedDrawing) (w : World)
+    → ((k : ℕ) → k < length w.harts → Contains d.drawing.order k)
     → NeverWaits w (priority_choices_drawn refusals place steps d w)
 unfolding priority_choices_drawn next_priority_choice
 never refusals zero place d w each = tt
 never refusals (suc steps) place d w each = (
-  λ k going. first-runs w.harts d.order k (each k (runs-there w.harts k going)) going,
-  never refusals steps (place + 1) (after_priority_choice place w.harts d) (step w (next_priority_choice refusals w.harts d))
-      (λ k below. after-keeps place w.harts d k (each k (subst (λ n. k < n) (step_length w (next_priority_choice refusals w.harts d)) below))),
+  λ k going. first-runs w.harts d.drawing.order k (each k (runs-there w.harts k going)) going,
+  never refusals steps (place + 1) (after_watched_choice place w.harts d) (step w (next_priority_choice refusals w.harts d.drawing))
+      (λ k below. watched-keeps place w.harts d k
+      (each k (subst (λ n. k < n) (step_length w (next_priority_choice refusals w.harts d.drawing)) below))),
 )
 
 pub never_waits : (w : World) (refusals : Refusals) (depth steps seed : ℕ)
     → NeverWaits w (priority_choices w (length w.harts) depth refusals steps seed)
 never_waits w refusals depth steps seed =
-    never refusals steps 0 (priority_drawing (length w.harts) depth steps seed) w (λ k below. order-each (length w.harts) depth steps seed k below)
+    never refusals steps 0 (watched_drawing (length w.harts) depth steps seed) w (λ k below. order-each (length w.harts) depth steps seed k below)
 
-pub falls : (refusals : Refusals) (place other : ℕ) (harts later : List HartValue) (d : PriorityDrawing) → is_point place d.points ≡ true
-    → Contains d.order other → other ≢ (next_priority_choice refusals harts d).hart → runs later other ≡ true
-    → (next_priority_choice refusals later (after_priority_choice place harts d)).hart ≢ (next_priority_choice refusals harts d).hart
-unfolding next_priority_choice after_priority_choice
-falls refusals place other harts later d there has differs going same =
-    let hart = first_running harts d.order in
-    let front = filter (λ o. not (o == hart)) d.order in
+-- a hart that has fallen isn't the first that runs, while another one runs
+last_waits : (hart other : ℕ) (order : List ℕ) (later : List HartValue) → Contains order other → other ≢ hart → runs later other ≡ true
+    → first_running later (fallen hart order) ≢ hart
+last_waits hart other order later has differs going same =
+    let front = filter (λ o. not (o == hart)) order in
     let among : not (first_running later (front ++ hart ∷ []) == hart) ≡ true =
-    first-among (λ h. not (h == hart) ≡ true) later front (hart ∷ []) other (filter_passes (λ o. not (o == hart)) d.order)
-    (filter-keeps (λ o. not (o == hart)) d.order other (ap not (ne_eqb other hart differs)) has) going in
-    let order : order_after place hart d ≡ front ++ hart ∷ [] = ap (λ b. if b then fallen hart d.order else d.order) there in
-    let is : first_running later (front ++ hart ∷ []) ≡ hart = ap (first_running later) (sym order) ∙ same in
-    true≢false (sym among ∙ ap not (eq-eqb (first_running later (front ++ hart ∷ [])) hart is))
+    first-among (λ h. not (h == hart) ≡ true) later front (hart ∷ []) other (filter_passes (λ o. not (o == hart)) order)
+    (filter-keeps (λ o. not (o == hart)) order other (ap not (ne_eqb other hart differs)) has) going in
+    true≢false (sym among ∙ ap not (eq-eqb (first_running later (front ++ hart ∷ [])) hart same))
+
+-- where it falls at a change point, or since it spins
+pub falls_at_point : (refusals : Refusals) (place other : ℕ) (harts later : List HartValue) (d : WatchedDrawing)
+    → is_point place d.drawing.points ≡ true
+    → Contains d.drawing.order other → other ≢ (next_priority_choice refusals harts d.drawing).hart → runs later other ≡ true
+    → (next_priority_choice refusals later (after_watched_choice place harts d).drawing).hart
+    ≢ (next_priority_choice refusals harts d.drawing).hart
+unfolding next_priority_choice after_watched_choice after_priority_choice
+falls_at_point refusals place other harts later d there has differs going =
+    either (spins_there d.watch hart (slice_get harts hart))
+  where
+    hart : ℕ
+    hart = first_running harts d.drawing.order
+
+    order : List ℕ
+    order = order_after place hart d.drawing
+
+    is : order ≡ fallen hart d.drawing.order
+    is = ap (λ b. if b then fallen hart d.drawing.order else d.drawing.order) there
+
+    kept : Contains order other
+    kept = subst (λ xs. Contains xs other) (sym is) (fallen-keeps hart d.drawing.order other has)
+
+    either : (b : Bool) → first_running later (if b then fallen hart order else order) ≢ hart
+    either true = last_waits hart other order later kept differs going
+    either false = λ same. last_waits hart other d.drawing.order later has differs going (ap (first_running later) (sym is) ∙ same)
+
+pub falls_since_it_spins : (refusals : Refusals) (place other : ℕ) (harts later : List HartValue) (d : WatchedDrawing)
+    → spins_there d.watch (next_priority_choice refusals harts d.drawing).hart
+    (slice_get harts (next_priority_choice refusals harts d.drawing).hart) ≡ true
+    → Contains d.drawing.order other → other ≢ (next_priority_choice refusals harts d.drawing).hart → runs later other ≡ true
+    → (next_priority_choice refusals later (after_watched_choice place harts d).drawing).hart
+    ≢ (next_priority_choice refusals harts d.drawing).hart
+unfolding next_priority_choice after_watched_choice
+falls_since_it_spins refusals place other harts later d does has differs going =
+    let hart = first_running harts d.drawing.order in
+    let e = after_priority_choice place harts d.drawing in
+    let is : (spinning_fallen (spins_there d.watch hart (slice_get harts hart)) hart e).order ≡ fallen hart e.order =
+    ap (λ b. if b then fallen hart e.order else e.order) does in
+    λ same. last_waits hart other e.order later (after-keeps place harts d.drawing other has) differs going
+    (ap (first_running later) (sym is) ∙ same)
 
 -- ---- one more choice at a time
-drawn-suc : (refusals : Refusals) (place n : ℕ) (d : PriorityDrawing) (w : World)
+drawn-suc : (refusals : Refusals) (place n : ℕ) (d : WatchedDrawing) (w : World)
     → priority_choices_drawn refusals place (suc n) d w
-    ≡ next_priority_choice refusals w.harts d
-    ∷ priority_choices_drawn refusals (place + 1) n (after_priority_choice place w.harts d) (step w (next_priority_choice refusals w.harts d))
+    ≡ next_priority_choice refusals w.harts d.drawing
+    ∷ priority_choices_drawn refusals (place + 1) n (after_watched_choice place w.harts d) (step w (next_priority_choice refusals w.harts d.drawing))
 unfolding priority_choices_drawn
 drawn-suc refusals place n d w = refl
 
 -- the next choice of a run, and those after it
-pub drawn-next : (refusals : Refusals) (place n : ℕ) (d e : PriorityDrawing) (w : World) (harts : List HartValue) (c : Choice) → w.harts ≡ harts
-    → c ≡ next_priority_choice refusals harts d → e ≡ after_priority_choice place harts d
+pub drawn-next : (refusals : Refusals) (place n : ℕ) (d e : WatchedDrawing) (w : World) (harts : List HartValue) (c : Choice) → w.harts ≡ harts
+    → c ≡ next_priority_choice refusals harts d.drawing → e ≡ after_watched_choice place harts d
     → priority_choices_drawn refusals place (n + 1) d w ≡ c ∷ priority_choices_drawn refusals (place + 1) n e (step w c)
 drawn-next refusals place n d e w harts c stand choice state =
     let s : n + 1 ≡ suc n = omega arith in
-    let here : next_priority_choice refusals w.harts d ≡ c = ap (λ hs. next_priority_choice refusals hs d) stand ∙ sym choice in
-    let there : after_priority_choice place w.harts d ≡ e = ap (λ hs. after_priority_choice place hs d) stand ∙ sym state in
+    let here : next_priority_choice refusals w.harts d.drawing ≡ c =
+    ap (λ hs. next_priority_choice refusals hs d.drawing) stand ∙ sym choice in
+    let there : after_watched_choice place w.harts d ≡ e = ap (λ hs. after_watched_choice place hs d) stand ∙ sym state in
     ap (λ k. priority_choices_drawn refusals place k d w) s ∙ drawn-suc refusals place n d w
     ∙ ap₂ (λ x f. x ∷ priority_choices_drawn refusals (place + 1) n f (step w x)) here there
 
 -- a run of no step has no choice, for however many steps its change points are drawn
 pub some_steps : (refusals : Refusals) (harts depth steps seed : ℕ) (w : World) (places : ℕ) → places ≡ max steps 1
-    → priority_choices_drawn refusals 0 steps (priority_drawing harts depth places seed) w ≡ priority_choices w harts depth refusals steps seed
+    → priority_choices_drawn refusals 0 steps (watched_drawing harts depth places seed) w ≡ priority_choices w harts depth refusals steps seed
 unfolding priority_choices_drawn
 some_steps refusals harts depth zero seed w places is = refl
 some_steps refusals harts depth (suc steps) seed w places is =
     let same : places ≡ suc steps = omega (arith, is) in
-    ap (λ n. priority_choices_drawn refusals 0 (suc steps) (priority_drawing harts depth n seed) w) same
+    ap (λ n. priority_choices_drawn refusals 0 (suc steps) (watched_drawing harts depth n seed) w) same
 
 -- each choice that is drawn names a hart that exists
-pub drawn-within : (refusals : Refusals) (n place steps : ℕ) (d : PriorityDrawing) (w : World) → 0 < n → All (λ h. h < n) d.order
+pub drawn-within : (refusals : Refusals) (n place steps : ℕ) (d : WatchedDrawing) (w : World) → 0 < n → All (λ h. h < n) d.drawing.order
     → All (λ c. c.hart < n) (priority_choices_drawn refusals place steps d w)
 unfolding priority_choices_drawn
 drawn-within refusals n place zero d w some all = All-nil (λ (c : Choice). c.hart < n)
 drawn-within refusals n place (suc steps) d w some all =
-    let c = next_priority_choice refusals w.harts d in
-    let e = after_priority_choice place w.harts d in
-    All-cons (λ (c : Choice). c.hart < n) c (priority_choices_drawn refusals (place + 1) steps e (step w c)) (next-below refusals n w.harts d some all)
-    (drawn-within refusals n (place + 1) steps e (step w c) some (after-below n place w.harts d some all))
+    let c = next_priority_choice refusals w.harts d.drawing in
+    let e = after_watched_choice place w.harts d in
+    All-cons (λ (c : Choice). c.hart < n) c (priority_choices_drawn refusals (place + 1) steps e (step w c))
+    (next-below refusals n w.harts d.drawing some all)
+    (drawn-within refusals n (place + 1) steps e (step w c) some (watched-below n place w.harts d some all))

@@ -3,6 +3,7 @@ pub mod Turns
 pub mod Seeds
 pub mod Refusing
 pub mod Bursts
+pub mod Spinning
 pub mod Priorities
 pub mod Mixed
 pub mod Drawn

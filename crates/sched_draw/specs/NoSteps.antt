@@ -21,7 +21,7 @@ pub no_bursts : (d : bursts.BurstDrawing) → bursts.burst_choices_drawn 0 d ≡
 unfolding bursts.burst_choices_drawn
 no_bursts d = refl
 
-pub no_priorities : (refusals : Refusals) (place : ℕ) (d : priorities.PriorityDrawing) (w : World)
+pub no_priorities : (refusals : Refusals) (place : ℕ) (d : priorities.WatchedDrawing) (w : World)
     → priorities.priority_choices_drawn refusals place 0 d w ≡ []
 unfolding priorities.priority_choices_drawn
 no_priorities refusals place d w = refl

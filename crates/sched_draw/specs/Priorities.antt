@@ -1,8 +1,8 @@
 -- Schedules by priorities: the harts have a random order, and the first of it that runs is chosen;
--- at change points it falls to the end. After Burckhardt, Kothari, Musuvathi and Nagarakatte, "A
+-- at change points, and where it spins, it falls to the end. After Burckhardt, Kothari, Musuvathi and Nagarakatte, "A
 -- Randomized Scheduler with Probabilistic Guarantees of Finding Bugs", ASPLOS 2010. A choice is a
 -- function of the seed, its step and the harts' states so far, so the schedule belongs to a run.
-use Rattle.std.specs.Prelude.{◌≡◌, ℕ, zero, suc, ◌+◌, ◌-◌, ◌%◌, ◌==◌, not, Bool, true, List, [], ◌∷◌, ◌++◌, length, filter, insert, if◌then◌else◌}
+use Rattle.std.specs.Prelude.{◌≡◌, ℕ, zero, suc, ◌+◌, ◌-◌, ◌%◌, ◌==◌, not, Bool, true, false, List, [], ◌∷◌, ◌++◌, length, filter, insert, if◌then◌else◌, Option, Some, None, slice_get}
 use Rattle.std.specs.List.{list_any}
 use Rattle.rand_pcg.specs.Lcg.{Lcg}
 use Rattle.rand_pcg.specs.Pcg.{pcg32}
@@ -12,6 +12,7 @@ use Rattle.machine.specs.World.{World, step}
 use Rattle.machine.specs.declared.choice.Choice.{Choice}
 use Rattle.sched_draw.specs.Seeds.{generator_of}
 use Rattle.sched_draw.specs.Refusing.{is_refused}
+use Rattle.sched_draw.specs.Spinning.{WatchValue, spins, watch_after}
 use Rattle.sched_draw.specs.declared.refusals.Refusals.{Refusals}
 
 -- the state of drawing: harts by priority, change points, and the generator of the next words
@@ -81,16 +82,54 @@ after_priority_choice place harts d = record {
   generator = (pcg32 d.generator).1;
 }
 
+-- the state of drawing, and the hart that is watched, which was chosen last
+pub record WatchedDrawing : Type 0 where
+  pub drawing : PriorityDrawing
+  pub watch : Option WatchValue
+
+-- whether a hart that is there spins
+abbrev pub spins_there : Option WatchValue → ℕ → Option HartValue → Bool
+spins_there watch hart None = false
+spins_there watch hart (Some now) = spins watch hart now
+
+-- the watch after a choice of a hart, if it is there
+abbrev pub watched_there : Option WatchValue → ℕ → Option HartValue → Option WatchValue
+watched_there watch hart None = watch
+watched_there watch hart (Some now) = Some (watch_after watch hart now)
+
+-- the state of drawing where a hart falls if it spins
+abbrev pub spinning_fallen : Bool → ℕ → PriorityDrawing → PriorityDrawing
+spinning_fallen does_spin hart d = record {
+  order = if does_spin then fallen hart d.order else d.order;
+  points = d.points;
+  generator = d.generator;
+}
+
+-- the state after the choice of a hart at a step: it falls too if it spins
+abbrev pub after_choice_of : ℕ → ℕ → List HartValue → WatchedDrawing → WatchedDrawing
+after_choice_of hart place harts d = record {
+  drawing = spinning_fallen (spins_there d.watch hart (slice_get harts hart)) hart (after_priority_choice place harts d.drawing);
+  watch = watched_there d.watch hart (slice_get harts hart);
+}
+
+-- the state after the choice at a step
+unfoldable pub after_watched_choice : ℕ → List HartValue → WatchedDrawing → WatchedDrawing
+after_watched_choice place harts d = after_choice_of (first_running harts d.drawing.order) place harts d
+
 -- the next n choices of a run from a world and a step on, each made in the world before it
-unfoldable pub priority_choices_drawn : Refusals → ℕ → ℕ → PriorityDrawing → World → List Choice
+unfoldable pub priority_choices_drawn : Refusals → ℕ → ℕ → WatchedDrawing → World → List Choice
 priority_choices_drawn refusals place zero d world = []
 priority_choices_drawn refusals place (suc steps) d world =
-    next_priority_choice refusals world.harts d
-    ∷ priority_choices_drawn refusals (place + 1) steps (after_priority_choice place world.harts d) (step world (next_priority_choice refusals world.harts d))
+    next_priority_choice refusals world.harts d.drawing
+    ∷ priority_choices_drawn refusals (place + 1) steps (after_watched_choice place world.harts d) (step world (next_priority_choice refusals world.harts d.drawing))
+
+-- the state at a seed, when no hart is watched yet
+abbrev pub watched_drawing : ℕ → ℕ → ℕ → ℕ → WatchedDrawing
+watched_drawing harts depth steps seed = record { drawing = priority_drawing harts depth steps seed; watch = None }
 
 -- the choices of a run of n steps from a world, by the priorities that a seed draws
 abbrev pub priority_choices : World → ℕ → ℕ → Refusals → ℕ → ℕ → List Choice
-priority_choices world harts depth refusals steps seed = priority_choices_drawn refusals 0 steps (priority_drawing harts depth steps seed) world
+priority_choices world harts depth refusals steps seed = priority_choices_drawn refusals 0 steps (watched_drawing harts depth steps seed) world
 
 -- in a run from a world each choice is of a hart that runs, as long as one does
 abbrev pub NeverWaits : World → List Choice → Type 0

@@ -1,13 +1,13 @@
 //! Laws of schedules.
 
-ghost use Rattle.std.specs.Prelude.{◌≡◌, ◌≢◌, ◌-◌, ◌*◌, ◌/◌, ◌%◌, ◌==◌, ◌<◌, ◌≤◌, ℕ, true, false, List, length};
+ghost use Rattle.std.specs.Prelude.{◌≡◌, ◌≢◌, ◌-◌, ◌*◌, ◌/◌, ◌%◌, ◌==◌, ◌<◌, ◌≤◌, ℕ, true, false, List, length, slice_get};
 ghost use Rattle.std.specs.List.{All, Contains};
 ghost use Rattle.hart_step.specs.Hart.{HartValue};
 ghost use Rattle.machine.specs.Running.{runs};
 ghost use Rattle.machine.specs.World.{World, run};
 ghost use Rattle.machine.specs.declared.choice.Choice.{Choice};
 ghost use Rattle.sched_draw.specs.Bursts as bursts;
-ghost use Rattle.sched_draw.specs.Priorities.{PriorityDrawing, priority_drawing, is_point, next_priority_choice, after_priority_choice, priority_choices, NeverWaits};
+ghost use Rattle.sched_draw.specs.Priorities.{WatchedDrawing, priority_drawing, is_point, next_priority_choice, spins_there, after_watched_choice, priority_choices, NeverWaits};
 ghost use Rattle.sched_draw.specs.Refusing.{even_choices, is_refused, IsOneIn};
 ghost use Rattle.sched_draw.specs.Schedules.{drawn_choices};
 ghost use Rattle.sched_draw.specs.Seeds.{seeded_choices};
@@ -81,10 +81,18 @@ pub fn nothing_changes_once_all_have_stopped()
         → run world choices ≡ world }
 {}
 
-/// A hart that falls at a change point is last: the next choice, whatever the harts' states by
-/// then, is not of it while another runs.
-pub fn a_change_point_lets_a_hart_fall()
-    ensures { (refusals : Refusals) (place other : ℕ) (harts later : List HartValue) (d : PriorityDrawing) → is_point place d.points ≡ true
-        → Contains d.order other → other ≢ (next_priority_choice refusals harts d).hart → runs later other ≡ true
-        → (next_priority_choice refusals later (after_priority_choice place harts d)).hart ≢ (next_priority_choice refusals harts d).hart }
+/// A hart that falls is last: the next choice, whatever the harts' states by then, is not of it
+/// while another runs. It falls at a change point, and where it spins.
+pub fn a_hart_that_falls_waits()
+    ensures point { (refusals : Refusals) (place other : ℕ) (harts later : List HartValue) (d : WatchedDrawing)
+        → is_point place d.drawing.points ≡ true
+        → Contains d.drawing.order other → other ≢ (next_priority_choice refusals harts d.drawing).hart → runs later other ≡ true
+        → (next_priority_choice refusals later (after_watched_choice place harts d).drawing).hart
+        ≢ (next_priority_choice refusals harts d.drawing).hart }
+    ensures spins { (refusals : Refusals) (place other : ℕ) (harts later : List HartValue) (d : WatchedDrawing)
+        → spins_there d.watch (next_priority_choice refusals harts d.drawing).hart
+        (slice_get harts (next_priority_choice refusals harts d.drawing).hart) ≡ true
+        → Contains d.drawing.order other → other ≢ (next_priority_choice refusals harts d.drawing).hart → runs later other ≡ true
+        → (next_priority_choice refusals later (after_watched_choice place harts d).drawing).hart
+        ≢ (next_priority_choice refusals harts d.drawing).hart }
 {}

@@ -5,7 +5,7 @@
 pub use chance::{Chance, MOST_ONE_IN};
 pub use even::seeded_generator;
 pub use laws::{
-    a_burst_begins_within_its_bounds, a_burst_is_of_one_hart, a_change_point_lets_a_hart_fall,
+    a_burst_begins_within_its_bounds, a_burst_is_of_one_hart, a_hart_that_falls_waits,
     a_stopped_hart_waits, change_points_are_places, each_hart_has_a_place, never_refuses,
     nothing_changes_once_all_have_stopped, one_in_1_refuses_each, usual_refusals,
 };
@@ -29,4 +29,5 @@ mod priorities;
 mod refusals;
 mod running;
 mod schedule;
+mod spinning;
 mod turns;

@@ -7,14 +7,15 @@ ghost use Rattle.sched_draw.specs.Priorities.{priority_drawing, fallen, order_af
 ghost use Rattle.std.specs.List.{All};
 ghost use Rattle.machine.specs.Running.{runs};
 ghost use Rattle.machine.specs.World.{World};
-ghost use Rattle.sched_draw.specs.Priorities.{priority_choices_drawn, priority_choices};
-ghost use Rattle.sched_draw.specs.Drawn.{drawing};
+ghost use Rattle.sched_draw.specs.Priorities.{priority_choices_drawn, priority_choices, spinning_fallen, after_watched_choice};
+ghost use Rattle.sched_draw.specs.Drawn.{drawing, drawing_watched};
 ghost use Rattle.sched_draw.specs.NoSteps.{no_priorities};
 
 use crate::chooser::Chooser;
 use crate::even::seeded_generator;
 use crate::order::Depth;
 use crate::refusals::Refusals;
+use crate::spinning::{Watch, look};
 use hart_step::Hart;
 use machine::{Choice, runs};
 use rand_core::utils::NextWord;
@@ -131,6 +132,16 @@ impl<A: Allocator> Priorities<A> {
         Ok(())
     }
 
+    // Moves a hart that spins to the end of the order.
+    fn let_spinning_fall(&mut self, hart: u32, does_spin: bool) -> Result<(), AllocError>
+        ensures { IfOk result (λ _. drawing self.new ≡ spinning_fallen does_spin hart (drawing self.old)) }
+    {
+        if does_spin {
+            let_fall(&mut self.order, hart)?;
+        }
+        Ok(())
+    }
+
     // Draws the choice at a step, given the harts' states: the first hart of the order that runs.
     // One word decides whether its store-conditional is refused; at a change point the hart then
     // falls to the end of the order.
@@ -162,6 +173,8 @@ pub(crate) struct ByPriorities<A: Allocator> {
     // at each step, which takes 7 more host instructions.
     priorities: Box<Priorities<A>, A>,
     refusals: Refusals,
+    // The hart that was chosen last.
+    watch: Option<Watch>,
 }
 
 impl<A: Allocator + Copy> ByPriorities<A> {
@@ -174,7 +187,7 @@ impl<A: Allocator + Copy> ByPriorities<A> {
         steps: u64,
         seed: u64,
     ) -> Result<ByPriorities<A>, AllocError>
-        ensures choices { IfOk result (λ p. (w : World) → priority_choices_drawn p.refusals 0 steps (drawing p.priorities.value) w
+        ensures choices { IfOk result (λ p. (w : World) → priority_choices_drawn p.refusals 0 steps (drawing_watched p) w
             ≡ priority_choices w harts depth.number refusals steps seed) }
         ensures there { IfOk result (λ p. All (λ h. h < harts) p.priorities.value.order.items) }
     {
@@ -183,20 +196,23 @@ impl<A: Allocator + Copy> ByPriorities<A> {
         Ok(ByPriorities {
             priorities: Box::new(alloc, priorities)?,
             refusals,
+            watch: None,
         })
     }
 }
 
 impl<A: Allocator> Chooser for ByPriorities<A> {
-    ghost choices = { λ p step n w. priority_choices_drawn p.refusals step n (drawing p.priorities.value) w };
+    ghost choices = { λ p step n w. priority_choices_drawn p.refusals step n (drawing_watched p) w };
 
     ghost IsFor = { λ p n. (0 < n) × All (λ h. h < n) p.priorities.value.order.items };
 
-    ghost none = { λ p step w. no_priorities p.refusals step (drawing p.priorities.value) w };
+    ghost none = { λ p step w. no_priorities p.refusals step (drawing_watched p) w };
 
     #[inline(always)]
     fn next(&mut self, step: u64, harts: &[Hart]) -> Result<Choice, AllocError> {
         let choice = self.priorities.next_choice(step, harts, self.refusals)?;
+        let does_spin = look(&mut self.watch, choice.hart, &harts[choice.hart as usize]);
+        self.priorities.let_spinning_fall(choice.hart, does_spin)?;
         Ok(choice)
     }
 

@@ -1,4 +1,4 @@
-use Rattle.std.proofs.Common.{◌<◌, ap, sym, subst, ◌∙◌}
+use Rattle.std.proofs.Common.{◌<◌, None, ap, sym, subst, ◌∙◌}
 use Rattle.std.specs.List.{All}
 use Rattle.sched_draw.specs.Drawn.{drawing}
 use Rattle.sched_draw.specs.Priorities.{PriorityDrawing, priority_choices_drawn}
@@ -7,8 +7,8 @@ use Rattle.sched_draw.proofs.priorities.ByPriorities.new.Goals as goal
 
 pub returns-clause-choices : goal.returns-clause-choices
 returns-clause-choices g c = λ w.
-    ap (λ p. priority_choices_drawn c.args.refusals 0 c.args.steps (drawing p) w) c.in_ok-new.ensures.ok
-    ∙ ap (λ d. priority_choices_drawn c.args.refusals 0 c.args.steps d w) c.in_ok-priorities.ensures
+    ap (λ p. priority_choices_drawn c.args.refusals 0 c.args.steps (record { drawing = drawing p; watch = None }) w) c.in_ok-new.ensures.ok
+    ∙ ap (λ d. priority_choices_drawn c.args.refusals 0 c.args.steps (record { drawing = d; watch = None }) w) c.in_ok-priorities.ensures
     ∙ some_steps c.args.refusals c.args.harts c.args.depth.number c.args.steps c.args.seed w _ c.max.ensures
 
 pub returns-clause-there : goal.returns-clause-there

@@ -1,0 +1,94 @@
+//! Harts that spin. A hart that is chosen again and again is compared with how it was some choices
+//! before: with the same `pc` and registers it is likely to wait for something that hasn't changed.
+
+ghost use Rattle.std.specs.Prelude.{◌≡◌, Some};
+ghost use Rattle.std.specs.Option.{option_map};
+ghost use Rattle.hart_step.specs.Hart.{hart_of};
+ghost use Rattle.sched_draw.specs.Drawn.{watch_of};
+ghost use Rattle.sched_draw.specs.Spinning.{is_back, same_registers, watch_begun, watch_continued, watch_after, spins};
+
+use hart_step::Hart;
+
+// At most so many choices of a hart don't change how it is remembered: a loop of 65 steps is noticed.
+const LONGEST: u32 = 64;
+
+/// A hart that is watched.
+#[derive(Clone, Copy, Drop)]
+pub(crate) struct Watch {
+    // Its number.
+    hart: u32,
+    // The hart as it was at a choice of it.
+    seen: Hart,
+    // How many further choices of it don't change that.
+    left: u32,
+    // How many will not then.
+    span: u32,
+}
+
+// Whether a hart has the same registers as before.
+#[tactic(auto, using(crate::proofs::SpinLemmas::no_register, crate::proofs::SpinLemmas::register_more))]
+fn has_registers_of(seen: &Hart, now: &Hart) -> bool
+    ensures { result
+        ≡ same_registers 32 (hart_of seen.now).registers (hart_of now.now).registers }
+{
+    let mut same = true;
+    'registers: for r in 0..seen.registers.len() {
+        same &= seen.registers[r] == now.registers[r];
+    }
+    same
+}
+
+// Whether a hart has the same `pc` and registers as before.
+#[inline]
+fn is_back(seen: &Hart, now: &Hart) -> bool
+    ensures { result ≡ is_back (hart_of seen.now) (hart_of now.now) }
+{
+    seen.pc == now.pc && has_registers_of(seen, now)
+}
+
+impl Watch {
+    /// Watches a hart that wasn't chosen last.
+    pub(crate) fn begin(hart: u32, now: &Hart) -> Watch
+        ensures { watch_of result ≡ watch_begun hart (hart_of now.now) }
+    {
+        Watch {
+            hart,
+            seen: *now,
+            left: 1,
+            span: 2,
+        }
+    }
+
+    // Goes on after a further choice of the hart.
+    #[inline]
+    fn go_on(&mut self, now: &Hart)
+        ensures { watch_of self.new ≡ watch_continued (hart_of now.now) (watch_of self.old) }
+    {
+        if self.left > 0 {
+            self.left -= 1;
+            return;
+        }
+        self.seen = *now;
+        self.left = self.span;
+        if self.span < LONGEST {
+            self.span *= 2;
+        }
+    }
+}
+
+/// Looks at a hart that is chosen, and returns whether it spins.
+pub(crate) fn look(watch: &mut Option<Watch>, hart: u32, now: &Hart) -> bool
+    ensures spins { result ≡ spins (option_map watch_of watch.old) hart (hart_of now.now) }
+    ensures watch { option_map watch_of watch.new
+        ≡ Some (watch_after (option_map watch_of watch.old) hart (hart_of now.now)) }
+{
+    if let Some(known) = watch {
+        if known.hart == hart {
+            let does_spin = is_back(&known.seen, now);
+            known.go_on(now);
+            return does_spin;
+        }
+    }
+    *watch = Some(Watch::begin(hart, now));
+    false
+}
