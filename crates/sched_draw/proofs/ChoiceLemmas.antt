@@ -11,7 +11,7 @@ use Rattle.sched_draw.specs.Mixed.{mixed_choices}
 use Rattle.sched_draw.specs.Refusing.{even_choices, IsOneIn}
 use Rattle.sched_draw.specs.Seeds.{seeded_choices}
 use Rattle.sched_draw.proofs.BurstLemmas.{burst_choices-within}
-use Rattle.sched_draw.specs.Priorities.{priority_choices, priority_drawing}
+use Rattle.sched_draw.specs.Priorities.{priority_choices, watched_drawing}
 use Rattle.sched_draw.proofs.PriorityLemmas.{drawn-within, order-there}
 use Rattle.sched_draw.specs.Schedules.{choices_of, drawn_choices, ordered_choices, is_of_harts}
 use Rattle.sched_draw.proofs.TurnLemmas.{turns-within, alone-within}
@@ -32,14 +32,14 @@ mixed-within refusals w n steps seed some = by (seed % 3 == 0) (seed % 3 == 1)
         )
     by true c = even-within refusals n steps seed some
     by false true = burst_choices-within refusals n mixed_mean steps seed some
-    by false false = drawn-within refusals n 0 steps (priority_drawing n mixed_depth steps seed) w some (order-there n mixed_depth steps seed)
+    by false false = drawn-within refusals n 0 steps (watched_drawing n mixed_depth steps seed) w some (order-there n mixed_depth steps seed)
 
 ordered-within : (order : Order) (refusals : Refusals) (w : World) (n steps seed : ℕ) → 0 < n
     → All (λ c. c.hart < n) (ordered_choices order refusals w n steps seed)
 ordered-within Even refusals w n steps seed some = even-within refusals n steps seed some
 ordered-within (Bursts mean) refusals w n steps seed some = burst_choices-within refusals n mean.choices steps seed some
 ordered-within (Priorities depth) refusals w n steps seed some =
-    drawn-within refusals n 0 steps (priority_drawing n depth.number steps seed) w some (order-there n depth.number steps seed)
+    drawn-within refusals n 0 steps (watched_drawing n depth.number steps seed) w some (order-there n depth.number steps seed)
 ordered-within Mixed refusals w n steps seed some = mixed-within refusals w n steps seed some
 
 pub drawn_choices-within : (draw : Draw) (w : World) (n steps seed : ℕ) → 0 < n → All (λ c. c.hart < n) (drawn_choices draw w n steps seed)
