@@ -1,5 +1,5 @@
 -- Numbers of keys, and what raises them.
-use Rattle.std.proofs.Common.{◌≡◌, ℕ, zero, suc, ◌+◌, ◌-◌, ◌<◌, ◌≤◌, ◌^◌, Bool, true, false, List, [], ◌∷◌, length, set, min, cond, Some, refl, ap, sym, ◌∙◌, subst, arith, inl, inr, ◌⊎◌, eq-eqb, ne_eqb}
+use Rattle.std.proofs.Common.{◌≡◌, ℕ, zero, suc, ◌+◌, ◌-◌, ◌<◌, ◌≤◌, ◌^◌, Bool, true, false, List, [], ◌∷◌, length, set, min, cond, Some, refl, ap, sym, ◌∙◌, subst, arith, inl, inr, ◌⊎◌, eq-eqb, ne_eqb, Option}
 use Rattle.std.specs.Prelude.{if◌then◌else◌}
 use Rattle.std.specs.List.{Contains, slice_get}
 use Rattle.std.proofs.lemmas.Bool.{cases_eq}
@@ -9,6 +9,7 @@ use Rattle.machine.specs.World.{World}
 use Rattle.machine.specs.declared.choice.Choice.{Choice}
 use Rattle.explore_laws.specs.Places.{Place, place_after}
 use Rattle.explore_laws.specs.OwnSteps.{steps_in_turn, NumbersFall}
+use Rattle.explore_laws.specs.declared.section.Section.{Section}
 use Rattle.explore_laws.proofs.OwnLemmas.{other_steps}
 use Rattle.explore_laws.proofs.PathLemmas.{path_none, path_more}
 use Rattle.explore_laws.proofs.SettleLemmas.{there_set, get_set_other}
@@ -24,10 +25,11 @@ pub contains_at : {X : Type 0} (xs : List X) (k : ℕ) (x : X) → slice_get xs 
 contains_at xs k x e = (k, slice_get_within xs k x e, get_or_from_slice_get xs k x x e)
 
 -- ---- a hart's own steps in a turn
-pub own_is : (w : World) (h s : ℕ) (c : Choice) → s ≡ steps_in_turn w c.hart c → own_in c.hart h s ≡ steps_in_turn w h c
-own_is w h s c is = elim (cases_eq c.hart h) [
-  | inl same ↦ ap (λ (b : Bool). if b then s else 0) (eq-eqb c.hart h same) ∙ is ∙ ap (λ k. steps_in_turn w k c) same
-  | inr other ↦ ap (λ (b : Bool). if b then s else 0) (ne_eqb c.hart h other) ∙ sym (other_steps w h c other)
+pub own_is : (section : Option Section) (w : World) (h s : ℕ) (c : Choice) → s ≡ steps_in_turn section w c.hart c
+    → own_in c.hart h s ≡ steps_in_turn section w h c
+own_is section w h s c is = elim (cases_eq c.hart h) [
+  | inl same ↦ ap (λ (b : Bool). if b then s else 0) (eq-eqb c.hart h same) ∙ is ∙ ap (λ k. steps_in_turn section w k c) same
+  | inr other ↦ ap (λ (b : Bool). if b then s else 0) (ne_eqb c.hart h other) ∙ sym (other_steps section w h c other)
 ]
 
 pub own_low : (hart h s : ℕ) → own_in hart h s ≤ s
@@ -58,12 +60,12 @@ room_less top (x ∷ numbers) (suc k) n m e less fits =
 -- ---- paths
 -- a turn before a path
 pub path_raised : (meant : List Choice) (h : ℕ) (p : Place) (c : Choice) (s t m : ℕ) → Contains meant c
-    → s ≡ steps_in_turn p.world c.hart c → m ≤ own_in c.hart h s + t → HasPathOf meant h (place_after p c) t → HasPathOf meant h p m
+    → s ≡ steps_in_turn p.section p.world c.hart c → m ≤ own_in c.hart h s + t → HasPathOf meant h (place_after p c) t → HasPathOf meant h p m
 path_raised meant h p c s t m is own low of =
-    let same = own_is p.world h s c own in
+    let same = own_is p.section p.world h s c own in
     let enough = of.enough in
     record {
-      steps = steps_in_turn p.world h c + of.steps;
+      steps = steps_in_turn p.section p.world h c + of.steps;
       path = path_more meant h p c of.steps is of.path;
       enough = omega (arith, same, enough, low);
     }
@@ -241,7 +243,7 @@ settled_fall meant h place keys rows steps numbers limit have own even settled u
     let low = settled k row.0 steps_row.0 (omega arith) row.1 steps_row.1 i.0 to.0 s.0 t.0 n c (omega (arith, i_in, wide)) i.1 to.1 s.1 t.1
     number_is in
     let whole = min_whole (own_in c.hart h s.0 + t.0) (2 ^ 64 - 1) n limit low (under k n number_is) inside in
-    let same = own_is (place key).world h s.0 c (steps_from.are i.0 s.0 c s.1 i.1) in (
+    let same = own_is (place key).section (place key).world h s.0 c (steps_from.are i.0 s.0 c s.1 i.1) in (
       t.0,
       record { index = to.0; key = at.key; there = at.there; is = at.is; number_is = t.1 },
       subst (λ x. x + t.0 ≤ n) same whole,

@@ -13,7 +13,7 @@ use Rattle.explore_bounds.specs.declared.bound.Bound.TheVariants.{After, Never}
 pub record AreStepsFrom (turns : List Choice) (p : Place) (row : List ℕ) : Type 0 where
   pub count : length row ≡ length turns
   pub are : (i s : ℕ) (c : Choice) → slice_get row i ≡ Some s → slice_get turns i ≡ Some c
-      → s ≡ steps_in_turn p.world c.hart c
+      → s ≡ steps_in_turn p.section p.world c.hart c
 
 -- each key's place has such a row
 pub record HaveSteps (place : List ℕ → Place) (turns : List Choice) (keys steps : List (List ℕ)) : Type 0 where

@@ -1,9 +1,10 @@
 //! The bound on a hart's own steps.
-ghost use Rattle.std.specs.Prelude.{◌≡◌, ℕ, ◌<◌, false, List, Some, IfOk, length, slice_get};
+ghost use Rattle.std.specs.Prelude.{◌≡◌, ℕ, ◌<◌, false, List, Option, Some, IfOk, length, slice_get};
 ghost use Rattle.std.specs.List.{Contains};
 ghost use Rattle.machine.specs.World.{World};
 ghost use Rattle.explore_laws.specs.Places.{Place, place_begun};
 ghost use Rattle.explore_laws.specs.OwnSteps.{HasPlainChoices};
+ghost use Rattle.explore_laws.specs.declared.section.Section.{Section};
 ghost use Rattle.explore_search.specs.Edges.{HaveEdges};
 ghost use Rattle.explore_search.specs.Marked.{AllBelow};
 ghost use Rattle.explore_bounds.specs.Numbers.{AreTaken, AreWide, EndsRaising, IsLimit};
@@ -104,9 +105,9 @@ fn bound_from<A: Allocator>(
     requires via { length via.old ≡ length rows.now }
     requires limit { IsLimit steps.now limit }
     requires none { (k n : ℕ) → slice_get numbers.old k ≡ Some n → n ≡ 0 }
-    ensures { (first : World) (place : List ℕ → Place) (keys : List (List ℕ)) → HasPlainChoices turns.now
+    ensures { (section : Option Section) (first : World) (place : List ℕ → Place) (keys : List (List ℕ)) → HasPlainChoices turns.now
         → Contains turns.now (record { hart = hart; refuse = false })
-        → AreLedTo turns.now (place_begun first) place keys → HaveEdges place turns.now keys rows.now
+        → AreLedTo turns.now (place_begun section first) place keys → HaveEdges place turns.now keys rows.now
         → HaveSteps place turns.now keys steps.now → TellsBound turns.now first hart result }
 {
     if raise_all(turns, hart, rows, steps, limit, numbers, via) {
@@ -132,9 +133,9 @@ pub fn own_bound<A: Allocator + Copy>(
     requires steps { AreWide (length turns.now) steps.now }
     requires below { AllBelow (length rows.now) rows.now }
     requires even { length steps.now ≡ length rows.now }
-    ensures { IfOk result (λ bound. (first : World) (place : List ℕ → Place) (keys : List (List ℕ)) → HasPlainChoices turns.now
+    ensures { IfOk result (λ bound. (section : Option Section) (first : World) (place : List ℕ → Place) (keys : List (List ℕ)) → HasPlainChoices turns.now
         → Contains turns.now (record { hart = hart; refuse = false })
-        → AreLedTo turns.now (place_begun first) place keys → HaveEdges place turns.now keys rows.now
+        → AreLedTo turns.now (place_begun section first) place keys → HaveEdges place turns.now keys rows.now
         → HaveSteps place turns.now keys steps.now → TellsBound turns.now first hart bound) }
 {
     let Some(limit) = limit_of(steps) else {

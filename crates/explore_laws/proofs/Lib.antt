@@ -1,6 +1,8 @@
+pub mod OutsideLemmas
 pub mod PlaceLemmas
 pub mod SettleLemmas
 pub mod CoverLemmas
+pub mod SectionLemmas
 pub mod TurnLemmas
 pub mod WayLemmas
 pub mod StopLemmas

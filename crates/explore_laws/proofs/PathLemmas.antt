@@ -1,5 +1,5 @@
 -- Paths and rounds, put together from turns.
-use Rattle.std.proofs.Common.{◌≡◌, ℕ, ◌+◌, true, false, List, [], ◌∷◌, ◌++◌, refl, ap, subst, arith}
+use Rattle.std.proofs.Common.{◌≡◌, ℕ, ◌+◌, true, false, List, [], ◌∷◌, ◌++◌, refl, ap, subst, arith, Option}
 use Rattle.std.proofs.lemmas.List.Elements.{All-nil, All-cons}
 use Rattle.std.specs.List.{All, Contains}
 use Rattle.machine.specs.World.{World}
@@ -10,6 +10,7 @@ use Rattle.explore_laws.specs.OwnSteps.{steps_in_turn, steps_in_turns, HasPlainC
 use Rattle.explore_laws.proofs.OwnLemmas.{own_steps}
 use Rattle.explore_laws.proofs.BoundLemmas.{numbers_bound}
 use Rattle.explore_laws.proofs.RoundLemmas.{path_taken}
+use Rattle.explore_laws.specs.declared.section.Section.{Section}
 
 -- ---- lists of turns that go on
 pub reached_joined : (p : Place) (a b : List Choice) → place_reached p (a ++ b) ≡ place_reached (place_reached p a) b
@@ -18,7 +19,7 @@ reached_joined p [] b = refl
 reached_joined p (c ∷ a) b = reached_joined (place_after p c) a b
 
 pub steps_joined : (p : Place) (h : ℕ) (a b : List Choice)
-    → steps_in_turns p.world h (a ++ b) ≡ steps_in_turns p.world h a + steps_in_turns (place_reached p a).world h b
+    → steps_in_turns p.section p.world h (a ++ b) ≡ steps_in_turns p.section p.world h a + steps_in_turns (place_reached p a).section (place_reached p a).world h b
 unfolding place_reached steps_in_turns
 steps_joined p h [] b = omega arith
 steps_joined p h (c ∷ a) b =
@@ -27,7 +28,7 @@ steps_joined p h (c ∷ a) b =
 
 -- one turn more
 pub steps_last : (p : Place) (h : ℕ) (turns : List Choice) (c : Choice)
-    → steps_in_turns p.world h (turns ++ c ∷ []) ≡ steps_in_turns p.world h turns + steps_in_turn (place_reached p turns).world h c
+    → steps_in_turns p.section p.world h (turns ++ c ∷ []) ≡ steps_in_turns p.section p.world h turns + steps_in_turn (place_reached p turns).section (place_reached p turns).world h c
 unfolding steps_in_turns
 steps_last p h turns c =
     let both = steps_joined p h turns (c ∷ []) in
@@ -40,12 +41,12 @@ path_none meant h p = record { turns = []; are_meant = All-nil (Contains meant);
 
 -- a turn before a path
 pub path_more : (meant : List Choice) (h : ℕ) (p : Place) (c : Choice) (n : ℕ) → Contains meant c → HasPath meant h (place_after p c) n
-    → HasPath meant h p (steps_in_turn p.world h c + n)
+    → HasPath meant h p (steps_in_turn p.section p.world h c + n)
 unfolding steps_in_turns
 path_more meant h p c n meant_c path = record {
   turns = c ∷ path.turns;
   are_meant = All-cons (Contains meant) c path.turns meant_c path.are_meant;
-  steps = ap (λ k. steps_in_turn p.world h c + k) path.steps;
+  steps = ap (λ k. steps_in_turn p.section p.world h c + k) path.steps;
 }
 
 -- ---- rounds
@@ -55,7 +56,7 @@ pub round_by_turn : (meant : List Choice) (h : ℕ) (first p : Place) (there : L
     → All (Contains meant) more → place_reached (place_after p c) more ≡ p → GoesRound meant h first
 unfolding place_reached steps_in_turns
 round_by_turn meant h first p there c more there_meant leads meant_c own runs more_meant back =
-    let steps = own_steps p.world h c own runs in
+    let steps = own_steps p.section p.world h c own runs in
     record {
       place = p;
       there = there;
@@ -68,13 +69,13 @@ round_by_turn meant h first p there c more there_meant leads meant_c own runs mo
     }
 
 -- ---- numbers that are paths' steps
-pub taken_exact : (meant : List Choice) (first : World) (h b : ℕ) (place : List ℕ → Place) (keys : List (List ℕ)) (numbers : List ℕ)
+pub taken_exact : (section : Option Section) (meant : List Choice) (first : World) (h b : ℕ) (place : List ℕ → Place) (keys : List (List ℕ)) (numbers : List ℕ)
     → HasPlainChoices meant → Contains meant (record { hart = h; refuse = false }) → NumbersFall meant h place keys numbers
-    → NumbersAreTaken meant h place keys numbers → IsNumbered place keys numbers (place_begun first) b → IsExactBound meant first h b
-taken_exact meant first h b place keys numbers plain meant_h falls taken at =
-    let path : HasPath meant h (place_begun first) b
+    → NumbersAreTaken meant h place keys numbers → IsNumbered place keys numbers (place_begun section first) b → IsExactBound meant first h b
+taken_exact section meant first h b place keys numbers plain meant_h falls taken at =
+    let path : HasPath meant h (place_begun section first) b
     = subst (λ (p : Place). HasPath meant h p b) at.is (taken at.index at.key b at.there at.number_is) in
     record {
-      bound = numbers_bound meant first h b place keys numbers meant_h falls at;
-      least = λ n less. path_taken meant plain first h b n path less;
+      bound = numbers_bound section meant first h b place keys numbers meant_h falls at;
+      least = λ n less. path_taken meant plain section first h b n path less;
     }

@@ -13,8 +13,6 @@ use Rattle.hart_step.specs.Step.{stepped}
 use Rattle.hart_step.specs.declared.hart.HartState.{HartState}
 use Rattle.hart_step.specs.declared.hart.HartState.TheVariants.{Running, Exited, Faulted}
 use Rattle.hart_local.specs.CodeMemory.{code_in}
-use Rattle.hart_local.specs.LocalStep.{walk}
-use Rattle.hart_local.proofs.StepLemmas.{walk_none}
 use Rattle.machine.specs.Chosen.{is_chosen}
 use Rattle.machine.specs.Start.{first_harts, started}
 use Rattle.machine.specs.World.{World, placed, step, run}
@@ -35,29 +33,32 @@ use Rattle.explore_space.proofs.BegunLemmas.{begun_other, run_from_start, runs_a
 use Rattle.explore_space.proofs.LagLemmas.{covers_joined}
 use Rattle.explore_space.proofs.TurnLists.{no_step}
 use Rattle.explore_space.proofs.PassLemmas.{StopsAlike, covered_stops, passes}
+use Rattle.explore_laws.specs.declared.section.Section.{Section}
+use Rattle.explore_laws.proofs.OutsideLemmas.{outside_none}
 
 -- each hart of a world runs
 pub record AllRun (w : World) : Type 0 where
   pub each : (h : ℕ) (v : HartValue) → slice_get w.harts h ≡ Some v → not_stopped v.state ≡ true
 
 -- one world covers another, and has the same harts for which `who` says so; the others run in both
-pub record Ahead (who : ℕ → Bool) (s w : World) : Type 0 where
-  pub covers : WorldCovers s w
+pub record Ahead (section : Option Section) (who : ℕ → Bool) (s w : World) : Type 0 where
+  pub covers : WorldCovers section s w
   pub same : (h : ℕ) → who h ≡ true → slice_get s.harts h ≡ slice_get w.harts h
   pub runs : (h : ℕ) (u : HartValue) → who h ≡ false → slice_get s.harts h ≡ Some u → not_stopped u.state ≡ true
 
-ahead_itself : (who : ℕ → Bool) (w : World) → AllRun w → Ahead who w w
-ahead_itself who w all = record {
-  covers = covers_itself w;
+ahead_itself : (section : Option Section) (who : ℕ → Bool) (w : World) → AllRun w → Ahead section who w w
+ahead_itself section who w all = record {
+  covers = covers_itself section w;
   same = λ h yes_. refl;
   runs = λ h u no_ at. all.each h u at;
 }
 
 -- ---- one of the harts is changed in both
-set_both : (who : ℕ → Bool) (s w : World) (h : ℕ) (v u : HartValue) (ms mw : Memory) (rs rw : Marks) → Ahead who s w → who h ≡ true
+set_both : (section : Option Section) (who : ℕ → Bool) (s w : World) (h : ℕ) (v u : HartValue) (ms mw : Memory) (rs rw : Marks)
+    → Ahead section who s w → who h ≡ true
     → slice_get w.harts h ≡ Some v → code_in mw ≡ code_in w.memory → ms ≡ mw → rs ≡ rw
-    → Ahead who (record { harts = set s.harts h u; memory = ms; reserved = rs }) (record { harts = set w.harts h u; memory = mw; reserved = rw })
-set_both who s w h v u ms mw rs rw ahead yes_ there code_is memory reserved =
+    → Ahead section who (record { harts = set s.harts h u; memory = ms; reserved = rs }) (record { harts = set w.harts h u; memory = mw; reserved = rw })
+set_both section who s w h v u ms mw rs rw ahead yes_ there code_is memory reserved =
     let here_w : slice_get (set w.harts h u) h ≡ Some u = there_set w.harts h v u there in
     let here_s : slice_get (set s.harts h u) h ≡ Some u = there_set s.harts h v u (ahead.same h yes_ ∙ there) in
     record {
@@ -69,9 +70,9 @@ set_both who s w h v u ms mw rs rw ahead yes_ there code_is memory reserved =
           | inl is ↦
               let a_is : u ≡ a = same_value u a (slice_get (set w.harts h u) k) (ap (slice_get (set w.harts h u)) is ∙ here_w) at_a in
               let b_is : u ≡ b = same_value u b (slice_get (set s.harts h u) k) (ap (slice_get (set s.harts h u)) is ∙ here_s) at_b in
-              record { steps = 0; walks = walk_none (code_in mw) a ∙ ap Some (sym a_is ∙ b_is) }
+              record { steps = 0; walks = outside_none section (code_in mw) a ∙ ap Some (sym a_is ∙ b_is) }
           | inr other ↦
-              subst (λ m. WalksTo m a b) (sym code_is)
+              subst (λ m. WalksTo section m a b) (sym code_is)
               (ahead.covers.harts k a b (sym (get_set_other w.harts h k u other) ∙ at_a) (sym (get_set_other s.harts h k u other) ∙ at_b))
         ];
       };
@@ -86,26 +87,27 @@ set_both who s w h v u ms mw rs rw ahead yes_ there code_is memory reserved =
       ];
     }
 
-settle_both : (who : ℕ → Bool) (s w : World) (h : ℕ) → Ahead who s w → who h ≡ true
-    → Ahead who (world_settled s h) (world_settled w h)
-settle_both who s w h ahead yes_ =
-    subst (λ o. Ahead who (settled_by s h o) (world_settled w h)) (sym (ahead.same h yes_)) (by_hart (slice_get w.harts h) refl)
+settle_both : (section : Option Section) (who : ℕ → Bool) (s w : World) (h : ℕ) → Ahead section who s w → who h ≡ true
+    → Ahead section who (world_settled section s h) (world_settled section w h)
+settle_both section who s w h ahead yes_ =
+    subst (λ o. Ahead section who (settled_by section s h o) (world_settled section w h)) (sym (ahead.same h yes_)) (by_hart (slice_get w.harts h) refl)
   where
-    by_hart : (o : Option HartValue) → slice_get w.harts h ≡ o → Ahead who (settled_by s h o) (settled_by w h o)
+    by_hart : (o : Option HartValue) → slice_get w.harts h ≡ o → Ahead section who (settled_by section s h o) (settled_by section w h o)
     by_hart None e = ahead
     by_hart (Some v) e =
-        subst (λ (m : Memory). Ahead who (record { harts = set s.harts h (rested (code_in m) at_once v); memory = s.memory; reserved = s.reserved })
-        (settled_by w h (Some v))) (sym ahead.covers.memory)
-        (set_both who s w h v (rested (code_in w.memory) at_once v) s.memory w.memory s.reserved w.reserved ahead yes_ e refl
+        subst (λ (m : Memory). Ahead section who (record { harts = set s.harts h (rested section (code_in m) at_once v); memory = s.memory; reserved = s.reserved })
+        (settled_by section w h (Some v))) (sym ahead.covers.memory)
+        (set_both section who s w h v (rested section (code_in w.memory) at_once v) s.memory w.memory s.reserved w.reserved ahead yes_ e refl
         ahead.covers.memory ahead.covers.reserved)
 
-step_alike : (who : ℕ → Bool) (s w : World) (c : Choice) → Ahead who s w → who c.hart ≡ true → Ahead who (step s c) (step w c)
-step_alike who s w c ahead yes_ = by_hart (slice_get w.harts c.hart) refl
+step_alike : (section : Option Section) (who : ℕ → Bool) (s w : World) (c : Choice) → Ahead section who s w → who c.hart ≡ true
+    → Ahead section who (step s c) (step w c)
+step_alike section who s w c ahead yes_ = by_hart (slice_get w.harts c.hart) refl
   where
-    by_hart : (o : Option HartValue) → slice_get w.harts c.hart ≡ o → Ahead who (step s c) (step w c)
+    by_hart : (o : Option HartValue) → slice_get w.harts c.hart ≡ o → Ahead section who (step s c) (step w c)
     by_hart None e =
-        subst (λ x. Ahead who x (step w c)) (sym (no_step s c (ahead.same c.hart yes_ ∙ e)))
-        (subst (Ahead who s) (sym (no_step w c e)) ahead)
+        subst (λ x. Ahead section who x (step w c)) (sym (no_step s c (ahead.same c.hart yes_ ∙ e)))
+        (subst (Ahead section who s) (sym (no_step w c e)) ahead)
     by_hart (Some v) e =
         let new : Site = stepped c.hart c.refuse (site v w.memory w.reserved) in
         let w_is : step w c ≡ placed w c.hart new = step_is w c v e in
@@ -115,60 +117,69 @@ step_alike who s w c ahead yes_ = by_hart (slice_get w.harts c.hart) refl
         ∙ ap (λ r. placed s c.hart (stepped c.hart c.refuse (site v w.memory r))) ahead.covers.reserved in
         let code_is : code_in new.memory ≡ code_in w.memory
         = ap (λ (x : World). code_in x.memory) (sym w_is) ∙ step_code w c in
-        subst (λ x. Ahead who x (step w c)) (sym s_is) (subst (Ahead who (placed s c.hart new)) (sym w_is)
-        (set_both who s w c.hart v new.hart new.memory new.memory new.reserved new.reserved ahead yes_ e code_is refl refl))
+        subst (λ x. Ahead section who x (step w c)) (sym s_is) (subst (Ahead section who (placed s c.hart new)) (sym w_is)
+        (set_both section who s w c.hart v new.hart new.memory new.memory new.reserved new.reserved ahead yes_ e code_is refl refl))
 
-pub turns_ahead : (who : ℕ → Bool) (p q : Place) (turns : List Choice) → ((k : ℕ) → is_chosen turns k ≡ true → who k ≡ true)
-    → Ahead who p.world q.world → Ahead who (place_reached p turns).world (place_reached q turns).world
+pub turns_ahead : (section : Option Section) (who : ℕ → Bool) (p q : Place) (turns : List Choice) → p.section ≡ section
+    → q.section ≡ section → ((k : ℕ) → is_chosen turns k ≡ true → who k ≡ true) → Ahead section who p.world q.world
+    → Ahead section who (place_reached p turns).world (place_reached q turns).world
 unfolding place_reached
-turns_ahead who p q [] all ahead = ahead
-turns_ahead who p q (c ∷ turns) all ahead =
+turns_ahead section who p q [] p_is q_is all ahead = ahead
+turns_ahead section who p q (c ∷ turns) p_is q_is all ahead =
     let yes_ : who c.hart ≡ true = all c.hart (rw (eq-eqb c.hart c.hart refl) refl) in
-    turns_ahead who (place_after p c) (place_after q c) turns (λ k e. all k (or_right (c.hart == k) (is_chosen turns k) e))
-    (settle_both who (step p.world c) (step q.world c) c.hart (step_alike who p.world q.world c ahead yes_) yes_)
+    let both = settle_both section who (step p.world c) (step q.world c) c.hart
+    (step_alike section who p.world q.world c ahead yes_) yes_ in
+    turns_ahead section who (place_after p c) (place_after q c) turns p_is q_is
+    (λ k e. all k (or_right (c.hart == k) (is_chosen turns k) e))
+    (subst (λ x. Ahead section who (world_settled x (step p.world c) c.hart) (world_settled q.section (step q.world c) c.hart)) (sym p_is)
+    (subst (λ x. Ahead section who (world_settled section (step p.world c) c.hart) (world_settled x (step q.world c) c.hart)) (sym q_is)
+    both))
 
 -- ---- the first local steps
 -- a hart that isn't among them takes its steps in the one alone
-begun_one : (who : ℕ → Bool) (s w : World) (n : ℕ) → Ahead who s w → who n ≡ false → Ahead who (hart_begun s n) w
-begun_one who s w n ahead no_ = by_case (runs_settled s n) refl
+begun_one : (section : Option Section) (who : ℕ → Bool) (s w : World) (n : ℕ) → Ahead section who s w → who n ≡ false
+    → Ahead section who (hart_begun section s n) w
+begun_one section who s w n ahead no_ = by_case (runs_settled section s n) refl
   where
-    by_case : (b : Bool) → runs_settled s n ≡ b → Ahead who (cond b (world_settled s n) s) w
+    by_case : (b : Bool) → runs_settled section s n ≡ b → Ahead section who (cond b (world_settled section s n) s) w
     by_case false is = ahead
     by_case true is = record {
-      covers = covers_joined (world_settled s n) s w (settled_covers s n) ahead.covers;
-      same = λ h yes_. settled_other s n h (λ e. true≢false (sym yes_ ∙ ap who e ∙ no_)) ∙ ahead.same h yes_;
+      covers = covers_joined section (world_settled section s n) s w (settled_covers section s n) ahead.covers;
+      same = λ h yes_. settled_other section s n h (λ e. true≢false (sym yes_ ∙ ap who e ∙ no_)) ∙ ahead.same h yes_;
       runs = λ h u no_h at. elim (cases_eq h n) [
-        | inl same ↦ ap still_runs (sym at ∙ ap (slice_get (world_settled s n).harts) same) ∙ is
-        | inr other ↦ ahead.runs h u no_h (sym (settled_other s n h other) ∙ at)
+        | inl same ↦ ap still_runs (sym at ∙ ap (slice_get (world_settled section s n).harts) same) ∙ is
+        | inr other ↦ ahead.runs h u no_h (sym (settled_other section s n h other) ∙ at)
       ];
     }
 
-begun_both : (who : ℕ → Bool) (s w : World) (n : ℕ) → Ahead who s w → who n ≡ true → Ahead who (hart_begun s n) (hart_begun w n)
-begun_both who s w n ahead yes_ =
-    subst (λ b. Ahead who (cond b (world_settled s n) s) (hart_begun w n)) (sym (runs_alike s w n (ahead.same n yes_) ahead.covers.memory))
-    (by_case (runs_settled w n))
+begun_both : (section : Option Section) (who : ℕ → Bool) (s w : World) (n : ℕ) → Ahead section who s w → who n ≡ true
+    → Ahead section who (hart_begun section s n) (hart_begun section w n)
+begun_both section who s w n ahead yes_ =
+    subst (λ b. Ahead section who (cond b (world_settled section s n) s) (hart_begun section w n)) (sym (runs_alike section s w n (ahead.same n yes_) ahead.covers.memory))
+    (by_case (runs_settled section w n))
   where
-    by_case : (b : Bool) → Ahead who (cond b (world_settled s n) s) (cond b (world_settled w n) w)
-    by_case true = settle_both who s w n ahead yes_
+    by_case : (b : Bool) → Ahead section who (cond b (world_settled section s n) s) (cond b (world_settled section w n) w)
+    by_case true = settle_both section who s w n ahead yes_
     by_case false = ahead
 
-begun_ahead : (who : ℕ → Bool) (w : World) (n : ℕ) → AllRun w → Ahead who (world_begun w (λ k. true) n) (world_begun w who n)
+begun_ahead : (section : Option Section) (who : ℕ → Bool) (w : World) (n : ℕ) → AllRun w
+    → Ahead section who (world_begun section w (λ k. true) n) (world_begun section w who n)
 unfolding world_begun
-begun_ahead who w zero all = ahead_itself who w all
-begun_ahead who w (suc n) all = by_case (who n) refl (begun_ahead who w n all)
+begun_ahead section who w zero all = ahead_itself section who w all
+begun_ahead section who w (suc n) all = by_case (who n) refl (begun_ahead section who w n all)
   where
-    by_case : (b : Bool) → who n ≡ b → Ahead who (world_begun w (λ k. true) n) (world_begun w who n)
-        → Ahead who (hart_begun (world_begun w (λ k. true) n) n) (cond b (hart_begun (world_begun w who n) n) (world_begun w who n))
-    by_case true is before = begun_both who (world_begun w (λ k. true) n) (world_begun w who n) n before is
-    by_case false is before = begun_one who (world_begun w (λ k. true) n) (world_begun w who n) n before is
+    by_case : (b : Bool) → who n ≡ b → Ahead section who (world_begun section w (λ k. true) n) (world_begun section w who n)
+        → Ahead section who (hart_begun section (world_begun section w (λ k. true) n) n) (cond b (hart_begun section (world_begun section w who n) n) (world_begun section w who n))
+    by_case true is before = begun_both section who (world_begun section w (λ k. true) n) (world_begun section w who n) n before is
+    by_case false is before = begun_one section who (world_begun section w (λ k. true) n) (world_begun section w who n) n before is
 
 -- where turns lead from the settled start is ahead of where their choices lead from the start
-pub start_ahead : (w : World) (turns : List Choice) → AllRun w
-    → Ahead (is_chosen turns) (place_reached (place_begun (settled_start w)) turns).world (run w (choices_from_start w turns))
-start_ahead w turns all =
-    subst (Ahead (is_chosen turns) (place_reached (place_begun (settled_start w)) turns).world) (sym (run_from_start w turns))
-    (turns_ahead (is_chosen turns) (place_begun (settled_start w)) (place_begun (world_begun w (is_chosen turns) (length w.harts))) turns
-    (λ k e. e) (begun_ahead (is_chosen turns) w (length w.harts) all))
+pub start_ahead : (section : Option Section) (w : World) (turns : List Choice) → AllRun w
+    → Ahead section (is_chosen turns) (place_reached (place_begun section (settled_start section w)) turns).world (run w (choices_from_start section w turns))
+start_ahead section w turns all =
+    subst (Ahead section (is_chosen turns) (place_reached (place_begun section (settled_start section w)) turns).world) (sym (run_from_start section w turns))
+    (turns_ahead section (is_chosen turns) (place_begun section (settled_start section w)) (place_begun section (world_begun section w (is_chosen turns) (length w.harts))) turns
+    refl refl (λ k e. e) (begun_ahead section (is_chosen turns) w (length w.harts) all))
 
 -- ---- a program's harts all run at its start
 first_run : (entry n h : ℕ) (inputs : List ℕ) (k : ℕ) (v : HartValue) → slice_get (first_harts entry n h inputs) k ≡ Some v
@@ -182,9 +193,9 @@ unfolding started
 all_run image inputs = record { each = first_run image.entry (length inputs) 0 inputs }
 
 -- where turns start, all harts run
-pub begun_run : (w : World) → AllRun w → AllRun (settled_start w)
-begun_run w all = record {
-  each = λ h u at. (begun_ahead (λ k. false) w (length w.harts) all).runs h u refl at;
+pub begun_run : (section : Option Section) (w : World) → AllRun w → AllRun (settled_start section w)
+begun_run section w all = record {
+  each = λ h u at. (begun_ahead section (λ k. false) w (length w.harts) all).runs h u refl at;
 }
 
 -- ---- harts that have stopped are the same in both
@@ -198,7 +209,7 @@ faulted_stopped Running e = absurd (cc)
 faulted_stopped (Exited status) e = refl
 faulted_stopped (Faulted cause) e = refl
 
-module _ (who : ℕ → Bool) (s w : World) (ahead : Ahead who s w) where
+module _ (section : Option Section) (who : ℕ → Bool) (s w : World) (ahead : Ahead section who s w) where
   same_stopped : (i : ℕ) (d : HartValue) → i < length s.harts → not_stopped (get_or s.harts i d).state ≡ false
       → get_or s.harts i d ≡ get_or w.harts i d
   same_stopped i d low stopped = elim (cases_Bool (who i)) [
@@ -223,9 +234,10 @@ both_false false true f g = sym (f refl)
 both_false false false f g = refl
 
 -- a run has failed exactly where the world ahead of it has
-pub fails_ahead : (rule : Option Kind) (inputs : List ℕ) (who : ℕ → Bool) (s w : World) (a b : List Choice) → Ahead who s w → ChooseAlike a b
+pub fails_ahead : (section : Option Section) (rule : Option Kind) (inputs : List ℕ) (who : ℕ → Bool) (s w : World) (a b : List Choice)
+    → Ahead section who s w → ChooseAlike a b
     → fails May (judged rule inputs a s.harts) ≡ fails May (judged rule inputs b w.harts)
-fails_ahead rule inputs who s w a b ahead alike =
+fails_ahead section rule inputs who s w a b ahead alike =
     both_false (fails May (judged rule inputs a s.harts)) (fails May (judged rule inputs b w.harts))
-    (passes rule inputs s.harts w.harts a b (covered_stops s w ahead.covers) (λ k e. sym (alike k) ∙ e))
-    (passes rule inputs w.harts s.harts b a (ahead_stops who s w ahead) (λ k e. alike k ∙ e))
+    (passes rule inputs s.harts w.harts a b (covered_stops section s w ahead.covers) (λ k e. sym (alike k) ∙ e))
+    (passes rule inputs w.harts s.harts b a (ahead_stops section who s w ahead) (λ k e. alike k ∙ e))

@@ -1,5 +1,5 @@
 -- The key of the place where a hart has taken its first local steps.
-use Rattle.std.proofs.Common.{◌≡◌, ℕ, suc, ◌+◌, ◌<◌, Bool, true, false, cond, List, [], ◌∷◌, ◌++◌, length, Some, refl, ap, sym, ◌∙◌, inl, inr, arith}
+use Rattle.std.proofs.Common.{◌≡◌, ℕ, suc, ◌+◌, ◌<◌, Bool, true, false, cond, List, [], ◌∷◌, ◌++◌, length, Some, refl, ap, sym, ◌∙◌, inl, inr, arith, None}
 use Rattle.std.proofs.lemmas.Option.{slice_get_within}
 use Rattle.std.specs.List.{slice_get, slice_index}
 use Rattle.image.specs.Image.{ImageValue}
@@ -21,16 +21,16 @@ use Rattle.explore_space.proofs.KeyLemmas.{hart_at}
 module _ {Z : Type 0} (image : ImageValue) (n : ℕ) (more_harts : List Hart) (shareds : List (Shared Z)) (p : Place) (number : ℕ)
     (low : number < n) (next : List ℕ) (is : IsKeyOf image n more_harts shareds next (place_settled p number)) where
   -- the hart runs on if the one under its new number does
-  runs_there : runs_settled p.world number ≡ not_stopped (hart_numbered more_harts (slice_index next number)).state
+  runs_there : runs_settled p.section p.world number ≡ not_stopped (hart_numbered more_harts (slice_index next number)).state
   runs_there = ap (λ (x : Place). runs_in x.world number) (sym is.1)
       ∙ ap still_runs (hart_at image n more_harts shareds next is.0 number low)
 
-  begun_by : (b : Bool) → runs_settled p.world number ≡ b
-      → place_hart_begun p number ≡ record { world = cond b (world_settled p.world number) p.world; chosen = p.chosen }
-  begun_by b e = ap (λ (x : Bool). place_of (cond x (world_settled p.world number) p.world)) e
+  begun_by : (b : Bool) → runs_settled p.section p.world number ≡ b
+      → place_hart_begun p number ≡ record { section = p.section; world = cond b (world_settled p.section p.world number) p.world; chosen = p.chosen }
+  begun_by b e = ap (λ (x : Bool). place_of (cond x (world_settled p.section p.world number) p.world)) e
     where
       place_of : World → Place
-      place_of x = record { world = x; chosen = p.chosen }
+      place_of x = record { section = p.section; world = x; chosen = p.chosen }
 
   pub begun_here : not_stopped (hart_numbered more_harts (slice_index next number)).state ≡ true
       → IsKeyOf image n more_harts shareds next (place_hart_begun p number)
@@ -42,71 +42,72 @@ module _ {Z : Type 0} (image : ImageValue) (n : ℕ) (more_harts : List Hart) (s
   begun_not key stays stopped = (stays.0, stays.1 ∙ sym (begun_by false (runs_there ∙ stopped)))
 
 pub begun_none : {Z : Type 0} (image : ImageValue) (n : ℕ) (harts : List Hart) (shareds : List (Shared Z)) (key : List ℕ) (w : World)
-    → IsKeyOf image n harts shareds key (place_begun w) → IsKeyOf image n harts shareds key (place_begun (world_begun w (λ h. true) 0))
+    → IsKeyOf image n harts shareds key (place_begun None w)
+    → IsKeyOf image n harts shareds key (place_begun None (world_begun None w (λ h. true) 0))
 unfolding world_begun
 begun_none image n harts shareds key w is = is
 
 pub begun_more : {Z : Type 0} (image : ImageValue) (n : ℕ) (harts more_harts : List Hart) (shareds : List (Shared Z)) (key next : List ℕ)
-    (w : World) (number : ℕ) → IsKeyOf image n harts shareds key (place_begun (world_begun w (λ h. true) number))
+    (w : World) (number : ℕ) → IsKeyOf image n harts shareds key (place_begun None (world_begun None w (λ h. true) number))
     → IsKeyOf image n more_harts shareds next (place_hart_begun (place_of_key image n harts shareds key) number)
-    → IsKeyOf image n more_harts shareds next (place_begun (world_begun w (λ h. true) (number + 1)))
+    → IsKeyOf image n more_harts shareds next (place_begun None (world_begun None w (λ h. true) (number + 1)))
 unfolding world_begun
 begun_more image n harts more_harts shareds key next w number before is =
     let one : number + 1 ≡ suc number = omega arith in
     rw one (is.0, is.1 ∙ ap (λ (p : Place). place_hart_begun p number) before.1)
 
 -- a hart runs on if what its local steps make of it runs
-module _ (w : World) (h : ℕ) (v u : HartValue) (there : slice_get w.harts h ≡ Some v) (is : u ≡ rested (code_in w.memory) at_once v) where
-  runs_by_state : runs_settled w h ≡ not_stopped u.state
+module _ (w : World) (h : ℕ) (v u : HartValue) (there : slice_get w.harts h ≡ Some v) (is : u ≡ rested None (code_in w.memory) at_once v) where
+  runs_by_state : runs_settled None w h ≡ not_stopped u.state
   runs_by_state =
-      ap (λ o. runs_in (settled_by w h o) h) there
-      ∙ ap still_runs (there_set w.harts h v (rested (code_in w.memory) at_once v) there)
+      ap (λ o. runs_in (settled_by None w h o) h) there
+      ∙ ap still_runs (there_set w.harts h v (rested None (code_in w.memory) at_once v) there)
       ∙ ap (λ (x : HartValue). not_stopped x.state) (sym is)
 
   -- so it is as before, or has taken them
-  pub begun_by_state : (b : Bool) → b ≡ not_stopped u.state → cond b (world_settled w h) w ≡ hart_begun w h
-  begun_by_state b e = ap (λ x. cond x (world_settled w h) w) (e ∙ sym runs_by_state)
+  pub begun_by_state : (b : Bool) → b ≡ not_stopped u.state → cond b (world_settled None w h) w ≡ hart_begun None w h
+  begun_by_state b e = ap (λ x. cond x (world_settled None w h) w) (e ∙ sym runs_by_state)
 
-  pub first_by_state : (b : Bool) → b ≡ not_stopped u.state → cond b (rest_steps (code_in w.memory) at_once v) 0 ≡ first_steps w h
+  pub first_by_state : (b : Bool) → b ≡ not_stopped u.state → cond b (rest_steps None (code_in w.memory) at_once v) 0 ≡ first_steps None w h
   first_by_state b e =
-      ap (λ o. cond b (settling_steps w o) 0) (sym there)
-      ∙ ap (λ x. cond x (settling_steps w (slice_get w.harts h)) 0) (e ∙ sym runs_by_state)
+      ap (λ o. cond b (settling_steps None w o) 0) (sym there)
+      ∙ ap (λ x. cond x (settling_steps None w (slice_get w.harts h)) 0) (e ∙ sym runs_by_state)
 
 -- ---- how many steps these are
 abbrev pub AreFirst : World → List ℕ → Type 0
-AreFirst w steps = (h n : ℕ) → slice_get steps h ≡ Some n → n ≡ first_steps w h
+AreFirst w steps = (h n : ℕ) → slice_get steps h ≡ Some n → n ≡ first_steps None w h
 
 pub first_of_none : (w : World) (steps : List ℕ) → steps ≡ [] → AreFirst w steps
 first_of_none w steps none h n e =
     absurd (let low = slice_get_within steps h n e in let len = ap (λ (xs : List ℕ). length xs) none in omega (arith, low, len))
 
-pub first_of_more : (w : World) (steps more : List ℕ) (k s : ℕ) → length steps ≡ k → s ≡ first_steps w k → AreFirst w steps
+pub first_of_more : (w : World) (steps more : List ℕ) (k s : ℕ) → length steps ≡ k → s ≡ first_steps None w k → AreFirst w steps
     → more ≡ steps ++ s ∷ [] → AreFirst w more
 first_of_more w steps more k s count is before pushed h n e =
     elim (get_either steps s n h (ap (λ xs. slice_get xs h) (sym pushed) ∙ e)) [
       | inl old ↦ before h n old
-      | inr new ↦ sym new.1 ∙ is ∙ ap (first_steps w) (sym (new.0 ∙ count))
+      | inr new ↦ sym new.1 ∙ is ∙ ap (first_steps None w) (sym (new.0 ∙ count))
     ]
 
 -- the first choices and where they lead, as they grow
-pub first_none : (w : World) (asked : ℕ → Bool) → [] ≡ begun_choices w asked 0
+pub first_none : (w : World) (asked : ℕ → Bool) → [] ≡ begun_choices None w asked 0
 unfolding begun_choices
 first_none w asked = refl
 
-pub world_none : (w : World) (asked : ℕ → Bool) → w ≡ world_begun w asked 0
+pub world_none : (w : World) (asked : ℕ → Bool) → w ≡ world_begun None w asked 0
 unfolding world_begun
 world_none w asked = refl
 
 pub first_more : (w : World) (asked : ℕ → Bool) (n : ℕ) (b : Bool) → b ≡ asked n
-    → begun_choices w asked n ++ cond b (plain_choices n (first_steps (world_begun w asked n) n)) [] ≡ begun_choices w asked (n + 1)
+    → begun_choices None w asked n ++ cond b (plain_choices n (first_steps None (world_begun None w asked n) n)) [] ≡ begun_choices None w asked (n + 1)
 unfolding begun_choices
 first_more w asked n b is =
     let one : n + 1 ≡ suc n = omega arith in
-    rw one (ap (λ x. begun_choices w asked n ++ cond x (plain_choices n (first_steps (world_begun w asked n) n)) []) is)
+    rw one (ap (λ x. begun_choices None w asked n ++ cond x (plain_choices n (first_steps None (world_begun None w asked n) n)) []) is)
 
 pub world_more : (w : World) (asked : ℕ → Bool) (n : ℕ) (b : Bool) → b ≡ asked n
-    → cond b (hart_begun (world_begun w asked n) n) (world_begun w asked n) ≡ world_begun w asked (n + 1)
+    → cond b (hart_begun None (world_begun None w asked n) n) (world_begun None w asked n) ≡ world_begun None w asked (n + 1)
 unfolding world_begun
 world_more w asked n b is =
     let one : n + 1 ≡ suc n = omega arith in
-    rw one (ap (λ x. cond x (hart_begun (world_begun w asked n) n) (world_begun w asked n)) is)
+    rw one (ap (λ x. cond x (hart_begun None (world_begun None w asked n) n) (world_begun None w asked n)) is)

@@ -1,5 +1,5 @@
 -- The ends at all keys are those of all lists of choices after which no hart runs.
-use Rattle.std.proofs.Common.{◌≡◌, ℕ, true, false, List, [], ◌++◌, length, take, Option, Some, ap, sym, ◌∙◌, subst, arith}
+use Rattle.std.proofs.Common.{◌≡◌, ℕ, true, false, List, [], ◌++◌, length, take, Option, Some, ap, sym, ◌∙◌, subst, arith, None}
 use Rattle.std.proofs.lemmas.List.{length-map, length-take-le}
 use Rattle.std.proofs.lemmas.List.Elements.{All-nil, All-contains}
 use Rattle.std.proofs.lemmas.Option.{slice_get_within, get_or_from_slice_get}
@@ -50,17 +50,18 @@ module _ (rule : Option Kind) (always : Option Always) (refusals : ScRefusals) (
   start = started image inputs
 
   abbrev first : World
-  first = settled_start start
+  first = settled_start None start
 
   abbrev reached : List Choice → Place
-  reached turns = place_reached (place_begun first) turns
+  reached turns = place_reached (place_begun None first) turns
 
   -- where no hart runs after a list, the place that stands for its run has the same end
-  same_place : (choices : List Choice) (found : HasStart meant start choices) → StopsAll image inputs choices
+  same_place : (choices : List Choice) (found : HasStart None meant start choices) → StopsAll image inputs choices
       → (reached found.turns).world.harts ≡ (run start choices).harts
-  same_place choices found stops = same_harts (reached found.turns).world (run start choices) found.place.covers stops
+  same_place choices found stops = same_harts None (reached found.turns).world (run start choices) found.place.covers stops
 
-  same_end : (choices : List Choice) (found : HasStart meant start choices) → IsSafe meant (place_begun first) (fails_there rule always inputs)
+  same_end : (choices : List Choice) (found : HasStart None meant start choices)
+      → IsSafe meant (place_begun None first) (fails_there rule always inputs)
       → StopsAll image inputs choices → end_there rule inputs (reached found.turns) ≡ run_end rule image inputs choices
   same_end choices found safe stops =
       let p = reached found.turns in
@@ -78,16 +79,16 @@ module _ (rule : Option Kind) (always : Option Always) (refusals : ScRefusals) (
 
   -- the first local steps of all harts, and turns
   abbrev list_of : List Choice → List Choice
-  list_of turns = begun_choices start (λ k. true) (length start.harts) ++ turns_choices first turns
+  list_of turns = begun_choices None start (λ k. true) (length start.harts) ++ turns_choices None first turns
 
   leads_there : (turns : List Choice) → run start (list_of turns) ≡ (reached turns).world
   leads_there turns =
-      run_joined start (begun_choices start (λ k. true) (length start.harts)) (turns_choices first turns)
-      ∙ ap (λ (x : World). run x (turns_choices first turns)) (run_of_begun start (λ k. true) (length start.harts))
-      ∙ run_of_turns first turns
+      run_joined start (begun_choices None start (λ k. true) (length start.harts)) (turns_choices None first turns)
+      ∙ ap (λ (x : World). run x (turns_choices None first turns)) (run_of_begun None start (λ k. true) (length start.harts))
+      ∙ run_of_turns None first turns
 
   -- the run of these choices ends as the place does
-  turns_end : (turns : List Choice) → IsListOf meant turns → IsSafe meant (place_begun first) (fails_there rule always inputs)
+  turns_end : (turns : List Choice) → IsListOf meant turns → IsSafe meant (place_begun None first) (fails_there rule always inputs)
       → end_there rule inputs (reached turns) ≡ run_end rule image inputs (list_of turns)
   turns_end turns all safe =
       let p = reached turns in
@@ -103,7 +104,7 @@ module _ (rule : Option Kind) (always : Option Always) (refusals : ScRefusals) (
   -- keys of a search, over parts that are known
   module _ {Z : Type 0} (other : ImageValue) (harts : List Hart) (shareds : List (Shared Z)) (keys : List (List ℕ)) where
     abbrev Reached : ℕ → Type 0
-    Reached n = AreAllReached (IsKey other n harts shareds) (place_of_key other n harts shareds) meant (place_begun first) keys
+    Reached n = AreAllReached (IsKey other n harts shareds) (place_of_key other n harts shareds) meant (place_begun None first) keys
 
     -- they have as many harts as there are inputs
     pub count_is : (n : ℕ) → Reached n → n ≡ length inputs
@@ -115,7 +116,7 @@ module _ (rule : Option Kind) (always : Option Always) (refusals : ScRefusals) (
         let taken = length-take-le n seen.key (omega (arith, len)) in
         let mapped = length-map (take n seen.key) (hart_numbered harts) in
         sym (mapped ∙ taken) ∙ ap (λ (p : Place). length p.world.harts) seen.is
-        ∙ begun_count start (λ k. true) (length start.harts) ∙ length-started image inputs
+        ∙ begun_count None start (λ k. true) (length start.harts) ∙ length-started image inputs
 
     keys_fit : Reached (length inputs) → All (FitsHarts (length inputs) (length harts)) keys
     keys_fit r k d low = let is = r.are k d low in (is.len, is.harts)
@@ -123,11 +124,11 @@ module _ (rule : Option Kind) (always : Option Always) (refusals : ScRefusals) (
     pub all_fit : (n : ℕ) → Reached n → All (FitsHarts (length inputs) (length harts)) keys
     all_fit n r = keys_fit (subst Reached (count_is n r) r)
 
-    ends_all : (ends : List EndValue) → Reached (length inputs) → IsSafe meant (place_begun first) (fails_there rule always inputs)
+    ends_all : (ends : List EndValue) → Reached (length inputs) → IsSafe meant (place_begun None first) (fails_there rule always inputs)
         → AreEndsAt rule inputs harts keys ends → AreAllEnds rule refusals image inputs ends
     ends_all ends r safe at = record {
       all = λ choices all stops.
-          let found = run_has_start meant start choices all in
+          let found = run_has_start None meant start choices all in
           let seen = r.all found.turns found.are_meant in
           let stopped = ap (λ (p : Place). some_run p.world.harts) seen.is
           ∙ ap (λ (xs : List HartValue). some_run xs) (same_place choices found stops) ∙ stops in
@@ -135,7 +136,7 @@ module _ (rule : Option Kind) (always : Option Always) (refusals : ScRefusals) (
           (at.all seen.key (contains_at keys seen.number seen.key seen.there) stopped);
       each = λ end there.
           let is = at.each end there in
-          let led = All-contains (λ key. IsLedTo meant (place_begun first) (place_of_key other (length inputs) harts shareds key)) keys is.key
+          let led = All-contains (λ key. IsLedTo meant (place_begun None first) (place_of_key other (length inputs) harts shareds key)) keys is.key
           r.led_to is.there in
           record {
             choices = list_of led.list;
@@ -147,6 +148,6 @@ module _ (rule : Option Kind) (always : Option Always) (refusals : ScRefusals) (
       once = at.once;
     }
 
-    pub ends_are_all : (n : ℕ) (ends : List EndValue) → Reached n → IsSafe meant (place_begun first) (fails_there rule always inputs)
+    pub ends_are_all : (n : ℕ) (ends : List EndValue) → Reached n → IsSafe meant (place_begun None first) (fails_there rule always inputs)
         → AreEndsAt rule inputs harts keys ends → AreAllEnds rule refusals image inputs ends
     ends_are_all n ends r safe at = ends_all ends (subst Reached (count_is n r) r) safe at

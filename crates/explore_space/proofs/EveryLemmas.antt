@@ -35,6 +35,7 @@ use Rattle.explore_space.proofs.WordBreaks.{fails_neither, fails_not, same_break
 use Rattle.explore_space.proofs.BegunLemmas.{start_chosen}
 use Rattle.explore_space.proofs.AheadLemmas.{all_run, fails_ahead, start_ahead}
 use Rattle.explore_space.proofs.StartLemmas.{HasStart, begun_meant, run_has_start}
+use Rattle.explore_laws.specs.declared.section.Section.{Section}
 
 -- ---- the harts of meant choices
 of_hart : (refusals : ScRefusals) (n i : ℕ) (c : Choice) → i < length (hart_choices refusals n)
@@ -83,25 +84,25 @@ module _ (refusals : ScRefusals) (n : ℕ) where
   plain_ones h (suc count) rest low all = All-cons (Contains (meant_choices refusals n)) (record { hart = h; refuse = false })
       (plain_choices h count ++ rest) (plain_meant refusals n h low) (plain_ones h count rest low all)
 
-  pub turns_meant : (w : World) (turns : List Choice) → IsListOf (meant_choices refusals n) turns
-      → IsListOf (meant_choices refusals n) (turns_choices w turns)
+  pub turns_meant : (section : Option Section) (w : World) (turns : List Choice) → IsListOf (meant_choices refusals n) turns
+      → IsListOf (meant_choices refusals n) (turns_choices section w turns)
   unfolding turns_choices
-  turns_meant w [] all = all
-  turns_meant w (c ∷ turns) all =
+  turns_meant section w [] all = all
+  turns_meant section w (c ∷ turns) all =
       let head = All-head (Contains (meant_choices refusals n)) c turns all in
       let tail = All-tail (Contains (meant_choices refusals n)) c turns all in
-      let count = settling_steps (step w c) (slice_get (step w c).harts c.hart) in
-      All-cons (Contains (meant_choices refusals n)) c (plain_choices c.hart count ++ turns_choices (world_settled (step w c) c.hart) turns) head
-      (plain_ones c.hart count (turns_choices (world_settled (step w c) c.hart) turns) (in_range refusals n c head)
-      (turns_meant (world_settled (step w c) c.hart) turns tail))
+      let count = settling_steps section (step w c) (slice_get (step w c).harts c.hart) in
+      All-cons (Contains (meant_choices refusals n)) c (plain_choices c.hart count ++ turns_choices section (world_settled section (step w c) c.hart) turns) head
+      (plain_ones c.hart count (turns_choices section (world_settled section (step w c) c.hart) turns) (in_range refusals n c head)
+      (turns_meant section (world_settled section (step w c) c.hart) turns tail))
 
 -- ---- verdicts
 -- a choice of each hart that turns choose, and the turns
 pub alike : (refusals : ScRefusals) (n : ℕ) (w : World) (turns : List Choice) → IsListOf (meant_choices refusals n) turns
-    → ChooseAlike (one_each n (place_reached (place_begun w) turns).chosen) turns
+    → ChooseAlike (one_each n (place_reached (place_begun None w) turns).chosen) turns
 alike refusals n w turns all k = elim (cases_lt k n) [
-  | inl low ↦ chosen_below n (place_reached (place_begun w) turns).chosen k low ∙ chosen_reached w turns k
-  | inr past ↦ chosen_past n (place_reached (place_begun w) turns).chosen k past ∙ sym (none_past refusals n turns k past all)
+  | inl low ↦ chosen_below n (place_reached (place_begun None w) turns).chosen k low ∙ chosen_reached None w turns k
+  | inr past ↦ chosen_past n (place_reached (place_begun None w) turns).chosen k past ∙ sym (none_past refusals n turns k past all)
 ]
 
 pub same_judgement : (rule : Option Kind) (inputs : List ℕ) (a b : List Choice) (harts : List HartValue) → ChooseAlike a b
@@ -112,36 +113,36 @@ same_judgement (Some kind) inputs a b harts same = ap (λ v. outcome_of (Some v)
 -- where turns lead, their own run has failed exactly where the place has
 fails_alike : (rule : Option Kind) (always : Option Always) (refusals : ScRefusals) (image : ImageValue) (inputs : List ℕ) (turns : List Choice)
     → IsListOf (meant_choices refusals (length inputs)) turns
-    → fails_there rule always inputs (place_reached (place_begun (settled_start (started image inputs))) turns)
-    ≡ run_fails rule always image inputs (choices_from_start (started image inputs) turns)
+    → fails_there rule always inputs (place_reached (place_begun None (settled_start None (started image inputs))) turns)
+    ≡ run_fails rule always image inputs (choices_from_start None (started image inputs) turns)
 fails_alike rule always refusals image inputs turns all =
     let w = started image inputs in
-    let p = place_reached (place_begun (settled_start w)) turns in
-    let list = choices_from_start w turns in
+    let p = place_reached (place_begun None (settled_start None w)) turns in
+    let list = choices_from_start None w turns in
     let each = one_each (length inputs) p.chosen in
-    let ahead = start_ahead w turns (all_run image inputs) in
+    let ahead = start_ahead None w turns (all_run image inputs) in
     ap (λ (b : Bool). b || fails May (judged rule inputs each p.world.harts))
     (same_break always p.world (run w list) ahead.covers.memory)
     ∙ ap (λ (b : Bool). breaks_word always (run w list) || b)
-    (fails_ahead rule inputs (is_chosen turns) p.world (run w list) each list ahead
-    (λ k. alike refusals (length inputs) (settled_start w) turns all k ∙ sym (start_chosen w turns k)))
+    (fails_ahead None rule inputs (is_chosen turns) p.world (run w list) each list ahead
+    (λ k. alike refusals (length inputs) (settled_start None w) turns all k ∙ sym (start_chosen None w turns k)))
 
 -- a run fails in no other way than the place that stands for it
 pub good_run : (rule : Option Kind) (always : Option Always) (refusals : ScRefusals) (image : ImageValue) (inputs : List ℕ) (choices : List Choice)
-    (found : HasStart (meant_choices refusals (length inputs)) (started image inputs) choices)
-    → fails_there rule always inputs (place_reached (place_begun (settled_start (started image inputs))) found.turns) ≡ false
+    (found : HasStart None (meant_choices refusals (length inputs)) (started image inputs) choices)
+    → fails_there rule always inputs (place_reached (place_begun None (settled_start None (started image inputs))) found.turns) ≡ false
     → run_fails rule always image inputs choices ≡ false
 good_run rule always refusals image inputs choices found good =
     let w = started image inputs in
-    let s = settled_start w in
-    let p = place_reached (place_begun s) found.turns in
+    let s = settled_start None w in
+    let p = place_reached (place_begun None s) found.turns in
     let each = one_each (length inputs) p.chosen in
     let both = fails_not (breaks_word always p.world) (fails May (judged rule inputs each p.world.harts)) good in
     fails_neither (breaks_word always (run w choices)) (fails May (judged rule inputs choices (run w choices).harts))
     (sym (same_break always p.world (run w choices) found.place.covers.memory) ∙ both.0)
     (passes rule inputs p.world.harts (run w choices).harts each choices
-    (covered_stops p.world (run w choices) found.place.covers)
-    (λ k e. found.place.fewer k (chosen_reached s found.turns k ∙ sym (alike refusals (length inputs) s found.turns found.are_meant k) ∙ e)) both.1)
+    (covered_stops None p.world (run w choices) found.place.covers)
+    (λ k e. found.place.fewer k (chosen_reached None s found.turns k ∙ sym (alike refusals (length inputs) s found.turns found.are_meant k) ∙ e)) both.1)
 
 -- the choices of turns from the start are meant
 pub plains : (refusals : ScRefusals) (image : ImageValue) (inputs : List ℕ) (h : ℕ) → h < length (started image inputs).harts
@@ -151,26 +152,26 @@ plains refusals image inputs h low =
 
 pub start_meant : (refusals : ScRefusals) (image : ImageValue) (inputs : List ℕ) (asked : ℕ → Bool) (turns : List Choice)
     → IsListOf (meant_choices refusals (length inputs)) turns
-    → IsListOf (meant_choices refusals (length inputs)) (begun_choices (started image inputs) asked (length (started image inputs).harts)
-    ++ turns_choices (world_begun (started image inputs) asked (length (started image inputs).harts)) turns)
+    → IsListOf (meant_choices refusals (length inputs)) (begun_choices None (started image inputs) asked (length (started image inputs).harts)
+    ++ turns_choices None (world_begun None (started image inputs) asked (length (started image inputs).harts)) turns)
 start_meant refusals image inputs asked turns all =
     let w = started image inputs in
     let n = length w.harts in
-    All-append (Contains (meant_choices refusals (length inputs))) (begun_choices w asked n) (turns_choices (world_begun w asked n) turns)
-    (begun_meant (meant_choices refusals (length inputs)) w (plains refusals image inputs) asked n (omega arith))
-    (turns_meant refusals (length inputs) (world_begun w asked n) turns all)
+    All-append (Contains (meant_choices refusals (length inputs))) (begun_choices None w asked n) (turns_choices None (world_begun None w asked n) turns)
+    (begun_meant None (meant_choices refusals (length inputs)) w (plains refusals image inputs) asked n (omega arith))
+    (turns_meant refusals (length inputs) None (world_begun None w asked n) turns all)
 
 -- ---- an answer for places is one for runs
 pub safe_is_safe : (rule : Option Kind) (always : Option Always) (refusals : ScRefusals) (image : ImageValue) (inputs : List ℕ)
-    → IsSafe (meant_choices refusals (length inputs)) (place_begun (settled_start (started image inputs))) (fails_there rule always inputs)
+    → IsSafe (meant_choices refusals (length inputs)) (place_begun None (settled_start None (started image inputs))) (fails_there rule always inputs)
     → (choices : List Choice) → IsListOf (meant_choices refusals (length inputs)) choices → run_fails rule always image inputs choices ≡ false
 safe_is_safe rule always refusals image inputs safe choices all =
-    let found = run_has_start (meant_choices refusals (length inputs)) (started image inputs) choices all in
+    let found = run_has_start None (meant_choices refusals (length inputs)) (started image inputs) choices all in
     good_run rule always refusals image inputs choices found (safe found.turns found.are_meant)
 
 pub bad_is_bad : (rule : Option Kind) (always : Option Always) (refusals : ScRefusals) (image : ImageValue) (inputs : List ℕ) (turns choices : List Choice) (count : ℕ)
-    → LeadsToBad (meant_choices refusals (length inputs)) (place_begun (settled_start (started image inputs))) (fails_there rule always inputs) turns
-    → choices ≡ choices_from_start (started image inputs) turns → length turns ≡ count
+    → LeadsToBad (meant_choices refusals (length inputs)) (place_begun None (settled_start None (started image inputs))) (fails_there rule always inputs) turns
+    → choices ≡ choices_from_start None (started image inputs) turns → length turns ≡ count
     → FailsFirst (meant_choices refusals (length inputs)) (started image inputs) (run_fails rule always image inputs) choices count
 bad_is_bad rule always refusals image inputs turns choices count bad is count_is =
     let w = started image inputs in
@@ -185,7 +186,7 @@ bad_is_bad rule always refusals image inputs turns choices count bad is count_is
       fewest = λ other all less.
           sym (fails_alike rule always refusals image inputs other all) ∙ bad.shortest other all (omega (arith, less, count_is));
       shortest = λ other all less.
-          let found = run_has_start (meant_choices refusals (length inputs)) w other all in
+          let found = run_has_start None (meant_choices refusals (length inputs)) w other all in
           good_run rule always refusals image inputs other found
           (bad.shortest found.turns found.are_meant (let few = found.no_more in omega (arith, few, less, count_is)));
     }

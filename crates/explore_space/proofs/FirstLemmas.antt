@@ -119,13 +119,13 @@ module _ {Z : Type 0} (image : ImageValue) (inputs : List ℕ) (begin : List Har
       moved : (n k : ℕ) → n + 1 + k ≡ n + (1 + k)
       moved n k = omega arith
 
-  first_place : place_of_key image (length inputs) begin shareds row ≡ place_begun (started image inputs)
+  first_place : place_of_key image (length inputs) begin shareds row ≡ place_begun None (started image inputs)
   first_place =
       let chosen : (λ (k : ℕ). slice_index row (length inputs + 1 + k) == 1) ≡ (λ (k : ℕ). false) = λ i k. ap (λ v. v == 1) (flag_none k) i in
       ap (λ (x : World). place_of x (λ k. slice_index row (length inputs + 1 + k) == 1)) first_world ∙ ap (place_of (started image inputs)) chosen
     where
       place_of : World → (ℕ → Bool) → Place
-      place_of x y = record { world = x; chosen = y }
+      place_of x y = record { section = None; world = x; chosen = y }
 
   first_key : IsKey image (length inputs) begin shareds row
   unfolding run values_over
@@ -146,5 +146,5 @@ module _ {Z : Type 0} (image : ImageValue) (inputs : List ℕ) (begin : List Har
     aligned = subst (All IsAligned) (sym all_harts) (run-aligned image inputs [] entry);
   }
 
-  pub first_is_key : IsKeyOf image (length inputs) begin shareds row (place_begun (started image inputs))
+  pub first_is_key : IsKeyOf image (length inputs) begin shareds row (place_begun None (started image inputs))
   first_is_key = (first_key, first_place)

@@ -1,5 +1,5 @@
 -- Keys after a step, and keys as tables grow.
-use Rattle.std.proofs.Common.{◌≡◌, ℕ, zero, suc, ◌+◌, ◌%◌, ◌<◌, ◌≤◌, Bool, ◌||◌, ◌==◌, List, [], ◌∷◌, length, map, take, set, Option, Some, refl, ap, sym, ◌∙◌, subst, arith, inl, inr, ◌⊎◌}
+use Rattle.std.proofs.Common.{◌≡◌, ℕ, zero, suc, ◌+◌, ◌%◌, ◌<◌, ◌≤◌, Bool, ◌||◌, ◌==◌, List, [], ◌∷◌, length, map, take, set, Option, Some, refl, ap, sym, ◌∙◌, subst, arith, inl, inr, ◌⊎◌, None}
 use Rattle.std.proofs.lemmas.Bool.{cases_eq}
 use Rattle.std.proofs.lemmas.List.{length-set, length-append, get_or-set_same, get_or-set_other}
 use Rattle.std.proofs.lemmas.Option.{slice_get_within, get_or_from_slice_get, slice_get-map}
@@ -52,7 +52,7 @@ module _ {Z : Type 0} (image : ImageValue) (n : ℕ) (harts more_harts : List Ha
   world_by hs o = record { harts = hs; memory = memory_over (image_memory image) (words_shown image (cells_in o)); reserved = marks_in o }
 
   abbrev place_by : World → Place
-  place_by w = record { world = w; chosen = λ k. slice_index key (n + 1 + k) == 1 }
+  place_by w = record { section = None; world = w; chosen = λ k. slice_index key (n + 1 + k) == 1 }
 
   pub place_stays : place_of_key image n more_harts more_shareds key ≡ place_of_key image n harts shareds key
   place_stays = ap (λ hs. place_by (world_by hs (slice_get more_shareds (slice_index key n)))) all_same
@@ -178,7 +178,7 @@ module _ {Z : Type 0} (image : ImageValue) (n : ℕ) (harts more_harts : List Ha
       ap (λ (x : World). place_of x (λ k. slice_index next (n + 1 + k) == 1)) next_world ∙ ap (place_of (step w c)) chosen
     where
       place_of : World → (ℕ → Bool) → Place
-      place_of x y = record { world = x; chosen = y }
+      place_of x y = record { section = None; world = x; chosen = y }
 
   flags_then : (k : ℕ) → slice_index next (n + 1 + k) ≤ 1
   flags_then k = elim (cases_eq number k) [

@@ -10,34 +10,35 @@ use Rattle.hart_step.specs.Step.{stepped}
 use Rattle.mem_store.specs.Memory.{Memory}
 use Rattle.hart_reservations.specs.Marks.{Marks}
 use Rattle.hart_local.specs.CodeMemory.{code_in}
-use Rattle.hart_local.specs.LocalStep.{is_local_next, step_alone, walk}
-use Rattle.hart_local.proofs.StepLemmas.{step_is_alone, walk_none, walks_join}
+use Rattle.hart_local.specs.LocalStep.{step_alone}
 use Rattle.machine.specs.Chosen.{is_chosen, own}
 use Rattle.machine.specs.World.{World, placed, step, run}
 use Rattle.machine.specs.declared.choice.Choice.{Choice}
 use Rattle.explore_laws.specs.Bounds.{not_stopped, runs_in, still_runs}
-use Rattle.explore_laws.specs.Covering.{WalksTo, WorldCovers}
-use Rattle.explore_laws.specs.Settling.{rested, rest_steps, at_once, settling_steps, world_settled}
+use Rattle.explore_laws.specs.Covering.{walk_outside, WalksTo, WorldCovers}
+use Rattle.explore_laws.specs.Settling.{may_walk, rested, rest_steps, at_once, settling_steps, world_settled}
 use Rattle.explore_laws.proofs.CoverLemmas.{step_code, step_is, walked_more, walked_none}
 use Rattle.explore_laws.proofs.OwnLemmas.{none_own, one_own}
 use Rattle.explore_laws.proofs.SettleLemmas.{get_set_other, rested_walks, same_value, there_set, there_too}
 use Rattle.explore_space.proofs.TurnLists.{no_step}
+use Rattle.explore_laws.specs.declared.section.Section.{Section}
+use Rattle.explore_laws.proofs.OutsideLemmas.{outside_none, outside_join, walked_alone}
 
 -- harts of a world are so many local steps behind those of another; one that is behind runs there
-pub record Lags (lag : ℕ → ℕ) (s w : World) : Type 0 where
+pub record Lags (section : Option Section) (lag : ℕ → ℕ) (s w : World) : Type 0 where
   pub count : length s.harts ≡ length w.harts
   pub memory : s.memory ≡ w.memory
   pub reserved : s.reserved ≡ w.reserved
   pub harts : (h : ℕ) (v u : HartValue) → slice_get w.harts h ≡ Some v → slice_get s.harts h ≡ Some u
-      → walk (code_in w.memory) (lag h) v ≡ Some u
+      → walk_outside section (code_in w.memory) (lag h) v ≡ Some u
   pub runs : (h : ℕ) (u : HartValue) → 0 < lag h → slice_get s.harts h ≡ Some u → not_stopped u.state ≡ true
 
 -- a list from the world ahead stands for one from the other
-pub record Lagged (meant : List Choice) (lag : ℕ → ℕ) (s w : World) (choices : List Choice) : Type 0 where
+pub record Lagged (section : Option Section) (meant : List Choice) (lag : ℕ → ℕ) (s w : World) (choices : List Choice) : Type 0 where
   pub list : List Choice
   pub are_meant : All (Contains meant) list
   pub no_more : length list ≤ length choices
-  pub covers : WorldCovers (run s list) (run w choices)
+  pub covers : WorldCovers section (run s list) (run w choices)
   pub fewer : (k : ℕ) → is_chosen list k ≡ true → is_chosen choices k ≡ true
   pub owned : (k : ℕ) → own choices k ≤ own list k + lag k
   pub runs : (k : ℕ) → runs_in (run w choices) k ≡ true → runs_in (run s list) k ≡ true
@@ -51,20 +52,20 @@ none_too s w h count none = by_hart (slice_get s.harts h) refl
         let too = there_too s.harts w.harts h u (sym count) e in
         absurd (let no : ◌≡◌ {A = Option HartValue} None (Some too.0) = sym none ∙ too.1 in cc)
 
-lag_covers : (lag : ℕ → ℕ) (s w : World) → Lags lag s w → WorldCovers s w
-lag_covers lag s w lags = record {
+lag_covers : (section : Option Section) (lag : ℕ → ℕ) (s w : World) → Lags section lag s w → WorldCovers section s w
+lag_covers section lag s w lags = record {
   count = lags.count;
   memory = lags.memory;
   reserved = lags.reserved;
   harts = λ h v u e f. record { steps = lag h; walks = lags.harts h v u e f };
 }
 
-lag_runs : (lag : ℕ → ℕ) (s w : World) → Lags lag s w → (k : ℕ) → runs_in w k ≡ true → runs_in s k ≡ true
-lag_runs lag s w lags k goes = by_hart (slice_get w.harts k) refl
+lag_runs : (section : Option Section) (lag : ℕ → ℕ) (s w : World) → Lags section lag s w → (k : ℕ) → runs_in w k ≡ true → runs_in s k ≡ true
+lag_runs section lag s w lags k goes = by_hart (slice_get w.harts k) refl
   where
     by_lag : (v u : HartValue) (n : ℕ) → lag k ≡ n → slice_get w.harts k ≡ Some v → slice_get s.harts k ≡ Some u → runs_in s k ≡ true
     by_lag v u zero is e f =
-        let same = walked_none (code_in w.memory) v u (ap (λ n. walk (code_in w.memory) n v) (sym is) ∙ lags.harts k v u e f) in
+        let same = walked_none section (code_in w.memory) v u (ap (λ n. walk_outside section (code_in w.memory) n v) (sym is) ∙ lags.harts k v u e f) in
         ap still_runs (f ∙ ap Some (sym same) ∙ sym e) ∙ goes
     by_lag v u (suc n) is e f = ap still_runs f ∙ lags.runs k u (omega (arith, is)) f
 
@@ -73,12 +74,13 @@ lag_runs lag s w lags k goes = by_hart (slice_get w.harts k) refl
     by_hart (Some v) e = let too = there_too w.harts s.harts k v lags.count e in by_lag v too.0 (lag k) refl e too.1
 
 -- ---- a hart that isn't behind takes the same step in both
-step_both : (lag : ℕ → ℕ) (s w : World) (c : Choice) (v : HartValue) → Lags lag s w → slice_get w.harts c.hart ≡ Some v
-    → lag c.hart ≡ 0 → Lags lag (step s c) (step w c)
-step_both lag s w c v lags there even =
+step_both : (section : Option Section) (lag : ℕ → ℕ) (s w : World) (c : Choice) (v : HartValue) → Lags section lag s w
+    → slice_get w.harts c.hart ≡ Some v
+    → lag c.hart ≡ 0 → Lags section lag (step s c) (step w c)
+step_both section lag s w c v lags there even =
     let too = there_too w.harts s.harts c.hart v lags.count there in
-    let same = walked_none (code_in w.memory) v too.0
-    (ap (λ n. walk (code_in w.memory) n v) (sym even) ∙ lags.harts c.hart v too.0 there too.1) in
+    let same = walked_none section (code_in w.memory) v too.0
+    (ap (λ n. walk_outside section (code_in w.memory) n v) (sym even) ∙ lags.harts c.hart v too.0 there too.1) in
     let there_s : slice_get s.harts c.hart ≡ Some v = too.1 ∙ ap Some (sym same) in
     let new : Site = stepped c.hart c.refuse (site v w.memory w.reserved) in
     let w_is : step w c ≡ placed w c.hart new = step_is w c v there in
@@ -89,7 +91,7 @@ step_both lag s w c v lags there even =
     = ap (λ (x : World). code_in x.memory) (sym w_is) ∙ step_code w c in
     let here_w : slice_get (set w.harts c.hart new.hart) c.hart ≡ Some new.hart = there_set w.harts c.hart v new.hart there in
     let here_s : slice_get (set s.harts c.hart new.hart) c.hart ≡ Some new.hart = there_set s.harts c.hart v new.hart there_s in
-    subst (λ x. Lags lag x (step w c)) (sym s_is) (subst (Lags lag (placed s c.hart new)) (sym w_is) (record {
+    subst (λ x. Lags section lag x (step w c)) (sym s_is) (subst (Lags section lag (placed s c.hart new)) (sym w_is) (record {
       count = length-set s.harts c.hart new.hart ∙ lags.count ∙ sym (length-set w.harts c.hart new.hart);
       memory = refl;
       reserved = refl;
@@ -99,9 +101,9 @@ step_both lag s w c v lags there even =
             (ap (slice_get (set w.harts c.hart new.hart)) is ∙ here_w) at_a in
             let b_is : new.hart ≡ b = same_value new.hart b (slice_get (set s.harts c.hart new.hart) h)
             (ap (slice_get (set s.harts c.hart new.hart)) is ∙ here_s) at_b in
-            ap (λ n. walk (code_in new.memory) n a) (ap lag is ∙ even) ∙ walk_none (code_in new.memory) a ∙ ap Some (sym a_is ∙ b_is)
+            ap (λ n. walk_outside section (code_in new.memory) n a) (ap lag is ∙ even) ∙ outside_none section (code_in new.memory) a ∙ ap Some (sym a_is ∙ b_is)
         | inr other ↦
-            ap (λ m. walk m (lag h) a) code_is
+            ap (λ m. walk_outside section m (lag h) a) code_is
             ∙ lags.harts h a b (sym (get_set_other w.harts c.hart h new.hart other) ∙ at_a)
             (sym (get_set_other s.harts c.hart h new.hart other) ∙ at_b)
       ];
@@ -121,17 +123,18 @@ less_here lag h n k is = ap (λ b. cond b n (lag k)) (eq-eqb k h is)
 less_other : (lag : ℕ → ℕ) (h n k : ℕ) → (k ≡ h → ⊥) → less lag h n k ≡ lag k
 less_other lag h n k other = ap (λ b. cond b n (lag k)) (ne_eqb k h other)
 
-step_behind : (lag : ℕ → ℕ) (s w : World) (c : Choice) (v : HartValue) (n : ℕ) → Lags lag s w → slice_get w.harts c.hart ≡ Some v
-    → lag c.hart ≡ suc n → Lags (less lag c.hart n) s (step w c)
-step_behind lag s w c v n lags there behind =
+step_behind : (section : Option Section) (lag : ℕ → ℕ) (s w : World) (c : Choice) (v : HartValue) (n : ℕ) → Lags section lag s w
+    → slice_get w.harts c.hart ≡ Some v
+    → lag c.hart ≡ suc n → Lags section (less lag c.hart n) s (step w c)
+step_behind section lag s w c v n lags there behind =
     let too = there_too w.harts s.harts c.hart v lags.count there in
-    let more = walked_more (code_in w.memory) n v too.0
-    (ap (λ m. walk (code_in w.memory) m v) (sym behind) ∙ lags.harts c.hart v too.0 there too.1) in
-    let local : is_local_next (code_in w.memory) v ≡ true = more.0 in
+    let more = walked_more section (code_in w.memory) n v too.0
+    (ap (λ m. walk_outside section (code_in w.memory) m v) (sym behind) ∙ lags.harts c.hart v too.0 there too.1) in
+    let local : may_walk section (code_in w.memory) v ≡ true = more.0 in
     let alone = step_alone (code_in w.memory) v in
     let is : step w c ≡ placed w c.hart (site alone w.memory w.reserved)
-    = step_is w c v there ∙ ap (placed w c.hart) (step_is_alone v w.memory w.reserved c.hart c.refuse (let l = local in search rules)) in
-    subst (Lags (less lag c.hart n) s) (sym is) (record {
+    = step_is w c v there ∙ ap (placed w c.hart) (walked_alone section w v c.hart c.refuse local) in
+    subst (Lags section (less lag c.hart n) s) (sym is) (record {
       count = lags.count ∙ sym (length-set w.harts c.hart alone);
       memory = lags.memory;
       reserved = lags.reserved;
@@ -140,10 +143,10 @@ step_behind lag s w c v n lags there behind =
             let a_is : alone ≡ a = same_value alone a (slice_get (set w.harts c.hart alone) h)
             (ap (slice_get (set w.harts c.hart alone)) same ∙ there_set w.harts c.hart v alone there) at_a in
             let b_is : too.0 ≡ b = same_value too.0 b (slice_get s.harts h) (ap (slice_get s.harts) same ∙ too.1) at_b in
-            ap (λ m. walk (code_in w.memory) m a) (less_here lag c.hart n h same)
-            ∙ ap (walk (code_in w.memory) n) (sym a_is) ∙ more.1 ∙ ap Some b_is
+            ap (λ m. walk_outside section (code_in w.memory) m a) (less_here lag c.hart n h same)
+            ∙ ap (walk_outside section (code_in w.memory) n) (sym a_is) ∙ more.1 ∙ ap Some b_is
         | inr other ↦
-            ap (λ m. walk (code_in w.memory) m a) (less_other lag c.hart n h other)
+            ap (λ m. walk_outside section (code_in w.memory) m a) (less_other lag c.hart n h other)
             ∙ lags.harts h a b (sym (get_set_other w.harts c.hart h alone other) ∙ at_a) at_b
       ];
       runs = λ h u some at. elim (cases_eq h c.hart) [
@@ -153,16 +156,17 @@ step_behind lag s w c v n lags there behind =
     })
 
 -- ---- lists
-lagged_none : (meant : List Choice) (lag : ℕ → ℕ) (s w : World) → Lags lag s w → All (Contains meant) [] → Lagged meant lag s w []
+lagged_none : (section : Option Section) (meant : List Choice) (lag : ℕ → ℕ) (s w : World) → Lags section lag s w → All (Contains meant) []
+    → Lagged section meant lag s w []
 unfolding run
-lagged_none meant lag s w lags all = record {
+lagged_none section meant lag s w lags all = record {
   list = [];
   are_meant = all;
   no_more = omega arith;
-  covers = lag_covers lag s w lags;
+  covers = lag_covers section lag s w lags;
   fewer = λ k e. e;
   owned = λ k. omega arith;
-  runs = lag_runs lag s w lags;
+  runs = lag_runs section lag s w lags;
 }
 
 same_chosen : (c : Choice) (a b : List Choice) (k : ℕ) → (is_chosen a k ≡ true → is_chosen b k ≡ true)
@@ -174,10 +178,10 @@ same_chosen c a b k leads = by (c.hart == k)
     by false e = leads e
 
 -- the choice is taken in both
-lagged_both : (meant : List Choice) (lag : ℕ → ℕ) (s w : World) (c : Choice) (choices : List Choice) → Contains meant c
-    → Lagged meant lag (step s c) (step w c) choices → Lagged meant lag s w (c ∷ choices)
+lagged_both : (section : Option Section) (meant : List Choice) (lag : ℕ → ℕ) (s w : World) (c : Choice) (choices : List Choice) → Contains meant c
+    → Lagged section meant lag (step s c) (step w c) choices → Lagged section meant lag s w (c ∷ choices)
 unfolding run
-lagged_both meant lag s w c choices there more = record {
+lagged_both section meant lag s w c choices there more = record {
   list = c ∷ more.list;
   are_meant = All-cons (Contains meant) c more.list there more.are_meant;
   no_more = (let low = more.no_more in omega (arith, low));
@@ -191,10 +195,11 @@ lagged_both meant lag s w c choices there more = record {
 }
 
 -- the choice is left out
-lagged_less : (meant : List Choice) (lag : ℕ → ℕ) (s w : World) (c : Choice) (choices : List Choice) (n : ℕ) → lag c.hart ≡ suc n
-    → Lagged meant (less lag c.hart n) s (step w c) choices → Lagged meant lag s w (c ∷ choices)
+lagged_less : (section : Option Section) (meant : List Choice) (lag : ℕ → ℕ) (s w : World) (c : Choice) (choices : List Choice) (n : ℕ)
+    → lag c.hart ≡ suc n
+    → Lagged section meant (less lag c.hart n) s (step w c) choices → Lagged section meant lag s w (c ∷ choices)
 unfolding run
-lagged_less meant lag s w c choices n behind more = record {
+lagged_less section meant lag s w c choices n behind more = record {
   list = more.list;
   are_meant = more.are_meant;
   no_more = (let low = more.no_more in omega (arith, low));
@@ -215,43 +220,45 @@ lagged_less meant lag s w c choices n behind more = record {
 }
 
 -- a choice more, where the rest stands from wherever the worlds are then
-lagged_more : (meant : List Choice) (lag : ℕ → ℕ) (s w : World) (c : Choice) (choices : List Choice) → Lags lag s w → Contains meant c
-    → ((l : ℕ → ℕ) (t v : World) → Lags l t v → Lagged meant l t v choices) → Lagged meant lag s w (c ∷ choices)
-lagged_more meant lag s w c choices lags there rest = by_hart (slice_get w.harts c.hart) refl
+lagged_more : (section : Option Section) (meant : List Choice) (lag : ℕ → ℕ) (s w : World) (c : Choice) (choices : List Choice)
+    → Lags section lag s w → Contains meant c
+    → ((l : ℕ → ℕ) (t v : World) → Lags section l t v → Lagged section meant l t v choices) → Lagged section meant lag s w (c ∷ choices)
+lagged_more section meant lag s w c choices lags there rest = by_hart (slice_get w.harts c.hart) refl
   where
-    by_lag : (v : HartValue) (n : ℕ) → lag c.hart ≡ n → slice_get w.harts c.hart ≡ Some v → Lagged meant lag s w (c ∷ choices)
-    by_lag v zero is e = lagged_both meant lag s w c choices there (rest lag (step s c) (step w c) (step_both lag s w c v lags e is))
+    by_lag : (v : HartValue) (n : ℕ) → lag c.hart ≡ n → slice_get w.harts c.hart ≡ Some v → Lagged section meant lag s w (c ∷ choices)
+    by_lag v zero is e = lagged_both section meant lag s w c choices there (rest lag (step s c) (step w c) (step_both section lag s w c v lags e is))
     by_lag v (suc n) is e =
-        lagged_less meant lag s w c choices n is (rest (less lag c.hart n) s (step w c) (step_behind lag s w c v n lags e is))
+        lagged_less section meant lag s w c choices n is (rest (less lag c.hart n) s (step w c) (step_behind section lag s w c v n lags e is))
 
-    by_hart : (o : Option HartValue) → slice_get w.harts c.hart ≡ o → Lagged meant lag s w (c ∷ choices)
+    by_hart : (o : Option HartValue) → slice_get w.harts c.hart ≡ o → Lagged section meant lag s w (c ∷ choices)
     by_hart None e =
         let w_is = no_step w c e in
         let s_is = no_step s c (none_too s w c.hart lags.count e) in
-        lagged_both meant lag s w c choices there (rest lag (step s c) (step w c)
-        (subst (λ x. Lags lag x (step w c)) (sym s_is) (subst (Lags lag s) (sym w_is) lags)))
+        lagged_both section meant lag s w c choices there (rest lag (step s c) (step w c)
+        (subst (λ x. Lags section lag x (step w c)) (sym s_is) (subst (Lags section lag s) (sym w_is) lags)))
     by_hart (Some v) e = by_lag v (lag c.hart) refl e
 
-pub lagged : (meant : List Choice) (lag : ℕ → ℕ) (s w : World) (choices : List Choice) → Lags lag s w → All (Contains meant) choices
-    → Lagged meant lag s w choices
-lagged meant lag s w [] lags all = lagged_none meant lag s w lags all
-lagged meant lag s w (c ∷ choices) lags all =
-    lagged_more meant lag s w c choices lags (All-head (Contains meant) c choices all)
-    (λ l t v more. lagged meant l t v choices more (All-tail (Contains meant) c choices all))
+pub lagged : (section : Option Section) (meant : List Choice) (lag : ℕ → ℕ) (s w : World) (choices : List Choice) → Lags section lag s w
+    → All (Contains meant) choices
+    → Lagged section meant lag s w choices
+lagged section meant lag s w [] lags all = lagged_none section meant lag s w lags all
+lagged section meant lag s w (c ∷ choices) lags all =
+    lagged_more section meant lag s w c choices lags (All-head (Contains meant) c choices all)
+    (λ l t v more. lagged section meant l t v choices more (All-tail (Contains meant) c choices all))
 
 -- ---- worlds that cover each other
-pub covers_joined : (t s w : World) → WorldCovers t s → WorldCovers s w → WorldCovers t w
-covers_joined t s w ahead behind = record {
+pub covers_joined : (section : Option Section) (t s w : World) → WorldCovers section t s → WorldCovers section s w → WorldCovers section t w
+covers_joined section t s w ahead behind = record {
   count = ahead.count ∙ behind.count;
   memory = ahead.memory ∙ behind.memory;
   reserved = ahead.reserved ∙ behind.reserved;
   harts = λ h a b at_a at_b.
       let mid = there_too w.harts s.harts h a behind.count at_a in
-      let first : WalksTo (code_in w.memory) a mid.0 = behind.harts h a mid.0 at_a mid.1 in
-      let second : WalksTo (code_in s.memory) mid.0 b = ahead.harts h mid.0 b mid.1 at_b in
+      let first : WalksTo section (code_in w.memory) a mid.0 = behind.harts h a mid.0 at_a mid.1 in
+      let second : WalksTo section (code_in s.memory) mid.0 b = ahead.harts h mid.0 b mid.1 at_b in
       record {
         steps = first.steps + second.steps;
-        walks = walks_join (code_in w.memory) first.steps second.steps a mid.0 b first.walks
-            (ap (λ (m : Memory). walk (code_in m) second.steps mid.0) (sym behind.memory) ∙ second.walks);
+        walks = outside_join section (code_in w.memory) first.steps second.steps a mid.0 b first.walks
+            (ap (λ (m : Memory). walk_outside section (code_in m) second.steps mid.0) (sym behind.memory) ∙ second.walks);
       };
 }

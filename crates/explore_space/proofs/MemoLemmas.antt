@@ -1,5 +1,5 @@
 -- Steps and rests stay where more parts are known, and one more is kept.
-use Rattle.std.proofs.Common.{◌≡◌, ℕ, suc, ◌+◌, ◌<◌, ◌≤◌, Bool, true, false, if◌then◌else◌, List, [], ◌∷◌, length, Some, refl, ap, sym, ◌∙◌, subst, arith, inl, inr, ◌⊎◌}
+use Rattle.std.proofs.Common.{◌≡◌, ℕ, suc, ◌+◌, ◌<◌, ◌≤◌, Bool, true, false, if◌then◌else◌, List, [], ◌∷◌, length, Some, refl, ap, sym, ◌∙◌, subst, arith, inl, inr, ◌⊎◌, None}
 use Rattle.std.proofs.lemmas.Option.{slice_get_within}
 use Rattle.std.specs.List.{slice_get, slice_index}
 use Rattle.image.specs.Image.{ImageValue}
@@ -75,7 +75,7 @@ rests_stay image harts more_harts harts_go keys answers are = record {
         (let h = told.0 in omega (arith, longer, h)),
         (let h = told.1 in omega (arith, longer, h)),
         ap hart_in (longer_get harts more_harts harts_go after told.1) ∙ told.2
-            ∙ ap (rested (code_in (image_memory image)) at_once) (sym (ap hart_in (longer_get harts more_harts harts_go id told.0))),
+            ∙ ap (rested None (code_in (image_memory image)) at_once) (sym (ap hart_in (longer_get harts more_harts harts_go id told.0))),
       ));
 }
 
@@ -139,7 +139,7 @@ steps_more image harts shareds keys answers more_keys more_answers hart shared n
 pub rests_more : (image : ImageValue) (harts : List Hart) (keys answers more_keys more_answers : List (List ℕ)) (id new_hart : ℕ)
     → AreRests image harts keys answers → KeepsOne keys answers more_keys more_answers (id ∷ []) (new_hart ∷ [])
     → id < length harts → new_hart < length harts
-    → hart_numbered harts new_hart ≡ rested (code_in (image_memory image)) at_once (hart_numbered harts id)
+    → hart_numbered harts new_hart ≡ rested None (code_in (image_memory image)) at_once (hart_numbered harts id)
     → AreRests image harts more_keys more_answers
 rests_more image harts keys answers more_keys more_answers id new_hart are keeps there after rest = record {
   each = λ at other after_other kept.
@@ -152,7 +152,7 @@ rests_more image harts keys answers more_keys more_answers id new_hart are keeps
   where
     Goes : ℕ → ℕ → Type 0
     Goes x y = (x < length harts) × (y < length harts)
-        × (hart_numbered harts y ≡ rested (code_in (image_memory image)) at_once (hart_numbered harts x))
+        × (hart_numbered harts y ≡ rested None (code_in (image_memory image)) at_once (hart_numbered harts x))
 
 -- ---- answers of one and of two words
 one_word : (xs : List ℕ) → 1 ≤ length xs → length xs < 2 → xs ≡ slice_index xs 0 ∷ []
@@ -180,7 +180,7 @@ kept_step image harts shareds keys answers at hart shared bit c answer are bit_i
 pub kept_rest : (image : ImageValue) (harts : List Hart) (keys answers : List (List ℕ)) (at id : ℕ) (answer : List ℕ)
     → AreRests image harts keys answers → HasAnswer keys answers at (id ∷ []) answer → 1 ≤ length answer → length answer < 2
     → (slice_index answer 0 < length harts)
-    × (hart_numbered harts (slice_index answer 0) ≡ rested (code_in (image_memory image)) at_once (hart_numbered harts id))
+    × (hart_numbered harts (slice_index answer 0) ≡ rested None (code_in (image_memory image)) at_once (hart_numbered harts id))
 kept_rest image harts keys answers at id answer are kept some few =
     let told = are.each at id (slice_index answer 0) (kept.0, kept.1 ∙ ap Some (one_word answer some few)) in
     (told.1, told.2)
@@ -204,9 +204,9 @@ step_kept image harts more_harts shareds more_shareds harts_go shareds_go keys a
 pub rest_kept : (image : ImageValue) (harts more_harts : List Hart) → GoesOn harts more_harts
     → (keys answers more_keys more_answers : List (List ℕ)) (id new_hart : ℕ) → AreRests image harts keys answers
     → KeepsOne keys answers more_keys more_answers (id ∷ []) (new_hart ∷ []) → id < length harts → new_hart < length more_harts
-    → hart_numbered more_harts new_hart ≡ rested (code_in (image_memory image)) at_once (hart_numbered harts id)
+    → hart_numbered more_harts new_hart ≡ rested None (code_in (image_memory image)) at_once (hart_numbered harts id)
     → AreRests image more_harts more_keys more_answers
 rest_kept image harts more_harts harts_go keys answers more_keys more_answers id new_hart are keeps there after rest =
     rests_more image more_harts keys answers more_keys more_answers id new_hart (rests_stay image harts more_harts harts_go keys answers are)
     keeps (let e = longer_length harts more_harts harts_go in omega (arith, e, there)) after
-    (rest ∙ ap (rested (code_in (image_memory image)) at_once) (sym (ap hart_in (longer_get harts more_harts harts_go id there))))
+    (rest ∙ ap (rested None (code_in (image_memory image)) at_once) (sym (ap hart_in (longer_get harts more_harts harts_go id there))))

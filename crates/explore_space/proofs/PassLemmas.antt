@@ -9,7 +9,7 @@ use Rattle.hart_step.specs.declared.hart.HartState.{HartState}
 use Rattle.hart_step.specs.declared.hart.HartState.TheVariants.{Running, Exited, Faulted}
 use Rattle.mem_store.specs.Memory.{Memory}
 use Rattle.hart_local.specs.CodeMemory.{code_in}
-use Rattle.hart_local.specs.LocalStep.{is_local_next, local_in, walk}
+use Rattle.hart_local.specs.LocalStep.{is_local_next, local_in}
 use Rattle.machine.specs.Chosen.{is_chosen}
 use Rattle.machine.specs.World.{World}
 use Rattle.machine.specs.declared.choice.Choice.{Choice}
@@ -24,7 +24,8 @@ use Rattle.outcome.specs.Outcome.{counts, counted}
 use Rattle.outcome.specs.declared.run_outcome.End.TheVariants as end
 use Rattle.outcome.specs.Expect.{breaks, fails, judged}
 use Rattle.outcome.specs.declared.expect.Exit.TheVariants.{May}
-use Rattle.explore_laws.specs.Covering.{WalksTo, WorldCovers}
+use Rattle.explore_laws.specs.Covering.{walk_outside, WalksTo, WorldCovers}
+use Rattle.explore_laws.specs.declared.section.Section.{Section}
 
 -- ---- harts that are chosen
 at_place : (c : Choice) (choices : List Choice) (k i : ℕ) → i < length (chosen (c ∷ choices)) → get_or (chosen (c ∷ choices)) i k ≡ k
@@ -44,10 +45,11 @@ chosen_there (c ∷ choices) k e = elim (cases_eq c.hart k) [
 ]
 
 -- ---- harts that have stopped
-pub stays_there : (code : Memory) (n : ℕ) (v u : HartValue) → walk code n v ≡ Some u → is_local_next code v ≡ false → v ≡ u
-unfolding walk
-stays_there code zero v u e stopped = same_Some v u e
-stays_there code (suc n) v u e stopped = absurd (let none : ◌≡◌ {A = Option HartValue} None (Some u) = rw stopped at e in cc)
+pub stays_there : (section : Option Section) (code : Memory) (n : ℕ) (v u : HartValue) → walk_outside section code n v ≡ Some u
+    → is_local_next code v ≡ false → v ≡ u
+unfolding walk_outside
+stays_there section code zero v u e stopped = same_Some v u e
+stays_there section code (suc n) v u e stopped = absurd (let none : ◌≡◌ {A = Option HartValue} None (Some u) = rw stopped at e in cc)
 
 exited_stays : (code : Memory) (pc : ℕ) (s : HartState) → is_exited s ≡ true → is_some (local_in s code pc) ≡ false
 exited_stays code pc Running e = absurd (cc)
@@ -60,23 +62,23 @@ faulted_stays code pc (Exited status) e = refl
 faulted_stays code pc (Faulted cause) e = refl
 
 -- ---- the harts of a world that another covers
-module _ (s w : World) (covers : WorldCovers s w) where
+module _ (section : Option Section) (s w : World) (covers : WorldCovers section s w) where
   -- hart number i of the one leads to that of the other
-  pub leads : (i : ℕ) (d : HartValue) → i < length w.harts → WalksTo (code_in w.memory) (get_or w.harts i d) (get_or s.harts i d)
+  pub leads : (i : ℕ) (d : HartValue) → i < length w.harts → WalksTo section (code_in w.memory) (get_or w.harts i d) (get_or s.harts i d)
   leads i d low = covers.harts i (get_or w.harts i d) (get_or s.harts i d) (slice_get-get_or w.harts i d low)
       (slice_get-get_or s.harts i d (let c = covers.count in omega (arith, low, c)))
 
   same_exited : (i : ℕ) (d : HartValue) → i < length w.harts → HasExited (get_or w.harts i d) → get_or w.harts i d ≡ get_or s.harts i d
   same_exited i d low e =
       let walks = leads i d low in
-      stays_there (code_in w.memory) walks.steps (get_or w.harts i d) (get_or s.harts i d) walks.walks
+      stays_there section (code_in w.memory) walks.steps (get_or w.harts i d) (get_or s.harts i d) walks.walks
       (exited_stays (code_in w.memory) (get_or w.harts i d).pc (get_or w.harts i d).state e)
 
   same_faulted : (i : ℕ) (d : HartValue) → i < length w.harts → is_faulted (get_or w.harts i d).state ≡ true
       → get_or w.harts i d ≡ get_or s.harts i d
   same_faulted i d low e =
       let walks = leads i d low in
-      stays_there (code_in w.memory) walks.steps (get_or w.harts i d) (get_or s.harts i d) walks.walks
+      stays_there section (code_in w.memory) walks.steps (get_or w.harts i d) (get_or s.harts i d) walks.walks
       (faulted_stays (code_in w.memory) (get_or w.harts i d).pc (get_or w.harts i d).state e)
 
 -- each hart that has stopped is the same among others
@@ -86,11 +88,11 @@ pub record StopsAlike (others harts : List HartValue) : Type 0 where
   pub faulted : (i : ℕ) (d : HartValue) → i < length harts → is_faulted (get_or harts i d).state ≡ true
       → get_or harts i d ≡ get_or others i d
 
-pub covered_stops : (s w : World) → WorldCovers s w → StopsAlike s.harts w.harts
-covered_stops s w covers = record {
+pub covered_stops : (section : Option Section) (s w : World) → WorldCovers section s w → StopsAlike s.harts w.harts
+covered_stops section s w covers = record {
   count = covers.count;
-  exited = same_exited s w covers;
-  faulted = same_faulted s w covers;
+  exited = same_exited section s w covers;
+  faulted = same_faulted section s w covers;
 }
 
 module _ (others harts : List HartValue) (alike : StopsAlike others harts) where

@@ -22,6 +22,7 @@ use Rattle.outcome.specs.declared.expect.Exit.TheVariants.{May}
 use Rattle.explore_laws.specs.Covering.{WorldCovers}
 use Rattle.explore_space.specs.Places.{hart_in}
 use Rattle.explore_space.proofs.PassLemmas.{stays_there, leads, not_broken}
+use Rattle.explore_laws.specs.declared.section.Section.{Section}
 
 none_at : (n : ℕ) → ltb 0 n ≡ false → n ≡ 0
 none_at zero e = refl
@@ -37,13 +38,13 @@ all_stay [] none code i d low = absurd (omega (arith, low))
 all_stay (h ∷ hs) none code zero d low = stopped_stays h.state code h.pc (omega (arith, none))
 all_stay (h ∷ hs) none code (suc i) d low = all_stay hs (omega (arith, none)) code i d (omega (arith, low))
 
-pub same_harts : (s w : World) → WorldCovers s w → some_run w.harts ≡ false → s.harts ≡ w.harts
-same_harts s w covers stopped =
+pub same_harts : (section : Option Section) (s w : World) → WorldCovers section s w → some_run w.harts ≡ false → s.harts ≡ w.harts
+same_harts section s w covers stopped =
     let code = code_in w.memory in
     let none = none_at (counted end.Running w.harts) stopped in
     sym (ext_get_or (hart_in None) w.harts s.harts (sym covers.count) (λ i low.
-    let walks = leads s w covers i (hart_in None) low in
-    stays_there code walks.steps (get_or w.harts i (hart_in None)) (get_or s.harts i (hart_in None)) walks.walks
+    let walks = leads section s w covers i (hart_in None) low in
+    stays_there section code walks.steps (get_or w.harts i (hart_in None)) (get_or s.harts i (hart_in None)) walks.walks
     (all_stay w.harts none code i (hart_in None) low)))
 
 -- runs that haven't failed have the same outcome where they left the same harts

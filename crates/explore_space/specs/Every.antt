@@ -1,5 +1,5 @@
 -- What every schedule of a program does.
-use Rattle.std.specs.Prelude.{◌≡◌, ◌≢◌, ℕ, zero, suc, ◌<◌, Bool, true, false, ◌||◌, List, [], ◌∷◌, ◌++◌, length, Option}
+use Rattle.std.specs.Prelude.{◌≡◌, ◌≢◌, ℕ, zero, suc, ◌<◌, Bool, true, false, ◌||◌, List, [], ◌∷◌, ◌++◌, length, Option, None}
 use Rattle.std.specs.List.{All, AllPairs, Contains}
 use Rattle.image.specs.Image.{ImageValue}
 use Rattle.machine.specs.Start.{started}
@@ -49,10 +49,10 @@ pub record FailsFirst (meant : List Choice) (first : World) (is_failing : List C
   pub turns : List Choice
   pub meant_turns : IsListOf meant turns
   pub count_is : length turns ≡ count
-  pub choices_are : choices ≡ choices_from_start first turns
+  pub choices_are : choices ≡ choices_from_start None first turns
   pub meant_ones : IsListOf meant choices
   pub fails : is_failing choices ≡ true
-  pub fewest : (other : List Choice) → IsListOf meant other → length other < count → is_failing (choices_from_start first other) ≡ false
+  pub fewest : (other : List Choice) → IsListOf meant other → length other < count → is_failing (choices_from_start None first other) ≡ false
   pub shortest : (other : List Choice) → IsListOf meant other → length other < count → is_failing other ≡ false
 
 -- an answer holds of every schedule: no list of the harts' choices fails, or this one does; where
@@ -71,11 +71,11 @@ HoldsOfEvery rule always refusals image inputs Undecided = Unit {0}
 -- it is undecided
 abbrev pub CountsPlaces : {Z : Type 0} → ScRefusals → ImageValue → List ℕ → ℕ → Answer Z → Type 0
 CountsPlaces refusals image inputs most (Holds held) =
-    HasPlaces (meant_choices refusals (length inputs)) (place_begun (settled_start (started image inputs))) held.places
+    HasPlaces (meant_choices refusals (length inputs)) (place_begun None (settled_start None (started image inputs))) held.places
 CountsPlaces refusals image inputs most (Fails failing) = Unit {0}
 CountsPlaces refusals image inputs most (Hangs hanging) = Unit {0}
 CountsPlaces refusals image inputs most Undecided =
-    HasMorePlaces (meant_choices refusals (length inputs)) (place_begun (settled_start (started image inputs))) most
+    HasMorePlaces (meant_choices refusals (length inputs)) (place_begun None (settled_start None (started image inputs))) most
 
 -- no hart runs after a list of choices from a program's start
 abbrev pub StopsAll : ImageValue → List ℕ → List Choice → Type 0
@@ -121,11 +121,11 @@ pub record HangsFirst (meant : List Choice) (first : World) (choices : List Choi
   pub turns : List Choice
   pub meant_turns : IsListOf meant turns
   pub count_is : length turns ≡ count
-  pub choices_are : choices ≡ choices_from_start first turns
+  pub choices_are : choices ≡ choices_from_start None first turns
   pub meant_ones : IsListOf meant choices
   pub hangs : HasExit meant (run first choices) → ⊥
   pub fewest : (other : List Choice) → IsListOf meant other → length other < count
-      → HasExit meant (run first (choices_from_start first other))
+      → HasExit meant (run first (choices_from_start None first other))
   pub shortest : (other : List Choice) → IsListOf meant other → length other < count
       → HasExit meant (run first other)
 

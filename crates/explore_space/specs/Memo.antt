@@ -1,5 +1,5 @@
 -- Answers that are kept under keys, and what is kept of steps and of rests, by the numbers of parts.
-use Rattle.std.specs.Prelude.{◌≡◌, ℕ, ◌<◌, ◌⊎◌, if◌then◌else◌, List, [], ◌∷◌, Some, length, slice_get}
+use Rattle.std.specs.Prelude.{◌≡◌, ℕ, ◌<◌, ◌⊎◌, if◌then◌else◌, List, [], ◌∷◌, Some, length, slice_get, None}
 use Rattle.image.specs.Image.{ImageValue}
 use Rattle.mem_store.specs.Image.{image_memory}
 use Rattle.hart_step.specs.declared.hart.Hart.{Hart}
@@ -38,4 +38,4 @@ pub record AreSteps {Z : Type 0} (image : ImageValue) (harts : List Hart) (share
 pub record AreRests (image : ImageValue) (harts : List Hart) (keys answers : List (List ℕ)) : Type 0 where
   pub each : (at id after : ℕ) → HasAnswer keys answers at (id ∷ []) (after ∷ [])
       → (id < length harts) × (after < length harts)
-      × (hart_numbered harts after ≡ rested (code_in (image_memory image)) at_once (hart_numbered harts id))
+      × (hart_numbered harts after ≡ rested None (code_in (image_memory image)) at_once (hart_numbered harts id))

@@ -53,6 +53,7 @@ world_of_key image n harts shareds key = record {
 -- its place
 abbrev pub place_of_key : {Z : Type 0} → ImageValue → ℕ → List Hart → List (Shared Z) → List ℕ → Place
 place_of_key image n harts shareds key = record {
+  section = None;
   world = world_of_key image n harts shareds key;
   chosen = λ k. slice_index key (n + 1 + k) == 1;
 }

@@ -1,5 +1,5 @@
 //! The key of the place in which turns start, and the steps that harts have taken there.
-ghost use Rattle.std.specs.Prelude.{◌≡◌, ◌<◌, ℕ, Some, IfOk, length, slice_get, slice_index};
+ghost use Rattle.std.specs.Prelude.{◌≡◌, ◌<◌, ℕ, Some, IfOk, length, slice_get, slice_index, None};
 ghost use Rattle.mem_store.specs.Image.{image_memory, segments_memory};
 ghost use Rattle.hart_local.specs.CodeMemory.{code_in};
 ghost use Rattle.machine.specs.Start.{started};
@@ -73,10 +73,10 @@ pub fn begun_key<A: Allocator + Copy>(
 ) -> Result<Vec<u32, A>, AllocError>
     requires its_code { segments_memory code.now ≡ code_in (image_memory image.now) }
     requires is { IsKeyOf image.now (length inputs.now) harts.old.parts.items shareds.now key.items
-        (place_begun (started image.now inputs.now)) }
+        (place_begun None (started image.now inputs.now)) }
     requires kept { AreRests image.now harts.old.parts.items rests.old.keys rests.old.answers }
     ensures key { IfOk result (λ next. IsKeyOf image.now (length inputs.now) harts.new.parts.items shareds.now next.items
-        (place_begun (settled_start (started image.now inputs.now)))) }
+        (place_begun None (settled_start None (started image.now inputs.now)))) }
     ensures known { AreRests image.now harts.new.parts.items rests.new.keys rests.new.answers }
 {
     let count = inputs.harts() as usize;
@@ -92,7 +92,7 @@ pub fn begun_key<A: Allocator + Copy>(
 // How many local steps a hart takes first.
 fn steps_of_hart<A: Allocator>(hart: &Hart, code: &Code<A>) -> u32
     ensures { (w : World) (h : ℕ) → slice_get w.harts h ≡ Some (hart_of hart.now)
-        → segments_memory code.now ≡ code_in w.memory → result ≡ first_steps w h }
+        → segments_memory code.now ≡ code_in w.memory → result ≡ first_steps None w h }
 {
     let mut hart = *hart;
     let steps = settle(&mut hart, code);
@@ -107,7 +107,7 @@ pub fn begun_steps<A: Allocator + Copy>(
 ) -> Result<Vec<u32, A>, AllocError>
     ensures count { IfOk result (λ steps. length steps.items ≡ length inputs.now) }
     ensures are { IfOk result (λ steps. (h n : ℕ) → slice_get steps.items h ≡ Some n
-        → n ≡ first_steps (started image.now inputs.now) h) }
+        → n ≡ first_steps None (started image.now inputs.now) h) }
 {
     let code = Code::new(alloc, image)?;
     let harts = first_harts(alloc, image, inputs)?;

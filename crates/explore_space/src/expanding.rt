@@ -1,5 +1,5 @@
 //! The choices of turns.
-ghost use Rattle.std.specs.Prelude.{◌≡◌, ◌++◌, ◌<◌, [], if◌then◌else◌, IfOk, OnOk, length};
+ghost use Rattle.std.specs.Prelude.{◌≡◌, ◌++◌, ◌<◌, [], if◌then◌else◌, IfOk, OnOk, length, None};
 ghost use Rattle.mem_store.specs.Image.{segments_memory};
 ghost use Rattle.hart_local.specs.CodeMemory.{code_in};
 ghost use Rattle.hart_local.specs.LocalRuns.{plain_choices};
@@ -25,8 +25,8 @@ fn take_turn<A: Allocator, C: Allocator>(
     choices: &mut Vec<Choice, A>,
 ) -> Result<(), AllocError>
     requires { segments_memory code.now ≡ code_in (state machine.old).memory }
-    ensures world { OnOk result (state machine.new ≡ run (state machine.old) (turn_choices (state machine.old) turn)) }
-    ensures choices { OnOk result (choices.new.items ≡ choices.old.items ++ turn_choices (state machine.old) turn) }
+    ensures world { OnOk result (state machine.new ≡ run (state machine.old) (turn_choices None (state machine.old) turn)) }
+    ensures choices { OnOk result (choices.new.items ≡ choices.old.items ++ turn_choices None (state machine.old) turn) }
 {
     choices.push(turn)?;
     let number = turn.hart as usize;
@@ -55,9 +55,9 @@ fn take_first<A: Allocator, C: Allocator>(
 ) -> Result<(), AllocError>
     requires code { segments_memory code.now ≡ code_in (state machine.old).memory }
     requires there { number < length (state machine.old).harts }
-    ensures world { OnOk result (state machine.new ≡ hart_begun (state machine.old) number) }
+    ensures world { OnOk result (state machine.new ≡ hart_begun None (state machine.old) number) }
     ensures choices { OnOk result (choices.new.items ≡ choices.old.items
-        ++ plain_choices number (first_steps (state machine.old) number)) }
+        ++ plain_choices number (first_steps None (state machine.old) number)) }
 {
     let mut hart = *machine.hart(number as usize);
     let count = settle(&mut hart, code);
@@ -92,9 +92,9 @@ fn take_if_chosen<A: Allocator, C: Allocator>(
     requires code { segments_memory code.now ≡ code_in (state machine.old).memory }
     requires there { number < length (state machine.old).harts }
     ensures world { OnOk result (state machine.new ≡ (if is_chosen turns.now number
-        then hart_begun (state machine.old) number else state machine.old)) }
+        then hart_begun None (state machine.old) number else state machine.old)) }
     ensures choices { OnOk result (choices.new.items ≡ choices.old.items ++ (if is_chosen turns.now number
-        then plain_choices number (first_steps (state machine.old) number) else [])) }
+        then plain_choices number (first_steps None (state machine.old) number) else [])) }
 {
     if !choose(turns, number) {
         return Ok(());
@@ -112,9 +112,9 @@ fn take_all_first<A: Allocator, C: Allocator>(
 ) -> Result<(), AllocError>
     requires code { segments_memory code.now ≡ code_in (state machine.old).memory }
     requires there { length (state machine.old).harts ≡ count }
-    ensures world { OnOk result (state machine.new ≡ world_begun (state machine.old) (is_chosen turns.now) count) }
+    ensures world { OnOk result (state machine.new ≡ world_begun None (state machine.old) (is_chosen turns.now) count) }
     ensures choices { OnOk result (choices.new.items ≡ choices.old.items
-        ++ begun_choices (state machine.old) (is_chosen turns.now) count) }
+        ++ begun_choices None (state machine.old) (is_chosen turns.now) count) }
 {
     'harts: for number in 0..count {
         take_if_chosen(machine, code, number, turns, choices)?;
@@ -130,7 +130,7 @@ pub fn choices_of_turns<A: Allocator + Copy>(
     inputs: &Inputs,
     turns: &[Choice],
 ) -> Result<Vec<Choice, A>, AllocError>
-    ensures { IfOk result (λ choices. choices.items ≡ choices_from_start (started image.now inputs.now) turns.now) }
+    ensures { IfOk result (λ choices. choices.items ≡ choices_from_start None (started image.now inputs.now) turns.now) }
 {
     let code = Code::new(alloc, image)?;
     let mut machine: Machine<FlatStore<A>, A> = Machine::start(alloc, image, inputs)?;

@@ -1,5 +1,5 @@
 //! The worlds of a program.
-ghost use Rattle.std.specs.Prelude.{◌≡◌, ◌+◌, ◌==◌, ℕ, Bool, List, IfOk, length, map, slice_index, take};
+ghost use Rattle.std.specs.Prelude.{◌≡◌, ◌+◌, ◌==◌, ℕ, Bool, List, IfOk, length, map, slice_index, take, None};
 ghost use Rattle.image.specs.Image.{ImageValue};
 ghost use Rattle.mem_store.specs.Image.{image_memory, segments_memory};
 ghost use Rattle.hart_local.specs.CodeMemory.{code_in};
@@ -73,7 +73,7 @@ impl<'a, A: Allocator + Copy> Explorer<'a, A> {
     pub fn steps_in(&self, key: &[u32], turn: Choice) -> Result<u32, AllocError>
         requires { IsKey self.now.known.image.now (length self.now.inputs.now) self.now.known.harts.parts.items
             self.now.known.shareds.parts.items key.now }
-        ensures { IfOk result (λ steps. steps ≡ steps_in_turn (world_of_key self.now.known.image.now (length self.now.inputs.now)
+        ensures { IfOk result (λ steps. steps ≡ steps_in_turn None (world_of_key self.now.known.image.now (length self.now.inputs.now)
             self.now.known.harts.parts.items self.now.known.shareds.parts.items key.now) turn.hart turn) }
     {
         let count = self.inputs.harts() as usize;
@@ -124,7 +124,7 @@ impl<'a, A: Allocator + Copy> Space<A> for Explorer<'a, A> {
 
     ghost place = { λ e key. place_of_key e.known.image.now (length e.inputs.now) e.known.harts.parts.items e.known.shareds.parts.items key };
 
-    ghost first = { λ e. place_begun (settled_start (started e.known.image.now e.inputs.now)) };
+    ghost first = { λ e. place_begun None (settled_start None (started e.known.image.now e.inputs.now)) };
 
     ghost bad = { λ e p. fails_there e.rule e.always e.inputs.now p };
 

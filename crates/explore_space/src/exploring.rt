@@ -1,5 +1,5 @@
 //! Every schedule of a program.
-ghost use Rattle.std.specs.Prelude.{◌≡◌, IfOk, length};
+ghost use Rattle.std.specs.Prelude.{◌≡◌, IfOk, length, None};
 ghost use Rattle.machine.specs.Start.{started};
 ghost use Rattle.explore_laws.specs.Places.{place_begun};
 ghost use Rattle.explore_laws.specs.Safe.{IsSafe};
@@ -88,11 +88,11 @@ fn stuck_turns<A: Allocator + Copy>(
         explorer.now.known.shareds.parts.items)
         (place_of_key explorer.now.known.image.now (length explorer.now.inputs.now) explorer.now.known.harts.parts.items
         explorer.now.known.shareds.parts.items)
-        (place_begun (settled_start (started explorer.now.known.image.now explorer.now.inputs.now))) meant.now seen.now.keys seen.now.links.items }
+        (place_begun None (settled_start None (started explorer.now.known.image.now explorer.now.inputs.now))) meant.now seen.now.keys seen.now.links.items }
     requires edges { exit ≡ Must → HaveEdges (place_of_key explorer.now.known.image.now (length explorer.now.inputs.now)
         explorer.now.known.harts.parts.items explorer.now.known.shareds.parts.items) meant.now seen.now.keys seen.now.rows }
     ensures { IfOk result (λ found. AnswersExit exit meant.now
-        (place_begun (settled_start (started explorer.now.known.image.now explorer.now.inputs.now))) found) }
+        (place_begun None (settled_start None (started explorer.now.known.image.now explorer.now.inputs.now))) found) }
 {
     match exit {
         Exit::May => Ok(None),
@@ -107,7 +107,7 @@ fn choices_and_turns<A: Allocator + Copy>(
     inputs: &Inputs,
     turns: &[Choice],
 ) -> Result<Failing<A>, AllocError>
-    ensures choices { IfOk result (λ list. list.choices.items ≡ choices_from_start (started image.now inputs.now) turns.now) }
+    ensures choices { IfOk result (λ list. list.choices.items ≡ choices_from_start None (started image.now inputs.now) turns.now) }
     ensures turns { IfOk result (λ list. length turns.now ≡ list.turns) }
 {
     Ok(Failing {
@@ -128,21 +128,21 @@ fn safe_answer<A: Allocator + Copy>(
     question: Question,
 ) -> Result<Answer<A>, AllocError>
     requires meant { meant.now ≡ meant_choices question.refusals (length inputs.now) }
-    requires first { place_begun (settled_start (started explorer.now.known.image.now explorer.now.inputs.now))
-        ≡ place_begun (settled_start (started image.now inputs.now)) }
-    requires safe { IsSafe meant.now (place_begun (settled_start (started image.now inputs.now)))
+    requires first { place_begun None (settled_start None (started explorer.now.known.image.now explorer.now.inputs.now))
+        ≡ place_begun None (settled_start None (started image.now inputs.now)) }
+    requires safe { IsSafe meant.now (place_begun None (settled_start None (started image.now inputs.now)))
         (fails_there question.expect.rule question.always inputs.now) }
-    requires counts { HasPlaces meant.now (place_begun (settled_start (started image.now inputs.now))) (length seen.now.keys) }
+    requires counts { HasPlaces meant.now (place_begun None (settled_start None (started image.now inputs.now))) (length seen.now.keys) }
     requires seen { AreAllSeen (IsKey explorer.now.known.image.now (length explorer.now.inputs.now) explorer.now.known.harts.parts.items
         explorer.now.known.shareds.parts.items)
         (place_of_key explorer.now.known.image.now (length explorer.now.inputs.now) explorer.now.known.harts.parts.items
         explorer.now.known.shareds.parts.items)
-        (place_begun (settled_start (started explorer.now.known.image.now explorer.now.inputs.now))) meant.now seen.now.keys seen.now.links.items }
+        (place_begun None (settled_start None (started explorer.now.known.image.now explorer.now.inputs.now))) meant.now seen.now.keys seen.now.links.items }
     requires reaches { AreAllReached (IsKey explorer.now.known.image.now (length explorer.now.inputs.now) explorer.now.known.harts.parts.items
         explorer.now.known.shareds.parts.items)
         (place_of_key explorer.now.known.image.now (length explorer.now.inputs.now) explorer.now.known.harts.parts.items
         explorer.now.known.shareds.parts.items) meant.now
-        (place_begun (settled_start (started explorer.now.known.image.now explorer.now.inputs.now))) seen.now.keys }
+        (place_begun None (settled_start None (started explorer.now.known.image.now explorer.now.inputs.now))) seen.now.keys }
     requires exit_edges { question.expect.exit ≡ Must → HaveEdges (place_of_key explorer.now.known.image.now
         (length explorer.now.inputs.now) explorer.now.known.harts.parts.items explorer.now.known.shareds.parts.items)
         meant.now seen.now.keys seen.now.rows }

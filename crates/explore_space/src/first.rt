@@ -1,5 +1,5 @@
 //! The first key.
-ghost use Rattle.std.specs.Prelude.{◌≡◌, ◌<◌, ◌≤◌, ◌+◌, ◌*◌, ℕ, IfOk, length, map, slice_index};
+ghost use Rattle.std.specs.Prelude.{◌≡◌, ◌<◌, ◌≤◌, ◌+◌, ◌*◌, ℕ, IfOk, length, map, slice_index, None};
 ghost use Rattle.hart_step.specs.Hart.{hart_of};
 ghost use Rattle.machine.specs.Start.{started};
 ghost use Rattle.explore_laws.specs.Places.{place_begun};
@@ -54,7 +54,7 @@ pub fn first_parts<A: Allocator + Copy>(
     shareds: &mut Kept<Shared<A>, A>,
 ) -> Result<Vec<u32, A>, AllocError>
     ensures { IfOk result (λ key. IsKeyOf image.now (length inputs.now) harts.new.parts.items shareds.new.parts.items key.items
-        (place_begun (started image.now inputs.now))) }
+        (place_begun None (started image.now inputs.now))) }
 {
     if image.entry() % 4 != 0 {
         return Err(AllocError);

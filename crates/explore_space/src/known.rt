@@ -1,5 +1,5 @@
 //! What is known of a program's worlds.
-ghost use Rattle.std.specs.Prelude.{◌≡◌, ◌<◌, List, ℕ, IfOk, length};
+ghost use Rattle.std.specs.Prelude.{◌≡◌, ◌<◌, List, ℕ, IfOk, length, None};
 ghost use Rattle.mem_store.specs.Image.{image_memory, segments_memory};
 ghost use Rattle.hart_local.specs.CodeMemory.{code_in};
 ghost use Rattle.machine.specs.Start.{started};
@@ -64,7 +64,7 @@ impl<'a, A: Allocator + Copy> Known<'a, A> {
     ) -> Result<Vec<u32, A>, AllocError>
         requires { segments_memory code.now ≡ code_in (image_memory self.old.image.now) }
         ensures key { IfOk result (λ key. IsKeyOf self.new.image.now (length inputs.now) self.new.harts.parts.items
-            self.new.shareds.parts.items key.items (place_begun (settled_start (started self.old.image.now inputs.now)))) }
+            self.new.shareds.parts.items key.items (place_begun None (settled_start None (started self.old.image.now inputs.now)))) }
         ensures image { self.new.image.now ≡ self.old.image.now }
     {
         self.steps = Memo::new(alloc)?;

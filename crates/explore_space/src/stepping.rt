@@ -1,5 +1,5 @@
 //! Keys after a choice.
-ghost use Rattle.std.specs.Prelude.{◌≡◌, if◌then◌else◌, ◌<◌, IfOk, length};
+ghost use Rattle.std.specs.Prelude.{◌≡◌, if◌then◌else◌, ◌<◌, IfOk, length, None};
 ghost use Rattle.mem_store.specs.Image.{image_memory, segments_memory};
 ghost use Rattle.hart_step.specs.Hart.{hart_of};
 ghost use Rattle.hart_local.specs.CodeMemory.{code_in};
@@ -136,7 +136,7 @@ fn known_rest<A: Allocator + Copy>(
     requires kept { AreRests image.now harts.old.parts.items rests.old.keys rests.old.answers }
     ensures there { IfOk result (λ after. after < length harts.new.parts.items) }
     ensures rests { IfOk result (λ after. hart_numbered harts.new.parts.items after
-        ≡ rested (code_in (image_memory image.now)) at_once (hart_numbered harts.old.parts.items id)) }
+        ≡ rested None (code_in (image_memory image.now)) at_once (hart_numbered harts.old.parts.items id)) }
     ensures harts_go { GoesOn harts.old.parts.items harts.new.parts.items }
     ensures once { HartsDiffer harts.old.parts.items → HartsDiffer harts.new.parts.items }
     ensures kept { AreRests image.now harts.new.parts.items rests.new.keys rests.new.answers }
@@ -231,7 +231,7 @@ pub fn steps_from<A: Allocator + Copy>(
     requires its_code { segments_memory code.now ≡ code_in (image_memory image.now) }
     requires there { turn.hart < 32 }
     ensures { IfOk result (λ steps. (w : World) → ShowsHart image.now w turn.hart (hart_of hart.now) shared.now
-        → steps ≡ steps_in_turn w turn.hart turn) }
+        → steps ≡ steps_in_turn None w turn.hart turn) }
 {
     match hart.state {
         HartState::Running => {}

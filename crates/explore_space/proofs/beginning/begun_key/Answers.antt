@@ -1,4 +1,4 @@
-use Rattle.std.proofs.Common.{sym, subst}
+use Rattle.std.proofs.Common.{sym, subst, None}
 use Rattle.machine.specs.Start.{started}
 use Rattle.explore_laws.specs.Places.{place_begun}
 use Rattle.explore_space.specs.Places.{IsKeyOf}
@@ -10,7 +10,7 @@ numbers-init g c =
     let w = started c.args.image.now c.args.inputs.now in
     record {
       key = begun_none c.args.image.now _ c.args.harts.now.parts.items c.args.shareds.now c.args.key.items w
-          (subst (λ n. IsKeyOf c.args.image.now n c.args.harts.now.parts.items c.args.shareds.now c.args.key.items (place_begun w))
+          (subst (λ n. IsKeyOf c.args.image.now n c.args.harts.now.parts.items c.args.shareds.now c.args.key.items (place_begun None w))
           (sym c.harts-count.ensures.harts) c.requires.is);
       known = c.requires.kept;
     }

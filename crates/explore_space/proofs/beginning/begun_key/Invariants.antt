@@ -1,4 +1,4 @@
-use Rattle.std.proofs.Common.{true}
+use Rattle.std.proofs.Common.{true, None}
 use Rattle.machine.specs.Start.{started}
 use Rattle.explore_laws.specs.Places.{place_begun}
 use Rattle.explore_space.specs.Begun.{world_begun}
@@ -10,6 +10,6 @@ use Rattle.explore_space.proofs.beginning.begun_key.Given as goal
 abbrev pub invariant-numbers : goal.invariant-numbers
 invariant-numbers g l = record {
   key : IsKeyOf l.image l.count l.harts.parts.items l.shareds l.key.items
-      (place_begun (world_begun (started l.image l.inputs) (λ h. true) l.number));
+      (place_begun None (world_begun None (started l.image l.inputs) (λ h. true) l.number));
   known : AreRests l.image l.harts.parts.items l.rests.keys l.rests.answers;
 }

@@ -1,4 +1,4 @@
-use Rattle.std.proofs.Common.{◌≡◌, List, [], ◌∷◌, ◌++◌, ap, sym, ◌∙◌, arith}
+use Rattle.std.proofs.Common.{◌≡◌, List, [], ◌∷◌, ◌++◌, ap, sym, ◌∙◌, arith, None}
 use Rattle.std.proofs.lemmas.List.{append_assoc}
 use Rattle.std.specs.List.{slice_get}
 use Rattle.mem_store.specs.Image.{segments_memory}
@@ -19,14 +19,14 @@ pub returns-then-number-harts-clause-world : goal.returns-then-number-harts-clau
 returns-then-number-harts-clause-world g c =
     let past = c.if-number-harts.true in
     let count = c.harts.ensures in
-    nobody_runs (state c.args.machine.now) c.args.turn (omega (arith, past, count))
+    nobody_runs None (state c.args.machine.now) c.args.turn (omega (arith, past, count))
 
 pub returns-then-number-harts-clause-choices : goal.returns-then-number-harts-clause-choices
 returns-then-number-harts-clause-choices g c =
     let past = c.if-number-harts.true in
     let count = c.harts.ensures in
     c.in_ok-push.ensures.items ∙ ap (λ (cs : List Choice). c.args.choices.now.items ++ cs)
-    (nobody_turns (state c.args.machine.now) c.args.turn (omega (arith, past, count)))
+    (nobody_turns None (state c.args.machine.now) c.args.turn (omega (arith, past, count)))
 
 pub returns-clause-world : goal.returns-clause-world
 returns-clause-world g c =
@@ -35,9 +35,9 @@ returns-clause-world g c =
     let code_is : segments_memory c.args.code.now ≡ code_in (state c.step.new.self).memory
     = c.requires ∙ sym (step_code w c.args.turn) ∙ ap (λ (x : World). code_in x.memory) (sym stepped_to) in
     c.put_hart.ensures
-    ∙ settles (state c.step.new.self) c.args.turn.hart (hart_of c.hart.result.now) (hart_of c.settle-count.new.hart) c.hart.ensures
-    (c.settle-count.ensures.hart ∙ ap (λ (m : Memory). rested m at_once (hart_of c.hart.result.now)) code_is)
-    ∙ ap (λ (x : World). world_settled x c.args.turn.hart) stepped_to ∙ sym (run_of_turn w c.args.turn)
+    ∙ settles None (state c.step.new.self) c.args.turn.hart (hart_of c.hart.result.now) (hart_of c.settle-count.new.hart) c.hart.ensures
+    (c.settle-count.ensures.hart ∙ ap (λ (m : Memory). rested None m at_once (hart_of c.hart.result.now)) code_is)
+    ∙ ap (λ (x : World). world_settled None x c.args.turn.hart) stepped_to ∙ sym (run_of_turn None w c.args.turn)
 
 pub returns-clause-choices : goal.returns-clause-choices
 returns-clause-choices g c =
@@ -51,6 +51,6 @@ returns-clause-choices g c =
     ∙ ap (λ (cs : List Choice). cs ++ plain_choices h c.settle-count.result) c.in_ok-push.ensures.items
     ∙ append_assoc c.args.choices.now.items (c.args.turn ∷ []) (plain_choices h c.settle-count.result)
     ∙ ap (λ n. c.args.choices.now.items ++ c.args.turn ∷ plain_choices h n)
-    (c.settle-count.ensures.steps ∙ ap (λ (m : Memory). rest_steps m at_once (hart_of c.hart.result.now)) code_is
-    ∙ ap (settling_steps (state c.step.new.self)) (sym c.hart.ensures)
-    ∙ ap (λ (x : World). settling_steps x (slice_get x.harts h)) stepped_to)
+    (c.settle-count.ensures.steps ∙ ap (λ (m : Memory). rest_steps None m at_once (hart_of c.hart.result.now)) code_is
+    ∙ ap (settling_steps None (state c.step.new.self)) (sym c.hart.ensures)
+    ∙ ap (λ (x : World). settling_steps None x (slice_get x.harts h)) stepped_to)

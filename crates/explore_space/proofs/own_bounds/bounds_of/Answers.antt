@@ -1,4 +1,4 @@
-use Rattle.std.proofs.Common.{◌+◌, length, refl, ap, sym, ◌∙◌, subst, arith}
+use Rattle.std.proofs.Common.{◌+◌, length, refl, ap, sym, ◌∙◌, subst, arith, None}
 use Rattle.std.proofs.lemmas.Option.{slice_get_read}
 use Rattle.std.proofs.lemmas.List.{length-append}
 use Rattle.machine.specs.Start.{started}
@@ -21,7 +21,7 @@ own_bound-requires-clause-some g c =
     let e = c.args.explorer.now in
     some_rows (IsKey e.known.image.now (length e.inputs.now) e.known.harts.parts.items e.known.shareds.parts.items)
     (place_of_key e.known.image.now (length e.inputs.now) e.known.harts.parts.items e.known.shareds.parts.items)
-    (place_begun (settled_start (started e.known.image.now e.inputs.now))) c.args.meant.now c.args.seen.now.keys c.args.seen.now.links.items
+    (place_begun None (settled_start None (started e.known.image.now e.inputs.now))) c.args.meant.now c.args.seen.now.keys c.args.seen.now.links.items
     c.args.seen.now.rows c.requires.seen c.requires.edges
 
 pub own_bound-requires-clause-rows : goal.own_bound-requires-clause-rows
@@ -45,7 +45,7 @@ harts-preserved g c =
     let keys = IsKey e.known.image.now (length e.inputs.now) e.known.harts.parts.items e.known.shareds.parts.items in
     let place = place_of_key e.known.image.now (length e.inputs.now) e.known.harts.parts.items e.known.shareds.parts.items in
     let start = started c.args.image.now c.args.inputs.now in
-    let first = settled_start start in
+    let first = settled_start None start in
     let hart = c.harts.hart in
     let low = c.harts-test.true in
     let end = c.harts-hart-end.ensures.harts in
@@ -55,14 +55,14 @@ harts-preserved g c =
     let led = subst (λ (p : Place). AreLedTo c.args.meant.now p place c.args.seen.now.keys) c.requires.first
     (led_from keys place _ c.args.meant.now c.args.seen.now.keys c.args.seen.now.links.items c.requires.seen c.requires.reaches) in
     let tells : TellsBound c.args.meant.now first hart c.in_ok-bound.bound
-    = c.in_ok-bound.ensures first place c.args.seen.now.keys c.requires.meant.plain (c.requires.meant.each hart (omega (arith, low, end)))
+    = c.in_ok-bound.ensures None first place c.args.seen.now.keys c.requires.meant.plain (c.requires.meant.each hart (omega (arith, low, end)))
     led c.requires.edges c.in_ok-steps.ensures in
     record {
       count = ap length c.in_ok-push.ensures.items ∙ length-append c.harts.bounds.items _ ∙ ap (λ n. n + 1) c.harts.invariant.count;
       told = told_more c.args.meant.now start c.harts.bounds.items c.push.new.self.items hart c.in_ok-later.later c.harts.invariant.count
           (subst (TellsBound c.args.meant.now start hart)
           (ap (later_by c.in_ok-bound.bound) (sym (c.in_ok-begun.ensures.are hart c.index.result.now begun_there)) ∙ sym c.in_ok-later.ensures)
-          (told_later c.args.meant.now start (λ h l. c.requires.meant.each h (omega (arith, l, len))) hart c.in_ok-bound.bound
+          (told_later None c.args.meant.now start (λ h l. c.requires.meant.each h (omega (arith, l, len))) hart c.in_ok-bound.bound
           (omega (arith, low, end, len)) (all_run c.args.image.now c.args.inputs.now) tells))
           c.harts.invariant.told c.in_ok-push.ensures.items;
     }

@@ -1,4 +1,4 @@
-use Rattle.std.proofs.Common.{◌≡◌, length, refl, ap, sym, ◌∙◌}
+use Rattle.std.proofs.Common.{◌≡◌, length, refl, ap, sym, ◌∙◌, None}
 use Rattle.std.proofs.lemmas.Option.{slice_get_read}
 use Rattle.mem_store.specs.Image.{image_memory}
 use Rattle.mem_store.specs.Memory.{Memory}
@@ -31,8 +31,8 @@ pub returns-clause-rests : goal.returns-clause-rests
 returns-clause-rests g c =
     let there = slice_get_read c.args.harts.now.parts.items (length c.args.harts.now.parts.items) c.args.id c.index.result.now refl
     c.requires.there c.index.ensures in
-    c.in_ok-after.ensures.is ∙ c.settle.ensures.hart ∙ ap (λ (m : Memory). rested m at_once (hart_of c.index.result.now)) c.requires.its_code
-    ∙ ap (λ o. rested (code_in (image_memory c.args.image.now)) at_once (hart_in o)) (sym there)
+    c.in_ok-after.ensures.is ∙ c.settle.ensures.hart ∙ ap (λ (m : Memory). rested None m at_once (hart_of c.index.result.now)) c.requires.its_code
+    ∙ ap (λ o. rested None (code_in (image_memory c.args.image.now)) at_once (hart_in o)) (sym there)
 
 pub returns-in_err-keep-clause-kept : goal.returns-in_err-keep-clause-kept
 returns-in_err-keep-clause-kept g c =
@@ -40,8 +40,8 @@ returns-in_err-keep-clause-kept g c =
     c.requires.there c.index.ensures in
     rest_kept c.args.image.now c.args.harts.now.parts.items c.keep_hart.new.harts.parts.items c.in_ok-after.ensures.goes_on _ _ _ _ c.args.id
     c.in_ok-after.after c.requires.kept c.in_err-keep.ensures c.requires.there c.in_ok-after.ensures.there
-    (c.in_ok-after.ensures.is ∙ c.settle.ensures.hart ∙ ap (λ (m : Memory). rested m at_once (hart_of c.index.result.now)) c.requires.its_code
-    ∙ ap (λ o. rested (code_in (image_memory c.args.image.now)) at_once (hart_in o)) (sym there))
+    (c.in_ok-after.ensures.is ∙ c.settle.ensures.hart ∙ ap (λ (m : Memory). rested None m at_once (hart_of c.index.result.now)) c.requires.its_code
+    ∙ ap (λ o. rested None (code_in (image_memory c.args.image.now)) at_once (hart_in o)) (sym there))
 
 pub returns-clause-kept : goal.returns-clause-kept
 returns-clause-kept g c =
@@ -49,5 +49,5 @@ returns-clause-kept g c =
     c.requires.there c.index.ensures in
     rest_kept c.args.image.now c.args.harts.now.parts.items c.keep_hart.new.harts.parts.items c.in_ok-after.ensures.goes_on _ _ _ _ c.args.id
     c.in_ok-after.after c.requires.kept c.in_ok-keep.ensures c.requires.there c.in_ok-after.ensures.there
-    (c.in_ok-after.ensures.is ∙ c.settle.ensures.hart ∙ ap (λ (m : Memory). rested m at_once (hart_of c.index.result.now)) c.requires.its_code
-    ∙ ap (λ o. rested (code_in (image_memory c.args.image.now)) at_once (hart_in o)) (sym there))
+    (c.in_ok-after.ensures.is ∙ c.settle.ensures.hart ∙ ap (λ (m : Memory). rested None m at_once (hart_of c.index.result.now)) c.requires.its_code
+    ∙ ap (λ o. rested None (code_in (image_memory c.args.image.now)) at_once (hart_in o)) (sym there))

@@ -1,4 +1,4 @@
-use Rattle.std.proofs.Common.{◌≡◌, ◌<◌, [], length, refl, ap, sym, subst, ◌∙◌, arith}
+use Rattle.std.proofs.Common.{◌≡◌, ◌<◌, [], length, refl, ap, sym, subst, ◌∙◌, arith, None}
 use Rattle.std.proofs.lemmas.List.{append-nil}
 use Rattle.std.proofs.lemmas.Option.{slice_get_read, get_or_from_slice_get}
 use Rattle.std.specs.List.{slice_index}
@@ -33,7 +33,7 @@ returns-clause-key g c =
     c.in_ok-id.ensures.harts_go ([], sym (append-nil c.args.shareds.now)) c.args.key.items _ c.requires.is c.args.number c.in_ok-id.id
     low c.in_ok-id.ensures.there refl
     (c.in_ok-id.ensures.rests
-    ∙ ap (λ i. rested (code_in (image_memory c.args.image.now)) at_once (hart_numbered c.args.harts.now.parts.items i)) (sym at))
+    ∙ ap (λ i. rested None (code_in (image_memory c.args.image.now)) at_once (hart_numbered c.args.harts.now.parts.items i)) (sym at))
     (c.in_ok-id.ensures.once once.0, once.1)
 
 pub known_rest-requires-clause-there : goal.known_rest-requires-clause-there

@@ -1,4 +1,4 @@
-use Rattle.std.proofs.Common.{refl, ap, sym, ◌∙◌}
+use Rattle.std.proofs.Common.{refl, ap, sym, ◌∙◌, None}
 use Rattle.mem_store.specs.Image.{image_memory}
 use Rattle.mem_store.specs.Memory.{Memory}
 use Rattle.hart_reservations.specs.Marks.{mark_at}
@@ -18,4 +18,4 @@ returns g c = λ w shows.
     c.in_ok-step_site.ensures.steps refl refl
     (ap (words_shown c.args.image.now) (sym (c.in_ok-cells.ensures.items ∙ c.deref.ensures.value))) refl
     (ap mark_at (sym c.marks_of-marks.ensures)) refl)
-    (c.settle.ensures.steps ∙ ap (λ (m : Memory). rest_steps m at_once (hart_of c.step_site.new.hart)) c.requires.its_code)
+    (c.settle.ensures.steps ∙ ap (λ (m : Memory). rest_steps None m at_once (hart_of c.step_site.new.hart)) c.requires.its_code)
