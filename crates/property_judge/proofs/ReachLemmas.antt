@@ -1,11 +1,11 @@
 -- A step that leaves its hart outside of the properties' reach changes nothing of what is judged.
-use Rattle.std.proofs.Common.{◌≡◌, ℕ, ◌<◌, ◌≤◌, ◌^◌, Bool, true, false, cond, ◌&&◌, nat_le, nat_lt, not, ◌||◌, ◌⊎◌, inl, inr, List, [], ◌∷◌, Option, Some, None, map, ◌∙◌, refl, ap, sym, subst, arith}
+use Rattle.std.proofs.Common.{◌≡◌, ℕ, ◌<◌, ◌≤◌, Bool, true, false, cond, ◌&&◌, nat_le, nat_lt, not, ◌⊎◌, inl, inr, List, [], ◌∷◌, Option, Some, None, map, ◌∙◌, refl, ap, sym, arith}
 use Rattle.std.proofs.lemmas.Bool.{ltb-true, ltb-false, lt-leb, le-ltb, or_cases, and_left, and_right}
 use Rattle.hart_step.specs.Hart.{HartValue}
 use Rattle.machine.specs.World.{World}
 use Rattle.property_judge.specs.Property.{is_going, is_kept_by, is_within}
 use Rattle.property_judge.specs.Judged.{judged_after}
-use Rattle.property_judge.specs.Reach.{is_elsewhere, nowhere, reach_of, reach_with, widened}
+use Rattle.property_judge.specs.Reach.{is_out_of_reach, nowhere, reach_of, reach_with, widened}
 use Rattle.property_judge.specs.declared.judged.Judged.{Judged}
 use Rattle.property_judge.specs.declared.property.Property.{Property}
 use Rattle.property_judge.specs.declared.property.Property.TheVariants.{Always, NeverBoth}
@@ -25,7 +25,7 @@ same_reach k w hart js = same_with k w hart nowhere js
 abbrev Elsewhere : Reach → ℕ → Type 0
 Elsewhere reach pc = (pc < reach.first) ⊎ (reach.last < pc)
 
-elsewhere : (reach : Reach) (hart : HartValue) → is_elsewhere reach hart ≡ true → Elsewhere reach hart.pc
+elsewhere : (reach : Reach) (hart : HartValue) → is_out_of_reach reach hart ≡ true → Elsewhere reach hart.pc
 elsewhere reach hart is = by (or_cases (nat_lt hart.pc reach.first) (nat_lt reach.last hart.pc) is)
   where
     by : (nat_lt hart.pc reach.first ≡ true) ⊎ (nat_lt reach.last hart.pc ≡ true) → Elsewhere reach hart.pc
@@ -79,13 +79,12 @@ all_stay : (k : ℕ) (w : World) (hart : HartValue) (reach : Reach) (js : List J
     → Elsewhere (reach_with reach js) hart.pc → (js ≡ map (judged_after k w hart) js) × Elsewhere reach hart.pc
 all_stay k w hart reach [] small out = (refl, out)
 all_stay k w hart reach (j ∷ js) small out =
-    let more = all_stay k w hart (widened reach j.property) js small out in
-    (
+    let more = all_stay k w hart (widened reach j.property) js small out in (
       ap (λ first. first ∷ js) (sym (stays k w hart j.property j.broken (kept_out reach j.property hart small more.1)))
-      ∙ ap (λ rest. judged_after k w hart j ∷ rest) more.0,
+          ∙ ap (λ rest. judged_after k w hart j ∷ rest) more.0,
       out_of reach j.property hart.pc small more.1,
     )
 
-pub elsewhere_all_stay : (k : ℕ) (w : World) (hart : HartValue) (js : List Judged) → hart.pc < 4294967296
-    → is_elsewhere (reach_of js) hart ≡ true → js ≡ map (judged_after k w hart) js
-elsewhere_all_stay k w hart js small out = (all_stay k w hart nowhere js small (elsewhere (reach_of js) hart out)).0
+pub all_stay_out : (k : ℕ) (w : World) (hart : HartValue) (js : List Judged) → hart.pc < 4294967296
+    → is_out_of_reach (reach_of js) hart ≡ true → js ≡ map (judged_after k w hart) js
+all_stay_out k w hart js small out = (all_stay k w hart nowhere js small (elsewhere (reach_of js) hart out)).0

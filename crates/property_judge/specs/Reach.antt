@@ -1,5 +1,5 @@
 -- Where a step may break a property.
-use Rattle.std.specs.Prelude.{ℕ, Bool, ◌||◌, nat_lt, List, [], ◌∷◌, if◌then◌else◌}
+use Rattle.std.specs.Prelude.{Bool, ◌||◌, nat_lt, List, [], ◌∷◌, if◌then◌else◌}
 use Rattle.hart_step.specs.Hart.{HartValue}
 use Rattle.property_judge.specs.declared.judged.Judged.{Judged}
 use Rattle.property_judge.specs.declared.property.Property.{Property}
@@ -7,8 +7,8 @@ use Rattle.property_judge.specs.declared.property.Property.TheVariants.{Always, 
 use Rattle.property_judge.specs.declared.reach.Reach.{Reach}
 
 -- whether a hart stands outside of a reach
-abbrev pub is_elsewhere : Reach → HartValue → Bool
-is_elsewhere reach hart = nat_lt hart.pc reach.first || nat_lt reach.last hart.pc
+abbrev pub is_out_of_reach : Reach → HartValue → Bool
+is_out_of_reach reach hart = nat_lt hart.pc reach.first || nat_lt reach.last hart.pc
 
 -- the reach of no property: from the greatest address to the least
 abbrev pub nowhere : Reach

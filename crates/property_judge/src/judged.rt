@@ -9,7 +9,7 @@ ghost use Rattle.property_judge.specs.Reach.{reach_of};
 
 use crate::judging::{holds_in, is_within};
 use crate::property::Property;
-use crate::reach::{Reach, is_elsewhere, reach_of};
+use crate::reach::{Reach, is_out_of_reach, reach_of};
 use hart_step::Hart;
 use machine::{Choice, Machine, Stopped};
 use mem_store::Store;
@@ -97,7 +97,6 @@ fn judge_after<S: Store, A: Allocator>(
 // As `judge_after`, by the properties' reach: a step that leaves its hart elsewhere costs two
 // comparisons, however many properties there are.
 #[inline]
-#[tactic(auto, using(crate::proofs::ReachLemmas::elsewhere_all_stay))]
 fn judge_in_reach<S: Store, A: Allocator>(
     machine: &Machine<S, A>,
     hart: &Hart,
@@ -109,7 +108,7 @@ fn judge_in_reach<S: Store, A: Allocator>(
     ensures { judged.new
         ≡ map (judged_after done (world S.memory machine.now) (hart_of hart.now)) judged.old }
 {
-    if is_elsewhere(reach, hart) {
+    if is_out_of_reach(reach, hart) {
         return;
     }
     judge_after(machine, hart, done, judged);

@@ -1,7 +1,7 @@
 //! Where a step may break a property.
 ghost use Rattle.std.specs.Prelude.{◌≡◌, ◌<◌, ◌^◌};
 ghost use Rattle.hart_step.specs.Hart.{hart_of};
-ghost use Rattle.property_judge.specs.Reach.{is_elsewhere, nowhere, reach_of, widened};
+ghost use Rattle.property_judge.specs.Reach.{is_out_of_reach, nowhere, reach_of, widened};
 
 use crate::judged::Judged;
 use crate::property::Property;
@@ -27,7 +27,11 @@ fn widened(reach: Reach, property: Property) -> Reach
             last: u32::MAX,
         },
         Property::NeverBoth { from, to } => Reach {
-            first: if from < reach.first { from } else { reach.first },
+            first: if from < reach.first {
+                from
+            } else {
+                reach.first
+            },
             last: if reach.last < to { to } else { reach.last },
         },
     }
@@ -49,8 +53,8 @@ pub(crate) fn reach_of(judged: &[Judged]) -> Reach
 
 /// Whether a hart stands elsewhere.
 #[inline]
-pub(crate) fn is_elsewhere(reach: Reach, hart: &Hart) -> bool
-    ensures elsewhere { result ≡ is_elsewhere reach (hart_of hart.now) }
+pub(crate) fn is_out_of_reach(reach: Reach, hart: &Hart) -> bool
+    ensures elsewhere { result ≡ is_out_of_reach reach (hart_of hart.now) }
     ensures word { hart.now.pc < 2 ^ 32 }
 {
     hart.pc < reach.first || reach.last < hart.pc
