@@ -2,7 +2,7 @@
 
 ghost use Rattle.std.specs.Prelude.{◌+◌, ◌-◌, ◌<◌, ◌^◌, IfOk};
 
-use crate::campaign::{read_expect, why_no_report};
+use crate::campaign::{form_of, read_expect, why_no_report};
 use byte_io::{Progress, Source, Status, WriterSink};
 use cli_orders::CampaignOrder;
 use cli_report::{Audience, RunFiles, WIPE, bad_line, inputs_said, open_one, say_why, wipe_line};
@@ -42,10 +42,10 @@ fn refuse_others<R: Print + Eprint>(rt: &R, order: &CampaignOrder) -> Result<(),
             "--preemptions draws no choices and uses one thread: --schedule, --refusals and --jobs don't go with it",
         ));
     }
-    if order.until_failure || order.has_properties() || order.json {
+    if order.until_failure || order.has_properties() {
         return Err(bad_line(
             rt,
-            "--until-failure, --never-both, --always and --json don't go with --preemptions",
+            "--until-failure, --never-both and --always don't go with --preemptions",
         ));
     }
     if order.choices_of.is_some() && (order.first.is_some() || order.count.is_some()) {
@@ -89,6 +89,7 @@ fn read_bounded<R: Print + Eprint>(
         preemptions: numbers.preemptions,
         expect,
         report,
+        form: form_of(order),
     })
 }
 

@@ -123,7 +123,7 @@ fn read_campaign<R: Print + Eprint>(rt: &R, order: &CampaignOrder) -> Result<Cam
 }
 
 // In which form an order's report is printed.
-fn form_of(order: &CampaignOrder) -> Form {
+pub(crate) fn form_of(order: &CampaignOrder) -> Form {
     if order.json { Form::Json } else { Form::Text }
 }
 

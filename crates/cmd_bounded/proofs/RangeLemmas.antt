@@ -2,6 +2,7 @@
 use Rattle.std.proofs.Common.{◌≡◌, ℕ, zero, suc, ◌+◌, ◌-◌, ◌≤◌, ◌<◌, ◌||◌, Bool, true, false, cond, List, [], ◌∷◌, take, drop, length, Option, Some, None, append-nil, append_assoc, refl, arith, ap, sym, subst, ◌∙◌}
 use Rattle.outcome.specs.declared.expect.Exit.{Exit}
 use Rattle.campaign_bounded.specs.Walk.{Led}
+use Rattle.cmd_form.specs.declared.form.Form.{Form}
 use Rattle.campaign_runs.specs.Ending.{ending_breaks}
 use Rattle.campaign_runs.specs.Runs.{SeedEnding, seed_ending}
 use Rattle.campaign_runs.specs.declared.seed_run.SeedEnd.{SeedEnd}
@@ -17,7 +18,7 @@ use Rattle.cmd_bounded.specs.Runs.{endings_from, schedule_ending, GivesEnd}
 use Rattle.cmd_bounded.specs.Told.{ToldValue, TellsRange, failed_number, rows_with, told_after, told_with}
 use Rattle.cmd_bounded.specs.declared.bounded.BoundedCampaign.{BoundedCampaign}
 
-module _ (report : Report) (exit : Exit) where
+module _ (form : Form) (report : Report) (exit : Exit) where
   rows-more : (report : Report) (rows : List TallyRow) (end : SeedEnding) (more : List SeedEnding)
       → tally_onto (rows_with report rows end) (counted_of report more) ≡ tally_onto rows (counted_of report (end ∷ more))
   rows-more Lines rows end more = refl
@@ -41,9 +42,9 @@ module _ (report : Report) (exit : Exit) where
 
   -- one run and then more
   pub told-more : (v : ToldValue) (end : SeedEnding) (more : List SeedEnding)
-      → told_after report exit (told_with report exit v end) more ≡ told_after report exit v (end ∷ more)
+      → told_after form report exit (told_with form report exit v end) more ≡ told_after form report exit v (end ∷ more)
   told-more v end more = λ i. record {
-    text = append_assoc v.text (schedule_part report exit end) (schedule_parts report exit more) i;
+    text = append_assoc v.text (schedule_part form report exit end) (schedule_parts form report exit more) i;
     rows = rows-more report v.rows end more i;
     is_broken = or-assoc v.is_broken (ending_breaks end.ending) (any_breaks more) i;
     first_failure = first-more v.first_failure end more i;
@@ -65,7 +66,7 @@ module _ (report : Report) (exit : Exit) where
   first-none (Some n) = refl
 
   -- no more
-  pub told-none : (v : ToldValue) → told_after report exit v [] ≡ v
+  pub told-none : (v : ToldValue) → told_after form report exit v [] ≡ v
   told-none v = λ i. record {
     text = append-nil v.text i;
     rows = rows-none report v.rows i;
@@ -100,8 +101,8 @@ module _ (campaign : BoundedCampaign) (inputs : List ℕ) where
 
   -- so many of the runs are told
   pub record SoFar (all rest : List Led) (before now : ToldValue) (done : ℕ) : Type 0 where
-    pub told : told_after campaign.report campaign.expect.exit now (ends_of (campaign.first + done) (campaign.count - done) rest)
-        ≡ told_after campaign.report campaign.expect.exit before (ends_of campaign.first campaign.count all)
+    pub told : told_after campaign.form campaign.report campaign.expect.exit now (ends_of (campaign.first + done) (campaign.count - done) rest)
+        ≡ told_after campaign.form campaign.report campaign.expect.exit before (ends_of campaign.first campaign.count all)
     pub number : done + length (take (campaign.count - done) rest) ≡ length (take campaign.count all)
     pub left : drop (campaign.count - done) rest ≡ drop campaign.count all
     pub few : seeds_in now.rows ≤ done
@@ -118,16 +119,16 @@ module _ (campaign : BoundedCampaign) (inputs : List ℕ) where
       whole n = omega arith
 
       from_first : campaign.first + 0 ≡ campaign.first → campaign.count - 0 ≡ campaign.count
-          → told_after campaign.report campaign.expect.exit before (ends_of (campaign.first + 0) (campaign.count - 0) all)
-          ≡ told_after campaign.report campaign.expect.exit before (ends_of campaign.first campaign.count all)
-      from_first a b = ap (λ n. told_after campaign.report campaign.expect.exit before (ends_of n (campaign.count - 0) all)) a
-          ∙ ap (λ n. told_after campaign.report campaign.expect.exit before (ends_of campaign.first n all)) b
+          → told_after campaign.form campaign.report campaign.expect.exit before (ends_of (campaign.first + 0) (campaign.count - 0) all)
+          ≡ told_after campaign.form campaign.report campaign.expect.exit before (ends_of campaign.first campaign.count all)
+      from_first a b = ap (λ n. told_after campaign.form campaign.report campaign.expect.exit before (ends_of n (campaign.count - 0) all)) a
+          ∙ ap (λ n. told_after campaign.form campaign.report campaign.expect.exit before (ends_of campaign.first n all)) b
 
   module _ (all old new : List Led) (before was now : ToldValue) (done : ℕ) (so_far : SoFar all old before was done) where
     -- one more
     pub goes_on : (led : Led) (end : SeedEnding) → done < campaign.count → old ≡ led ∷ new
         → end ≡ schedule_ending campaign inputs (campaign.first + done) led
-        → now ≡ told_with campaign.report campaign.expect.exit was end → SoFar all new before now (done + 1)
+        → now ≡ told_with campaign.form campaign.report campaign.expect.exit was end → SoFar all new before now (done + 1)
     goes_on led end there is ended adds =
         let k : campaign.count - done ≡ suc (campaign.count - (done + 1)) = omega (arith, there) in
         let e : take (campaign.count - done) old ≡ led ∷ take (campaign.count - (done + 1)) new
@@ -137,12 +138,12 @@ module _ (campaign : BoundedCampaign) (inputs : List ℕ) where
         let n : campaign.first + done + 1 ≡ campaign.first + (done + 1) = omega arith in
         let l = ap length e in
         record {
-          told = ap (λ v. told_after campaign.report campaign.expect.exit v
-              (ends_of (campaign.first + (done + 1)) (campaign.count - (done + 1)) new)) (adds ∙ ap (told_with campaign.report campaign.expect.exit was) ended)
-              ∙ told-more campaign.report campaign.expect.exit was (schedule_ending campaign inputs (campaign.first + done) led) _
-              ∙ ap (λ m. told_after campaign.report campaign.expect.exit was
+          told = ap (λ v. told_after campaign.form campaign.report campaign.expect.exit v
+              (ends_of (campaign.first + (done + 1)) (campaign.count - (done + 1)) new)) (adds ∙ ap (told_with campaign.form campaign.report campaign.expect.exit was) ended)
+              ∙ told-more campaign.form campaign.report campaign.expect.exit was (schedule_ending campaign inputs (campaign.first + done) led) _
+              ∙ ap (λ m. told_after campaign.form campaign.report campaign.expect.exit was
               (schedule_ending campaign inputs (campaign.first + done) led ∷ ends_of m (campaign.count - (done + 1)) new)) (sym n)
-              ∙ ap (λ ls. told_after campaign.report campaign.expect.exit was (endings_from campaign inputs (campaign.first + done) ls)) (sym e)
+              ∙ ap (λ ls. told_after campaign.form campaign.report campaign.expect.exit was (endings_from campaign inputs (campaign.first + done) ls)) (sym e)
               ∙ so_far.told;
           number = let h = so_far.number in omega (arith, l, h);
           left = sym d ∙ so_far.left;
@@ -152,7 +153,7 @@ module _ (campaign : BoundedCampaign) (inputs : List ℕ) where
     -- the same where one was given
     pub one_told : {Z : Type 0} (next : Option (SeedEnd Z)) (end : SeedEnd Z) → next ≡ Some end
         → GivesEnd campaign inputs (campaign.first + done) next old new → done < campaign.count
-        → now ≡ told_with campaign.report campaign.expect.exit was (seed_ending end) → SoFar all new before now (done + 1)
+        → now ≡ told_with campaign.form campaign.report campaign.expect.exit was (seed_ending end) → SoFar all new before now (done + 1)
     one_told next end is gives there adds =
         let given : GivesEnd campaign inputs (campaign.first + done) (Some end) old new
         = subst (λ o. GivesEnd campaign inputs (campaign.first + done) o old new) is gives in
@@ -167,8 +168,8 @@ module _ (campaign : BoundedCampaign) (inputs : List ℕ) where
         let l = ap length t in
         let h = so_far.number in
         record {
-          told = sym (told-none campaign.report campaign.expect.exit was)
-              ∙ ap (λ ls. told_after campaign.report campaign.expect.exit was (endings_from campaign inputs (campaign.first + done) ls)) (sym t)
+          told = sym (told-none campaign.form campaign.report campaign.expect.exit was)
+              ∙ ap (λ ls. told_after campaign.form campaign.report campaign.expect.exit was (endings_from campaign inputs (campaign.first + done) ls)) (sym t)
               ∙ so_far.told;
           number = omega (arith, l, h);
           left = sym d ∙ so_far.left;
@@ -183,8 +184,8 @@ module _ (campaign : BoundedCampaign) (inputs : List ℕ) where
         let l = ap length t in
         let h = so_far.number in
         record {
-          told = sym (told-none campaign.report campaign.expect.exit was)
-              ∙ ap (λ ls. told_after campaign.report campaign.expect.exit was (endings_from campaign inputs (campaign.first + done) ls)) (sym t)
+          told = sym (told-none campaign.form campaign.report campaign.expect.exit was)
+              ∙ ap (λ ls. told_after campaign.form campaign.report campaign.expect.exit was (endings_from campaign inputs (campaign.first + done) ls)) (sym t)
               ∙ so_far.told;
           number = omega (arith, l, h, whole);
           left = sym d ∙ so_far.left;

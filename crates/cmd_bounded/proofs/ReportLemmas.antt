@@ -26,18 +26,18 @@ module _ (campaign : BoundedCampaign) (inputs : List ℕ) where
   pub range_reported : (old new : List Led) (count : ℕ) (before after : ToldValue) (lines text : List ℕ) (finished : Finished)
       → before ≡ nothing_told → TellsRange campaign inputs old count before after new
       → finished.status ≡ status_by after.is_broken (is_some after.first_failure) → finished.first_failure ≡ after.first_failure
-      → lines ≡ after.text ++ schedules_entries after.rows → text ≡ lines ++ covered_line campaign count new
+      → lines ≡ after.text ++ schedules_entries campaign.form after.rows → text ≡ lines ++ covered_line campaign count new
       → (text, finished) ≡ reported_range campaign inputs old
   unfolding reported_range
   range_reported old new count before after lines text finished empty tells status first rows covered =
       let ends = range_ends old in
-      let v : after ≡ told_after campaign.report campaign.expect.exit nothing_told ends
-      = tells.told ∙ ap (λ b. told_after campaign.report campaign.expect.exit b ends) empty in
+      let v : after ≡ told_after campaign.form campaign.report campaign.expect.exit nothing_told ends
+      = tells.told ∙ ap (λ b. told_after campaign.form campaign.report campaign.expect.exit b ends) empty in
       let n : count ≡ length ends = tells.number ∙ sym (length-endings campaign.first (take campaign.count old)) in
-      let body : lines ≡ schedule_parts campaign.report campaign.expect.exit ends ++ schedules_entries (tally_of (counted_of campaign.report ends))
-      = rows ∙ ap (λ (u : ToldValue). u.text ++ schedules_entries u.rows) v in
+      let body : lines ≡ schedule_parts campaign.form campaign.report campaign.expect.exit ends ++ schedules_entries campaign.form (tally_of (counted_of campaign.report ends))
+      = rows ∙ ap (λ (u : ToldValue). u.text ++ schedules_entries campaign.form u.rows) v in
       let whole = covered ∙ ap (λ ls. ls ++ covered_line campaign count new) body
-      ∙ ap₂ (λ c left. (schedule_parts campaign.report campaign.expect.exit ends ++ schedules_entries (tally_of (counted_of campaign.report ends)))
+      ∙ ap₂ (λ c left. (schedule_parts campaign.form campaign.report campaign.expect.exit ends ++ schedules_entries campaign.form (tally_of (counted_of campaign.report ends)))
       ++ covered_line campaign c left) n tells.left in
       λ i. (
         whole i,

@@ -19,8 +19,8 @@ use Rattle.cmd_bounded.specs.declared.bounded.BoundedCampaign.{BoundedCampaign}
 -- the report of runs and what they cover, and their end
 abbrev pub reported_runs : BoundedCampaign → List SeedEnding → List Led → List ℕ × Finished
 reported_runs campaign ends left = (
-  (schedule_parts campaign.report campaign.expect.exit ends
-      ++ schedules_entries (tally_of (counted_of campaign.report ends)))
+  (schedule_parts campaign.form campaign.report campaign.expect.exit ends
+      ++ schedules_entries campaign.form (tally_of (counted_of campaign.report ends)))
       ++ covered_line campaign (length ends) left,
   finished_of campaign.expect.exit ends,
 )

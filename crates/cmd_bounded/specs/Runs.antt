@@ -8,7 +8,6 @@ use Rattle.campaign_bounded.specs.Bounded.{schedules}
 use Rattle.campaign_bounded.specs.Fair.{fair_end}
 use Rattle.campaign_bounded.specs.Walk.{Led, led_from, led_of}
 use Rattle.campaign_bounded.specs.declared.schedule.Schedule.{Schedule}
-use Rattle.cmd_form.specs.declared.form.Form.TheVariants.{Text}
 use Rattle.campaign_runs.specs.Ending.{EndingValue, ending_with}
 use Rattle.campaign_runs.specs.Runs.{SeedEnding, seed_ending}
 use Rattle.campaign_runs.specs.declared.seed_run.SeedEnd.{SeedEnd}
@@ -21,7 +20,7 @@ every_schedule campaign image inputs = led_from (started image inputs)
 
 -- how the run over a list of choices ended that led to a world
 abbrev pub ending_of_led : BoundedCampaign → List ℕ → Led → EndingValue
-ending_of_led campaign inputs led = ending_with Text campaign.report
+ending_of_led campaign inputs led = ending_with campaign.form campaign.report
     (judged campaign.expect.rule inputs led.choices led.world.harts) [] led.world.harts
 
 -- a schedule with its fair tail

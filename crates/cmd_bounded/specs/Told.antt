@@ -2,6 +2,7 @@
 use Rattle.std.specs.Prelude.{◌≡◌, ℕ, Bool, false, ◌||◌, List, [], ◌++◌, take, drop, length, Option, Some, None, string_bytes, if◌then◌else◌}
 use Rattle.outcome.specs.declared.expect.Exit.{Exit}
 use Rattle.campaign_bounded.specs.Walk.{Led}
+use Rattle.cmd_form.specs.declared.form.Form.{Form}
 use Rattle.campaign_runs.specs.Ending.{ending_breaks}
 use Rattle.campaign_runs.specs.Runs.{SeedEnding}
 use Rattle.campaign_runs.specs.Tally.{TallyRow, add_seed, tally_onto, tally_rows}
@@ -48,18 +49,18 @@ abbrev pub failed_number : Exit → SeedEnding → Option ℕ
 failed_number exit end = if has_failed exit end then Some end.seed else None
 
 -- one more run
-abbrev pub told_with : Report → Exit → ToldValue → SeedEnding → ToldValue
-told_with report exit told end = record {
-  text = told.text ++ schedule_part report exit end;
+abbrev pub told_with : Form → Report → Exit → ToldValue → SeedEnding → ToldValue
+told_with form report exit told end = record {
+  text = told.text ++ schedule_part form report exit end;
   rows = rows_with report told.rows end;
   is_broken = told.is_broken || ending_breaks end.ending;
   first_failure = first_or told.first_failure (failed_number exit end);
 }
 
 -- more runs
-abbrev pub told_after : Report → Exit → ToldValue → List SeedEnding → ToldValue
-told_after report exit told ends = record {
-  text = told.text ++ schedule_parts report exit ends;
+abbrev pub told_after : Form → Report → Exit → ToldValue → List SeedEnding → ToldValue
+told_after form report exit told ends = record {
+  text = told.text ++ schedule_parts form report exit ends;
   rows = tally_onto told.rows (counted_of report ends);
   is_broken = told.is_broken || any_breaks ends;
   first_failure = first_or told.first_failure (first_failure exit ends);
@@ -67,7 +68,7 @@ told_after report exit told ends = record {
 
 -- the runs over the schedules of a range are told, and their number is given; the others are left
 pub record TellsRange (campaign : BoundedCampaign) (inputs : List ℕ) (old : List Led) (count : ℕ) (before after : ToldValue) (new : List Led) : Type 0 where
-  pub told : after ≡ told_after campaign.report campaign.expect.exit before
+  pub told : after ≡ told_after campaign.form campaign.report campaign.expect.exit before
       (endings_from campaign inputs campaign.first (take campaign.count old))
   pub number : count ≡ length (take campaign.count old)
   pub left : new ≡ drop campaign.count old

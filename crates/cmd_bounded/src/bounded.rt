@@ -1,6 +1,6 @@
 //! The runs that are asked for.
 
-use cmd_campaign::{Expect, Report};
+use cmd_campaign::{Expect, Form, Report};
 
 /// A run over each of at most `count` schedules from number `first` on, of those with at most
 /// `preemptions` preemptions and `steps` choices.
@@ -18,4 +18,6 @@ pub struct BoundedCampaign {
     pub expect: Expect,
     /// What is reported of the runs.
     pub report: Report,
+    /// In which form it is reported.
+    pub form: Form,
 }

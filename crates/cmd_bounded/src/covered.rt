@@ -1,11 +1,13 @@
 //! The line that says what is covered.
 
-ghost use Rattle.std.specs.Prelude.{◌≡◌, ◌++◌, ◌∷◌, [], IfOk, codes, string_bytes};
+ghost use Rattle.std.specs.Prelude.{◌≡◌, ◌++◌, IfOk, string_bytes};
+ghost use Rattle.cmd_form.specs.declared.form.Form.TheVariants.{Text, Json};
 ghost use Rattle.campaign_bounded.specs.Walk.{schedules_left};
-ghost use Rattle.cmd_bounded.specs.Lines.{covered_line, covered_words, left_words, nothing_left};
+ghost use Rattle.cmd_bounded.specs.Lines.{covered_entry, covered_line, covered_object, covered_words, left_member, left_words, nothing_left};
 
 use crate::bounded::BoundedCampaign;
 use campaign_bounded::Schedules;
+use campaign_runs::Form;
 use mem_store::FromImage;
 use std::alloc::{AllocError, Allocator};
 use std::fmt;
@@ -36,7 +38,34 @@ impl fmt::Display for Covered {
     }
 }
 
-// Appends the line, given whether no schedule is left.
+// The same, shown as an object of JSON as far as whether schedules are left.
+#[derive(Clone, Copy)]
+struct CoveredObject {
+    count: u64,
+    first: u64,
+    preemptions: u32,
+    steps: u64,
+}
+
+impl fmt::Display for CoveredObject {
+    ghost use Rattle.std.specs.Prelude.{Some};
+
+    ghost output = { λ c. Some (covered_object c.count c.first c.preemptions c.steps) };
+
+    fn fmt<W: fmt::Write>(&self, f: &mut fmt::Formatter<W>) -> fmt::Result {
+        let count = self.count;
+        let first = self.first;
+        let preemptions = self.preemptions;
+        let steps = self.steps;
+        f.write_str("{\"covered\":")?;
+        write!(
+            f,
+            "{count},\"first\":{first},\"preemptions\":{preemptions},\"choices\":{steps}"
+        )
+    }
+}
+
+// Appends the line for a person, given whether no schedule is left.
 fn push_line<A: Allocator>(
     text: &mut String<A>,
     campaign: BoundedCampaign,
@@ -44,8 +73,7 @@ fn push_line<A: Allocator>(
     none: bool,
 ) -> Result<(), AllocError>
     ensures { IfOk result (λ _. string_bytes text.new ≡ string_bytes text.old
-        ++ (covered_words count campaign.first campaign.preemptions campaign.steps
-        ++ (codes "; " ++ (left_words none ++ 10 ∷ [])))) }
+        ++ covered_entry Text campaign count none) }
 {
     let covered = Covered {
         count,
@@ -59,6 +87,45 @@ fn push_line<A: Allocator>(
     Ok(())
 }
 
+// Appends the object, on a line of its own.
+fn push_object<A: Allocator>(
+    text: &mut String<A>,
+    campaign: BoundedCampaign,
+    count: u64,
+    none: bool,
+) -> Result<(), AllocError>
+    ensures { IfOk result (λ _. string_bytes text.new ≡ string_bytes text.old
+        ++ covered_entry Json campaign count none) }
+{
+    let covered = CoveredObject {
+        count,
+        first: campaign.first,
+        preemptions: campaign.preemptions,
+        steps: campaign.steps,
+    };
+    write!(text, "{covered}")?;
+    text.push_str(left_member(none))?;
+    text.push_str("}\n")?;
+    Ok(())
+}
+
+// Appends the line in the campaign's form.
+fn push_entry<A: Allocator>(
+    text: &mut String<A>,
+    campaign: BoundedCampaign,
+    count: u64,
+    none: bool,
+) -> Result<(), AllocError>
+    ensures { IfOk result (λ _. string_bytes text.new ≡ string_bytes text.old
+        ++ covered_entry campaign.form campaign count none) }
+{
+    match campaign.form {
+        Form::Text => push_line(text, campaign, count, none)?,
+        Form::Json => push_object(text, campaign, count, none)?,
+    }
+    Ok(())
+}
+
 // Whether schedules are left, in words.
 fn left_words(none: bool) -> &'static str
     ensures { result.now ≡ left_words none }
@@ -67,6 +134,17 @@ fn left_words(none: bool) -> &'static str
         "none is left"
     } else {
         "more are left"
+    }
+}
+
+// Whether schedules are left, as a member of JSON behind a comma.
+fn left_member(none: bool) -> &'static str
+    ensures { result.now ≡ left_member none }
+{
+    if none {
+        ",\"more_left\":false"
+    } else {
+        ",\"more_left\":true"
     }
 }
 
@@ -96,5 +174,5 @@ pub(crate) fn push_covered<S: FromImage<A>, A: Allocator + Copy>(
         ≡ string_bytes text.old ++ covered_line campaign count (schedules_left S.memory walk.old)) }
 {
     let none = nothing_left(alloc, walk)?;
-    push_line(text, campaign, count, none)
+    push_entry(text, campaign, count, none)
 }

@@ -59,7 +59,7 @@ fn report_range<S: FromImage<A>, A: Allocator + Copy>(
     let count = tell_range(alloc, walk, inputs, campaign, &mut told, progress)?;
     let finished = told.finished();
     let mut text = told.text;
-    push_rows(&mut text, &told.tally)?;
+    push_rows(&mut text, campaign.form, &told.tally)?;
     push_covered(alloc, &mut text, walk, campaign, count)?;
     Ok((text, finished))
 }

@@ -4,7 +4,7 @@
 
 pub use bounded::BoundedCampaign;
 pub use choices::bounded_choices_engine;
-pub use cmd_campaign::{Exit, Expect, Finished, Report};
+pub use cmd_campaign::{Exit, Expect, Finished, Form, Report};
 pub use engine::bounded_engine;
 
 mod bounded;

@@ -9,7 +9,7 @@ ghost use Rattle.cmd_bounded.specs.Runs.{ending_of_led, fair_of, GivesEnd, Gives
 
 use crate::bounded::BoundedCampaign;
 use campaign_bounded::{Schedule, Schedules};
-use campaign_runs::{Ending, Form, SeedEnd};
+use campaign_runs::{Ending, SeedEnd};
 use machine::Inputs;
 use mem_store::{FromImage, Store};
 use std::alloc::{AllocError, Allocator};
@@ -60,7 +60,7 @@ pub(crate) fn ending_of_schedule<S: Store, A: Allocator + Copy>(
     let outcome = schedule.judge(inputs, campaign.expect);
     Ending::of(
         alloc,
-        Form::Text,
+        campaign.form,
         campaign.report,
         outcome,
         &[],

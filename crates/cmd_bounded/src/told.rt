@@ -50,13 +50,13 @@ impl<A: Allocator + Copy> Told<A> {
     ) -> Result<(), AllocError>
         requires { seeds_in (tally_rows self.old.tally) + 1 < 2 ^ 64 }
         ensures { OnOk result (told_value self.new
-            ≡ told_with campaign.report campaign.expect.exit (told_value self.old) (seed_ending end)) }
+            ≡ told_with campaign.form campaign.report campaign.expect.exit (told_value self.old) (seed_ending end)) }
     {
         let expect = campaign.expect;
         self.is_broken = self.is_broken || end.ending.breaks();
         self.first_failure = first_or(self.first_failure, failed_number(expect, &end));
         self.bad = self.bad.saturating_add(u64::from(end.ending.fails(expect)));
-        push_part(&mut self.text, campaign.report, expect, &end)?;
+        push_part(&mut self.text, campaign.form, campaign.report, expect, &end)?;
         count_end(&mut self.tally, campaign.report, end)
     }
 

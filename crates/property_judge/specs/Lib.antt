@@ -2,3 +2,4 @@ pub mod Property
 pub mod Broken
 pub mod Judged
 pub mod First
+pub mod Reach

@@ -5,9 +5,11 @@ ghost use Rattle.machine.specs.World.{run};
 ghost use Rattle.machine.specs.Machine.{world};
 ghost use Rattle.property_judge.specs.Judged.{judged_after, judged_at, judged_run};
 ghost use Rattle.property_judge.specs.Property.{is_kept_by};
+ghost use Rattle.property_judge.specs.Reach.{reach_of};
 
 use crate::judging::{holds_in, is_within};
 use crate::property::Property;
+use crate::reach::{Reach, is_out_of_reach, reach_of};
 use hart_step::Hart;
 use machine::{Choice, Machine, Stopped};
 use mem_store::Store;
@@ -23,17 +25,14 @@ pub struct Judged {
     pub broken: Option<usize>,
 }
 
-// A property judged in the machine's world, to which `done` choices have led.
-fn judge_one<S: Store, A: Allocator>(machine: &Machine<S, A>, done: usize, judged: Judged) -> Judged
-    ensures { result ≡ judged_at done (world S.memory machine.now) judged }
+// Judges a property in the machine's world, to which `done` choices have led.
+fn judge_one<S: Store, A: Allocator>(machine: &Machine<S, A>, done: usize, judged: &mut Judged)
+    ensures { judged.new ≡ judged_at done (world S.memory machine.now) judged.old }
 {
     if judged.broken.is_some() || holds_in(judged.property, machine) {
-        return judged;
+        return;
     }
-    Judged {
-        property: judged.property,
-        broken: Some(done),
-    }
+    judged.broken = Some(done);
 }
 
 /// Judges the machine's world, to which `done` choices have led. What was broken before stays.
@@ -45,35 +44,39 @@ pub fn judge_world<S: Store, A: Allocator>(
     ensures { judged.new ≡ map (judged_at done (world S.memory machine.now)) judged.old }
 {
     for each in judged.iter_mut() {
-        *each = judge_one(machine, done, *each);
+        judge_one(machine, done, each);
     }
 }
 
 // Whether a step keeps a property, by the hart that took it alone: whoever is not between two
 // addresses has not come to be there.
-fn is_kept_by(property: Property, hart: &Hart) -> bool
-    ensures { result ≡ is_kept_by property (hart_of hart.now) }
+fn is_kept_by(property: &Property, hart: &Hart) -> bool
+    ensures { result ≡ is_kept_by property.now (hart_of hart.now) }
 {
     match property {
         Property::Always { .. } => false,
-        Property::NeverBoth { from, to } => !is_within(hart, from, to),
+        Property::NeverBoth { from, to } => !is_within(hart, *from, *to),
     }
 }
 
-// A property judged in the machine's world, to which `done` choices have led, the last of them of
-// this hart. What holds for sure isn't looked at.
+// Judges a property in the machine's world, to which `done` choices have led, the last of them of
+// this hart. What was broken before, or holds for sure, isn't looked at.
 fn judge_one_after<S: Store, A: Allocator>(
     machine: &Machine<S, A>,
     hart: &Hart,
     done: usize,
-    judged: Judged,
-) -> Judged
-    ensures { result ≡ judged_after done (world S.memory machine.now) (hart_of hart.now) judged }
+    judged: &mut Judged,
+)
+    ensures { judged.new
+        ≡ judged_after done (world S.memory machine.now) (hart_of hart.now) judged.old }
 {
-    if is_kept_by(judged.property, hart) {
-        return judged;
+    if judged.broken.is_some()
+        || is_kept_by(&judged.property, hart)
+        || holds_in(judged.property, machine)
+    {
+        return;
     }
-    judge_one(machine, done, judged)
+    judged.broken = Some(done);
 }
 
 // Judges the machine's world, to which `done` choices have led, the last of them of this hart.
@@ -87,8 +90,28 @@ fn judge_after<S: Store, A: Allocator>(
         ≡ map (judged_after done (world S.memory machine.now) (hart_of hart.now)) judged.old }
 {
     for each in judged.iter_mut() {
-        *each = judge_one_after(machine, hart, done, *each);
+        judge_one_after(machine, hart, done, each);
     }
+}
+
+// As `judge_after`, by the properties' reach: a step that leaves its hart elsewhere costs two
+// comparisons, however many properties there are.
+#[inline]
+fn judge_in_reach<S: Store, A: Allocator>(
+    machine: &Machine<S, A>,
+    hart: &Hart,
+    reach: Reach,
+    done: usize,
+    judged: &mut [Judged],
+)
+    requires { reach ≡ reach_of judged.old }
+    ensures { judged.new
+        ≡ map (judged_after done (world S.memory machine.now) (hart_of hart.now)) judged.old }
+{
+    if is_out_of_reach(reach, hart) {
+        return;
+    }
+    judge_after(machine, hart, done, judged);
 }
 
 /// Runs choices, and judges the world before the first and the one after each. Fails only when out
@@ -113,12 +136,13 @@ pub fn judge_run<S: Store, A: Allocator>(
     ensures refused { OnErr result (IsTrue S.grows) }
 {
     judge_world(machine, 0, judged);
+    let reach = reach_of(judged);
     'choices: for (done, choice) in choices.iter().enumerate() {
         if machine.step(*choice).is_err() {
             return Err(Stopped { done });
         }
         let hart = machine.hart(choice.hart as usize);
-        judge_after(machine, hart, done + 1, judged);
+        judge_in_reach(machine, hart, reach, done + 1, judged);
     }
     Ok(())
 }

@@ -10,3 +10,4 @@ mod judged;
 mod judging;
 mod laws;
 mod property;
+mod reach;

@@ -4,7 +4,7 @@ ghost use Rattle.std.specs.Prelude.{◌+◌, ◌<◌, ◌^◌};
 
 use byte_io::{MemorySource, Status, Unheard};
 use cmd_bounded::{
-    BoundedCampaign, Exit, Expect, Finished, Report, bounded_choices_engine, bounded_engine,
+    BoundedCampaign, Exit, Expect, Finished, Form, Report, bounded_choices_engine, bounded_engine,
 };
 use object_library::Kind;
 use program_open::CommandFault;
@@ -22,8 +22,17 @@ const SUMMARY: &str = "schedules 2 first 1 exited 2 faulted 0 running 0 kept\n\
 const NO_FAILURES: &str =
     "covered 2 schedules from 1 on, with at most 1 preemptions and 40 choices; more are left\n";
 
+const LINE_OBJECTS: &str =
+    "{\"schedule\":1,\"exited\":2,\"faulted\":0,\"running\":0,\"verdict\":\"kept\"}\n\
+     {\"schedule\":2,\"exited\":2,\"faulted\":0,\"running\":0,\"verdict\":\"kept\"}\n\
+     {\"covered\":2,\"first\":1,\"preemptions\":1,\"choices\":40,\"more_left\":true}\n";
+
+const SUMMARY_OBJECTS: &str =
+    "{\"schedules\":2,\"first\":1,\"exited\":2,\"faulted\":0,\"running\":0,\"verdict\":\"kept\"}\n\
+     {\"covered\":2,\"first\":1,\"preemptions\":1,\"choices\":40,\"more_left\":true}\n";
+
 // Two schedules of the object swap, which keeps its rule and exits in each.
-fn two_of(report: Report) -> BoundedCampaign
+fn two_of(report: Report, form: Form) -> BoundedCampaign
     ensures { result.first + result.count < 2 ^ 64 }
 {
     BoundedCampaign {
@@ -36,13 +45,15 @@ fn two_of(report: Report) -> BoundedCampaign
             exit: Exit::Must,
         },
         report,
+        form,
     }
 }
 
-// A report, and its text.
+// A report in a form, and its text.
 #[derive(Clone, Copy)]
 struct Two {
     report: Report,
+    form: Form,
     text: &'static str,
 }
 
@@ -50,7 +61,7 @@ impl Call for Two {
     fn answer<A: Allocator + Copy>(&self, alloc: A, host: Global) -> Result<bool, AllocError> {
         let file = object_file(host, Kind::Swap)?;
         let mut program = MemorySource::new(&file);
-        let campaign = two_of(self.report);
+        let campaign = two_of(self.report, self.form);
         match bounded_engine(alloc, &[7, 9], campaign, &mut program, &mut Unheard) {
             Ok((text, finished)) => Ok(is_answer(text.as_str(), self.text, finished)),
             Err(CommandFault::Memory) => Err(AllocError),
@@ -71,7 +82,12 @@ impl Call for Choices {
     fn answer<A: Allocator + Copy>(&self, alloc: A, host: Global) -> Result<bool, AllocError> {
         let file = object_file(host, Kind::Swap)?;
         let mut program = MemorySource::new(&file);
-        match bounded_choices_engine(alloc, &[7, 9], two_of(Report::Lines), &mut program) {
+        match bounded_choices_engine(
+            alloc,
+            &[7, 9],
+            two_of(Report::Lines, Form::Text),
+            &mut program,
+        ) {
             Ok(text) => Ok(text.is_some()),
             Err(CommandFault::Memory) => Err(AllocError),
             Err(_) => Ok(false),
@@ -79,23 +95,33 @@ impl Call for Choices {
     }
 }
 
-fn is_told(alloc: Global, report: Report, text: &'static str) -> bool {
-    tried(alloc, &Two { report, text }).is_ok()
+fn is_told(alloc: Global, report: Report, form: Form, text: &'static str) -> bool {
+    tried(alloc, &Two { report, form, text }).is_ok()
 }
 
 #[test]
 fn each_refused_request_of_lines_is_told(rt: HostRuntime) {
-    assert!(rt; is_told(rt.alloc(), Report::Lines, LINES));
+    assert!(rt; is_told(rt.alloc(), Report::Lines, Form::Text, LINES));
 }
 
 #[test]
 fn each_refused_request_of_failures_is_told(rt: HostRuntime) {
-    assert!(rt; is_told(rt.alloc(), Report::Failures, NO_FAILURES));
+    assert!(rt; is_told(rt.alloc(), Report::Failures, Form::Text, NO_FAILURES));
 }
 
 #[test]
 fn each_refused_request_of_a_summary_is_told(rt: HostRuntime) {
-    assert!(rt; is_told(rt.alloc(), Report::Summary, SUMMARY));
+    assert!(rt; is_told(rt.alloc(), Report::Summary, Form::Text, SUMMARY));
+}
+
+#[test]
+fn each_refused_request_of_objects_is_told(rt: HostRuntime) {
+    assert!(rt; is_told(rt.alloc(), Report::Lines, Form::Json, LINE_OBJECTS));
+}
+
+#[test]
+fn each_refused_request_of_objects_of_outcomes_is_told(rt: HostRuntime) {
+    assert!(rt; is_told(rt.alloc(), Report::Summary, Form::Json, SUMMARY_OBJECTS));
 }
 
 #[test]

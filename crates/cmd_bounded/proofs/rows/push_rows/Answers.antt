@@ -4,4 +4,4 @@ use Rattle.cmd_bounded.proofs.rows.push_rows.Goals as goal
 
 pub rows-preserved : goal.rows-preserved
 rows-preserved g c =
-    one_row_more (tally_rows c.args.tally.now) c.rows.place _ _ _ _ c.row.ensures c.in_ok-push_row.ensures c.rows.invariant
+    one_row_more c.args.form (tally_rows c.args.tally.now) c.rows.place _ _ _ _ c.row.ensures c.in_ok-push_row.ensures c.rows.invariant

@@ -2,6 +2,7 @@ use Rattle.std.proofs.Common.{rules, arith, false}
 use Rattle.machine.specs.Machine.{world}
 use Rattle.machine.proofs.WorldLemmas.{run_more, run_none}
 use Rattle.property_judge.proofs.RunLemmas.{judged_at_first, judged_more_choices, judged_to_the_end, judged_up_to}
+use Rattle.property_judge.proofs.ReachLemmas.{same_reach}
 use Rattle.property_judge.proofs.judged.judge_run.Goals as goal
 
 pub choices-init : goal.choices-init
@@ -9,6 +10,7 @@ choices-init g c = record {
   reached = search (rules, run_none);
   harts = search rules;
   judging = judged_at_first _ c.args.choices.now c.args.judged.now _ c.judge_world.ensures;
+  reach = search rules;
 }
 
 pub choices-preserved : goal.choices-preserved
@@ -16,7 +18,8 @@ choices-preserved g c = record {
   reached = search (rules, run_more);
   harts = search rules;
   judging = judged_more_choices c.choices.done _ (world g.S.Store.memory c.choices.machine) (world g.S.Store.memory c.step.new.self) c.args.choices.now
-      (record { hart = 0; refuse = false }) _ _ _ _ (omega arith) (search rules) (search rules) c.judge_after.ensures c.choices.invariant.judging;
+      (record { hart = 0; refuse = false }) _ _ _ _ (omega arith) (search rules) (search rules) c.judge_in_reach.ensures c.choices.invariant.judging;
+  reach = search (rules, same_reach);
 }
 
 pub returns-clause-judged : goal.returns-clause-judged

@@ -2,6 +2,7 @@ use Rattle.std.proofs.Common.{◌≡◌, take, length}
 use Rattle.machine.specs.World.{run}
 use Rattle.machine.specs.Machine.{world}
 use Rattle.property_judge.proofs.RunLemmas.{Judging}
+use Rattle.property_judge.specs.Reach.{reach_of}
 use Rattle.property_judge.proofs.judged.judge_run.Given as goal
 
 -- the choices before the index are done, and the worlds up to the one they lead to are judged
@@ -11,4 +12,5 @@ invariant-choices g l = record {
   harts : length (world g.S.Store.memory l.machine).harts ≡ length (world g.S.Store.memory l.fn.machine).harts;
   judging : Judging l.done (world g.S.Store.memory l.fn.machine) (world g.S.Store.memory l.machine) l.choices
       l.fn.judged l.judged;
+  reach : l.reach ≡ reach_of l.judged;
 }
