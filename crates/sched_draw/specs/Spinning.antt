@@ -2,6 +2,7 @@
 -- before: with the same pc and registers it is likely to wait for something that hasn't changed.
 use Rattle.std.specs.Prelude.{ℕ, zero, suc, ◌*◌, ◌-◌, ◌==◌, nat_lt, Bool, true, false, ◌&&◌, if◌then◌else◌, Option, Some, None}
 use Rattle.hart_step.specs.Hart.{HartValue, Registers}
+use Rattle.machine.specs.Running.{is_running}
 
 -- a hart that is watched: its number, how it was at a choice of it, how many further choices of it
 -- don't change that, and how many will not then
@@ -16,9 +17,9 @@ unfoldable pub same_registers : ℕ → Registers → Registers → Bool
 same_registers zero seen now = true
 same_registers (suc n) seen now = same_registers n seen now && seen n == now n
 
--- whether two states of a hart have the same pc and registers
+-- whether a hart that runs has the same pc and registers as before
 abbrev pub is_back : HartValue → HartValue → Bool
-is_back seen now = seen.pc == now.pc && same_registers 32 seen.registers now.registers
+is_back seen now = seen.pc == now.pc && is_running now.state && same_registers 32 seen.registers now.registers
 
 -- a hart that wasn't chosen last
 abbrev pub watch_begun : ℕ → HartValue → WatchValue

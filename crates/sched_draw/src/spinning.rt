@@ -4,10 +4,11 @@
 ghost use Rattle.std.specs.Prelude.{◌≡◌, Some};
 ghost use Rattle.std.specs.Option.{option_map};
 ghost use Rattle.hart_step.specs.Hart.{hart_of};
+ghost use Rattle.machine.specs.Running.{is_running};
 ghost use Rattle.sched_draw.specs.Drawn.{watch_of};
 ghost use Rattle.sched_draw.specs.Spinning.{is_back, same_registers, watch_begun, watch_continued, watch_after, spins};
 
-use hart_step::Hart;
+use hart_step::{Hart, HartState};
 
 // At most so many choices of a hart don't change how it is remembered: a loop of 65 steps is noticed.
 const LONGEST: u32 = 64;
@@ -38,12 +39,23 @@ fn has_registers_of(seen: &Hart, now: &Hart) -> bool
     same
 }
 
-// Whether a hart has the same `pc` and registers as before.
+// Whether a hart has not stopped.
+#[inline]
+fn is_running(hart: &Hart) -> bool
+    ensures { result ≡ is_running hart.now.state }
+{
+    match hart.state {
+        HartState::Running => true,
+        HartState::Exited(_) | HartState::Faulted(_) => false,
+    }
+}
+
+// Whether a hart that runs has the same `pc` and registers as before.
 #[inline]
 fn is_back(seen: &Hart, now: &Hart) -> bool
     ensures { result ≡ is_back (hart_of seen.now) (hart_of now.now) }
 {
-    seen.pc == now.pc && has_registers_of(seen, now)
+    seen.pc == now.pc && is_running(now) && has_registers_of(seen, now)
 }
 
 impl Watch {
