@@ -1,11 +1,13 @@
 -- The symbols of a written file are the program's.
 use Rattle.std.proofs.Common.{◌≡◌, ℕ, suc, ◌+◌, ◌*◌, ◌/◌, ◌%◌, ◌^◌, ◌<◌, ◌≤◌, true, false, List, [], ◌∷◌, ◌++◌, length, take, drop, map, Some, Ok, refl, sym, ap, subst, ◌∙◌, arith, append_assoc, length-append}
-use Rattle.std.specs.Prelude.{not, ◌==◌, nat_lt, filter}
+use Rattle.std.specs.Prelude.{not, ◌==◌, nat_lt, filter, Bool, slice_index, if◌then◌else◌}
 use Rattle.std.specs.Str.{is_utf8, chars}
 use Rattle.std.proofs.lemmas.Bool.Decides.{nat_tests}
 use Rattle.std.proofs.Math.Seq.{drop-append_seam}
-use Rattle.std.proofs.lemmas.List.{take-append-drop}
+use Rattle.std.proofs.lemmas.List.{take-append-drop, get_or-drop}
 use Rattle.byteorder.specs.Endian.{little_number}
+use Rattle.asm_statement.specs.declared.statement.Section.{Section}
+use Rattle.asm_statement.specs.declared.statement.Section.TheVariants as section
 use Rattle.asm_assemble.specs.Program.{ProgramValue, SymbolList, round_up}
 use Rattle.asm_assemble.specs.declared.program.Symbol.{Symbol}
 use Rattle.elf_write.specs.File.{file}
@@ -16,9 +18,15 @@ use Rattle.elf_write.proofs.LayoutLemmas.{Bounds, bounds}
 use Rattle.elf_read.specs.Name.{name_in}
 use Rattle.elf_read.specs.Number.{word_at, half_at}
 use Rattle.elf_read.specs.Section.{section_at, sections_from}
+use Rattle.elf_read.specs.Symbol.{SymbolValue}
+use Rattle.elf_read.specs.SymbolFields.{symbol_kind, symbol_place, read_symbol}
 use Rattle.elf_read.specs.SymbolTable.{symbols_from, symbols_in, symbols_of, with_name, added}
 use Rattle.elf_read.specs.declared.section.SectionHeader.{SectionHeader}
-use Rattle.elf_laws.specs.Fields.{AllStand, HasBytesAt, section_rows, symbol_rows, listed_symbols, local_symbols, names_size, names_place, symbols_place, section_names_place, sections_place, end_of_data, data_place, zeros, HasFields}
+use Rattle.elf_read.specs.declared.symbol.SymbolKind.{SymbolKind}
+use Rattle.elf_read.specs.declared.symbol.SymbolKind.TheVariants as kinds
+use Rattle.elf_read.specs.declared.symbol.SymbolPlace.{SymbolPlace}
+use Rattle.elf_read.specs.declared.symbol.SymbolPlace.TheVariants as places
+use Rattle.elf_laws.specs.Fields.{AllStand, HasBytesAt, section_rows, symbol_rows, listed_symbols, local_symbols, names_size, names_place, symbols_place, section_names_place, section_index, sections_place, end_of_data, data_place, zeros, HasFields}
 use Rattle.elf_laws.proofs.At.{held}
 use Rattle.elf_laws.proofs.Parts.{names_at_place, names_are}
 use Rattle.elf_laws.proofs.Tables.{tables_are, names_long, symbol_there, grows}
@@ -108,6 +116,37 @@ in_order p = record {
   end = above (section_names_place p + 44);
 }
 
+abbrev symbol_with : List ℕ → ℕ → SymbolKind → SymbolPlace → SymbolValue
+symbol_with name address kind place = record { name = name; address = address; kind = kind; place = place }
+
+-- one byte as a number
+byte_read : (bytes : List ℕ) (n : ℕ) → slice_index bytes n ≡ little_number 1 (drop n bytes)
+byte_read bytes n =
+    let here : n ≡ n + 0 = omega arith in
+    let alone : slice_index (drop n bytes) 0 ≡ slice_index (drop n bytes) 0 + 256 * 0 = omega arith in
+    ap (slice_index bytes) here ∙ sym (get_or-drop n bytes 0 0) ∙ alone
+
+no_type : (global : Bool) → symbol_kind (if global then 16 else 0) ≡ kinds.Unsaid
+no_type true = refl
+no_type false = refl
+
+in_section : (part : Section) → symbol_place (section_index part) ≡ places.Elsewhere
+in_section section.Text = refl
+in_section section.Data = refl
+in_section section.Zeros = refl
+
+-- the fields of a symbol say what it is
+fields_read : (bytes : List ℕ) (place name_place : ℕ) (s : List ℕ × Symbol) → s.1.address < 2 ^ 32 → AllStand bytes place (symbol_rows name_place s.1)
+    → read_symbol bytes place s.0 ≡ symbol_given s
+unfolding read_symbol word_at half_at
+fields_read bytes place name_place s fits h =
+    let address : little_number 4 (drop (place + 4) bytes) ≡ s.1.address = h.1.0.is ∙ low s.1.address fits in
+    let kind : symbol_kind (slice_index bytes (place + 12)) ≡ kinds.Unsaid = ap symbol_kind (byte_read bytes (place + 12) ∙ h.1.1.1.0.is) ∙ no_type s.1.global in
+    let there : symbol_place (little_number 2 (drop (place + 14) bytes)) ≡ places.Elsewhere = ap symbol_place h.1.1.1.1.1.0.is ∙ in_section s.1.section in
+    ap (λ a. symbol_with s.0 a (symbol_kind (slice_index bytes (place + 12))) (symbol_place (little_number 2 (drop (place + 14) bytes)))) address
+    ∙ (ap (λ k. symbol_with s.0 s.1.address k (symbol_place (little_number 2 (drop (place + 14) bytes)))) kind
+    ∙ ap (symbol_with s.0 s.1.address kinds.Unsaid) there)
+
 symbol_read : (p : ProgramValue) (h : HasFields p (file p)) → AreNamed (listed_symbols p.symbols) → sections_place p + 280 < 2 ^ 32 → (before : SymbolList) (s : List ℕ × Symbol) (after : SymbolList)
     → listed_symbols p.symbols ≡ before ++ s ∷ after → IsRead (tables_of p).names (file p) (symbols_place p + 16 + 16 * length before) s
 unfolding word_at
@@ -132,7 +171,7 @@ symbol_read p h named small before s after cut =
           ∙ (ap name_in (drop-append_seam u.names ((s.0 ++ 0 ∷ []) ++ there.names_behind) ∙ append_assoc s.0 (0 ∷ []) there.names_behind)
           ∙ name_is s.0 there.names_behind own.0.text own.0.no_zero));
       some = own.0.some;
-      address = fields.1.0.is ∙ low s.1.address own.1;
+      same = fields_read (file p) (symbols_place p + 16 + 16 * length before) (1 + names_size before) s own.1 fields;
     }
 
 -- ---- the symbol without a name
@@ -161,8 +200,8 @@ all_named p h =
 null_step : (names bytes : List ℕ) (at count : ℕ) → word_at bytes (at + 0) ≡ 0 → name_in names ≡ Some [] → symbols_from names bytes [] at (suc count) ≡ symbols_from names bytes [] (at + 16) count
 unfolding symbols_from
 null_step names bytes at count e f =
-    ap (λ k. with_name (name_in (drop k names)) (λ name. symbols_from names bytes (added [] name (word_at bytes (at + 4))) (at + 16) count)) e
-    ∙ ap (λ o. with_name o (λ name. symbols_from names bytes (added [] name (word_at bytes (at + 4))) (at + 16) count)) f
+    ap (λ k. with_name (name_in (drop k names)) (λ name. symbols_from names bytes (added [] name (read_symbol bytes at)) (at + 16) count)) e
+    ∙ ap (λ o. with_name o (λ name. symbols_from names bytes (added [] name (read_symbol bytes at)) (at + 16) count)) f
 
 -- the symbols in the table
 table_read : (p : ProgramValue) (h : HasFields p (file p)) → AreNamed (listed_symbols p.symbols) → sections_place p + 280 < 2 ^ 32

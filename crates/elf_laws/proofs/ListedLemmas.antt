@@ -7,6 +7,7 @@ use Rattle.elf_read.specs.Name.{name_in}
 use Rattle.elf_read.specs.Number.{word_at, half_at}
 use Rattle.elf_read.specs.Section.{section_at, sections_from, section_bytes, is_symbol_table, ends_behind_file}
 use Rattle.elf_read.specs.Symbol.{SymbolValue}
+use Rattle.elf_read.specs.SymbolFields.{read_symbol}
 use Rattle.elf_read.specs.SymbolTable.{Symbols, refused_if, added, with_name, symbols_from, is_bad_table, symbols_named, symbols_of_table, symbols_in, are_bad_sections, symbols_of}
 use Rattle.elf_read.specs.declared.section.SectionHeader.{SectionHeader}
 use Rattle.elf_read.specs.declared.symbol.SymFault.TheVariants as faults
@@ -102,21 +103,22 @@ module _ (bytes : List ℕ) (table : SectionHeader) where
       (fault ≡ faults.BadTable) × ((j : ℕ) × (i ≤ j) × (j < i + n) × (symbol_name bytes table j ≡ None))
 
   module _ (done : List SymbolValue) (i n : ℕ) where
-    abbrev address : ℕ
-    address = word_at bytes (place_of i + 4)
+    abbrev of_name : List ℕ → SymbolValue
+    of_name = read_symbol bytes (place_of i)
 
     -- a symbol with a name, which may be empty, before others
     list_more : (name : List ℕ) → symbol_name bytes table i ≡ Some name
-        → added done name address ++ map (table_symbol bytes table) (filter has_name (indices_from (i + 1) n))
+        → added done name of_name ++ map (table_symbol bytes table) (filter has_name (indices_from (i + 1) n))
         ≡ done ++ map (table_symbol bytes table) (filter has_name (indices_from i (suc n)))
+    unfolding read_symbol
     list_more [] is =
         let later = filter has_name (indices_from (i + 1) n) in
         sym (ap (λ o. done ++ map (table_symbol bytes table) (cond (is_some_name o) (i ∷ later) later)) is)
     list_more (b ∷ bs) is =
         let later = filter has_name (indices_from (i + 1) n) in
-        let here : SymbolValue = record { name = b ∷ bs; address = address } in
+        let here : SymbolValue = of_name (b ∷ bs) in
         append_assoc done (here ∷ []) (map (table_symbol bytes table) later)
-        ∙ sym (ap (λ o. done ++ record { name = text_of_name o; address = address } ∷ map (table_symbol bytes table) later) is)
+        ∙ sym (ap (λ o. done ++ of_name (text_of_name o) ∷ map (table_symbol bytes table) later) is)
         ∙ sym (ap (λ o. done ++ map (table_symbol bytes table) (cond (is_some_name o) (i ∷ later) later)) is)
 
     all_named_more : (name : List ℕ) → symbol_name bytes table i ≡ Some name
@@ -133,7 +135,7 @@ module _ (bytes : List ℕ) (table : SectionHeader) where
             no_name name (sym is ∙ ap (symbol_name bytes table) same ∙ none)
 
     one_more : (name : List ℕ) → symbol_name bytes table i ≡ Some name → (r : Symbols)
-        → SymbolsTold (added done name address) (i + 1) n r → SymbolsTold done i (suc n) r
+        → SymbolsTold (added done name of_name) (i + 1) n r → SymbolsTold done i (suc n) r
     one_more name is (Ok symbols) told = (all_named_more name is told.0, told.1 ∙ list_more name is)
     one_more name is (Err fault) told =
         let j = told.1.0 in
@@ -142,25 +144,25 @@ module _ (bytes : List ℕ) (table : SectionHeader) where
         (told.0, (j, omega (arith, low), omega (arith, high), told.1.3))
 
     step : symbols_from names bytes done (place_of i) (suc n)
-        ≡ with_name (symbol_name bytes table i) (λ name. symbols_from names bytes (added done name address) (place_of (i + 1)) n)
+        ≡ with_name (symbol_name bytes table i) (λ name. symbols_from names bytes (added done name of_name) (place_of (i + 1)) n)
     unfolding symbols_from
     step =
         let here : place_of i + 0 ≡ place_of i = omega arith in
         let next : place_of i + 16 ≡ place_of (i + 1) = omega arith in
-        ap (λ k. with_name (name_in (drop (word_at bytes k) names)) (λ name. symbols_from names bytes (added done name address) (place_of i + 16) n)) here
-        ∙ ap (λ k. with_name (symbol_name bytes table i) (λ name. symbols_from names bytes (added done name address) k n)) next
+        ap (λ k. with_name (name_in (drop (word_at bytes k) names)) (λ name. symbols_from names bytes (added done name of_name) (place_of i + 16) n)) here
+        ∙ ap (λ k. with_name (symbol_name bytes table i) (λ name. symbols_from names bytes (added done name of_name) k n)) next
 
   symbols_told : (n i : ℕ) (done : List SymbolValue) → SymbolsTold done i n (symbols_from names bytes done (place_of i) n)
   unfolding symbols_from
   symbols_told zero i done = (λ j low high none. absurd (omega (arith, low, high)), sym (append-nil done))
   symbols_told (suc n) i done =
       subst (SymbolsTold done i (suc n)) (sym (step done i n))
-      (by (symbol_name bytes table i) refl (λ name. symbols_told n (i + 1) (added done name (word_at bytes (place_of i + 4)))))
+      (by (symbol_name bytes table i) refl (λ name. symbols_told n (i + 1) (added done name (read_symbol bytes (place_of i)))))
     where
       by : (o : Option (List ℕ)) → symbol_name bytes table i ≡ o
-          → ((name : List ℕ) → SymbolsTold (added done name (word_at bytes (place_of i + 4))) (i + 1) n
-          (symbols_from names bytes (added done name (word_at bytes (place_of i + 4))) (place_of (i + 1)) n))
-          → SymbolsTold done i (suc n) (with_name o (λ name. symbols_from names bytes (added done name (word_at bytes (place_of i + 4))) (place_of (i + 1)) n))
+          → ((name : List ℕ) → SymbolsTold (added done name (read_symbol bytes (place_of i))) (i + 1) n
+          (symbols_from names bytes (added done name (read_symbol bytes (place_of i))) (place_of (i + 1)) n))
+          → SymbolsTold done i (suc n) (with_name o (λ name. symbols_from names bytes (added done name (read_symbol bytes (place_of i))) (place_of (i + 1)) n))
       by None is later = (refl, (i, omega arith, omega arith, is))
       by (Some name) is later = one_more done i n name is _ (later name)
 

@@ -9,6 +9,7 @@ use Rattle.asm_assemble.specs.Program.{SymbolList}
 use Rattle.asm_assemble.specs.declared.program.Symbol.{Symbol}
 use Rattle.elf_read.specs.Name.{name_in, text_before}
 use Rattle.elf_read.specs.Symbol.{SymbolValue}
+use Rattle.elf_read.specs.SymbolFields.{read_symbol}
 use Rattle.elf_read.specs.SymbolTable.{Symbols, symbols_from, with_name, added}
 use Rattle.elf_read.specs.Number.{word_at}
 use Rattle.elf_laws.specs.Given.{IsName, AreNamed, symbol_given}
@@ -65,15 +66,15 @@ named_at [] s after h = (h.0, h.1)
 named_at (x ∷ before) s after h = named_at before s after h.2
 
 -- ---- symbols one by one
--- the symbol at a place, and its name in the table of names
+-- the symbol at a place, with its name in the table of names, is this one
 pub record IsRead (names bytes : List ℕ) (place : ℕ) (s : List ℕ × Symbol) : Type 0 where
   pub name : name_in (drop (word_at bytes (place + 0)) names) ≡ Some s.0
   pub some : 0 < length s.0
-  pub address : word_at bytes (place + 4) ≡ s.1.address
+  pub same : read_symbol bytes place s.0 ≡ symbol_given s
 
-add_one : (done : List SymbolValue) (name : List ℕ) (address : ℕ) → 0 < length name → added done name address ≡ done ++ record { name = name; address = address } ∷ []
-add_one done [] address h = absurd (omega arith)
-add_one done (b ∷ bs) address h = refl
+add_one : (done : List SymbolValue) (name : List ℕ) (of_name : List ℕ → SymbolValue) → 0 < length name → added done name of_name ≡ done ++ of_name name ∷ []
+add_one done [] of_name h = absurd (omega arith)
+add_one done (b ∷ bs) of_name h = refl
 
 abbrev goods : List SymbolValue → Symbols
 goods ss = Ok ss
@@ -87,8 +88,8 @@ all_read names bytes done place [] h = ap goods (sym (append-nil done))
 all_read names bytes done place (s ∷ ss) h =
     let r : IsRead names bytes (place + 0) s = h [] s ss refl in
     let here : IsRead names bytes place s = subst (λ n. IsRead names bytes n s) (no_way place) r in
-    ap (λ o. with_name o (λ name. symbols_from names bytes (added done name (word_at bytes (place + 4))) (place + 16) (length ss))) here.name
-    ∙ (ap (λ xs. symbols_from names bytes xs (place + 16) (length ss)) (ap (added done s.0) here.address ∙ add_one done s.0 s.1.address here.some)
+    ap (λ o. with_name o (λ name. symbols_from names bytes (added done name (read_symbol bytes place)) (place + 16) (length ss))) here.name
+    ∙ (ap (λ xs. symbols_from names bytes xs (place + 16) (length ss)) (add_one done s.0 (read_symbol bytes place) here.some ∙ ap (λ x. done ++ x ∷ []) here.same)
     ∙ (all_read names bytes (done ++ symbol_given s ∷ []) (place + 16) ss (λ before t after cut. subst (λ n. IsRead names bytes n t) (further place (length before)) (h (s ∷ before) t after (ap (λ xs. s ∷ xs) cut)))
     ∙ ap goods (append_assoc done (symbol_given s ∷ []) (map symbol_given ss))))
   where

@@ -1,11 +1,12 @@
 -- The symbols that `symbols` gives of any file, in the words of System V ELF, "Sections", "Symbol
 -- Table" and "String Table": those with a name, of the first symbol table, in its order. `elf_read`
 -- says how they are read one after another; the law of src/listed.rt says that both are the same.
-use Rattle.std.specs.Prelude.{◌≡◌, ℕ, zero, suc, ◌+◌, ◌*◌, ◌/◌, ◌%◌, ◌<◌, ◌≤◌, ◌⊎◌, Bool, true, false, List, [], ◌∷◌, length, drop, map, filter, Option, Some, None}
+use Rattle.std.specs.Prelude.{◌≡◌, ℕ, zero, suc, ◌+◌, ◌*◌, ◌/◌, ◌%◌, ◌<◌, ◌≤◌, ◌⊎◌, Bool, true, false, List, [], ◌∷◌, length, drop, map, filter, slice_index, Option, Some, None}
 use Rattle.elf_read.specs.Name.{name_in}
 use Rattle.elf_read.specs.Number.{word_at, half_at}
 use Rattle.elf_read.specs.Section.{section_at, section_bytes}
 use Rattle.elf_read.specs.Symbol.{SymbolValue}
+use Rattle.elf_read.specs.SymbolFields.{symbol_kind, symbol_place}
 use Rattle.elf_read.specs.declared.section.SectionHeader.{SectionHeader}
 
 -- ---- sections
@@ -76,11 +77,13 @@ abbrev pub text_of_name : Option (List ℕ) → List ℕ
 text_of_name (Some name) = name
 text_of_name None = []
 
--- the symbol with an index: its name and st_value
+-- the symbol with an index: its name and st_value, the type in its st_info, and its st_shndx
 abbrev pub table_symbol : List ℕ → SectionHeader → ℕ → SymbolValue
 table_symbol bytes table i = record {
   name = text_of_name (symbol_name bytes table i);
   address = word_at bytes (table.offset + 16 * i + 4);
+  kind = symbol_kind (slice_index bytes (table.offset + 16 * i + 12));
+  place = symbol_place (half_at bytes (table.offset + 16 * i + 14));
 }
 
 -- so many indices, from one on

@@ -1,5 +1,5 @@
 -- the image of a file that passes the checks
-use Rattle.std.proofs.Common.{◌≡◌, ℕ, ◌+◌, ◌-◌, ◌%◌, ◌<◌, ◌≤◌, true, false, not, ◌&&◌, cond, eqb, ltb, List, [], ◌∷◌, length, get_or, arith, ◌∙◌, sym, ap, refl, inl, inr, filter, map, Option, Some, None, take, drop, min}
+use Rattle.std.proofs.Common.{◌≡◌, ℕ, ◌-◌, ◌%◌, true, false, not, eqb, ltb, List, [], ◌∷◌, length, get_or, arith, ◌∙◌, refl, inl, inr, filter, map, Option, Some, None, take, drop, min}
 use Rattle.std.proofs.lemmas.Bool.{cases_Bool, cases_lt}
 use Rattle.std.proofs.lemmas.Bool.Decides.{nat_tests}
 use Rattle.std.proofs.lemmas.Grind.{common_steps}
@@ -8,7 +8,6 @@ use Rattle.std.proofs.Math.ListN.{length-drop}
 use Rattle.std.specs.List.{list_any, list_all}
 use Rattle.image.specs.declared.fault.ElfFault.{ElfFault}
 use Rattle.elf_read.specs.declared.program_header.ProgramHeader.{ProgramHeader}
-use Rattle.image.specs.declared.span.Span.{Span}
 use Rattle.image.specs.Fault.{first_fault}
 use Rattle.elf_read.specs.File.{headers_fault, segment_of, byte_at, file_byte}
 use Rattle.image.specs.Image.{span_of, is_mapped, IsSound, HaveLowRights}

@@ -179,13 +179,39 @@ SHF_ALLOC = 2
 abbrev pub SHF_EXECINSTR : ℕ
 SHF_EXECINSTR = 4
 
--- ---- offsets of fields in a symbol, and a binding
+-- ---- offsets of fields in a symbol, a binding, types and a place
 abbrev pub ST_NAME : ℕ
 ST_NAME = 0
 
 abbrev pub ST_VALUE : ℕ
 ST_VALUE = 4
 
+abbrev pub ST_INFO : ℕ
+ST_INFO = 12
+
+abbrev pub ST_SHNDX : ℕ
+ST_SHNDX = 14
+
 -- the binding of a global symbol, in the high half of st_info
 abbrev pub STB_GLOBAL : ℕ
 STB_GLOBAL = 1
+
+-- types, in the low half of st_info: not said, data, a function, a section, a source file
+abbrev pub STT_NOTYPE : ℕ
+STT_NOTYPE = 0
+
+abbrev pub STT_OBJECT : ℕ
+STT_OBJECT = 1
+
+abbrev pub STT_FUNC : ℕ
+STT_FUNC = 2
+
+abbrev pub STT_SECTION : ℕ
+STT_SECTION = 3
+
+abbrev pub STT_FILE : ℕ
+STT_FILE = 4
+
+-- the st_shndx of an absolute value
+abbrev pub SHN_ABS : ℕ
+SHN_ABS = 0xfff1

@@ -6,5 +6,6 @@ pub mod File
 pub mod Name
 pub mod Section
 pub mod Symbol
+pub mod SymbolFields
 pub mod SymbolTable
 pub mod Label

@@ -5,7 +5,8 @@ use Rattle.elf_read.specs.Name.{name_in}
 use Rattle.elf_read.specs.Number.{word_at, half_at}
 use Rattle.elf_read.specs.Section.{sections_from, is_symbol_table, ends_behind_file, section_bytes}
 use Rattle.elf_read.specs.Symbol.{SymbolValue}
-use Rattle.elf_read.specs.Codes.{E_SHOFF, E_SHNUM, E_SHENTSIZE, HEADER_SIZE, SECTION_HEADER_SIZE, SYMBOL_SIZE, SHT_STRTAB, ST_NAME, ST_VALUE}
+use Rattle.elf_read.specs.SymbolFields.{read_symbol}
+use Rattle.elf_read.specs.Codes.{E_SHOFF, E_SHNUM, E_SHENTSIZE, HEADER_SIZE, SECTION_HEADER_SIZE, SYMBOL_SIZE, SHT_STRTAB, ST_NAME}
 use Rattle.elf_read.specs.declared.section.SectionHeader.{SectionHeader}
 use Rattle.elf_read.specs.declared.symbol.SymFault.{SymFault}
 use Rattle.elf_read.specs.declared.symbol.SymFault.TheVariants as faults
@@ -19,10 +20,10 @@ abbrev pub refused_if : Bool → SymFault → Symbols → Symbols
 refused_if true fault later = Err fault
 refused_if false fault later = later
 
--- some symbols and one more, unless its name is empty
-abbrev pub added : List SymbolValue → List ℕ → ℕ → List SymbolValue
-added done [] address = done
-added done (b ∷ bs) address = done ++ record { name = b ∷ bs; address = address } ∷ []
+-- some symbols and one more, which is made of its name, unless that is empty
+abbrev pub added : List SymbolValue → List ℕ → (List ℕ → SymbolValue) → List SymbolValue
+added done [] of_name = done
+added done (b ∷ bs) of_name = done ++ of_name (b ∷ bs) ∷ []
 
 -- the answer for a name, if there is one
 abbrev pub with_name : Option (List ℕ) → (List ℕ → Symbols) → Symbols
@@ -34,7 +35,7 @@ unfoldable pub symbols_from : List ℕ → List ℕ → List SymbolValue → ℕ
 symbols_from names bytes done place zero = Ok done
 symbols_from names bytes done place (suc n) =
     with_name (name_in (drop (word_at bytes (place + ST_NAME)) names)) (λ name.
-    symbols_from names bytes (added done name (word_at bytes (place + ST_VALUE))) (place + SYMBOL_SIZE) n)
+    symbols_from names bytes (added done name (read_symbol bytes place)) (place + SYMBOL_SIZE) n)
 
 -- whether a symbol table's sizes are invalid, or it lies past the end of a file of n bytes
 abbrev pub is_bad_table : ℕ → SectionHeader → Bool

@@ -109,5 +109,21 @@ pub const ST_NAME: usize = 0;
 
 pub const ST_VALUE: usize = 4;
 
+pub const ST_INFO: usize = 12;
+
+pub const ST_SHNDX: usize = 14;
+
 /// The binding of a global symbol, in the high half of st_info.
 pub const STB_GLOBAL: u8 = 1;
+/// A symbol whose type is not said, in the low half of st_info.
+pub const STT_NOTYPE: u8 = 0;
+/// A symbol of data.
+pub const STT_OBJECT: u8 = 1;
+/// A symbol of a function.
+pub const STT_FUNC: u8 = 2;
+/// A symbol of a section.
+pub const STT_SECTION: u8 = 3;
+/// The name of a source file.
+pub const STT_FILE: u8 = 4;
+/// The st_shndx of a symbol whose value is absolute.
+pub const SHN_ABS: u16 = 0xfff1;

@@ -35,5 +35,10 @@ pub fn numbers_are_the_standards()
         (code.SHF_ALLOC ≡ standard.SHF_ALLOC) ×
         (code.SHF_EXECINSTR ≡ standard.SHF_EXECINSTR) }
     ensures symbol { (code.ST_NAME ≡ standard.ST_NAME) × (code.ST_VALUE ≡ standard.ST_VALUE) ×
+        (code.ST_INFO ≡ standard.ST_INFO) × (code.ST_SHNDX ≡ standard.ST_SHNDX) ×
         (code.STB_GLOBAL ≡ standard.STB_GLOBAL) }
+    ensures symbols { (code.STT_NOTYPE ≡ standard.STT_NOTYPE) ×
+        (code.STT_OBJECT ≡ standard.STT_OBJECT) × (code.STT_FUNC ≡ standard.STT_FUNC) ×
+        (code.STT_SECTION ≡ standard.STT_SECTION) × (code.STT_FILE ≡ standard.STT_FILE) ×
+        (code.SHN_ABS ≡ standard.SHN_ABS) }
 {}

@@ -2,9 +2,9 @@
 #![tactic(auto)]
 
 pub use file::{a_segments_bytes_are_the_files, load};
-pub use label::{is_mapping, nearest_label};
+pub use label::nearest_label;
 pub use laws::numbers_are_the_standards;
-pub use symbol::{SymFault, Symbol};
+pub use symbol::{SymFault, Symbol, SymbolKind, SymbolPlace};
 pub use symbol_table::symbols;
 
 pub mod elf;
@@ -17,4 +17,5 @@ mod number;
 mod program_header;
 mod section;
 mod symbol;
+mod symbol_fields;
 mod symbol_table;

@@ -17,13 +17,44 @@ pub enum SymFault {
     Memory,
 }
 
-/// A symbol: its name, which is not empty, and its address (System V ELF, "Symbol Table").
+/// What a symbol names: the type in its st_info.
+#[derive(Clone, Copy, PartialEq, Eq)]
+pub enum SymbolKind {
+    /// Not said (STT_NOTYPE).
+    Unsaid,
+    /// Data (STT_OBJECT).
+    Object,
+    /// A function (STT_FUNC).
+    Function,
+    /// A section (STT_SECTION).
+    Section,
+    /// A source file (STT_FILE).
+    File,
+    /// Another type.
+    Other,
+}
+
+/// Where a symbol is: its st_shndx.
+#[derive(Clone, Copy, PartialEq, Eq)]
+pub enum SymbolPlace {
+    /// Nowhere: its value is absolute (SHN_ABS).
+    Absolute,
+    /// Anywhere else, as in a section.
+    Elsewhere,
+}
+
+/// A symbol: its name, which is not empty, its address, what it names and where it is (System V
+/// ELF, "Symbol Table").
 #[derive(Drop)]
 pub struct Symbol<A: Allocator> {
     /// The name (st_name).
     pub name: String<A>,
     /// The address (st_value).
     pub address: u32,
+    /// What it names (st_info).
+    pub kind: SymbolKind,
+    /// Where it is (st_shndx).
+    pub place: SymbolPlace,
 }
 
 impl<A: Allocator> Model for Symbol<A> {
@@ -32,5 +63,10 @@ impl<A: Allocator> Model for Symbol<A> {
 
     ghost Value = { SymbolValue };
 
-    ghost view = { λ s. record { name = string_bytes s.name; address = s.address } };
+    ghost view = { λ s. record {
+      name = string_bytes s.name;
+      address = s.address;
+      kind = s.kind;
+      place = s.place;
+    } };
 }

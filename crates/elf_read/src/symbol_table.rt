@@ -4,7 +4,7 @@ ghost use Rattle.elf_read.specs.SymbolTable.{symbols_of, symbols_in, symbols_nam
 ghost use Rattle.std.specs.Bool.{OnFalse};
 
 use crate::elf::{
-    E_SHENTSIZE, E_SHNUM, E_SHOFF, HEADER_SIZE, SECTION_HEADER_SIZE, SHT_STRTAB, ST_NAME, ST_VALUE,
+    E_SHENTSIZE, E_SHNUM, E_SHOFF, HEADER_SIZE, SECTION_HEADER_SIZE, SHT_STRTAB, ST_NAME,
     SYMBOL_SIZE,
 };
 use crate::name::name_at;
@@ -13,6 +13,7 @@ use crate::section::{
     SectionHeader, bytes_of, find_symbol_table, is_past_end, read_sections, section_of_number,
 };
 use crate::symbol::{SymFault, Symbol};
+use crate::symbol_fields::read_symbol;
 use std::alloc::Allocator;
 
 /// The named symbols of a file's first symbol table, in the table's order.
@@ -88,19 +89,19 @@ fn read_symbols<A: Allocator + Copy>(
     alloc: A,
     bytes: &[u8],
     names: &[u8],
-    place: usize,
+    start: usize,
     count: u32,
 ) -> Result<Vec<Symbol<A>, A>, SymFault>
-    requires { place + 16 * count ≤ length bytes.now }
-    ensures { IsGiven result (symbols_from names.now bytes.now [] place count) }
+    requires { start + 16 * count ≤ length bytes.now }
+    ensures { IsGiven result (symbols_from names.now bytes.now [] start count) }
 {
     let mut symbols = Vec::new(alloc);
-    let mut at = place;
+    let mut at = start;
     'symbols: for _ in 0..count {
         let Some(name) = name_at(names, word_at(bytes, at + ST_NAME) as usize) else {
             return Err(SymFault::BadTable);
         };
-        let address = word_at(bytes, at + ST_VALUE);
+        let place = at;
         at += SYMBOL_SIZE as usize;
         if name.is_empty() {
             continue;
@@ -108,7 +109,7 @@ fn read_symbols<A: Allocator + Copy>(
         let Ok(name) = String::from_str(alloc, name) else {
             return Err(SymFault::Memory);
         };
-        let Ok(()) = symbols.push(Symbol { name, address }) else {
+        let Ok(()) = symbols.push(read_symbol(bytes, place, name)) else {
             return Err(SymFault::Memory);
         };
     }

@@ -2,7 +2,7 @@
 
 use crate::harts::{EndsTold, harts_advice};
 use crate::rules::{Judged, push_broken};
-use elf_read::{Symbol, is_mapping, symbols};
+use elf_read::{Symbol, symbols};
 use hart_step::HartState;
 use image::Image;
 use machine::{Choice, Inputs, Machine};
@@ -12,13 +12,10 @@ use program_open::{ProgramForm, read_program};
 use sched_run::{Chosen, run_choices};
 use std::alloc::Allocator;
 
-/// The symbols of a file but for mapping symbols; none if it has no valid table, or out of memory.
+/// The symbols of a file; none if it has no valid table, or out of memory.
 pub fn symbols_or_none<A: Allocator + Copy>(alloc: A, file: &[u8]) -> Vec<Symbol<A>, A> {
     match symbols(alloc, file) {
-        Ok(mut symbols) => {
-            symbols.retain(|symbol| !is_mapping(symbol.name.as_str()));
-            symbols
-        }
+        Ok(symbols) => symbols,
         Err(_) => Vec::new(alloc),
     }
 }

@@ -1,7 +1,7 @@
 //! What no clause says: worked lines with symbols, with each request for memory refused in turn.
 use debug_session::Debugger;
 use debug_text::{Answer, DebugFault, command};
-use elf_read::Symbol;
+use elf_read::{Symbol, SymbolKind, SymbolPlace};
 use machine::{Choice, Inputs};
 use program_open::{hex_image, read_hex};
 use std::alloc::{AllocError, Allocator, Global};
@@ -101,7 +101,12 @@ fn symbols_of<A: Allocator + Copy>(
     for (name, address) in named {
         let name = String::from_str(alloc, *name)?;
         let address = *address;
-        symbols.push(Symbol { name, address })?;
+        symbols.push(Symbol {
+            name,
+            address,
+            kind: SymbolKind::Unsaid,
+            place: SymbolPlace::Elsewhere,
+        })?;
     }
     Ok(symbols)
 }

@@ -1,7 +1,7 @@
 //! What is told of command lines, sources and lines at the debugger, and marks, with each request
 //! for memory refused in turn; `tests/people` has typical mistakes.
 use asm_statement::{Fault, FaultKind};
-use elf_read::Symbol;
+use elf_read::{Symbol, SymbolKind, SymbolPlace};
 use hint_asm::{SourceText, asm_advice};
 use hint_debug::line_advice;
 use hint_text::{Mistake, order_advice, push_mark};
@@ -58,7 +58,12 @@ fn told_of_typed<A: Allocator + Copy>(alloc: A, line: &str) -> Result<String<A>,
         ("f", 0x0001_0008),
     ] {
         let name = String::from_str(alloc, name)?;
-        symbols.push(Symbol { name, address })?;
+        symbols.push(Symbol {
+            name,
+            address,
+            kind: SymbolKind::Unsaid,
+            place: SymbolPlace::Elsewhere,
+        })?;
     }
     line_advice(alloc, &segments, &symbols, line)
 }

@@ -8,6 +8,8 @@ mod fetch_tests;
 #[cfg(test)]
 mod image_tests;
 #[cfg(test)]
+mod label_tests;
+#[cfg(test)]
 mod loading_tests;
 #[cfg(test)]
 mod memory_tests;

@@ -8,7 +8,7 @@ use std::alloc::{AllocError, Global};
 /// A file of 232 bytes: a null section, a symbol table at 172 with three symbols, its names at 220;
 /// then 4 bytes.
 #[rattlefmt::skip]
-const WORDS: [u32; 58] = [
+pub(crate) const WORDS: [u32; 58] = [
     0x464c_457f, 0x0001_0101, 0, 0, 0x00f3_0002, 1, 0, 0, 52, 0, // sections at 52
     0x0020_0034, 0x0028_0000, 3, // the sizes of the headers; three sections
     0, 0, 0, 0, 0, 0, 0, 0, 0, 0, // the null section, at 52

@@ -1,5 +1,5 @@
 //! Worked texts of properties, over symbols.
-use elf_read::Symbol;
+use elf_read::{Symbol, SymbolKind, SymbolPlace};
 use property_judge::{Comparison, Order, Property};
 use property_text::{PropertyFault, read_always, read_never_both};
 use std::alloc::{AllocError, Allocator, Global};
@@ -97,7 +97,12 @@ fn symbols_of<A: Allocator + Copy>(alloc: A) -> Result<Vec<Symbol<A>, A>, AllocE
     for (name, address) in &SYMBOLS {
         let name = String::from_str(alloc, *name)?;
         let address = *address;
-        symbols.push(Symbol { name, address })?;
+        symbols.push(Symbol {
+            name,
+            address,
+            kind: SymbolKind::Unsaid,
+            place: SymbolPlace::Elsewhere,
+        })?;
     }
     Ok(symbols)
 }

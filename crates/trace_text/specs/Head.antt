@@ -4,6 +4,10 @@ use Rattle.json.specs.Print.{quoted}
 use Rattle.trace_text.specs.Composites.{member, object, array}
 use Rattle.trace_text.specs.Scalars.{number_or_null}
 use Rattle.elf_read.specs.Symbol.{SymbolValue}
+use Rattle.elf_read.specs.declared.symbol.SymbolKind.{SymbolKind}
+use Rattle.elf_read.specs.declared.symbol.SymbolKind.TheVariants as kinds
+use Rattle.elf_read.specs.declared.symbol.SymbolPlace.{SymbolPlace}
+use Rattle.elf_read.specs.declared.symbol.SymbolPlace.TheVariants as places
 use Rattle.hart_step.specs.Hart.{HartValue, Registers, hart_of}
 use Rattle.trace_text.specs.Values.{end_value}
 use Rattle.trace_text.specs.declared.head.HartThen.{HartThen}
@@ -31,12 +35,27 @@ hart_object h = object (
     ∷ member (codes "end") (end_value h.0.state)
     ∷ [])
 
--- a symbol
+-- the member of what a symbol names behind others, if its table says it
+unfoldable pub kind_part : SymbolKind → List ℕ
+kind_part kinds.Unsaid = []
+kind_part kinds.Object = codes ",\"kind\":\"object\""
+kind_part kinds.Function = codes ",\"kind\":\"function\""
+kind_part kinds.Section = codes ",\"kind\":\"section\""
+kind_part kinds.File = codes ",\"kind\":\"file\""
+kind_part kinds.Other = codes ",\"kind\":\"other\""
+
+-- the member of an absolute value behind others
+unfoldable pub place_part : SymbolPlace → List ℕ
+place_part places.Absolute = codes ",\"absolute\":true"
+place_part places.Elsewhere = []
+
+-- the opening brace, and a symbol's name and address
+unfoldable pub symbol_front : SymbolValue → List ℕ
+symbol_front s = 123 ∷ (member (codes "name") (quoted s.name) ++ 44 ∷ member (codes "address") (decimal s.address))
+
+-- a symbol: an object
 unfoldable pub symbol_object : SymbolValue → List ℕ
-symbol_object s = object (
-    member (codes "name") (quoted s.name)
-    ∷ member (codes "address") (decimal s.address)
-    ∷ [])
+symbol_object s = symbol_front s ++ (kind_part s.kind ++ (place_part s.place ++ 125 ∷ []))
 
 -- what stands before the lines of choices: an object
 unfoldable pub head_object : ℕ → List ℕ → Span → List SymbolValue → List (HartValue × Option ℕ) → List ℕ
