@@ -19,7 +19,11 @@ use Rattle.outcome.specs.Expect.{judged}
 use Rattle.outcome.specs.declared.run_outcome.Outcome.{Outcome}
 use Rattle.property_judge.specs.Judged.{judged_run}
 use Rattle.property_judge.specs.declared.judged.Judged.{Judged}
+use Rattle.run_hangs.specs.Asked.{hangs_if}
+use Rattle.run_hangs.specs.declared.asked.Hangs.{Hangs}
+use Rattle.run_hangs.specs.declared.asked.Hangs.TheVariants.{Unasked}
 use Rattle.campaign_runs.specs.Ending.{EndingValue, ending_with}
+use Rattle.campaign_runs.specs.Hangs.{ending_deciding, ending_left}
 use Rattle.campaign_runs.specs.Properties.{judged_over, unjudged}
 use Rattle.campaign_runs.specs.Runs.{SeedEnding, seed_ending, ending_after, ending_from, endings_of}
 use Rattle.campaign_runs.specs.declared.campaign.Campaign.{Campaign}
@@ -30,31 +34,41 @@ pub harts-started : (w : World) (image : ImageValue) (inputs : List ℕ) → w �
 harts-started w image inputs begun = ap (λ (v : World). length v.harts) begun ∙ length-started image inputs
 
 -- the parts of an ending
-same_parts : (campaign : Campaign) (outcome says : Outcome) (js judged_too : List Judged) (left harts : List HartValue)
-    → outcome ≡ says → js ≡ judged_too → left ≡ harts
-    → ending_with campaign.form campaign.report outcome js left ≡ ending_with campaign.form campaign.report says judged_too harts
-same_parts campaign outcome says js judged_too left harts so judges rest =
-    ap (λ o. ending_with campaign.form campaign.report o js left) so
-    ∙ ap (λ each. ending_with campaign.form campaign.report says each left) judges
-    ∙ ap (λ hs. ending_with campaign.form campaign.report says judged_too hs) rest
+same_parts : (campaign : Campaign) (n : ℕ) (outcome says : Outcome) (js judged_too : List Judged) (v w : World)
+    → outcome ≡ says → js ≡ judged_too → v ≡ w → ending_left campaign n outcome js v ≡ ending_left campaign n says judged_too w
+same_parts campaign n outcome says js judged_too v w so judges rest =
+    ap (λ o. ending_left campaign n o js v) so
+    ∙ ap (λ each. ending_left campaign n says each v) judges
+    ∙ ap (λ x. ending_left campaign n says judged_too x) rest
 
 -- the ending of a copy's run, where there is no property
 pub ending-copied : (campaign : Campaign) (inputs : List ℕ) (seed : ℕ) (start v w : World) (chosen : ℕ → Bool) (outcome : Outcome)
-    (harts left : List HartValue) (ending : EndingValue) → unjudged campaign.properties ≡ []
-    → v ≡ start → RanOver (drawn_choices campaign.draw v (length inputs) campaign.steps seed) v w chosen → harts ≡ w.harts → left ≡ w.harts
+    (harts : List HartValue) (ending : EndingValue) → unjudged campaign.properties ≡ []
+    → v ≡ start → RanOver (drawn_choices campaign.draw v (length inputs) campaign.steps seed) v w chosen → harts ≡ w.harts
     → ((choices : List Choice) → ((k : ℕ) → chosen k ≡ is_chosen choices k) → outcome ≡ judged campaign.expect.rule inputs choices harts)
-    → ending ≡ ending_with campaign.form campaign.report outcome [] left
+    → ending ≡ ending_left campaign (length inputs) outcome [] w
     → record { seed = seed; ending = ending } ≡ ending_from start campaign inputs seed
 unfolding ending_from
-ending-copied campaign inputs seed start v w chosen outcome harts left ending none copied ran ends rest judges is =
+ending-copied campaign inputs seed start v w chosen outcome harts ending none copied ran ends judges is =
     let choices = drawn_choices campaign.draw v (length inputs) campaign.steps seed in
     let after : w.harts ≡ (run v choices).harts = ap (λ (x : World). x.harts) ran.0 in
     let says : outcome ≡ judged campaign.expect.rule inputs choices (run v choices).harts
     = judges choices ran.1 ∙ ap (judged campaign.expect.rule inputs choices) (ends ∙ after) in
     let unjudged_too : [] ≡ judged_over campaign.properties v choices = sym (ap (map (judged_run v choices)) none) in
     ap {A = EndingValue} {B = SeedEnding} (λ e. record { seed = seed; ending = e })
-    (is ∙ same_parts campaign outcome _ [] _ left _ says unjudged_too (rest ∙ after))
+    (is ∙ same_parts campaign (length inputs) outcome _ [] _ w _ says unjudged_too ran.0)
     ∙ ap (λ x. ending_from x campaign inputs seed) copied
+
+-- where it isn't asked whether runs hang, nothing is added
+pub ending-unasked : (campaign : Campaign) (world : World) (inputs : List ℕ) (choices : List Choice) → campaign.hangs ≡ Unasked
+    → ending_after world campaign inputs choices ≡ ending_with campaign.form campaign.report
+    (judged campaign.expect.rule inputs choices (run world choices).harts)
+    (judged_over campaign.properties world choices) (run world choices).harts
+ending-unasked campaign world inputs choices unasked =
+    let harts = (run world choices).harts in
+    ap {A = Hangs} {B = EndingValue} (λ asked. ending_deciding campaign.form (hangs_if asked (length inputs) campaign.steps (run world choices))
+    (ending_with campaign.form campaign.report (judged campaign.expect.rule inputs choices harts) (judged_over campaign.properties world choices) harts))
+    unasked
 
 -- the run of a seed is that over the list of its choices
 pub ending-listed : (campaign : Campaign) (inputs : List ℕ) (seed : ℕ) (start : World) (choices : List Choice) (ending : EndingValue)

@@ -22,17 +22,18 @@ use Rattle.campaign_runs.specs.declared.campaign.Report.{Report}
 use Rattle.campaign_runs.specs.declared.campaign.Report.TheVariants.{Lines, Failures, Summary, Outcomes, Causes}
 use Rattle.campaign_runs.specs.declared.ending.Ending.{Ending}
 
--- the outcome of a run, the verdict on its properties, and what else a line of the report says in
--- the report's form
+-- the outcome of a run, the verdict on its properties, whether it hangs, if that was decided, and
+-- what else a line of the report says in the report's form
 pub record EndingValue : Type 0 where
   pub outcome : Outcome
   pub properties : Option Verdict
+  pub hangs : Option Bool
   pub words : List ℕ
 
 -- the code's ending as an `EndingValue`
 abbrev pub ending_of : {Z : Type 0} → Ending Z → EndingValue
 ending_of ending =
-    record { outcome = ending.outcome; properties = ending.properties; words = string_bytes ending.words }
+    record { outcome = ending.outcome; properties = ending.properties; hangs = ending.hangs; words = string_bytes ending.words }
 
 -- the registers of a hart that has exited: ` 0:a0=00000001 0:a1=00000000`
 abbrev pub result_words : ℕ → HartState → HartValue → List ℕ
@@ -72,11 +73,13 @@ abbrev pub words_of_ending : Form → Report → List Judged → List HartValue 
 words_of_ending Text report judged harts = property_words judged ++ ending_words report harts
 words_of_ending Json report judged harts = ending_members report judged harts
 
--- the ending of a run with this outcome that left these properties and harts
+-- the ending of a run with this outcome that left these properties and harts, of which it isn't
+-- decided whether it hangs
 abbrev pub ending_with : Form → Report → Outcome → List Judged → List HartValue → EndingValue
 ending_with form report outcome judged harts = record {
   outcome = outcome;
   properties = verdict_on_each judged;
+  hangs = None;
   words = words_of_ending form report judged harts;
 }
 
@@ -84,9 +87,18 @@ ending_with form report outcome judged harts = record {
 abbrev pub ending_breaks : EndingValue → Bool
 ending_breaks ending = breaks ending.properties || breaks ending.outcome.verdict
 
--- whether a run has failed: a property is broken, or its outcome is a failure
+-- whether a run has failed otherwise than by a hang: a property is broken, or its outcome is a failure
+abbrev pub ending_faults : Exit → EndingValue → Bool
+ending_faults exit ending = breaks ending.properties || fails exit ending.outcome
+
+-- whether it was decided that a run hangs
+abbrev pub does_hang : Option Bool → Bool
+does_hang None = false
+does_hang (Some hangs) = hangs
+
+-- whether a run has failed: otherwise, or since it hangs
 abbrev pub ending_fails : Exit → EndingValue → Bool
-ending_fails exit ending = breaks ending.properties || fails exit ending.outcome
+ending_fails exit ending = ending_faults exit ending || does_hang ending.hangs
 
 -- whether two verdicts are the same
 abbrev pub same_verdict : Option Verdict → Option Verdict → Bool
@@ -100,7 +112,15 @@ abbrev pub same_outcome : Outcome → Outcome → Bool
 same_outcome a b =
     (a.exited == b.exited) && (a.faulted == b.faulted) && (a.running == b.running) && same_verdict a.verdict b.verdict
 
+-- whether two answers to the question if a run hangs are the same
+abbrev pub same_hang : Option Bool → Option Bool → Bool
+same_hang None None = true
+same_hang (Some true) (Some true) = true
+same_hang (Some false) (Some false) = true
+same_hang a b = false
+
 -- whether two endings are the same
 abbrev pub same_ending : EndingValue → EndingValue → Bool
 same_ending a b =
-    same_outcome a.outcome b.outcome && same_verdict a.properties b.properties && bytes_eq a.words b.words
+    same_outcome a.outcome b.outcome && same_verdict a.properties b.properties && same_hang a.hangs b.hangs
+    && bytes_eq a.words b.words

@@ -4,6 +4,7 @@ pub mod Properties
 pub mod Members
 pub mod Elements
 pub mod Ending
+pub mod Hangs
 pub mod Runs
 pub mod Tally
 pub mod Jobs

@@ -8,7 +8,8 @@ use Rattle.machine.specs.declared.choice.Choice.{Choice}
 use Rattle.sched_draw.specs.Schedules.{drawn_choices}
 use Rattle.outcome.specs.Expect.{judged}
 use Rattle.campaign_runs.specs.Properties.{judged_over}
-use Rattle.campaign_runs.specs.Ending.{EndingValue, ending_of, ending_with}
+use Rattle.campaign_runs.specs.Ending.{EndingValue, ending_of}
+use Rattle.campaign_runs.specs.Hangs.{ending_left}
 use Rattle.campaign_runs.specs.declared.campaign.Campaign.{Campaign}
 use Rattle.campaign_runs.specs.declared.seed_run.SeedEnd.{SeedEnd}
 
@@ -23,9 +24,9 @@ seed_ending end = record { seed = end.seed; ending = ending_of end.ending }
 
 -- the ending of the run from a world over a list of choices
 abbrev pub ending_after : World → Campaign → List ℕ → List Choice → EndingValue
-ending_after world campaign inputs choices = ending_with campaign.form campaign.report
+ending_after world campaign inputs choices = ending_left campaign (length inputs)
     (judged campaign.expect.rule inputs choices (run world choices).harts)
-    (judged_over campaign.properties world choices) (run world choices).harts
+    (judged_over campaign.properties world choices) (run world choices)
 
 -- a seed, and the ending of the run from a world over the list of choices that the seed gives
 unfoldable pub ending_from : World → Campaign → List ℕ → ℕ → SeedEnding

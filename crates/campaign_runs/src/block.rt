@@ -2,7 +2,7 @@
 
 ghost use Rattle.std.specs.Prelude.{◌≡◌, ◌+◌, ◌<◌, ◌≤◌, ◌^◌, IfOk, length, map};
 ghost use Rattle.std.specs.List.{range_with_len};
-ghost use Rattle.machine.specs.Machine.{world};
+ghost use Rattle.machine.specs.State.{state};
 ghost use Rattle.campaign_runs.specs.Runs.{seed_ending, ending_from, endings_of};
 
 use crate::campaign::Campaign;
@@ -12,7 +12,6 @@ use crate::seeds::Block;
 use image::Image;
 use machine::{Inputs, Machine};
 use mem_flat::FlatStore;
-use mem_store::FromImage;
 use rayon::prelude::*;
 use std::alloc::{AllocError, Allocator};
 use std::thread::Threads;
@@ -39,19 +38,19 @@ pub(crate) fn run_block<A: Allocator + Copy + Send + Sync, B: Allocator + Sync>(
 
 // Runs seeds, each on a copy of a machine. Each thread takes a piece, so no more begin than there
 // are jobs.
-fn run_each<S: FromImage<A> + Sync, A: Allocator + Copy + Send + Sync>(
+fn run_each<A: Allocator + Copy + Send + Sync>(
     rt: &(impl Threads + Sync),
     jobs: Jobs,
     alloc: A,
-    start: &Machine<S, A>,
+    start: &Machine<FlatStore<A>, A>,
     inputs: &Inputs,
     campaign: Campaign,
     block: Block,
 ) -> Result<Vec<SeedEnd<A>, A>, AllocError>
-    requires there { length (world S.memory start.now).harts ≡ length inputs.now }
+    requires there { length (state start.now).harts ≡ length inputs.now }
     requires fits { block.first + block.count ≤ 2 ^ 64 }
     ensures { IfOk result (λ ends. map seed_ending ends.items
-        ≡ map (ending_from (world S.memory start.now) campaign inputs.now)
+        ≡ map (ending_from (state start.now) campaign inputs.now)
         (range_with_len block.first block.count)) }
 {
     let first = block.first;
@@ -60,9 +59,9 @@ fn run_each<S: FromImage<A> + Sync, A: Allocator + Copy + Send + Sync>(
         .with_min_len(jobs.least_piece(block.count))
         .map(
             |place: u64| -> Result<SeedEnd<A>, AllocError>
-                requires { (length (world S.memory start.now).harts ≡ length inputs.now) × (first + place < 2 ^ 64) }
+                requires { (length (state start.now).harts ≡ length inputs.now) × (first + place < 2 ^ 64) }
                 ensures { IfOk result (λ end. seed_ending end
-                    ≡ ending_from (world S.memory start.entry.now) campaign inputs.entry.now (first + place)) }
+                    ≡ ending_from (state start.entry.now) campaign inputs.entry.now (first + place)) }
             { run_seed(alloc, start, inputs, campaign, first + place) },
         )
         .collect(rt, alloc)?;
@@ -88,17 +87,17 @@ pub(crate) fn run_block_alone<A: Allocator + Copy, B: Allocator>(
 
 // Runs seeds one after another, each on a copy of a machine.
 #[tactic(auto, using(crate::proofs::RunLemmas::one_run_more))]
-fn run_in_order<S: FromImage<A>, A: Allocator + Copy>(
+fn run_in_order<A: Allocator + Copy>(
     alloc: A,
-    start: &Machine<S, A>,
+    start: &Machine<FlatStore<A>, A>,
     inputs: &Inputs,
     campaign: Campaign,
     block: Block,
 ) -> Result<Vec<SeedEnd<A>, A>, AllocError>
-    requires there { length (world S.memory start.now).harts ≡ length inputs.now }
+    requires there { length (state start.now).harts ≡ length inputs.now }
     requires fits { block.first + block.count ≤ 2 ^ 64 }
     ensures { IfOk result (λ ends. map seed_ending ends.items
-        ≡ map (ending_from (world S.memory start.now) campaign inputs.now)
+        ≡ map (ending_from (state start.now) campaign inputs.now)
         (range_with_len block.first block.count)) }
 {
     let mut ends = Vec::new(alloc);

@@ -3,6 +3,7 @@
 use crate::properties::Properties;
 use cmd_form::Form;
 use outcome::Expect;
+use run_hangs::Hangs;
 use sched_draw::Draw;
 
 /// What a campaign reports of its runs.
@@ -36,6 +37,8 @@ pub struct Campaign {
     pub expect: Expect,
     /// The properties of one's own that each run is judged by, at its start and after each choice.
     pub properties: Properties,
+    /// Whether it is decided of each run if it hangs, which is a failure.
+    pub hangs: Hangs,
     /// What is reported of the runs.
     pub report: Report,
     /// In which form it is reported.

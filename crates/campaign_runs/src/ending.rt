@@ -1,9 +1,10 @@
 //! How a run ended, in the detail that a report distinguishes.
 
-ghost use Rattle.std.specs.Prelude.{◌≡◌, ◌++◌, IfOk, map, string_bytes};
+ghost use Rattle.std.specs.Prelude.{◌≡◌, ◌++◌, IfOk, OnOk, map, string_bytes};
 ghost use Rattle.hart_step.specs.Hart.{hart_of};
-ghost use Rattle.campaign_runs.specs.Ending.{ending_words, fault_words, faults_of, result_words};
+ghost use Rattle.campaign_runs.specs.Ending.{does_hang, ending_words, fault_words, faults_of, result_words};
 ghost use Rattle.campaign_runs.specs.Ending.{results_from, words_of_ending};
+ghost use Rattle.campaign_runs.specs.Hangs.{hang_text, words_deciding};
 ghost use Rattle.campaign_runs.specs.Properties.{any_broken, property_name, property_words, verdict_by, verdict_on_each, words_of_property};
 
 use crate::campaign::Report;
@@ -29,13 +30,16 @@ pub struct Ending<A: Allocator> {
     pub outcome: Outcome,
     /// The verdict on the properties of one's own, if there are some: `Broken` if one is broken.
     pub properties: Option<Verdict>,
-    /// What else a line of the report says, of the properties and of the harts: as text each word
-    /// behind a space, as JSON each member behind a comma.
+    /// Whether the run hangs, if that was decided.
+    pub hangs: Option<bool>,
+    /// What else a line of the report says, of the properties, of the harts, and whether the run
+    /// hangs: as text each word behind a space, as JSON each member behind a comma.
     pub words: String<A>,
 }
 
 impl<A: Allocator> Ending<A> {
-    ghost use Rattle.campaign_runs.specs.Ending.{ending_breaks, ending_fails, ending_of, ending_with};
+    ghost use Rattle.campaign_runs.specs.Ending.{ending_breaks, ending_fails, ending_faults, ending_of, ending_with};
+    ghost use Rattle.campaign_runs.specs.Hangs.{ending_deciding};
 
     /// The ending of a run with this outcome that left these properties and harts, in the detail
     /// that a report distinguishes, for a report in this form. The only error is out of memory.
@@ -55,8 +59,18 @@ impl<A: Allocator> Ending<A> {
         Ok(Ending {
             outcome,
             properties: verdict_on_each(judged),
+            hangs: None,
             words,
         })
+    }
+
+    /// Adds whether the run hangs, if that was decided. The only error is out of memory.
+    pub(crate) fn decide(&mut self, form: Form, hangs: Option<bool>) -> Result<(), AllocError>
+        ensures { OnOk result (ending_of self.new ≡ ending_deciding form hangs (ending_of self.old)) }
+    {
+        push_hang(&mut self.words, form, hangs)?;
+        self.hangs = hangs;
+        Ok(())
     }
 
     /// Whether a rule or a property is judged and broken.
@@ -66,11 +80,55 @@ impl<A: Allocator> Ending<A> {
         self.properties == Some(Verdict::Broken) || self.outcome.breaks()
     }
 
-    /// Whether the run has failed: a property is broken, or its outcome is a failure.
+    /// Whether the run has failed otherwise than by a hang: a property is broken, or its outcome is
+    /// a failure.
+    pub fn faults(&self, expect: Expect) -> bool
+        ensures { result ≡ ending_faults expect.exit (ending_of self.now) }
+    {
+        self.properties == Some(Verdict::Broken) || expect.fails(self.outcome)
+    }
+
+    /// Whether the run has failed: by its end, or since it hangs.
     pub fn fails(&self, expect: Expect) -> bool
         ensures { result ≡ ending_fails expect.exit (ending_of self.now) }
     {
-        self.properties == Some(Verdict::Broken) || expect.fails(self.outcome)
+        self.faults(expect) || does_hang(self.hangs)
+    }
+}
+
+// Whether it was decided that a run hangs.
+fn does_hang(hangs: Option<bool>) -> bool
+    ensures { result ≡ does_hang hangs }
+{
+    match hangs {
+        None => false,
+        Some(hangs) => hangs,
+    }
+}
+
+// Whether a run hangs, as a line or an object of a report says it.
+fn hang_text(form: Form, hangs: bool) -> &'static str
+    ensures { result.now ≡ hang_text form hangs }
+{
+    match (form, hangs) {
+        (Form::Text, true) => " hangs yes",
+        (Form::Text, false) => " hangs no",
+        (Form::Json, true) => ",\"hangs\":true",
+        (Form::Json, false) => ",\"hangs\":false",
+    }
+}
+
+// Appends whether a run hangs, if that was decided.
+fn push_hang<A: Allocator>(
+    text: &mut String<A>,
+    form: Form,
+    hangs: Option<bool>,
+) -> Result<(), AllocError>
+    ensures { OnOk result (string_bytes text.new ≡ words_deciding form hangs (string_bytes text.old)) }
+{
+    match hangs {
+        None => Ok(()),
+        Some(hangs) => text.push_str(hang_text(form, hangs)),
     }
 }
 

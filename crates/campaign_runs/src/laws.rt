@@ -1,8 +1,14 @@
-//! Laws of tallies.
+//! Laws of endings and tallies.
 
-ghost use Rattle.std.specs.Prelude.{◌≡◌, ◌++◌, ◌↔◌, List, IsTrue, length};
-ghost use Rattle.campaign_runs.specs.Ending.{EndingValue, same_ending};
-ghost use Rattle.campaign_runs.specs.Runs.{SeedEnding};
+ghost use Rattle.std.specs.Prelude.{◌≡◌, ◌++◌, ◌↔◌, ℕ, List, IsTrue, length};
+ghost use Rattle.machine.specs.World.{World, run};
+ghost use Rattle.machine.specs.declared.choice.Choice.{Choice};
+ghost use Rattle.outcome.specs.Expect.{judged};
+ghost use Rattle.run_hangs.specs.declared.asked.Hangs.TheVariants.{Unasked};
+ghost use Rattle.campaign_runs.specs.Ending.{EndingValue, ending_with, same_ending};
+ghost use Rattle.campaign_runs.specs.Properties.{judged_over};
+ghost use Rattle.campaign_runs.specs.Runs.{SeedEnding, ending_after};
+ghost use Rattle.campaign_runs.specs.declared.campaign.Campaign.{Campaign};
 ghost use Rattle.campaign_runs.specs.Tally.{tally_count, seeds_in, seeds_with, tally_of, tally_onto};
 
 /// Endings compare equal exactly if they are the same.
@@ -22,4 +28,13 @@ pub fn each_ending_is_counted()
 pub fn blocks_are_counted_together()
     ensures { (before block : List SeedEnding)
         → tally_onto (tally_of before) block ≡ tally_of (before ++ block) }
+{}
+
+/// Where it isn't asked whether runs hang, an ending has what is judged and what the harts left, and
+/// no more.
+pub fn unasked_hangs_add_nothing()
+    ensures { (campaign : Campaign) (world : World) (inputs : List ℕ) (choices : List Choice) → campaign.hangs ≡ Unasked
+        → ending_after world campaign inputs choices ≡ ending_with campaign.form campaign.report
+        (judged campaign.expect.rule inputs choices (run world choices).harts)
+        (judged_over campaign.properties world choices) (run world choices).harts }
 {}

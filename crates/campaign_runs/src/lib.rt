@@ -6,8 +6,12 @@ pub use campaign::{Campaign, Report};
 pub use cmd_form::Form;
 pub use ending::Ending;
 pub use jobs::Jobs;
-pub use laws::{blocks_are_counted_together, each_ending_is_counted, same_endings_are_equal};
+pub use laws::{
+    blocks_are_counted_together, each_ending_is_counted, same_endings_are_equal,
+    unasked_hangs_add_nothing,
+};
 pub use properties::Properties;
+pub use run_hangs::Hangs;
 pub use runner::{Alone, OnThreads, Runner};
 pub use seed_run::{SeedEnd, ending_of_choices, run_seed};
 pub use seeds::{BLOCK_STEPS, Block, LEAST_SEEDS, MOST_SEEDS, Seeds};

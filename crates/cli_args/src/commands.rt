@@ -3,10 +3,10 @@
 use crate::arguments::Argument;
 use crate::help::{
     ALWAYS, BANKED, BOUNDS, BROKEN_WORD, BUDGET, BY_CAUSE, CHOICES_OF, COUNT, DRAW,
-    DRAW_OF_SCHEDULE, FILE, FIRST, HANGS, HANGS_OF_RUN, HEX, HISTORY, INPUTS, INPUTS_OF_SCHEDULE,
-    JOBS, JSON, JSON_LINES, MUST_EXIT, NEVER_BOTH, OUTCOMES, PREEMPTIONS, REFUSALS, REFUSE, RULE,
-    SC_REFUSALS, SHARED_RANGE, STEPS_OF_CAMPAIGN, SUMMARY, UNTIL_FAILURE, WAYS_OUT, WORLDS,
-    WRITTEN,
+    DRAW_OF_SCHEDULE, FILE, FIRST, HANGS, HANGS_OF_RUN, HANGS_OF_RUNS, HEX, HISTORY, INPUTS,
+    INPUTS_OF_SCHEDULE, JOBS, JSON, JSON_LINES, MUST_EXIT, NEVER_BOTH, OUTCOMES, PREEMPTIONS,
+    REFUSALS, REFUSE, RULE, SC_REFUSALS, SHARED_RANGE, STEPS_OF_CAMPAIGN, SUMMARY, UNTIL_FAILURE,
+    WAYS_OUT, WORLDS, WRITTEN,
 };
 
 /// Which options name the choices of a command's run.
@@ -221,6 +221,7 @@ static ROW_OF_CAMPAIGN: CommandRow = CommandRow {
         Argument::Optional("schedule", DRAW),
         Argument::Optional("refusals", REFUSALS),
         Argument::Flag("must-exit", MUST_EXIT),
+        Argument::Flag("hangs", HANGS_OF_RUNS),
         Argument::Optional("never-both", NEVER_BOTH),
         Argument::Optional("always", ALWAYS),
         Argument::Optional("jobs", JOBS),

@@ -66,6 +66,10 @@ pub(crate) const MUST_EXIT: &str = "a hart that still runs at the end is a failu
 pub(crate) const HANGS_OF_RUN: &str =
     "decide whether the run hangs, which is a failure, with status 7: given as many steps more, a hart still runs";
 
+/// Of `--hangs` of a campaign.
+pub(crate) const HANGS_OF_RUNS: &str =
+    "decide of each run whether it hangs, which is a failure, with status 7: given as many steps more, a hart still runs";
+
 /// Of `--never-both`.
 pub(crate) const NEVER_BOTH: &str =
     "two addresses or symbols, as enter..leave: two harts between them at once are a failure, with status 4";

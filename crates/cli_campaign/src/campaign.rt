@@ -3,7 +3,7 @@
 ghost use Rattle.std.specs.Prelude.{◌+◌, ◌-◌, ◌<◌, ◌≤◌, ◌^◌, IfOk, IfSome};
 
 use crate::bounded::obey_bounded;
-use crate::exiting::exit_of;
+use crate::exiting::{exit_of, hangs_said};
 use crate::properties::{PropertyTexts, read_properties, show_properties};
 use crate::watching::Watching;
 use byte_io::{MemorySource, Progress, Source, Status, WriterSink};
@@ -16,8 +16,8 @@ use cli_values::{
     JOBS, SeedNumbers, SeedPlan, read_draw, read_jobs, read_report, read_seed_numbers, seed_engine,
 };
 use cmd_campaign::{
-    Campaign, Exit, Expect, Finished, Form, Jobs, OnThreads, Properties, Report, campaign_engine,
-    until_failure_engine,
+    Campaign, Exit, Expect, Form, Hangs, Jobs, OnThreads, Properties, Report, RunStatus,
+    campaign_engine, until_failure_engine,
 };
 use program_open::{ProgramForm, write_text};
 use sched_draw::Order;
@@ -51,7 +51,7 @@ impl<'a, R: Eprint> Progress for Line<'a, R> {
 
 // What a bad seed is, as a sentence.
 fn what_is_bad(order: &CampaignOrder, expect: Expect) -> &'static str {
-    if order.has_properties() {
+    if order.has_properties() || order.hangs {
         return "that failed";
     }
     match (expect.rule, expect.exit) {
@@ -81,7 +81,11 @@ fn read_numbers(order: &CampaignOrder) -> Option<SeedNumbers>
 }
 
 // The campaign that an order asks for, yet without its properties, or the status of an invalid line.
-fn read_campaign<R: Print + Eprint>(rt: &R, order: &CampaignOrder) -> Result<Campaign, Status>
+fn read_campaign<R: Print + Eprint>(
+    rt: &R,
+    order: &CampaignOrder,
+    hangs: Hangs,
+) -> Result<Campaign, Status>
     ensures { IfOk result (λ campaign. campaign.first + campaign.count ≤ 2 ^ 64) }
 {
     let expect = read_expect(rt, order)?;
@@ -117,6 +121,7 @@ fn read_campaign<R: Print + Eprint>(rt: &R, order: &CampaignOrder) -> Result<Cam
         draw,
         expect,
         properties: Properties::NONE,
+        hangs,
         report,
         form: form_of(order),
     })
@@ -145,12 +150,14 @@ pub fn obey_campaign<R: Files + AllocGlobal + Print + Eprint + Threads + Sync>(
     rt: &R,
     audience: Audience,
     order: &CampaignOrder,
-) -> Result<Status, Status> {
+) -> Result<RunStatus, Status> {
+    let hangs = hangs_said(rt, order)?;
     if let Some(preemptions) = order.preemptions {
-        return obey_bounded(rt, audience, order, preemptions);
+        let status = obey_bounded(rt, audience, order, preemptions)?;
+        return Ok(RunStatus::Of(status));
     }
     let inputs = inputs_said(rt, order.inputs)?;
-    let campaign = read_campaign(rt, order)?;
+    let campaign = read_campaign(rt, order, hangs)?;
     let Some(jobs) = read_jobs(order.jobs) else {
         return Err(bad_line(rt, JOBS));
     };
@@ -179,7 +186,7 @@ fn report_judged<R: Files + AllocGlobal + Print + Eprint + Threads + Sync, P: So
     campaign: Campaign,
     jobs: Jobs,
     program: &mut P,
-) -> Result<Status, Status>
+) -> Result<RunStatus, Status>
     requires fits { campaign.first + campaign.count ≤ 2 ^ 64 }
     requires program_counts { P.failures program.old < 2 ^ 64 - 1 }
 {
@@ -200,7 +207,7 @@ fn report_campaign<R: Files + AllocGlobal + Print + Eprint + Threads + Sync, P: 
     campaign: Campaign,
     jobs: Jobs,
     program: &mut P,
-) -> Status
+) -> RunStatus
     requires fits { campaign.first + campaign.count ≤ 2 ^ 64 }
     requires program_counts { P.failures program.old < 2 ^ 64 - 1 }
 {
@@ -244,24 +251,19 @@ fn report_campaign<R: Files + AllocGlobal + Print + Eprint + Threads + Sync, P: 
         wipe_line(rt, audience);
     }
     match answer {
-        Ok(
-            Finished {
-                status,
-                first_failure,
-            },
-        ) => {
+        Ok(finished) => {
             if audience.is_told() {
                 let _ = name_places(rt, order, sink.passed());
-                let _ = match first_failure {
+                let _ = match finished.first_failure {
                     Some(seed) => explain_seed(rt, order, inputs, campaign, seed),
                     None => explain_steps(rt, order, inputs, campaign),
                 };
             }
-            status
+            finished.run_status()
         }
         Err(fault) => {
             let files = RunFiles::of_program(order.file, inputs.len());
-            say_why(rt, audience, files, fault)
+            RunStatus::Of(say_why(rt, audience, files, fault))
         }
     }
 }
@@ -296,10 +298,12 @@ fn show_command<R: Eprint>(
     Some(())
 }
 
-// Shows a command for the run of a seed, with all that is expected of the run.
+// Shows a command for the run of a seed, with all that is expected of the run; a hang is a failure
+// by the option `hangs`.
 fn show_judging<R: Eprint>(
     rt: &R,
     name: &str,
+    hangs: &str,
     order: &CampaignOrder,
     campaign: Campaign,
     seed: u64,
@@ -310,6 +314,9 @@ fn show_judging<R: Eprint>(
     }
     if order.must_exit {
         eprint!(rt; " --must-exit").ok()?;
+    }
+    if order.hangs {
+        eprint!(rt; " {hangs}").ok()?;
     }
     show_properties(rt, order)?;
     eprint!(rt; "\n").ok()
@@ -325,11 +332,11 @@ fn show_commands<R: Eprint>(
     eprintln!(rt; "seed {seed} is the first such one. To look into it:").ok()?;
     show_command(rt, "debug", order, campaign, seed)?;
     eprint!(rt; "\n").ok()?;
-    // Of properties run alone tells where they are broken.
-    if order.has_properties() {
-        show_judging(rt, "run", order, campaign, seed)?;
+    // Of properties run alone tells where they are broken, and of a hang on what the harts wait.
+    if order.has_properties() || order.hangs {
+        show_judging(rt, "run", "--hangs", order, campaign, seed)?;
     }
-    show_judging(rt, "shrink", order, campaign, seed)
+    show_judging(rt, "shrink", "--must-exit", order, campaign, seed)
 }
 
 // The program and the choices of a seed, which are made again.
@@ -391,8 +398,12 @@ fn explain_steps<R: Files + AllocGlobal + Eprint>(
     let text = choices.as_bytes();
     if ends_running(rt, ProgramForm::Elf, &program, inputs, text)? {
         let (seed, steps) = (campaign.first, campaign.steps);
+        let also = match campaign.hangs {
+            Hangs::Unasked => ", or --hangs if harts have to stop",
+            Hangs::Asked => "",
+        };
         eprintln!(rt;
-            "each hart of seed {seed} still runs after {steps} steps: write more by --steps, or --must-exit if harts have to stop"
+            "each hart of seed {seed} still runs after {steps} steps: write more by --steps{also}"
         ).ok()?;
     }
     Some(())

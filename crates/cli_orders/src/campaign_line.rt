@@ -5,8 +5,8 @@ use cli_args::{is_set, text_of};
 
 /// `campaign FILE --inputs L --first S --count C --steps N [--rule K] [--failures]
 /// [--until-failure] [--summary] [--outcomes] [--by-cause] [--schedule KIND]
-/// [--refusals never|one-in:N] [--must-exit] [--never-both R] [--always P] [--jobs J] [--json]`: runs a
-/// program under a random schedule for each of C seeds from S on, and prints a line for each, with a
+/// [--refusals never|one-in:N] [--must-exit] [--hangs] [--never-both R] [--always P] [--jobs J] [--json]`:
+/// runs a program under a random schedule for each of C seeds from S on, and prints a line for each, with a
 /// rule also its verdict; or the lines of bad seeds alone, or of the first of them, or how many seeds
 /// end in which way. With `--preemptions K [--choices-of N]` it does so for every schedule with at most K
 /// preemptions.
@@ -40,6 +40,8 @@ pub struct CampaignOrder<'a> {
     pub refusals: Option<&'a str>,
     /// Whether a run that leaves a hart running has failed.
     pub must_exit: bool,
+    /// Whether it is decided of each run if it hangs.
+    pub hangs: bool,
     /// The addresses between which no two harts may be at once.
     pub never_both: Option<&'a str>,
     /// What a word of memory has to be after each choice.
@@ -78,6 +80,7 @@ pub(crate) fn campaign_order<'a>(matches: &ArgMatches<'a>) -> Option<CampaignOrd
         draw: text_of(matches, "schedule"),
         refusals: text_of(matches, "refusals"),
         must_exit: is_set(matches, "must-exit"),
+        hangs: is_set(matches, "hangs"),
         never_both: text_of(matches, "never-both"),
         always: text_of(matches, "always"),
         jobs: text_of(matches, "jobs"),

@@ -6,7 +6,8 @@ use crate::said::properties_said;
 use byte_io::{Status, WriterSink};
 use cli_args::RunOrder;
 use cli_report::{
-    Audience, RunChoices, RunFiles, bad_line, form_said, inputs_said, open_run, say_why,
+    Audience, HANGS_OR_MUST_EXIT, RunChoices, RunFiles, bad_line, form_said, inputs_said, open_run,
+    say_why,
 };
 use cli_run::{expect_said, explain_failure, has_failed, obey_run};
 use cmd_properties::{Form, Hangs, RunStatus, judged_text};
@@ -14,9 +15,6 @@ use program_named::open_named;
 use program_open::{CommandFault, write_text};
 use std::io;
 use std::rt::Files;
-
-const BOTH: &str =
-    "--must-exit takes each hart that still runs for a failure, and --hangs decides whether it can stop: they don't go together";
 
 /// Runs a program under choices, those of its order, judges the order's properties, if it has some,
 /// and decides whether the run hangs, if it asks for that; prints lines, or an object of JSON. The
@@ -29,7 +27,7 @@ pub fn obey_any_run<R: Files + AllocGlobal + Print + Eprint>(
     choices: RunChoices<'_>,
 ) -> Result<RunStatus, Status> {
     if order.hangs && order.must_exit {
-        return Err(bad_line(rt, BOTH));
+        return Err(bad_line(rt, HANGS_OR_MUST_EXIT));
     }
     if order.has_properties() || order.json || order.hangs {
         obey_judged(rt, audience, order, choices)

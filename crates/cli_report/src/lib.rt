@@ -17,8 +17,8 @@ pub use output_file::{OutputFault, OutputFile, PROGRAM_MODE, TEXT_MODE};
 pub use places::explain_places;
 pub use progress_line::{WIPE, wipe_line};
 pub use report::{
-    bad_line, cannot_open, cannot_read, cannot_write, out_of_memory, refuse, refuse_line, say,
-    would_overwrite,
+    HANGS_OR_MUST_EXIT, bad_line, cannot_open, cannot_read, cannot_write, out_of_memory, refuse,
+    refuse_line, say, would_overwrite,
 };
 pub use run_choices::RunChoices;
 pub use said::{form_said, inputs_said, rule_said};

@@ -16,6 +16,10 @@ use std::io;
 // in `--inputs -1`, that is wrong.
 const TIP: &str = "\n  tip: to pass '";
 
+/// Why `--hangs` isn't taken beside `--must-exit`.
+pub const HANGS_OR_MUST_EXIT: &str =
+    "--must-exit takes each hart that still runs for a failure, and --hangs decides whether it can stop: they don't go together";
+
 /// Reports that memory is exhausted.
 pub fn out_of_memory(rt: &impl Eprint) -> Status
     ensures { result ≡ Status.NoMemory }

@@ -18,7 +18,7 @@ use Rattle.campaign_runs.specs.Runs.{all_endings}
 use Rattle.campaign_runs.specs.declared.campaign.Campaign.{Campaign}
 use Rattle.byte_io.specs.declared.status.Status.{Status}
 use Rattle.cmd_campaign.specs.Answers.{after_image, campaign_answer, campaign_failure, first_failure_after, reported}
-use Rattle.cmd_campaign.specs.Status.{finished_of}
+use Rattle.cmd_campaign.specs.Status.{campaign_end}
 use Rattle.cmd_campaign.specs.declared.engine.Finished.{Finished}
 
 module _ (campaign : Campaign) (inputs : List ℕ) where
@@ -89,7 +89,7 @@ module _ (campaign : Campaign) (inputs : List ℕ) where
 
     -- the first seed whose run has failed
     pub first_known : (r : Result Finished CommandFault)
-        → IfOk r (λ f. f ≡ finished_of campaign.expect.exit (all_endings campaign image inputs))
+        → IfOk r (λ f. f ≡ campaign_end campaign.expect.exit (all_endings campaign image inputs))
         → IfOk r (λ f. IfSome left (λ p. f.first_failure ≡ campaign_failure campaign inputs p))
     unfolding campaign_failure
     first_known (Ok f) h = go left reads

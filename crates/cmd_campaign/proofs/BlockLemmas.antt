@@ -1,6 +1,5 @@
 -- How far a campaign has come, block by block.
 use Rattle.std.proofs.Common.{◌≡◌, ℕ, ◌+◌, ◌^◌, ◌<◌, ◌||◌, Bool, true, false, List, [], ◌∷◌, ◌++◌, map, take, length, Option, Some, None, cond, append-nil, append_assoc, refl, arith, ap, ap₂, sym, subst, ◌∙◌}
-use Rattle.std.specs.Prelude.{is_some}
 use Rattle.std.proofs.KnownBytes.{Appends-nil, Appends-trans}
 use Rattle.std.proofs.lemmas.Grind.{flat_map-append}
 use Rattle.std.proofs.lemmas.List.{length-append, length-map, map-append}
@@ -14,7 +13,7 @@ use Rattle.program_open.specs.Answers.{Begins}
 use Rattle.outcome.specs.Expect.{status_by}
 use Rattle.outcome.specs.declared.expect.Exit.{Exit}
 use Rattle.cmd_form.specs.declared.form.Form.{Form}
-use Rattle.campaign_runs.specs.Ending.{ending_breaks}
+use Rattle.campaign_runs.specs.Ending.{ending_breaks, ending_faults}
 use Rattle.campaign_runs.specs.Runs.{SeedEnding, all_endings, seed_ending, ending_from, endings_of}
 use Rattle.campaign_runs.specs.Tally.{TallyRow, seeds_in, tally_of, tally_onto}
 use Rattle.campaign_runs.specs.declared.campaign.Campaign.{Campaign}
@@ -23,7 +22,7 @@ use Rattle.campaign_runs.specs.declared.campaign.Report.TheVariants.{Lines, Fail
 use Rattle.campaign_runs.specs.declared.seed_run.SeedEnd.{SeedEnd}
 use Rattle.campaign_runs.proofs.TallyLemmas.{tally_onto-append}
 use Rattle.cmd_campaign.specs.Lines.{report_entries, report_entry, has_failed}
-use Rattle.cmd_campaign.specs.Status.{any_breaks, finished_of, first_failure, first_or}
+use Rattle.cmd_campaign.specs.Status.{any_breaks, any_faults, campaign_end, first_failure, first_or}
 use Rattle.cmd_campaign.specs.Summary.{counted_of}
 use Rattle.cmd_campaign.specs.declared.engine.Finished.{Finished}
 use Rattle.cmd_campaign.proofs.ReportLemmas.{begins_at, begins_in}
@@ -76,22 +75,24 @@ first_failure-append exit (end ∷ done) block = by (has_failed exit end) (first
 module _ (form : Form) (report : Report) (exit : Exit) where
   -- the runs that are done are recorded, and it is known which of them has failed first; the others
   -- are to come
-  pub record SoFar (all left : List SeedEnding) (old now : Option (List ℕ)) (rows : List TallyRow) (broken : Bool) (first : Option ℕ) : Type 0 where
+  pub record SoFar (all left : List SeedEnding) (old now : Option (List ℕ)) (rows : List TallyRow) (broken faulted : Bool) (first : Option ℕ) : Type 0 where
     pub done : List SeedEnding
     pub order : all ≡ done ++ left
     pub text : Appends old now (report_entries form report exit done)
     pub counted : rows ≡ tally_of (counted_of report done)
     pub breaking : broken ≡ any_breaks done
+    pub faulting : faulted ≡ any_faults exit done
     pub failing : first ≡ first_failure exit done
 
   pub at_start : (all left : List SeedEnding) (old : Option (List ℕ)) (rows : List TallyRow) → left ≡ all → rows ≡ []
-      → SoFar all left old old rows false None
+      → SoFar all left old old rows false false None
   at_start all left old rows whole none = record {
     done = [];
     order = sym whole;
     text = Appends-nil old;
     counted = none ∙ none_counted report;
     breaking = refl;
+    faulting = refl;
     failing = refl;
   }
     where
@@ -103,12 +104,13 @@ module _ (form : Form) (report : Report) (exit : Exit) where
       none_counted Causes = refl
 
   -- one block later
-  pub goes_on : (all runs block left : List SeedEnding) (old now new : Option (List ℕ)) (rows rows_now : List TallyRow) (broken broken_now : Bool)
+  pub goes_on : (all runs block left : List SeedEnding) (old now new : Option (List ℕ)) (rows rows_now : List TallyRow) (broken broken_now faulted faulted_now : Bool)
       (first first_now : Option ℕ) → runs ≡ block ++ left → Appends now new (report_entries form report exit block)
       → rows_now ≡ tally_onto rows (counted_of report block) → broken_now ≡ (broken || any_breaks block)
+      → faulted_now ≡ (faulted || any_faults exit block)
       → first_now ≡ first_or first (first_failure exit block)
-      → SoFar all runs old now rows broken first → SoFar all left old new rows_now broken_now first_now
-  goes_on all runs block left old now new rows rows_now broken broken_now first first_now split more counts breaks_too fails_too before = record {
+      → SoFar all runs old now rows broken faulted first → SoFar all left old new rows_now broken_now faulted_now first_now
+  goes_on all runs block left old now new rows rows_now broken broken_now faulted faulted_now first first_now split more counts breaks_too faults_too fails_too before = record {
     done = before.done ++ block;
     order = before.order ∙ ap (λ rest. before.done ++ rest) split ∙ sym (append_assoc before.done block left);
     text = subst (λ text. Appends old new text) (sym (flat_map-append (report_entry form report exit) before.done block))
@@ -118,6 +120,8 @@ module _ (form : Form) (report : Report) (exit : Exit) where
         ∙ ap tally_of (sym (counted_of-append report before.done block));
     breaking = breaks_too ∙ ap (λ b. b || any_breaks block) before.breaking
         ∙ sym (list_any-append (λ (end : SeedEnding). ending_breaks end.ending) before.done block);
+    faulting = faults_too ∙ ap (λ b. b || any_faults exit block) before.faulting
+        ∙ sym (list_any-append (λ (end : SeedEnding). ending_faults exit end.ending) before.done block);
     failing = fails_too ∙ ap (λ f. first_or f (first_failure exit block)) before.failing
         ∙ sym (first_failure-append exit before.done block);
   }
@@ -126,35 +130,36 @@ module _ (form : Form) (report : Report) (exit : Exit) where
   pub record IsDone (all : List SeedEnding) (old now : Option (List ℕ)) (rows : List TallyRow) (finished : Finished) : Type 0 where
     pub written : Appends old now (report_entries form report exit all)
     pub counted : rows ≡ tally_of (counted_of report all)
-    pub finished_is : finished ≡ finished_of exit all
+    pub finished_is : finished ≡ campaign_end exit all
 
-  pub at_end : (all left : List SeedEnding) (old now : Option (List ℕ)) (rows : List TallyRow) (broken : Bool) (first : Option ℕ) (finished : Finished)
-      → left ≡ [] → finished.status ≡ status_by broken (is_some first) → finished.first_failure ≡ first
-      → SoFar all left old now rows broken first → IsDone all old now rows finished
-  at_end all left old now rows broken first finished none status is h =
+  pub at_end : (all left : List SeedEnding) (old now : Option (List ℕ)) (rows : List TallyRow) (broken faulted : Bool) (first : Option ℕ) (finished : Finished)
+      → left ≡ [] → finished.status ≡ status_by broken faulted → finished.first_failure ≡ first
+      → SoFar all left old now rows broken faulted first → IsDone all old now rows finished
+  at_end all left old now rows broken faulted first finished none status is h =
       let whole : h.done ≡ all = sym (h.order ∙ ap (λ rest. h.done ++ rest) none ∙ append-nil h.done) in
       let breaking : broken ≡ any_breaks all = h.breaking ∙ ap any_breaks whole in
+      let faulting : faulted ≡ any_faults exit all = h.faulting ∙ ap (any_faults exit) whole in
       let failing : first ≡ first_failure exit all = h.failing ∙ ap (first_failure exit) whole in record {
         written = subst (λ runs. Appends old now (report_entries form report exit runs)) whole h.text;
         counted = h.counted ∙ ap (λ runs. tally_of (counted_of report runs)) whole;
         finished_is = λ i. record {
-          status = (status ∙ ap₂ (λ b f. status_by b (is_some f)) breaking failing) i;
+          status = (status ∙ ap₂ status_by breaking faulting) i;
           first_failure = (is ∙ failing) i;
         };
       }
 
   -- a halt between two blocks
-  pub halts_between : (all left : List SeedEnding) (old now : Option (List ℕ)) (rows : List TallyRow) (broken : Bool) (first : Option ℕ)
-      → SoFar all left old now rows broken first → Begins (report_entries form report exit all) old now
-  halts_between all left old now rows broken first h =
+  pub halts_between : (all left : List SeedEnding) (old now : Option (List ℕ)) (rows : List TallyRow) (broken faulted : Bool) (first : Option ℕ)
+      → SoFar all left old now rows broken faulted first → Begins (report_entries form report exit all) old now
+  halts_between all left old now rows broken faulted first h =
       subst (λ bytes. Begins bytes old now) (sym (ap (report_entries form report exit) h.order ∙ flat_map-append (report_entry form report exit) h.done left))
       (begins_at old now (report_entries form report exit h.done) (report_entries form report exit left) h.text)
 
   -- a halt within a block
-  pub halts_in_block : (all runs block left : List SeedEnding) (old now new : Option (List ℕ)) (rows : List TallyRow) (broken : Bool) (first : Option ℕ)
-      → runs ≡ block ++ left → SoFar all runs old now rows broken first → Begins (report_entries form report exit block) now new
+  pub halts_in_block : (all runs block left : List SeedEnding) (old now new : Option (List ℕ)) (rows : List TallyRow) (broken faulted : Bool) (first : Option ℕ)
+      → runs ≡ block ++ left → SoFar all runs old now rows broken faulted first → Begins (report_entries form report exit block) now new
       → Begins (report_entries form report exit all) old new
-  halts_in_block all runs block left old now new rows broken first split h more =
+  halts_in_block all runs block left old now new rows broken faulted first split h more =
       let order : all ≡ h.done ++ (block ++ left) = h.order ∙ ap (λ rest. h.done ++ rest) split in
       let text : report_entries form report exit all
       ≡ report_entries form report exit h.done ++ (report_entries form report exit block ++ report_entries form report exit left)
@@ -165,10 +170,10 @@ module _ (form : Form) (report : Report) (exit : Exit) where
 
 -- the runs of a block can be counted, as all can
 pub room : (campaign : Campaign) (image : ImageValue) (inputs : List ℕ) (runs left : List SeedEnding) (old now : Option (List ℕ)) (rows : List TallyRow)
-    (broken : Bool) (first : Option ℕ) {Z : Type 0} (ends : List (SeedEnd Z))
-    → SoFar campaign.form campaign.report campaign.expect.exit (all_endings campaign image inputs) runs old now rows broken first
+    (broken faulted : Bool) (first : Option ℕ) {Z : Type 0} (ends : List (SeedEnd Z))
+    → SoFar campaign.form campaign.report campaign.expect.exit (all_endings campaign image inputs) runs old now rows broken faulted first
     → runs ≡ map seed_ending ends ++ left → campaign.count < 2 ^ 64 → seeds_in rows + length ends < 2 ^ 64
-room campaign image inputs runs left old now rows broken first ends h split few =
+room campaign image inputs runs left old now rows broken faulted first ends h split few =
     let all : campaign.count ≡ length h.done + (length (map seed_ending ends) + length left)
     = sym (as_many campaign image inputs) ∙ ap length (h.order ∙ ap (λ rest. h.done ++ rest) split) ∙ length-append h.done (map seed_ending ends ++ left)
     ∙ ap (λ n. length h.done + n) (length-append (map seed_ending ends) left) in

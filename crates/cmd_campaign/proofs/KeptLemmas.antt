@@ -1,6 +1,5 @@
 -- Campaigns of an object.
 use Rattle.std.proofs.Common.{◌≡◌, ℕ, ◌^◌, ◌<◌, Bool, true, false, cond, ◌||◌, rules, List, [], ◌∷◌, ◌++◌, zero, suc, eqb, ltb, arith, length, Option, Some, None, Result, Ok, Err, IfOk, refl, ap, ap₂, sym, subst, ◌∙◌, inl, inr}
-use Rattle.std.specs.Prelude.{is_some}
 use Rattle.std.specs.List.{All, range_with_len}
 use Rattle.std.specs.Option.{IfSome}
 use Rattle.std.proofs.lemmas.List.Elements.{All-nil, All-cons}
@@ -24,7 +23,10 @@ use Rattle.program_open.specs.declared.program.ProgramForm.TheVariants as form
 use Rattle.program_open.specs.declared.command_fault.CommandFault.{CommandFault}
 use Rattle.cmd_form.specs.declared.form.Form.{Form}
 use Rattle.cmd_form.specs.declared.form.Form.TheVariants.{Text, Json}
-use Rattle.campaign_runs.specs.Ending.{ending_breaks, words_of_ending}
+use Rattle.run_hangs.specs.Asked.{hangs_if}
+use Rattle.run_hangs.specs.declared.asked.Hangs.TheVariants.{Unasked}
+use Rattle.campaign_runs.specs.Ending.{does_hang, ending_breaks, ending_faults, words_of_ending}
+use Rattle.campaign_runs.specs.Hangs.{words_deciding}
 use Rattle.campaign_runs.specs.Properties.{judged_over, no_properties, verdict_on_each}
 use Rattle.campaign_runs.specs.Runs.{SeedEnding, all_endings, ending_from, endings_of}
 use Rattle.campaign_runs.specs.declared.campaign.Campaign.{Campaign}
@@ -35,7 +37,7 @@ use Rattle.cmd_campaign.specs.Answers.{after_image, campaign_answer}
 use Rattle.cmd_campaign.specs.Kept.{AllKept, AnswersNothing}
 use Rattle.cmd_campaign.specs.Lines.{end_entry, report_entries, has_failed}
 use Rattle.cmd_campaign.specs.Summary.{report_text}
-use Rattle.cmd_campaign.specs.Status.{any_breaks, finished_of, first_failure, campaign_status}
+use Rattle.cmd_campaign.specs.Status.{any_breaks, any_faults, campaign_end, campaign_status}
 use Rattle.cmd_campaign.specs.declared.engine.Finished.{Finished}
 
 -- lines of seeds have no words
@@ -95,29 +97,6 @@ module _ (kind : Kind) (image : ImageValue) (campaign : Campaign) (inputs : List
     after_seed seed =
         run (started image inputs) (drawn_choices campaign.draw (started image inputs) (length inputs) campaign.steps seed)
 
-    -- so an ending has the words of harts alone
-    harts_words : (report : Report) → campaign.report ≡ report
-        → (seed : ℕ) → (end seed).ending.words ≡ words_of_ending campaign.form report [] (after_seed seed).harts
-    unfolding end ending_from
-    harts_words report is seed =
-        let choices = drawn_choices campaign.draw (started image inputs) (length inputs) campaign.steps seed in
-        let harts = (run (started image inputs) choices).harts in
-        ap₂ (λ properties r. words_of_ending campaign.form r (judged_over properties (started image inputs) choices) harts) bare is
-
-    all_wordless : ((seed : ℕ) → (end seed).ending.words ≡ []) → (seeds : List ℕ) → AllWordless (endings_of campaign image inputs seeds)
-    unfolding endings_of end
-    all_wordless silent [] = All-nil IsWordless
-    all_wordless silent (seed ∷ seeds) =
-        All-cons IsWordless (end seed) (endings_of campaign image inputs seeds) (silent seed) (all_wordless silent seeds)
-
-    -- so lines of seeds have none
-    pub lines_wordless : (report : Report) → campaign.report ≡ report → (seeds : List ℕ) → WordlessIn report (endings_of campaign image inputs seeds)
-    lines_wordless Lines is seeds = all_wordless (λ seed. harts_words Lines is seed ∙ none_in_lines campaign.form (after_seed seed)) seeds
-    lines_wordless Failures is seeds = all_wordless (λ seed. harts_words Failures is seed ∙ none_in_failures campaign.form (after_seed seed)) seeds
-    lines_wordless Summary is seeds = tt
-    lines_wordless Outcomes is seeds = tt
-    lines_wordless Causes is seeds = tt
-
     -- nothing is broken
     breaks_not : (seed : ℕ) → ending_breaks (end seed).ending ≡ false
     breaks_not seed = ap₂ (λ p v. breaks p || breaks v) (plain seed) (kept seed)
@@ -127,42 +106,76 @@ module _ (kind : Kind) (image : ImageValue) (campaign : Campaign) (inputs : List
     none_breaks [] = refl
     none_breaks (seed ∷ seeds) = ap₂ (λ a b. a || b) (breaks_not seed) (none_breaks seeds)
 
-    fails_not : (seed : ℕ) → has_failed May (end seed) ≡ false
-    fails_not seed =
+    -- and where harts may run, no run has failed otherwise than by a hang
+    faults_not : (seed : ℕ) → ending_faults May (end seed).ending ≡ false
+    faults_not seed =
         ap₂ (λ p v. breaks p || (breaks v || (has_faults v (end seed).ending.outcome.faulted || false))) (plain seed) (kept seed)
 
-    -- and where harts may run, no run has failed
-    none_fails : (seeds : List ℕ) → first_failure May (endings_of campaign image inputs seeds) ≡ None
+    none_faults : (seeds : List ℕ) → any_faults May (endings_of campaign image inputs seeds) ≡ false
     unfolding endings_of end
-    none_fails [] = refl
-    none_fails (seed ∷ seeds) =
-        ap₂ (λ failed rest. cond failed (Some (end seed).seed) rest) (fails_not seed) (none_fails seeds)
-
-    -- so none has a line among the failures
-    none_listed : (seeds : List ℕ) → report_entries campaign.form Failures May (endings_of campaign image inputs seeds) ≡ []
-    unfolding endings_of end
-    none_listed [] = refl
-    none_listed (seed ∷ seeds) =
-        ap₂ (λ failed rest. cond failed (end_entry campaign.form (end seed)) [] ++ rest) (fails_not seed) (none_listed seeds)
-
-    nothing : (report : Report) (exit : Exit) (seeds : List ℕ) → report ≡ Failures → exit ≡ May
-        → (report_text campaign.form report exit (endings_of campaign image inputs seeds) ≡ []) × (campaign_status exit (endings_of campaign image inputs seeds) ≡ status.Done)
-    nothing report exit seeds failures may =
-        let ends = endings_of campaign image inputs seeds in (
-          ap₂ (λ r e. report_text campaign.form r e ends) failures may ∙ none_listed seeds,
-          ap (λ e. campaign_status e ends) may ∙ ap₂ (λ b f. status_by b (is_some f)) (none_breaks seeds) (none_fails seeds),
-        )
+    none_faults [] = refl
+    none_faults (seed ∷ seeds) = ap₂ (λ a b. a || b) (faults_not seed) (none_faults seeds)
 
     -- the status
     unbroken : (exit : Exit) (seeds : List ℕ) → IsUnbroken exit (campaign_status exit (endings_of campaign image inputs seeds))
-    unbroken May seeds = ap₂ (λ b f. status_by b (is_some f)) (none_breaks seeds) (none_fails seeds)
+    unbroken May seeds = ap₂ status_by (none_breaks seeds) (none_faults seeds)
     unbroken Must seeds =
         let ends = endings_of campaign image inputs seeds in
-        subst (λ b. IsUnbroken Must (status_by b (is_some (first_failure Must ends)))) (sym (none_breaks seeds)) (by (is_some (first_failure Must ends)))
+        subst (λ b. IsUnbroken Must (status_by b (any_faults Must ends))) (sym (none_breaks seeds)) (by (any_faults Must ends))
       where
         by : (b : Bool) → IsUnbroken Must (status_by false b)
         by true = inr refl
         by false = inl refl
+
+    -- ---- where it isn't decided whether runs hang
+    module _ (unasked : campaign.hangs ≡ Unasked) where
+      undecided : (seed : ℕ) → (end seed).ending.hangs ≡ None
+      unfolding end ending_from
+      undecided seed = ap (λ asked. hangs_if asked (length inputs) campaign.steps (after_seed seed)) unasked
+
+      -- an ending has the words of harts alone
+      harts_words : (report : Report) → campaign.report ≡ report
+          → (seed : ℕ) → (end seed).ending.words ≡ words_of_ending campaign.form report [] (after_seed seed).harts
+      unfolding end ending_from
+      harts_words report is seed =
+          let choices = drawn_choices campaign.draw (started image inputs) (length inputs) campaign.steps seed in
+          let harts = (run (started image inputs) choices).harts in
+          let said = words_of_ending campaign.form campaign.report (judged_over campaign.properties (started image inputs) choices) harts in
+          ap (λ asked. words_deciding campaign.form (hangs_if asked (length inputs) campaign.steps (after_seed seed)) said) unasked
+          ∙ ap₂ (λ properties r. words_of_ending campaign.form r (judged_over properties (started image inputs) choices) harts) bare is
+
+      all_wordless : ((seed : ℕ) → (end seed).ending.words ≡ []) → (seeds : List ℕ) → AllWordless (endings_of campaign image inputs seeds)
+      unfolding endings_of end
+      all_wordless silent [] = All-nil IsWordless
+      all_wordless silent (seed ∷ seeds) =
+          All-cons IsWordless (end seed) (endings_of campaign image inputs seeds) (silent seed) (all_wordless silent seeds)
+
+      -- so lines of seeds have none
+      pub lines_wordless : (report : Report) → campaign.report ≡ report → (seeds : List ℕ) → WordlessIn report (endings_of campaign image inputs seeds)
+      lines_wordless Lines is seeds = all_wordless (λ seed. harts_words Lines is seed ∙ none_in_lines campaign.form (after_seed seed)) seeds
+      lines_wordless Failures is seeds = all_wordless (λ seed. harts_words Failures is seed ∙ none_in_failures campaign.form (after_seed seed)) seeds
+      lines_wordless Summary is seeds = tt
+      lines_wordless Outcomes is seeds = tt
+      lines_wordless Causes is seeds = tt
+
+      -- where harts may run, no run has failed
+      fails_not : (seed : ℕ) → has_failed May (end seed) ≡ false
+      fails_not seed = ap₂ (λ f h. f || does_hang h) (faults_not seed) (undecided seed)
+
+      -- so none has a line among the failures
+      none_listed : (seeds : List ℕ) → report_entries campaign.form Failures May (endings_of campaign image inputs seeds) ≡ []
+      unfolding endings_of end
+      none_listed [] = refl
+      none_listed (seed ∷ seeds) =
+          ap₂ (λ failed rest. cond failed (end_entry campaign.form (end seed)) [] ++ rest) (fails_not seed) (none_listed seeds)
+
+      nothing : (report : Report) (exit : Exit) (seeds : List ℕ) → report ≡ Failures → exit ≡ May
+          → (report_text campaign.form report exit (endings_of campaign image inputs seeds) ≡ []) × (campaign_status exit (endings_of campaign image inputs seeds) ≡ status.Done)
+      nothing report exit seeds failures may =
+          let ends = endings_of campaign image inputs seeds in (
+            ap₂ (λ r e. report_text campaign.form r e ends) failures may ∙ none_listed seeds,
+            ap (λ e. campaign_status e ends) may ∙ ap₂ status_by (none_breaks seeds) (none_faults seeds),
+          )
 
 abbrev loads : ImageValue → Result ImageValue CommandFault
 loads x = Ok x
@@ -178,7 +191,7 @@ module _ (campaign : Campaign) (inputs : List ℕ) (image : ImageValue) where
       × AllKept (all_endings campaign object.image inputs)
 
   certified : (finished : Finished) (p : List ℕ) → All (λ x. x < 2 ^ 32) inputs → IsStartable inputs → program_of form.Elf p ≡ Ok image
-      → finished ≡ finished_of campaign.expect.exit (all_endings campaign image inputs) → Certifies finished p
+      → finished ≡ campaign_end campaign.expect.exit (all_endings campaign image inputs) → Certifies finished p
   certified finished p words startable reads is = λ object.
       let seeds = range_with_len campaign.first campaign.count in
       let one : object.image ≡ image = same_image object.image image (sym object.reads ∙ reads) in
@@ -191,7 +204,7 @@ module _ (campaign : Campaign) (inputs : List ℕ) (image : ImageValue) where
 
   pub certified_known : (left : Option (List ℕ)) (r : Result Finished CommandFault) → IfSome left (λ p. program_of form.Elf p ≡ Ok image)
       → IfOk r (λ _. All (λ x. x < 2 ^ 32) inputs) → IfOk r (λ _. IsStartable inputs)
-      → IfOk r (λ f. f ≡ finished_of campaign.expect.exit (all_endings campaign image inputs))
+      → IfOk r (λ f. f ≡ campaign_end campaign.expect.exit (all_endings campaign image inputs))
       → IfOk r (λ f. IfSome left (λ p. Certifies f p))
   certified_known None (Ok f) reads words startable is = tt
   certified_known (Some p) (Ok f) reads words startable is = certified f p words startable reads is
@@ -216,11 +229,12 @@ answered P n none many shown of_none of_many runs = by (eqb n 0) refl
     by false e = few (ltb most_harts n) (some n e)
 
 pub no_failures : (campaign : Campaign) (inputs program : List ℕ) → campaign.report ≡ Failures → campaign.expect.exit ≡ May
-    → campaign.properties ≡ no_properties → All (λ x. x < 2 ^ 32) inputs → IsCertified form.Elf program inputs campaign.expect.rule
+    → campaign.properties ≡ no_properties → campaign.hangs ≡ Unasked
+    → All (λ x. x < 2 ^ 32) inputs → IsCertified form.Elf program inputs campaign.expect.rule
     → AnswersNothing (campaign_answer campaign inputs program)
 unfolding campaign_answer
-no_failures campaign inputs program failures may bare words h =
+no_failures campaign inputs program failures may bare unasked words h =
     subst (λ p. AnswersNothing (after_image campaign inputs p)) (sym h.reads)
     (answered AnswersNothing (length inputs) _ _ _ tt tt (λ some.
-    nothing h.kind h.image campaign inputs some h.same h.meant words h.ruled bare campaign.report campaign.expect.exit
+    nothing h.kind h.image campaign inputs some h.same h.meant words h.ruled bare unasked campaign.report campaign.expect.exit
     (range_with_len campaign.first campaign.count) failures may))

@@ -18,6 +18,7 @@ use Rattle.campaign_runs.specs.declared.campaign.Campaign.{Campaign}
 use Rattle.campaign_runs.specs.declared.campaign.Report.{Report}
 use Rattle.campaign_runs.specs.declared.campaign.Report.TheVariants.{Lines, Failures, Summary, Outcomes, Causes}
 use Rattle.cmd_run.specs.Certified.{IsCertified}
+use Rattle.run_hangs.specs.declared.asked.Hangs.TheVariants.{Unasked}
 use Rattle.cmd_campaign.specs.Answers.{after_image, campaign_answer, reported}
 use Rattle.cmd_campaign.specs.Kept.{kept_line, kept_row, AllKept, AnswersKeptLines}
 use Rattle.cmd_campaign.specs.Lines.{end_entry, has_failed, report_entries, seed_line, seed_object, verdict_member, verdict_word}
@@ -110,12 +111,13 @@ refused_kept form Summary why = tt
 refused_kept form Outcomes why = tt
 refused_kept form Causes why = tt
 
-pub lines_say_kept : (campaign : Campaign) (inputs program : List ℕ) → campaign.properties ≡ no_properties → All (λ x. x < 2 ^ 32) inputs
+pub lines_say_kept : (campaign : Campaign) (inputs program : List ℕ) → campaign.properties ≡ no_properties → campaign.hangs ≡ Unasked
+    → All (λ x. x < 2 ^ 32) inputs
     → IsCertified form.Elf program inputs campaign.expect.rule → AnswersKeptLines campaign.form campaign.report (campaign_answer campaign inputs program)
 unfolding campaign_answer
-lines_say_kept campaign inputs program bare words h =
+lines_say_kept campaign inputs program bare unasked words h =
     subst (λ p. AnswersKeptLines campaign.form campaign.report (after_image campaign inputs p)) (sym h.reads)
     (answered (AnswersKeptLines campaign.form campaign.report) (length inputs) _ _ _ (refused_kept campaign.form campaign.report fault.NoHarts) (refused_kept campaign.form campaign.report fault.TooManyHarts) (λ some.
     report_kept campaign.report campaign (all_endings campaign h.image inputs)
     (all_kept h.kind h.image campaign inputs some h.same h.meant words h.ruled (range_with_len campaign.first campaign.count))
-    (lines_wordless h.kind h.image campaign inputs some h.same h.meant words h.ruled bare campaign.report refl (range_with_len campaign.first campaign.count))))
+    (lines_wordless h.kind h.image campaign inputs some h.same h.meant words h.ruled bare unasked campaign.report refl (range_with_len campaign.first campaign.count))))

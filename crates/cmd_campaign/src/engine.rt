@@ -12,7 +12,7 @@ ghost use Rattle.campaign_runs.specs.Tally.{tally_rows, tally_of};
 ghost use Rattle.cmd_campaign.specs.Answers.{after_image, campaign_answer, campaign_failure};
 ghost use Rattle.cmd_campaign.specs.Kept.{AllKept};
 ghost use Rattle.cmd_campaign.specs.Lines.{report_entries};
-ghost use Rattle.cmd_campaign.specs.Status.{finished_of};
+ghost use Rattle.cmd_campaign.specs.Status.{campaign_end};
 ghost use Rattle.cmd_campaign.specs.Summary.{counted_of, report_text, rows_text, IsSummary};
 
 use crate::findings::{Findings, count_failures};
@@ -23,16 +23,28 @@ use campaign_runs::{Campaign, Form, Runner, Seeds, Tally};
 use image::Image;
 use machine::Inputs;
 use program_open::{CommandFault, ProgramForm, read_image};
+use run_hangs::{RunStatus, status_of_hang};
 use std::alloc::{AllocError, Allocator};
 
 /// How a campaign ended.
 #[derive(Clone, Copy, PartialEq, Eq)]
 pub struct Finished {
     /// `Broken` if a rule or a property is broken in some run, else `Faulted` if some run has
-    /// failed, else `Done`.
+    /// failed otherwise than by a hang, else `Done`.
     pub status: Status,
     /// The first seed whose run has failed, if one has.
     pub first_failure: Option<u64>,
+}
+
+impl Finished {
+    ghost use Rattle.cmd_campaign.specs.Status.{run_status};
+
+    /// How a command ends after these runs: by a hang, if runs have failed by hangs alone.
+    pub fn run_status(self) -> RunStatus
+        ensures { result ≡ run_status self }
+    {
+        status_of_hang(self.first_failure.is_some(), self.status)
+    }
 }
 
 // Reads the number of seeds, which gives the proof that it fits in 64 bits.
@@ -61,7 +73,7 @@ fn run_blocks<A: Allocator + Copy, W: Runner<A>, K: Sink>(
     ensures counted { IfOk result (λ answer. tally_rows answer.0
         ≡ tally_of (counted_of campaign.report (all_endings campaign image.now inputs.now))) }
     ensures finished { IfOk result (λ answer.
-        answer.1 ≡ finished_of campaign.expect.exit (all_endings campaign image.now inputs.now)) }
+        answer.1 ≡ campaign_end campaign.expect.exit (all_endings campaign image.now inputs.now)) }
     ensures begun { IfErr result (λ _. Begins
         (report_entries campaign.form campaign.report campaign.expect.exit (all_endings campaign image.now inputs.now))
         (K.held sink.old) (K.held sink.new)) }
@@ -136,7 +148,7 @@ fn write_report<A: Allocator + Copy, W: Runner<A>, K: Sink>(
     ensures written { IfOk result (λ _. Appends (K.held sink.old) (K.held sink.new)
         (report_text campaign.form campaign.report campaign.expect.exit (all_endings campaign image.now inputs.now))) }
     ensures finished { IfOk result (λ finished.
-        finished ≡ finished_of campaign.expect.exit (all_endings campaign image.now inputs.now)) }
+        finished ≡ campaign_end campaign.expect.exit (all_endings campaign image.now inputs.now)) }
     ensures begun { IfErr result (λ _. Begins
         (report_text campaign.form campaign.report campaign.expect.exit (all_endings campaign image.now inputs.now))
         (K.held sink.old) (K.held sink.new)) }
@@ -176,7 +188,7 @@ fn write_campaign<A: Allocator + Copy, W: Runner<A>, K: Sink>(
         Prints (after_image campaign inputs.now (Ok image.now)) finished.status
         (K.held sink.old) (K.held sink.new)) }
     ensures finished { IfOk result (λ finished.
-        finished ≡ finished_of campaign.expect.exit (all_endings campaign image.now inputs.now)) }
+        finished ≡ campaign_end campaign.expect.exit (all_endings campaign image.now inputs.now)) }
     ensures refused { IfErr result (λ fault. IsRefusal fault
         → after_image campaign inputs.now (Ok image.now) ≡ Err fault) }
     ensures unwritten { IfErr result (λ fault. fault ≢ CommandFault.Write → fault ≢ CommandFault.Memory

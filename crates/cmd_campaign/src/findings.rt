@@ -2,7 +2,7 @@
 
 ghost use Rattle.std.specs.Prelude.{◌≡◌, map};
 ghost use Rattle.campaign_runs.specs.Runs.{seed_ending};
-ghost use Rattle.cmd_campaign.specs.Status.{any_breaks, first_failure};
+ghost use Rattle.cmd_campaign.specs.Status.{any_breaks, any_faults, first_failure};
 
 use crate::engine::Finished;
 use campaign_runs::SeedEnd;
@@ -14,28 +14,34 @@ use std::alloc::Allocator;
 pub(crate) struct Findings {
     /// Whether a rule or a property is broken in one.
     pub(crate) is_broken: bool,
+    /// Whether one has failed otherwise than by a hang.
+    pub(crate) is_faulted: bool,
     /// The first seed whose run has failed.
     pub(crate) first_failure: Option<u64>,
 }
 
 impl Findings {
-    ghost use Rattle.std.specs.Prelude.{◌||◌, is_some};
+    ghost use Rattle.std.specs.Prelude.{◌||◌};
     ghost use Rattle.outcome.specs.Expect.{status_by};
     ghost use Rattle.cmd_campaign.specs.Status.{first_or};
 
     /// No run is done.
     pub(crate) const NONE: Findings = Findings {
         is_broken: false,
+        is_faulted: false,
         first_failure: None,
     };
 
     /// Adds more runs.
     pub(crate) fn add<A: Allocator>(&mut self, expect: Expect, ends: &[SeedEnd<A>])
         ensures broken { self.new.is_broken ≡ (self.old.is_broken || any_breaks (map seed_ending ends.now)) }
+        ensures faulted { self.new.is_faulted
+            ≡ (self.old.is_faulted || any_faults expect.exit (map seed_ending ends.now)) }
         ensures first { self.new.first_failure
             ≡ first_or self.old.first_failure (first_failure expect.exit (map seed_ending ends.now)) }
     {
         self.is_broken = self.is_broken || any_breaks(ends);
+        self.is_faulted = self.is_faulted || any_faults(expect, ends);
         self.first_failure = match self.first_failure {
             None => first_failure(expect, ends),
             Some(seed) => Some(seed),
@@ -44,11 +50,11 @@ impl Findings {
 
     /// The end of a campaign of these runs.
     pub(crate) fn finished(self) -> Finished
-        ensures status { result.status ≡ status_by self.is_broken (is_some self.first_failure) }
+        ensures status { result.status ≡ status_by self.is_broken self.is_faulted }
         ensures first { result.first_failure ≡ self.first_failure }
     {
         Finished {
-            status: status_by(self.is_broken, self.first_failure.is_some()),
+            status: status_by(self.is_broken, self.is_faulted),
             first_failure: self.first_failure,
         }
     }
@@ -60,6 +66,18 @@ fn any_breaks<A: Allocator>(ends: &[SeedEnd<A>]) -> bool
 {
     'ends: for end in ends {
         if end.ending.breaks() {
+            return true;
+        }
+    }
+    false
+}
+
+// Whether some run has failed otherwise than by a hang.
+fn any_faults<A: Allocator>(expect: Expect, ends: &[SeedEnd<A>]) -> bool
+    ensures { result ≡ any_faults expect.exit (map seed_ending ends.now) }
+{
+    'ends: for end in ends {
+        if end.ending.faults(expect) {
             return true;
         }
     }

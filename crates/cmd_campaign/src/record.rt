@@ -23,6 +23,7 @@ fn copied<A: Allocator + Copy>(alloc: A, ending: &Ending<A>) -> Result<Ending<A>
     Ok(Ending {
         outcome: ending.outcome,
         properties: ending.properties,
+        hangs: ending.hangs,
         words: String::from_str(alloc, ending.words.as_str())?,
     })
 }

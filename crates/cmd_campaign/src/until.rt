@@ -42,7 +42,7 @@ fn stop_at<A: Allocator + Copy>(
     let mut text = String::new(alloc);
     push_end(&mut text, form, end)?;
     let finished = Finished {
-        status: status_by(end.ending.breaks(), end.ending.fails(expect)),
+        status: status_by(end.ending.breaks(), end.ending.faults(expect)),
         first_failure: Some(end.seed),
     };
     Ok((text, finished))

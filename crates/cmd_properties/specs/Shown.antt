@@ -11,13 +11,14 @@ use Rattle.outcome.specs.Ends.{lines_of_ends, verdict_on}
 use Rattle.outcome.specs.declared.expect.Expect.{Expect}
 use Rattle.property_judge.specs.declared.judged.Judged.{Judged}
 use Rattle.cmd_run.specs.Run.{shown}
+use Rattle.run_hangs.specs.Asked.{hangs_if}
+use Rattle.run_hangs.specs.declared.asked.Hangs.{Hangs}
 use Rattle.run_hangs.specs.declared.status.RunStatus.{RunStatus}
 use Rattle.cmd_form.specs.declared.form.Form.{Form}
 use Rattle.cmd_form.specs.declared.form.Form.TheVariants.{Text, Json}
-use Rattle.cmd_properties.specs.Hangs.{hang_line, hangs_if, status_if}
+use Rattle.cmd_properties.specs.Hangs.{hang_line, status_if}
 use Rattle.cmd_properties.specs.Lines.{judged_lines}
 use Rattle.cmd_properties.specs.Objects.{run_object}
-use Rattle.cmd_properties.specs.declared.hangs.Hangs.{Hangs}
 
 -- whether a property is broken
 abbrev pub is_broken : Judged → Bool

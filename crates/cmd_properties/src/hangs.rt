@@ -1,26 +1,13 @@
-//! Whether a run hangs, where that is asked.
-ghost use Rattle.std.specs.Prelude.{◌≡◌, ◌++◌, ◌<◌, ◌≤◌, IfOk, OnOk, Some, length, string_bytes};
-ghost use Rattle.hart_reservations.specs.Limit.{most_harts};
-ghost use Rattle.machine.specs.State.{state};
+//! How it is printed whether a run hangs, where that is asked.
+ghost use Rattle.std.specs.Prelude.{◌≡◌, ◌++◌, IfOk, OnOk, Some, string_bytes};
 ghost use Rattle.trace_text.specs.Composites.{more_members};
-ghost use Rattle.cmd_properties.specs.Hangs.{hang_line, hang_member, hangs_if, status_if, yes_or_no};
+ghost use Rattle.cmd_properties.specs.Hangs.{hang_line, hang_member, status_if, yes_or_no};
 
 use byte_io::Status;
-use machine::Machine;
-use mem_flat::FlatStore;
-use run_hangs::{RunStatus, hangs_from, status_of_hang, steps_for};
+use run_hangs::{RunStatus, status_of_hang};
 use std::alloc::{AllocError, Allocator};
 use std::fmt;
 use trace_text::push_flag;
-
-/// Whether it is asked if a run hangs.
-#[derive(Clone, Copy, PartialEq, Eq)]
-pub enum Hangs {
-    /// It isn't, and nothing is printed of it.
-    Unasked,
-    /// It is.
-    Asked,
-}
 
 // `yes` or `no`.
 #[derive(Clone, Copy)]
@@ -32,29 +19,6 @@ impl fmt::Display for YesOrNo {
     fn fmt<W: fmt::Write>(&self, f: &mut fmt::Formatter<W>) -> fmt::Result {
         let name = if self.0 { "yes" } else { "no" };
         f.write_str(name)
-    }
-}
-
-/// Whether a run that left a machine of `harts` harts so, by this number of choices, hangs, if that
-/// is asked.
-pub(crate) fn hangs_if<A: Allocator + Copy>(
-    alloc: A,
-    asked: Hangs,
-    machine: &Machine<FlatStore<A>, A>,
-    harts: u32,
-    choices: usize,
-) -> Result<Option<bool>, AllocError>
-    requires some { 0 < harts }
-    requires few { harts ≤ most_harts }
-    requires there { length (state machine.now).harts ≡ harts }
-    ensures { IfOk result (λ hangs. hangs ≡ hangs_if asked harts choices (state machine.now)) }
-{
-    match asked {
-        Hangs::Unasked => Ok(None),
-        Hangs::Asked => {
-            let hangs = hangs_from(alloc, machine, harts, steps_for(choices))?;
-            Ok(Some(hangs))
-        }
     }
 }
 

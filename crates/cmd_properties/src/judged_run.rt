@@ -7,7 +7,7 @@ ghost use Rattle.cmd_run.specs.Run.{world_after};
 ghost use Rattle.cmd_properties.specs.Shown.{has_broken, judged_shown, printed, status_with};
 ghost use Rattle.hart_step.specs.Hart.{hart_of};
 
-use crate::hangs::{Hangs, hangs_if, push_hang_line, status_if};
+use crate::hangs::{push_hang_line, status_if};
 use crate::lines::push_lines;
 use crate::objects::run_object;
 use byte_io::Status;
@@ -19,7 +19,7 @@ use object_library::Verdict;
 use outcome::{Expect, Outcome, lines_text, verdict_on};
 use program_open::OpenRun;
 use property_judge::{Judged, judge_run};
-use run_hangs::RunStatus;
+use run_hangs::{Hangs, RunStatus, hangs_if};
 use std::alloc::{AllocError, Allocator};
 
 // Whether one of these properties is broken.

@@ -3,10 +3,9 @@
 #![tactic(auto)]
 
 pub use cmd_json::Form;
-pub use hangs::Hangs;
 pub use judged_run::judged_text;
 pub use lines::JudgedLine;
-pub use run_hangs::{RunStatus, machine_after, steps_for, take_step};
+pub use run_hangs::{Hangs, RunStatus, machine_after, steps_for, take_step};
 
 mod hangs;
 mod judged_run;

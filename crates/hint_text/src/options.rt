@@ -117,6 +117,7 @@ pub(crate) const COMMANDS: [Row; 14] = [
             "--schedule",
             "--refusals",
             "--must-exit",
+            "--hangs",
             "--never-both",
             "--always",
             "--jobs",

@@ -5,7 +5,7 @@ ghost use Rattle.page.specs.Seeds.{AsksCampaign, AsksChoices, AsksDraw, AsksOrde
 ghost use Rattle.std.specs.Prelude.{◌≡◌};
 
 use crate::asked::{expect_of, report_of};
-use cmd_campaign::{Campaign, Form, Properties};
+use cmd_campaign::{Campaign, Form, Hangs, Properties};
 use cmd_schedule::SeedPlan;
 use sched_draw::{Chance, Depth, Draw, Mean, Order, Refusals};
 
@@ -123,6 +123,7 @@ pub(crate) fn campaign_of(asked: AskedCampaign) -> Option<Campaign>
         draw,
         expect,
         properties: Properties::NONE,
+        hangs: Hangs::Unasked,
         report,
         form: Form::Text,
     })

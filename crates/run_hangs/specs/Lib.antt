@@ -1,2 +1,3 @@
 pub mod Hanging
+pub mod Asked
 pub mod Status

@@ -55,6 +55,7 @@ fn obey<R: Files + AllocGlobal + Print + Eprint + Env + Threads + Wait + Sync + 
     let audience = seen_by.as_said(words.as_slice());
     let answer = match read_line(rt.alloc(), words.as_slice(), KIND_NAMES) {
         Ok(Order::Run(order)) => return run_chosen(rt, audience, &order),
+        Ok(Order::Campaign(order)) => return obey_campaign(rt, audience, &order),
         Ok(Order::Asm(order)) => Ok(obey_asm(rt, audience, &order)),
         Ok(Order::Debug(order)) => debug_chosen(rt, audience, talk, &order),
         Ok(Order::Gdb(order)) => gdb_chosen(rt, audience, &order),
@@ -63,7 +64,6 @@ fn obey<R: Files + AllocGlobal + Print + Eprint + Env + Threads + Wait + Sync + 
         Ok(Order::Info(order)) => Ok(obey_info(rt, audience, &order)),
         Ok(Order::Threads(order)) => obey_threads(rt, audience, &order),
         Ok(Order::Replay(order)) => obey_replay(rt, audience, &order),
-        Ok(Order::Campaign(order)) => obey_campaign(rt, audience, &order),
         Ok(Order::Explore(order)) => obey_explore(rt, audience, &order),
         Ok(Order::Schedule(order)) => obey_schedule(rt, audience, &order),
         Ok(Order::Shrink(order)) => shrink_chosen(rt, audience, &order),

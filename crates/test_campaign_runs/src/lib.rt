@@ -6,6 +6,9 @@
 mod block_tests;
 #[cfg(test)]
 mod failure_tests;
+// Whether runs hang.
+#[cfg(test)]
+mod hang_tests;
 // What the tests share.
 #[cfg(test)]
 mod plain_runs;

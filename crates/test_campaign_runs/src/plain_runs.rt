@@ -96,6 +96,7 @@ pub(crate) fn plain_ending(
     Some(Ending {
         outcome: outcome_of(machine.ends()),
         properties: None,
+        hangs: None,
         words,
     })
 }

@@ -2,7 +2,7 @@
 ghost use Rattle.std.specs.Prelude.{◌+◌, ◌≤◌, ◌^◌, IfSome};
 
 use byte_io::{Failing, MemorySink, MemorySource, Unheard};
-use campaign_runs::{Campaign, Form, Properties, Report};
+use campaign_runs::{Campaign, Form, Hangs, Properties, Report};
 use cmd_campaign::{Finished, Jobs, OnThreads, campaign_engine};
 use object_library::Kind;
 use outcome::{Exit, Expect};
@@ -84,6 +84,7 @@ pub(crate) fn campaign_of(plan: Plan, report: Report) -> Option<Campaign>
             exit: plan.exit,
         },
         properties: Properties::NONE,
+        hangs: Hangs::Unasked,
         report,
         form: Form::Text,
     })

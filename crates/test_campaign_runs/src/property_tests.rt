@@ -1,7 +1,7 @@
 //! Campaigns in which properties of one's own are judged: lines, rows, the status and the first
 //! failure.
 use byte_io::{MemorySink, MemorySource, Status, Unheard};
-use campaign_runs::{Alone, Campaign, Form, Properties, Report};
+use campaign_runs::{Alone, Campaign, Form, Hangs, Properties, Report};
 use cmd_campaign::{Finished, campaign_engine, until_failure_engine};
 use object_library::Kind;
 use outcome::{Exit, Expect};
@@ -86,6 +86,7 @@ impl Row {
                 exit: Exit::May,
             },
             properties: self.properties,
+            hangs: Hangs::Unasked,
             report: self.report,
             form: self.form,
         }

@@ -4,7 +4,7 @@
 ghost use Rattle.std.specs.Prelude.{◌≡◌, IfOk, length};
 
 use byte_io::MemorySink;
-use campaign_runs::{Campaign, Ending, Form, Properties, Report, SeedCount, SeedEnd, Tally};
+use campaign_runs::{Campaign, Ending, Form, Hangs, Properties, Report, SeedCount, SeedEnd, Tally};
 use cmd_campaign::{count_ends_of, push_lines, record_block, summary_text};
 use hart_step::{Cause, Hart, HartState};
 use object_library::{Kind, Verdict};
@@ -36,6 +36,7 @@ fn campaign_with(expect: Expect, form: Form, report: Report) -> Campaign {
         draw: Draw::usual(),
         expect,
         properties: Properties::NONE,
+        hangs: Hangs::Unasked,
         report,
         form,
     }
@@ -93,6 +94,7 @@ fn ending<A: Allocator + Copy>(alloc: A) -> Result<Ending<A>, AllocError> {
             verdict: Some(Verdict::Kept),
         },
         properties: None,
+        hangs: None,
         words,
     })
 }

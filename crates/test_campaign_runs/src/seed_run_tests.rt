@@ -1,7 +1,7 @@
 //! What no clause says of the first machine of a campaign and of one seed's run: that they are had
 //! where memory is left, with each request refused in turn.
 use crate::plans::{Order, draw_of};
-use campaign_runs::{Campaign, Ending, Form, Properties, Report, run_seed};
+use campaign_runs::{Campaign, Ending, Form, Hangs, Properties, Report, run_seed};
 use machine::{Inputs, Machine};
 use mem_flat::FlatStore;
 use object_library::{Kind, Verdict};
@@ -13,7 +13,7 @@ use test_images::{CONDITIONAL, writable_program};
 use test_refusing::{Call, tried};
 
 // A judged run of more steps than both harts take, so that both results are told.
-fn campaign_with(draw: Draw, properties: Properties) -> Campaign {
+fn campaign_with(draw: Draw, properties: Properties, hangs: Hangs) -> Campaign {
     Campaign {
         first: 5,
         count: 1,
@@ -24,6 +24,7 @@ fn campaign_with(draw: Draw, properties: Properties) -> Campaign {
             exit: Exit::Must,
         },
         properties,
+        hangs,
         report: Report::Outcomes,
         form: Form::Text,
     }
@@ -59,16 +60,20 @@ struct OneSeed {
     order: Order,
     first: Option<Property>,
     second: Option<Property>,
+    hangs: Hangs,
     says: &'static str,
+    ends: &'static str,
     verdict: Option<Verdict>,
 }
 
 impl OneSeed {
-    // Whether a run ended so: behind the properties come the results of both harts.
+    // Whether a run ended so: behind the properties come the results of both harts, and then whether
+    // it hangs.
     fn is_end(&self, ending: &Ending<impl Allocator>) -> bool {
         ending.properties == self.verdict
             && ending.words.as_str().starts_with(self.says)
-            && ending.words.len() == self.says.len() + 56
+            && ending.words.as_str().ends_with(self.ends)
+            && ending.words.len() == self.says.len() + 56 + self.ends.len()
     }
 }
 
@@ -86,31 +91,35 @@ impl Call for OneSeed {
             return Ok(false);
         };
         let start: Machine<FlatStore<A>, A> = Machine::start(alloc, &image, &inputs)?;
-        let campaign = campaign_with(draw, properties);
+        let campaign = campaign_with(draw, properties, self.hangs);
         let end = run_seed(alloc, &start, &inputs, campaign, 5)?;
         Ok(end.seed == 5 && self.is_end(&end.ending))
     }
 }
 
 #[rattlefmt::skip]
-const SEEDS: [OneSeed; 11] = [
-    OneSeed { order: Order::Usual, first: None, second: None, says: "", verdict: None },
-    OneSeed { order: Order::Never, first: None, second: None, says: "", verdict: None },
-    OneSeed { order: Order::Bursts, first: None, second: None, says: "", verdict: None },
-    OneSeed { order: Order::Priorities, first: None, second: None, says: "", verdict: None },
-    OneSeed { order: Order::Mixed, first: None, second: None, says: "", verdict: None },
+const SEEDS: [OneSeed; 13] = [
+    OneSeed { order: Order::Usual, first: None, second: None, hangs: Hangs::Unasked, says: "", ends: "", verdict: None },
+    OneSeed { order: Order::Never, first: None, second: None, hangs: Hangs::Unasked, says: "", ends: "", verdict: None },
+    OneSeed { order: Order::Bursts, first: None, second: None, hangs: Hangs::Unasked, says: "", ends: "", verdict: None },
+    OneSeed { order: Order::Priorities, first: None, second: None, hangs: Hangs::Unasked, says: "", ends: "", verdict: None },
+    OneSeed { order: Order::Mixed, first: None, second: None, hangs: Hangs::Unasked, says: "", ends: "", verdict: None },
     OneSeed { order: Order::Usual, first: Some(NOWHERE), second: Some(NO_WORD),
-        says: " never-both kept always kept", verdict: Some(Verdict::Kept) },
+        hangs: Hangs::Unasked, says: " never-both kept always kept", ends: "", verdict: Some(Verdict::Kept) },
     OneSeed { order: Order::Usual, first: Some(NOWHERE), second: Some(WORD),
-        says: " never-both kept always broken", verdict: Some(Verdict::Broken) },
+        hangs: Hangs::Unasked, says: " never-both kept always broken", ends: "", verdict: Some(Verdict::Broken) },
     OneSeed { order: Order::Bursts, first: Some(START), second: Some(NO_WORD),
-        says: " never-both broken always kept", verdict: Some(Verdict::Broken) },
+        hangs: Hangs::Unasked, says: " never-both broken always kept", ends: "", verdict: Some(Verdict::Broken) },
     OneSeed { order: Order::Priorities, first: Some(WORD), second: None,
-        says: " always broken", verdict: Some(Verdict::Broken) },
+        hangs: Hangs::Unasked, says: " always broken", ends: "", verdict: Some(Verdict::Broken) },
     OneSeed { order: Order::Mixed, first: None, second: Some(WORD),
-        says: " always broken", verdict: Some(Verdict::Broken) },
+        hangs: Hangs::Unasked, says: " always broken", ends: "", verdict: Some(Verdict::Broken) },
     OneSeed { order: Order::Never, first: None, second: Some(NOWHERE),
-        says: " never-both kept", verdict: Some(Verdict::Kept) },
+        hangs: Hangs::Unasked, says: " never-both kept", ends: "", verdict: Some(Verdict::Kept) },
+    OneSeed { order: Order::Usual, first: None, second: None,
+        hangs: Hangs::Asked, says: "", ends: " hangs no", verdict: None },
+    OneSeed { order: Order::Bursts, first: None, second: Some(NOWHERE),
+        hangs: Hangs::Asked, says: " never-both kept", ends: " hangs no", verdict: Some(Verdict::Kept) },
 ];
 
 #[test]

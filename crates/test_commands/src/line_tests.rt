@@ -126,6 +126,8 @@ static LINES: [(&str, &str); 61] = [
         "campaign FILE=p inputs=7,9 first=1 count=2 steps=3 refusals=r"),
     ("rvcons campaign p --inputs 7,9 --first 1 --count 2 --steps 3 --must-exit",
         "campaign FILE=p inputs=7,9 first=1 count=2 steps=3 must-exit=yes"),
+    ("rvcons campaign p --inputs 7,9 --first 1 --count 2 --steps 3 --hangs",
+        "campaign FILE=p inputs=7,9 first=1 count=2 steps=3 hangs=yes"),
     ("rvcons campaign p --inputs 7,9 --first 1 --count 2 --steps 3 --never-both a..b",
         "campaign FILE=p inputs=7,9 first=1 count=2 steps=3 never-both=a..b"),
     ("rvcons campaign p --inputs 7,9 --first 1 --count 2 --steps 3 --always x",

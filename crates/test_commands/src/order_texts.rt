@@ -169,6 +169,7 @@ fn campaign_text(alloc: Global, order: &CampaignOrder) -> Result<String, AllocEr
         ("schedule", order.draw),
         ("refusals", order.refusals),
         ("must-exit", flag(order.must_exit)),
+        ("hangs", flag(order.hangs)),
         ("never-both", order.never_both),
         ("always", order.always),
         ("jobs", order.jobs),

@@ -2,7 +2,7 @@
 ghost use Rattle.std.specs.Prelude.{◌+◌, ◌≤◌, ◌^◌};
 
 use byte_io::Status;
-use cmd_campaign::{Campaign, Form, Properties, Report};
+use cmd_campaign::{Campaign, Form, Hangs, Properties, Report};
 use cmd_explore::{OwnBounds, Question};
 use cmd_run::FileView;
 use cmd_schedule::SeedPlan;
@@ -155,6 +155,7 @@ fn three_seeds(report: Report) -> Campaign
         draw: drawn(2).draw,
         expect: FILE_RUN.expect(),
         properties: Properties::NONE,
+        hangs: Hangs::Unasked,
         report,
         form: Form::Text,
     }

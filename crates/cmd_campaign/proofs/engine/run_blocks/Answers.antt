@@ -1,6 +1,6 @@
 use Rattle.std.proofs.Common.{◌||◌, map, refl, rules, ap, sym, ◌∙◌}
 use Rattle.campaign_runs.specs.Runs.{seed_ending, endings_of}
-use Rattle.cmd_campaign.specs.Status.{any_breaks, first_failure, first_or}
+use Rattle.cmd_campaign.specs.Status.{any_breaks, any_faults, first_failure, first_or}
 use Rattle.cmd_campaign.proofs.BlockLemmas.{at_end, at_start, endings_none, fewer, goes_on, halts_between, halts_in_block, room, split}
 use Rattle.cmd_campaign.proofs.engine.run_blocks.Goals as goal
 
@@ -13,17 +13,17 @@ blocks-2-init g c = (
 
 pub returns-in-Err-clause-begun : goal.returns-in-Err-clause-begun
 returns-in-Err-clause-begun g c =
-    halts_between c.args.campaign.form c.args.campaign.report c.args.campaign.expect.exit _ _ _ _ _ _ _ c.blocks-2.invariant.0
+    halts_between c.args.campaign.form c.args.campaign.report c.args.campaign.expect.exit _ _ _ _ _ _ _ _ c.blocks-2.invariant.0
 
 pub record_block-requires-clause-fits : goal.record_block-requires-clause-fits
 record_block-requires-clause-fits g c =
-    room c.args.campaign c.args.image.now c.args.inputs.now _ _ _ _ _ _ _ c.deref.result.now c.blocks-2.invariant.0
+    room c.args.campaign c.args.image.now c.args.inputs.now _ _ _ _ _ _ _ _ c.deref.result.now c.blocks-2.invariant.0
     (split c.args.campaign c.args.image.now c.args.inputs.now _ _ _ _ c.in-Some.ensures.order
     (ap (map seed_ending) c.deref.ensures.value ∙ c.in-Ok.ensures)) c.see_count.ensures
 
 pub returns-in-Err-record_block-clause-begun : goal.returns-in-Err-record_block-clause-begun
 returns-in-Err-record_block-clause-begun g c =
-    halts_in_block c.args.campaign.form c.args.campaign.report c.args.campaign.expect.exit _ _ _ _ _ _ _ _ _ _
+    halts_in_block c.args.campaign.form c.args.campaign.report c.args.campaign.expect.exit _ _ _ _ _ _ _ _ _ _ _
     (split c.args.campaign c.args.image.now c.args.inputs.now _ _ _ _ c.in-Some.ensures.order
     (ap (map seed_ending) c.deref.ensures.value ∙ c.in-Ok.ensures)) c.blocks-2.invariant.0
     c.in-Err-record_block.ensures.begun
@@ -33,11 +33,13 @@ blocks-2-smaller g c = fewer c.in-Some.block.first c.in-Some.block.count _ _ c.i
 
 pub blocks-2-preserved : goal.blocks-2-preserved
 blocks-2-preserved g c = (
-  goes_on c.args.campaign.form c.args.campaign.report c.args.campaign.expect.exit _ _ (map seed_ending c.deref.result.now) _ _ _ _ _ _ _ _ _ _
+  goes_on c.args.campaign.form c.args.campaign.report c.args.campaign.expect.exit _ _ (map seed_ending c.deref.result.now) _ _ _ _ _ _ _ _ _ _ _ _
       (split c.args.campaign c.args.image.now c.args.inputs.now _ _ _ _ c.in-Some.ensures.order
       (ap (map seed_ending) c.deref.ensures.value ∙ c.in-Ok.ensures))
       c.in-Ok-record_block.ensures.written c.in-Ok-record_block.ensures.counted
       (c.add.ensures.broken ∙ ap (λ ends. c.blocks-2.found.is_broken || any_breaks (map seed_ending ends))
+      (c.deref-in-Some.ensures.value ∙ sym c.deref.ensures.value))
+      (c.add.ensures.faulted ∙ ap (λ ends. c.blocks-2.found.is_faulted || any_faults c.args.campaign.expect.exit (map seed_ending ends))
       (c.deref-in-Some.ensures.value ∙ sym c.deref.ensures.value))
       (c.add.ensures.first ∙ ap (λ ends. first_or c.blocks-2.found.first_failure (first_failure c.args.campaign.expect.exit (map seed_ending ends)))
       (c.deref-in-Some.ensures.value ∙ sym c.deref.ensures.value))
@@ -47,18 +49,18 @@ blocks-2-preserved g c = (
 
 pub returns-clause-written : goal.returns-clause-written
 returns-clause-written g c =
-    (at_end c.args.campaign.form c.args.campaign.report c.args.campaign.expect.exit _ _ _ _ _ _ _ _
+    (at_end c.args.campaign.form c.args.campaign.report c.args.campaign.expect.exit _ _ _ _ _ _ _ _ _
     (endings_none c.args.campaign c.args.image.now c.args.inputs.now _ c.in_default.ensures.order)
     c.finished.ensures.status c.finished.ensures.first c.blocks-2.invariant.0).written
 
 pub returns-clause-counted : goal.returns-clause-counted
 returns-clause-counted g c =
-    (at_end c.args.campaign.form c.args.campaign.report c.args.campaign.expect.exit _ _ _ _ _ _ _ _
+    (at_end c.args.campaign.form c.args.campaign.report c.args.campaign.expect.exit _ _ _ _ _ _ _ _ _
     (endings_none c.args.campaign c.args.image.now c.args.inputs.now _ c.in_default.ensures.order)
     c.finished.ensures.status c.finished.ensures.first c.blocks-2.invariant.0).counted
 
 pub returns-clause-finished : goal.returns-clause-finished
 returns-clause-finished g c =
-    (at_end c.args.campaign.form c.args.campaign.report c.args.campaign.expect.exit _ _ _ _ _ _ _ _
+    (at_end c.args.campaign.form c.args.campaign.report c.args.campaign.expect.exit _ _ _ _ _ _ _ _ _
     (endings_none c.args.campaign c.args.image.now c.args.inputs.now _ c.in_default.ensures.order)
     c.finished.ensures.status c.finished.ensures.first c.blocks-2.invariant.0).finished_is

@@ -1,6 +1,7 @@
-use Rattle.std.proofs.Common.{rules, ap, ◌∙◌}
-use Rattle.std.proofs.lemmas.Grind.{common_steps}
+use Rattle.std.proofs.Common.{refl, ap, ◌∙◌}
+use Rattle.campaign_runs.specs.Ending.{ending_of}
 use Rattle.campaign_runs.specs.Tally.{count_after}
+use Rattle.campaign_runs.proofs.HangLemmas.{endings_agree}
 use Rattle.campaign_runs.proofs.TallyLemmas.{fits_from, rows_after}
 use Rattle.campaign_runs.proofs.tally.Tally.add.Goals as goal
 
@@ -10,5 +11,5 @@ count_after-count-requires g c =
 
 pub returns : goal.returns
 returns g c =
-    rows_after _ (λ a b. search (rules, common_steps)) c.args.ending c.args.seed c.args.self.now.rows.entries c.insert.new.self.entries _ c.in_ok-insert.ensures.entries
+    rows_after _ (λ a b. endings_agree _ refl refl refl refl (ending_of a) (ending_of b)) c.args.ending c.args.seed c.args.self.now.rows.entries c.insert.new.self.entries _ c.in_ok-insert.ensures.entries
     (c.count_after-count.ensures ∙ ap (λ o. count_after o c.args.seed) (c.copied.ensures ∙ c.get.ensures.value))
