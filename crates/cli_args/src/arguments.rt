@@ -3,7 +3,7 @@
 use crate::commands::{CommandRow, Schedule};
 use crate::help::{
     CHOICES, CHOICES_OR_INPUT, DRAW, EXPLAINED, HISTORY_OF_CHOICES, LIST, REFUSALS, SEED, STEPS,
-    TURNS,
+    TURNS, WITHIN,
 };
 use clap::{Arg, ArgAction, ArgGroup, ArgMatches, Command};
 use std::alloc::{AllocError, Global};
@@ -67,13 +67,14 @@ fn arg_of<'a>(alloc: Global, argument: Argument, objects: &'a str) -> Result<Arg
 pub(crate) const EXPLAIN: &str = "explain";
 
 // The options that name the choices of a run, but for `--choices`.
-static NAMED: [Argument; 7] = [
+static NAMED: [Argument; 8] = [
     Argument::Optional("list", LIST),
     Argument::With("seed", "steps", SEED),
     Argument::Optional("turns", TURNS),
     Argument::Optional("history", HISTORY_OF_CHOICES),
     Argument::With("steps", "seed", STEPS),
     Argument::With("schedule", "seed", DRAW),
+    Argument::With("within", "seed", WITHIN),
     Argument::With("refusals", "seed", REFUSALS),
 ];
 

@@ -29,6 +29,8 @@ pub struct SeedText<'a> {
     pub steps: &'a str,
     /// How they are drawn.
     pub draw: Option<&'a str>,
+    /// Within how many steps the harts' priorities change.
+    pub within: Option<&'a str>,
     /// How often they refuse a store-conditional.
     pub refusals: Option<&'a str>,
 }
@@ -61,6 +63,7 @@ fn seed_text_of<'a>(matches: &ArgMatches<'a>) -> Option<ChoiceText<'a>> {
         seed: text_of(matches, "seed")?,
         steps: text_of(matches, "steps")?,
         draw: text_of(matches, "schedule"),
+        within: text_of(matches, "within"),
         refusals: text_of(matches, "refusals"),
     }))
 }

@@ -6,7 +6,7 @@ use crate::help::{
     DRAW_OF_SCHEDULE, FILE, FIRST, HANGS, HANGS_OF_RUN, HANGS_OF_RUNS, HEX, HISTORY, INPUTS,
     INPUTS_OF_SCHEDULE, JOBS, JSON, JSON_LINES, MUST_EXIT, NEVER_BOTH, OUTCOMES, PREEMPTIONS,
     REFUSALS, REFUSE, RULE, SC_REFUSALS, SHARED_RANGE, STEPS_OF_CAMPAIGN, SUMMARY, UNTIL_FAILURE,
-    WAYS_OUT, WORLDS, WRITTEN,
+    WAYS_OUT, WITHIN, WORLDS, WRITTEN,
 };
 
 /// Which options name the choices of a command's run.
@@ -219,6 +219,7 @@ static ROW_OF_CAMPAIGN: CommandRow = CommandRow {
         Argument::Flag("outcomes", OUTCOMES),
         Argument::Flag("by-cause", BY_CAUSE),
         Argument::Optional("schedule", DRAW),
+        Argument::Optional("within", WITHIN),
         Argument::Optional("refusals", REFUSALS),
         Argument::Flag("must-exit", MUST_EXIT),
         Argument::Flag("hangs", HANGS_OF_RUNS),
@@ -269,6 +270,7 @@ static ROW_OF_SCHEDULE: CommandRow = CommandRow {
         Argument::Flag("turns", "let the harts take turns"),
         Argument::Optional("only", "let this hart, from 0 on, take all steps"),
         Argument::Optional("schedule", DRAW_OF_SCHEDULE),
+        Argument::Optional("within", WITHIN),
         Argument::Optional("refusals", REFUSALS),
         Argument::Optional("inputs", INPUTS_OF_SCHEDULE),
         Argument::Allowed(

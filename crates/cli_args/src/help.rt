@@ -48,6 +48,10 @@ pub(crate) const RULE: &str = "also judge the rule of an object, named as lib ha
 pub(crate) const DRAW: &str =
     "how a seed draws its choices: even, bursts:MEAN, each of one hart, priorities:DEPTH, or mixed";
 
+/// Of `--within`.
+pub(crate) const WITHIN: &str =
+    "with priorities:DEPTH or mixed: the first steps, so many, in which priorities change; all of --steps is usual";
+
 /// Of `--refusals`.
 pub(crate) const REFUSALS: &str =
     "how often drawn choices refuse a store-conditional: never, or one-in:N in the mean; one-in:16 is usual";

@@ -34,12 +34,17 @@ impl<'a, R: Eprint> Progress for Line<'a, R> {
     }
 }
 
+// Whether options say how choices are drawn.
+fn draws_choices(order: &CampaignOrder) -> bool {
+    order.draw.is_some() || order.within.is_some() || order.refusals.is_some()
+}
+
 // Refuses options that make no sense for schedules that are not drawn.
 fn refuse_others<R: Print + Eprint>(rt: &R, order: &CampaignOrder) -> Result<(), Status> {
-    if order.draw.is_some() || order.refusals.is_some() || order.jobs.is_some() {
+    if draws_choices(order) || order.jobs.is_some() {
         return Err(bad_line(
             rt,
-            "--preemptions draws no choices and uses one thread: --schedule, --refusals and --jobs don't go with it",
+            "--preemptions draws no choices and uses one thread: --schedule, --within, --refusals and --jobs don't go with it",
         ));
     }
     if order.until_failure || order.has_properties() {

@@ -110,7 +110,7 @@ fn read_campaign<R: Print + Eprint>(
             "--until-failure prints one line, and --summary none: write one of the two",
         ));
     }
-    let draw = match read_draw(order.draw, order.refusals) {
+    let draw = match read_draw(order.draw, order.refusals, order.within) {
         Ok(draw) => draw,
         Err(fault) => return Err(bad_line(rt, fault.text())),
     };
@@ -291,6 +291,9 @@ fn show_command<R: Eprint>(
     eprint!(rt; "    rvcons {name} {file} --inputs {texts} --seed {seed} --steps {steps}").ok()?;
     if let Some(draw) = order.draw {
         eprint!(rt; " --schedule {draw}").ok()?;
+    }
+    if let Some(within) = order.within {
+        eprint!(rt; " --within {within}").ok()?;
     }
     if let Some(refusals) = order.refusals {
         eprint!(rt; " --refusals {refusals}").ok()?;

@@ -91,7 +91,7 @@ pub(crate) fn seed_text<R: Files + AllocGlobal + Eprint>(
     run: Run<'_>,
     said: SeedText<'_>,
 ) -> Result<String<Global>, Status> {
-    let draw = match read_draw(said.draw, said.refusals) {
+    let draw = match read_draw(said.draw, said.refusals, said.within) {
         Ok(draw) => draw,
         Err(fault) => return Err(bad_line(rt, fault.text())),
     };

@@ -7,11 +7,11 @@ use cli_args::read_word;
 use cli_orders::ScheduleOrder;
 use cli_report::{Audience, RunFiles, bad_line, inputs_said, open_one, say, say_why};
 use cli_values::{
-    DRAWS, OrderFault, Plan, PlanFault, REFUSALS, read_draw, read_order, read_refusals,
+    DRAWS, NO_POINTS, OrderFault, Plan, PlanFault, REFUSALS, read_draw, read_order, read_refusals,
     read_schedule, read_seed_plan, schedule_engine, seed_engine,
 };
 use program_open::deliver;
-use sched_draw::{Draw, Order};
+use sched_draw::{ChangePoints, Draw, Order};
 use std::io;
 use std::rt::Files;
 
@@ -51,6 +51,7 @@ fn read_most_of_draw<R: Eprint>(rt: &R, order: &ScheduleOrder) -> Result<Draw, S
     Ok(Draw {
         order: said.unwrap_or(Order::Even),
         refusals,
+        points: ChangePoints::Anywhere,
     })
 }
 
@@ -115,6 +116,9 @@ fn run_of<'a, R: Eprint>(
     order: &ScheduleOrder<'a>,
 ) -> Result<Option<RunOrder<'a>>, Status> {
     if !is_of_a_run(order.draw) {
+        if order.within.is_some() {
+            return Err(bad_line(rt, NO_POINTS));
+        }
         return match (order.inputs, order.file) {
             (None, None) => Ok(None),
             _ => Err(bad_line(
@@ -123,7 +127,7 @@ fn run_of<'a, R: Eprint>(
             )),
         };
     }
-    let draw = match read_draw(order.draw, order.refusals) {
+    let draw = match read_draw(order.draw, order.refusals, order.within) {
         Ok(draw) => draw,
         Err(fault) => return Err(bad_line(rt, fault.text())),
     };

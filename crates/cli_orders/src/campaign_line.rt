@@ -4,7 +4,7 @@ use clap::ArgMatches;
 use cli_args::{is_set, text_of};
 
 /// `campaign FILE --inputs L --first S --count C --steps N [--rule K] [--failures]
-/// [--until-failure] [--summary] [--outcomes] [--by-cause] [--schedule KIND]
+/// [--until-failure] [--summary] [--outcomes] [--by-cause] [--schedule KIND] [--within N]
 /// [--refusals never|one-in:N] [--must-exit] [--hangs] [--never-both R] [--always P] [--jobs J] [--json]`:
 /// runs a program under a random schedule for each of C seeds from S on, and prints a line for each, with a
 /// rule also its verdict; or the lines of bad seeds alone, or of the first of them, or how many seeds
@@ -36,6 +36,8 @@ pub struct CampaignOrder<'a> {
     pub by_cause: bool,
     /// How the choices of a seed are drawn.
     pub draw: Option<&'a str>,
+    /// Within how many steps the harts' priorities change.
+    pub within: Option<&'a str>,
     /// How often they refuse a store-conditional.
     pub refusals: Option<&'a str>,
     /// Whether a run that leaves a hart running has failed.
@@ -78,6 +80,7 @@ pub(crate) fn campaign_order<'a>(matches: &ArgMatches<'a>) -> Option<CampaignOrd
         outcomes: is_set(matches, "outcomes"),
         by_cause: is_set(matches, "by-cause"),
         draw: text_of(matches, "schedule"),
+        within: text_of(matches, "within"),
         refusals: text_of(matches, "refusals"),
         must_exit: is_set(matches, "must-exit"),
         hangs: is_set(matches, "hangs"),

@@ -3,8 +3,8 @@
 use clap::ArgMatches;
 use cli_args::{is_set, text_of};
 
-/// `schedule --harts N --steps M [--seed S] [--turns] [--only H] [--schedule KIND] [--refusals
-/// never|one-in:N] [--inputs L] [FILE]`: prints the choice text of a seed, of turns, or of one hart
+/// `schedule --harts N --steps M [--seed S] [--turns] [--only H] [--schedule KIND] [--within N]
+/// [--refusals never|one-in:N] [--inputs L] [FILE]`: prints the choice text of a seed, of turns, or of one hart
 /// alone.
 #[derive(Drop)]
 pub struct ScheduleOrder<'a> {
@@ -20,6 +20,8 @@ pub struct ScheduleOrder<'a> {
     pub only: Option<&'a str>,
     /// How the seed draws its choices.
     pub draw: Option<&'a str>,
+    /// Within how many steps the harts' priorities change.
+    pub within: Option<&'a str>,
     /// How often they refuse a store-conditional.
     pub refusals: Option<&'a str>,
     /// The harts' inputs, if the choices are those of a run.
@@ -37,6 +39,7 @@ pub(crate) fn schedule_order<'a>(matches: &ArgMatches<'a>) -> Option<ScheduleOrd
         turns: is_set(matches, "turns"),
         only: text_of(matches, "only"),
         draw: text_of(matches, "schedule"),
+        within: text_of(matches, "within"),
         refusals: text_of(matches, "refusals"),
         inputs: text_of(matches, "inputs"),
         file: text_of(matches, "FILE"),

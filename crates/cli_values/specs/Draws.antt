@@ -1,5 +1,5 @@
 -- How a seed draws choices, by texts.
-use Rattle.std.specs.Prelude.{◌≡◌, ℕ, ◌<◌, ◌⊎◌, true, false, List, drop, Option, Some, None, codes, if◌then◌else◌}
+use Rattle.std.specs.Prelude.{◌≡◌, ℕ, ◌<◌, ◌⊎◌, Bool, true, false, List, drop, Option, Some, None, codes, if◌then◌else◌}
 use Rattle.std.specs.Borrow.{Bor}
 use Rattle.std.specs.Str.{bytes_eq}
 use Rattle.std.specs.declared.result.Result.{Result}
@@ -8,10 +8,14 @@ use Rattle.text_items.specs.Numbers.{before_byte, from_byte}
 use Rattle.cli_args.specs.Inputs.{input_of}
 use Rattle.sched_draw.specs.Limits.{most_depth, most_mean, most_one_in}
 use Rattle.sched_draw.specs.Refusing.{IsOneIn}
+use Rattle.sched_draw.specs.Schedules.{follows}
+use Rattle.sched_draw.specs.declared.change_points.ChangePoints.{ChangePoints}
+use Rattle.sched_draw.specs.declared.change_points.ChangePoints.TheVariants.{Anywhere, Within}
 use Rattle.sched_draw.specs.declared.order.Order.{Order}
 use Rattle.sched_draw.specs.declared.order.Order.TheVariants.{Even, Bursts, Priorities, Mixed}
 use Rattle.sched_draw.specs.declared.refusals.Refusals.{Refusals}
 use Rattle.sched_draw.specs.declared.refusals.Refusals.TheVariants.{Never}
+use Rattle.sched_draw.specs.declared.schedule.Draw.{Draw}
 use Rattle.cli_values.specs.declared.draw.DrawFault.{DrawFault}
 use Rattle.cli_values.specs.declared.draw.DrawFault.TheVariants as draw
 use Rattle.cli_values.specs.declared.draw.OrderFault.{OrderFault}
@@ -62,8 +66,38 @@ MeansRefusals None None = ⊥
 MeansRefusals None (Some refusals) = IsOneIn 16 refusals
 MeansRefusals (Some text) refusals = RefusalsSaid text.now refusals
 
--- why two texts give no draw: a fault of the refusals comes first
-abbrev pub IsNoDraw : Option (Bor (List ℕ)) → Option (Bor (List ℕ)) → DrawFault → Type 0
-IsNoDraw order refusals draw.Refusals = MeansRefusals refusals None
-IsNoDraw order refusals (draw.Order fault) =
+-- where change points lie by a text, or that it doesn't say so
+abbrev pub PointsSaid : List ℕ → Option ChangePoints → Type 0
+PointsSaid text None = (input_of text ≡ None) ⊎ (input_of text ≡ Some 0)
+PointsSaid text (Some Anywhere) = ⊥
+PointsSaid text (Some (Within first)) = input_of text ≡ Some first.count
+
+-- the same, and anywhere if there is no text
+abbrev pub MeansPoints : Option (Bor (List ℕ)) → Option ChangePoints → Type 0
+MeansPoints None points = points ≡ Some Anywhere
+MeansPoints (Some text) points = PointsSaid text.now points
+
+-- an order has change points, or none are asked for
+abbrev pub has_points : Order → ChangePoints → Bool
+has_points order Anywhere = true
+has_points order (Within first) = follows order
+
+-- how a seed draws, by three texts
+abbrev pub IsDraw : Option (Bor (List ℕ)) → Option (Bor (List ℕ)) → Option (Bor (List ℕ)) → Draw → Type 0
+IsDraw order refusals within d =
+    MeansOrder order (Ok d.order) × MeansRefusals refusals (Some d.refusals)
+    × MeansPoints within (Some d.points) × (has_points d.order d.points ≡ true)
+
+-- why three texts give no draw: a fault of the refusals comes first, then one of the order, then the
+-- number, and last that there are no change points
+abbrev pub IsNoDraw : Option (Bor (List ℕ)) → Option (Bor (List ℕ)) → Option (Bor (List ℕ)) → DrawFault → Type 0
+IsNoDraw order refusals within draw.Refusals = MeansRefusals refusals None
+IsNoDraw order refusals within (draw.Order fault) =
     ((some : Refusals) × MeansRefusals refusals (Some some)) × MeansOrder order (Err fault)
+IsNoDraw order refusals within draw.Within =
+    ((some : Refusals) × MeansRefusals refusals (Some some))
+    × ((some : Order) × MeansOrder order (Ok some)) × MeansPoints within None
+IsNoDraw order refusals within draw.NoPoints =
+    ((some : Refusals) × MeansRefusals refusals (Some some))
+    × ((some : Order) × (points : ChangePoints) × MeansOrder order (Ok some)
+    × MeansPoints within (Some points) × (has_points some points ≡ false))

@@ -1,16 +1,23 @@
 //! Parses how a seed draws choices.
 
 ghost use Rattle.std.specs.Prelude.{◌≡◌, Ok, Some, MatchResult};
-ghost use Rattle.cli_values.specs.Draws.{named_in, IsNoDraw, MeansOrder, MeansRefusals, OrderSaid};
+ghost use Rattle.cli_values.specs.Draws.{named_in, has_points, IsDraw, IsNoDraw, MeansOrder, MeansPoints, MeansRefusals, OrderSaid};
 
-use cli_args::read_input;
-use sched_draw::{Chance, Depth, Draw, Mean, Order, Refusals};
+use cli_args::{read_input, read_word};
+use sched_draw::{Chance, ChangePoints, Depth, Draw, Mean, Order, Refusals, Steps};
 use text_items::split_at_byte;
 
 /// The forms of `--schedule`, for its fault.
 pub const DRAWS: &str =
     "--schedule takes even, mixed, bursts:MEAN with a decimal number from 1 to 2147483648, or priorities:DEPTH with one from 1 to 1000, \
                      as bursts:100";
+
+/// The form of `--within`, for its fault.
+pub const WITHIN: &str =
+    "--within takes a decimal number of steps from 1 to 4294967295, as --within 200";
+
+/// What `--within` goes with, for its fault.
+pub const NO_POINTS: &str = "--within goes with --schedule priorities:DEPTH or mixed";
 
 /// The forms of `--refusals`, for its fault.
 pub const REFUSALS: &str =
@@ -34,6 +41,10 @@ pub enum DrawFault {
     Refusals,
     /// The order of the harts is invalid.
     Order(OrderFault),
+    /// The number of steps within which priorities change is none from 1 to 2^32 - 1.
+    Within,
+    /// There is such a number, and harts aren't chosen by priorities.
+    NoPoints,
 }
 
 impl DrawFault {
@@ -42,6 +53,8 @@ impl DrawFault {
         match self {
             DrawFault::Refusals => REFUSALS,
             DrawFault::Order(_) => DRAWS,
+            DrawFault::Within => WITHIN,
+            DrawFault::NoPoints => NO_POINTS,
         }
     }
 }
@@ -112,17 +125,56 @@ pub fn read_refusals(text: Option<&str>) -> Option<Refusals>
     Some(Refusals::OneIn(chance))
 }
 
-/// How a seed draws, by two texts. A fault of the refusals comes first.
-pub fn read_draw(order: Option<&str>, refusals: Option<&str>) -> Result<Draw, DrawFault>
+/// Where change points lie, by a text: at any step by default, or within the first steps, so many,
+/// in decimal. `None` exactly if that is no number from 1 to 2^32 - 1.
+pub fn read_points(text: Option<&str>) -> Option<ChangePoints>
+    ensures { MeansPoints text.entry result }
+{
+    let Some(text) = text else {
+        return Some(ChangePoints::Anywhere);
+    };
+    let count = read_word(text)?;
+    let first = Steps::new(u64::from(count))?;
+    Some(ChangePoints::Within(first))
+}
+
+// Whether an order has change points, or none are asked for.
+fn has_points(order: Order, points: ChangePoints) -> bool
+    ensures { result ≡ has_points order points }
+{
+    match points {
+        ChangePoints::Anywhere => true,
+        ChangePoints::Within(_) => order.follows(),
+    }
+}
+
+/// How a seed draws, by three texts. A fault of the refusals comes first, then one of the order,
+/// and one of the change points last.
+pub fn read_draw(
+    order: Option<&str>,
+    refusals: Option<&str>,
+    within: Option<&str>,
+) -> Result<Draw, DrawFault>
     ensures { MatchResult result
-        (λ draw. MeansOrder order.entry (Ok draw.order) × MeansRefusals refusals.entry (Some draw.refusals))
-        (λ fault. IsNoDraw order.entry refusals.entry fault) }
+        (λ draw. IsDraw order.entry refusals.entry within.entry draw)
+        (λ fault. IsNoDraw order.entry refusals.entry within.entry fault) }
 {
     let Some(refusals) = read_refusals(refusals) else {
         return Err(DrawFault::Refusals);
     };
-    match read_order(order) {
-        Ok(order) => Ok(Draw { order, refusals }),
-        Err(fault) => Err(DrawFault::Order(fault)),
+    let order = match read_order(order) {
+        Ok(order) => order,
+        Err(fault) => return Err(DrawFault::Order(fault)),
+    };
+    let Some(points) = read_points(within) else {
+        return Err(DrawFault::Within);
+    };
+    if !has_points(order, points) {
+        return Err(DrawFault::NoPoints);
     }
+    Ok(Draw {
+        order,
+        refusals,
+        points,
+    })
 }

@@ -4,7 +4,10 @@
 pub use bounds::{BOUNDS, BoundedNumbers, read_bounds};
 pub use campaign::{SeedNumbers, read_report, read_seed_numbers};
 pub use cmd_schedule::{Plan, PlanFault, SeedPlan, schedule_engine, seed_engine};
-pub use draw::{DRAWS, DrawFault, OrderFault, REFUSALS, read_draw, read_order, read_refusals};
+pub use draw::{
+    DRAWS, DrawFault, NO_POINTS, OrderFault, REFUSALS, WITHIN, read_draw, read_order, read_points,
+    read_refusals,
+};
 pub use explore::{WORLDS, read_worlds};
 pub use jobs::{JOBS, read_jobs};
 pub use schedule::{read_schedule, read_seed_plan};

@@ -10,6 +10,7 @@ use Rattle.page.specs.declared.seeds.AskedCampaign.{AskedCampaign}
 use Rattle.page.specs.declared.seeds.AskedChoices.{AskedChoices}
 use Rattle.page.specs.declared.seeds.AskedDraw.{AskedDraw}
 use Rattle.sched_draw.specs.Limits.{most_depth, most_mean, most_one_in}
+use Rattle.sched_draw.specs.declared.change_points.ChangePoints.TheVariants.{Anywhere}
 use Rattle.sched_draw.specs.declared.order.Order.{Order}
 use Rattle.sched_draw.specs.declared.order.Order.TheVariants.{Even, Bursts, Priorities, Mixed}
 use Rattle.sched_draw.specs.declared.refusals.Refusals.{Refusals}
@@ -40,6 +41,7 @@ AsksRefusals one_in None = most_one_in < one_in
 abbrev pub AsksDraw : AskedDraw → Option Draw → Type 0
 AsksDraw asked (Some draw) =
     AsksOrder asked.order asked.number (Some draw.order) × AsksRefusals asked.one_in (Some draw.refusals)
+    × (draw.points ≡ Anywhere)
 AsksDraw asked None = AsksOrder asked.order asked.number None ⊎ AsksRefusals asked.one_in None
 
 -- the choices of a seed that are asked for, or that there are none

@@ -7,7 +7,7 @@ ghost use Rattle.std.specs.Prelude.{◌≡◌};
 use crate::asked::{expect_of, report_of};
 use cmd_campaign::{Campaign, Form, Hangs, Properties};
 use cmd_schedule::SeedPlan;
-use sched_draw::{Chance, Depth, Draw, Mean, Order, Refusals};
+use sched_draw::{Chance, ChangePoints, Depth, Draw, Mean, Order, Refusals};
 
 /// How a seed draws, in numbers.
 #[repr(C)]
@@ -91,7 +91,11 @@ fn draw_of(asked: AskedDraw) -> Option<Draw>
 {
     let order = order_of(asked.order, asked.number)?;
     let refusals = refusals_of(asked.one_in)?;
-    Some(Draw { order, refusals })
+    Some(Draw {
+        order,
+        refusals,
+        points: ChangePoints::Anywhere,
+    })
 }
 
 /// The choices that are asked for.

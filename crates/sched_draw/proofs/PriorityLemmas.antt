@@ -1,5 +1,5 @@
 -- Priorities: how they are drawn, and what is chosen by them.
-use Rattle.std.proofs.Common.{◌≡◌, ◌≢◌, ℕ, zero, suc, ◌+◌, ◌-◌, ◌%◌, ◌<◌, ◌≤◌, ◌==◌, Bool, true, false, not, List, [], ◌∷◌, ◌++◌, Option, Some, None, length, max, take, drop, filter, get_or, insert, map, option_map, refl, arith, ap, ap₂, sym, subst, ◌∙◌, mod-lt, true≢false, if◌then◌else◌, inl, inr, ◌⊎◌}
+use Rattle.std.proofs.Common.{◌≡◌, ◌≢◌, ℕ, zero, suc, ◌+◌, ◌-◌, ◌%◌, ◌<◌, ◌≤◌, ◌==◌, Bool, true, false, not, List, [], ◌∷◌, ◌++◌, Option, Some, None, length, min, max, take, drop, filter, get_or, insert, map, option_map, refl, arith, ap, ap₂, sym, subst, ◌∙◌, mod-lt, true≢false, if◌then◌else◌, inl, inr, ◌⊎◌}
 use Rattle.std.proofs.lemmas.Bool.{eq-eqb, eqb-true, ne_eqb}
 use Rattle.std.proofs.lemmas.List.{take-append-drop, length_push}
 use Rattle.std.proofs.lemmas.List.Edits.{length-insert}
@@ -17,6 +17,10 @@ use Rattle.machine.proofs.RunLaws.{run_length}
 use Rattle.sched_draw.specs.Seeds.{generator_of}
 use Rattle.sched_draw.specs.Refusing.{is_refused}
 use Rattle.sched_draw.specs.Spinning.{WatchValue, spins, watch_after}
+use Rattle.sched_draw.specs.ChangePoints.{places_of}
+use Rattle.sched_draw.specs.declared.change_points.ChangePoints.{ChangePoints}
+use Rattle.sched_draw.specs.declared.change_points.ChangePoints.TheVariants.{Anywhere, Within}
+use Rattle.sched_draw.specs.declared.steps.Steps.{Steps}
 use Rattle.sched_draw.specs.declared.refusals.Refusals.{Refusals}
 use Rattle.sched_draw.specs.Priorities.{PriorityDrawing, with_priority_hart, with_harts, with_point, with_points, priority_drawing, first_running, next_priority_choice, fallen, is_point, order_after, after_priority_choice, WatchedDrawing, spins_there, watched_there, spinning_fallen, after_choice_of, after_watched_choice, watched_drawing, priority_choices_drawn, priority_choices, NeverWaits}
 
@@ -359,10 +363,10 @@ never refusals (suc steps) place d w each = (
       (each k (subst (λ n. k < n) (step_length w (next_priority_choice refusals w.harts d.drawing)) below))),
 )
 
-pub never_waits : (w : World) (refusals : Refusals) (depth steps seed : ℕ)
-    → NeverWaits w (priority_choices w (length w.harts) depth refusals steps seed)
-never_waits w refusals depth steps seed =
-    never refusals steps 0 (watched_drawing (length w.harts) depth steps seed) w (λ k below. order-each (length w.harts) depth steps seed k below)
+pub never_waits : (w : World) (refusals : Refusals) (depth places steps seed : ℕ)
+    → NeverWaits w (priority_choices w (length w.harts) depth places refusals steps seed)
+never_waits w refusals depth places steps seed =
+    never refusals steps 0 (watched_drawing (length w.harts) depth places seed) w (λ k below. order-each (length w.harts) depth places seed k below)
 
 -- a hart that has fallen isn't the first that runs, while another one runs
 last_waits : (hart other : ℕ) (order : List ℕ) (later : List HartValue) → Contains order other → other ≢ hart → runs later other ≡ true
@@ -435,15 +439,6 @@ drawn-next refusals place n d e w harts c stand choice state =
     ap (λ k. priority_choices_drawn refusals place k d w) s ∙ drawn-suc refusals place n d w
     ∙ ap₂ (λ x f. x ∷ priority_choices_drawn refusals (place + 1) n f (step w x)) here there
 
--- a run of no step has no choice, for however many steps its change points are drawn
-pub some_steps : (refusals : Refusals) (harts depth steps seed : ℕ) (w : World) (places : ℕ) → places ≡ max steps 1
-    → priority_choices_drawn refusals 0 steps (watched_drawing harts depth places seed) w ≡ priority_choices w harts depth refusals steps seed
-unfolding priority_choices_drawn
-some_steps refusals harts depth zero seed w places is = refl
-some_steps refusals harts depth (suc steps) seed w places is =
-    let same : places ≡ suc steps = omega (arith, is) in
-    ap (λ n. priority_choices_drawn refusals 0 (suc steps) (watched_drawing harts depth n seed) w) same
-
 -- each choice that is drawn names a hart that exists
 pub drawn-within : (refusals : Refusals) (n place steps : ℕ) (d : WatchedDrawing) (w : World) → 0 < n → All (λ h. h < n) d.drawing.order
     → All (λ c. c.hart < n) (priority_choices_drawn refusals place steps d w)
@@ -455,3 +450,42 @@ drawn-within refusals n place (suc steps) d w some all =
     All-cons (λ (c : Choice). c.hart < n) c (priority_choices_drawn refusals (place + 1) steps e (step w c))
     (next-below refusals n w.harts d.drawing some all)
     (drawn-within refusals n (place + 1) steps e (step w c) some (watched-below n place w.harts d some all))
+
+-- ---- where change points lie
+pub points-in-run : (points : ChangePoints) (harts depth steps seed : ℕ) → 0 < steps
+    → All (λ p. p < steps) (priority_drawing harts depth (places_of points steps) seed).points
+points-in-run Anywhere harts depth steps seed some =
+    let places : max steps 1 ≡ steps = omega (arith, some) in
+    subst (λ n. All (λ p. p < steps) (priority_drawing harts depth n seed).points) (sym places) (points-there harts depth steps seed some)
+points-in-run (Within first) harts depth steps seed some =
+    let n : ℕ = min first.count (max steps 1) in
+    let least : 0 < n = omega (arith, first.some, some) in
+    let few : n ≤ steps = omega (arith, some) in
+    λ i c below. (let here = points-there harts depth n seed least i c below in omega (arith, here, few))
+
+pub points-within-first : (first : Steps) (harts depth steps seed : ℕ) → 0 < steps
+    → All (λ p. p < first.count) (priority_drawing harts depth (places_of (Within first) steps) seed).points
+points-within-first first harts depth steps seed some =
+    let n : ℕ = min first.count (max steps 1) in
+    let least : 0 < n = omega (arith, first.some, some) in
+    let few : n ≤ first.count = omega arith in
+    λ i c below. (let here = points-there harts depth n seed least i c below in omega (arith, here, few))
+
+-- the choices of fewer steps are the first of those of more
+drawn-take : (refusals : Refusals) (place n more : ℕ) (d : WatchedDrawing) (w : World)
+    → take n (priority_choices_drawn refusals place (n + more) d w) ≡ priority_choices_drawn refusals place n d w
+unfolding priority_choices_drawn
+drawn-take refusals place zero more d w = refl
+drawn-take refusals place (suc n) more d w =
+    let s : suc n + more ≡ suc (n + more) = omega arith in
+    let c = next_priority_choice refusals w.harts d.drawing in
+    ap (λ k. take (suc n) (priority_choices_drawn refusals place k d w)) s
+    ∙ ap (λ cs. c ∷ cs) (drawn-take refusals (place + 1) n more (after_watched_choice place w.harts d) (step w c))
+
+pub more-steps : (first : Steps) (w : World) (refusals : Refusals) (harts depth steps more seed : ℕ) → first.count ≤ steps
+    → take steps (priority_choices w harts depth (places_of (Within first) (steps + more)) refusals (steps + more) seed)
+    ≡ priority_choices w harts depth (places_of (Within first) steps) refusals steps seed
+more-steps first w refusals harts depth steps more seed few =
+    let same : min first.count (max (steps + more) 1) ≡ min first.count (max steps 1) = omega (arith, first.some, few) in
+    ap (λ p. take steps (priority_choices_drawn refusals 0 (steps + more) (watched_drawing harts depth p seed) w)) same
+    ∙ drawn-take refusals 0 steps more (watched_drawing harts depth (min first.count (max steps 1)) seed) w

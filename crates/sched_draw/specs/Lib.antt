@@ -3,6 +3,7 @@ pub mod Turns
 pub mod Seeds
 pub mod Refusing
 pub mod Bursts
+pub mod ChangePoints
 pub mod Spinning
 pub mod Priorities
 pub mod Mixed

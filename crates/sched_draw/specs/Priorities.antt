@@ -34,23 +34,23 @@ unfoldable pub with_harts : ℕ → PriorityDrawing → PriorityDrawing
 with_harts zero d = d
 with_harts (suc harts) d = with_priority_hart harts (with_harts harts d)
 
--- a change point is at a word's remainder by the number of steps
+-- a change point is at a word's remainder by the number of places
 unfoldable pub with_point : ℕ → PriorityDrawing → PriorityDrawing
-with_point steps d = record {
+with_point places d = record {
   order = d.order;
-  points = d.points ++ (pcg32 d.generator).0 % steps ∷ [];
+  points = d.points ++ (pcg32 d.generator).0 % places ∷ [];
   generator = (pcg32 d.generator).1;
 }
 
 -- n change points
 unfoldable pub with_points : ℕ → ℕ → PriorityDrawing → PriorityDrawing
-with_points steps zero d = d
-with_points steps (suc points) d = with_point steps (with_points steps points d)
+with_points places zero d = d
+with_points places (suc points) d = with_point places (with_points places points d)
 
 -- the state at a seed: the order of the harts is drawn, then `depth - 1` change points
 unfoldable pub priority_drawing : ℕ → ℕ → ℕ → ℕ → PriorityDrawing
-priority_drawing harts depth steps seed =
-    with_points steps (depth - 1) (with_harts harts (record { order = []; points = []; generator = generator_of seed }))
+priority_drawing harts depth places seed =
+    with_points places (depth - 1) (with_harts harts (record { order = []; points = []; generator = generator_of seed }))
 
 -- the first hart of an order that runs; hart 0 if none does
 abbrev pub first_running : List HartValue → List ℕ → ℕ
@@ -125,11 +125,12 @@ priority_choices_drawn refusals place (suc steps) d world =
 
 -- the state at a seed, when no hart is watched yet
 abbrev pub watched_drawing : ℕ → ℕ → ℕ → ℕ → WatchedDrawing
-watched_drawing harts depth steps seed = record { drawing = priority_drawing harts depth steps seed; watch = None }
+watched_drawing harts depth places seed = record { drawing = priority_drawing harts depth places seed; watch = None }
 
--- the choices of a run of n steps from a world, by the priorities that a seed draws
-abbrev pub priority_choices : World → ℕ → ℕ → Refusals → ℕ → ℕ → List Choice
-priority_choices world harts depth refusals steps seed = priority_choices_drawn refusals 0 steps (watched_drawing harts depth steps seed) world
+-- the choices of a run of n steps from a world, by the priorities that a seed draws; change points
+-- are at so many places
+abbrev pub priority_choices : World → ℕ → ℕ → ℕ → Refusals → ℕ → ℕ → List Choice
+priority_choices world harts depth places refusals steps seed = priority_choices_drawn refusals 0 steps (watched_drawing harts depth places seed) world
 
 -- in a run from a world each choice is of a hart that runs, as long as one does
 abbrev pub NeverWaits : World → List Choice → Type 0

@@ -5,10 +5,12 @@ use Rattle.machine.specs.World.{World, run}
 use Rattle.machine.specs.declared.choice.Choice.{Choice}
 use Rattle.sched_run.specs.Harts.{Harts}
 use Rattle.sched_draw.specs.Bursts.{burst_choices}
+use Rattle.sched_draw.specs.ChangePoints.{places_of}
 use Rattle.sched_draw.specs.Mixed.{mixed_choices}
 use Rattle.sched_draw.specs.Priorities.{priority_choices}
 use Rattle.sched_draw.specs.Refusing.{even_choices}
 use Rattle.sched_draw.specs.Turns.{alone, turns}
+use Rattle.sched_draw.specs.declared.change_points.ChangePoints.{ChangePoints}
 use Rattle.sched_draw.specs.declared.order.Order.{Order}
 use Rattle.sched_draw.specs.declared.order.Order.TheVariants.{Even, Bursts, Priorities, Mixed}
 use Rattle.sched_draw.specs.declared.refusals.Refusals.{Refusals}
@@ -16,20 +18,21 @@ use Rattle.sched_draw.specs.declared.schedule.Draw.{Draw}
 use Rattle.sched_draw.specs.declared.schedule.Schedule.{Schedule}
 use Rattle.sched_draw.specs.declared.schedule.Schedule.TheVariants.{Turns, Only, Seeded}
 
--- the choices that a seed draws for a run from a world, given the order of the harts and the
--- refusals
-abbrev pub ordered_choices : Order → Refusals → World → ℕ → ℕ → ℕ → List Choice
-ordered_choices Even refusals world harts steps seed = even_choices refusals harts steps seed
-ordered_choices (Bursts mean) refusals world harts steps seed =
+-- the choices that a seed draws for a run from a world, given the order of the harts, where change
+-- points lie and the refusals
+abbrev pub ordered_choices : Order → ChangePoints → Refusals → World → ℕ → ℕ → ℕ → List Choice
+ordered_choices Even points refusals world harts steps seed = even_choices refusals harts steps seed
+ordered_choices (Bursts mean) points refusals world harts steps seed =
     burst_choices refusals harts mean.choices steps seed
-ordered_choices (Priorities depth) refusals world harts steps seed =
-    priority_choices world harts depth.number refusals steps seed
-ordered_choices Mixed refusals world harts steps seed = mixed_choices world harts refusals steps seed
+ordered_choices (Priorities depth) points refusals world harts steps seed =
+    priority_choices world harts depth.number (places_of points steps) refusals steps seed
+ordered_choices Mixed points refusals world harts steps seed =
+    mixed_choices world harts points refusals steps seed
 
 -- the same, given how the seed draws
 unfoldable pub drawn_choices : Draw → World → ℕ → ℕ → ℕ → List Choice
 drawn_choices draw world harts steps seed =
-    ordered_choices draw.order draw.refusals world harts steps seed
+    ordered_choices draw.order draw.points draw.refusals world harts steps seed
 
 -- the choices that a schedule gives for a run from a world
 abbrev pub choices_of : Schedule → World → ℕ → ℕ → List Choice

@@ -1,16 +1,20 @@
 //! Laws of schedules.
 
-ghost use Rattle.std.specs.Prelude.{◌≡◌, ◌≢◌, ◌-◌, ◌*◌, ◌/◌, ◌%◌, ◌==◌, ◌<◌, ◌≤◌, ℕ, true, false, List, length, slice_get};
+ghost use Rattle.std.specs.Prelude.{◌≡◌, ◌≢◌, ◌+◌, ◌-◌, ◌*◌, ◌/◌, ◌%◌, ◌==◌, ◌<◌, ◌≤◌, ℕ, true, false, List, length, take, slice_get};
 ghost use Rattle.std.specs.List.{All, Contains};
 ghost use Rattle.hart_step.specs.Hart.{HartValue};
 ghost use Rattle.machine.specs.Running.{runs};
 ghost use Rattle.machine.specs.World.{World, run};
 ghost use Rattle.machine.specs.declared.choice.Choice.{Choice};
 ghost use Rattle.sched_draw.specs.Bursts as bursts;
+ghost use Rattle.sched_draw.specs.ChangePoints.{places_of};
 ghost use Rattle.sched_draw.specs.Priorities.{WatchedDrawing, priority_drawing, is_point, next_priority_choice, spins_there, after_watched_choice, priority_choices, NeverWaits};
 ghost use Rattle.sched_draw.specs.Refusing.{even_choices, is_refused, IsOneIn};
 ghost use Rattle.sched_draw.specs.Schedules.{drawn_choices};
 ghost use Rattle.sched_draw.specs.Seeds.{seeded_choices};
+ghost use Rattle.sched_draw.specs.declared.change_points.ChangePoints.{ChangePoints};
+ghost use Rattle.sched_draw.specs.declared.change_points.ChangePoints.TheVariants as points;
+ghost use Rattle.sched_draw.specs.declared.steps.Steps.{Steps};
 ghost use Rattle.sched_draw.specs.declared.order.Order.TheVariants as orders;
 ghost use Rattle.sched_draw.specs.declared.refusals.Refusals.{Refusals};
 ghost use Rattle.sched_draw.specs.declared.refusals.Refusals.TheVariants as refusing;
@@ -21,8 +25,8 @@ pub fn usual_refusals()
     ensures words { (refusals : Refusals) (word : ℕ) → IsOneIn 16 refusals → is_refused refusals word ≡ (word / 65536 % 16 == 0) }
     ensures choices { (refusals : Refusals) (harts steps seed : ℕ) → IsOneIn 16 refusals
         → even_choices refusals harts steps seed ≡ seeded_choices harts steps seed }
-    ensures drawn { (refusals : Refusals) (world : World) (harts steps seed : ℕ) → IsOneIn 16 refusals
-        → drawn_choices (record { order = orders.Even; refusals = refusals }) world harts steps seed
+    ensures drawn { (points : ChangePoints) (refusals : Refusals) (world : World) (harts steps seed : ℕ) → IsOneIn 16 refusals
+        → drawn_choices (record { order = orders.Even; refusals = refusals; points = points }) world harts steps seed
         ≡ seeded_choices harts steps seed }
 {}
 
@@ -60,16 +64,27 @@ pub fn each_hart_has_a_place()
     ensures there { (harts depth steps seed : ℕ) → All (λ h. h < harts) (priority_drawing harts depth steps seed).order }
 {}
 
-/// A seed draws `depth - 1` change points, each at a step of the run.
+/// A seed draws `depth - 1` change points, each at a step of the run, and of its first `n` steps
+/// where they are drawn within these.
 pub fn change_points_are_places()
-    ensures count { (harts depth steps seed : ℕ) → length (priority_drawing harts depth steps seed).points ≡ depth - 1 }
-    ensures there { (harts depth steps seed : ℕ) → 0 < steps → All (λ p. p < steps) (priority_drawing harts depth steps seed).points }
+    ensures count { (harts depth places seed : ℕ) → length (priority_drawing harts depth places seed).points ≡ depth - 1 }
+    ensures there { (points : ChangePoints) (harts depth steps seed : ℕ) → 0 < steps
+        → All (λ p. p < steps) (priority_drawing harts depth (places_of points steps) seed).points }
+    ensures within { (first : Steps) (harts depth steps seed : ℕ) → 0 < steps
+        → All (λ p. p < first.count) (priority_drawing harts depth (places_of (points.Within first) steps) seed).points }
+{}
+
+/// Within as many steps, a run of more steps begins with the choices of one of fewer.
+pub fn more_steps_change_nothing()
+    ensures { (first : Steps) (world : World) (refusals : Refusals) (harts depth steps more seed : ℕ) → first.count ≤ steps
+        → take steps (priority_choices world harts depth (places_of (points.Within first) (steps + more)) refusals (steps + more) seed)
+        ≡ priority_choices world harts depth (places_of (points.Within first) steps) refusals steps seed }
 {}
 
 /// A stopped hart is never chosen while another runs.
 pub fn a_stopped_hart_waits()
-    ensures { (world : World) (refusals : Refusals) (depth steps seed : ℕ)
-        → NeverWaits world (priority_choices world (length world.harts) depth refusals steps seed) }
+    ensures { (world : World) (refusals : Refusals) (depth places steps seed : ℕ)
+        → NeverWaits world (priority_choices world (length world.harts) depth places refusals steps seed) }
 {}
 
 /// Steps of harts that have stopped change nothing; so once all have stopped, nothing changes any

@@ -4,11 +4,12 @@ ghost use Rattle.std.specs.Prelude.{◌≡◌, ◌<◌, true, false, IfOk, lengt
 ghost use Rattle.machine.specs.Machine.{world};
 ghost use Rattle.machine.specs.World.{World};
 ghost use Rattle.sched_draw.specs.Schedules.{choices_of, drawn_choices, follows, follows_run, is_mixed, is_of_harts, ordered_choices};
+ghost use Rattle.sched_draw.specs.declared.change_points.ChangePoints.{ChangePoints};
 
 use crate::bursts::Bursts;
 use crate::chooser::{Chooser, Drawer};
 use crate::even::Even;
-use crate::mixed::order_of_seed;
+use crate::mixed::draw_of_seed;
 use crate::order::Order;
 use crate::priorities::ByPriorities;
 use crate::refusals::Refusals;
@@ -51,7 +52,8 @@ fn list_in_order<A: Allocator>(
 ) -> Result<Vec<Choice, A>, AllocError>
     requires some { 0 < harts }
     requires same { follows order ≡ false }
-    ensures { IfOk result (λ choices. (w : World) → choices.items ≡ ordered_choices order refusals w harts steps seed) }
+    ensures { IfOk result (λ choices. (w : World) (points : ChangePoints)
+        → choices.items ≡ ordered_choices order points refusals w harts steps seed) }
 {
     match order {
         Order::Even => list_drawn(alloc, Even::new(harts, refusals, seed), steps),
@@ -114,32 +116,32 @@ fn list_drawn_run<S: Store, A: Allocator + Copy>(
     ensures { IfOk result (λ choices.
         choices.items ≡ drawn_choices draw (world S.memory machine.old) harts steps seed) }
 {
-    let order = order_of_seed(draw.order, seed);
-    list_ordered_run(alloc, machine, order, draw.refusals, harts, steps, seed)
+    list_ordered_run(alloc, machine, draw_of_seed(draw, seed), harts, steps, seed)
 }
 
 // As `list_drawn_run`, for an order that isn't mixed.
+#[tactic(auto, unfolding(crate::specs::Schedules::drawn_choices))]
 fn list_ordered_run<S: Store, A: Allocator + Copy>(
     alloc: A,
     machine: &mut Machine<S, A>,
-    order: Order,
-    refusals: Refusals,
+    draw: Draw,
     harts: u32,
     steps: u64,
     seed: u64,
 ) -> Result<Vec<Choice, A>, AllocError>
-    requires one { is_mixed order ≡ false }
+    requires one { is_mixed draw.order ≡ false }
     requires some { 0 < harts }
     requires there { length (world S.memory machine.old).harts ≡ harts }
     ensures { IfOk result (λ choices.
-        choices.items ≡ ordered_choices order refusals (world S.memory machine.old) harts steps seed) }
+        choices.items ≡ drawn_choices draw (world S.memory machine.old) harts steps seed) }
 {
-    match order {
+    match draw.order {
         Order::Even | Order::Bursts(_) => {
-            list_in_order(alloc, order, refusals, harts, steps, seed)
+            list_in_order(alloc, draw.order, draw.refusals, harts, steps, seed)
         }
         Order::Priorities(depth) => {
-            let chooser = ByPriorities::new(alloc, harts, depth, refusals, steps, seed)?;
+            let places = draw.points.places(steps);
+            let chooser = ByPriorities::new(alloc, harts, depth, draw.refusals, places, seed)?;
             list_by(alloc, machine, chooser, steps)
         }
         Order::Mixed => unreachable!(),

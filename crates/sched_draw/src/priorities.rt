@@ -1,6 +1,6 @@
 //! Schedules by priorities, drawn one choice at a time.
 
-ghost use Rattle.std.specs.Prelude.{◌≡◌, ◌-◌, ◌<◌, IfOk, map};
+ghost use Rattle.std.specs.Prelude.{◌≡◌, ◌-◌, ◌<◌, ℕ, IfOk, map};
 ghost use Rattle.hart_step.specs.Hart.{hart_of};
 ghost use Rattle.sched_draw.specs.Priorities.{first_running, with_priority_hart, with_harts, with_point, with_points};
 ghost use Rattle.sched_draw.specs.Priorities.{priority_drawing, fallen, order_after, next_priority_choice, after_priority_choice};
@@ -56,16 +56,16 @@ fn let_fall<A: Allocator>(order: &mut Vec<u32, A>, hart: u32) -> Result<(), Allo
 
 impl<A: Allocator + Copy> Priorities<A> {
     /// The state at a seed: the order of the harts, and one change point less than the depth, each
-    /// at one of `steps` steps.
+    /// at one of so many places.
     pub(crate) fn new(
         alloc: A,
         harts: u32,
         depth: Depth,
-        steps: u64,
+        places: u64,
         seed: u64,
     ) -> Result<Priorities<A>, AllocError>
-        requires { 0 < steps }
-        ensures { IfOk result (λ priorities. drawing priorities ≡ priority_drawing harts depth.number steps seed) }
+        requires { 0 < places }
+        ensures { IfOk result (λ priorities. drawing priorities ≡ priority_drawing harts depth.number places seed) }
     {
         let depth = depth.number();
         let mut priorities = Priorities {
@@ -74,7 +74,7 @@ impl<A: Allocator + Copy> Priorities<A> {
             generator: seeded_generator(seed),
         };
         priorities.draw_order(harts)?;
-        priorities.draw_points(depth - 1, steps)?;
+        priorities.draw_points(depth - 1, places)?;
         Ok(priorities)
     }
 }
@@ -101,22 +101,22 @@ impl<A: Allocator> Priorities<A> {
     }
 
     // Draws a change point.
-    fn draw_point(&mut self, steps: u64) -> Result<(), AllocError>
-        requires { 0 < steps }
-        ensures { IfOk result (λ _. drawing self.new ≡ with_point steps (drawing self.old)) }
+    fn draw_point(&mut self, places: u64) -> Result<(), AllocError>
+        requires { 0 < places }
+        ensures { IfOk result (λ _. drawing self.new ≡ with_point places (drawing self.old)) }
     {
         let word = self.generator.next_word();
-        self.points.push(u64::from(word) % steps)?;
+        self.points.push(u64::from(word) % places)?;
         Ok(())
     }
 
     // Draws `points` change points.
-    fn draw_points(&mut self, points: u32, steps: u64) -> Result<(), AllocError>
-        requires { 0 < steps }
-        ensures { IfOk result (λ _. drawing self.new ≡ with_points steps points (drawing self.old)) }
+    fn draw_points(&mut self, points: u32, places: u64) -> Result<(), AllocError>
+        requires { 0 < places }
+        ensures { IfOk result (λ _. drawing self.new ≡ with_points places points (drawing self.old)) }
     {
         'points: for _ in 0..points {
-            self.draw_point(steps)?;
+            self.draw_point(places)?;
         }
         Ok(())
     }
@@ -178,21 +178,21 @@ pub(crate) struct ByPriorities<A: Allocator> {
 }
 
 impl<A: Allocator + Copy> ByPriorities<A> {
-    /// The state at a seed, for a run of `steps` steps with this depth.
+    /// The state at a seed, with this depth and change points at so many places.
     pub(crate) fn new(
         alloc: A,
         harts: u32,
         depth: Depth,
         refusals: Refusals,
-        steps: u64,
+        places: u64,
         seed: u64,
     ) -> Result<ByPriorities<A>, AllocError>
-        ensures choices { IfOk result (λ p. (w : World) → priority_choices_drawn p.refusals 0 steps (drawing_watched p) w
-            ≡ priority_choices w harts depth.number refusals steps seed) }
+        requires { 0 < places }
+        ensures choices { IfOk result (λ p. (steps : ℕ) (w : World) → priority_choices_drawn p.refusals 0 steps (drawing_watched p) w
+            ≡ priority_choices w harts depth.number places refusals steps seed) }
         ensures there { IfOk result (λ p. All (λ h. h < harts) p.priorities.value.order.items) }
     {
-        // A change point is at one of the steps; for 0 steps they are drawn as for one.
-        let priorities = Priorities::new(alloc, harts, depth, steps.max(1), seed)?;
+        let priorities = Priorities::new(alloc, harts, depth, places, seed)?;
         Ok(ByPriorities {
             priorities: Box::new(alloc, priorities)?,
             refusals,

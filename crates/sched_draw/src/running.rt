@@ -9,15 +9,14 @@ ghost use Rattle.machine.specs.World.{World};
 ghost use Rattle.machine.specs.declared.choice.Choice.{Choice};
 ghost use Rattle.hart_reservations.specs.Limit.{most_harts};
 ghost use Rattle.sched_draw.specs.Partway.{Partway};
-ghost use Rattle.sched_draw.specs.Schedules.{choices_of, drawn_choices, is_mixed, is_of_harts, ordered_choices, RanOver};
+ghost use Rattle.sched_draw.specs.Schedules.{choices_of, drawn_choices, is_mixed, is_of_harts, RanOver};
 
 use crate::bursts::Bursts;
 use crate::chooser::{Chooser, Same};
 use crate::even::{Even, Usual};
-use crate::mixed::order_of_seed;
+use crate::mixed::draw_of_seed;
 use crate::order::Order;
 use crate::priorities::ByPriorities;
-use crate::refusals::Refusals;
 use crate::schedule::{Draw, Schedule};
 use crate::turns::{Alone, Turns};
 use hart_step::Hart;
@@ -70,29 +69,29 @@ fn run_drawn<S: Store, A: Allocator + Copy>(
     ensures { IfOk result (λ chosen. RanOver (drawn_choices draw (world S.memory machine.old) harts steps seed)
         (world S.memory machine.old) (world S.memory machine.new) (harts_of chosen)) }
 {
-    let order = order_of_seed(draw.order, seed);
-    run_in_order(alloc, machine, order, draw.refusals, harts, steps, seed)
+    run_in_order(alloc, machine, draw_of_seed(draw, seed), harts, steps, seed)
 }
 
 // As `run_drawn`, for an order that isn't mixed. Even choices with the usual refusals have a drawer
 // of their own, since a step of theirs takes 13 host instructions less than one for any refusals.
+#[tactic(auto, unfolding(crate::specs::Schedules::drawn_choices))]
 fn run_in_order<S: Store, A: Allocator + Copy>(
     alloc: A,
     machine: &mut Machine<S, A>,
-    order: Order,
-    refusals: Refusals,
+    draw: Draw,
     harts: u32,
     steps: u64,
     seed: u64,
 ) -> Result<Chosen, AllocError>
-    requires one { is_mixed order ≡ false }
+    requires one { is_mixed draw.order ≡ false }
     requires some { 0 < harts }
     requires few { harts ≤ most_harts }
     requires there { length (world S.memory machine.old).harts ≡ harts }
-    ensures { IfOk result (λ chosen. RanOver (ordered_choices order refusals (world S.memory machine.old) harts steps seed)
+    ensures { IfOk result (λ chosen. RanOver (drawn_choices draw (world S.memory machine.old) harts steps seed)
         (world S.memory machine.old) (world S.memory machine.new) (harts_of chosen)) }
 {
-    match order {
+    let refusals = draw.refusals;
+    match draw.order {
         Order::Even => {
             if refusals.is_usual() {
                 run_by(machine, Same(Usual::new(harts, seed)), steps)
@@ -106,7 +105,8 @@ fn run_in_order<S: Store, A: Allocator + Copy>(
             steps,
         ),
         Order::Priorities(depth) => {
-            let chooser = ByPriorities::new(alloc, harts, depth, refusals, steps, seed)?;
+            let places = draw.points.places(steps);
+            let chooser = ByPriorities::new(alloc, harts, depth, refusals, places, seed)?;
             run_by(machine, chooser, steps)
         }
         Order::Mixed => unreachable!(),

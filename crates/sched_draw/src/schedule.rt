@@ -3,6 +3,7 @@
 ghost use Rattle.std.specs.Prelude.{◌≡◌};
 ghost use Rattle.sched_draw.specs.Schedules.{follows_run, is_of_harts};
 
+use crate::change_points::ChangePoints;
 use crate::order::Order;
 use crate::refusals::Refusals;
 
@@ -13,20 +14,25 @@ pub struct Draw {
     pub order: Order,
     /// Which choices refuse their store-conditional.
     pub refusals: Refusals,
+    /// Where change points lie.
+    pub points: ChangePoints,
 }
 
 impl Draw {
     ghost use Rattle.sched_draw.specs.Refusing.{IsOneIn};
+    ghost use Rattle.sched_draw.specs.declared.change_points.ChangePoints.TheVariants.{Anywhere};
     ghost use Rattle.sched_draw.specs.declared.order.Order.TheVariants.{Even};
 
-    /// Even, with one refusal in 16: the default.
+    /// Even, with one refusal in 16: the default. Change points may lie anywhere.
     pub fn usual() -> Draw
         ensures order { result.order ≡ Even }
         ensures refusals { IsOneIn 16 result.refusals }
+        ensures points { result.points ≡ Anywhere }
     {
         Draw {
             order: Order::Even,
             refusals: Refusals::usual(),
+            points: ChangePoints::Anywhere,
         }
     }
 }

@@ -7,7 +7,7 @@ use cmd_campaign::{Finished, Jobs, OnThreads, campaign_engine};
 use object_library::Kind;
 use outcome::{Exit, Expect};
 use program_open::CommandFault;
-use sched_draw::{Depth, Draw, Mean, Order as HartOrder, Refusals};
+use sched_draw::{ChangePoints, Depth, Draw, Mean, Order as HartOrder, Refusals};
 use std::alloc::Global;
 use std::thread::Threads;
 
@@ -52,6 +52,7 @@ fn never(order: HartOrder) -> Draw {
     Draw {
         order,
         refusals: Refusals::Never,
+        points: ChangePoints::Anywhere,
     }
 }
 

@@ -48,7 +48,7 @@ fn inputs_are_read(rt: HostRuntime) {
 // Lines, and what is read of each: its command and the texts of its arguments, by their names. No
 // proof goes over a table of all of them.
 #[rattlefmt::skip]
-static LINES: [(&str, &str); 61] = [
+static LINES: [(&str, &str); 64] = [
     ("rvcons asm a.s", "asm IN=a.s"),
     ("rvcons asm --out o a.s b.s", "asm out=o IN=a.s IN=b.s"),
     ("rvcons asm b.s a.s --out=o", "asm out=o IN=b.s IN=a.s"),
@@ -80,6 +80,8 @@ static LINES: [(&str, &str); 61] = [
     ("rvcons run p --inputs 7,9 --seed 5 --steps 3", "run FILE=p inputs=7,9 seed=5 steps=3"),
     ("rvcons run --refusals r --schedule d --steps 3 --seed 5 p --inputs 7,9",
         "run FILE=p inputs=7,9 seed=5 steps=3 schedule=d refusals=r"),
+    ("rvcons run --within w --schedule d --steps 3 --seed 5 p --inputs 7,9",
+        "run FILE=p inputs=7,9 seed=5 steps=3 schedule=d within=w"),
     ("rvcons run p --inputs 7,9 --turns 3", "run FILE=p inputs=7,9 turns=3"),
     ("rvcons shrink p --inputs 7,9 --history h", "shrink FILE=p inputs=7,9 history=h"),
     ("rvcons trace p --inputs 7,9 --seed 5 --steps 3", "trace FILE=p inputs=7,9 seed=5 steps=3"),
@@ -136,6 +138,8 @@ static LINES: [(&str, &str); 61] = [
         "campaign FILE=p inputs=7,9 first=1 count=2 steps=3 jobs=4"),
     ("rvcons campaign p --inputs 7,9 --first 1 --count 2 --steps 3 --json",
         "campaign FILE=p inputs=7,9 first=1 count=2 steps=3 json=yes"),
+    ("rvcons campaign p --inputs 7,9 --first 1 --count 2 --steps 3 --within w",
+        "campaign FILE=p inputs=7,9 first=1 count=2 steps=3 within=w"),
     ("rvcons campaign --steps 3 --count 2 --first 1 --inputs 7 --refusals r --schedule d p",
         "campaign FILE=p inputs=7 first=1 count=2 steps=3 schedule=d refusals=r"),
     ("rvcons campaign p --inputs 7,9 --steps 3 --preemptions 2",
@@ -146,7 +150,7 @@ static LINES: [(&str, &str); 61] = [
 
 // The same, of explore and of those behind it.
 #[rattlefmt::skip]
-static FURTHER_LINES: [(&str, &str); 33] = [
+static FURTHER_LINES: [(&str, &str); 34] = [
     ("rvcons explore p --inputs 7,9", "explore FILE=p inputs=7,9"),
     ("rvcons explore p --inputs 7,9 --rule k", "explore FILE=p inputs=7,9 rule=k"),
     ("rvcons explore p --inputs 7,9 --refusals r", "explore FILE=p inputs=7,9 refusals=r"),
@@ -163,6 +167,7 @@ static FURTHER_LINES: [(&str, &str); 33] = [
     ("rvcons schedule --harts 2 --steps 3 --only 1", "schedule harts=2 steps=3 only=1"),
     ("rvcons schedule --harts 2 --steps 3 --schedule d", "schedule harts=2 steps=3 schedule=d"),
     ("rvcons schedule --harts 2 --steps 3 --refusals r", "schedule harts=2 steps=3 refusals=r"),
+    ("rvcons schedule --harts 2 --steps 3 --within w", "schedule harts=2 steps=3 within=w"),
     ("rvcons schedule --harts 2 --steps 3 --inputs 7,9", "schedule harts=2 steps=3 inputs=7,9"),
     ("rvcons schedule --harts 2 --steps 3 p", "schedule harts=2 steps=3 FILE=p"),
     ("rvcons schedule p --inputs 7 --refusals r --schedule d --only 1 --seed 5 --steps 3 --harts 2",

@@ -51,6 +51,7 @@ fn push_seed(text: &mut String, said: SeedText<'_>) -> Result<(), AllocError> {
         ("seed", Some(said.seed)),
         ("steps", Some(said.steps)),
         ("schedule", said.draw),
+        ("within", said.within),
         ("refusals", said.refusals),
     ];
     push_fields(text, fields)
@@ -167,6 +168,7 @@ fn campaign_text(alloc: Global, order: &CampaignOrder) -> Result<String, AllocEr
         ("outcomes", flag(order.outcomes)),
         ("by-cause", flag(order.by_cause)),
         ("schedule", order.draw),
+        ("within", order.within),
         ("refusals", order.refusals),
         ("must-exit", flag(order.must_exit)),
         ("hangs", flag(order.hangs)),
@@ -203,6 +205,7 @@ fn schedule_text(alloc: Global, order: &ScheduleOrder) -> Result<String, AllocEr
         ("turns", flag(order.turns)),
         ("only", order.only),
         ("schedule", order.draw),
+        ("within", order.within),
         ("refusals", order.refusals),
         ("inputs", order.inputs),
         ("FILE", order.file),

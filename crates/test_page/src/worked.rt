@@ -15,7 +15,7 @@ use page_calls::{
     listing_call, run_call, schedule_call, shrink_call, trace_call,
 };
 use program_open::ProgramForm;
-use sched_draw::{Draw, Order, Refusals};
+use sched_draw::{ChangePoints, Draw, Order, Refusals};
 use std::alloc::Allocator;
 use test_images::{EXITS, EXITS_FACTS, EXITS_LISTING};
 
@@ -178,6 +178,7 @@ fn drawn(steps: u64) -> SeedPlan {
         draw: Draw {
             order: Order::Even,
             refusals: Refusals::Never,
+            points: ChangePoints::Anywhere,
         },
         steps,
         seed: 1,

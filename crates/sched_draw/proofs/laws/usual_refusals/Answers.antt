@@ -7,5 +7,5 @@ unfolding drawn_choices
 returns c = record {
   words = λ refusals word usual. usual-word refusals word usual;
   choices = λ refusals harts steps seed usual. usual-choices refusals harts steps seed usual;
-  drawn = λ refusals world harts steps seed usual. usual-choices refusals harts steps seed usual;
+  drawn = λ points refusals world harts steps seed usual. usual-choices refusals harts steps seed usual;
 }

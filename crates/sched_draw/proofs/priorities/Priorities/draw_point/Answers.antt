@@ -5,6 +5,6 @@ use Rattle.sched_draw.proofs.priorities.Priorities.draw_point.Goals as goal
 
 pub returns : goal.returns
 returns g c =
-    point_placed (drawing c.args.self.now) c.args.steps c.next_word-word.result c.next_word-word.new.self c.push.new.self.items
+    point_placed (drawing c.args.self.now) c.args.places c.next_word-word.result c.next_word-word.new.self c.push.new.self.items
     c.next_word-word.ensures
-    (c.in_ok-push.ensures.items ∙ ap (λ w. c.args.self.now.points.items ++ w % c.args.steps ∷ []) c.from.ensures)
+    (c.in_ok-push.ensures.items ∙ ap (λ w. c.args.self.now.points.items ++ w % c.args.places ∷ []) c.from.ensures)

@@ -5,4 +5,4 @@ use Rattle.sched_draw.proofs.priorities.Priorities.draw_points.Given as goal
 
 -- the points so far are drawn
 abbrev pub invariant-points : goal.invariant-points
-invariant-points g l = drawing l.self ≡ with_points l.steps l.counter (drawing l.fn.self)
+invariant-points g l = drawing l.self ≡ with_points l.places l.counter (drawing l.fn.self)
