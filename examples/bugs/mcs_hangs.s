@@ -1,6 +1,6 @@
 # The queue lock of Mellor-Crummey and Scott with two stores swapped, as in mcs_swapped.s, but a
 # hart that waits looks at its own mark alone. Where the mistake strikes it waits for ever: a
-# deadlock. No hart faults, and a campaign finds it only where each hart has to exit.
+# deadlock. No hart faults, and a campaign finds it only by --hangs, or where each hart must exit.
 #
 # Inputs: how often the hart takes the lock.
 #
@@ -10,22 +10,18 @@
 # $ rvcons asm --out mcs_hangs.elf mcs_hangs.s
 # $ cat mcs_hangs.choices
 # 0*12 1*13 0*30 1*30
-# $ rvcons run mcs_hangs.elf --inputs 1,1 --choices mcs_hangs.choices --must-exit
+# $ rvcons run mcs_hangs.elf --inputs 1,1 --choices mcs_hangs.choices --hangs
 # hart 0 exited a0 00000000 a1 00000001
 # hart 1 running pc 0001003c
-# [status 3]
+# hangs yes
+# [status 7]
 #
-# A campaign finds it, and one of twice the steps finds no fewer seeds: these runs didn't have too
-# few steps.
+# A campaign finds it, and decides of each run whether it hangs: these didn't have too few steps.
 #
-# $ rvcons campaign mcs_hangs.elf --inputs 1,1 --first 1 --count 1000 --steps 400 --must-exit --summary
-# seeds 955 first 1 exited 2 faulted 0 running 0
-# seeds 45 first 2 exited 1 faulted 0 running 1
-# [status 3]
-# $ rvcons campaign mcs_hangs.elf --inputs 1,1 --first 1 --count 1000 --steps 800 --must-exit --summary
-# seeds 955 first 1 exited 2 faulted 0 running 0
-# seeds 45 first 2 exited 1 faulted 0 running 1
-# [status 3]
+# $ rvcons campaign mcs_hangs.elf --inputs 1,1 --first 1 --count 1000 --steps 400 --hangs --summary
+# seeds 955 first 1 exited 2 faulted 0 running 0 hangs no
+# seeds 45 first 2 exited 1 faulted 0 running 1 hangs yes
+# [status 7]
 #
 # The steps that it takes. They end where hart 0 has handed the lock over, before hart 1's next
 # step, in which it marks that it waits: however harts go on from there, hart 1 waits for ever.
