@@ -2,8 +2,8 @@
 ghost use Rattle.std.specs.Prelude.{◌≡◌, ◌≢◌, ◌≤◌, Ok, Err, IfOk, IfErr, OnErr, length};
 ghost use Rattle.std.specs.List.{prefix_len, position_or_len};
 ghost use Rattle.debug_session.specs.Session.{session};
-ghost use Rattle.debug_text.specs.Words.{is_space, next_word, behind_word};
-ghost use Rattle.debug_text.specs.Commands.{command_of};
+ghost use Rattle.debug_text.specs.Words.{is_space, next_word, behind_word, line_words};
+ghost use Rattle.debug_text.specs.Commands.{command_of, line_command};
 ghost use Rattle.debug_text.specs.Reply.{reply_to, reply_outcome};
 
 use crate::answer::Answer;
@@ -39,6 +39,27 @@ pub fn next_word(line: &[u8]) -> (&[u8], &[u8])
     rest.split_at(word_len(rest))
 }
 
+// The command of a line's first three words, with the word behind them and the rest of the line
+// behind the second word.
+fn line_command<A: Allocator>(
+    symbols: &[Symbol<A>],
+    name: &[u8],
+    first: &[u8],
+    second: &[u8],
+    more: &[u8],
+    names: &[u8],
+) -> Result<Command, DebugFault>
+    ensures { result ≡ line_command symbols.now name.now first.now second.now more.now (line_words names.now) }
+{
+    if !second.is_empty() && is_word(name, "regs") {
+        return registers_command(first, names);
+    }
+    if !more.is_empty() {
+        return Err(DebugFault::BadCommand);
+    }
+    command_by(symbols, name, first, second)
+}
+
 /// The command of a line without its end, or why it is none. Words are separated by spaces.
 /// Addresses may be given as symbols of the program, which are these.
 #[tactic(auto, unfolding(crate::specs::Commands::command_of))]
@@ -49,13 +70,7 @@ pub fn read_command<A: Allocator>(symbols: &[Symbol<A>], line: &[u8]) -> Result<
     let (first, names) = next_word(rest);
     let (second, rest) = next_word(names);
     let (more, _) = next_word(rest);
-    if !second.is_empty() && is_word(name, "regs") {
-        return registers_command(first, names);
-    }
-    if !more.is_empty() {
-        return Err(DebugFault::BadCommand);
-    }
-    command_by(symbols, name, first, second)
+    line_command(symbols, name, first, second, more, names)
 }
 
 /// Does the command of a line without its end, and returns its text. Addresses may be given as
