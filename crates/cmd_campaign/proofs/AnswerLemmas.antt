@@ -1,5 +1,5 @@
 -- The answer after the program is read, and over what the device had left.
-use Rattle.std.proofs.Common.{◌≡◌, ◌≢◌, ℕ, ◌<◌, ◌≤◌, true, false, cond, eqb, ltb, List, ◌⊎◌, length, Option, Some, None, Result, Ok, Err, IfOk, IfErr, arith, ne_eqb, le-ltb, lt-ltb, refl, ap, sym, subst, ◌∙◌}
+use Rattle.std.proofs.Common.{◌≡◌, ℕ, ◌<◌, ◌≤◌, true, false, cond, eqb, ltb, List, ◌⊎◌, length, Option, Some, None, Result, Ok, Err, IfOk, IfErr, arith, ne_eqb, le-ltb, lt-ltb, ap, sym, subst, ◌∙◌}
 use Rattle.std.specs.Io.KnownBytes.{Appends}
 use Rattle.std.specs.Option.{IfSome}
 use Rattle.image.specs.Image.{ImageValue}

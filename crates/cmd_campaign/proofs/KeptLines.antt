@@ -2,7 +2,6 @@
 use Rattle.std.proofs.Common.{◌≡◌, ℕ, ◌^◌, ◌<◌, Bool, true, false, cond, List, [], ◌∷◌, ◌++◌, codes, length, Some, Ok, Err, refl, ap, ap₂, ◌∙◌, sym, subst}
 use Rattle.std.specs.List.{All, flat_map, range_with_len}
 use Rattle.std.proofs.lemmas.List.Elements.{All-head, All-tail}
-use Rattle.image.specs.Image.{ImageValue}
 use Rattle.object_library.specs.declared.verdict.Verdict.TheVariants.{Kept}
 use Rattle.outcome.specs.declared.expect.Exit.{Exit}
 use Rattle.program_open.specs.declared.command_fault.CommandFault.{CommandFault}
@@ -12,14 +11,14 @@ use Rattle.cmd_form.specs.declared.form.Form.{Form}
 use Rattle.cmd_form.specs.declared.form.Form.TheVariants.{Text, Json}
 use Rattle.campaign_runs.specs.Ending.{same_ending}
 use Rattle.campaign_runs.specs.Properties.{no_properties}
-use Rattle.campaign_runs.specs.Runs.{SeedEnding, all_endings, endings_of}
-use Rattle.campaign_runs.specs.Tally.{TallyRow, add_seed, first_one, one_more, tally_of, tally_onto}
+use Rattle.campaign_runs.specs.Runs.{SeedEnding, all_endings}
+use Rattle.campaign_runs.specs.Tally.{TallyRow, add_seed, one_more, tally_of, tally_onto}
 use Rattle.campaign_runs.specs.declared.campaign.Campaign.{Campaign}
 use Rattle.campaign_runs.specs.declared.campaign.Report.{Report}
 use Rattle.campaign_runs.specs.declared.campaign.Report.TheVariants.{Lines, Failures, Summary, Outcomes, Causes}
 use Rattle.cmd_run.specs.Certified.{IsCertified}
 use Rattle.run_hangs.specs.declared.asked.Hangs.TheVariants.{Unasked}
-use Rattle.cmd_campaign.specs.Answers.{after_image, campaign_answer, reported}
+use Rattle.cmd_campaign.specs.Answers.{after_image, campaign_answer}
 use Rattle.cmd_campaign.specs.Kept.{kept_line, kept_row, AllKept, AnswersKeptLines}
 use Rattle.cmd_campaign.specs.Lines.{end_entry, has_failed, report_entries, seed_line, seed_object, verdict_member, verdict_word}
 use Rattle.cmd_campaign.specs.Status.{campaign_status}

@@ -73,7 +73,7 @@ impl OneSeed {
         ending.properties == self.verdict
             && ending.words.as_str().starts_with(self.says)
             && ending.words.as_str().ends_with(self.ends)
-            && ending.words.len() == self.says.len() + 56 + self.ends.len()
+            && ending.words.len().saturating_sub(self.ends.len()) == self.says.len() + 56
     }
 }
 
